@@ -1,0 +1,3 @@
+pub mod Bools
+pub mod Lists
+pub mod Written

@@ -1,0 +1,1 @@
+// No code: definitions on lists and numbers (specs/) and their laws (proofs/).

@@ -1,0 +1,104 @@
+-- The demands as claims, as far as the definitions of document 01 alone can say them. Each is proved in proofs/Demand.antt.
+-- Assumes nothing: these are definitions.
+use mathlib.Core.Path.{_≡_}
+use mathlib.Core.Logic.{_↔_, _≢_}
+use mathlib.Core.Bool.{Bool, true, false, _&&_}
+use mathlib.Core.Option.{Option, none, some}
+use mathlib.Core.List.{List, [], _∷_, _++_}
+use Prim.Native.Nat.{ℕ, suc, _≤_, _<_}
+use lib.Dec.{eqb}
+use lib.IntN.{ℤ}
+use lib.ListN.{length, getD}
+use Rattle.lists.specs.Lists.{All, any}
+use Rattle.meaning.specs.Tokens.{tokens}
+use Rattle.meaning.specs.Grammar.{Sentence, spell, sentence}
+use Rattle.meaning.specs.Limits.{most-text, most-items, most-rows, isWithin32, pastLimit}
+use Rattle.meaning.specs.Names.{unknown, taken, miscounted}
+use Rattle.meaning.specs.Statement.{Value, Query, Change, insert, delete, update, Update, statementOf}
+use Rattle.meaning.specs.Meaning.{Row, answer, changed}
+use Rattle.meaning.specs.Record.{encode, isRecord, columnsIn, rowCount, rowRefusal, rowPart, numbersOf}
+use Rattle.meaning.specs.Pattern.{matters, matches}
+use Rattle.meaning.specs.Plain.{Lengths, Plain, schemas, Call, add, otherLengths, noPlace, conditions, refusal, refused, adding, placed, step}
+
+-- ---- Demand 1: "If a call brings a text, number, state or lent memory that the store can't take, it gives the refusal number of document 01 and changes
+-- nothing."
+
+-- the condition of the number n holds
+abbrev pub applies : Lengths → Plain → Call → ℕ → Bool
+applies lent p c n = any (λ (x : ℕ × Bool). eqb (x .0) n && x .1) (conditions lent p c)
+
+-- "The lowest number that applies is given, and only then."
+pub record Lowest (lent : Lengths) (p : Plain) (c : Call) (n : ℕ) : Type 0 where
+  pub given : n ≢ 0 → applies lent p c n ≡ true
+  pub lower : (m : ℕ) → m < n → applies lent p c m ≡ false
+  pub only : n ≡ 0 → (m : ℕ) → applies lent p c m ≡ false
+
+abbrev pub LowestNumber : Type 0
+LowestNumber = (lent : Lengths) (p : Plain) (c : Call) → Lowest lent p c (refusal lent p c)
+
+abbrev pub RefusedChangesNothing : Type 0
+RefusedChangesNothing = (lent : Lengths) (p : Plain) (c : Call) → refusal lent p c ≢ 0 → step lent p c ≡ (p, refused (refusal lent p c))
+
+-- ---- Demand 2: "A text is accepted exactly if no refusal condition of document 01 holds."
+
+-- a text has at most one sentence, and it is the one that is read
+abbrev pub ReadsExactly : Type 0
+ReadsExactly = (text : List ℕ) (s : Sentence) → (sentence text ≡ some s) ↔ (tokens text ≡ spell s)
+
+abbrev pub OneSentence : Type 0
+OneSentence = (s t : Sentence) → spell s ≡ spell t → s ≡ t
+
+-- no condition of refusals 2 to 9 holds
+pub record Acceptable (lent : Lengths) (p : Plain) (text : List ℕ) (s : Sentence) : Type 0 where
+  pub lengths : otherLengths lent p ≡ false
+  pub short : length text ≤ most-text
+  pub spelled : tokens text ≡ spell s
+  pub within : pastLimit s ≡ false
+  pub known : unknown (schemas p) s ≡ false
+  pub fresh : taken (schemas p) s ≡ false
+  pub counted : miscounted (schemas p) s ≡ false
+  pub place : noPlace p s ≡ false
+
+abbrev pub AcceptedExactlyIf : Type 0
+AcceptedExactlyIf = (lent : Lengths) (p : Plain) (text : List ℕ) → (refusal lent p (add text) ≡ 0) ↔ ((s : Sentence) × Acceptable lent p text s)
+
+-- and then its statement is added
+abbrev pub AcceptedIsAdded : Type 0
+AcceptedIsAdded = (lent : Lengths) (p : Plain) (text : List ℕ) (s : Sentence) → Acceptable lent p text s
+    → step lent p (add text) ≡ (adding p (statementOf (schemas p) s), placed p (statementOf (schemas p) s))
+
+-- ---- Demand 2: "A new answer .. holds exactly the rows, in order, that the SQL meaning set down there gives, and its record reads back as those rows"
+
+-- the bytes show the rows
+pub record ReadsBack (bs : List ℕ) (columns : ℕ) (rows : List Row) : Type 0 where
+  pub is-record : isRecord bs ≡ true
+  pub columns-are : columnsIn bs ≡ columns
+  pub rows-are : rowCount bs ≡ length rows
+  pub shown : (i : ℕ) → i < length rows → (rowRefusal bs i ≡ 0) × (numbersOf (rowPart bs i) ≡ getD rows i [])
+  pub not-shown : (i : ℕ) → length rows ≤ i → (rowRefusal bs i ≡ 14) × (rowPart bs i ≡ [])
+
+-- a row of so many 32-bit numbers
+abbrev pub IsRow : ℕ → Row → Type 0
+IsRow columns r = (length r ≡ columns) × All (λ z. isWithin32 z ≡ true) r
+
+-- also with later bytes behind the record
+abbrev pub RecordReadsBack : Type 0
+RecordReadsBack = (columns : ℕ) (rows : List Row) (later : List ℕ) → 1 ≤ columns → columns ≤ most-items → length rows ≤ most-rows → All (IsRow columns) rows
+    → ReadsBack (encode columns rows ++ later) columns rows
+
+-- ---- Demand 2: "The kept answers an update drops are exactly those matched by the patterns drawn from Scully and Chlipala's formula": the patterns weaken
+-- it. If the update matters for the query's values through some row, a pattern agrees; so where none agrees the answer stays, whatever the table holds.
+
+-- the set columns are columns of the row
+abbrev pub SetsWithin : Change → Row → Type 0
+SetsWithin (insert os) r = Unit {0}
+SetsWithin (delete g) r = Unit {0}
+SetsWithin (update ss g) r = All (λ (s : ℕ × Value). s .0 < length r) ss
+
+abbrev pub PatternsWeaken : Type 0
+PatternsWeaken = (q : Query) (qs : List ℤ) (u : Update) (us : List ℤ) (r : Row) → length qs ≡ q .parameters → SetsWithin (u .change) r
+    → matters q qs u us r ≡ true → matches q u us qs ≡ true
+
+abbrev pub AnswerStays : Type 0
+AnswerStays = (q : Query) (qs : List ℤ) (u : Update) (us : List ℤ) (rows : List Row) → length qs ≡ q .parameters → All (SetsWithin (u .change)) rows
+    → q .table ≡ u .table → matches q u us qs ≡ false → answer q qs (changed (u .change) us rows) ≡ answer q qs rows

@@ -1,0 +1,14 @@
+pub mod Operator
+pub mod Tokens
+pub mod Condition
+pub mod Grammar
+pub mod Limits
+pub mod Names
+pub mod Statement
+pub mod Meaning
+pub mod Cells
+pub mod Record
+pub mod Key
+pub mod Pattern
+pub mod Plain
+pub mod Demand

@@ -1,0 +1,249 @@
+-- Which kept answers an update can change: document 01, "Patterns", rules 1 to 7. F is the query's condition, G the update's.
+-- Assumes nothing: these are definitions.
+use mathlib.Core.Bool.{Bool, true, false, not, _&&_, _||_, cond}
+use mathlib.Core.List.{List, [], _∷_, _++_, map}
+use mathlib.Core.Option.{Option, none, some}
+use Prim.Native.Nat.{ℕ, _*_, min}
+use lib.IntN.{ℤ, pos}
+use lib.ListN.{getD, replicate}
+use lib.Dec.{eqb, ltb}
+use Rattle.lists.specs.Lists.{any, keep, pairs, distinct, from}
+use Rattle.lists.specs.Tests.{isYes, decN, decZ, eqZ, eqList}
+use Rattle.meaning.specs.Operator.{Operator, eq, ne, lt, le, gt, ge, truth}
+use Rattle.meaning.specs.Condition.{Comparison, sides, Where, operandsIn, clausesOf, countOf, replacedIn}
+use Rattle.meaning.specs.Statement as S
+use Rattle.meaning.specs.Statement.{Value, parameter, Operand, value, Query, Change, insert, delete, update, Update}
+use Rattle.meaning.specs.Meaning.{Row, cell, valueAt, meetsWhere, takes, selected, newRow, assigned}
+
+-- ---- "Source document 000 gives the condition: an update matters when a row enters, leaves or changes what is selected."
+
+-- a row that is r before and s after: it leaves, enters, or is taken before and after and differs in a selected column
+abbrev pub differs : Query → List ℤ → Row → Row → Bool
+differs q qs r s =
+    (takes q qs r && not (takes q qs s))
+    || ((not (takes q qs r) && takes q qs s)
+    || (takes q qs r && (takes q qs s && not (eqList eqZ (selected q r) (selected q s)))))
+
+-- the update, with its values us, matters for the query with its values qs through the row r of the table (for INSERT, through the new row)
+abbrev pub mattersIn : Query → List ℤ → Change → List ℤ → Row → Bool
+mattersIn q qs (insert os) us r = takes q qs (newRow os us)
+mattersIn q qs (delete g) us r = meetsWhere g us r && takes q qs r
+mattersIn q qs (update ss g) us r = meetsWhere g us r && differs q qs r (assigned ss us r)
+
+unfoldable pub matters : Query → List ℤ → Update → List ℤ → Row → Bool
+matters q qs u us r = eqb (q .table) (u .table) && mattersIn q qs (u .change) us r
+
+-- ---- rule 1: "Different tables: no pattern."
+
+abbrev pub sameTable : Query → Update → Bool
+sameTable q u = eqb (q .table) (u .table)
+
+-- ---- rule 2: "UPDATE that sets no column the question selects or tests: no pattern."
+
+abbrev pub operandColumns : List Operand → List ℕ
+operandColumns [] = []
+operandColumns (S.column i ∷ os) = i ∷ operandColumns os
+operandColumns (value v ∷ os) = operandColumns os
+
+-- the columns that it selects or tests
+abbrev pub columnsUsed : Query → List ℕ
+columnsUsed q = q .selected ++ operandColumns (operandsIn (q .condition))
+
+abbrev pub touches : Query → Change → Bool
+touches q (insert os) = true
+touches q (delete g) = true
+touches q (update ss g) = any (λ (s : ℕ × Value). any (eqb (s .0)) (columnsUsed q)) ss
+
+-- ---- rule 3: the joint formula. "INSERT: F with columns replaced by the inserted operands. DELETE: G and F. UPDATE: (G and F), then (G and F'),
+-- where F' is F with set columns replaced."
+
+-- its operands: columns are shared; `asked` is a question mark of the query and `given` one of the update
+pub data Joint : Type 0 where
+  column : ℕ → Joint
+  constant : ℤ → Joint
+  asked given : ℕ → Joint
+  deriving Discrete as Joint-discrete
+
+abbrev pub ofValue : Value → Joint
+ofValue (S.constant z) = constant z
+ofValue (parameter k) = given k
+
+abbrev pub ofUpdate : Operand → Joint
+ofUpdate (S.column i) = column i
+ofUpdate (value v) = ofValue v
+
+-- an operand of the query, with `f` for its columns
+abbrev pub ofQuery : (ℕ → Joint) → Operand → Joint
+ofQuery f (S.column i) = f i
+ofQuery f (value (S.constant z)) = constant z
+ofQuery f (value (parameter k)) = asked k
+
+abbrev pub insertedColumn : List Value → ℕ → Joint
+insertedColumn os i = ofValue (getD os i (S.constant (pos 0)))
+
+-- x, or what the column i is set to
+abbrev pub setColumn : List (ℕ × Value) → ℕ → Joint → Joint
+setColumn [] i x = x
+setColumn (s ∷ ss) i x = setColumn ss i (cond (eqb i (s .0)) (ofValue (s .1)) x)
+
+abbrev pub Clause : Type 0
+Clause = List (Comparison Joint)
+
+-- the clauses of F, with f for its columns; of G; of G and F
+abbrev pub queryClauses : (ℕ → Joint) → Query → List Clause
+queryClauses f q = clausesOf (replacedIn (ofQuery f) (q .condition))
+
+abbrev pub updateClauses : Where Operand → List Clause
+updateClauses g = clausesOf (replacedIn ofUpdate g)
+
+abbrev pub bothClauses : Where Operand → (ℕ → Joint) → Query → List Clause
+bothClauses g f q = pairs (updateClauses g) (queryClauses f q)
+
+unfoldable pub jointClauses : Query → Change → List Clause
+jointClauses q (insert os) = queryClauses (insertedColumn os) q
+jointClauses q (delete g) = bothClauses g column q
+jointClauses q (update ss g) = bothClauses g column q ++ bothClauses g (λ i. setColumn ss i (column i)) q
+
+-- ---- rule 5: "If INSERT's count, DELETE's product, or twice UPDATE's product passes 64, the list is one pattern, all any." (Rule 4 is `clauses`.)
+
+abbrev pub jointCount : Query → Change → ℕ
+jointCount q (insert os) = countOf (q .condition)
+jointCount q (delete g) = countOf g * countOf (q .condition)
+jointCount q (update ss g) = 2 * (countOf g * countOf (q .condition))
+
+abbrev pub most-clauses : ℕ
+most-clauses = 64
+
+-- ---- rule 6: "In a clause `=` joins operands into classes."
+
+abbrev pub same : Joint → Joint → Bool
+same x y = isYes (Joint-discrete decN decZ x y)
+
+-- each operand has a label, at first itself; each `=` renames the label of its left side to that of its right side
+abbrev pub rename : Joint → Joint → Joint → Joint
+rename a b x = cond (same x a) b x
+
+abbrev pub join : Operator → Joint → Joint → Joint → Joint
+join eq a b = rename a b
+join ne a b = λ x. x
+join lt a b = λ x. x
+join le a b = λ x. x
+join gt a b = λ x. x
+join ge a b = λ x. x
+
+abbrev pub labelsOn : (Joint → Joint) → Clause → Joint → Joint
+labelsOn f [] = f
+labelsOn f (c ∷ cs) = labelsOn (λ x. join (c .op) (f (c .left)) (f (c .right)) (f x)) cs
+
+abbrev pub label : Clause → Joint → Joint
+label cs = labelsOn (λ x. x) cs
+
+-- the operands of the clause that are in the class of x
+unfoldable pub class : Clause → Joint → List Joint
+class cs x = keep (λ (y : Joint). same (label cs y) (label cs x)) (sides cs)
+
+abbrev pub constants : List Joint → List ℤ
+constants [] = []
+constants (column i ∷ xs) = constants xs
+constants (constant z ∷ xs) = z ∷ constants xs
+constants (asked k ∷ xs) = constants xs
+constants (given k ∷ xs) = constants xs
+
+abbrev pub updateMarks : List Joint → List ℕ
+updateMarks [] = []
+updateMarks (column i ∷ xs) = updateMarks xs
+updateMarks (constant z ∷ xs) = updateMarks xs
+updateMarks (asked k ∷ xs) = updateMarks xs
+updateMarks (given k ∷ xs) = k ∷ updateMarks xs
+
+-- "The clause goes if a class has two different constants, .."
+abbrev pub differ : List ℤ → Bool
+differ [] = false
+differ (y ∷ zs) = any (λ (z : ℤ). not (eqZ y z)) zs
+
+-- ".. if `<>` `<` `>` has both sides in one class, .."
+abbrev pub strict : Operator → Bool
+strict eq = false
+strict ne = true
+strict lt = true
+strict le = false
+strict gt = true
+strict ge = false
+
+-- ".. or if a comparison is false of the constants of its sides' classes."
+abbrev pub falseOf : Operator → List ℤ → List ℤ → Bool
+falseOf o [] zs = false
+falseOf o (y ∷ ys) [] = false
+falseOf o (y ∷ ys) (z ∷ zs) = not (truth o y z)
+
+abbrev pub broken : Clause → Comparison Joint → Bool
+broken cs c =
+    (strict (c .op) && same (label cs (c .left)) (label cs (c .right)))
+    || falseOf (c .op) (constants (class cs (c .left))) (constants (class cs (c .right)))
+
+unfoldable pub contradictory : Clause → Bool
+contradictory cs = any (λ (x : Joint). differ (constants (class cs x))) (sides cs) || any (broken cs) cs
+
+-- ---- rule 7: "Each question mark of the question becomes its class's constant, else the lowest update mark in its class, else any."
+
+pub data Entry : Type 0 where
+  number : ℤ → Entry
+  mark : ℕ → Entry
+  anything : Entry
+  deriving Discrete as Entry-discrete
+
+abbrev pub lowest : ℕ → List ℕ → ℕ
+lowest k [] = k
+lowest k (m ∷ ms) = min k (lowest m ms)
+
+abbrev pub markEntry : List ℕ → Entry
+markEntry [] = anything
+markEntry (k ∷ ks) = mark (lowest k ks)
+
+abbrev pub classEntry : List ℤ → List ℕ → Entry
+classEntry [] ks = markEntry ks
+classEntry (z ∷ zs) ks = number z
+
+unfoldable pub entry : Clause → ℕ → Entry
+entry cs k = classEntry (constants (class cs (asked k))) (updateMarks (class cs (asked k)))
+
+abbrev pub Pattern : Type 0
+Pattern = List Entry
+
+-- the pattern of a clause, for a query of n question marks
+abbrev pub pattern : ℕ → Clause → Pattern
+pattern n cs = map (entry cs) (from 1 n)
+
+abbrev pub sameEntry : Entry → Entry → Bool
+sameEntry e f = isYes (Entry-discrete decZ decN e f)
+
+-- "Equal patterns keep the first."
+abbrev pub clausePatterns : ℕ → List Clause → List Pattern
+clausePatterns n cs = distinct (eqList sameEntry) (map (pattern n) (keep (λ (c : Clause). not (contradictory c)) cs))
+
+-- by whether the update can matter at all (rules 1 and 2), and whether the clauses are too many (rule 5)
+abbrev pub chosen : Bool → Bool → ℕ → List Clause → List Pattern
+chosen false many n cs = []
+chosen true true n cs = replicate n anything ∷ []
+chosen true false n cs = clausePatterns n cs
+
+unfoldable pub patterns : Query → Update → List Pattern
+patterns q u =
+    chosen (sameTable q u && touches q (u .change)) (ltb most-clauses (jointCount q (u .change))) (q .parameters) (jointClauses q (u .change))
+
+-- ---- "A kept answer is dropped when a pattern, filled with the update's values, agrees with its key."
+
+abbrev pub agreesAt : List ℤ → Entry → ℤ → Bool
+agreesAt us (number y) z = eqZ y z
+agreesAt us (mark k) z = eqZ (valueAt us k) z
+agreesAt us anything z = true
+
+abbrev pub agrees : List ℤ → List ℤ → Pattern → Bool
+agrees us [] [] = true
+agrees us [] (e ∷ es) = false
+agrees us (z ∷ zs) [] = false
+agrees us (z ∷ zs) (e ∷ es) = agreesAt us e z && agrees us zs es
+
+-- the update with the values us matches the query with the values qs
+unfoldable pub matches : Query → Update → List ℤ → List ℤ → Bool
+matches q u us qs = any (agrees us qs) (patterns q u)

@@ -1,0 +1,1 @@
+// No code: the definitions of document 01 (specs/) and the theorems over them (proofs/).

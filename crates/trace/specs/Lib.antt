@@ -1,0 +1,5 @@
+pub mod History
+pub mod Recent
+pub mod Slots
+pub mod Model
+pub mod Demand
