@@ -1,0 +1,107 @@
+-- Document 01's transcript and an eviction, on the model and on the plain store, by computation: the claims of specs/Demand speak of lists in which answers
+-- are kept, dropped, evicted and refused. Assumes nothing.
+use mathlib.Core.Path.{_≡_, refl}
+use mathlib.Core.List.{List, [], _∷_, _++_, map}
+use Prim.Native.Nat.{ℕ}
+use Prim.Native.String.{String}
+use lib.IntN.{ℤ, pos}
+use lib.ListN.{replicate}
+use Rattle.lists.specs.Lists.{bytes}
+use Rattle.meaning.specs.Tokens.{isNameByte, isWordByte, decimal, isName, word, negative, tokenFrom, firstToken, scan, tokens}
+use Rattle.meaning.specs.Grammar.{aCondition, aSentence, read}
+use Rattle.meaning.specs.Limits.{pastLimit}
+use Rattle.meaning.specs.Names.{unknown, taken, miscounted}
+use Rattle.meaning.specs.Statement.{statementOf}
+use Rattle.meaning.specs.Meaning.{answer, changed, rowsChanged}
+use Rattle.meaning.specs.Record.{body, encode}
+use Rattle.meaning.specs.Pattern.{jointClauses, class, contradictory, entry, patterns, matches}
+use Rattle.meaning.specs.Plain.{Opening, openingRefused, Call, add, ask, change, flush, otherLengths, noPlace, full, refusal, recordOf, matchesKey, Out, refused, added, answered, rows, flushed, aTable, aQuery, anUpdate, addedText, changedBy, rowsBy}
+use Rattle.trace.specs.Model.{Seen, outs, slotSize, opened}
+
+-- what the computations open
+computing : Unit {0}
+unfolding isNameByte isWordByte decimal isName word negative tokenFrom firstToken scan tokens aCondition aSentence read pastLimit unknown taken miscounted statementOf answer changed rowsChanged body encode jointClauses class contradictory entry patterns matches openingRefused otherLengths noPlace full refusal recordOf matchesKey addedText changedBy rowsBy
+computing = tt
+
+-- 4,096 cells, 256 bytes of kept memory, 4 slots of 64 bytes
+abbrev desk : Opening
+desk = record { lent = record { cells = 4096; memory = 256 }; slots = 4; slotBytes = 64 }
+
+abbrev ADD : String → Call
+ADD t = add (bytes t)
+
+abbrev ASK : ℕ → List ℕ → Call
+ASK n vs = ask (record { query = n; values = map pos vs }) 65536
+
+abbrev DO : ℕ → List ℕ → Call
+DO n vs = change n (map pos vs)
+
+-- what each call prints: what the plain store gives, kept, rows read, drops
+abbrev Line : Type 0
+Line = Out × ℕ × ℕ × ℕ
+
+abbrev lineOf : Seen → Line
+lineOf s = (s .out, s .kept, s .scanned, s .drops)
+
+abbrev plain : Out → Line
+plain o = (o, 0, 0, 0)
+
+abbrev lines : List Call → List Line
+lines cs = map lineOf (outs (desk .lent) (slotSize desk) (opened desk (replicate 256 0)) cs)
+
+-- the record of some one-column rows below 256
+abbrev levels : List ℕ → List ℕ
+levels [] = []
+levels (n ∷ ns) = 0 ∷ 0 ∷ 0 ∷ n ∷ levels ns
+
+abbrev texts : List Call
+texts = ADD "TABLE stage (site, level) ROWS 3" ∷ ADD "INSERT INTO stage VALUES (?, ?)" ∷ ADD "SELECT level FROM stage WHERE site = ?" ∷ []
+
+abbrev transcript : List Call
+transcript =
+    texts
+    ++ (DO 0 (7 ∷ 120 ∷ [])
+    ∷ ASK 0 (7 ∷ [])
+    ∷ DO 0 (8 ∷ 95 ∷ [])
+    ∷ ASK 0 (7 ∷ [])
+    ∷ DO 0 (7 ∷ 121 ∷ [])
+    ∷ ASK 0 (7 ∷ [])
+    ∷ DO 0 (7 ∷ 122 ∷ [])
+    ∷ [])
+
+transcript-is : lines transcript
+    ≡ plain (added aTable 0)
+    ∷ plain (added anUpdate 0)
+    ∷ plain (added aQuery 0)
+    ∷ plain (rows 1)
+    ∷ (answered (0 ∷ 0 ∷ 0 ∷ 8 ∷ 1 ∷ 1 ∷ 0 ∷ 1 ∷ levels (120 ∷ [])), 0, 1, 0)
+    ∷ plain (rows 1)
+    ∷ (answered (0 ∷ 0 ∷ 0 ∷ 8 ∷ 1 ∷ 1 ∷ 0 ∷ 1 ∷ levels (120 ∷ [])), 1, 0, 0)
+    ∷ (rows 1, 0, 0, 1)
+    ∷ (answered (0 ∷ 0 ∷ 0 ∷ 12 ∷ 1 ∷ 1 ∷ 0 ∷ 2 ∷ levels (120 ∷ 121 ∷ [])), 0, 3, 0)
+    ∷ plain (refused 12)
+    ∷ []
+unfolding computing
+transcript-is = refl
+
+-- five keys in four slots: the first is evicted and the second is not; a flush drops the four
+abbrev none-of : Line
+none-of = (answered (0 ∷ 0 ∷ 0 ∷ 4 ∷ 1 ∷ 1 ∷ 0 ∷ 0 ∷ []), 0, 0, 0)
+
+crowded-is : lines (texts
+    ++ (ASK 0 (1 ∷ []) ∷ ASK 0 (2 ∷ []) ∷ ASK 0 (3 ∷ []) ∷ ASK 0 (4 ∷ []) ∷ ASK 0 (5 ∷ []) ∷ ASK 0 (2 ∷ []) ∷ ASK 0 (1 ∷ []) ∷ flush ∷ ASK 0 (2 ∷ []) ∷ []))
+    ≡ plain (added aTable 0)
+    ∷ plain (added anUpdate 0)
+    ∷ plain (added aQuery 0)
+    ∷ none-of
+    ∷ none-of
+    ∷ none-of
+    ∷ none-of
+    ∷ none-of
+    ∷ (answered (0 ∷ 0 ∷ 0 ∷ 4 ∷ 1 ∷ 1 ∷ 0 ∷ 0 ∷ []), 1, 0, 0)
+    ∷ none-of
+    ∷ (flushed, 0, 0, 4)
+    ∷ none-of
+    ∷ []
+unfolding computing
+crowded-is = refl
