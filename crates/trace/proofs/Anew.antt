@@ -10,14 +10,12 @@ use native.Mathlib.Omega.{arith}
 use lib.ListN.{length, take, length-map}
 use lib.Seq.{length-take-le}
 use Rattle.lists.specs.Lists.{All, nil, cons, DistinctBy, Distinct, keep, any}
-use Rattle.lists.specs.Tests.{isYes}
-use Rattle.lists.proofs.Bools.{not-true, no-of, is-no}
-use Rattle.lists.proofs.Lists.{All-head, All-right, All-map, All-take, All-keep, All-kept, All-image, keep-append, keep-yes, distinct-left, distinct-take, distinct-keep, distinct-image, take-mid}
+use Rattle.lists.proofs.Lists.{All-head, All-right, All-map, All-take, All-keep, All-image, keep-append, keep-yes, distinct-left, distinct-take, distinct-keep, distinct-image, take-mid}
 use Rattle.meaning.specs.Key.{Key, sameKey}
 use Rattle.meaning.specs.Plain.{Lengths, Plain, recordOf}
 use Rattle.trace.specs.History.{Event, answer-of, drop-of, fits, Answered, hits, Crowded, unless, since, Ground, never, unfit, dropped, crowded}
 use Rattle.trace.specs.Recent.{Entry, spared, other, front, recent}
-use Rattle.trace.proofs.Past.{Past, start, asks, adds, drops, valid, apart}
+use Rattle.trace.proofs.Past.{Past, start, asks, adds, drops, valid, other-yes, all-others, apart}
 
 module _ {K : Type 0} (size : ℕ) where
   -- the key was answered, with a record that fits
@@ -42,12 +40,6 @@ module _ {K : Type 0} (size : ℕ) where
 module _ {K : Type 0} (same : Discrete K) (n size : ℕ) where
   abbrev key : Entry K → K
   key x = x .0
-
-  other-yes : (j k : K) (r : List ℕ) → j ≢ k → other same k (j, r) ≡ true
-  other-yes j k r ne = ap not (is-no (same j k) ne)
-
-  all-others : (k : K) (l : List (Entry K)) → All (λ x. x .0 ≢ k) (keep (other same k) l)
-  all-others k l = All-map (λ x e. no-of (same (x .0) k) (not-true (isYes (same (x .0) k)) e)) (All-kept (other same k) l)
 
   -- k stands in l, behind keys that were answered in h with records that fit
   record Stands (k : K) (h : List (Event K)) (l : List (Entry K)) : Type 0 where
@@ -74,7 +66,7 @@ module _ {K : Type 0} (same : Discrete K) (n size : ℕ) where
         ap (λ x. (j, r) ∷ keep (other same j) x) (p .is)
         ∙ ap (λ x. (j, r) ∷ x)
         (keep-append (other same j) (p .pre) ((k, p .rec) ∷ p .post)
-        ∙ ap (λ x. keep (other same j) (p .pre) ++ x) (keep-yes (other same j) (k, p .rec) (p .post) (other-yes k j (p .rec) (λ e. ne (sym e)))))
+        ∙ ap (λ x. keep (other same j) (p .pre) ++ x) (keep-yes (other same j) (k, p .rec) (p .post) (other-yes same j (k, p .rec) (λ e. ne (sym e)))))
 
     others-fitted : (p : Stands k h l) → fits size r ≡ true → All (λ x. (x .0 ≢ k) × Fitted size (x .0) (answer-of j r ∷ h)) (others p)
     unfolding others
@@ -83,7 +75,7 @@ module _ {K : Type 0} (same : Discrete K) (n size : ℕ) where
     others-apart : (p : Stands k h l) → DistinctBy key (others p)
     unfolding others
     others-apart p = (
-      all-others j (p .pre),
+      all-others same j (p .pre),
       distinct-keep key (other same j) (p .pre) (distinct-left key (p .pre) ((k, p .rec) ∷ p .post) (rw (p .is) at dis)),
     )
 
@@ -127,8 +119,8 @@ module _ {K : Type 0} (same : Discrete K) (n size : ℕ) where
         before = All-keep (spared d) (λ x q _. q) (p .before);
       })
 
-  -- ---- whether a key was answered
-
+-- whether a key was answered
+module _ {K : Type 0} (same : Discrete K) where
   either : (j k : K) (h : List (Event K)) → Dec (j ≡ k) → Dec (Answered k h) → Dec ((j ≡ k) ⊎ Answered k h)
   either j k h (yes e) q = yes (inl e)
   either j k h (no f) (yes a) = yes (inr a)
@@ -181,7 +173,7 @@ module _ (lent : Lengths) (n size : ℕ) where
   -- a key that is not kept has one of the four grounds
   pub anew : {p : Plain} {h : List (Event Key)} → Past lent p h → (k : Key) → All (λ x. x .0 ≢ k) (recent sameKey n size h)
       → Ground sameKey n size (recordOf p k) k h
-  anew {p} {h} s k miss = go (fits size (recordOf p k)) refl (decAnswered sameKey n size k h) (any (hits k) (since sameKey k h)) refl
+  anew {p} {h} s k miss = go (fits size (recordOf p k)) refl (decAnswered sameKey k h) (any (hits k) (since sameKey k h)) refl
     where
       go : (b : Bool) → fits size (recordOf p k) ≡ b → Dec (Answered k h) → (c : Bool) → any (hits k) (since sameKey k h) ≡ c
           → Ground sameKey n size (recordOf p k) k h

@@ -2,3 +2,4 @@ pub mod Laws
 pub mod Order
 pub mod Past
 pub mod Anew
+pub mod Kept

@@ -1,13 +1,13 @@
 -- A history of the plain store, and what it says of the entries kept: each record is the plain store's of now, and fits; no key stands twice. Assumes nothing.
-use mathlib.Core.Path.{_≡_, refl, sym, _∙_}
+use mathlib.Core.Path.{_≡_, refl, sym, ap, _∙_}
 use mathlib.Core.HLevel.{Discrete}
-use mathlib.Core.Logic.{inl, inr}
+use mathlib.Core.Logic.{_≢_, inl, inr}
 use mathlib.Core.Bool.{Bool, true, false, not}
 use mathlib.Core.List.{List, [], _∷_}
 use Prim.Native.Nat.{ℕ, zero, suc}
 use Rattle.lists.specs.Lists.{All, nil, cons, DistinctBy, keep}
 use Rattle.lists.specs.Tests.{isYes}
-use Rattle.lists.proofs.Bools.{not-true, no-of}
+use Rattle.lists.proofs.Bools.{not-true, is-yes, is-no, no-of}
 use Rattle.lists.proofs.Lists.{All-map, All-take, All-keep, All-kept, distinct-take, distinct-keep}
 use Rattle.meaning.specs.Key.{Key, sameKey}
 use Rattle.meaning.specs.Plain as P
@@ -17,20 +17,28 @@ use Rattle.trace.specs.Recent.{Entry, spared, other, front, recent}
 use Rattle.trace.specs.Model.{askRefusal, shortRefusal}
 use Rattle.trace.proofs.Laws.{TableLaws, firstOf, ask-refusal}
 
--- no key is kept twice
-module _ {K : Type 0} (same : Discrete K) (n size : ℕ) where
-  pub apart : (h : List (Event K)) → DistinctBy (λ (x : Entry K). x .0) (recent same n size h)
-  apart [] = tt
-  apart (answer-of k r ∷ h) = go (fits size r) (apart h)
+module _ {K : Type 0} (same : Discrete K) where
+  -- the test for other keys
+  pub other-yes : (k : K) (x : Entry K) → x .0 ≢ k → other same k x ≡ true
+  other-yes k x ne = ap not (is-no (same (x .0) k) ne)
+
+  pub other-no : (k : K) (x : Entry K) → x .0 ≡ k → other same k x ≡ false
+  other-no k x e = ap not (is-yes (same (x .0) k) e)
+
+  pub all-others : (k : K) (l : List (Entry K)) → All (λ x. x .0 ≢ k) (keep (other same k) l)
+  all-others k l = All-map (λ x e. no-of (same (x .0) k) (not-true (isYes (same (x .0) k)) e)) (All-kept (other same k) l)
+
+  -- no key is kept twice
+  pub apart : (n size : ℕ) (h : List (Event K)) → DistinctBy (λ (x : Entry K). x .0) (recent same n size h)
+  apart n size [] = tt
+  apart n size (answer-of k r ∷ h) = go (fits size r) (apart n size h)
     where
       go : (b : Bool) → DistinctBy (λ (x : Entry K). x .0) (recent same n size h) → DistinctBy (λ (x : Entry K). x .0) (front same b n k r (recent same n size h))
       go true g =
-          distinct-take (λ (x : Entry K). x .0) n ((k, r) ∷ keep (other same k) (recent same n size h)) (
-            All-map (λ x e. no-of (same (x .0) k) (not-true (isYes (same (x .0) k)) e)) (All-kept (other same k) (recent same n size h)),
-            distinct-keep (λ (x : Entry K). x .0) (other same k) (recent same n size h) g,
-          )
+          distinct-take (λ (x : Entry K). x .0) n ((k, r) ∷ keep (other same k) (recent same n size h))
+          (all-others k (recent same n size h), distinct-keep (λ (x : Entry K). x .0) (other same k) (recent same n size h) g)
       go false g = g
-  apart (drop-of d ∷ h) = distinct-keep (λ (x : Entry K). x .0) (spared d) (recent same n size h) (apart h)
+  apart n size (drop-of d ∷ h) = distinct-keep (λ (x : Entry K). x .0) (spared d) (recent same n size h) (apart n size h)
 
 module _ (lent : Lengths) where
   -- from p to q the records stay, but for the keys of d
