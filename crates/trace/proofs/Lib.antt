@@ -3,3 +3,4 @@ pub mod Order
 pub mod Past
 pub mod Anew
 pub mod Kept
+pub mod Same
