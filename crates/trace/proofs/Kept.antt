@@ -16,7 +16,7 @@ use Rattle.lists.proofs.Moved.{moved-front, moved-last, moved-drop}
 use Rattle.lists.proofs.Written.{slot-same, slot-written, slot-other}
 use Rattle.trace.specs.History.{Event, answer-of, drop-of, fits}
 use Rattle.trace.specs.Recent.{Entry, spared, other, front, recent}
-use Rattle.trace.specs.Slots.{Names, Held, Cache, slotsOf, slotBytes, found, find, moveToFront, lastHeld, lastFree, takeLast, putIn, put, dropBy}
+use Rattle.trace.specs.Slots.{Names, Held, Cache, slotsOf, slotBytes, found, find, lastHeld, lastFree, takeLast, putIn, put, dropBy}
 use Rattle.trace.proofs.Past.{other-yes, other-no, apart}
 use Rattle.trace.proofs.Order.{names-moved}
 
@@ -53,7 +53,7 @@ module _ {K : Type 0} where
       goH e (some c) i = (
         rw (e, i) (simp (append-nil, map-append)),
         ap (λ x. take (length (slotsOf (c .0) ++ [])) x) i
-        ∙ take-at (c .0) (c .1 ∷ []) (length (slotsOf (c .0) ++ [])) (simp (append-nil, length-map)),
+            ∙ take-at (c .0) (c .1 ∷ []) (length (slotsOf (c .0) ++ [])) (simp (append-nil, length-map)),
       )
 
       goF : (o : Option (List ℕ × ℕ)) → Unsnoc fs o → Last l fs (lastFree l o)
@@ -142,7 +142,7 @@ module _ {K : Type 0} (same : Discrete K) (n size : ℕ) where
           (slot-same n size i r memory (All-head (put-names .below)) (s .room) put-small)
           (map-same (entry size memory)
           (All-map (λ e q.
-            ap (λ x. (e .key, x)) (slot-other n size i r memory (All-head (put-names .below)) (s .room) put-small (e .slot) (e .len) (q .0) (q .1)))
+          ap (λ x. (e .key, x)) (slot-other n size i r memory (All-head (put-names .below)) (s .room) put-small (e .slot) (e .len) (q .0) (q .1)))
           (All-both (All-source (λ (x : Held K). x .slot) hs (All-left (slotsOf hs) fs (put-names .once .0))) put-lens)))
 
       -- what `recent` has: all but the last of the order

@@ -4,3 +4,4 @@ pub mod Past
 pub mod Anew
 pub mod Kept
 pub mod Same
+pub mod Demand
