@@ -1,1 +1,8 @@
 pub mod Examples
+pub mod Laws
+pub mod Order
+pub mod Past
+pub mod Anew
+pub mod Kept
+pub mod Same
+pub mod Demand

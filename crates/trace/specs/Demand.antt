@@ -1,14 +1,15 @@
 -- The demands as claims, as far as the model of kept answers can say them. Assumes nothing: these are definitions.
 use mathlib.Core.Path.{_≡_}
-use mathlib.Core.Bool.{Bool, not}
+use mathlib.Core.Bool.{Bool, true, false, not}
 use mathlib.Core.List.{List, map}
 use Prim.Native.Nat.{ℕ, _≤_}
+use lib.IntN.{ℤ}
 use lib.ListN.{length}
-use Rattle.lists.specs.Lists.{All, DistinctBy, keep, count}
+use Rattle.lists.specs.Lists.{All, DistinctBy, keep, count, any}
 use Rattle.meaning.specs.Key.{Key, sameKey}
 use Rattle.meaning.specs.Plain as P
 use Rattle.meaning.specs.Plain.{Lengths, Plain, Opening, Call, ask, change, refusal, recordOf, matchesKey, answered}
-use Rattle.trace.specs.History.{history, Ground}
+use Rattle.trace.specs.History.{Event, history, fits, Answered, hits, since, Filled, Ground}
 use Rattle.trace.specs.Slots.{Names, Held, Cache, order, slotBytes}
 use Rattle.trace.specs.Model.{Seen, Model, askRefusal, step, after, outs, slotCount, slotSize, opened}
 
@@ -46,13 +47,22 @@ AnewOnlyIf = (s : Start) (cs : List Call) (k : Key) (buffer : ℕ) (r : List ℕ
     → Ground sameKey (slotCount (s .opening)) (slotSize (s .opening)) (recordOf (plainAfter s cs) k) k
     (history (s .opening .lent) (P.opened (s .opening)) cs)
 
+-- The converse, by the slot rules: a question that was answered before, whose record fits, with no matching update or flush since, and with fewer different
+-- others than there are slots answered since with records that fit, is kept.
+abbrev pub KeptOtherwise : Type 0
+KeptOtherwise = (s : Start) (cs : List Call) (k : Key) (buffer : ℕ) (r : List ℕ)
+    → let h : List (Event Key) = history (s .opening .lent) (P.opened (s .opening)) cs in
+    nextCall s cs (ask k buffer) .out ≡ answered r → Answered k h → fits (slotSize (s .opening)) (recordOf (plainAfter s cs) k) ≡ true
+    → any (hits k) (since sameKey k h) ≡ false → ¬ Filled (slotSize (s .opening)) (slotCount (s .opening)) k (since sameKey k h)
+    → nextCall s cs (ask k buffer) .kept ≡ 1
+
 -- Demand 2: "The kept answers an update drops are exactly those matched by the patterns": of the keys held before it, an update that is not refused leaves
 -- those that it does not match, in their order, and its count is the number of the others.
 abbrev pub keysHeld : Model → List Key
 keysHeld m = map (λ (e : Held Key). e .key) (m .cache .held)
 
 abbrev pub DropsExactlyMatched : Type 0
-DropsExactlyMatched = (s : Start) (cs : List Call) (n : ℕ) (us : List _)
+DropsExactlyMatched = (s : Start) (cs : List Call) (n : ℕ) (us : List ℤ)
     → refusal (s .opening .lent) (plainAfter s cs) (change n us) ≡ 0
     → (keysHeld (step (s .opening .lent) (slotSize (s .opening)) (afterCalls s cs) (change n us) .0)
     ≡ keep (λ (k : Key). not (matchesKey (plainAfter s cs) n us k)) (keysHeld (afterCalls s cs)))

@@ -57,6 +57,15 @@ module _ {K : Type 0} where
   abbrev pub Crowded : ℕ → K → List (Event K) → Type 0
   Crowded n k h = (js : List K) × (length js ≡ n) × Distinct js × All (λ j. (j ≢ k) × Answered j h) js
 
+  -- the key was answered with a record that fits; at least n different others were
+  abbrev pub Fitted : ℕ → K → List (Event K) → Type 0
+  Fitted size k [] = ⊥
+  Fitted size k (answer-of j r ∷ h) = ((j ≡ k) × (fits size r ≡ true)) ⊎ Fitted size k h
+  Fitted size k (drop-of d ∷ h) = Fitted size k h
+
+  abbrev pub Filled : ℕ → ℕ → K → List (Event K) → Type 0
+  Filled size n k h = (js : List K) × (length js ≡ n) × Distinct js × All (λ j. (j ≢ k) × Fitted size j h) js
+
   abbrev pub unless : {P : Type 0} → Dec P → List (Event K) → List (Event K)
   unless (yes p) h = []
   unless (no q) h = h
