@@ -1,11 +1,23 @@
 -- Lists whose members are changed, dropped or joined: what stays the same. Assumes nothing.
-use mathlib.Core.Path.{_≡_, refl, sym, ap, ap₂, _∙_}
+use mathlib.Core.Path.{_≡_, refl, sym, ap, ap₂, subst, _∙_}
 use mathlib.Core.Bool.{Bool, true, false, not, _&&_, _||_, true≢false, false≢true}
-use mathlib.Core.List.{List, [], _∷_, _++_, map}
-use Rattle.lists.specs.Lists.{any, All, nil, cons, consIf, keep, pairs, distinct}
+use mathlib.Core.List.{List, [], _∷_, _++_, map, List·Memᴰ as Member, List·Memᴰ·head as head, List·Memᴰ·tail as tail}
+use Prim.Native.Nat.{ℕ, zero, suc}
+use Rattle.lists.specs.Lists.{any, All, nil, cons, consIf, keep, pairs, distinct, from}
 use Rattle.lists.specs.Tests.{eqList}
 use Rattle.lists.proofs.Bools.{and-left, and-right}
 use Rattle.lists.proofs.Lists.{map-append}
+
+-- ---- members
+
+module _ {A : Type 0} where
+  pub member-has : {P : A → Type 0} {l : List A} {x : A} → All P l → Member x l → P x
+  member-has {P} (cons p h) (head e) = subst P (sym e) p
+  member-has (cons p h) (tail m) = member-has h m
+
+  pub members-have : {P : A → Type 0} (l : List A) → ((x : A) → Member x l → P x) → All P l
+  members-have [] f = nil
+  members-have (x ∷ l) f = cons (f x (head refl)) (members-have l (λ y m. f y (tail m)))
 
 pub pairs-map : {A B : Type 0} (f : A → B) (cs ds : List (List A)) → map (map f) (pairs cs ds) ≡ pairs (map (map f) cs) (map (map f) ds)
 pairs-map f [] ds = refl
@@ -15,6 +27,11 @@ pairs-map f (c ∷ cs) ds =
     go : (ds : List (List _)) → map (map f) (map (λ d. c ++ d) ds) ≡ map (λ d. map f c ++ d) (map (map f) ds)
     go [] = refl
     go (d ∷ ds) = ap₂ _∷_ (map-append f c d) (go ds)
+
+-- counting from one later
+pub map-from : {A : Type 0} (g : ℕ → A) (i n : ℕ) → map g (from (suc i) n) ≡ map (λ (k : ℕ). g (suc k)) (from i n)
+map-from g i zero = refl
+map-from g i (suc n) = ap (λ r. g (suc i) ∷ r) (map-from g (suc i) n)
 
 pub eqList-true : {A : Type 0} (same : A → A → Bool) → ((x y : A) → same x y ≡ true → x ≡ y)
     → (xs ys : List A) → eqList same xs ys ≡ true → xs ≡ ys
