@@ -1,2 +1,3 @@
 pub mod Clauses
 pub mod Classes
+pub mod Weakening
