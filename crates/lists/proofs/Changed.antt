@@ -2,7 +2,9 @@
 use mathlib.Core.Path.{_≡_, refl, sym, ap, ap₂, subst, _∙_}
 use mathlib.Core.Bool.{Bool, true, false, not, _&&_, _||_, true≢false, false≢true}
 use mathlib.Core.List.{List, [], _∷_, _++_, map, List·Memᴰ as Member, List·Memᴰ·head as head, List·Memᴰ·tail as tail}
-use Prim.Native.Nat.{ℕ, zero, suc}
+use Prim.Native.Nat.{ℕ, zero, suc, _+_, _≤_, _<_}
+use native.Mathlib.Decide.{ℕ-discrete}
+use native.Mathlib.Omega.{arith}
 use Rattle.lists.specs.Lists.{any, All, nil, cons, consIf, keep, pairs, distinct, from}
 use Rattle.lists.specs.Tests.{eqList}
 use Rattle.lists.proofs.Bools.{and-left, and-right}
@@ -32,6 +34,15 @@ pairs-map f (c ∷ cs) ds =
 pub map-from : {A : Type 0} (g : ℕ → A) (i n : ℕ) → map g (from (suc i) n) ≡ map (λ (k : ℕ). g (suc k)) (from i n)
 map-from g i zero = refl
 map-from g i (suc n) = ap (λ r. g (suc i) ∷ r) (map-from g (suc i) n)
+
+-- what all of these numbers have
+pub from-has : {P : ℕ → Type 0} (i n : ℕ) → All P (from i n) → (k : ℕ) → i ≤ k → k < i + n → P k
+from-has i zero h k a b = absurd (omega arith)
+from-has {P} i (suc n) (cons p h) k a b = go (ℕ-discrete i k) (from-has (suc i) n h k)
+  where
+    go : Dec (i ≡ k) → (suc i ≤ k → k < suc i + n → P k) → P k
+    go (yes e) f = subst P e p
+    go (no e) f = f (omega arith) (omega arith)
 
 pub eqList-true : {A : Type 0} (same : A → A → Bool) → ((x y : A) → same x y ≡ true → x ≡ y)
     → (xs ys : List A) → eqList same xs ys ≡ true → xs ≡ ys

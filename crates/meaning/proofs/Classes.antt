@@ -11,9 +11,9 @@ use native.Mathlib.Omega.{arith}
 use lib.IntN.{ℤ, pos}
 use lib.Signed.{ltZ, <ℤ-irrefl, ltZ-yes}
 use lib.ListN.{length, getD}
-use Rattle.lists.specs.Lists.{any, All, nil, cons, from}
+use Rattle.lists.specs.Lists.{All, nil, cons, from}
 use Rattle.lists.specs.Tests.{isYes, decN, decZ, eqZ}
-use Rattle.lists.proofs.Bools.{clash, contra, true→T, eqZ-same, eqZ-true, yes-of}
+use Rattle.lists.proofs.Bools.{clash, true→T, eqZ-same, eqZ-true, yes-of}
 use Rattle.lists.proofs.Lists.{All-head, All-tail, All-map, All-every, All-kept, all-true, any-none}
 use Rattle.lists.proofs.Changed.{member-has, members-have, map-from}
 use Rattle.meaning.specs.Operator.{Operator, eq, ne, lt, le, gt, ge, truth}

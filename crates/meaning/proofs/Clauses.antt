@@ -1,7 +1,7 @@
 -- The clauses of a condition say what it says, and rule 5 counts them (rules 4 and 5). Assumes nothing.
 use mathlib.Core.Path.{_≡_, refl, sym, ap, ap₂, _∙_}
 use mathlib.Core.Bool.{Bool, true, false, not, _&&_, _||_, or-false, and-true}
-use mathlib.Core.List.{List, _++_, map}
+use mathlib.Core.List.{_++_, map}
 use Prim.Native.Nat.{ℕ, _+_, _*_}
 use native.Mathlib.Omega.{arith}
 use lib.IntN.{ℤ}

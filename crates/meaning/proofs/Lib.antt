@@ -1,3 +1,4 @@
 pub mod Clauses
 pub mod Classes
 pub mod Weakening
+pub mod Few

@@ -11,15 +11,15 @@ use lib.Seq.{getD-set-same, getD-set-other}
 use borrow.Author.Tests.{eqb-true, eqb-false, eq-eqb}
 use Rattle.lists.specs.Lists.{any, All, nil, cons, keep}
 use Rattle.lists.specs.Tests.{decN, decZ, eqZ, eqZ-refl, eqList, eqList-refl}
-use Rattle.lists.proofs.Bools.{and-or, and-left, and-right, and-both, or-left, or-right, not-false, contra, clash, T→true, eqZ-same, eqZ-true, yes-of}
+use Rattle.lists.proofs.Bools.{and-or, and-left, and-right, and-both, or-left, or-right, not-false, contra, clash, T→true, eqZ-true, yes-of}
 use Rattle.lists.proofs.Lists.{All-head, All-tail, All-map, All-every, All-both, All-left, All-right, any-append, any-false, any-implies, any-keep, any-map, any-pairs, keep-append, keep-no, map-same}
 use Rattle.lists.proofs.Changed.{eqList-true, any-distinct, quiet-map, quiet-keep}
 use Rattle.meaning.specs.Operator.{truth}
-use Rattle.meaning.specs.Condition.{Comparison, Level, Condition, compare, negate, group, alone, both, single, either, Where, always, under, comparisons, comparisonsIn, operandsIn, sides, holds, eval, evalWhere, meets, clausesOf, replacedIn}
+use Rattle.meaning.specs.Condition.{Comparison, Level, Condition, compare, negate, group, alone, both, single, either, Where, always, under, comparisons, operandsIn, sides, holds, eval, evalWhere, meets, clausesOf, replacedIn}
 use Rattle.meaning.specs.Statement as S
-use Rattle.meaning.specs.Statement.{Value, parameter, Operand, value, Query, Change, insert, delete, update, Update}
-use Rattle.meaning.specs.Meaning.{Row, cell, valueAt, valueOf, operandValue, meetsWhere, takes, selected, answer, newRow, assigned, updatedRow, changed}
-use Rattle.meaning.specs.Pattern.{differs, mattersIn, matters, sameTable, operandColumns, columnsUsed, touches, Joint, column, constant, asked, given, ofValue, ofUpdate, ofQuery, insertedColumn, setColumn, Clause, queryClauses, updateClauses, bothClauses, jointClauses, jointCount, most-clauses, contradictory, Entry-discrete, anything, sameEntry, Pattern, pattern, clausePatterns, chosen, patterns, agrees, matches}
+use Rattle.meaning.specs.Statement.{Value, parameter, Operand, value, Query, Change, insert, delete, update}
+use Rattle.meaning.specs.Meaning.{Row, cell, valueOf, operandValue, meetsWhere, takes, selected, answer, newRow, assigned, updatedRow, changed}
+use Rattle.meaning.specs.Pattern.{differs, mattersIn, matters, sameTable, operandColumns, columnsUsed, touches, Joint, column, ofValue, ofUpdate, ofQuery, insertedColumn, setColumn, Clause, queryClauses, updateClauses, bothClauses, jointClauses, jointCount, most-clauses, contradictory, Entry-discrete, anything, sameEntry, Pattern, pattern, clausePatterns, chosen, patterns, agrees, matches}
 use Rattle.meaning.specs.Demand.{SetsWithin, PatternsWeaken, AnswerStays}
 use Rattle.meaning.proofs.Clauses.{clausesOf-mean, evalWhere-replaced}
 use Rattle.meaning.proofs.Classes.{jointValue, not-contradictory, pattern-agrees}
