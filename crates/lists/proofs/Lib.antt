@@ -2,3 +2,4 @@ pub mod Bools
 pub mod Lists
 pub mod Written
 pub mod Moved
+pub mod Changed

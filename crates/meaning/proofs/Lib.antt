@@ -1,1 +1,5 @@
 pub mod Examples
+pub mod Clauses
+pub mod Few
+pub mod Classes
+pub mod Weakening
