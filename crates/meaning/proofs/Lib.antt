@@ -1,4 +1,3 @@
-pub mod Examples
 pub mod Clauses
 pub mod Few
 pub mod Classes

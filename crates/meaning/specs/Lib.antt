@@ -12,3 +12,4 @@ pub mod Key
 pub mod Pattern
 pub mod Plain
 pub mod Demand
+pub mod Examples

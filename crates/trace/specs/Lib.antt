@@ -3,3 +3,4 @@ pub mod Recent
 pub mod Slots
 pub mod Model
 pub mod Demand
+pub mod Examples

@@ -69,7 +69,7 @@ transcript =
     ∷ DO 0 (7 ∷ 122 ∷ [])
     ∷ [])
 
-transcript-is : lines transcript
+pub transcript-is : lines transcript
     ≡ plain (added aTable 0)
     ∷ plain (added anUpdate 0)
     ∷ plain (added aQuery 0)
@@ -88,7 +88,7 @@ transcript-is = refl
 abbrev none-of : Line
 none-of = (answered (0 ∷ 0 ∷ 0 ∷ 4 ∷ 1 ∷ 1 ∷ 0 ∷ 0 ∷ []), 0, 0, 0)
 
-crowded-is : lines (texts
+pub crowded-is : lines (texts
     ++ (ASK 0 (1 ∷ []) ∷ ASK 0 (2 ∷ []) ∷ ASK 0 (3 ∷ []) ∷ ASK 0 (4 ∷ []) ∷ ASK 0 (5 ∷ []) ∷ ASK 0 (2 ∷ []) ∷ ASK 0 (1 ∷ []) ∷ flush ∷ ASK 0 (2 ∷ []) ∷ []))
     ≡ plain (added aTable 0)
     ∷ plain (added anUpdate 0)
@@ -105,3 +105,20 @@ crowded-is : lines (texts
     ∷ []
 unfolding computing
 crowded-is = refl
+
+-- "A refusal 13 that moves a slot" is a slip: with a buffer of 3 bytes the question is refused, so its slot stays last and the fifth key evicts it
+pub short-is : lines (texts
+    ++ (ASK 0 (1 ∷ []) ∷ ASK 0 (2 ∷ []) ∷ ASK 0 (3 ∷ []) ∷ ASK 0 (4 ∷ []) ∷ ask (record { query = 0; values = pos 1 ∷ [] }) 3 ∷ ASK 0 (5 ∷ []) ∷ ASK 0 (1 ∷ []) ∷ []))
+    ≡ plain (added aTable 0)
+    ∷ plain (added anUpdate 0)
+    ∷ plain (added aQuery 0)
+    ∷ none-of
+    ∷ none-of
+    ∷ none-of
+    ∷ none-of
+    ∷ plain (refused 13)
+    ∷ none-of
+    ∷ none-of
+    ∷ []
+unfolding computing
+short-is = refl

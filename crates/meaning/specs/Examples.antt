@@ -1,0 +1,237 @@
+-- Document 01, "Examples": the ten starred rows as one table, from the texts of the statements, and "Slips a marker would catch", each by computation.
+-- Assumes nothing.
+use mathlib.Core.Path.{_≡_, refl}
+use mathlib.Core.Bool.{Bool, true, false}
+use mathlib.Core.List.{List, [], _∷_, _++_, map}
+use Prim.Native.Nat.{ℕ}
+use Prim.Native.String.{String}
+use lib.IntN.{ℤ, pos}
+use lib.ListN.{getD}
+use Rattle.lists.specs.Lists.{bytes, all, All, nil, cons}
+use Rattle.meaning.specs.Tokens.{isNameByte, isWordByte, decimal, isName, word, negative, tokenFrom, firstToken, scan, tokens}
+use Rattle.meaning.specs.Grammar.{aCondition, aSentence, read}
+use Rattle.meaning.specs.Limits.{pastLimit}
+use Rattle.meaning.specs.Names.{unknown, taken, miscounted}
+use Rattle.meaning.specs.Statement.{statementOf}
+use Rattle.meaning.specs.Meaning.{Row, answer, changed, rowsChanged}
+use Rattle.meaning.specs.Pattern.{Pattern, number, mark, anything, jointClauses, jointCount, class, contradictory, entry, patterns, matches}
+use Rattle.meaning.specs.Plain.{Lengths, Plain, tableAt, queryAt, updateAt, Opening, openingRefused, opened, Call, add, change, otherLengths, noPlace, full, refusal, Out, refused, added, answered, rows, flushed, addedText, changedBy, rowsBy, step, after, outs}
+
+-- what the computations open
+computing : Unit {0}
+unfolding isNameByte isWordByte decimal isName word negative tokenFrom firstToken scan tokens aCondition aSentence read pastLimit unknown taken miscounted statementOf answer changed rowsChanged jointClauses class contradictory entry patterns matches openingRefused otherLengths noPlace full refusal addedText changedBy rowsBy
+computing = tt
+
+-- six cells, and no kept memory
+abbrev six : Lengths
+six = record { cells = 6; memory = 0 }
+
+abbrev start : Plain
+start = opened (record { lent = six; slots = 0; slotBytes = 8 })
+
+-- what a row of the table says of a store that has the table S and the texts: of its first question and first update
+pub data Outcome : Type 0 where
+  patterns-are : List Pattern → Outcome
+  next-refused : Call → ℕ → Outcome
+  lists : List Row → Outcome
+
+abbrev Says : Plain → Outcome → Type 0
+Says p (patterns-are ps) = patterns (queryAt p 0) (updateAt p 0) ≡ ps
+Says p (next-refused c n) = step six p c .1 ≡ refused n
+Says p (lists rs) = answer (queryAt p 0) [] (tableAt p 0 .rows) ≡ rs
+
+pub record Example : Type 0 where
+  pub texts : List String
+  pub calls : List Call
+  pub outcome : Outcome
+
+abbrev S : String
+S = "TABLE stage (site, level) ROWS 3"
+
+abbrev Q : String
+Q = "SELECT level FROM stage WHERE site = ?"
+
+abbrev adds : Example → List Call
+adds e = map (λ (t : String). add (bytes t)) (S ∷ e .texts)
+
+abbrev isTaken : Out → Bool
+isTaken (refused n) = false
+isTaken (added k n) = true
+isTaken (answered r) = true
+isTaken (rows n) = true
+isTaken flushed = true
+
+-- all texts and calls are taken, and then the outcome holds
+abbrev Holds : Example → Type 0
+Holds e = (all isTaken (outs six start (adds e ++ e .calls)) ≡ true) × Says (after six start (adds e ++ e .calls)) (e .outcome)
+
+abbrev pair : String → String → List Pattern → Example
+pair q u ps = record { texts = q ∷ u ∷ []; calls = []; outcome = patterns-are ps }
+
+-- the values of a call
+abbrev numbers : List ℕ → List ℤ
+numbers ns = map pos ns
+
+-- "counts 4 and 16": 2 × 2 clauses of the update, 2 × 2 × 2 × 2 of the question
+abbrev sixteen : String
+sixteen =
+    "SELECT level FROM stage WHERE (site = ? OR level = ?) AND (site > 0 OR level > 0) AND (site < 9 OR level < 9) AND (site <> 5 OR level <> 5)"
+
+abbrev delete-four : String
+delete-four = "DELETE FROM stage WHERE (site = ? OR site = ?) AND (level = ? OR level = ?)"
+
+abbrev update-four : String
+update-four = "UPDATE stage SET level = ? WHERE (site = ? OR site = ?) AND (level = ? OR level = ?)"
+
+-- the table
+abbrev pub examples : List Example
+examples =
+    -- *SET level = ? WHERE site = ?
+    pair Q "UPDATE stage SET level = ? WHERE site = ?" ((mark 2 ∷ []) ∷ [])
+    -- *SET site = ? WHERE site = ?
+    ∷ pair Q "UPDATE stage SET site = ? WHERE site = ?" ((mark 2 ∷ []) ∷ (mark 1 ∷ []) ∷ [])
+    -- *DELETE, level < ?
+    ∷ pair Q "DELETE FROM stage WHERE level < ?" ((anything ∷ []) ∷ [])
+    -- *INSERT (3, ?)
+    ∷ pair Q "INSERT INTO stage VALUES (3, ?)" ((number (pos 3) ∷ []) ∷ [])
+    -- *INSERT (3, ?), question site = 4
+    ∷ pair "SELECT level FROM stage WHERE site = 4" "INSERT INTO stage VALUES (3, ?)" []
+    -- *DELETE site = 3, question site = 3
+    ∷ pair "SELECT level FROM stage WHERE site = 3" "DELETE FROM stage WHERE site = 3" ([] ∷ [])
+    -- *INSERT (?, ?) with S full
+    ∷ record {
+      texts = "INSERT INTO stage VALUES (?, ?)" ∷ [];
+      calls = change 0 (numbers (7 ∷ 120 ∷ [])) ∷ change 0 (numbers (8 ∷ 95 ∷ [])) ∷ change 0 (numbers (7 ∷ 121 ∷ [])) ∷ [];
+      outcome = next-refused (change 0 (numbers (7 ∷ 122 ∷ []))) 12;
+    }
+    -- *site = 1 OR site = 2 AND level > 5, row (1, 0)
+    ∷ record {
+      texts = "SELECT site, level FROM stage WHERE site = 1 OR site = 2 AND level > 5" ∷ "INSERT INTO stage VALUES (?, ?)" ∷ [];
+      calls = change 0 (numbers (1 ∷ 0 ∷ [])) ∷ [];
+      outcome = lists (numbers (1 ∷ 0 ∷ []) ∷ []);
+    }
+    -- *DELETE, counts 4 and 16
+    ∷ pair sixteen delete-four ((mark 1 ∷ anything ∷ []) ∷ (anything ∷ mark 3 ∷ []) ∷ (anything ∷ mark 4 ∷ []) ∷ (mark 2 ∷ anything ∷ []) ∷ [])
+    -- *UPDATE, counts 4 and 16
+    ∷ pair sixteen update-four ((anything ∷ anything ∷ []) ∷ [])
+    ∷ []
+
+-- row k of a table, counted from 0
+abbrev row : List Example → ℕ → Example
+row es k = getD es k (pair Q Q [])
+
+starred-0 : Holds (row examples 0)
+unfolding computing
+starred-0 = (refl, refl)
+
+starred-1 : Holds (row examples 1)
+unfolding computing
+starred-1 = (refl, refl)
+
+starred-2 : Holds (row examples 2)
+unfolding computing
+starred-2 = (refl, refl)
+
+starred-3 : Holds (row examples 3)
+unfolding computing
+starred-3 = (refl, refl)
+
+starred-4 : Holds (row examples 4)
+unfolding computing
+starred-4 = (refl, refl)
+
+starred-5 : Holds (row examples 5)
+unfolding computing
+starred-5 = (refl, refl)
+
+starred-6 : Holds (row examples 6)
+unfolding computing
+starred-6 = (refl, refl)
+
+starred-7 : Holds (row examples 7)
+unfolding computing
+starred-7 = (refl, refl)
+
+starred-8 : Holds (row examples 8)
+unfolding computing
+starred-8 = (refl, refl)
+
+starred-9 : Holds (row examples 9)
+unfolding computing
+starred-9 = (refl, refl)
+
+pub starred : All Holds examples
+starred =
+    cons starred-0
+    (cons starred-1
+    (cons starred-2
+    (cons starred-3
+    (cons starred-4
+    (cons starred-5
+    (cons starred-6
+    (cons starred-7
+    (cons starred-8
+    (cons starred-9
+    nil)))))))))
+
+-- the counts of the last two rows, and of the ninth a key that it spares and one that it drops
+module _ (q u : String) where
+  abbrev pairStore : Plain
+  pairStore = after six start (adds (pair q u []))
+
+  abbrev pairCount : ℕ
+  pairCount = jointCount (queryAt pairStore 0) (updateAt pairStore 0 .change)
+
+  abbrev pairMatches : List ℕ → List ℕ → Bool
+  pairMatches us qs = matches (queryAt pairStore 0) (updateAt pairStore 0) (numbers us) (numbers qs)
+
+pub counts : (pairCount sixteen delete-four ≡ 64) × (pairCount sixteen update-four ≡ 128)
+unfolding computing
+counts = (refl, refl)
+
+pub spares : (pairMatches sixteen delete-four (7 ∷ 8 ∷ 120 ∷ 121 ∷ []) (9 ∷ 95 ∷ []) ≡ false)
+    × (pairMatches sixteen delete-four (7 ∷ 8 ∷ 120 ∷ 121 ∷ []) (7 ∷ 95 ∷ []) ≡ true)
+unfolding computing
+spares = (refl, refl)
+
+-- "Slips a marker would catch", and two more
+abbrev pub slips : List Example
+slips =
+    -- "Dropping by the old row only, so a row moved to site 9 leaves site 9's answer kept."
+    pair Q "UPDATE stage SET site = 9 WHERE site = 7" ((number (pos 7) ∷ []) ∷ (number (pos 9) ∷ []) ∷ [])
+    -- "Rule 2 on selected columns alone."
+    ∷ pair Q "UPDATE stage SET site = ?" ((anything ∷ []) ∷ (mark 1 ∷ []) ∷ [])
+    -- "Testing a row already set."
+    ∷ record {
+      texts = "SELECT site, level FROM stage" ∷ "UPDATE stage SET site = ? WHERE site = ?" ∷ "INSERT INTO stage VALUES (?, ?)" ∷ [];
+      calls = change 1 (numbers (7 ∷ 120 ∷ [])) ∷ change 0 (numbers (9 ∷ 7 ∷ [])) ∷ [];
+      outcome = lists (numbers (9 ∷ 120 ∷ []) ∷ []);
+    }
+    -- `<=` may have both sides in one class
+    ∷ pair "SELECT level FROM stage WHERE site = ? AND level = site AND level <= site" "DELETE FROM stage WHERE site = 3" ((number (pos 3) ∷ []) ∷ [])
+    -- AND pairs left outer
+    ∷ pair Q "DELETE FROM stage WHERE (site = ? OR site = ?) AND (site <> 4 OR site = ?)" ((mark 1 ∷ []) ∷ (mark 2 ∷ []) ∷ [])
+    ∷ []
+
+caught-0 : Holds (row slips 0)
+unfolding computing
+caught-0 = (refl, refl)
+
+caught-1 : Holds (row slips 1)
+unfolding computing
+caught-1 = (refl, refl)
+
+caught-2 : Holds (row slips 2)
+unfolding computing
+caught-2 = (refl, refl)
+
+caught-3 : Holds (row slips 3)
+unfolding computing
+caught-3 = (refl, refl)
+
+caught-4 : Holds (row slips 4)
+unfolding computing
+caught-4 = (refl, refl)
+
+pub caught : All Holds slips
+caught = cons caught-0 (cons caught-1 (cons caught-2 (cons caught-3 (cons caught-4 nil))))
