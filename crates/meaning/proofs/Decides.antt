@@ -1,0 +1,200 @@
+-- x
+use mathlib.Core.Path.{_≡_, refl, sym, ap, subst, _∙_}
+use mathlib.Core.Logic.{_↔_}
+use mathlib.Core.Bool.{Bool, true, false}
+use mathlib.Core.Option.{Option, none, some}
+use mathlib.Core.List.{List, [], _∷_}
+use Prim.Native.Nat.{ℕ, zero, suc, _+_, _*_, _≤_}
+use native.Mathlib.Nat.{le-refl}
+use native.Mathlib.Omega.{arith}
+use lib.IntN.{ℤ}
+use lib.ListN.{length}
+use Rattle.meaning.specs.Operator.{Operator}
+use Rattle.meaning.specs.Condition.{Comparison, Level, atom, conjunction, disjunction, Condition, compare, negate, group, alone, both, single, either, Where, always, under}
+use Rattle.meaning.specs.Tokens as T
+use Rattle.meaning.specs.Tokens.{Name, Token, keyword, name, operator, comma, lparen, rparen, other, sameToken, TABLE, ROWS, SELECT, FROM, WHERE, INSERT, INTO, VALUES, UPDATE, SET, DELETE, AND, OR, NOT}
+use Rattle.meaning.specs.Grammar.{Given, constant, mark, Term, column, given, Listed, last, next, Sentence, table, select, insert, update, delete, givenToken, termToken, spellName, spellGiven, spellSetting, spellList, spellCondition, spellWhere, spell, Reader, then, _>>=_, _>>_, done, fails, passing, either-of, aToken, expect, nameOf, constantOf, operatorOf, aName, aGiven, aTerm, aSetting, aList, aComparison, aCondition, aWhere, aTable, aSelect, anInsert, anUpdate, aDelete, aSentence, whole, read}
+use Rattle.meaning.proofs.Readers.{some-none, some-same, passing-yes, passing-other, aToken-some, either-second, passing-stops, begins, then-some, Spelled, Sound, sound-read, fails-sound, done-sound, passing-sound, either-sound, bind-sound, aToken-sound, expect-sound}
+
+-- ---- soundness
+
+name-is : (t : Token) (n : Name) → nameOf t ≡ some n → t ≡ name n
+name-is (keyword k) n e = some-none (sym e)
+name-is (name m) n e = ap name (some-same e)
+name-is (T.constant z) n e = some-none (sym e)
+name-is (operator o) n e = some-none (sym e)
+name-is T.mark n e = some-none (sym e)
+name-is comma n e = some-none (sym e)
+name-is lparen n e = some-none (sym e)
+name-is rparen n e = some-none (sym e)
+name-is other n e = some-none (sym e)
+
+constant-is : (t : Token) (z : ℤ) → constantOf t ≡ some z → t ≡ T.constant z
+constant-is (keyword k) z e = some-none (sym e)
+constant-is (name m) z e = some-none (sym e)
+constant-is (T.constant y) z e = ap T.constant (some-same e)
+constant-is (operator o) z e = some-none (sym e)
+constant-is T.mark z e = some-none (sym e)
+constant-is comma z e = some-none (sym e)
+constant-is lparen z e = some-none (sym e)
+constant-is rparen z e = some-none (sym e)
+constant-is other z e = some-none (sym e)
+
+operator-is : (t : Token) (o : Operator) → operatorOf t ≡ some o → t ≡ operator o
+operator-is (keyword k) o e = some-none (sym e)
+operator-is (name m) o e = some-none (sym e)
+operator-is (T.constant z) o e = some-none (sym e)
+operator-is (operator p) o e = ap operator (some-same e)
+operator-is T.mark o e = some-none (sym e)
+operator-is comma o e = some-none (sym e)
+operator-is lparen o e = some-none (sym e)
+operator-is rparen o e = some-none (sym e)
+operator-is other o e = some-none (sym e)
+
+-- a reader finds only what the grammar spells
+abbrev pub Exact : {A : Type 0} → (A → List Token → List Token) → Reader A → Type 0
+Exact sp r = Sound (λ ts. ts) sp r
+
+name-sound : Exact spellName aName
+name-sound = aToken-sound nameOf name name-is
+
+given-sound : Exact spellGiven aGiven
+given-sound = passing-sound (done-sound mark (λ ts. refl)) (bind-sound (aToken-sound constantOf T.constant constant-is) (λ z. done-sound _ (λ ts. refl)))
+
+term-sound : Exact (λ x ts. termToken x ∷ ts) aTerm
+term-sound = either-sound (bind-sound name-sound (λ n. done-sound _ (λ ts. refl))) (bind-sound given-sound (λ v. done-sound _ (λ ts. refl)))
+
+setting-sound : Exact spellSetting aSetting
+setting-sound = bind-sound name-sound (λ n. expect-sound (bind-sound given-sound (λ v. done-sound _ (λ ts. refl))))
+
+list-sound : {A : Type 0} {item : Reader A} {sp : A → List Token → List Token} → Exact sp item → (n : ℕ) → Exact (spellList sp) (aList item n)
+list-sound s zero = fails-sound
+list-sound s (suc n) = bind-sound s (λ x. passing-sound (bind-sound (list-sound s n) (λ xs. done-sound _ (λ ts. refl))) (done-sound _ (λ ts. refl)))
+
+comparison-sound : Exact spellCondition aComparison
+comparison-sound =
+    bind-sound term-sound (λ a. bind-sound (aToken-sound operatorOf operator operator-is) (λ o. bind-sound term-sound (λ b. done-sound _ (λ ts. refl))))
+
+condition-sound : (n : ℕ) (l : Level) → Exact (spellCondition {l = l}) (aCondition n l)
+unfolding aCondition
+condition-sound zero l = fails-sound
+condition-sound (suc n) atom =
+    passing-sound (bind-sound (condition-sound n atom) (λ c. done-sound _ (λ ts. refl)))
+    (passing-sound (bind-sound (condition-sound n disjunction) (λ c. expect-sound (done-sound _ (λ ts. refl)))) comparison-sound)
+condition-sound (suc n) conjunction =
+    bind-sound (condition-sound n atom) (λ c.
+      passing-sound (bind-sound (condition-sound n conjunction) (λ d. done-sound _ (λ ts. refl))) (done-sound _ (λ ts. refl)))
+condition-sound (suc n) disjunction =
+    bind-sound (condition-sound n conjunction) (λ c.
+      passing-sound (bind-sound (condition-sound n disjunction) (λ d. done-sound _ (λ ts. refl))) (done-sound _ (λ ts. refl)))
+
+-- what the reader finds is spelled by the tokens that it was given
+pub sound-condition : (n : ℕ) (l : Level) (ts : List Token) (c : Condition Term l) (more : List Token) → aCondition n l ts ≡ some (c, more) → ts ≡ spellCondition c more
+sound-condition n l = sound-read (condition-sound n l)
+
+-- a WHERE and a sentence, with more tokens after them
+abbrev pub spellWhereTo : Where Term → List Token → List Token
+spellWhereTo always more = more
+spellWhereTo (under c) more = keyword WHERE ∷ spellCondition c more
+
+abbrev pub spellTo : Sentence → List Token → List Token
+spellTo (table t cs z) more = keyword TABLE ∷ name t ∷ lparen ∷ spellList spellName cs (rparen ∷ keyword ROWS ∷ T.constant z ∷ more)
+spellTo (select cs t w) more = keyword SELECT ∷ spellList spellName cs (keyword FROM ∷ name t ∷ spellWhereTo w more)
+spellTo (insert t vs) more = keyword INSERT ∷ keyword INTO ∷ name t ∷ keyword VALUES ∷ lparen ∷ spellList spellGiven vs (rparen ∷ more)
+spellTo (update t ss w) more = keyword UPDATE ∷ name t ∷ keyword SET ∷ spellList spellSetting ss (spellWhereTo w more)
+spellTo (delete t w) more = keyword DELETE ∷ keyword FROM ∷ name t ∷ spellWhereTo w more
+
+where-ends : (w : Where Term) → spellWhereTo w [] ≡ spellWhere w
+where-ends always = refl
+where-ends (under c) = refl
+
+pub spell-ends : (s : Sentence) → spellTo s [] ≡ spell s
+unfolding spell
+spell-ends (table t cs z) = refl
+spell-ends (select cs t w) = ap (λ us. keyword SELECT ∷ spellList spellName cs (keyword FROM ∷ name t ∷ us)) (where-ends w)
+spell-ends (insert t vs) = refl
+spell-ends (update t ss w) = ap (λ us. keyword UPDATE ∷ name t ∷ keyword SET ∷ spellList spellSetting ss us) (where-ends w)
+spell-ends (delete t w) = ap (λ us. keyword DELETE ∷ keyword FROM ∷ name t ∷ us) (where-ends w)
+
+where-sound : (n : ℕ) → Exact spellWhereTo (aWhere n)
+where-sound n = passing-sound (bind-sound (condition-sound n disjunction) (λ c. done-sound _ (λ ts. refl))) (done-sound _ (λ ts. refl))
+
+sentence-sound : (n : ℕ) → Exact spellTo (aSentence n)
+unfolding aSentence
+sentence-sound n =
+    passing-sound
+    (bind-sound name-sound (λ t. expect-sound (bind-sound (list-sound name-sound n) (λ cs. expect-sound (expect-sound
+    (bind-sound (aToken-sound constantOf T.constant constant-is) (λ z. done-sound (table t cs z) (λ ts. refl))))))))
+    (passing-sound
+    (bind-sound (list-sound name-sound n) (λ cs. expect-sound (bind-sound name-sound (λ t. bind-sound (where-sound n) (λ w. done-sound (select cs t w) (λ ts. refl))))))
+    (passing-sound
+    (expect-sound (bind-sound name-sound (λ t. expect-sound (expect-sound (bind-sound (list-sound given-sound n) (λ vs. expect-sound (done-sound (insert t vs) (λ ts. refl))))))))
+    (passing-sound
+    (bind-sound name-sound (λ t. expect-sound (bind-sound (list-sound setting-sound n) (λ ss. bind-sound (where-sound n) (λ w. done-sound (update t ss w) (λ ts. refl))))))
+    (passing-sound
+    (expect-sound (bind-sound name-sound (λ t. bind-sound (where-sound n) (λ w. done-sound (delete t w) (λ ts. refl)))))
+    fails-sound))))
+
+pub sound-sentence : (n : ℕ) (ts : List Token) (s : Sentence) (more : List Token) → aSentence n ts ≡ some (s, more) → ts ≡ spellTo s more
+sound-sentence n = sound-read (sentence-sound n)
+
+-- ---- completeness
+
+-- what may follow a condition of a level: nothing that would go on with it
+abbrev pub Stops : Level → List Token → Type 0
+Stops atom more = Unit {0}
+Stops conjunction more = begins (keyword AND) more ≡ false
+Stops disjunction more = (begins (keyword AND) more ≡ false) × (begins (keyword OR) more ≡ false)
+
+-- how many calls deep a condition is read, at most
+abbrev pub height : {l : Level} → Condition Term l → ℕ
+height (compare c) = 1
+height (negate c) = suc (height c)
+height (group c) = suc (height c)
+height (alone c) = suc (height c)
+height (both c d) = suc (height c + height d)
+height (single c) = suc (height c)
+height (either c d) = suc (height c + height d)
+
+pub given-complete : (v : Given) (more : List Token) → aGiven (givenToken v ∷ more) ≡ some (v, more)
+given-complete (constant z) more = refl
+given-complete mark more = refl
+
+pub term-complete : (x : Term) (more : List Token) → aTerm (termToken x ∷ more) ≡ some (x, more)
+term-complete (column n) more = refl
+term-complete (given (constant z)) more = refl
+term-complete (given mark) more = refl
+
+-- an operand begins a comparison
+pub compares : (n : ℕ) (x : Term) (more : List Token) → aCondition (suc n) atom (termToken x ∷ more) ≡ aComparison (termToken x ∷ more)
+unfolding aCondition
+compares n (column m) more = refl
+compares n (given (constant z)) more = refl
+compares n (given mark) more = refl
+
+pub comparison-complete : (c : Comparison Term) (more : List Token) → aComparison (spellCondition (compare c) more) ≡ some (compare c, more)
+comparison-complete c more =
+    then-some _ (term-complete (c .left) (operator (c .op) ∷ termToken (c .right) ∷ more))
+    ∙ then-some _ (term-complete (c .right) more)
+
+-- with calls enough the reader finds each condition in its spelling
+pub complete-condition : {l : Level} (c : Condition Term l) (more : List Token) (n : ℕ) → height c ≤ n → Stops l more → aCondition n l (spellCondition c more) ≡ some (c, more)
+unfolding aCondition
+complete-condition (compare c) more zero h s = absurd (omega arith)
+complete-condition (compare c) more (suc n) h s = compares n (c .left) _ ∙ comparison-complete c more
+complete-condition (negate c) more zero h s = absurd (omega arith)
+complete-condition (negate c) more (suc n) h s = then-some _ (complete-condition c more n (omega arith) tt)
+complete-condition (group c) more zero h s = absurd (omega arith)
+complete-condition (group c) more (suc n) h s = then-some _ (complete-condition c (rparen ∷ more) n (omega arith) (refl, refl))
+complete-condition (alone c) more zero h s = absurd (omega arith)
+complete-condition (alone c) more (suc n) h s = then-some _ (complete-condition c more n (omega arith) tt) ∙ passing-stops _ _ _ more s
+complete-condition (both c d) more zero h s = absurd (omega arith)
+complete-condition (both c d) more (suc n) h s =
+    then-some _ (complete-condition c (keyword AND ∷ spellCondition d more) n (omega arith) tt)
+    ∙ then-some _ (complete-condition d more n (omega arith) s)
+complete-condition (single c) more zero h s = absurd (omega arith)
+complete-condition (single c) more (suc n) h s = then-some _ (complete-condition c more n (omega arith) (s .0)) ∙ passing-stops _ _ _ more (s .1)
+complete-condition (either c d) more zero h s = absurd (omega arith)
+complete-condition (either c d) more (suc n) h s =
+    then-some _ (complete-condition c (keyword OR ∷ spellCondition d more) n (omega arith) refl)
+    ∙ then-some _ (complete-condition d more n (omega arith) s)
