@@ -1,10 +1,12 @@
--- x
+-- The reader of specs/Grammar finds exactly the sentences that the grammar spells: what it finds is spelled by the tokens that it was given
+-- (soundness), and with calls enough it finds each condition, WHERE, list and sentence in its spelling (completeness). So it decides whether some tokens
+-- are a sentence's (`decides`, `no-sentence`), and two sentences with one spelling are one (`unique`). Assumes nothing.
 use mathlib.Core.Path.{_≡_, refl, sym, ap, subst, _∙_}
 use mathlib.Core.Logic.{_↔_}
 use mathlib.Core.Bool.{Bool, true, false}
 use mathlib.Core.Option.{Option, none, some}
 use mathlib.Core.List.{List, [], _∷_}
-use Prim.Native.Nat.{ℕ, zero, suc, _+_, _*_, _≤_}
+use Prim.Native.Nat.{ℕ, zero, suc, _+_, _*_, _≤_, _<_}
 use native.Mathlib.Nat.{le-refl}
 use native.Mathlib.Omega.{arith}
 use lib.IntN.{ℤ}
@@ -198,3 +200,127 @@ complete-condition (either c d) more zero h s = absurd (omega arith)
 complete-condition (either c d) more (suc n) h s =
     then-some _ (complete-condition c (keyword OR ∷ spellCondition d more) n (omega arith) refl)
     ∙ then-some _ (complete-condition d more n (omega arith) s)
+
+-- a spelling has enough tokens that three calls for each are enough
+abbrev pub spare : Level → ℕ
+spare atom = 2
+spare conjunction = 1
+spare disjunction = 0
+
+pub high : {l : Level} (c : Condition Term l) (more : List Token) → height c + 3 * length more + spare l ≤ 3 * length (spellCondition c more)
+high (compare c) more = omega arith
+high (negate c) more = omega (arith, high c more)
+high (group c) more = omega (arith, high c (rparen ∷ more))
+high (alone c) more = omega (arith, high c more)
+high (both c d) more = omega (arith, high c (keyword AND ∷ spellCondition d more), high d more)
+high (single c) more = omega (arith, high c more)
+high (either c d) more = omega (arith, high c (keyword OR ∷ spellCondition d more), high d more)
+
+-- a WHERE
+abbrev pub heightIn : Where Term → ℕ
+heightIn always = 0
+heightIn (under c) = height c
+
+abbrev pub StopsWhere : List Token → Type 0
+StopsWhere more = (begins (keyword WHERE) more ≡ false) × Stops disjunction more
+
+pub complete-where : (w : Where Term) (more : List Token) (n : ℕ) → heightIn w ≤ n → StopsWhere more → aWhere n (spellWhereTo w more) ≡ some (w, more)
+complete-where always more n h s = passing-stops _ _ _ more (s .0)
+complete-where (under c) more n h s = then-some _ (complete-condition c more n h (s .1))
+
+pub high-where : (w : Where Term) (more : List Token) → heightIn w + 3 * length more ≤ 3 * length (spellWhereTo w more)
+high-where always more = omega arith
+high-where (under c) more = omega (arith, high c more)
+
+-- a reader that finds each item in its spelling, of a token or more
+pub record Complete {A : Type 0} (sp : A → List Token → List Token) (item : Reader A) : Type 0 where
+  pub back : (x : A) (more : List Token) → item (sp x more) ≡ some (x, more)
+  pub long : (x : A) (more : List Token) → length more < length (sp x more)
+
+abbrev pub size : {A : Type 0} → Listed A → ℕ
+size (last x) = 1
+size (next x xs) = suc (size xs)
+
+module _ {A : Type 0} {sp : A → List Token → List Token} {item : Reader A} where
+  pub complete-list : Complete sp item → (xs : Listed A) (more : List Token) (n : ℕ) → size xs ≤ n → begins comma more ≡ false
+      → aList item n (spellList sp xs more) ≡ some (xs, more)
+  complete-list f (last x) more zero h s = absurd (omega arith)
+  complete-list f (last x) more (suc n) h s = then-some _ (f .back x more) ∙ passing-stops _ _ _ more s
+  complete-list f (next x xs) more zero h s = absurd (omega arith)
+  complete-list f (next x xs) more (suc n) h s =
+      then-some _ (f .back x (comma ∷ spellList sp xs more)) ∙ then-some _ (complete-list f xs more n (omega arith) s)
+
+  pub high-list : Complete sp item → (xs : Listed A) (more : List Token) → size xs + length more ≤ length (spellList sp xs more)
+  high-list f (last x) more = omega (arith, f .long x more)
+  high-list f (next x xs) more = omega (arith, f .long x (comma ∷ spellList sp xs more), high-list f xs more)
+
+pub names : Complete spellName aName
+names = record { back = λ x more. refl; long = λ x more. le-refl (suc (length more)) }
+
+pub givens : Complete spellGiven aGiven
+givens = record { back = given-complete; long = λ x more. le-refl (suc (length more)) }
+
+pub settings : Complete spellSetting aSetting
+settings = record { back = λ x more. then-some _ (given-complete (x .1) more); long = λ x more. omega arith }
+
+complete-to : (s : Sentence) (n : ℕ) → 3 * length (spellTo s []) ≤ n → aSentence n (spellTo s []) ≡ some (s, [])
+unfolding aSentence
+complete-to (table t cs z) n h =
+    let more = rparen ∷ keyword ROWS ∷ T.constant z ∷ [] in
+    then-some _ (complete-list names cs more n (omega (arith, high-list names cs more)) refl)
+complete-to (select cs t w) n h =
+    let more = keyword FROM ∷ name t ∷ spellWhereTo w [] in
+    then-some _ (complete-list names cs more n (omega (arith, high-list names cs more)) refl)
+    ∙ then-some _ (complete-where w [] n (omega (arith, high-where w [], high-list names cs more)) (refl, (refl, refl)))
+complete-to (insert t vs) n h = then-some _ (complete-list givens vs (rparen ∷ []) n (omega (arith, high-list givens vs (rparen ∷ []))) refl)
+complete-to (update t ss w) n h =
+    then-some _ (complete-list settings ss (spellWhereTo w []) n (omega (arith, high-list settings ss (spellWhereTo w []))) (stops w))
+    ∙ then-some _ (complete-where w [] n (omega (arith, high-where w [], high-list settings ss (spellWhereTo w []))) (refl, (refl, refl)))
+  where
+    stops : (w : Where Term) → begins comma (spellWhereTo w []) ≡ false
+    stops always = refl
+    stops (under c) = refl
+complete-to (delete t w) n h = then-some _ (complete-where w [] n (omega (arith, high-where w [])) (refl, (refl, refl)))
+
+-- with calls enough the reader finds each sentence in its spelling
+pub complete-sentence : (s : Sentence) (n : ℕ) → 3 * length (spell s) ≤ n → aSentence n (spell s) ≡ some (s, [])
+complete-sentence s n h =
+    subst (λ us. aSentence n us ≡ some (s, [])) (spell-ends s) (complete-to s n (omega (arith, ap length (spell-ends s))))
+
+-- ---- the reader decides
+
+-- what is read with nothing after it
+pub whole-read : {A : Type 0} (o : Option (A × List Token)) (x : A) → whole o ≡ some x → o ≡ some (x, [])
+whole-read none x e = some-none (sym e)
+whole-read {A} (some r) x e = go (r .0) (r .1) e
+  where
+    go : (y : A) (ts : List Token) → whole (some (y, ts)) ≡ some x → _≡_ {A = Option (A × List Token)} (some (y, ts)) (some (x, []))
+    go y [] q = ap (λ z. some (z, [])) (some-same q)
+    go y (t ∷ ts) q = some-none (sym q)
+
+-- with any calls from three a token on, some tokens are read as a sentence exactly if they are its spelling
+pub decides-from : (n : ℕ) (ts : List Token) (s : Sentence) → 3 * length ts ≤ n → (whole (aSentence n ts) ≡ some s) ↔ (ts ≡ spell s)
+decides-from n ts s h = (
+  (λ e. sound-sentence n ts s [] (whole-read (aSentence n ts) s e) ∙ spell-ends s),
+  (λ e. subst (λ us. whole (aSentence n us) ≡ some s) (sym e) (ap whole (complete-sentence s n (omega (arith, ap length e))))),
+)
+
+-- some tokens are read as a sentence exactly if they are its spelling
+pub decides : (ts : List Token) (s : Sentence) → (read ts ≡ some s) ↔ (ts ≡ spell s)
+unfolding read
+decides ts s = decides-from (3 * length ts) ts s (le-refl (3 * length ts))
+
+-- one spelling, one sentence
+pub unique : (s t : Sentence) → spell s ≡ spell t → s ≡ t
+unique s t e = some-same (sym (decides (spell s) s .1 refl) ∙ decides (spell s) t .1 e)
+
+-- some tokens are read as nothing exactly if they spell no sentence
+pub no-sentence : (ts : List Token) → (read ts ≡ none) ↔ ((s : Sentence) → ts ≡ spell s → ⊥)
+no-sentence ts = (
+  (λ e s q. some-none (sym (decides ts s .1 q) ∙ e)),
+  (λ f. go f (read ts) refl),
+)
+  where
+    go : ((s : Sentence) → ts ≡ spell s → ⊥) → (o : Option Sentence) → read ts ≡ o → read ts ≡ none
+    go f none e = e
+    go f (some s) e = absurd (f s (decides ts s .0 e))
