@@ -85,10 +85,10 @@ condition-sound (suc n) atom =
     (passing-sound (bind-sound (condition-sound n disjunction) (λ c. expect-sound (done-sound _ (λ ts. refl)))) comparison-sound)
 condition-sound (suc n) conjunction =
     bind-sound (condition-sound n atom) (λ c.
-      passing-sound (bind-sound (condition-sound n conjunction) (λ d. done-sound _ (λ ts. refl))) (done-sound _ (λ ts. refl)))
+    passing-sound (bind-sound (condition-sound n conjunction) (λ d. done-sound _ (λ ts. refl))) (done-sound _ (λ ts. refl)))
 condition-sound (suc n) disjunction =
     bind-sound (condition-sound n conjunction) (λ c.
-      passing-sound (bind-sound (condition-sound n disjunction) (λ d. done-sound _ (λ ts. refl))) (done-sound _ (λ ts. refl)))
+    passing-sound (bind-sound (condition-sound n disjunction) (λ d. done-sound _ (λ ts. refl))) (done-sound _ (λ ts. refl)))
 
 -- what the reader finds is spelled by the tokens that it was given
 pub sound-condition : (n : ℕ) (l : Level) (ts : List Token) (c : Condition Term l) (more : List Token) → aCondition n l ts ≡ some (c, more) → ts ≡ spellCondition c more
