@@ -93,23 +93,23 @@ module _ (n : ℕ) (s : List ℕ) where
   unfolding scan
   scan-some t left e = rw (e, scan)
 
-scan-nothing : (n : ℕ) → scan n [] ≡ []
+scan-nothing : (n : ℕ) (s : List ℕ) → length s ≤ 0 → scan n s ≡ []
 unfolding scan firstToken
-scan-nothing zero = refl
-scan-nothing (suc n) = refl
+scan-nothing zero s h = refl
+scan-nothing (suc n) [] h = refl
+scan-nothing (suc n) (b ∷ s) h = absurd (omega arith)
 
 -- the same tokens, however many are allowed, from one a byte on
 scan-same : (n m : ℕ) (s : List ℕ) → length s ≤ n → length s ≤ m → scan n s ≡ scan m s
-scan-same n m [] h k = scan-nothing n ∙ sym (scan-nothing m)
-scan-same zero m (b ∷ s) h k = absurd (omega arith)
-scan-same (suc n) zero (b ∷ s) h k = absurd (omega arith)
-scan-same (suc n) (suc m) (b ∷ s) h k = go (firstToken (b ∷ s)) refl (scan-same n m)
+scan-same zero m s h k = scan-nothing zero s h ∙ sym (scan-nothing m s h)
+scan-same (suc n) zero s h k = scan-nothing (suc n) s k ∙ sym (scan-nothing zero s k)
+scan-same (suc n) (suc m) s h k = go (firstToken s) refl (λ us. scan-same n m us)
   where
-    go : (o : Option (Token × List ℕ)) → firstToken (b ∷ s) ≡ o → ((us : List ℕ) → length us ≤ n → length us ≤ m → scan n us ≡ scan m us) → scan (suc n) (b ∷ s) ≡ scan (suc m) (b ∷ s)
-    go none e ih = scan-none n (b ∷ s) e ∙ sym (scan-none m (b ∷ s) e)
+    go : (o : Option (Token × List ℕ)) → firstToken s ≡ o → ((us : List ℕ) → length us ≤ n → length us ≤ m → scan n us ≡ scan m us) → scan (suc n) s ≡ scan (suc m) s
+    go none e ih = scan-none n s e ∙ sym (scan-none m s e)
     go (some x) e ih =
-        let short = first-shorter (b ∷ s) (x .0) (x .1) e in
-        scan-some n (b ∷ s) (x .0) (x .1) e ∙ ap (λ ts. x .0 ∷ ts) (ih (x .1) (omega arith) (omega arith)) ∙ sym (scan-some m (b ∷ s) (x .0) (x .1) e)
+        let short = first-shorter s (x .0) (x .1) e in
+        scan-some n s (x .0) (x .1) e ∙ ap (λ ts. x .0 ∷ ts) (ih (x .1) (omega arith) (omega arith)) ∙ sym (scan-some m s (x .0) (x .1) e)
 
 -- so many tokens as bytes are enough
 pub scan-enough : (n : ℕ) (s : List ℕ) → length s ≤ n → scan n s ≡ tokens s
