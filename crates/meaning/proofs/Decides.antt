@@ -3,7 +3,7 @@
 -- are a sentence's (`decides`, `no-sentence`), and two sentences with one spelling are one (`unique`). Assumes nothing.
 use mathlib.Core.Path.{_≡_, refl, sym, ap, subst, _∙_}
 use mathlib.Core.Logic.{_↔_}
-use mathlib.Core.Bool.{Bool, true, false}
+use mathlib.Core.Bool.{false}
 use mathlib.Core.Option.{Option, none, some}
 use mathlib.Core.List.{List, [], _∷_}
 use Prim.Native.Nat.{ℕ, zero, suc, _+_, _*_, _≤_, _<_}
@@ -14,13 +14,13 @@ use lib.ListN.{length}
 use Rattle.meaning.specs.Operator.{Operator}
 use Rattle.meaning.specs.Condition.{Comparison, Level, atom, conjunction, disjunction, Condition, compare, negate, group, alone, both, single, either, Where, always, under}
 use Rattle.meaning.specs.Tokens as T
-use Rattle.meaning.specs.Tokens.{Name, Token, keyword, name, operator, comma, lparen, rparen, other, sameToken, TABLE, ROWS, SELECT, FROM, WHERE, INSERT, INTO, VALUES, UPDATE, SET, DELETE, AND, OR, NOT}
-use Rattle.meaning.specs.Grammar.{Given, constant, mark, Term, column, given, Listed, last, next, Sentence, table, select, insert, update, delete, givenToken, termToken, spellName, spellGiven, spellSetting, spellList, spellCondition, spellWhere, spell, Reader, then, _>>=_, _>>_, done, fails, passing, either-of, aToken, expect, nameOf, constantOf, operatorOf, aName, aGiven, aTerm, aSetting, aList, aComparison, aCondition, aWhere, aTable, aSelect, anInsert, anUpdate, aDelete, aSentence, whole, read}
-use Rattle.meaning.proofs.Readers.{some-none, some-same, passing-yes, passing-other, aToken-some, either-second, passing-stops, begins, then-some, Spelled, Sound, sound-read, fails-sound, done-sound, passing-sound, either-sound, bind-sound, aToken-sound, expect-sound}
+use Rattle.meaning.specs.Tokens.{Name, Token, keyword, name, operator, comma, lparen, rparen, other, TABLE, ROWS, SELECT, FROM, WHERE, INSERT, INTO, VALUES, UPDATE, SET, DELETE, AND, OR, NOT}
+use Rattle.meaning.specs.Grammar.{Given, constant, mark, Term, column, given, Listed, last, next, Sentence, table, select, insert, update, delete, givenToken, termToken, spellName, spellGiven, spellSetting, spellList, spellCondition, spellWhere, spell, Reader, then, _>>=_, _>>_, done, passing, expect, nameOf, constantOf, operatorOf, aName, aGiven, aTerm, aSetting, aList, aComparison, aCondition, aWhere, aSentence, whole, read}
+use Rattle.meaning.proofs.Readers.{some-none, some-same, passing-stops, begins, then-some, Sound, sound-read, fails-sound, done-sound, passing-sound, either-sound, bind-sound, aToken-sound, expect-sound}
 
 -- ---- soundness
 
-name-is : (t : Token) (n : Name) → nameOf t ≡ some n → t ≡ name n
+pub name-is : (t : Token) (n : Name) → nameOf t ≡ some n → t ≡ name n
 name-is (keyword k) n e = some-none (sym e)
 name-is (name m) n e = ap name (some-same e)
 name-is (T.constant z) n e = some-none (sym e)
@@ -31,7 +31,7 @@ name-is lparen n e = some-none (sym e)
 name-is rparen n e = some-none (sym e)
 name-is other n e = some-none (sym e)
 
-constant-is : (t : Token) (z : ℤ) → constantOf t ≡ some z → t ≡ T.constant z
+pub constant-is : (t : Token) (z : ℤ) → constantOf t ≡ some z → t ≡ T.constant z
 constant-is (keyword k) z e = some-none (sym e)
 constant-is (name m) z e = some-none (sym e)
 constant-is (T.constant y) z e = ap T.constant (some-same e)
@@ -42,7 +42,7 @@ constant-is lparen z e = some-none (sym e)
 constant-is rparen z e = some-none (sym e)
 constant-is other z e = some-none (sym e)
 
-operator-is : (t : Token) (o : Operator) → operatorOf t ≡ some o → t ≡ operator o
+pub operator-is : (t : Token) (o : Operator) → operatorOf t ≡ some o → t ≡ operator o
 operator-is (keyword k) o e = some-none (sym e)
 operator-is (name m) o e = some-none (sym e)
 operator-is (T.constant z) o e = some-none (sym e)
@@ -57,27 +57,27 @@ operator-is other o e = some-none (sym e)
 abbrev pub Exact : {A : Type 0} → (A → List Token → List Token) → Reader A → Type 0
 Exact sp r = Sound (λ ts. ts) sp r
 
-name-sound : Exact spellName aName
+pub name-sound : Exact spellName aName
 name-sound = aToken-sound nameOf name name-is
 
-given-sound : Exact spellGiven aGiven
+pub given-sound : Exact spellGiven aGiven
 given-sound = passing-sound (done-sound mark (λ ts. refl)) (bind-sound (aToken-sound constantOf T.constant constant-is) (λ z. done-sound _ (λ ts. refl)))
 
-term-sound : Exact (λ x ts. termToken x ∷ ts) aTerm
+pub term-sound : Exact (λ x ts. termToken x ∷ ts) aTerm
 term-sound = either-sound (bind-sound name-sound (λ n. done-sound _ (λ ts. refl))) (bind-sound given-sound (λ v. done-sound _ (λ ts. refl)))
 
-setting-sound : Exact spellSetting aSetting
+pub setting-sound : Exact spellSetting aSetting
 setting-sound = bind-sound name-sound (λ n. expect-sound (bind-sound given-sound (λ v. done-sound _ (λ ts. refl))))
 
-list-sound : {A : Type 0} {item : Reader A} {sp : A → List Token → List Token} → Exact sp item → (n : ℕ) → Exact (spellList sp) (aList item n)
+pub list-sound : {A : Type 0} {item : Reader A} {sp : A → List Token → List Token} → Exact sp item → (n : ℕ) → Exact (spellList sp) (aList item n)
 list-sound s zero = fails-sound
 list-sound s (suc n) = bind-sound s (λ x. passing-sound (bind-sound (list-sound s n) (λ xs. done-sound _ (λ ts. refl))) (done-sound _ (λ ts. refl)))
 
-comparison-sound : Exact spellCondition aComparison
+pub comparison-sound : Exact spellCondition aComparison
 comparison-sound =
     bind-sound term-sound (λ a. bind-sound (aToken-sound operatorOf operator operator-is) (λ o. bind-sound term-sound (λ b. done-sound _ (λ ts. refl))))
 
-condition-sound : (n : ℕ) (l : Level) → Exact (spellCondition {l = l}) (aCondition n l)
+pub condition-sound : (n : ℕ) (l : Level) → Exact (spellCondition {l = l}) (aCondition n l)
 unfolding aCondition
 condition-sound zero l = fails-sound
 condition-sound (suc n) atom =
@@ -106,7 +106,7 @@ spellTo (insert t vs) more = keyword INSERT ∷ keyword INTO ∷ name t ∷ keyw
 spellTo (update t ss w) more = keyword UPDATE ∷ name t ∷ keyword SET ∷ spellList spellSetting ss (spellWhereTo w more)
 spellTo (delete t w) more = keyword DELETE ∷ keyword FROM ∷ name t ∷ spellWhereTo w more
 
-where-ends : (w : Where Term) → spellWhereTo w [] ≡ spellWhere w
+pub where-ends : (w : Where Term) → spellWhereTo w [] ≡ spellWhere w
 where-ends always = refl
 where-ends (under c) = refl
 
@@ -118,10 +118,10 @@ spell-ends (insert t vs) = refl
 spell-ends (update t ss w) = ap (λ us. keyword UPDATE ∷ name t ∷ keyword SET ∷ spellList spellSetting ss us) (where-ends w)
 spell-ends (delete t w) = ap (λ us. keyword DELETE ∷ keyword FROM ∷ name t ∷ us) (where-ends w)
 
-where-sound : (n : ℕ) → Exact spellWhereTo (aWhere n)
+pub where-sound : (n : ℕ) → Exact spellWhereTo (aWhere n)
 where-sound n = passing-sound (bind-sound (condition-sound n disjunction) (λ c. done-sound _ (λ ts. refl))) (done-sound _ (λ ts. refl))
 
-sentence-sound : (n : ℕ) → Exact spellTo (aSentence n)
+pub sentence-sound : (n : ℕ) → Exact spellTo (aSentence n)
 unfolding aSentence
 sentence-sound n =
     passing-sound
@@ -139,6 +139,31 @@ sentence-sound n =
 
 pub sound-sentence : (n : ℕ) (ts : List Token) (s : Sentence) (more : List Token) → aSentence n ts ≡ some (s, more) → ts ≡ spellTo s more
 sound-sentence n = sound-read (sentence-sound n)
+
+-- ---- a condition at its first token, one call deep
+
+module _ (n : ℕ) (ts : List Token) where
+  pub reads-not : aCondition (suc n) atom (keyword NOT ∷ ts) ≡ then (aCondition n atom ts) (λ c. done (negate c))
+  unfolding aCondition
+  reads-not = refl
+
+  pub reads-open : aCondition (suc n) atom (lparen ∷ ts) ≡ then (aCondition n disjunction ts) (λ c. expect rparen >> done (group c))
+  unfolding aCondition
+  reads-open = refl
+
+  pub reads-compare : begins (keyword NOT) ts ≡ false → begins lparen ts ≡ false → aCondition (suc n) atom ts ≡ aComparison ts
+  unfolding aCondition
+  reads-compare i j = passing-stops _ _ _ ts i ∙ passing-stops _ _ _ ts j
+
+  pub reads-and : aCondition (suc n) conjunction ts
+      ≡ then (aCondition n atom ts) (λ c. passing (keyword AND) (aCondition n conjunction >>= λ d. done (both c d)) (done (alone c)))
+  unfolding aCondition
+  reads-and = refl
+
+  pub reads-or : aCondition (suc n) disjunction ts
+      ≡ then (aCondition n conjunction ts) (λ c. passing (keyword OR) (aCondition n disjunction >>= λ d. done (either c d)) (done (single c)))
+  unfolding aCondition
+  reads-or = refl
 
 -- ---- completeness
 

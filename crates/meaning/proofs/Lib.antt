@@ -1,3 +1,4 @@
 pub mod Readers
 pub mod Decides
 pub mod Stream
+pub mod Accepted

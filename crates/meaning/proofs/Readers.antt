@@ -5,9 +5,9 @@ use mathlib.Core.Logic.{_≢_}
 use mathlib.Core.Bool.{Bool, true, false, false≢true}
 use mathlib.Core.Option.{Option, none, some}
 use mathlib.Core.List.{List, [], _∷_}
-use Prim.Native.Nat.{ℕ, zero, suc}
+use Prim.Native.Nat.{ℕ}
 use native.Mathlib.Omega.{arith}
-use Rattle.lists.specs.Tests.{isYes, decBytes, decZ}
+use Rattle.lists.specs.Tests.{decBytes, decZ}
 use Rattle.lists.proofs.Bools.{yes-of, is-yes, is-no}
 use Rattle.meaning.specs.Operator.{Operator-discrete}
 use Rattle.meaning.specs.Tokens.{Token, Token-discrete, Keyword-discrete, sameToken}

@@ -35,7 +35,7 @@ module _ (b : ℕ) (s : List ℕ) where
 
 -- ---- each token takes a byte or more
 
-prefix-length : (p s left : List ℕ) → behindPrefix p s ≡ some left → length p + length left ≡ length s
+pub prefix-length : (p s left : List ℕ) → behindPrefix p s ≡ some left → length p + length left ≡ length s
 prefix-length [] s left e = let q = ap length (some-same e) in omega arith
 prefix-length (b ∷ p) [] left e = some-none (sym e)
 prefix-length (b ∷ p) (c ∷ s) left e = go (eqb b c) e (prefix-length p s left)
@@ -100,7 +100,7 @@ scan-nothing (suc n) [] h = refl
 scan-nothing (suc n) (b ∷ s) h = absurd (omega arith)
 
 -- the same tokens, however many are allowed, from one a byte on
-scan-same : (n m : ℕ) (s : List ℕ) → length s ≤ n → length s ≤ m → scan n s ≡ scan m s
+pub scan-same : (n m : ℕ) (s : List ℕ) → length s ≤ n → length s ≤ m → scan n s ≡ scan m s
 scan-same zero m s h k = scan-nothing zero s h ∙ sym (scan-nothing m s h)
 scan-same (suc n) zero s h k = scan-nothing (suc n) s k ∙ sym (scan-nothing zero s k)
 scan-same (suc n) (suc m) s h k = go (firstToken s) refl (λ us. scan-same n m us)
