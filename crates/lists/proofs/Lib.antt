@@ -3,3 +3,4 @@ pub mod Lists
 pub mod Written
 pub mod Moved
 pub mod Changed
+pub mod Runs

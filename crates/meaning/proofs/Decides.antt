@@ -1,0 +1,351 @@
+-- The reader of specs/Grammar finds exactly the sentences that the grammar spells: what it finds is spelled by the tokens that it was given
+-- (soundness), and with calls enough it finds each condition, WHERE, list and sentence in its spelling (completeness). So it decides whether some tokens
+-- are a sentence's (`decides`, `no-sentence`), and two sentences with one spelling are one (`unique`). Assumes nothing.
+use mathlib.Core.Path.{_≡_, refl, sym, ap, subst, _∙_}
+use mathlib.Core.Logic.{_↔_}
+use mathlib.Core.Bool.{false}
+use mathlib.Core.Option.{Option, none, some}
+use mathlib.Core.List.{List, [], _∷_}
+use Prim.Native.Nat.{ℕ, zero, suc, _+_, _*_, _≤_, _<_}
+use native.Mathlib.Nat.{le-refl}
+use native.Mathlib.Omega.{arith}
+use lib.IntN.{ℤ}
+use lib.ListN.{length}
+use Rattle.meaning.specs.Operator.{Operator}
+use Rattle.meaning.specs.Condition.{Comparison, Level, atom, conjunction, disjunction, Condition, compare, negate, group, alone, both, single, either, Where, always, under}
+use Rattle.meaning.specs.Tokens as T
+use Rattle.meaning.specs.Tokens.{Name, Token, keyword, name, operator, comma, lparen, rparen, other, TABLE, ROWS, SELECT, FROM, WHERE, INSERT, INTO, VALUES, UPDATE, SET, DELETE, AND, OR, NOT}
+use Rattle.meaning.specs.Grammar.{Given, constant, mark, Term, column, given, Listed, last, next, Sentence, table, select, insert, update, delete, givenToken, termToken, spellName, spellGiven, spellSetting, spellList, spellCondition, spellWhere, spell, Reader, then, _>>=_, _>>_, done, passing, expect, nameOf, constantOf, operatorOf, aName, aGiven, aTerm, aSetting, aList, aComparison, aCondition, aWhere, aSentence, whole, read}
+use Rattle.meaning.proofs.Readers.{some-none, some-same, passing-stops, begins, then-some, Sound, sound-read, fails-sound, done-sound, passing-sound, either-sound, bind-sound, aToken-sound, expect-sound}
+
+-- ---- soundness
+
+pub name-is : (t : Token) (n : Name) → nameOf t ≡ some n → t ≡ name n
+name-is (keyword k) n e = some-none (sym e)
+name-is (name m) n e = ap name (some-same e)
+name-is (T.constant z) n e = some-none (sym e)
+name-is (operator o) n e = some-none (sym e)
+name-is T.mark n e = some-none (sym e)
+name-is comma n e = some-none (sym e)
+name-is lparen n e = some-none (sym e)
+name-is rparen n e = some-none (sym e)
+name-is other n e = some-none (sym e)
+
+pub constant-is : (t : Token) (z : ℤ) → constantOf t ≡ some z → t ≡ T.constant z
+constant-is (keyword k) z e = some-none (sym e)
+constant-is (name m) z e = some-none (sym e)
+constant-is (T.constant y) z e = ap T.constant (some-same e)
+constant-is (operator o) z e = some-none (sym e)
+constant-is T.mark z e = some-none (sym e)
+constant-is comma z e = some-none (sym e)
+constant-is lparen z e = some-none (sym e)
+constant-is rparen z e = some-none (sym e)
+constant-is other z e = some-none (sym e)
+
+pub operator-is : (t : Token) (o : Operator) → operatorOf t ≡ some o → t ≡ operator o
+operator-is (keyword k) o e = some-none (sym e)
+operator-is (name m) o e = some-none (sym e)
+operator-is (T.constant z) o e = some-none (sym e)
+operator-is (operator p) o e = ap operator (some-same e)
+operator-is T.mark o e = some-none (sym e)
+operator-is comma o e = some-none (sym e)
+operator-is lparen o e = some-none (sym e)
+operator-is rparen o e = some-none (sym e)
+operator-is other o e = some-none (sym e)
+
+-- a reader finds only what the grammar spells
+abbrev pub Exact : {A : Type 0} → (A → List Token → List Token) → Reader A → Type 0
+Exact sp r = Sound (λ ts. ts) sp r
+
+pub name-sound : Exact spellName aName
+name-sound = aToken-sound nameOf name name-is
+
+pub given-sound : Exact spellGiven aGiven
+given-sound = passing-sound (done-sound mark (λ ts. refl)) (bind-sound (aToken-sound constantOf T.constant constant-is) (λ z. done-sound _ (λ ts. refl)))
+
+pub term-sound : Exact (λ x ts. termToken x ∷ ts) aTerm
+term-sound = either-sound (bind-sound name-sound (λ n. done-sound _ (λ ts. refl))) (bind-sound given-sound (λ v. done-sound _ (λ ts. refl)))
+
+pub setting-sound : Exact spellSetting aSetting
+setting-sound = bind-sound name-sound (λ n. expect-sound (bind-sound given-sound (λ v. done-sound _ (λ ts. refl))))
+
+pub list-sound : {A : Type 0} {item : Reader A} {sp : A → List Token → List Token} → Exact sp item → (n : ℕ) → Exact (spellList sp) (aList item n)
+list-sound s zero = fails-sound
+list-sound s (suc n) = bind-sound s (λ x. passing-sound (bind-sound (list-sound s n) (λ xs. done-sound _ (λ ts. refl))) (done-sound _ (λ ts. refl)))
+
+pub comparison-sound : Exact spellCondition aComparison
+comparison-sound =
+    bind-sound term-sound (λ a. bind-sound (aToken-sound operatorOf operator operator-is) (λ o. bind-sound term-sound (λ b. done-sound _ (λ ts. refl))))
+
+pub condition-sound : (n : ℕ) (l : Level) → Exact (spellCondition {l = l}) (aCondition n l)
+unfolding aCondition
+condition-sound zero l = fails-sound
+condition-sound (suc n) atom =
+    passing-sound (bind-sound (condition-sound n atom) (λ c. done-sound _ (λ ts. refl)))
+    (passing-sound (bind-sound (condition-sound n disjunction) (λ c. expect-sound (done-sound _ (λ ts. refl)))) comparison-sound)
+condition-sound (suc n) conjunction =
+    bind-sound (condition-sound n atom) (λ c.
+    passing-sound (bind-sound (condition-sound n conjunction) (λ d. done-sound _ (λ ts. refl))) (done-sound _ (λ ts. refl)))
+condition-sound (suc n) disjunction =
+    bind-sound (condition-sound n conjunction) (λ c.
+    passing-sound (bind-sound (condition-sound n disjunction) (λ d. done-sound _ (λ ts. refl))) (done-sound _ (λ ts. refl)))
+
+-- what the reader finds is spelled by the tokens that it was given
+pub sound-condition : (n : ℕ) (l : Level) (ts : List Token) (c : Condition Term l) (more : List Token) → aCondition n l ts ≡ some (c, more) → ts ≡ spellCondition c more
+sound-condition n l = sound-read (condition-sound n l)
+
+-- a WHERE and a sentence, with more tokens after them
+abbrev pub spellWhereTo : Where Term → List Token → List Token
+spellWhereTo always more = more
+spellWhereTo (under c) more = keyword WHERE ∷ spellCondition c more
+
+abbrev pub spellTo : Sentence → List Token → List Token
+spellTo (table t cs z) more = keyword TABLE ∷ name t ∷ lparen ∷ spellList spellName cs (rparen ∷ keyword ROWS ∷ T.constant z ∷ more)
+spellTo (select cs t w) more = keyword SELECT ∷ spellList spellName cs (keyword FROM ∷ name t ∷ spellWhereTo w more)
+spellTo (insert t vs) more = keyword INSERT ∷ keyword INTO ∷ name t ∷ keyword VALUES ∷ lparen ∷ spellList spellGiven vs (rparen ∷ more)
+spellTo (update t ss w) more = keyword UPDATE ∷ name t ∷ keyword SET ∷ spellList spellSetting ss (spellWhereTo w more)
+spellTo (delete t w) more = keyword DELETE ∷ keyword FROM ∷ name t ∷ spellWhereTo w more
+
+pub where-ends : (w : Where Term) → spellWhereTo w [] ≡ spellWhere w
+where-ends always = refl
+where-ends (under c) = refl
+
+pub spell-ends : (s : Sentence) → spellTo s [] ≡ spell s
+unfolding spell
+spell-ends (table t cs z) = refl
+spell-ends (select cs t w) = ap (λ us. keyword SELECT ∷ spellList spellName cs (keyword FROM ∷ name t ∷ us)) (where-ends w)
+spell-ends (insert t vs) = refl
+spell-ends (update t ss w) = ap (λ us. keyword UPDATE ∷ name t ∷ keyword SET ∷ spellList spellSetting ss us) (where-ends w)
+spell-ends (delete t w) = ap (λ us. keyword DELETE ∷ keyword FROM ∷ name t ∷ us) (where-ends w)
+
+pub where-sound : (n : ℕ) → Exact spellWhereTo (aWhere n)
+where-sound n = passing-sound (bind-sound (condition-sound n disjunction) (λ c. done-sound _ (λ ts. refl))) (done-sound _ (λ ts. refl))
+
+pub sentence-sound : (n : ℕ) → Exact spellTo (aSentence n)
+unfolding aSentence
+sentence-sound n =
+    passing-sound
+    (bind-sound name-sound (λ t. expect-sound (bind-sound (list-sound name-sound n) (λ cs. expect-sound (expect-sound
+    (bind-sound (aToken-sound constantOf T.constant constant-is) (λ z. done-sound (table t cs z) (λ ts. refl))))))))
+    (passing-sound
+    (bind-sound (list-sound name-sound n) (λ cs. expect-sound (bind-sound name-sound (λ t. bind-sound (where-sound n) (λ w. done-sound (select cs t w) (λ ts. refl))))))
+    (passing-sound
+    (expect-sound (bind-sound name-sound (λ t. expect-sound (expect-sound (bind-sound (list-sound given-sound n) (λ vs. expect-sound (done-sound (insert t vs) (λ ts. refl))))))))
+    (passing-sound
+    (bind-sound name-sound (λ t. expect-sound (bind-sound (list-sound setting-sound n) (λ ss. bind-sound (where-sound n) (λ w. done-sound (update t ss w) (λ ts. refl))))))
+    (passing-sound
+    (expect-sound (bind-sound name-sound (λ t. bind-sound (where-sound n) (λ w. done-sound (delete t w) (λ ts. refl)))))
+    fails-sound))))
+
+pub sound-sentence : (n : ℕ) (ts : List Token) (s : Sentence) (more : List Token) → aSentence n ts ≡ some (s, more) → ts ≡ spellTo s more
+sound-sentence n = sound-read (sentence-sound n)
+
+-- ---- a condition at its first token, one call deep
+
+module _ (n : ℕ) (ts : List Token) where
+  pub reads-not : aCondition (suc n) atom (keyword NOT ∷ ts) ≡ then (aCondition n atom ts) (λ c. done (negate c))
+  unfolding aCondition
+  reads-not = refl
+
+  pub reads-open : aCondition (suc n) atom (lparen ∷ ts) ≡ then (aCondition n disjunction ts) (λ c. expect rparen >> done (group c))
+  unfolding aCondition
+  reads-open = refl
+
+  pub reads-compare : begins (keyword NOT) ts ≡ false → begins lparen ts ≡ false → aCondition (suc n) atom ts ≡ aComparison ts
+  unfolding aCondition
+  reads-compare i j = passing-stops _ _ _ ts i ∙ passing-stops _ _ _ ts j
+
+  pub reads-and : aCondition (suc n) conjunction ts
+      ≡ then (aCondition n atom ts) (λ c. passing (keyword AND) (aCondition n conjunction >>= λ d. done (both c d)) (done (alone c)))
+  unfolding aCondition
+  reads-and = refl
+
+  pub reads-or : aCondition (suc n) disjunction ts
+      ≡ then (aCondition n conjunction ts) (λ c. passing (keyword OR) (aCondition n disjunction >>= λ d. done (either c d)) (done (single c)))
+  unfolding aCondition
+  reads-or = refl
+
+-- ---- completeness
+
+-- what may follow a condition of a level: nothing that would go on with it
+abbrev pub Stops : Level → List Token → Type 0
+Stops atom more = Unit {0}
+Stops conjunction more = begins (keyword AND) more ≡ false
+Stops disjunction more = (begins (keyword AND) more ≡ false) × (begins (keyword OR) more ≡ false)
+
+-- how many calls deep a condition is read, at most
+abbrev pub height : {l : Level} → Condition Term l → ℕ
+height (compare c) = 1
+height (negate c) = suc (height c)
+height (group c) = suc (height c)
+height (alone c) = suc (height c)
+height (both c d) = suc (height c + height d)
+height (single c) = suc (height c)
+height (either c d) = suc (height c + height d)
+
+pub given-complete : (v : Given) (more : List Token) → aGiven (givenToken v ∷ more) ≡ some (v, more)
+given-complete (constant z) more = refl
+given-complete mark more = refl
+
+pub term-complete : (x : Term) (more : List Token) → aTerm (termToken x ∷ more) ≡ some (x, more)
+term-complete (column n) more = refl
+term-complete (given (constant z)) more = refl
+term-complete (given mark) more = refl
+
+-- an operand begins a comparison
+pub compares : (n : ℕ) (x : Term) (more : List Token) → aCondition (suc n) atom (termToken x ∷ more) ≡ aComparison (termToken x ∷ more)
+unfolding aCondition
+compares n (column m) more = refl
+compares n (given (constant z)) more = refl
+compares n (given mark) more = refl
+
+pub comparison-complete : (c : Comparison Term) (more : List Token) → aComparison (spellCondition (compare c) more) ≡ some (compare c, more)
+comparison-complete c more =
+    then-some _ (term-complete (c .left) (operator (c .op) ∷ termToken (c .right) ∷ more))
+    ∙ then-some _ (term-complete (c .right) more)
+
+-- with calls enough the reader finds each condition in its spelling
+pub complete-condition : {l : Level} (c : Condition Term l) (more : List Token) (n : ℕ) → height c ≤ n → Stops l more → aCondition n l (spellCondition c more) ≡ some (c, more)
+unfolding aCondition
+complete-condition (compare c) more zero h s = absurd (omega arith)
+complete-condition (compare c) more (suc n) h s = compares n (c .left) _ ∙ comparison-complete c more
+complete-condition (negate c) more zero h s = absurd (omega arith)
+complete-condition (negate c) more (suc n) h s = then-some _ (complete-condition c more n (omega arith) tt)
+complete-condition (group c) more zero h s = absurd (omega arith)
+complete-condition (group c) more (suc n) h s = then-some _ (complete-condition c (rparen ∷ more) n (omega arith) (refl, refl))
+complete-condition (alone c) more zero h s = absurd (omega arith)
+complete-condition (alone c) more (suc n) h s = then-some _ (complete-condition c more n (omega arith) tt) ∙ passing-stops _ _ _ more s
+complete-condition (both c d) more zero h s = absurd (omega arith)
+complete-condition (both c d) more (suc n) h s =
+    then-some _ (complete-condition c (keyword AND ∷ spellCondition d more) n (omega arith) tt)
+    ∙ then-some _ (complete-condition d more n (omega arith) s)
+complete-condition (single c) more zero h s = absurd (omega arith)
+complete-condition (single c) more (suc n) h s = then-some _ (complete-condition c more n (omega arith) (s .0)) ∙ passing-stops _ _ _ more (s .1)
+complete-condition (either c d) more zero h s = absurd (omega arith)
+complete-condition (either c d) more (suc n) h s =
+    then-some _ (complete-condition c (keyword OR ∷ spellCondition d more) n (omega arith) refl)
+    ∙ then-some _ (complete-condition d more n (omega arith) s)
+
+-- a spelling has enough tokens that three calls for each are enough
+abbrev pub spare : Level → ℕ
+spare atom = 2
+spare conjunction = 1
+spare disjunction = 0
+
+pub high : {l : Level} (c : Condition Term l) (more : List Token) → height c + 3 * length more + spare l ≤ 3 * length (spellCondition c more)
+high (compare c) more = omega arith
+high (negate c) more = omega (arith, high c more)
+high (group c) more = omega (arith, high c (rparen ∷ more))
+high (alone c) more = omega (arith, high c more)
+high (both c d) more = omega (arith, high c (keyword AND ∷ spellCondition d more), high d more)
+high (single c) more = omega (arith, high c more)
+high (either c d) more = omega (arith, high c (keyword OR ∷ spellCondition d more), high d more)
+
+-- a WHERE
+abbrev pub heightIn : Where Term → ℕ
+heightIn always = 0
+heightIn (under c) = height c
+
+abbrev pub StopsWhere : List Token → Type 0
+StopsWhere more = (begins (keyword WHERE) more ≡ false) × Stops disjunction more
+
+pub complete-where : (w : Where Term) (more : List Token) (n : ℕ) → heightIn w ≤ n → StopsWhere more → aWhere n (spellWhereTo w more) ≡ some (w, more)
+complete-where always more n h s = passing-stops _ _ _ more (s .0)
+complete-where (under c) more n h s = then-some _ (complete-condition c more n h (s .1))
+
+pub high-where : (w : Where Term) (more : List Token) → heightIn w + 3 * length more ≤ 3 * length (spellWhereTo w more)
+high-where always more = omega arith
+high-where (under c) more = omega (arith, high c more)
+
+-- a reader that finds each item in its spelling, of a token or more
+pub record Complete {A : Type 0} (sp : A → List Token → List Token) (item : Reader A) : Type 0 where
+  pub back : (x : A) (more : List Token) → item (sp x more) ≡ some (x, more)
+  pub long : (x : A) (more : List Token) → length more < length (sp x more)
+
+abbrev pub size : {A : Type 0} → Listed A → ℕ
+size (last x) = 1
+size (next x xs) = suc (size xs)
+
+module _ {A : Type 0} {sp : A → List Token → List Token} {item : Reader A} where
+  pub complete-list : Complete sp item → (xs : Listed A) (more : List Token) (n : ℕ) → size xs ≤ n → begins comma more ≡ false
+      → aList item n (spellList sp xs more) ≡ some (xs, more)
+  complete-list f (last x) more zero h s = absurd (omega arith)
+  complete-list f (last x) more (suc n) h s = then-some _ (f .back x more) ∙ passing-stops _ _ _ more s
+  complete-list f (next x xs) more zero h s = absurd (omega arith)
+  complete-list f (next x xs) more (suc n) h s =
+      then-some _ (f .back x (comma ∷ spellList sp xs more)) ∙ then-some _ (complete-list f xs more n (omega arith) s)
+
+  pub high-list : Complete sp item → (xs : Listed A) (more : List Token) → size xs + length more ≤ length (spellList sp xs more)
+  high-list f (last x) more = omega (arith, f .long x more)
+  high-list f (next x xs) more = omega (arith, f .long x (comma ∷ spellList sp xs more), high-list f xs more)
+
+pub names : Complete spellName aName
+names = record { back = λ x more. refl; long = λ x more. le-refl (suc (length more)) }
+
+pub givens : Complete spellGiven aGiven
+givens = record { back = given-complete; long = λ x more. le-refl (suc (length more)) }
+
+pub settings : Complete spellSetting aSetting
+settings = record { back = λ x more. then-some _ (given-complete (x .1) more); long = λ x more. omega arith }
+
+complete-to : (s : Sentence) (n : ℕ) → 3 * length (spellTo s []) ≤ n → aSentence n (spellTo s []) ≡ some (s, [])
+unfolding aSentence
+complete-to (table t cs z) n h =
+    let more = rparen ∷ keyword ROWS ∷ T.constant z ∷ [] in
+    then-some _ (complete-list names cs more n (omega (arith, high-list names cs more)) refl)
+complete-to (select cs t w) n h =
+    let more = keyword FROM ∷ name t ∷ spellWhereTo w [] in
+    then-some _ (complete-list names cs more n (omega (arith, high-list names cs more)) refl)
+    ∙ then-some _ (complete-where w [] n (omega (arith, high-where w [], high-list names cs more)) (refl, (refl, refl)))
+complete-to (insert t vs) n h = then-some _ (complete-list givens vs (rparen ∷ []) n (omega (arith, high-list givens vs (rparen ∷ []))) refl)
+complete-to (update t ss w) n h =
+    then-some _ (complete-list settings ss (spellWhereTo w []) n (omega (arith, high-list settings ss (spellWhereTo w []))) (stops w))
+    ∙ then-some _ (complete-where w [] n (omega (arith, high-where w [], high-list settings ss (spellWhereTo w []))) (refl, (refl, refl)))
+  where
+    stops : (w : Where Term) → begins comma (spellWhereTo w []) ≡ false
+    stops always = refl
+    stops (under c) = refl
+complete-to (delete t w) n h = then-some _ (complete-where w [] n (omega (arith, high-where w [])) (refl, (refl, refl)))
+
+-- with calls enough the reader finds each sentence in its spelling
+pub complete-sentence : (s : Sentence) (n : ℕ) → 3 * length (spell s) ≤ n → aSentence n (spell s) ≡ some (s, [])
+complete-sentence s n h =
+    subst (λ us. aSentence n us ≡ some (s, [])) (spell-ends s) (complete-to s n (omega (arith, ap length (spell-ends s))))
+
+-- ---- the reader decides
+
+-- what is read with nothing after it
+pub whole-read : {A : Type 0} (o : Option (A × List Token)) (x : A) → whole o ≡ some x → o ≡ some (x, [])
+whole-read none x e = some-none (sym e)
+whole-read {A} (some r) x e = go (r .0) (r .1) e
+  where
+    go : (y : A) (ts : List Token) → whole (some (y, ts)) ≡ some x → _≡_ {A = Option (A × List Token)} (some (y, ts)) (some (x, []))
+    go y [] q = ap (λ z. some (z, [])) (some-same q)
+    go y (t ∷ ts) q = some-none (sym q)
+
+-- with any calls from three a token on, some tokens are read as a sentence exactly if they are its spelling
+pub decides-from : (n : ℕ) (ts : List Token) (s : Sentence) → 3 * length ts ≤ n → (whole (aSentence n ts) ≡ some s) ↔ (ts ≡ spell s)
+decides-from n ts s h = (
+  (λ e. sound-sentence n ts s [] (whole-read (aSentence n ts) s e) ∙ spell-ends s),
+  (λ e. subst (λ us. whole (aSentence n us) ≡ some s) (sym e) (ap whole (complete-sentence s n (omega (arith, ap length e))))),
+)
+
+-- some tokens are read as a sentence exactly if they are its spelling
+pub decides : (ts : List Token) (s : Sentence) → (read ts ≡ some s) ↔ (ts ≡ spell s)
+unfolding read
+decides ts s = decides-from (3 * length ts) ts s (le-refl (3 * length ts))
+
+-- one spelling, one sentence
+pub unique : (s t : Sentence) → spell s ≡ spell t → s ≡ t
+unique s t e = some-same (sym (decides (spell s) s .1 refl) ∙ decides (spell s) t .1 e)
+
+-- some tokens are read as nothing exactly if they spell no sentence
+pub no-sentence : (ts : List Token) → (read ts ≡ none) ↔ ((s : Sentence) → ts ≡ spell s → ⊥)
+no-sentence ts = (
+  (λ e s q. some-none (sym (decides ts s .1 q) ∙ e)),
+  (λ f. go f (read ts) refl),
+)
+  where
+    go : ((s : Sentence) → ts ≡ spell s → ⊥) → (o : Option Sentence) → read ts ≡ o → read ts ≡ none
+    go f none e = e
+    go f (some s) e = absurd (f s (decides ts s .0 e))
