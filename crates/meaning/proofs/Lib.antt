@@ -1,1 +1,3 @@
 pub mod Names
+pub mod Accepted
+pub mod Resolved
