@@ -1,3 +1,4 @@
 pub mod Names
 pub mod Accepted
 pub mod Resolved
+pub mod WellFormed
