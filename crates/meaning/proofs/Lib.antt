@@ -2,3 +2,4 @@ pub mod Names
 pub mod Accepted
 pub mod Resolved
 pub mod WellFormed
+pub mod Keeps
