@@ -3,3 +3,4 @@ pub mod Accepted
 pub mod Resolved
 pub mod WellFormed
 pub mod Keeps
+pub mod Record
