@@ -4,3 +4,4 @@ pub mod Resolved
 pub mod WellFormed
 pub mod Keeps
 pub mod Record
+pub mod Cells
