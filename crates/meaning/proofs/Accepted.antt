@@ -1,9 +1,9 @@
 -- What a call that is not refused tells: none of its conditions holds. Assumes nothing.
-use mathlib.Core.Path.{_≡_, refl, sym, ap, _∙_}
+use mathlib.Core.Path.{_≡_, refl, ap, _∙_}
 use mathlib.Core.Bool.{Bool, true, false}
 use mathlib.Core.Option.{Option, none, some}
 use mathlib.Core.List.{List, [], _∷_}
-use Prim.Native.Nat.{ℕ, zero, suc, _≤_, _<_}
+use Prim.Native.Nat.{ℕ, _≤_, _<_}
 use native.Mathlib.Omega.{arith}
 use borrow.Author.Tests.{leb-true, leb-false, eqb-true}
 use lib.Dec.{leb, eqb}
@@ -16,7 +16,7 @@ use Rattle.meaning.specs.Grammar.{Sentence, sentence}
 use Rattle.meaning.specs.Limits.{tooLong, pastLimit}
 use Rattle.meaning.specs.Names.{unknown, taken, miscounted}
 use Rattle.meaning.specs.Key.{Key}
-use Rattle.meaning.specs.Plain.{Lengths, Plain, schemas, Call, add, change, queryAt, updateAt, otherLengths, noPlace, full, isNone, itsSentence, addConditions, askConditions, changeConditions, orElse, lowestOf, refusal}
+use Rattle.meaning.specs.Plain.{Lengths, Plain, schemas, add, change, queryAt, updateAt, otherLengths, noPlace, full, addConditions, askConditions, changeConditions, orElse, lowestOf, refusal}
 
 -- a condition with its number
 abbrev pub Numbered : Type 0
@@ -65,16 +65,19 @@ module _ (lent : Lengths) (p : Plain) (text : List ℕ) where
           let a₄ = All-tail a₃ in
           let a₅ = All-tail a₄ in
           let a₆ = All-tail a₅ in
-          let a₇ = All-tail a₆ in
-          (s, e, record {
-            lengths = All-head a;
-            short = All-head a₂;
-            within = All-head a₃;
-            known = All-head a₄;
-            fresh = All-head a₅;
-            counted = All-head a₆;
-            place = All-head a₇;
-          })
+          let a₇ = All-tail a₆ in (
+            s,
+            e,
+            record {
+              lengths = All-head a;
+              short = All-head a₂;
+              within = All-head a₃;
+              known = All-head a₄;
+              fresh = All-head a₅;
+              counted = All-head a₆;
+              place = All-head a₇;
+            },
+          )
 
 -- ---- a question
 

@@ -1,5 +1,5 @@
 -- Rows in cells: rows that are stored are read back, an area that is put in place is there, and the other areas are as they were. Assumes nothing.
-use mathlib.Core.Path.{_≡_, refl, sym, ap, ap₂, _∙_, subst}
+use mathlib.Core.Path.{_≡_, refl, sym, ap, ap₂, _∙_}
 use mathlib.Core.List.{List, [], _∷_, _++_, append-assoc, append-nil}
 use Prim.Native.Nat.{ℕ, zero, suc, _+_, _-_, _*_, _≤_, _<_, max}
 use native.Mathlib.Nat.{zero-mul, suc-mul}
@@ -9,7 +9,7 @@ use lib.ListN.{length, take, drop, getD, replicate, length-append, length-drop, 
 use lib.Seq.{drop-drop, take-add, take-at, drop-at, take-take, take-nil, length-take-le}
 use Rattle.lists.specs.Lists.{All, nil, cons, flat, written}
 use Rattle.lists.proofs.Lists.{All-head, All-tail}
-use Rattle.lists.proofs.Places.{flat-append, flat-length}
+use Rattle.lists.proofs.Places.{flat-append}
 use Rattle.lists.proofs.Written.{length-written, written-there, written-before, written-after}
 use Rattle.meaning.specs.Names.{Schema, noSchema}
 use Rattle.meaning.specs.Meaning.{Row}

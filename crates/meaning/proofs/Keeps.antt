@@ -1,13 +1,13 @@
 -- What adding and updates leave of a question: it can still be asked, and its record stays unless the update matches its key. Assumes nothing.
-use mathlib.Core.Path.{_≡_, refl, sym, ap, ap₂, _∙_, subst}
-use mathlib.Core.Bool.{Bool, true, false, not, _&&_}
-use mathlib.Core.Option.{Option, none, some}
+use mathlib.Core.Path.{_≡_, refl, sym, ap, _∙_, subst}
+use mathlib.Core.Bool.{true, false, not, _&&_}
+use mathlib.Core.Option.{Option, some}
 use mathlib.Core.List.{List, [], _∷_, _++_}
-use Prim.Native.Nat.{ℕ, zero, suc, _≤_, _<_}
+use Prim.Native.Nat.{ℕ, zero, suc, _<_}
 use native.Mathlib.Decide.{ℕ-discrete}
 use native.Mathlib.Omega.{arith}
 use borrow.Author.Tests.{lt-leb, eq-eqb}
-use lib.Dec.{leb, eqb}
+use lib.Dec.{eqb}
 use lib.IntN.{ℤ}
 use lib.ListN.{length, getD, set, length-append, List·getD-append}
 use lib.Seq.{getD-set-same, getD-set-other}
@@ -20,8 +20,7 @@ use Rattle.meaning.specs.Statement.{Value, Query, Change, insert, delete
 use Rattle.meaning.specs.Meaning.{Row, answer, changed}
 use Rattle.meaning.specs.Record.{encode}
 use Rattle.meaning.specs.Key.{Key}
-use Rattle.meaning.specs.Pattern.{matches}
-use Rattle.meaning.specs.Plain.{Lengths, Table, Plain, schemas, noTable, noQuery, noUpdate, tableAt, queryAt, updateAt, recordOf, matchesKey, Call, add, change, otherLengths, askConditions, lowestOf, refusal, adding, addedText, changedBy, does}
+use Rattle.meaning.specs.Plain.{Lengths, Table, Plain, schemas, noTable, noQuery, noUpdate, tableAt, queryAt, updateAt, recordOf, matchesKey, add, change, otherLengths, askConditions, lowestOf, refusal, adding, addedText, changedBy, does}
 use Rattle.meaning.specs.Demand.{SetsWithin, AnswerStays}
 use Rattle.meaning.proofs.Accepted.{none-lowest, Taken, text-taken, Asked, key-asked, Changing, update-taken}
 use Rattle.meaning.proofs.WellFormed.{FitsTable, WellFormed}
@@ -58,13 +57,15 @@ abbrev Keeps : Lengths → Plain → Key → Plain → Type 0
 Keeps lent p k p′ = (lowestOf (askConditions lent p′ k) ≡ 0) × (recordOf p′ k ≡ recordOf p k)
 
 adding-keeps : (lent : Lengths) (p : Plain) (k : Key) → Asked lent p k → (s : Statement) → Keeps lent p k (adding p s)
-adding-keeps lent p k A (creates t) =
-    (asked-still lent p (adding p (creates t)) k A refl (A .there) refl,
-     record-stays p (adding p (creates t)) k refl (ap (answer (queryAt p (k .query)) (k .values)) (rows-appended (p .tables) t (queryAt p (k .query) .table))))
+adding-keeps lent p k A (creates t) = (
+  asked-still lent p (adding p (creates t)) k A refl (A .there) refl,
+  record-stays p (adding p (creates t)) k refl (ap (answer (queryAt p (k .query)) (k .values)) (rows-appended (p .tables) t (queryAt p (k .query) .table))),
+)
 adding-keeps lent p k A (asks q) =
-    let e : queryAt (adding p (asks q)) (k .query) ≡ queryAt p (k .query) = List·getD-append (p .queries) (q ∷ []) noQuery (k .query) (A .there) in
-    (asked-still lent p (adding p (asks q)) k A refl (omega (arith, length-append (p .queries) (q ∷ []), A .there)) e,
-     record-stays p (adding p (asks q)) k e refl)
+    let e : queryAt (adding p (asks q)) (k .query) ≡ queryAt p (k .query) = List·getD-append (p .queries) (q ∷ []) noQuery (k .query) (A .there) in (
+      asked-still lent p (adding p (asks q)) k A refl (omega (arith, length-append (p .queries) (q ∷ []), A .there)) e,
+      record-stays p (adding p (asks q)) k e refl,
+    )
 adding-keeps lent p k A (changes u) =
     (asked-still lent p (adding p (changes u)) k A refl (A .there) refl, record-stays p (adding p (changes u)) k refl refl)
 
@@ -118,7 +119,7 @@ module _ (stays : AnswerStays) (lent : Lengths) (p : Plain) (n : ℕ) (us : List
       go (yes e) =
           ap (answer q (k .values)) (same-table e)
           ∙ stays q (k .values) u us (t .rows) (A .values)
-              (sets-within (t .schema) (u .change) (t .rows) (fits .1) (All-at (u .table) noTable (fits .0) (W .rows-wide))) e m
+          (sets-within (t .schema) (u .change) (t .rows) (fits .1) (All-at (u .table) noTable (fits .0) (W .rows-wide))) e m
           ∙ ap (λ (i : ℕ). answer q (k .values) (tableAt p i .rows)) (sym e)
       go (no ne) = ap (answer q (k .values)) (other-table ne)
 

@@ -1,8 +1,8 @@
 -- Names and their positions: a name that is there has a place inside the list, and what stands there is that name. Assumes nothing.
-use mathlib.Core.Path.{_≡_, refl, sym, ap, _∙_}
+use mathlib.Core.Path.{_≡_, refl, sym}
 use mathlib.Core.Bool.{Bool, true, false, not, _||_, cond, false≢true}
 use mathlib.Core.List.{List, [], _∷_}
-use Prim.Native.Nat.{ℕ, suc, _≤_, _<_, zero-le, suc-le-suc}
+use Prim.Native.Nat.{suc, _<_, zero-le, suc-le-suc}
 use lib.Dec.{eqb, eqb→eq}
 use lib.ListN.{length, getD}
 use Rattle.lists.specs.Lists.{All, any}

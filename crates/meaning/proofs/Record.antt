@@ -17,7 +17,7 @@ use Rattle.lists.proofs.Lists.{All-append, All-head, All-tail, All-map}
 use Rattle.lists.proofs.Places.{All-at, flat-length}
 use Rattle.meaning.specs.Limits.{most-items, most-rows, isWithin32}
 use Rattle.meaning.specs.Meaning.{Row}
-use Rattle.meaning.specs.Record.{bitsOf, bytes4, bytes2, numberBytes, body, encode, twoAt, fourAt, columnsIn, rowCount, rowBytes, isRecord, hasRow, rowRefusal, rowStart, rowLength, rowPart, numberOf, numbersOf}
+use Rattle.meaning.specs.Record.{bitsOf, bytes4, bytes2, numberBytes, body, encode, fourAt, rowCount, rowBytes, isRecord, hasRow, rowPart, numberOf, numbersOf}
 use Rattle.meaning.specs.Demand.{ReadsBack, IsRow, RecordReadsBack}
 
 -- ---- numbers
@@ -139,8 +139,8 @@ row-there c (r ∷ rs) later h (suc i) k =
     ∙ ap (λ (x : List ℕ). take (4 * c) (drop (4 * c + i * (4 * c)) (x ++ later))) (numbers-append r (flat rs))
     ∙ ap (λ (x : List ℕ). take (4 * c) (drop (4 * c + i * (4 * c)) x)) (append-assoc (numberBytes r) (numberBytes (flat rs)) later)
     ∙ ap (take (4 * c))
-        (sym (drop-drop (i * (4 * c)) (4 * c) (numberBytes r ++ (numberBytes (flat rs) ++ later)))
-        ∙ ap (drop (i * (4 * c))) (drop-at (numberBytes r) (numberBytes (flat rs) ++ later) (4 * c) l))
+    (sym (drop-drop (i * (4 * c)) (4 * c) (numberBytes r ++ (numberBytes (flat rs) ++ later)))
+    ∙ ap (drop (i * (4 * c))) (drop-at (numberBytes r) (numberBytes (flat rs) ++ later) (4 * c) l))
     ∙ row-there c rs later (All-tail h) i (omega arith)
 
 module _ (columns : ℕ) (rows : List Row) (later : List ℕ) (some : 1 ≤ columns) (few : columns ≤ most-items) (short : length rows ≤ most-rows) (are : All (IsRow columns) rows) where
@@ -225,7 +225,7 @@ module _ (columns : ℕ) (rows : List Row) (later : List ℕ) (some : 1 ≤ colu
     rows-are = rows-are;
     shown = λ i h. (
       ap (λ (b : Bool). cond b 0 14) (row-yes i h),
-      ap numbersOf (part-is i h) ∙ numbers-back (getD rows i []) (All-at i [] h are .1)
+      ap numbersOf (part-is i h) ∙ numbers-back (getD rows i []) (All-at i [] h are .1),
     );
     not-shown = λ i h. (ap (λ (b : Bool). cond b 0 14) (row-no i h), no-part i h);
   }

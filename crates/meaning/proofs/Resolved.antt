@@ -1,6 +1,6 @@
 -- Statements with names resolved: where the columns that a sentence names are known, those of its statement are inside the table. Assumes nothing.
 use mathlib.Core.Path.{_≡_, refl, ap}
-use mathlib.Core.List.{List, [], _∷_, _++_, map}
+use mathlib.Core.List.{List, [], _∷_, map}
 use Prim.Native.Nat.{ℕ, suc, _+_, _<_, _≤_}
 use native.Mathlib.Omega.{arith}
 use lib.ListN.{length}
@@ -9,10 +9,10 @@ use Rattle.lists.proofs.Lists.{All-head, All-tail, All-append, All-left, All-ri
 use Rattle.meaning.specs.Condition.{Comparison, Level, Condition, compare, negate, group, alone, both, single, either, comparisons, sides, Where, always, under, operandsIn}
 use Rattle.meaning.specs.Tokens.{Name}
 use Rattle.meaning.specs.Grammar as G
-use Rattle.meaning.specs.Grammar.{Given, mark, Term, given, Listed, last, next, items}
+use Rattle.meaning.specs.Grammar.{Given, Term, given, Listed, last, next, items}
 use Rattle.meaning.specs.Limits.{termGivens, termColumns, markIn, markCount}
 use Rattle.meaning.specs.Names.{position}
-use Rattle.meaning.specs.Statement.{Value, Operand, column, value, numberedAll, markInTerm, settings, operandOf, comparisonOf, resolved, resolvedWhere}
+use Rattle.meaning.specs.Statement.{Value, Operand, column, value, numberedAll, markInTerm, settings, operandOf, resolved, resolvedWhere}
 
 -- "No list is empty."
 pub items-some : {A : Type 0} (l : Listed A) → 1 ≤ length (items l)

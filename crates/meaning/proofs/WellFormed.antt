@@ -1,7 +1,7 @@
 -- What holds of every plain store that calls reach from an opening. Assumes nothing.
-use mathlib.Core.Path.{_≡_, refl, sym, ap, ap₂, _∙_, subst}
+use mathlib.Core.Path.{_≡_, refl, sym, ap, _∙_, subst}
 use mathlib.Core.Bool.{Bool, true, false, not, _&&_, _||_, cond}
-use mathlib.Core.Option.{Option, none, some}
+use mathlib.Core.Option.{Option, some}
 use mathlib.Core.List.{List, [], _∷_, _++_, map}
 use Prim.Native.Nat.{ℕ, zero, suc, _+_, _*_, _-_, _≤_, _<_}
 use native.Mathlib.Omega.{arith}
@@ -11,20 +11,20 @@ use lib.IntN.{ℤ, pos, negsuc, natAbs}
 use lib.ListN.{length, getD, set, length-append, length-map, length-set, List·getD-map, List·getD-append}
 use lib.Seq.{map-set-same}
 use lib.Signed.{leZ}
-use Rattle.lists.specs.Lists.{All, nil, cons, any, keep}
+use Rattle.lists.specs.Lists.{All, nil, cons, any}
 use Rattle.lists.proofs.Bools.{or-left, or-right, not-false, and-left, and-right, clash}
-use Rattle.lists.proofs.Lists.{All-head, All-map, All-append, All-left, All-right, All-keep, All-image, All-getD, any-false, map-append}
+use Rattle.lists.proofs.Lists.{All-map, All-both, All-append, All-left, All-right, All-keep, All-image, map-append}
 use Rattle.lists.proofs.Places.{All-at, All-set, length-keep}
 use Rattle.meaning.specs.Condition.{Where, always, operandsIn}
 use Rattle.meaning.specs.Tokens.{Name}
 use Rattle.meaning.specs.Grammar as G
 use Rattle.meaning.specs.Grammar.{Given, items, Sentence, sentence}
-use Rattle.meaning.specs.Limits.{most-items, most-rows, most-marks, most-tables, most-queries, most-updates, listColumns, listGivens, rowsOf, givens, markCount, columnsNamed, termColumns, whereOf, manyItems, rowsOutside, manyMarks, manyComparisons, deep, longName, bigConstant, pastLimit}
+use Rattle.meaning.specs.Limits.{most-items, most-rows, most-marks, most-tables, most-queries, most-updates, listColumns, listGivens, givens, markCount, columnsNamed, termColumns, manyItems, rowsOutside, manyMarks, manyComparisons, deep, longName, bigConstant, pastLimit}
 use Rattle.meaning.specs.Names.{Schema, noSchema, tableNames, columnsOf, has, position, missing, unknown, miscounted}
-use Rattle.meaning.specs.Statement.{Value, Operand, Query, Change, insert, delete, update, Update, Statement, creates, asks, changes, numberedAll, settings, resolvedWhere, settingMarks, statementOf}
+use Rattle.meaning.specs.Statement.{Value, Operand, Query, Change, insert, delete, update, Update, creates, asks, changes, numberedAll, settings, resolvedWhere, settingMarks, statementOf}
 use Rattle.meaning.specs.Meaning.{Row, newRow, valueOf, meetsWhere, assigned, updatedRow, changed}
 use Rattle.meaning.specs.Cells.{areaSize, areasSize}
-use Rattle.meaning.specs.Plain.{Lengths, Table, Plain, schemas, noTable, noUpdate, tableAt, updateAt, cellsLeft, Opening, opened, openingRefused, lengthsOf, Call, add, ask, change, flush, noPlace, isInsert, full, refusal, refused, adding, addedText, changedBy, does, guard, step, after}
+use Rattle.meaning.specs.Plain.{Lengths, Table, Plain, schemas, noTable, noUpdate, tableAt, updateAt, cellsLeft, Opening, opened, Call, add, ask, change, flush, noPlace, isInsert, full, refusal, refused, adding, addedText, changedBy, does, guard, step, after}
 use Rattle.meaning.proofs.Names.{has-position, all-known}
 use Rattle.meaning.proofs.Accepted.{Taken, text-taken, Changing, update-taken}
 use Rattle.meaning.proofs.Resolved.{items-some, numbered-length, Within, tested-inside, set-inside, selected-inside}
@@ -101,18 +101,24 @@ schema-at p i = List·getD-map (λ (t : Table). t .schema) (p .tables) i noTable
 abbrev Grows : Plain → Plain → Type 0
 Grows p p′ = (i : ℕ) → i < length (p .tables) → (i < length (p′ .tables)) × (tableAt p′ i .schema ≡ tableAt p i .schema)
 
-abbrev Fits : Plain → Update → Type 0
+-- an update, and a query, fit the store that they are in
+abbrev pub Fits : Plain → Update → Type 0
 Fits p u = (u .table < length (p .tables)) × FitsTable (tableAt p (u .table) .schema) (u .change)
 
+abbrev pub Limited : Plain → Update → Type 0
+Limited p u = UpdateFits (tableAt p (u .table) .schema) u
+
+abbrev pub Reads : Plain → Query → Type 0
+Reads p q = QueryFits (length (p .tables)) (tableAt p (q .table) .schema) q
+
 module _ (p p′ : Plain) (g : Grows p p′) where
-  fits-grows : (us : List Update) → All (Fits p) us → All (Fits p′) us
-  fits-grows us h = All-map (λ u f. (g (u .table) (f .0) .0, subst (λ (t : Schema). FitsTable t (u .change)) (sym (g (u .table) (f .0) .1)) (f .1))) h
+  fits-grows : {us : List Update} → All (Fits p) us → All (Fits p′) us
+  fits-grows h = All-map (λ u f. (g (u .table) (f .0) .0, subst (λ (t : Schema). FitsTable t (u .change)) (sym (g (u .table) (f .0) .1)) (f .1))) h
 
-  updates-grow : (us : List Update) → All (Fits p) us → All (λ u. UpdateFits (tableAt p (u .table) .schema) u) us → All (λ u. UpdateFits (tableAt p′ (u .table) .schema) u) us
-  updates-grow us nil k = nil
-  updates-grow (u ∷ us) (cons f h) (cons e k) = cons (subst (λ (t : Schema). UpdateFits t u) (sym (g (u .table) (f .0) .1)) e) (updates-grow us h k)
+  limits-grow : {us : List Update} → All (Fits p) us → All (Limited p) us → All (Limited p′) us
+  limits-grow h k = All-map (λ u f. subst (λ (t : Schema). UpdateFits t u) (sym (g (u .table) (f .0 .0) .1)) (f .1)) (All-both h k)
 
-  query-grows : (q : Query) → QueryFits (length (p .tables)) (tableAt p (q .table) .schema) q → QueryFits (length (p′ .tables)) (tableAt p′ (q .table) .schema) q
+  query-grows : (q : Query) → Reads p q → Reads p′ q
   query-grows q f =
       let e : tableAt p (q .table) .schema ≡ tableAt p′ (q .table) .schema = sym (g (q .table) (f .there) .1) in
       record {
@@ -123,9 +129,6 @@ module _ (p p′ : Plain) (g : Grows p p′) where
         selected-in = subst (λ (t : Schema). All (λ i. i < length (t .columns)) (q .selected)) e (f .selected-in);
         tested-in = subst (λ (t : Schema). All (Within (length (t .columns))) (operandsIn (q .condition))) e (f .tested-in);
       }
-
-  queries-grow : (qs : List Query) → All (λ q. QueryFits (length (p .tables)) (tableAt p (q .table) .schema) q) qs → All (λ q. QueryFits (length (p′ .tables)) (tableAt p′ (q .table) .schema) q) qs
-  queries-grow qs h = All-map query-grows h
 
 -- ---- a sentence within the limits
 
@@ -166,9 +169,6 @@ module _ (p : Plain) (t : Name) (cs : List Name) (h : missing (schemas p) t cs �
   abbrev number : ℕ
   number = position (tableNames (schemas p)) t
 
-  abbrev its : Schema
-  its = tableAt p number .schema
-
   known-table : number < length (p .tables)
   known-table =
       let e : length (tableNames (schemas p)) ≡ length (p .tables) = length-map (schemas p) (λ (t : Schema). t .name) ∙ length-map (p .tables) (λ (t : Table). t .schema) in
@@ -176,9 +176,6 @@ module _ (p : Plain) (t : Name) (cs : List Name) (h : missing (schemas p) t cs �
       (has-position (tableNames (schemas p)) t
       (not-false (has (tableNames (schemas p)) t)
       (or-left (not (has (tableNames (schemas p)) t)) (any (λ (c : Name). not (has (columnsOf (schemas p) t) c)) cs) h)))
-
-  columns-are : columnsOf (schemas p) t ≡ its .columns
-  columns-are = ap (λ (t : Schema). t .columns) (schema-at p number)
 
   known-columns : All (λ c. position (columnsOf (schemas p) t) c < length (columnsOf (schemas p) t)) cs
   known-columns =
@@ -206,9 +203,9 @@ module _ (p : Plain) (W : WellFormed p) where
     table-well f room area = record {
       rows-wide = All-append (W .rows-wide) (cons nil nil);
       rows-few = All-append (W .rows-few) (cons (omega arith) nil);
-      updates-fit = fits-grows p (adding p (creates t)) grows-table (p .updates) (W .updates-fit);
-      updates-in = updates-grow p (adding p (creates t)) grows-table (p .updates) (W .updates-fit) (W .updates-in);
-      queries-fit = queries-grow p (adding p (creates t)) grows-table (p .queries) (W .queries-fit);
+      updates-fit = fits-grows p (adding p (creates t)) grows-table (W .updates-fit);
+      updates-in = limits-grow p (adding p (creates t)) grows-table (W .updates-fit) (W .updates-in);
+      queries-fit = All-map (query-grows p (adding p (creates t)) grows-table) (W .queries-fit);
       tables-fit = All-append (W .tables-fit) (cons f nil);
       areas-fit =
           subst (λ (k : ℕ). k ≤ p .lengths .cells)
@@ -218,7 +215,7 @@ module _ (p : Plain) (W : WellFormed p) where
       few-updates = W .few-updates;
     }
 
-  query-well : (q : Query) → QueryFits (length (p .tables)) (tableAt p (q .table) .schema) q → length (p .queries) < most-queries → WellFormed (adding p (asks q))
+  query-well : (q : Query) → Reads p q → length (p .queries) < most-queries → WellFormed (adding p (asks q))
   query-well q f room = record {
     rows-wide = W .rows-wide;
     rows-few = W .rows-few;
@@ -232,7 +229,7 @@ module _ (p : Plain) (W : WellFormed p) where
     few-updates = W .few-updates;
   }
 
-  update-well : (u : Update) → Fits p u → UpdateFits (tableAt p (u .table) .schema) u → length (p .updates) < most-updates → WellFormed (adding p (changes u))
+  update-well : (u : Update) → Fits p u → Limited p u → length (p .updates) < most-updates → WellFormed (adding p (changes u))
   update-well u f e room = record {
     rows-wide = W .rows-wide;
     rows-few = W .rows-few;
@@ -273,9 +270,9 @@ module _ (p : Plain) (W : WellFormed p) where
         few-selected = omega (arith, few-listed s (T .within));
         few-marks = marks-few s (T .within);
         selected-in = subst (λ (t : Schema). All (λ i. i < length (t .columns)) (map (position C) (items cs))) e
-        (selected-inside C (items cs) (All-left (items cs) (termColumns (operandsIn w)) known));
+            (selected-inside C (items cs) (All-left (items cs) (termColumns (operandsIn w)) known));
         tested-in = subst (λ (t : Schema). All (Within (length (t .columns))) (operandsIn (resolvedWhere C 0 w))) e
-        (tested-inside C 0 w (All-right (items cs) known));
+            (tested-inside C 0 w (All-right (items cs) known));
       })
       (leb-false most-queries (length (p .queries)) (T .place))
   statement-well lent text (G.insert t vs) T =
@@ -296,14 +293,15 @@ module _ (p : Plain) (W : WellFormed p) where
       let set-names : List Name = map (λ (s : Name × Given). s .0) (items ss) in
       let known : All (λ c. position C c < length C) (set-names ++ termColumns (operandsIn w)) = known-columns p t (columnsNamed s) (T .known) in
       let e : getD (schemas p) n noSchema ≡ tableAt p n .schema = schema-at p n in
-      update-well (record { table = n; change = update (settings C 0 (items ss)) (resolvedWhere C m w); parameters = markCount (givens s) })
-      (known-table p t (columnsNamed s) (T .known),
-       subst (λ (t : Schema). All (λ (s : ℕ × Value). s .0 < length (t .columns)) (settings C 0 (items ss))) e
-       (set-inside C 0 (items ss) (All-left set-names (termColumns (operandsIn w)) known)))
+      update-well (record { table = n; change = update (settings C 0 (items ss)) (resolvedWhere C m w); parameters = markCount (givens s) }) (
+        known-table p t (columnsNamed s) (T .known),
+        subst (λ (t : Schema). All (λ (s : ℕ × Value). s .0 < length (t .columns)) (settings C 0 (items ss))) e
+            (set-inside C 0 (items ss) (All-left set-names (termColumns (operandsIn w)) known)),
+      )
       (record {
         few-marks = marks-few s (T .within);
         tested-in = subst (λ (t : Schema). All (Within (length (t .columns))) (operandsIn (resolvedWhere C m w))) e
-        (tested-inside C m w (All-right set-names known));
+            (tested-inside C m w (All-right set-names known));
       })
       (leb-false most-updates (length (p .updates)) (T .place))
   statement-well lent text (G.delete t w) T =
@@ -378,14 +376,14 @@ module _ (p : Plain) (n : ℕ) (us : List ℤ) where
       let fits : Fits p u = All-at n noUpdate h (W .updates-fit) in
       record {
         rows-wide = All-set (u .table) (record { schema = t .schema; rows = changed (u .change) us (t .rows) })
-        (changed-wide (t .schema) (u .change) us (t .rows) (fits .1) (All-at (u .table) noTable (fits .0) (W .rows-wide))) (W .rows-wide);
+            (changed-wide (t .schema) (u .change) us (t .rows) (fits .1) (All-at (u .table) noTable (fits .0) (W .rows-wide))) (W .rows-wide);
         rows-few = All-set (u .table) (record { schema = t .schema; rows = changed (u .change) us (t .rows) })
-        (changed-few (u .change) us (t .rows) (t .schema .capacity) (All-at (u .table) noTable (fits .0) (W .rows-few)) f) (W .rows-few);
-        updates-fit = fits-grows p (changedBy p n us) grows-rows (p .updates) (W .updates-fit);
-        updates-in = updates-grow p (changedBy p n us) grows-rows (p .updates) (W .updates-fit) (W .updates-in);
-        queries-fit = queries-grow p (changedBy p n us) grows-rows (p .queries) (W .queries-fit);
+            (changed-few (u .change) us (t .rows) (t .schema .capacity) (All-at (u .table) noTable (fits .0) (W .rows-few)) f) (W .rows-few);
+        updates-fit = fits-grows p (changedBy p n us) grows-rows (W .updates-fit);
+        updates-in = limits-grow p (changedBy p n us) grows-rows (W .updates-fit) (W .updates-in);
+        queries-fit = All-map (query-grows p (changedBy p n us) grows-rows) (W .queries-fit);
         tables-fit = All-set (u .table) (record { schema = t .schema; rows = changed (u .change) us (t .rows) })
-        (All-at (u .table) noTable (fits .0) (W .tables-fit)) (W .tables-fit);
+            (All-at (u .table) noTable (fits .0) (W .tables-fit)) (W .tables-fit);
         areas-fit = subst (λ (ts : List Schema). areasSize ts ≤ p .lengths .cells) (sym schemas-stay) (W .areas-fit);
         few-tables = omega (arith, tables-stay, W .few-tables);
         few-queries = W .few-queries;
