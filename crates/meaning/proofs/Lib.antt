@@ -4,4 +4,5 @@ pub mod Resolved
 pub mod WellFormed
 pub mod Keeps
 pub mod Record
+pub mod Within32
 pub mod Cells
