@@ -1,5 +1,6 @@
 pub mod Bools
 pub mod Lists
+pub mod Places
 pub mod Written
 pub mod Moved
 pub mod Changed

@@ -7,16 +7,18 @@ use mathlib.Core.Option.{Option, none, some}
 use mathlib.Core.List.{List, [], _∷_}
 use Prim.Native.Nat.{ℕ, zero, suc, _≤_, _<_}
 use native.Mathlib.Omega.{arith}
-use borrow.Author.Tests.{ltb-true, ltb-false, le-ltb, eq-eqb, ne-eqb}
+use borrow.Author.Tests.{ltb-true, ltb-false, le-ltb, eq-eqb, ne-eqb, leb-false, eqb-true}
 use lib.Dec.{ltb, eqb}
+use lib.IntN.{ℤ}
 use lib.ListN.{length}
 use Rattle.lists.specs.Lists.{any, All, nil, cons}
-use Rattle.lists.proofs.Bools.{and-left, and-right, clash}
+use Rattle.lists.proofs.Bools.{and-left, and-right, not-false, clash}
 use Rattle.lists.proofs.Lists.{All-head, All-tail}
 use Rattle.meaning.specs.Tokens.{tokens}
 use Rattle.meaning.specs.Grammar.{Sentence, sentence}
+use Rattle.meaning.specs.Key.{Key}
 use Rattle.meaning.specs.Limits.{most-text}
-use Rattle.meaning.specs.Plain.{Lengths, Plain, Call, add, ask, change, flush, addConditions, conditions, orElse, lowestOf, refusal, refused, addedText, does, guard}
+use Rattle.meaning.specs.Plain.{Lengths, Plain, queryAt, updateAt, Call, add, ask, change, flush, otherLengths, full, addConditions, askConditions, changeConditions, conditions, orElse, lowestOf, refusal, refused, addedText, does, guard}
 use Rattle.meaning.specs.Demand.{LowestNumber, RefusedChangesNothing, ReadsExactly, OneSentence, Acceptable, AcceptedExactlyIf, AcceptedIsAdded}
 use Rattle.meaning.proofs.Decides.{decides, unique}
 
@@ -175,3 +177,51 @@ unfolding addedText
 accepted-is-added lent p text s h =
     guard-done p refused (does p (add text)) (refusal lent p (add text)) (not-refused lent p text s h)
     ∙ ap (addedText p) (its-sentence lent p text s h)
+
+-- ---- what a call that is not refused tells
+
+-- a text: its sentence, and that no condition holds
+pub text-taken : (lent : Lengths) (p : Plain) (text : List ℕ) → refusal lent p (add text) ≡ 0 → (s : Sentence) × (sentence text ≡ some s) × Acceptable lent p text s
+text-taken lent p text e =
+    let (s, h) = accepted-exactly-if lent p text .0 e in
+    (s, its-sentence lent p text s h, h)
+
+-- a question
+
+pub record Asked (lent : Lengths) (p : Plain) (k : Key) : Type 0 where
+  pub lengths : otherLengths lent p ≡ false
+  pub there : k .query < length (p .queries)
+  pub values : length (k .values) ≡ queryAt p (k .query) .parameters
+
+module _ (lent : Lengths) (p : Plain) (k : Key) where
+  pub key-asked : lowestOf (askConditions lent p k) ≡ 0 → Asked lent p k
+  key-asked h =
+      let a = clear 0 (askConditions lent p k) refl .0 h in
+      record {
+        lengths = All-head a;
+        there = leb-false (length (p .queries)) (k .query) (All-head (All-tail a));
+        values =
+            eqb-true (length (k .values)) (queryAt p (k .query) .parameters)
+            (not-false (eqb (length (k .values)) (queryAt p (k .query) .parameters)) (All-head (All-tail (All-tail a))));
+      }
+
+-- an update
+pub record Changing (lent : Lengths) (p : Plain) (n : ℕ) (us : List ℤ) : Type 0 where
+  pub lengths : otherLengths lent p ≡ false
+  pub there : n < length (p .updates)
+  pub values : length us ≡ updateAt p n .parameters
+  pub room : full p n ≡ false
+
+module _ (lent : Lengths) (p : Plain) (n : ℕ) (us : List ℤ) where
+  pub update-taken : refusal lent p (change n us) ≡ 0 → Changing lent p n us
+  unfolding refusal
+  update-taken h =
+      let a = clear 0 (changeConditions lent p n us) refl .0 h in
+      record {
+        lengths = All-head a;
+        there = leb-false (length (p .updates)) n (All-head (All-tail a));
+        values =
+            eqb-true (length us) (updateAt p n .parameters)
+            (not-false (eqb (length us) (updateAt p n .parameters)) (All-head (All-tail (All-tail a))));
+        room = All-head (All-tail (All-tail (All-tail a)));
+      }

@@ -2,6 +2,13 @@ pub mod Readers
 pub mod Decides
 pub mod Stream
 pub mod Accepted
+pub mod Names
+pub mod Resolved
+pub mod WellFormed
+pub mod Within32
+pub mod Keeps
+pub mod Record
+pub mod Cells
 pub mod Clauses
 pub mod Few
 pub mod Classes

@@ -1,0 +1,46 @@
+-- The places of a list: what every member has, the member at a place has; members set; how many are kept; lists one after another. Assumes nothing.
+use mathlib.Core.Path.{_≡_, refl, sym, ap, _∙_}
+use mathlib.Core.Bool.{Bool, true, false}
+use mathlib.Core.List.{List, [], _∷_, _++_, append-assoc}
+use Prim.Native.Nat.{ℕ, zero, suc, _*_, _≤_, _<_}
+use native.Mathlib.Nat.{le-of-suc-le-suc, not-suc-le-zero, zero-mul, suc-mul}
+use native.Mathlib.Omega.{arith}
+use lib.ListN.{length, getD, set, length-append}
+use Rattle.lists.specs.Lists.{All, nil, cons, consIf, keep, flat}
+use Rattle.lists.proofs.Lists.{All-head, All-tail}
+
+module _ {A : Type 0} where
+  -- the member at a place inside the list has what every member has
+  pub All-at : {P : A → Type 0} {l : List A} (i : ℕ) (d : A) → i < length l → All P l → P (getD l i d)
+  All-at i d h nil = absurd (not-suc-le-zero h)
+  All-at zero d h (cons p a) = p
+  All-at (suc i) d h (cons p a) = All-at i d (le-of-suc-le-suc h) a
+
+  pub All-set : {P : A → Type 0} {l : List A} (i : ℕ) (x : A) → P x → All P l → All P (set l i x)
+  All-set i x p nil = nil
+  All-set zero x p (cons q a) = cons p a
+  All-set (suc i) x p (cons q a) = cons q (All-set i x p a)
+
+  -- no more are kept than there are
+  pub length-keep : (p : A → Bool) (l : List A) → length (keep p l) ≤ length l
+  length-keep p [] = omega arith
+  length-keep p (x ∷ l) = go (p x) (length-keep p l)
+    where
+      go : (b : Bool) → length (keep p l) ≤ length l → length (consIf b x (keep p l)) ≤ suc (length l)
+      go true h = omega arith
+      go false h = omega arith
+
+-- ---- lists, one after another
+
+module _ {A : Type 0} where
+  pub flat-append : (xs ys : List (List A)) → flat (xs ++ ys) ≡ flat xs ++ flat ys
+  flat-append [] ys = refl
+  flat-append (x ∷ xs) ys = ap (λ (t : List A). x ++ t) (flat-append xs ys) ∙ sym (append-assoc x (flat xs) (flat ys))
+
+  -- of c members each
+  pub flat-length : (c : ℕ) (xs : List (List A)) → All (λ x. length x ≡ c) xs → length (flat xs) ≡ length xs * c
+  flat-length c [] h = sym (zero-mul c)
+  flat-length c (x ∷ xs) h =
+      let e : length x ≡ c = All-head h in
+      let k : length (flat xs) ≡ length xs * c = flat-length c xs (All-tail h) in
+      omega (arith, length-append x (flat xs), suc-mul (length xs) c)
