@@ -13,3 +13,4 @@ pub mod Clauses
 pub mod Few
 pub mod Classes
 pub mod Weakening
+pub mod Demand

@@ -21,14 +21,11 @@ use Rattle.meaning.specs.Names.{columnsOf}
 use Rattle.meaning.specs.Statement.{Value, constant, parameter, Operand, Query, Change, insert, delete, update, Update, numbered, numberedAll, settings, statementOf}
 use Rattle.meaning.specs.Meaning.{Row, cell, valueOf, meetsWhere, takes, selected, answer, assigned, updatedRow, changed}
 use Rattle.meaning.specs.Key.{Key}
-use Rattle.meaning.specs.Plain.{Lengths, Table, Plain, schemas, noTable, noQuery, noUpdate, tableAt, queryAt, updateAt, recordOf, Opening, opened, Call, add, ask, change, flush, refusal, refused, adding, addedText, changedBy, does, guard, step, after}
-use Rattle.meaning.specs.Demand.{Acceptable, ReadsBack, IsRow}
-use Rattle.meaning.proofs.Accepted.{text-taken}
-use Rattle.meaning.proofs.WellFormed.{WellFormed, Reads}
+use Rattle.meaning.specs.Plain.{Lengths, Table, Plain, schemas, noTable, noQuery, noUpdate, tableAt, queryAt, updateAt, recordOf, Opening, opened, Call, add, ask, change, flush, askConditions, conditions, refusal, refused, answered, adding, addedText, changedBy, does, guard, step, after}
+use Rattle.meaning.specs.Demand.{Acceptable, ReadsBack, IsRow, Is32, Call32, rowsListed, AnswerReadsBack}
+use Rattle.meaning.proofs.Accepted.{clear, text-taken, key-asked}
+use Rattle.meaning.proofs.WellFormed.{WellFormed, Reads, opened-well, after-well}
 use Rattle.meaning.proofs.Record.{record-reads-back}
-
-abbrev pub Is32 : ℤ → Type 0
-Is32 z = isWithin32 z ≡ true
 
 -- a value of a statement
 abbrev pub Value32 : Value → Type 0
@@ -47,13 +44,6 @@ Row32 r = All Is32 r
 pub record Store32 (p : Plain) : Type 0 where
   pub rows : All (λ (t : Table). All Row32 (t .rows)) (p .tables)
   pub writes : All (λ (u : Update). Writes32 (u .change)) (p .updates)
-
--- the values of a call
-abbrev pub Call32 : Call → Type 0
-Call32 (add text) = Unit {0}
-Call32 (ask k buffer) = Unit {0}
-Call32 (change n us) = All Is32 us
-Call32 flush = Unit {0}
 
 pub opened-32 : (o : Opening) → Store32 (opened o)
 opened-32 o = record { rows = nil; writes = nil }
@@ -166,10 +156,10 @@ unfolding answer
 answer-few q vs rows = omega (arith, length-map (keep (takes q vs) rows) (selected q), length-keep (takes q vs) rows)
 
 -- the record of a question that is there reads back as its answer, also with later bytes behind it
-pub answer-reads-back : (p : Plain) → WellFormed p → Store32 p → (k : Key) → k .query < length (p .queries) → (later : List ℕ)
-    → ReadsBack (recordOf p k ++ later) (length (queryAt p (k .query) .selected)) (answer (queryAt p (k .query)) (k .values) (tableAt p (queryAt p (k .query) .table) .rows))
+pub record-listed : (p : Plain) → WellFormed p → Store32 p → (k : Key) → k .query < length (p .queries) → (later : List ℕ)
+    → ReadsBack (recordOf p k ++ later) (length (queryAt p (k .query) .selected)) (rowsListed p k)
 unfolding recordOf
-answer-reads-back p W S k h later =
+record-listed p W S k h later =
     let q : Query = queryAt p (k .query) in
     let t : Table = tableAt p (q .table) in
     let f : Reads p q = All-at (k .query) noQuery h (W .queries-fit) in
@@ -178,3 +168,18 @@ answer-reads-back p W S k h later =
     record-reads-back (length (q .selected)) (answer q (k .values) (t .rows)) later (f .some-selected) (f .few-selected)
     (omega (arith, answer-few q (k .values) (t .rows)))
     (answer-rows q (k .values) (t .rows) (All-at (q .table) noTable (f .there) (S .rows)))
+
+-- an answer is none of a refused question, which is there then
+asked-answered : (n : ℕ) (p : Plain) (x r : List ℕ) → guard n p refused (p, answered x) .1 ≡ answered r → (n ≡ 0) × (x ≡ r)
+asked-answered zero p x r e = (refl, cc)
+asked-answered (suc n) p x r e = absurd (let z : _≡_ {A = ℕ} 0 1 = cc in omega arith)
+
+pub answer-reads-back : AnswerReadsBack
+unfolding refusal
+answer-reads-back o cs v k buffer r e later =
+    let p : Plain = after (o .lent) (opened o) cs in
+    let a = asked-answered (refusal (o .lent) p (ask k buffer)) p (recordOf p k) r e in
+    let none = clear 0 (conditions (o .lent) p (ask k buffer)) refl .0 (a .0) in
+    let there = key-asked (o .lent) p k (clear 0 (askConditions (o .lent) p k) refl .1 (All-left (askConditions (o .lent) p k) _ none)) .there in
+    subst (λ (x : List ℕ). ReadsBack (x ++ later) (length (queryAt p (k .query) .selected)) (rowsListed p k)) (a .1)
+    (record-listed p (after-well (o .lent) (opened o) (opened-well o) cs) (after-32 (o .lent) (opened o) (opened-32 o) cs v) k there later)

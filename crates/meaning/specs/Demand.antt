@@ -12,13 +12,14 @@ use lib.ListN.{length, getD}
 use Rattle.lists.specs.Lists.{All, any}
 use Rattle.meaning.specs.Tokens.{tokens}
 use Rattle.meaning.specs.Grammar.{Sentence, spell, sentence}
+use Rattle.meaning.specs.Key.{Key}
 use Rattle.meaning.specs.Limits.{most-text, most-items, most-rows, isWithin32, pastLimit}
 use Rattle.meaning.specs.Names.{unknown, taken, miscounted}
 use Rattle.meaning.specs.Statement.{Value, Query, Change, insert, delete, update, Update, statementOf}
 use Rattle.meaning.specs.Meaning.{Row, answer, changed}
 use Rattle.meaning.specs.Record.{encode, isRecord, columnsIn, rowCount, rowRefusal, rowPart, numbersOf}
 use Rattle.meaning.specs.Pattern.{matters, matches}
-use Rattle.meaning.specs.Plain.{Lengths, Plain, schemas, Call, add, otherLengths, noPlace, conditions, refusal, refused, adding, placed, step}
+use Rattle.meaning.specs.Plain.{Lengths, Plain, schemas, tableAt, queryAt, Opening, opened, Call, add, ask, change, flush, otherLengths, noPlace, conditions, refusal, refused, answered, adding, placed, step, after}
 
 -- ---- Demand 1: "If a call brings a text, number, state or lent memory that the store can't take, it gives the refusal number of document 01 and changes
 -- nothing."
@@ -81,10 +82,31 @@ pub record ReadsBack (bs : List ℕ) (columns : ℕ) (rows : List Row) : Type 0 
 abbrev pub IsRow : ℕ → Row → Type 0
 IsRow columns r = (length r ≡ columns) × All (λ z. isWithin32 z ≡ true) r
 
--- also with later bytes behind the record
+-- the record of rows, also with later bytes behind it
 abbrev pub RecordReadsBack : Type 0
 RecordReadsBack = (columns : ℕ) (rows : List Row) (later : List ℕ) → 1 ≤ columns → columns ≤ most-items → length rows ≤ most-rows → All (IsRow columns) rows
     → ReadsBack (encode columns rows ++ later) columns rows
+
+-- the values of a call have 32 bits, as their type says
+abbrev pub Is32 : ℤ → Type 0
+Is32 z = isWithin32 z ≡ true
+
+abbrev pub Call32 : Call → Type 0
+Call32 (add text) = Unit {0}
+Call32 (ask k buffer) = All Is32 (k .values)
+Call32 (change n us) = All Is32 us
+Call32 flush = Unit {0}
+
+-- the rows that Meaning lists for a key
+abbrev pub rowsListed : Plain → Key → List Row
+rowsListed p k = answer (queryAt p (k .query)) (k .values) (tableAt p (queryAt p (k .query) .table) .rows)
+
+-- after every opening and list of calls, an answer's record reads back as the rows that Meaning lists on the plain store
+abbrev pub AnswerReadsBack : Type 0
+AnswerReadsBack = (o : Opening) (cs : List Call) → All Call32 cs → (k : Key) (buffer : ℕ) (r : List ℕ)
+    → let p : Plain = after (o .lent) (opened o) cs in
+    step (o .lent) p (ask k buffer) .1 ≡ answered r
+    → (later : List ℕ) → ReadsBack (r ++ later) (length (queryAt p (k .query) .selected)) (rowsListed p k)
 
 -- ---- Demand 2: "The kept answers an update drops are exactly those matched by the patterns drawn from Scully and Chlipala's formula": the patterns weaken
 -- it. If the update matters for the query's values through some row, a pattern agrees; so where none agrees the answer stays, whatever the table holds.
@@ -102,3 +124,17 @@ PatternsWeaken = (q : Query) (qs : List ℤ) (u : Update) (us : List ℤ) (r : R
 abbrev pub AnswerStays : Type 0
 AnswerStays = (q : Query) (qs : List ℤ) (u : Update) (us : List ℤ) (rows : List Row) → length qs ≡ q .parameters → All (SetsWithin (u .change)) rows
     → q .table ≡ u .table → matches q u us qs ≡ false → answer q qs (changed (u .change) us rows) ≡ answer q qs rows
+
+-- ---- all of these
+
+pub record Demands : Type 0 where
+  pub lowest-number : LowestNumber
+  pub refused-changes-nothing : RefusedChangesNothing
+  pub reads-exactly : ReadsExactly
+  pub one-sentence : OneSentence
+  pub accepted-exactly-if : AcceptedExactlyIf
+  pub accepted-is-added : AcceptedIsAdded
+  pub record-reads-back : RecordReadsBack
+  pub answer-reads-back : AnswerReadsBack
+  pub patterns-weaken : PatternsWeaken
+  pub answer-stays : AnswerStays

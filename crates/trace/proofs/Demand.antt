@@ -1,4 +1,5 @@
--- The claims of specs/Demand, for every opening and every list of calls, from the laws of the plain store (TableLaws, a parameter). Assumes nothing.
+-- The claims of specs/Demand, for every opening and every list of calls: first from any laws of the plain store (TableLaws, a parameter), then, with the
+-- laws that it keeps, outright. Assumes nothing.
 use mathlib.Core.Path.{_≡_, refl, sym, ap, ap₂, _∙_, subst}
 use mathlib.Core.Logic.{_≢_, _⊎_, inl, inr}
 use mathlib.Core.Bool.{Bool, true, false, not}
@@ -13,6 +14,7 @@ use borrow.Author.Tests.{ltb-false}
 use Rattle.lists.specs.Lists.{All, nil, keep, count}
 use Rattle.lists.proofs.Bools.{or-right}
 use Rattle.lists.proofs.Lists.{All-map, All-both, All-image, All-source, distinct-source, keep-map}
+use Rattle.meaning.proofs.Within32.{answer-reads-back}
 use Rattle.meaning.specs.Key.{Key, sameKey}
 use Rattle.meaning.specs.Limits.{most-cells, most-memory, most-slots, least-slot-bytes, most-slot-bytes}
 use Rattle.meaning.specs.Plain as P
@@ -21,8 +23,9 @@ use Rattle.trace.specs.History.{Event, note, historyOn, history, Ground}
 use Rattle.trace.specs.Recent.{Entry, recent}
 use Rattle.trace.specs.Slots.{Held, slotBytes, find}
 use Rattle.trace.specs.Model.{Seen, turned, Model, askRefusal, shortRefusal, asked, step, after, outs, slotsOpened, sizeOpened, memoryOpened, slotCount, slotSize, opened}
-use Rattle.trace.specs.Demand.{Start, afterCalls, nextCall, plainAfter, keysHeld, SameAsPlain, AnewOnlyIf, KeptOtherwise, DropsExactlyMatched, Tidy, TidyAfter}
+use Rattle.trace.specs.Demand.{Start, afterCalls, nextCall, plainAfter, keysHeld, SameAsPlain, AnewOnlyIf, KeptOtherwise, DropsExactlyMatched, KeptReadsBack, Tidy, TidyAfter, Demands}
 use Rattle.trace.proofs.Laws.{TableLaws}
+use Rattle.trace.proofs.Tables.{plain-laws}
 use Rattle.trace.proofs.Past.{Past, start, past-step, Current, current, apart}
 use Rattle.trace.proofs.Order.{names-from}
 use Rattle.trace.proofs.Kept.{entry, Found, find-is, Sound}
@@ -204,3 +207,23 @@ module _ (𝓛 : TableLaws) where
   -- the kept answers after every list
   pub tidy-after : TidyAfter
   tidy-after s cs = tidy-at 𝓛 (s .opening .lent) (slotCount (s .opening)) (slotSize (s .opening)) (agree-calls s cs)
+
+  -- the next call gets what it gets from the plain store
+  pub next-same : (s : Start) (cs : List Call) (c : Call) → nextCall s cs c .out ≡ P.step (s .opening .lent) (plainAfter s cs) c .1
+  next-same s cs c = agrees 𝓛 (s .opening .lent) (slotCount (s .opening)) (slotSize (s .opening)) (agree-calls s cs) c .got
+
+  -- so its record reads back
+  pub kept-reads-back : KeptReadsBack
+  kept-reads-back s cs v k buffer r e later = answer-reads-back (s .opening) cs v k buffer r (sym (next-same s cs (ask k buffer)) ∙ e) later
+
+-- ---- outright
+
+pub demands : Demands
+demands = record {
+  same-as-plain = same-as-plain plain-laws;
+  anew-only-if = anew-only-if plain-laws;
+  kept-otherwise = kept-otherwise plain-laws;
+  drops-exactly-matched = drops-exactly-matched plain-laws;
+  kept-reads-back = kept-reads-back plain-laws;
+  tidy-after = tidy-after plain-laws;
+}

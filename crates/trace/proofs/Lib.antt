@@ -1,4 +1,5 @@
 pub mod Laws
+pub mod Tables
 pub mod Order
 pub mod Past
 pub mod Anew

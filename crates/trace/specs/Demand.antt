@@ -1,14 +1,15 @@
 -- The demands as claims, as far as the model of kept answers can say them. Assumes nothing: these are definitions.
 use mathlib.Core.Path.{_≡_}
 use mathlib.Core.Bool.{Bool, true, false, not}
-use mathlib.Core.List.{List, map}
+use mathlib.Core.List.{List, _++_, map}
 use Prim.Native.Nat.{ℕ, _≤_}
 use lib.IntN.{ℤ}
 use lib.ListN.{length}
 use Rattle.lists.specs.Lists.{All, DistinctBy, keep, count, any}
 use Rattle.meaning.specs.Key.{Key, sameKey}
+use Rattle.meaning.specs.Demand.{ReadsBack, Call32, rowsListed}
 use Rattle.meaning.specs.Plain as P
-use Rattle.meaning.specs.Plain.{Lengths, Plain, Opening, Call, ask, change, refusal, recordOf, matchesKey, answered}
+use Rattle.meaning.specs.Plain.{Lengths, Plain, queryAt, Opening, Call, ask, change, refusal, recordOf, matchesKey, answered}
 use Rattle.trace.specs.History.{Event, history, fits, Answered, hits, since, Filled, Ground}
 use Rattle.trace.specs.Slots.{Names, Held, Cache, order, slotBytes}
 use Rattle.trace.specs.Model.{Seen, Model, askRefusal, step, after, outs, slotCount, slotSize, opened}
@@ -77,3 +78,19 @@ pub record Tidy (n size : ℕ) (lent : Lengths) (p : Plain) (c : Cache Key) : Ty
 abbrev pub TidyAfter : Type 0
 TidyAfter = (s : Start) (cs : List Call)
     → Tidy (slotCount (s .opening)) (slotSize (s .opening)) (s .opening .lent) (plainAfter s cs) (afterCalls s cs .cache)
+
+-- Demand 2, "under 3's premises a kept one": in every such list an answer, kept or new, leaves a record that reads back as the rows that Meaning lists on
+-- the plain store at that call, whatever stands behind it.
+abbrev pub KeptReadsBack : Type 0
+KeptReadsBack = (s : Start) (cs : List Call) → All Call32 cs → (k : Key) (buffer : ℕ) (r : List ℕ) → nextCall s cs (ask k buffer) .out ≡ answered r
+    → (later : List ℕ) → ReadsBack (r ++ later) (length (queryAt (plainAfter s cs) (k .query) .selected)) (rowsListed (plainAfter s cs) k)
+
+-- ---- all of these
+
+pub record Demands : Type 0 where
+  pub same-as-plain : SameAsPlain
+  pub anew-only-if : AnewOnlyIf
+  pub kept-otherwise : KeptOtherwise
+  pub drops-exactly-matched : DropsExactlyMatched
+  pub kept-reads-back : KeptReadsBack
+  pub tidy-after : TidyAfter

@@ -1,0 +1,20 @@
+-- The claims of specs/Demand, all proved. Assumes nothing.
+use Rattle.meaning.specs.Demand.{Demands}
+use Rattle.meaning.proofs.Accepted.{lowest-number, refused-changes-nothing, reads-exactly, one-sentence, accepted-exactly-if, accepted-is-added}
+use Rattle.meaning.proofs.Record.{record-reads-back}
+use Rattle.meaning.proofs.Within32.{answer-reads-back}
+use Rattle.meaning.proofs.Weakening.{patterns-weaken, answer-stays}
+
+pub demands : Demands
+demands = record {
+  lowest-number = lowest-number;
+  refused-changes-nothing = refused-changes-nothing;
+  reads-exactly = reads-exactly;
+  one-sentence = one-sentence;
+  accepted-exactly-if = accepted-exactly-if;
+  accepted-is-added = accepted-is-added;
+  record-reads-back = record-reads-back;
+  answer-reads-back = answer-reads-back;
+  patterns-weaken = patterns-weaken;
+  answer-stays = answer-stays;
+}
