@@ -60,9 +60,6 @@ pub or-right : (a b : Bool) → (a || b) ≡ false → b ≡ false
 or-right true b h = absurd (true≢false h)
 or-right false b h = h
 
-pub or-neither : (a b : Bool) → a ≡ false → b ≡ false → (a || b) ≡ false
-or-neither a b h k = ap (λ (x : Bool). x || b) h ∙ k
-
 pub not-false : (b : Bool) → not b ≡ false → b ≡ true
 not-false true h = refl
 not-false false h = absurd (true≢false h)

@@ -1,14 +1,14 @@
 -- Laws of the list functions of specs/Lists. Assumes nothing.
 use mathlib.Core.Path.{_≡_, refl, sym, ap, ap₂, _∙_}
 use mathlib.Core.Logic.{_≢_, _⊎_, inl, inr}
-use mathlib.Core.Bool.{Bool, true, false, not, _&&_, _||_, and-false, or-true}
+use mathlib.Core.Bool.{Bool, true, false, _&&_, _||_, and-false, or-true}
 use mathlib.Core.Option.{Option, none, some}
 use mathlib.Core.List.{List, [], _∷_, _++_, map}
-use Prim.Native.Nat.{ℕ, zero, suc, _*_, _≤_, _<_, zero-le, suc-le-suc}
-use native.Mathlib.Nat.{zero-mul, le-of-suc-le-suc, not-suc-le-zero}
+use Prim.Native.Nat.{ℕ, zero, suc, _*_, _≤_, zero-le, suc-le-suc}
+use native.Mathlib.Nat.{zero-mul}
 use native.Mathlib.Omega.{arith}
 use lib.ListN.{length, getD, take, length-append, length-map}
-use Rattle.lists.specs.Lists.{any, all, All, nil, cons, DistinctBy, Distinct, consIf, keep, pairs, behind, unsnoc, from}
+use Rattle.lists.specs.Lists.{any, all, All, nil, cons, DistinctBy, Distinct, consIf, keep, pairs, behind, unsnoc}
 use Rattle.lists.proofs.Bools.{and-or, or-and, and-assoc, or-assoc, and-left, and-right, or-left, or-right}
 
 module _ {A : Type 0} where

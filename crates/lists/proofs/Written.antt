@@ -1,13 +1,13 @@
 -- A list with others written into it: what was written is there, and the other places are as they were. Assumes nothing.
 use mathlib.Core.Path.{_≡_, refl, sym, ap, ap₂, _∙_}
 use mathlib.Core.Logic.{_≢_}
-use mathlib.Core.List.{List, [], _∷_, _++_, append-assoc, append-nil}
+use mathlib.Core.List.{List, [], _++_, append-assoc, append-nil}
 use Prim.Native.Nat.{ℕ, suc, _+_, _-_, _*_, _≤_, _<_}
 use native.Mathlib.Nat.{mul-le-mul-right}
 use native.Mathlib.Decide.{decLt}
 use native.Mathlib.Omega.{arith}
 use lib.ListN.{length, take, drop, length-append, length-drop, take-append-drop}
-use lib.Seq.{drop-drop, take-at, drop-at, take-take, take-append-le, drop-append-le, length-take-le}
+use lib.Seq.{drop-drop, take-at, drop-at, take-append-le, drop-append-le, length-take-le}
 use Rattle.lists.specs.Lists.{written}
 
 module _ {A : Type 0} where

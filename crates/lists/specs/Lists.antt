@@ -70,11 +70,6 @@ module _ {A : Type 0} where
   distinct same [] = []
   distinct same (x ∷ xs) = x ∷ keep (λ y. not (same x y)) (distinct same xs)
 
-  -- g 0, g 1, .. g (n - 1)
-  abbrev pub tabulate : (ℕ → A) → ℕ → List A
-  tabulate g zero = []
-  tabulate g (suc n) = g zero ∷ tabulate (λ k. g (suc k)) n
-
   -- each list of the first with each of the second, the first outer
   abbrev pub pairs : List (List A) → List (List A) → List (List A)
   pairs [] ds = []

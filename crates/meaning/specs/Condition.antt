@@ -2,7 +2,7 @@
 -- OR and NOT." Their truth ("Meaning"), their clauses (rule 4) and how many these are (rule 5). Assumes nothing: these are definitions.
 use mathlib.Core.Bool.{Bool, true, false, not, _&&_, _||_}
 use mathlib.Core.List.{List, [], _∷_, _++_}
-use Prim.Native.Nat.{ℕ, suc, _+_, _*_, max}
+use Prim.Native.Nat.{ℕ, _+_, _*_, max}
 use lib.IntN.{ℤ}
 use Rattle.lists.specs.Lists.{pairs, all}
 use Rattle.meaning.specs.Operator.{Operator, truth, opposite}

@@ -15,7 +15,7 @@ use Rattle.meaning.specs.Names.{unknown, taken, miscounted}
 use Rattle.meaning.specs.Statement.{statementOf}
 use Rattle.meaning.specs.Meaning.{Row, answer, changed, rowsChanged}
 use Rattle.meaning.specs.Pattern.{Pattern, number, mark, anything, jointClauses, jointCount, class, contradictory, entry, patterns, matches}
-use Rattle.meaning.specs.Plain.{Lengths, Plain, tableAt, queryAt, updateAt, Opening, openingRefused, opened, Call, add, change, otherLengths, noPlace, full, refusal, Out, refused, added, answered, rows, flushed, addedText, changedBy, rowsBy, step, after, outs}
+use Rattle.meaning.specs.Plain.{Lengths, Plain, tableAt, queryAt, updateAt, openingRefused, opened, Call, add, change, otherLengths, noPlace, full, refusal, Out, refused, added, answered, rows, flushed, addedText, changedBy, rowsBy, step, after, outs}
 
 -- what the computations open
 computing : Unit {0}

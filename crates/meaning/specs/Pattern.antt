@@ -2,7 +2,6 @@
 -- Assumes nothing: these are definitions.
 use mathlib.Core.Bool.{Bool, true, false, not, _&&_, _||_, cond}
 use mathlib.Core.List.{List, [], _∷_, _++_, map}
-use mathlib.Core.Option.{Option, none, some}
 use Prim.Native.Nat.{ℕ, _*_, min}
 use lib.IntN.{ℤ, pos}
 use lib.ListN.{getD, replicate}
@@ -13,7 +12,7 @@ use Rattle.meaning.specs.Operator.{Operator, eq, ne, lt, le, gt, ge, tru
 use Rattle.meaning.specs.Condition.{Comparison, sides, Where, operandsIn, clausesOf, countOf, replacedIn}
 use Rattle.meaning.specs.Statement as S
 use Rattle.meaning.specs.Statement.{Value, parameter, Operand, value, Query, Change, insert, delete, update, Update}
-use Rattle.meaning.specs.Meaning.{Row, cell, valueAt, meetsWhere, takes, selected, newRow, assigned}
+use Rattle.meaning.specs.Meaning.{Row, valueAt, meetsWhere, takes, selected, newRow, assigned}
 
 -- ---- "Source document 000 gives the condition: an update matters when a row enters, leaves or changes what is selected."
 

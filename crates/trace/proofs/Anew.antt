@@ -9,7 +9,7 @@ use Prim.Native.Nat.{ℕ, _≤_}
 use native.Mathlib.Omega.{arith}
 use lib.ListN.{length, take, length-map}
 use lib.Seq.{length-take-le}
-use Rattle.lists.specs.Lists.{All, nil, cons, DistinctBy, Distinct, keep, any}
+use Rattle.lists.specs.Lists.{All, nil, cons, DistinctBy, keep, any}
 use Rattle.lists.proofs.Lists.{All-head, All-right, All-map, All-take, All-keep, All-image, keep-append, keep-yes, distinct-left, distinct-take, distinct-keep, distinct-image, take-mid}
 use Rattle.meaning.specs.Key.{Key, sameKey}
 use Rattle.meaning.specs.Plain.{Lengths, Plain, recordOf}

@@ -1,6 +1,6 @@
 -- The demands as claims, as far as the model of kept answers can say them. Assumes nothing: these are definitions.
 use mathlib.Core.Path.{_≡_}
-use mathlib.Core.Bool.{Bool, true, false, not}
+use mathlib.Core.Bool.{true, false, not}
 use mathlib.Core.List.{List, _++_, map}
 use Prim.Native.Nat.{ℕ, _≤_}
 use lib.IntN.{ℤ}
