@@ -1,6 +1,7 @@
 pub mod Operator
 pub mod Tokens
 pub mod Condition
+pub mod Postfix
 pub mod Grammar
 pub mod Limits
 pub mod Names
