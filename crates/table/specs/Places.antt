@@ -1,0 +1,61 @@
+-- What stands at a place of a text: the code notes where the tokens of a sentence start, and these definitions say what it has noted.
+-- Assumes nothing: these are definitions.
+use mathlib.Core.Bool.{Bool, true, false, cond}
+use mathlib.Core.Option.{Option, none, some}
+use mathlib.Core.List.{List, [], _∷_}
+use Prim.Native.Nat.{ℕ, zero, suc}
+use lib.Dec.{ltb, eqb}
+use lib.IntN.{ℤ, pos}
+use lib.ListN.{drop, getD}
+use Rattle.meaning.specs.Operator.{Operator, eq, ne, lt, le, gt, ge}
+use Rattle.meaning.specs.Condition.{Comparison}
+use Rattle.meaning.specs.Postfix.{Node, leaf, allOf, anyOf}
+use Rattle.meaning.specs.Tokens as T
+use Rattle.meaning.specs.Tokens.{Name, Token, other, firstToken}
+use Rattle.meaning.specs.Grammar.{Given, constant, mark, Term, column, given, nameOf, constantOf}
+
+-- the token that starts at a place, or `other`
+abbrev pub first : Option (Token × List ℕ) → Token
+first none = other
+first (some x) = x .0
+
+unfoldable pub tokenOn : List ℕ → ℕ → Token
+tokenOn s p = first (firstToken (drop p s))
+
+-- a name, or none; a constant, or a question mark
+abbrev pub orEmpty : Option Name → Name
+orEmpty none = []
+orEmpty (some n) = n
+
+abbrev pub orMark : Option ℤ → Given
+orMark none = mark
+orMark (some z) = constant z
+
+abbrev pub nameOn : List ℕ → ℕ → Name
+nameOn s p = orEmpty (nameOf (tokenOn s p))
+
+abbrev pub givenOn : List ℕ → ℕ → Given
+givenOn s p = orMark (constantOf (tokenOn s p))
+
+abbrev pub orGiven : Given → Option Name → Term
+orGiven v none = given v
+orGiven v (some n) = column n
+
+abbrev pub termOn : List ℕ → ℕ → Term
+termOn s p = orGiven (givenOn s p) (nameOf (tokenOn s p))
+
+-- the six operators by their numbers
+abbrev pub operators : List Operator
+operators = eq ∷ ne ∷ lt ∷ le ∷ gt ∷ ge ∷ []
+
+abbrev pub operatorAt : ℕ → Operator
+operatorAt k = getD operators k eq
+
+-- a node by its number and the places of its sides: 0 to 5 a comparison, 6 AND, 7 OR
+abbrev pub nodeOn : List ℕ → ℕ → ℕ → ℕ → Node Term
+nodeOn s k a b = cond (ltb k 6) (leaf (record { left = termOn s a; op = operatorAt k; right = termOn s b })) (cond (eqb k 6) allOf anyOf)
+
+-- the first n nodes that are noted, three numbers a node
+abbrev pub nodesOn : List ℕ → ℕ → List ℕ → List (Node Term)
+nodesOn s zero xs = []
+nodesOn s (suc n) xs = nodeOn s (getD xs 0 0) (getD xs 1 0) (getD xs 2 0) ∷ nodesOn s n (drop 3 xs)
