@@ -15,3 +15,4 @@ pub mod Classes
 pub mod Weakening
 pub mod Demand
 pub mod Postfix
+pub mod Resolve
