@@ -4,7 +4,7 @@ use mathlib.Core.Path.{_≡_, refl, sym, ap, ap₂, _∙_, subst}
 use mathlib.Core.Logic.{_↔_}
 use mathlib.Core.Bool.{Bool, true, false, not, _&&_, _||_, cond, false≢true}
 use mathlib.Core.List.{List, [], _∷_, _++_, append-assoc, append-nil}
-use Prim.Native.Nat.{ℕ, zero, suc, _+_, _*_, _≤_, _<_, max}
+use Prim.Native.Nat.{ℕ, suc, _+_, _*_, _≤_, _<_, max}
 use native.Mathlib.Omega.{arith}
 use lib.IntN.{ℤ}
 use lib.ListN.{length, length-append}
@@ -69,7 +69,7 @@ module _ {O A : Type 0} (one : Comparison O → A) (all any : A → A → A) whe
 
     -- and alone they leave nothing else there
     pub top-nodes : {l : Level} (p : Bool) (c : Condition O l) (d : A) → top d (runOn one all any (nodes p c) []) ≡ value l p c
-    top-nodes {l} p c d = ap (λ ns. top d (run ns [])) (sym (append-nil (nodes p c))) ∙ ap (top d) (run-nodes p c [] [])
+    top-nodes p c d = ap (λ ns. top d (run ns [])) (sym (append-nil (nodes p c))) ∙ ap (top d) (run-nodes p c [] [])
 
 -- ---- truth
 

@@ -1,8 +1,8 @@
 -- Names resolved and question marks numbered in a condition in postfix order: it is what the condition itself gives; joins, constants and the number of
 -- question marks stay; the tests of the outcome hold of it; and what passes the tests comes from a condition that names the table's columns. Assumes nothing.
 use mathlib.Core.Path.{_≡_, refl, sym, ap, ap₂, _∙_, subst}
-use mathlib.Core.Bool.{Bool, true, false, not, _&&_, _||_, cond, or-true}
-use mathlib.Core.List.{List, [], _∷_, _++_, append-nil}
+use mathlib.Core.Bool.{Bool, true, false, not, _||_, cond, or-true}
+use mathlib.Core.List.{List, [], _∷_, _++_}
 use Prim.Native.Nat.{ℕ, zero, suc, _+_, _≤_, _<_}
 use native.Mathlib.Nat.{le-of-suc-le-suc, not-suc-le-zero, add-zero}
 use native.Mathlib.Omega.{arith}
@@ -15,17 +15,17 @@ use Rattle.lists.specs.Tests.{eqList-refl}
 use Rattle.lists.proofs.Bools.{T→true, and-left, and-right, and-both, or-left, or-right, not-false, contra}
 use Rattle.lists.proofs.Lists.{any-false}
 use Rattle.lists.proofs.Places.{All-at}
-use Rattle.meaning.specs.Condition.{Comparison, Level, disjunction, Condition, compare, negate, group, alone, both, single, either, Where, always, under, comparisons, sides, comparisonsIn, operandsIn, depthIn, renamed}
+use Rattle.meaning.specs.Condition.{Comparison, Level, Condition, compare, negate, group, alone, both, single, either, Where, always, under, comparisons, sides, comparisonsIn, operandsIn, depthIn, renamed}
 use Rattle.meaning.specs.Postfix.{Node, leaf, allOf, anyOf, signed, joinAll, joinAny, nodes, nodesIn, leaves, balancedOn, isPostfix}
 use Rattle.meaning.specs.Tokens.{Name}
 use Rattle.meaning.specs.Grammar as G
-use Rattle.meaning.specs.Grammar.{Given, mark, Term, given}
-use Rattle.meaning.specs.Limits.{termGivens, termColumns, markIn, markCount, isWithin32, outside32}
+use Rattle.meaning.specs.Grammar.{mark, Term, given}
+use Rattle.meaning.specs.Limits.{termGivens, termColumns, markCount, isWithin32, outside32}
 use Rattle.meaning.specs.Names.{sameName, has, position}
 use Rattle.meaning.specs.Statement.{Operand, column, value, constant, parameter, markInTerm, operandOf, comparisonOf, resolved, resolvedWhere}
 use Rattle.meaning.specs.Resolve.{marksPast, marksAfter, resolveNodes, termConstants, operandConstants, markInOperand, parameterCount, isNumbered, numberedOn, numberedFrom, isBelow, columnsBelow}
 use Rattle.meaning.proofs.Names.{same-is, has-position}
-use Rattle.meaning.proofs.Postfix.{sides-nodes, sides-in, leaves-in, where-postfix}
+use Rattle.meaning.proofs.Postfix.{sides-nodes, sides-in, leaves-in, postfix-where, where-postfix}
 
 -- ---- the marks passed
 
@@ -224,3 +224,147 @@ outside-constants [] = refl
 outside-constants (G.column n ∷ ts) = outside-constants ts
 outside-constants (given (G.constant z) ∷ ts) = ap (λ b. not (isWithin32 z) || b) (outside-constants ts)
 outside-constants (given mark ∷ ts) = outside-constants ts
+
+-- ---- names of a list of different names
+
+pub same-name : (n : Name) → sameName n n ≡ true
+same-name n = T→true (sameName n n) (eqList-refl eqb eqb-refl n)
+
+pub same-swap : (m n : Name) → sameName m n ≡ false → sameName n m ≡ false
+same-swap m n h = contra (sameName n m) (sameName m n) (λ e. ap (sameName m) (same-is n m e) ∙ same-name m) h
+
+-- the name at a place inside the list is there
+pub has-at : (ns : List Name) (i : ℕ) (d : Name) → i < length ns → has ns (getD ns i d) ≡ true
+has-at [] i d h = absurd (not-suc-le-zero h)
+has-at (n ∷ ns) zero d h = ap (λ b. b || has ns n) (same-name n)
+has-at (n ∷ ns) (suc i) d h =
+    ap (λ b. sameName (getD ns i d) n || b) (has-at ns i d (le-of-suc-le-suc h)) ∙ or-true (sameName (getD ns i d) n)
+
+-- and where the names are different, that is its place
+pub position-at : (ns : List Name) (i : ℕ) (d : Name) → repeats sameName ns ≡ false → i < length ns → position ns (getD ns i d) ≡ i
+position-at [] i d r h = absurd (not-suc-le-zero h)
+position-at (n ∷ ns) zero d r h = ap (λ b. cond b 0 (suc (position ns n))) (same-name n)
+position-at (n ∷ ns) (suc i) d r h =
+    let k : i < length ns = le-of-suc-le-suc h in
+    let others : All (λ m. sameName n m ≡ false) ns = any-false (sameName n) ns (or-left (any (sameName n) ns) (repeats sameName ns) r) in
+    ap (λ b. cond b 0 (suc (position ns (getD ns i d)))) (same-swap n (getD ns i d) (All-at i d k others))
+    ∙ ap suc (position-at ns i d (or-right (any (sameName n) ns) (repeats sameName ns) r) k)
+
+-- ---- back: nodes that pass the tests come from names
+
+same-comparison : {O : Type 0} (a b : O) (c : Comparison O) → a ≡ c .left → b ≡ c .right
+    → _≡_ {A = Comparison O} (record { left = a; op = c .op; right = b }) c
+same-comparison a b c e f = λ i. record { left = e i; op = c .op; right = f i }
+
+module _ (columns : List Name) where
+  -- a term of which the operand comes
+  abbrev pub termAt : Operand → Term
+  termAt (column i) = G.column (getD columns i [])
+  termAt (value (constant z)) = given (G.constant z)
+  termAt (value (parameter k)) = given mark
+
+  abbrev pub unresolved : List (Node Operand) → List (Node Term)
+  unresolved [] = []
+  unresolved (leaf c ∷ ns) = leaf (renamed termAt c) ∷ unresolved ns
+  unresolved (allOf ∷ ns) = allOf ∷ unresolved ns
+  unresolved (anyOf ∷ ns) = anyOf ∷ unresolved ns
+
+  mark-at : (o : Operand) → markInTerm (termAt o) ≡ markInOperand o
+  mark-at (column i) = refl
+  mark-at (value (constant z)) = refl
+  mark-at (value (parameter k)) = refl
+
+  term-known : (o : Operand) (ts : List Term) → isBelow (length columns) o ≡ true → any (strange columns) (termColumns ts) ≡ false
+      → any (strange columns) (termColumns (termAt o ∷ ts)) ≡ false
+  term-known (column i) ts h k =
+      ap (λ b. not b || any (strange columns) (termColumns ts)) (has-at columns i [] (ltb-true i (length columns) h)) ∙ k
+  term-known (value (constant z)) ts h k = k
+  term-known (value (parameter j)) ts h k = k
+
+  -- they name columns that there are
+  pub unresolved-known : (ns : List (Node Operand)) → columnsBelow (length columns) ns ≡ true
+      → any (λ (n : Name). not (has columns n)) (termColumns (sides (leaves (unresolved ns)))) ≡ false
+  unresolved-known [] h = refl
+  unresolved-known (leaf c ∷ ns) h =
+      let os : List Operand = sides (leaves ns) in
+      let ts : List Term = sides (leaves (unresolved ns)) in
+      let r : all (isBelow (length columns)) (c .right ∷ os) ≡ true = and-right (isBelow (length columns) (c .left)) _ h in
+      term-known (c .left) (termAt (c .right) ∷ ts) (and-left (isBelow (length columns) (c .left)) _ h)
+      (term-known (c .right) ts (and-left (isBelow (length columns) (c .right)) _ r)
+      (unresolved-known ns (and-right (isBelow (length columns) (c .right)) _ r)))
+  unresolved-known (allOf ∷ ns) h = unresolved-known ns h
+  unresolved-known (anyOf ∷ ns) h = unresolved-known ns h
+
+  -- a WHERE of which the nodes ns come, and what is in it
+  pub record Source (m : ℕ) (ns : List (Node Operand)) : Type 0 where
+    pub source : Where Term
+    pub resolves : nodesIn (resolvedWhere columns m source) ≡ ns
+    pub known : any (λ (n : Name). not (has columns n)) (termColumns (operandsIn source)) ≡ false
+    pub constants : termConstants (operandsIn source) ≡ operandConstants (sides (leaves ns))
+    pub marks : markCount (termGivens (operandsIn source)) ≡ parameterCount (sides (leaves ns))
+    pub size : length (comparisonsIn source) ≡ length (leaves ns)
+    pub shallow : length (leaves ns) ≤ 8 → depthIn source ≤ 8
+
+  module _ (different : repeats sameName columns ≡ false) where
+    operand-back : (m : ℕ) (o : Operand) → isBelow (length columns) o ≡ true → isNumbered m o ≡ true → operandOf columns m (termAt o) ≡ o
+    operand-back m (column i) h k = ap column (position-at columns i [] different (ltb-true i (length columns) h))
+    operand-back m (value (constant z)) h k = refl
+    operand-back m (value (parameter j)) h k = ap (λ i. value (parameter i)) (sym (eqb-true j (suc m) k))
+
+    -- and resolve to the nodes that were given
+    pub resolve-unresolved : (m : ℕ) (ns : List (Node Operand)) → columnsBelow (length columns) ns ≡ true → numberedFrom m ns ≡ true
+        → resolveNodes columns m (unresolved ns) ≡ ns
+    resolve-unresolved m [] h k = refl
+    resolve-unresolved m (leaf c ∷ ns) h k =
+        let l : Operand = c .left in
+        let r : Operand = c .right in
+        let n : ℕ = m + markInOperand l in
+        let h₁ : all (isBelow (length columns)) (r ∷ sides (leaves ns)) ≡ true = and-right (isBelow (length columns) l) _ h in
+        let k₁ : numberedOn n (r ∷ sides (leaves ns)) ≡ true = and-right (isNumbered m l) _ k in
+        let e : operandOf columns m (termAt l) ≡ l = operand-back m l (and-left (isBelow (length columns) l) _ h) (and-left (isNumbered m l) _ k) in
+        let f : operandOf columns (m + markInTerm (termAt l)) (termAt r) ≡ r =
+        ap (λ i. operandOf columns (m + i) (termAt r)) (mark-at l)
+        ∙ operand-back n r (and-left (isBelow (length columns) r) _ h₁) (and-left (isNumbered n r) _ k₁) in
+        ap₂ (λ d rest. leaf d ∷ rest) (same-comparison (operandOf columns m (termAt l)) (operandOf columns (m + markInTerm (termAt l)) (termAt r)) c e f)
+        (ap₂ (λ i j. resolveNodes columns (m + i + j) (unresolved ns)) (mark-at l) (mark-at r)
+        ∙ resolve-unresolved (n + markInOperand r) ns (and-right (isBelow (length columns) r) _ h₁) (and-right (isNumbered n r) _ k₁))
+    resolve-unresolved m (allOf ∷ ns) h k = ap (λ r. allOf ∷ r) (resolve-unresolved m ns h k)
+    resolve-unresolved m (anyOf ∷ ns) h k = ap (λ r. anyOf ∷ r) (resolve-unresolved m ns h k)
+
+    -- nodes that pass the tests come from nodes that name columns that there are; joins, constants and the number of question marks are the same by the laws above
+    pub unresolve : (m : ℕ) (ns : List (Node Operand)) → columnsBelow (length columns) ns ≡ true → numberedFrom m ns ≡ true
+        → (ts : List (Node Term)) × (resolveNodes columns m ts ≡ ns) × (any (λ (n : Name). not (has columns n)) (termColumns (sides (leaves ts))) ≡ false)
+    unresolve m ns h k = (unresolved ns, resolve-unresolved m ns h k, unresolved-known ns h)
+
+    -- nodes that pass the three tests come from a WHERE
+    pub where-source : (m : ℕ) (ns : List (Node Operand)) → isPostfix ns ≡ true → columnsBelow (length columns) ns ≡ true → numberedFrom m ns ≡ true
+        → Source m ns
+    where-source m ns p h k =
+        let ts : List (Node Term) = unresolved ns in
+        let back : resolveNodes columns m ts ≡ ns = resolve-unresolved m ns h k in
+        let q : isPostfix ts ≡ true = sym (resolve-postfix columns m ts) ∙ ap isPostfix back ∙ p in
+        let b : (w : Where Term) × (nodesIn w ≡ ts) × (length (leaves ts) ≤ 8 → depthIn w ≤ 8) = where-postfix ts q in
+        let w : Where Term = b .0 in
+        let inside : sides (leaves ts) ≡ operandsIn w = ap (λ us. sides (leaves us)) (sym (b .1)) ∙ sides-in w in
+        let many : length (leaves ts) ≡ length (leaves ns) = sym (resolve-leaves columns m ts) ∙ ap (λ us. length (leaves us)) back in
+        record {
+          source = w;
+          resolves = resolve-where columns m w ∙ ap (resolveNodes columns m) (b .1) ∙ back;
+          known = ap (λ os. any (λ (n : Name). not (has columns n)) (termColumns os)) (sym inside) ∙ unresolved-known ns h;
+          constants = ap termConstants (sym inside) ∙ sym (resolve-constants columns m ts) ∙ ap (λ us. operandConstants (sides (leaves us))) back;
+          marks = ap (λ os. markCount (termGivens os)) (sym inside) ∙ sym (resolve-marks columns m ts) ∙ ap (λ us. parameterCount (sides (leaves us))) back;
+          size = sym (leaves-in w) ∙ ap (λ us. length (leaves us)) (b .1) ∙ many;
+          shallow = λ s. b .2 (subst (λ i. i ≤ 8) (sym many) s);
+        }
+
+-- and those of a WHERE that names columns that there are pass them
+pub where-passes : (columns : List Name) (m : ℕ) (w : Where Term) → any (λ (n : Name). not (has columns n)) (termColumns (operandsIn w)) ≡ false
+    → (isPostfix (nodesIn (resolvedWhere columns m w)) ≡ true)
+    × (columnsBelow (length columns) (nodesIn (resolvedWhere columns m w)) ≡ true)
+    × (numberedFrom m (nodesIn (resolvedWhere columns m w)) ≡ true)
+where-passes columns m w h = (
+  postfix-where (resolvedWhere columns m w),
+  ap (columnsBelow (length columns)) (resolve-where columns m w)
+      ∙ resolve-below columns m (nodesIn w) (ap (λ os. any (λ (n : Name). not (has columns n)) (termColumns os)) (sides-in w) ∙ h),
+  ap (numberedFrom m) (resolve-where columns m w) ∙ resolve-numbered columns m (nodesIn w),
+)
