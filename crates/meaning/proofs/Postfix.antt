@@ -67,7 +67,7 @@ module _ {O A : Type 0} (one : Comparison O → A) (all any : A → A → A) whe
         (λ more s. run-nodes p c more s) (λ more s. run-nodes p d more s)
         (step-any p (value conjunction p c) (value disjunction p d) st ∙ ap (λ a. a ∷ st) (sym (F .at-either p c d)))
 
-    -- and alone they leave nothing else there
+    -- so it is what lies on top after them
     pub top-nodes : {l : Level} (p : Bool) (c : Condition O l) (d : A) → top d (runOn one all any (nodes p c) []) ≡ value l p c
     top-nodes p c d = ap (λ ns. top d (run ns [])) (sym (append-nil (nodes p c))) ∙ ap (top d) (run-nodes p c [] [])
 
