@@ -4,3 +4,5 @@ pub mod Numbers
 pub mod Words
 pub mod Signs
 pub mod Cases
+pub mod TokenKinds
+pub mod Laws
