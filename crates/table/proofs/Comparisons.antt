@@ -23,7 +23,7 @@ use Rattle.table.specs.Places.{termOn, nodeOn, nodesOn, operatorAt}
 use Rattle.table.specs.Reading.{tokenPast, past, isOperand, isComparison, marksAt, oppositeOf, termPast, withSides, withNode, PutsNode, Stands, Found, Meets}
 use Rattle.table.specs.declared.conditions.Cursor.{Cursor}
 use Rattle.table.proofs.Operands.{append-marks, termOf, term-reader, term-none, IsTerm, is-term, operator-back, operator-few, opposite-is, opposite-few, no-operator, is-operator}
-use Rattle.table.proofs.Steps.{Seen, Look, ended, seen, look}
+use Rattle.table.proofs.Steps.{Look, ended, seen, look, stands-there, name-length}
 
 -- ---- an operand
 
@@ -43,25 +43,26 @@ module _ (s : List ℕ) (at : ℕ) (u : Token) (e : u ≡ tokenAt s at) where
     where
       go : Look s at u → aTerm (tokens (drop at s)) ≡ none
       go (ended z q) = ap aTerm q
-      go (seen t v) = ap aTerm (v .after) ∙ term-reader (t ∷ _) ∙ aToken-none termOf t _ (term-none t (ap isOperand (sym (v .kind)) ∙ h))
+      go (seen v) = ap aTerm (v .left) ∙ term-reader (v .token ∷ _) ∙ aToken-none termOf (v .token) _ (term-none (v .token) (ap isOperand (v .kind) ∙ h))
 
   pub side : isOperand (u .kind) ≡ true → (x : Term) × Side s at u x
   side h = go (look s at u e)
     where
       go : Look s at u → (x : Term) × Side s at u x
       go (ended z q) = clash h (ap isOperand z)
-      go (seen t v) =
-          let m = is-term t (u .start) (u .next) (v .named) (ap isOperand (sym (v .kind)) ∙ h) in
+      go (seen v) =
+          let t = v .token in
+          let m = is-term t (u .start) (u .next) (name-length v) (ap isOperand (v .kind) ∙ h) in
           let i = m .1 in
           (m .0,
           record {
-            on = v .on;
-            within = v .within;
-            begun = v .begun;
-            reads = ap aTerm (v .after) ∙ term-reader (t ∷ _) ∙ aToken-some termOf t _ _ (i .term);
-            here = i .here s (u .start) (v .here);
-            over = ap (λ k. tokenPast k (u .start) (u .next)) (v .kind) ∙ i .over;
-            marks = ap marksAt (v .kind) ∙ i .marks;
+            on = omega (arith, v .from, v .moves);
+            within = v .inside;
+            begun = v .moves;
+            reads = ap aTerm (v .left) ∙ term-reader (t ∷ _) ∙ aToken-some termOf t _ _ (i .term);
+            here = i .here s (u .start) (stands-there v);
+            over = ap (λ k. tokenPast k (u .start) (u .next)) (sym (v .kind)) ∙ i .over;
+            marks = ap marksAt (sym (v .kind)) ∙ i .marks;
           })
 
 -- ---- an operator
@@ -79,21 +80,22 @@ module _ (s : List ℕ) (at : ℕ) (u : Token) (e : u ≡ tokenAt s at) where
     where
       go : Look s at u → aToken operatorOf (tokens (drop at s)) ≡ none
       go (ended z q) = ap (aToken operatorOf) q
-      go (seen t v) = ap (aToken operatorOf) (v .after) ∙ aToken-none operatorOf t _ (no-operator t (ap isComparison (sym (v .kind)) ∙ h))
+      go (seen v) = ap (aToken operatorOf) (v .left) ∙ aToken-none operatorOf (v .token) _ (no-operator (v .token) (ap isComparison (v .kind) ∙ h))
 
   pub sign : isComparison (u .kind) ≡ true → (o : Operator) × Sign s at u o
   sign h = go (look s at u e)
     where
       go : Look s at u → (o : Operator) × Sign s at u o
       go (ended z q) = clash h (ap isComparison z)
-      go (seen t v) =
-          let m = is-operator t (ap isComparison (sym (v .kind)) ∙ h) in
+      go (seen v) =
+          let t = v .token in
+          let m = is-operator t (ap isComparison (v .kind) ∙ h) in
           (m .0,
           record {
-            on = v .on;
-            within = v .within;
-            reads = ap (aToken operatorOf) (v .after) ∙ aToken-some operatorOf t _ _ (ap operatorOf (m .1));
-            number = v .kind ∙ ap kindOf (m .1);
+            on = omega (arith, v .from, v .moves);
+            within = v .inside;
+            reads = ap (aToken operatorOf) (v .left) ∙ aToken-some operatorOf t _ _ (ap operatorOf (m .1));
+            number = sym (v .kind) ∙ ap kindOf (m .1);
           })
 
 -- ---- a comparison's node

@@ -1,11 +1,17 @@
--- What `put` leaves: the nodes that were noted, and one more. Assumes nothing.
-use mathlib.Core.Path.{_≡_, refl, sym, ap, subst, _∙_}
+-- What `put` and `put_comparison` leave: the nodes that were noted, and one more. Assumes nothing.
+use mathlib.Core.Path.{_≡_, refl, sym, ap, subst, transport, _∙_}
+use mathlib.Core.Bool.{Bool, true, false, cond, _||_}
 use mathlib.Core.List.{List, [], _∷_, _++_}
 use Prim.Native.Nat.{ℕ, zero, suc, _+_, _*_, _≤_, _<_}
 use native.Mathlib.Numerals.{add-one, add-two}
 use native.Mathlib.Omega.{arith}
+use lib.Dec.{ltb}
 use lib.ListN.{length, set, drop}
+use Rattle.meaning.specs.Limits.{most-depth}
+use Rattle.token.specs.declared.Token.{Token}
 use Rattle.table.specs.Places.{nodeOn, nodesOn}
+use Rattle.table.specs.Reading.{past, marksAt, oppositeOf, withSides, PutsNode}
+use Rattle.table.specs.declared.conditions.Cursor.{Cursor}
 
 -- three times a number, which antt computes
 abbrev threes : ℕ → ℕ
@@ -36,3 +42,18 @@ module _ (s : List ℕ) (a b d : ℕ) where
       (λ i. nodesOn s (add-one n i) (set (set (set xs (3 * n) a) (add-one (3 * n) i) b) (add-two (3 * n) i) d))
       ∙ subst (λ k. nodesOn s (suc n) (put3 xs k a b d) ≡ nodesOn s n xs ++ (nodeOn s a b d ∷ [])) (threes-is n)
       (noted-three n xs (omega (arith, threes-is n)))
+
+-- a comparison's node, from the numbers that the code has for its parts
+module _ (positive : Bool) (depth : ℕ) (a b : Token) (op : ℕ) (c : Cursor) (xs ys : List ℕ) (r : Cursor) where
+  pub put-sides : (p q : Bool) (m n o k : ℕ) → p ≡ past a → q ≡ past b → m ≡ marksAt (a .kind) → n ≡ marksAt (b .kind) → o ≡ oppositeOf op → k ≡ cond positive op o
+      → PutsNode xs (record { ok = true; over = c .over || (ltb most-depth depth || (p || q)); nodes = c .nodes; marks = c .marks + (m + n); at = b .next }) k (a .start) (b .start) ys r
+      → PutsNode xs (withSides depth a b c) (cond positive op (oppositeOf op)) (a .start) (b .start) ys r
+  put-sides p q m n o k ep eq em en eo ek put =
+      let e : k ≡ cond positive op (oppositeOf op) = ek ∙ ap (cond positive op) eo in
+      transport
+      (λ i. PutsNode xs (record { ok = true; over = c .over || (ltb most-depth depth || (ep i || eq i)); nodes = c .nodes; marks = c .marks + (em i + en i); at = b .next }) (e i) (a .start) (b .start) ys r)
+      put
+
+pub few : (b : Bool) → cond b 1 0 ≤ 1
+few true = omega arith
+few false = omega arith

@@ -6,7 +6,7 @@ use token::Token;
 ghost use mathlib.Core.Path.{_≡_};
 ghost use mathlib.Core.Bool.{true, cond};
 ghost use Prim.Native.Nat.{_-_, _≤_, _<_};
-ghost use lib.ListN.{drop};
+ghost use lib.ListN.{length, drop};
 ghost use Rattle.meaning.specs.Condition.{atom, conjunction, disjunction};
 ghost use Rattle.meaning.specs.Grammar.{aComparison};
 ghost use Rattle.meaning.specs.Tokens.{tokens};
@@ -64,6 +64,13 @@ fn opposite(op: u8) -> u8
 
 // ---- nodes
 
+// How many numbers there is room for: three a node, and 15 nodes.
+fn room(places: [u16; 45]) -> usize
+    ensures { λ r. ⌜ (r ≡ 45) × (length places ≡ 45) ⌝ }
+{
+    places.len()
+}
+
 // A node at the end: a comparison (0 to 5) with the places of its sides, AND (6) or OR (7). Past the 15th none is noted, but it is counted.
 fn put(places: &mut [u16; 45], c: Cursor, node: u16, left: u16, right: u16) -> Cursor
     requires { ⌜ c .nodes < 256 ⌝ }
@@ -71,9 +78,8 @@ fn put(places: &mut [u16; 45], c: Cursor, node: u16, left: u16, right: u16) -> C
 {
     let mut d = c;
     d.nodes = c.nodes + 1;
-    let n = c.nodes as usize;
-    if n < Condition::STEPS {
-        let i = 3 * n;
+    let i = 3 * (c.nodes as usize);
+    if i + 2 < room(*places) {
         places[i] = node;
         places[i + 1] = left;
         places[i + 2] = right;

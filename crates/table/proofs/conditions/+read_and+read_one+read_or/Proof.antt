@@ -47,7 +47,7 @@ read-or-at t = and 2 read-or-kinds.ps (is 2 read-or-kinds.ps μ-read-or t) read-
 abbrev read-or-below : ℕ → In 2 read-or-kinds.ps
 read-or-below t = and 2 read-or-kinds.ps (falls 2 read-or-kinds.ps _<_ μ-read-or t) read-or.Pre
 
--- src/conditions.rt:134:9
+-- src/conditions.rt:141:9
 read-and-read-one-requires : (t : ℕ) → read-and-lts.Need-read-one-requires (
   read-one-below t,
   read-one.Post,
@@ -62,7 +62,7 @@ read-and-read-one-requires : (t : ℕ) → read-and-lts.Need-read-one-requires (
 ) (read-and-at t) read-and.Post
 read-and-read-one-requires t c κs = ?
 
--- src/conditions.rt:136:9
+-- src/conditions.rt:143:9
 read-and-returns : (t : ℕ) → read-and-lts.Need-returns (
   read-one-below t,
   read-one.Post,
@@ -77,7 +77,7 @@ read-and-returns : (t : ℕ) → read-and-lts.Need-returns (
 ) (read-and-at t) read-and.Post
 read-and-returns t c = ?
 
--- src/conditions.rt:138:31
+-- src/conditions.rt:145:31
 read-and-cast-next : (t : ℕ) → read-and-lts.Need-cast-next (
   read-one-below t,
   read-one.Post,
@@ -92,7 +92,7 @@ read-and-cast-next : (t : ℕ) → read-and-lts.Need-cast-next (
 ) (read-and-at t) read-and.Post
 read-and-cast-next t c = ?
 
--- src/conditions.rt:138:9
+-- src/conditions.rt:145:9
 read-and-next-requires : (t : ℕ) → read-and-lts.Need-next-requires (
   read-one-below t,
   read-one.Post,
@@ -107,7 +107,7 @@ read-and-next-requires : (t : ℕ) → read-and-lts.Need-next-requires (
 ) (read-and-at t) read-and.Post
 read-and-next-requires t c κs = ?
 
--- src/conditions.rt:140:9
+-- src/conditions.rt:147:9
 read-and-returns-2 : (t : ℕ) → read-and-lts.Need-returns-2 (
   read-one-below t,
   read-one.Post,
@@ -122,7 +122,7 @@ read-and-returns-2 : (t : ℕ) → read-and-lts.Need-returns-2 (
 ) (read-and-at t) read-and.Post
 read-and-returns-2 t c = ?
 
--- src/conditions.rt:142:12
+-- src/conditions.rt:149:12
 read-and-cast-p : (t : ℕ) → read-and-lts.Need-cast-p (
   read-one-below t,
   read-one.Post,
@@ -137,7 +137,7 @@ read-and-cast-p : (t : ℕ) → read-and-lts.Need-cast-p (
 ) (read-and-at t) read-and.Post
 read-and-cast-p t c = ?
 
--- src/conditions.rt:143:5
+-- src/conditions.rt:150:5
 read-and-read-and-requires : (t : ℕ) → read-and-lts.Need-read-and-requires (
   read-one-below t,
   read-one.Post,
@@ -152,7 +152,7 @@ read-and-read-and-requires : (t : ℕ) → read-and-lts.Need-read-and-requires (
 ) (read-and-at t) read-and.Post
 read-and-read-and-requires t c κs = ?
 
--- src/conditions.rt:145:9
+-- src/conditions.rt:152:9
 read-and-returns-3 : (t : ℕ) → read-and-lts.Need-returns-3 (
   read-one-below t,
   read-one.Post,
@@ -167,7 +167,7 @@ read-and-returns-3 : (t : ℕ) → read-and-lts.Need-returns-3 (
 ) (read-and-at t) read-and.Post
 read-and-returns-3 t c = ?
 
--- src/conditions.rt:147:20
+-- src/conditions.rt:154:20
 read-and-either-requires : (t : ℕ) → read-and-lts.Need-either-requires (
   read-one-below t,
   read-one.Post,
@@ -182,7 +182,7 @@ read-and-either-requires : (t : ℕ) → read-and-lts.Need-either-requires (
 ) (read-and-at t) read-and.Post
 read-and-either-requires t c κs = ?
 
--- src/conditions.rt:147:5
+-- src/conditions.rt:154:5
 read-and-put-requires : (t : ℕ) → read-and-lts.Need-put-requires (
   read-one-below t,
   read-one.Post,
@@ -197,7 +197,7 @@ read-and-put-requires : (t : ℕ) → read-and-lts.Need-put-requires (
 ) (read-and-at t) read-and.Post
 read-and-put-requires t c κs = ?
 
--- src/conditions.rt:130:1
+-- src/conditions.rt:137:1
 read-and-returns-4 : (t : ℕ) → read-and-lts.Need-returns-4 (
   read-one-below t,
   read-one.Post,
@@ -212,7 +212,7 @@ read-and-returns-4 : (t : ℕ) → read-and-lts.Need-returns-4 (
 ) (read-and-at t) read-and.Post
 read-and-returns-4 t c = ?
 
--- src/conditions.rt:173:31
+-- src/conditions.rt:180:31
 read-one-cast-next : (t : ℕ) → read-one-lts.Need-cast-next (
   next-reads.Asked,
   next-reads.Learnt,
@@ -227,7 +227,7 @@ read-one-cast-next : (t : ℕ) → read-one-lts.Need-cast-next (
 ) (read-one-at t) read-one.Post
 read-one-cast-next t c = ?
 
--- src/conditions.rt:173:9
+-- src/conditions.rt:180:9
 read-one-next-requires : (t : ℕ) → read-one-lts.Need-next-requires (
   next-reads.Asked,
   next-reads.Learnt,
@@ -242,7 +242,7 @@ read-one-next-requires : (t : ℕ) → read-one-lts.Need-next-requires (
 ) (read-one-at t) read-one.Post
 read-one-next-requires t c κs = ?
 
--- src/conditions.rt:176:19
+-- src/conditions.rt:183:19
 read-one-cast-here : (t : ℕ) → read-one-lts.Need-cast-here (
   next-reads.Asked,
   next-reads.Learnt,
@@ -257,7 +257,7 @@ read-one-cast-here : (t : ℕ) → read-one-lts.Need-cast-here (
 ) (read-one-at t) read-one.Post
 read-one-cast-here t c = ?
 
--- src/conditions.rt:177:56
+-- src/conditions.rt:184:56
 read-one-add-read-one : (t : ℕ) → read-one-lts.Need-add-read-one (
   next-reads.Asked,
   next-reads.Learnt,
@@ -272,7 +272,7 @@ read-one-add-read-one : (t : ℕ) → read-one-lts.Need-add-read-one (
 ) (read-one-at t) read-one.Post
 read-one-add-read-one t c = ?
 
--- src/conditions.rt:177:9
+-- src/conditions.rt:184:9
 read-one-read-one-requires : (t : ℕ) → read-one-lts.Need-read-one-requires (
   next-reads.Asked,
   next-reads.Learnt,
@@ -287,7 +287,7 @@ read-one-read-one-requires : (t : ℕ) → read-one-lts.Need-read-one-requires (
 ) (read-one-at t) read-one.Post
 read-one-read-one-requires t c κs = ?
 
--- src/conditions.rt:177:9
+-- src/conditions.rt:184:9
 read-one-returns : (t : ℕ) → read-one-lts.Need-returns (
   next-reads.Asked,
   next-reads.Learnt,
@@ -302,7 +302,7 @@ read-one-returns : (t : ℕ) → read-one-lts.Need-returns (
 ) (read-one-at t) read-one.Post
 read-one-returns t c = ?
 
--- src/conditions.rt:180:19
+-- src/conditions.rt:187:19
 read-one-cast-here-2 : (t : ℕ) → read-one-lts.Need-cast-here-2 (
   next-reads.Asked,
   next-reads.Learnt,
@@ -317,7 +317,7 @@ read-one-cast-here-2 : (t : ℕ) → read-one-lts.Need-cast-here-2 (
 ) (read-one-at t) read-one.Post
 read-one-cast-here-2 t c = ?
 
--- src/conditions.rt:181:67
+-- src/conditions.rt:188:67
 read-one-add-read-or : (t : ℕ) → read-one-lts.Need-add-read-or (
   next-reads.Asked,
   next-reads.Learnt,
@@ -332,7 +332,7 @@ read-one-add-read-or : (t : ℕ) → read-one-lts.Need-add-read-or (
 ) (read-one-at t) read-one.Post
 read-one-add-read-or t c = ?
 
--- src/conditions.rt:181:29
+-- src/conditions.rt:188:29
 read-one-read-or-requires : (t : ℕ) → read-one-lts.Need-read-or-requires (
   next-reads.Asked,
   next-reads.Learnt,
@@ -347,7 +347,7 @@ read-one-read-or-requires : (t : ℕ) → read-one-lts.Need-read-or-requires (
 ) (read-one-at t) read-one.Post
 read-one-read-or-requires t c κs = ?
 
--- src/conditions.rt:181:9
+-- src/conditions.rt:188:9
 read-one-closed-requires : (t : ℕ) → read-one-lts.Need-closed-requires (
   next-reads.Asked,
   next-reads.Learnt,
@@ -362,7 +362,7 @@ read-one-closed-requires : (t : ℕ) → read-one-lts.Need-closed-requires (
 ) (read-one-at t) read-one.Post
 read-one-closed-requires t c κs = ?
 
--- src/conditions.rt:181:9
+-- src/conditions.rt:188:9
 read-one-returns-2 : (t : ℕ) → read-one-lts.Need-returns-2 (
   next-reads.Asked,
   next-reads.Learnt,
@@ -377,7 +377,7 @@ read-one-returns-2 : (t : ℕ) → read-one-lts.Need-returns-2 (
 ) (read-one-at t) read-one.Post
 read-one-returns-2 t c = ?
 
--- src/conditions.rt:183:5
+-- src/conditions.rt:190:5
 read-one-read-comparison-requires : (t : ℕ) → read-one-lts.Need-read-comparison-requires (
   next-reads.Asked,
   next-reads.Learnt,
@@ -392,7 +392,7 @@ read-one-read-comparison-requires : (t : ℕ) → read-one-lts.Need-read-compari
 ) (read-one-at t) read-one.Post
 read-one-read-comparison-requires t c κs = ?
 
--- src/conditions.rt:169:1
+-- src/conditions.rt:176:1
 read-one-returns-3 : (t : ℕ) → read-one-lts.Need-returns-3 (
   next-reads.Asked,
   next-reads.Learnt,
@@ -407,7 +407,7 @@ read-one-returns-3 : (t : ℕ) → read-one-lts.Need-returns-3 (
 ) (read-one-at t) read-one.Post
 read-one-returns-3 t c = ?
 
--- src/conditions.rt:113:9
+-- src/conditions.rt:120:9
 read-or-read-and-requires : (t : ℕ) → read-or-lts.Need-read-and-requires (
   read-and-below t,
   read-and.Post,
@@ -422,7 +422,7 @@ read-or-read-and-requires : (t : ℕ) → read-or-lts.Need-read-and-requires (
 ) (read-or-at t) read-or.Post
 read-or-read-and-requires t c κs = ?
 
--- src/conditions.rt:115:9
+-- src/conditions.rt:122:9
 read-or-returns : (t : ℕ) → read-or-lts.Need-returns (
   read-and-below t,
   read-and.Post,
@@ -437,7 +437,7 @@ read-or-returns : (t : ℕ) → read-or-lts.Need-returns (
 ) (read-or-at t) read-or.Post
 read-or-returns t c = ?
 
--- src/conditions.rt:117:31
+-- src/conditions.rt:124:31
 read-or-cast-next : (t : ℕ) → read-or-lts.Need-cast-next (
   read-and-below t,
   read-and.Post,
@@ -452,7 +452,7 @@ read-or-cast-next : (t : ℕ) → read-or-lts.Need-cast-next (
 ) (read-or-at t) read-or.Post
 read-or-cast-next t c = ?
 
--- src/conditions.rt:117:9
+-- src/conditions.rt:124:9
 read-or-next-requires : (t : ℕ) → read-or-lts.Need-next-requires (
   read-and-below t,
   read-and.Post,
@@ -467,7 +467,7 @@ read-or-next-requires : (t : ℕ) → read-or-lts.Need-next-requires (
 ) (read-or-at t) read-or.Post
 read-or-next-requires t c κs = ?
 
--- src/conditions.rt:119:9
+-- src/conditions.rt:126:9
 read-or-returns-2 : (t : ℕ) → read-or-lts.Need-returns-2 (
   read-and-below t,
   read-and.Post,
@@ -482,7 +482,7 @@ read-or-returns-2 : (t : ℕ) → read-or-lts.Need-returns-2 (
 ) (read-or-at t) read-or.Post
 read-or-returns-2 t c = ?
 
--- src/conditions.rt:121:12
+-- src/conditions.rt:128:12
 read-or-cast-p : (t : ℕ) → read-or-lts.Need-cast-p (
   read-and-below t,
   read-and.Post,
@@ -497,7 +497,7 @@ read-or-cast-p : (t : ℕ) → read-or-lts.Need-cast-p (
 ) (read-or-at t) read-or.Post
 read-or-cast-p t c = ?
 
--- src/conditions.rt:122:5
+-- src/conditions.rt:129:5
 read-or-read-or-requires : (t : ℕ) → read-or-lts.Need-read-or-requires (
   read-and-below t,
   read-and.Post,
@@ -512,7 +512,7 @@ read-or-read-or-requires : (t : ℕ) → read-or-lts.Need-read-or-requires (
 ) (read-or-at t) read-or.Post
 read-or-read-or-requires t c κs = ?
 
--- src/conditions.rt:124:9
+-- src/conditions.rt:131:9
 read-or-returns-3 : (t : ℕ) → read-or-lts.Need-returns-3 (
   read-and-below t,
   read-and.Post,
@@ -527,7 +527,7 @@ read-or-returns-3 : (t : ℕ) → read-or-lts.Need-returns-3 (
 ) (read-or-at t) read-or.Post
 read-or-returns-3 t c = ?
 
--- src/conditions.rt:126:20
+-- src/conditions.rt:133:20
 read-or-either-requires : (t : ℕ) → read-or-lts.Need-either-requires (
   read-and-below t,
   read-and.Post,
@@ -542,7 +542,7 @@ read-or-either-requires : (t : ℕ) → read-or-lts.Need-either-requires (
 ) (read-or-at t) read-or.Post
 read-or-either-requires t c κs = ?
 
--- src/conditions.rt:126:5
+-- src/conditions.rt:133:5
 read-or-put-requires : (t : ℕ) → read-or-lts.Need-put-requires (
   read-and-below t,
   read-and.Post,
@@ -557,7 +557,7 @@ read-or-put-requires : (t : ℕ) → read-or-lts.Need-put-requires (
 ) (read-or-at t) read-or.Post
 read-or-put-requires t c κs = ?
 
--- src/conditions.rt:109:1
+-- src/conditions.rt:116:1
 read-or-returns-4 : (t : ℕ) → read-or-lts.Need-returns-4 (
   read-and-below t,
   read-and.Post,

@@ -1,33 +1,38 @@
+-- `table::conditions::closed` meets its contract. Assumes nothing.
+use mathlib.Core.Path.{refl}
+use native.Mathlib.Omega.{arith}
+use borrow.Author.Tests.{not-true, not-false}
+use Rattle.meaning.specs.Tokens.{rparen}
+use Rattle.table.proofs.Steps.{goes, stops}
+use Rattle.table.proofs.Readers.{closes-fails, closes-not, closes-here}
 use borrow.Author.Needs.{needs}
 use Rattle.table.proofs.conditions.closed.Statement.{statement}
 use Rattle.table.proofs.conditions.closed.Tie as tie
-use Rattle.table.proofs.conditions.closed.Reads as reads
-use Rattle.table.proofs.conditions.closed.Lts as lts
-use Rattle.token.proofs.next.Reads as next-reads
 
--- src/conditions.rt:157:9
 returns : tie.Need-returns
-returns c = ?
+returns c = let a = c .before .before .before .args in closes-fails (a .text .now) (a .c) (a .c) (not-true _ (c .if1 .taken))
 
--- src/conditions.rt:159:31
 cast-next : tie.Need-cast-next
 cast-next c = search needs
 
--- src/conditions.rt:159:9
 next-requires : tie.Need-next-requires
-next-requires c κs = ?
+next-requires c κs = search needs
 
--- src/conditions.rt:162:9
 returns-2 : tie.Need-returns-2
-returns-2 c = ?
+returns-2 c = let a = c .before .before .before .before .before .before .before .args in closes-not (a .text .now) (a .c) _ refl (stops (a .text .now) (a .c .at) (c .before .before .next .result) (c .before .before .next .ensures) rparen (omega arith))
 
--- src/conditions.rt:164:12
 cast-d : tie.Need-cast-d
-cast-d c = ?
+cast-d c =
+    let a = c .before .before .before .before .before .before .before .before .args in
+    let g = goes (a .text .now) (a .c .at) (c .before .before .before .next .result) (c .before .before .before .next .ensures) rparen refl (omega arith) in
+    let h = c .before .before .before .before .before .before .before .before .pre (not-false _ (c .before .before .before .before .before .if1 .left)) in
+    omega (arith, g .within, h .short)
 
--- src/conditions.rt:151:1
 returns-3 : tie.Need-returns-3
-returns-3 c = ?
+returns-3 c =
+    let a = c .before .before .before .before .before .before .before .before .args in
+    closes-here (a .text .now) (a .c) (c .before .before .before .next .result .next) (not-false _ (c .before .before .before .before .before .if1 .left))
+    (goes (a .text .now) (a .c .at) (c .before .before .before .next .result) (c .before .before .before .next .ensures) rparen refl (omega arith))
 
 pub closed-spec : {M : Type 1} → statement M
 closed-spec = tie.close (tie.spec returns cast-next next-requires returns-2 cast-d returns-3)
