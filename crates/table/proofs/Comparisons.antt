@@ -166,7 +166,7 @@ module _ (s : List ℕ) (positive : Bool) (depth : ℕ) (c : Cursor) (xs : List 
             misses (then-some _ (a .1 .reads) ∙ then-some _ (o .1 .reads) ∙ then-none _ (side-none s (v .next) w e₃ h))
 
         -- all three are there
-        pub fits : isOperand (w .kind) ≡ true → Stands s c → (u .start ≤ 256) × (w .start ≤ 256) × (w .next ≤ 256)
+        pub fits : isOperand (w .kind) ≡ true → Stands s c → (c .nodes < 256) × (c .marks ≤ 256) × (u .start ≤ 256) × (w .start ≤ 256) × (w .next ≤ 256)
         fits h₃ st =
             let a = side s (c .at) u e₁ h₁ .1 in
             let b = side s (v .next) w e₃ h₃ .1 in

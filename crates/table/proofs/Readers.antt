@@ -289,3 +289,14 @@ pub one-compares : (s : List ℕ) (positive : Bool) (depth : ℕ) (c : Cursor) (
     → Meets s positive depth c xs p ys (aComparison (tokens (drop (c .at) s))) → Reads atom s positive depth c xs p ys
 one-compares s positive depth c xs p ys i j m zero h = absurd (omega arith)
 one-compares s positive depth c xs p ys i j m (suc n) h = subst (Meets s positive depth c xs p ys) (sym (reads-compare n (tokens (drop (c .at) s)) i j)) m
+
+-- ---- what the calls of the cycle ask
+
+module _ {s : List ℕ} {at next : ℕ} {k : T.Token} (g : Goes s at next k) where
+  -- past a token a reader may go on
+  pub may : (c : Cursor) (depth : ℕ) → c .at ≡ at → Stands s c → depth ≤ at → Stands s (movedTo next c) × (depth < next) × (at < next) × (next ≤ length s)
+  may c depth e st d = omega (arith, g .on, g .within, st .short, st .few-nodes, st .few-marks)
+
+-- a node may be counted behind the second condition
+pub may-put : (s : List ℕ) (p : Cursor) (next : ℕ) (q : Cursor) → Stands s p → p .at < next → Stands s q × (next < q .at) × (q .nodes + next ≤ p .nodes + q .at) → q .nodes < 256
+may-put s p next q sp on f = omega (arith, sp .few-nodes, f .0 .short, f .0 .inside, f .2)
