@@ -1,0 +1,4 @@
+pub mod Stored
+pub mod SoundCondition
+pub mod SoundNames
+pub mod SoundQuery
