@@ -2,3 +2,5 @@ pub mod Stored
 pub mod SoundCondition
 pub mod SoundNames
 pub mod SoundQuery
+pub mod SoundSettings
+pub mod SoundUpdate

@@ -37,6 +37,10 @@ pub all-map : {A B : Type 0} (f : A → B) (p : B → Bool) (l : List A) → all
 all-map f p [] = refl
 all-map f p (x ∷ l) = ap (λ b. p (f x) && b) (all-map f p l)
 
+pub map-twice : {A B D : Type 0} (f : A → B) (g : B → D) (l : List A) → map g (map f l) ≡ map (λ (x : A). g (f x)) l
+map-twice f g [] = refl
+map-twice f g (x ∷ l) = ap (λ r. g (f x) ∷ r) (map-twice f g l)
+
 -- ---- operators and steps by their numbers
 
 pub operator-back : (k : ℕ) → k < 6 → operatorNumber (operatorAt k) ≡ k

@@ -22,6 +22,7 @@ use Rattle.meaning.specs.Names.{Schema, noSchema, sameName, has, tableNames, un
 use Rattle.meaning.specs.Statement as M
 use Rattle.meaning.specs.Statement.{column, value, constant, parameter, insert, delete, update, creates, asks, changes, statementOf}
 use Rattle.table.specs.Places.{operatorAt}
+use Rattle.table.specs.Catalog.{nameOfStruct}
 use Rattle.table.specs.declared.Name.{Name}
 use Rattle.table.specs.declared.Table.{Table}
 use Rattle.table.specs.declared.Operand.{Operand}
@@ -36,16 +37,8 @@ use Rattle.table.specs.declared.Update.{Update}
 
 -- ---- reading the used entries
 
--- a name is its first `len` bytes
-abbrev pub nameOfStruct : Name → List ℕ
-nameOfStruct n = take (n .len) (n .bytes)
-
 abbrev pub usedColumns : Table → List Name
 usedColumns t = take (t .count) (t .columns)
-
--- what the table's TABLE text says
-abbrev pub schemaOf : Table → Schema
-schemaOf t = record { name = nameOfStruct (t .name); columns = map nameOfStruct (usedColumns t); capacity = t .capacity }
 
 -- parameters are counted from 0; document 01 numbers question marks from 1
 abbrev pub valueRead : Value → M.Value
@@ -90,6 +83,16 @@ settingRead s = (s .column, valueRead (s .value))
 abbrev pub settingsRead : Update → List (ℕ × M.Value)
 settingsRead u = map settingRead (usedSettings u)
 
+-- the columns set, and what VALUES or SET give, as operands
+abbrev pub settingColumns : Update → List ℕ
+settingColumns u = map (λ (s : ℕ × M.Value). s .0) (settingsRead u)
+
+abbrev pub settingValues : Update → List M.Value
+settingValues u = map (λ (s : ℕ × M.Value). s .1) (settingsRead u)
+
+abbrev pub settingOperands : Update → List M.Operand
+settingOperands u = map value (settingValues u)
+
 -- ---- tests
 
 -- 1 to 12 bytes that are a name
@@ -132,13 +135,6 @@ soundQuery ts q =
     && (all (λ (i : ℕ). ltb i (columnsAt ts (q .table))) (take (q .count) (q .selected))
     && (soundCondition (columnsAt ts (q .table)) 0 (q .condition)
     && (eqb (q .parameters) (conditionMarks (q .condition)) && leb (q .parameters) most-marks)))))
-
--- what VALUES or SET give, as operands
-abbrev pub settingOperands : Update → List M.Operand
-settingOperands u = map (λ (s : Setting). value (valueRead (s .value))) (usedSettings u)
-
-abbrev pub settingColumns : Update → List ℕ
-settingColumns u = map (λ (s : Setting). s .column) (usedSettings u)
 
 -- the settings of an INSERT, an UPDATE or a DELETE of a table of so many columns
 abbrev pub soundForm : ℕ → ℕ → Update → Bool
@@ -201,28 +197,28 @@ abbrev pub placedFrom : ℕ → List M.Value → List (ℕ × M.Value)
 placedFrom i [] = []
 placedFrom i (v ∷ vs) = (i, v) ∷ placedFrom (suc i) vs
 
-abbrev pub settingsOf : M.Change → List (ℕ × M.Value)
-settingsOf (insert vs) = placedFrom 0 vs
-settingsOf (delete w) = []
-settingsOf (update ss w) = ss
+abbrev pub settingsOfChange : M.Change → List (ℕ × M.Value)
+settingsOfChange (insert vs) = placedFrom 0 vs
+settingsOfChange (delete w) = []
+settingsOfChange (update ss w) = ss
 
-abbrev pub changeWhere : M.Change → Where M.Operand
-changeWhere (insert vs) = always
-changeWhere (delete w) = w
-changeWhere (update ss w) = w
+abbrev pub whereOfChange : M.Change → Where M.Operand
+whereOfChange (insert vs) = always
+whereOfChange (delete w) = w
+whereOfChange (update ss w) = w
 
-abbrev pub formOf : M.Change → ℕ
-formOf (insert vs) = 0
-formOf (update ss w) = 1
-formOf (delete w) = 2
+abbrev pub formOfChange : M.Change → ℕ
+formOfChange (insert vs) = 0
+formOfChange (update ss w) = 1
+formOfChange (delete w) = 2
 
 pub record AgreesUpdate (u : Update) (r : M.Update) : Type 0 where
-  pub form-is : u .form ≡ formOf (r .change)
+  pub form-is : u .form ≡ formOfChange (r .change)
   pub table-is : u .table ≡ r .table
-  pub count-is : u .count ≡ length (settingsOf (r .change))
-  pub settings-are : settingsRead u ≡ settingsOf (r .change)
+  pub count-is : u .count ≡ length (settingsOfChange (r .change))
+  pub settings-are : settingsRead u ≡ settingsOfChange (r .change)
   pub parameters-are : u .parameters ≡ r .parameters
-  pub condition-is : AgreesCondition (u .condition) (changeWhere (r .change))
+  pub condition-is : AgreesCondition (u .condition) (whereOfChange (r .change))
 
 pub record AgreesTable (t : Table) (r : Schema) : Type 0 where
   pub name-length : t .name .len ≡ length (r .name)
