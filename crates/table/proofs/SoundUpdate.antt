@@ -375,3 +375,137 @@ module _ (ts : List Schema) (T : TablesFit ts) (u : Update) (F : UpdateFits u) (
 
   pub update-from : FromUpdate ts u
   update-from = form-source (u .form) refl (P .form-sound)
+
+-- ---- and one that comes of such a sentence passes
+
+abbrev noChange : M.Update
+noChange = record { table = 0; change = insert []; parameters = 0 }
+
+abbrev changed : Statement → M.Update
+changed (creates t) = noChange
+changed (asks q) = noChange
+changed (changes u) = u
+
+abbrev isChange : Statement → Bool
+isChange (creates t) = false
+isChange (asks q) = false
+isChange (changes u) = true
+
+module _ (ts : List Schema) (u : Update) where
+  -- the table and the columns that a sentence names are there
+  module _ (t : Name) (cs ds : List Name) (known : missing ts t (cs ++ ds) ≡ false) where
+    place-below : position (tableNames ts) t < length ts
+    place-below =
+        subst (λ n. position (tableNames ts) t < n) (length-map ts (λ (s : Schema). s .name))
+        (has-position (tableNames ts) t (not-false (has (tableNames ts) t) (or-left (not (has (tableNames ts) t)) _ known)))
+
+    both-known : (any (λ (n : Name). not (has (columnsOf ts t) n)) cs || any (λ (n : Name). not (has (columnsOf ts t) n)) ds) ≡ false
+    both-known = sym (any-append (λ (n : Name). not (has (columnsOf ts t) n)) cs ds) ∙ or-right (not (has (tableNames ts) t)) _ known
+
+    first-known : any (λ (n : Name). not (has (columnsOf ts t) n)) cs ≡ false
+    first-known = or-left (any (λ (n : Name). not (has (columnsOf ts t) n)) cs) _ both-known
+
+    second-known : any (λ (n : Name). not (has (columnsOf ts t) n)) ds ≡ false
+    second-known = or-right (any (λ (n : Name). not (has (columnsOf ts t) n)) cs) _ both-known
+
+  insert-update : (t : Name) (vs : Listed Given) → Passes ts (G.insert t vs) → AgreesUpdate u (changed (statementOf ts (G.insert t vs))) → soundUpdate ts u ≡ true
+  unfolding statementOf unknown miscounted
+  insert-update t vs P A =
+      let s : Sentence = G.insert t vs in
+      let L : Limits s = limits-of s (P .within) in
+      let columns : List Name = columnsOf ts t in
+      let values : List M.Value = numberedAll 0 (items vs) in
+      let n : columnsAt ts (u .table) ≡ length columns = ap (columnsAt ts) (A .table-is) in
+      let one : length (items vs) ≡ length columns = eqb-true (length (items vs)) (length columns) (not-false (eqb (length (items vs)) (length columns)) (P .counted)) in
+      let count : u .count ≡ length values = A .count-is ∙ placed-length 0 values in
+      let given : settingValues u ≡ values = ap (map (λ (s : ℕ × M.Value). s .1)) (A .settings-are) ∙ placed-values 0 values in
+      let places : settingColumns u ≡ from 0 (u .count) = ap (map (λ (s : ℕ × M.Value). s .0)) (A .settings-are) ∙ placed-columns 0 values ∙ ap (from 0) (sym count) in
+      let marks : parameterCount (settingOperands u) ≡ markCount (items vs) = ap (λ os. parameterCount (map value os)) given ∙ numbered-marks 0 (items vs) in
+      let tested : conditionMarks (u .condition) ≡ 0 = source-marks columns 0 always (u .condition) (A .condition-is) in
+      parts-update ts u (record {
+        there = subst (λ i. i < length ts) (sym (A .table-is)) (place-below t [] [] (P .known));
+        form-sound =
+            ap (λ k. soundForm k (columnsAt ts (u .table)) u) (A .form-is)
+            ∙ and-both (eqb (u .count) (columnsAt ts (u .table))) _
+            (eq-eqb (u .count) (columnsAt ts (u .table)) (count ∙ numbered-length 0 (items vs) ∙ one ∙ sym n))
+            (and-both (eqList eqb (settingColumns u) (from 0 (u .count))) _
+            (ap (λ l. eqList eqb l (from 0 (u .count))) places ∙ T→true _ (eqList-refl eqb eqb-refl (from 0 (u .count))))
+            (eq-eqb (u .condition .count) 0 (A .condition-is .count-is)));
+        values-numbered = ap (λ os. numberedOn 0 (map value os)) given ∙ values-numbered 0 (items vs);
+        condition-sound = ap (λ k. soundCondition k (parameterCount (settingOperands u)) (u .condition)) n
+            ∙ source-condition columns (parameterCount (settingOperands u)) always (u .condition) (A .condition-is) refl (omega arith);
+        parameters-are = A .parameters-are ∙ ap markCount (append-nil (items vs)) ∙ omega arith;
+        few-parameters = subst (λ k. k ≤ most-marks) (sym (A .parameters-are)) (ltb-false most-marks (markCount (givens s)) (L .marks-few));
+      })
+
+  delete-update : (t : Name) (w : Where G.Term) → Passes ts (G.delete t w) → AgreesUpdate u (changed (statementOf ts (G.delete t w))) → soundUpdate ts u ≡ true
+  unfolding statementOf unknown
+  delete-update t w P A =
+      let s : Sentence = G.delete t w in
+      let L : Limits s = limits-of s (P .within) in
+      let columns : List Name = columnsOf ts t in
+      let n : columnsAt ts (u .table) ≡ length columns = ap (columnsAt ts) (A .table-is) in
+      let given : settingOperands u ≡ [] = ap (λ ss. map value (map (λ (s : ℕ × M.Value). s .1) ss)) (A .settings-are) in
+      let marks : parameterCount (settingOperands u) ≡ 0 = ap parameterCount given in
+      let tested : conditionMarks (u .condition) ≡ markCount (termGivens (operandsIn w)) = source-marks columns 0 w (u .condition) (A .condition-is) in
+      parts-update ts u (record {
+        there = subst (λ i. i < length ts) (sym (A .table-is)) (place-below t [] (termColumns (operandsIn w)) (P .known));
+        form-sound = ap (λ k. soundForm k (columnsAt ts (u .table)) u) (A .form-is) ∙ eq-eqb (u .count) 0 (A .count-is);
+        values-numbered = ap (numberedOn 0) given;
+        condition-sound = ap₂ (λ k m. soundCondition k m (u .condition)) n marks
+            ∙ source-condition columns 0 w (u .condition) (A .condition-is) (second-known t [] (termColumns (operandsIn w)) (P .known))
+            (ltb-false most-comparisons (length (comparisonsIn w)) (L .comparisons-few));
+        parameters-are = A .parameters-are ∙ sym tested ∙ omega arith;
+        few-parameters = subst (λ k. k ≤ most-marks) (sym (A .parameters-are)) (ltb-false most-marks (markCount (givens s)) (L .marks-few));
+      })
+
+  update-update : (t : Name) (ss : Listed (Name × Given)) (w : Where G.Term) → Passes ts (G.update t ss w)
+      → AgreesUpdate u (changed (statementOf ts (G.update t ss w))) → soundUpdate ts u ≡ true
+  unfolding statementOf unknown taken
+  update-update t ss w P A =
+      let s : Sentence = G.update t ss w in
+      let L : Limits s = limits-of s (P .within) in
+      let columns : List Name = columnsOf ts t in
+      let names : List Name = map (λ (s : Name × Given). s .0) (items ss) in
+      let gs : List Given = map (λ (s : Name × Given). s .1) (items ss) in
+      let n : columnsAt ts (u .table) ≡ length columns = ap (columnsAt ts) (A .table-is) in
+      let known : any (λ (n : Name). not (has columns n)) names ≡ false = first-known t names (termColumns (operandsIn w)) (P .known) in
+      let count : u .count ≡ length (items ss) = A .count-is ∙ settings-length columns 0 (items ss) in
+      let few : length names ≤ most-items = ltb-false most-items (length names) (or-left (ltb most-items (length names)) _ (L .items-few)) in
+      let many : length names ≡ length (items ss) = length-map (items ss) (λ (s : Name × Given). s .0) in
+      let places : settingColumns u ≡ map (position columns) names = ap (map (λ (s : ℕ × M.Value). s .0)) (A .settings-are) ∙ settings-columns columns 0 (items ss) in
+      let given : settingValues u ≡ numberedAll 0 gs = ap (map (λ (s : ℕ × M.Value). s .1)) (A .settings-are) ∙ settings-values columns 0 (items ss) in
+      let marks : parameterCount (settingOperands u) ≡ markCount gs = ap (λ os. parameterCount (map value os)) given ∙ numbered-marks 0 gs in
+      let tested : conditionMarks (u .condition) ≡ markCount (termGivens (operandsIn w)) = source-marks columns (markCount gs) w (u .condition) (A .condition-is) in
+      parts-update ts u (record {
+        there = subst (λ i. i < length ts) (sym (A .table-is)) (place-below t names (termColumns (operandsIn w)) (P .known));
+        form-sound =
+            ap (λ k. soundForm k (columnsAt ts (u .table)) u) (A .form-is)
+            ∙ and-both (leb 1 (u .count)) _ (le-leb 1 (u .count) (omega (arith, items-some ss)))
+            (and-both (leb (u .count) most-items) _ (le-leb (u .count) most-items (omega arith))
+            (and-both (all (λ (i : ℕ). ltb i (columnsAt ts (u .table))) (settingColumns u)) _
+            (ap₂ (λ k l. all (λ (i : ℕ). ltb i k) l) n places ∙ positions-below columns names known)
+            (ap not (ap (repeats eqb) places ∙ places-different columns names known (P .fresh)))));
+        values-numbered = ap (λ os. numberedOn 0 (map value os)) given ∙ values-numbered 0 gs;
+        condition-sound = ap₂ (λ k m. soundCondition k m (u .condition)) n marks
+            ∙ source-condition columns (markCount gs) w (u .condition) (A .condition-is) (second-known t names (termColumns (operandsIn w)) (P .known))
+            (ltb-false most-comparisons (length (comparisonsIn w)) (L .comparisons-few));
+        parameters-are = A .parameters-are ∙ marks-append gs (termGivens (operandsIn w)) ∙ ap₂ _+_ (sym marks) (sym tested);
+        few-parameters = subst (λ k. k ≤ most-marks) (sym (A .parameters-are)) (ltb-false most-marks (markCount (givens s)) (L .marks-few));
+      })
+
+  sentence-update : (s : Sentence) → Passes ts s → isChange (statementOf ts s) ≡ true → AgreesUpdate u (changed (statementOf ts s)) → soundUpdate ts u ≡ true
+  unfolding statementOf
+  sentence-update (G.table t cs z) P a A = clash a refl
+  sentence-update (G.select cs t w) P a A = clash a refl
+  sentence-update (G.insert t vs) P a A = insert-update t vs P A
+  sentence-update (G.update t ss w) P a A = update-update t ss w P A
+  sentence-update (G.delete t w) P a A = delete-update t w P A
+
+  pub source-update : FromUpdate ts u → soundUpdate ts u ≡ true
+  source-update S =
+      sentence-update (S .sentence) (S .passes) (ap isChange (S .says)) (subst (λ r. AgreesUpdate u (changed r)) (sym (S .says)) (S .agrees))
+
+-- an update passes the test exactly if it is the compiled form of a sentence that passes
+pub update-sound : (ts : List Schema) → TablesFit ts → (u : Update) → UpdateFits u → (soundUpdate ts u ≡ true) ↔ FromUpdate ts u
+update-sound ts T u F = ((λ h. update-from ts T u F (update-parts ts u h)), source-update ts u)
