@@ -4,3 +4,4 @@ pub mod SoundNames
 pub mod SoundQuery
 pub mod SoundSettings
 pub mod SoundUpdate
+pub mod SoundTable
