@@ -5,3 +5,4 @@ pub mod SoundQuery
 pub mod SoundSettings
 pub mod SoundUpdate
 pub mod SoundTable
+pub mod SoundTables

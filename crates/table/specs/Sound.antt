@@ -3,7 +3,7 @@
 -- show that the tests hold of those forms alone. Entries past the counts do not matter. Assumes nothing: these are definitions.
 use mathlib.Core.Path.{_≡_}
 use mathlib.Core.Bool.{Bool, true, false, not, _&&_}
-use mathlib.Core.List.{List, [], _∷_, map}
+use mathlib.Core.List.{List, [], _∷_, _++_, map}
 use Prim.Native.Nat.{ℕ, zero, suc, _+_, _*_, _-_, _≤_}
 use lib.Dec.{eqb, leb, ltb}
 use lib.IntN.{ℤ, pos}
@@ -22,7 +22,7 @@ use Rattle.meaning.specs.Names.{Schema, noSchema, sameName, has, tableNames, un
 use Rattle.meaning.specs.Statement as M
 use Rattle.meaning.specs.Statement.{column, value, constant, parameter, insert, delete, update, creates, asks, changes, statementOf}
 use Rattle.table.specs.Places.{operatorAt}
-use Rattle.table.specs.Catalog.{nameOfStruct}
+use Rattle.table.specs.Catalog.{nameOfStruct, schemaOf}
 use Rattle.table.specs.declared.Name.{Name}
 use Rattle.table.specs.declared.Table.{Table}
 use Rattle.table.specs.declared.Operand.{Operand}
@@ -109,6 +109,11 @@ soundTable others t =
     && (not (repeats sameName (map nameOfStruct (usedColumns t)))
     && (not (has (tableNames others) (nameOfStruct (t .name)))
     && (leb 1 (t .capacity) && leb (t .capacity) most-rows))))))
+
+-- tables, each beside those before it: then each is sound beside all others (proofs/SoundTables)
+abbrev pub soundTables : List Schema → List Table → Bool
+soundTables before [] = true
+soundTables before (t ∷ ts) = soundTable before t && soundTables (before ++ (schemaOf t ∷ [])) ts
 
 -- a condition over a table of so many columns, where m question marks stand before
 unfoldable pub soundCondition : ℕ → ℕ → Condition → Bool
