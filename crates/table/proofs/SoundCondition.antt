@@ -1,13 +1,13 @@
 -- A stored condition passes the test exactly if it is that of a WHERE over the table's columns; and what it then means. Assumes nothing.
-use mathlib.Core.Path.{_≡_, refl, sym, ap, ap₂, _∙_, subst}
-use mathlib.Core.Bool.{Bool, true, false, not, _&&_, _||_}
-use mathlib.Core.List.{List, [], _∷_, _++_, map}
-use Prim.Native.Nat.{ℕ, _+_, _*_, _-_, _≤_, _<_}
+use mathlib.Core.Path.{_≡_, sym, ap, _∙_, subst}
+use mathlib.Core.Bool.{true, false, not}
+use mathlib.Core.List.{List, map}
+use Prim.Native.Nat.{ℕ, _*_, _-_, _≤_}
 use native.Mathlib.Omega.{arith}
 use borrow.Author.Tests.{leb-true, le-leb}
 use lib.Dec.{leb, ltb}
 use lib.IntN.{ℤ}
-use lib.ListN.{length, take}
+use lib.ListN.{length}
 use lib.Seq.{length-take-le}
 use Rattle.lists.specs.Lists.{All, any, all, repeats}
 use Rattle.lists.proofs.Bools.{and-left, and-right, and-both}
@@ -15,7 +15,7 @@ use Rattle.lists.proofs.Lists.{All-take, All-map, any-none}
 use Rattle.meaning.specs.Condition as C
 use Rattle.meaning.specs.Condition.{Where, sides, comparisonsIn, operandsIn, depthIn, evalWhere, clausesOf}
 use Rattle.meaning.specs.Postfix.{Node, nodesIn, leaves, isPostfix, truthOf, clausesOfNodes}
-use Rattle.meaning.specs.Resolve.{termConstants, operandConstants, parameterCount, numberedFrom, columnsBelow}
+use Rattle.meaning.specs.Resolve.{operandConstants, parameterCount, numberedFrom, columnsBelow}
 use Rattle.meaning.specs.Tokens.{Name}
 use Rattle.meaning.specs.Grammar.{Term}
 use Rattle.meaning.specs.Limits.{most-comparisons, termGivens, termColumns, markCount, isWithin32, outside32}
@@ -24,7 +24,7 @@ use Rattle.meaning.specs.Statement as M
 use Rattle.meaning.specs.Statement.{resolvedWhere}
 use Rattle.meaning.proofs.Postfix.{sides-in, leaves-in, truth-postfix, clauses-postfix}
 use Rattle.meaning.proofs.Resolve.{Source, where-source, where-passes, outside-constants, resolve-where, resolve-marks, resolve-leaves}
-use Rattle.table.specs.Sound.{comparisonRead, nodesRead, usedComparisons, usedSteps, conditionNodes, soundCondition, conditionMarks, operatorNumber, stepOf, AgreesCondition, ConditionFits}
+use Rattle.table.specs.Sound.{comparisonRead, usedComparisons, usedSteps, conditionNodes, soundCondition, conditionMarks, operatorNumber, stepOf, AgreesCondition, ConditionFits}
 use Rattle.table.specs.declared.Comparison.{Comparison}
 use Rattle.table.specs.declared.Condition.{Condition}
 use Rattle.table.proofs.Stored.{all-map, steps-below, operators-below, read-length, read-steps, read-leaves, read-operators, read-constants, where-count}

@@ -2,18 +2,18 @@
 use mathlib.Core.Path.{_≡_, refl, sym, ap, ap₂, _∙_, subst}
 use mathlib.Core.Bool.{Bool, true, false, not, _&&_, _||_}
 use mathlib.Core.List.{List, [], _∷_, _++_, map}
-use Prim.Native.Nat.{ℕ, suc, _≤_, _<_}
+use Prim.Native.Nat.{ℕ, _≤_, _<_}
 use native.Mathlib.Omega.{arith}
-use borrow.Author.Tests.{ltb-true, lt-ltb, ltb-false, le-ltb}
+use borrow.Author.Tests.{ltb-true, lt-ltb, le-ltb}
 use lib.Dec.{ltb}
 use lib.ListN.{length, getD, length-map, List·getD-map}
-use Rattle.lists.specs.Lists.{All, nil, cons, any, all, repeats}
+use Rattle.lists.specs.Lists.{All, cons, any, all, repeats}
 use Rattle.lists.proofs.Bools.{and-left, and-right, or-left, or-right, not-false}
-use Rattle.lists.proofs.Lists.{All-head, All-tail, All-map, All-append, any-false, any-none, any-append}
+use Rattle.lists.proofs.Lists.{All-head, All-tail, All-map, any-false, any-none, any-append}
 use Rattle.lists.proofs.Places.{All-at}
 use Rattle.meaning.specs.Tokens.{Name, isName}
 use Rattle.meaning.specs.Grammar.{Listed, last, next, items, Sentence}
-use Rattle.meaning.specs.Limits.{most-name, tableNamed, columnsNamed, manyItems, rowsOutside, manyMarks, manyComparisons, deep, longName, bigConstant, pastLimit}
+use Rattle.meaning.specs.Limits.{most-name, manyItems, rowsOutside, manyMarks, manyComparisons, deep, longName, bigConstant, pastLimit}
 use Rattle.meaning.specs.Names.{Schema, noSchema, sameName, has, position, tableNames, columnsOf, missing}
 use Rattle.meaning.proofs.Names.{has-position, position-is}
 use Rattle.meaning.proofs.Resolve.{has-at, position-at}

@@ -1,8 +1,8 @@
 -- A stored question passes the test exactly if it is the compiled form of a sentence that refusals 4 to 8 let pass. Assumes nothing.
 use mathlib.Core.Path.{_≡_, refl, sym, ap, ap₂, _∙_, subst}
 use mathlib.Core.Logic.{_↔_}
-use mathlib.Core.Bool.{Bool, true, false, not, _&&_, _||_}
-use mathlib.Core.List.{List, [], _∷_, _++_, map}
+use mathlib.Core.Bool.{Bool, true, false, not, _||_}
+use mathlib.Core.List.{List, [], _++_, map}
 use Prim.Native.Nat.{ℕ, _≤_, _<_}
 use native.Mathlib.Omega.{arith}
 use borrow.Author.Tests.{ltb-true, lt-ltb, ltb-false, le-ltb, leb-true, le-leb, eqb-true, eq-eqb}
@@ -17,15 +17,15 @@ use Rattle.meaning.specs.Tokens.{Name}
 use Rattle.meaning.specs.Grammar as G
 use Rattle.meaning.specs.Grammar.{Listed, items, Sentence}
 use Rattle.meaning.specs.Limits.{most-items, most-marks, most-comparisons, most-depth, termGivens, termColumns, columnsNamed, givens, markCount}
-use Rattle.meaning.specs.Names.{Schema, noSchema, has, position, tableNames, columnsOf, missing, unknown, taken, miscounted}
+use Rattle.meaning.specs.Names.{Schema, noSchema, has, position, tableNames, columnsOf, unknown, taken, miscounted}
 use Rattle.meaning.specs.Statement as M
 use Rattle.meaning.specs.Statement.{Statement, creates, asks, changes, resolvedWhere, statementOf}
 use Rattle.meaning.proofs.Names.{has-position}
 use Rattle.meaning.proofs.Resolved.{items-some}
-use Rattle.table.specs.Sound.{soundCondition, conditionMarks, columnsAt, soundQuery, Passes, AgreesCondition, AgreesQuery, FromQuery, TableFits, TablesFit, QueryFits}
+use Rattle.table.specs.Sound.{soundCondition, conditionMarks, columnsAt, soundQuery, Passes, AgreesCondition, AgreesQuery, FromQuery, TablesFit, QueryFits}
 use Rattle.table.specs.declared.Query.{Query}
 use Rattle.table.proofs.SoundCondition.{Sourced, condition-source, source-marks, source-condition}
-use Rattle.table.proofs.SoundNames.{or-none, listed, Limits, limits-kept, limits-of, namesAt, names-known, names-back, positions-below, schemaAt, there-fits, there-place, there-columns, there-known, there-named, there-short, known-append}
+use Rattle.table.proofs.SoundNames.{or-none, listed, Limits, limits-kept, limits-of, namesAt, names-known, names-back, positions-below, there-fits, there-place, there-columns, there-known, there-named, there-short, known-append}
 
 -- ---- the test and its parts
 
@@ -153,15 +153,15 @@ module _ (ts : List Schema) (T : TablesFit ts) (q : Query) (F : QueryFits q) (P 
 
 -- ---- and one that comes of such a sentence passes
 
-pub noQuery : M.Query
+abbrev noQuery : M.Query
 noQuery = record { table = 0; selected = []; condition = always; parameters = 0 }
 
-abbrev pub asked : Statement → M.Query
+abbrev asked : Statement → M.Query
 asked (creates t) = noQuery
 asked (asks q) = q
 asked (changes u) = noQuery
 
-abbrev pub isAsk : Statement → Bool
+abbrev isAsk : Statement → Bool
 isAsk (creates t) = false
 isAsk (asks q) = true
 isAsk (changes u) = false

@@ -1,21 +1,20 @@
 -- What VALUES and SET give, read back: values numbered from what a sentence gives, and settings as columns and values. Assumes nothing.
-use mathlib.Core.Path.{_≡_, refl, sym, ap, ap₂, _∙_, subst}
-use mathlib.Core.Bool.{Bool, true, false, not, _&&_, _||_}
+use mathlib.Core.Path.{_≡_, refl, sym, ap, ap₂, _∙_}
+use mathlib.Core.Bool.{Bool, true, false, not}
 use mathlib.Core.List.{List, [], _∷_, _++_, map, nil≢cons, cons≢nil, head-eq-of-cons-eq, tail-eq-of-cons-eq}
-use Prim.Native.Nat.{ℕ, suc, _+_, _≤_, _<_}
+use Prim.Native.Nat.{ℕ, suc, _+_}
 use native.Mathlib.Omega.{arith}
 use borrow.Author.Tests.{ltb-true, eqb-true, eq-eqb}
 use lib.Dec.{eqb, ltb}
-use lib.IntN.{ℤ}
 use lib.ListN.{length, getD}
 use Rattle.lists.specs.Lists.{All, nil, cons, any, all, repeats, from}
 use Rattle.lists.proofs.Bools.{and-left, and-right, and-both, or-left, or-right, not-false, contra}
-use Rattle.lists.proofs.Lists.{All-head, All-tail, All-map, all-true, any-false, any-none}
+use Rattle.lists.proofs.Lists.{All-head, All-tail, All-map, all-true, any-false}
 use Rattle.meaning.specs.Resolve.{parameterCount, numberedOn}
 use Rattle.meaning.specs.Tokens.{Name}
 use Rattle.meaning.specs.Grammar as G
 use Rattle.meaning.specs.Grammar.{Given, mark}
-use Rattle.meaning.specs.Limits.{markIn, markCount, isWithin32, outside32}
+use Rattle.meaning.specs.Limits.{markIn, markCount, outside32}
 use Rattle.meaning.specs.Names.{sameName, has, position}
 use Rattle.meaning.specs.Statement as M
 use Rattle.meaning.specs.Statement.{value, constant, parameter, numberedAll, settings}

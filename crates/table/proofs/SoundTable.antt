@@ -1,19 +1,19 @@
 -- A stored table passes the test exactly if it is the compiled form of a TABLE sentence that refusals 4 to 8 let pass. Assumes nothing.
 use mathlib.Core.Path.{_≡_, refl, sym, ap, ap₂, _∙_, subst}
 use mathlib.Core.Logic.{_↔_}
-use mathlib.Core.Bool.{Bool, true, false, not, _&&_, _||_}
+use mathlib.Core.Bool.{Bool, true, false, not, _&&_}
 use mathlib.Core.List.{List, [], _∷_, _++_, map, append-nil}
-use Prim.Native.Nat.{ℕ, suc, _+_, _≤_, _<_}
+use Prim.Native.Nat.{ℕ, _≤_}
 use native.Mathlib.Omega.{arith}
 use borrow.Author.Tests.{ltb-false, le-ltb, leb-true, le-leb}
 use lib.Dec.{leb, ltb}
 use lib.IntN.{ℤ, pos, negsuc, natAbs}
-use lib.ListN.{length, take, length-map}
+use lib.ListN.{length, length-map}
 use lib.Seq.{length-take-le}
 use lib.Signed.{leZ}
 use Rattle.lists.specs.Lists.{All, nil, cons, any, all, repeats}
 use Rattle.lists.proofs.Bools.{and-left, and-right, and-both, or-left, or-right, not-false, not-true, clash}
-use Rattle.lists.proofs.Lists.{All-head, All-tail, All-map, All-both, All-take, All-image, all-true, any-none, any-false}
+use Rattle.lists.proofs.Lists.{All-map, All-both, All-take, All-image, all-true, any-none}
 use Rattle.meaning.specs.Tokens as T
 use Rattle.meaning.specs.Tokens.{isName}
 use Rattle.meaning.specs.Grammar as G

@@ -1,18 +1,18 @@
 -- Stored tables, each sound beside those before it: then each is sound beside all others, and together they are tables as statements are compiled beside.
 -- Assumes nothing.
-use mathlib.Core.Path.{_≡_, refl, sym, ap, ap₂, _∙_, subst}
+use mathlib.Core.Path.{_≡_, refl, sym, ap, _∙_, subst}
 use mathlib.Core.Logic.{_↔_}
-use mathlib.Core.Bool.{Bool, true, false, not, _&&_, _||_, or-true}
+use mathlib.Core.Bool.{true, false, _||_, or-true}
 use mathlib.Core.List.{List, [], _∷_, _++_, map, append-assoc, append-nil}
 use Rattle.lists.specs.Lists.{All, nil, cons, any, repeats}
-use Rattle.lists.proofs.Bools.{and-left, and-right, and-both, or-left, or-right, contra, clash}
+use Rattle.lists.proofs.Bools.{and-left, and-right, and-both, or-left, or-right, contra}
 use Rattle.lists.proofs.Lists.{All-head, All-tail, All-append, any-append, map-append}
 use Rattle.meaning.specs.Tokens as T
 use Rattle.meaning.specs.Names.{Schema, sameName, has, tableNames}
 use Rattle.meaning.proofs.Names.{same-is}
 use Rattle.meaning.proofs.Resolve.{same-name, same-swap}
 use Rattle.table.specs.Catalog.{nameOfStruct, schemaOf}
-use Rattle.table.specs.Sound.{soundTable, soundTables, TableFits, TablesFit, TableStructFits}
+use Rattle.table.specs.Sound.{soundTable, soundTables, TablesFit, TableStructFits}
 use Rattle.table.specs.declared.Table.{Table}
 use Rattle.table.proofs.SoundNames.{or-none}
 use Rattle.table.proofs.SoundTable.{Parts, table-parts, parts-table, sound-fits}

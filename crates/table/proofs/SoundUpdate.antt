@@ -2,14 +2,14 @@
 use mathlib.Core.Path.{_≡_, refl, sym, ap, ap₂, _∙_, subst, subst₂}
 use mathlib.Core.Logic.{_↔_}
 use mathlib.Core.Bool.{Bool, true, false, not, _&&_, _||_}
-use mathlib.Core.List.{List, [], _∷_, _++_, map, append-nil}
+use mathlib.Core.List.{List, [], _++_, map, append-nil}
 use Prim.Native.Nat.{ℕ, zero, suc, _+_, _≤_, _<_}
 use native.Mathlib.Omega.{arith}
 use borrow.Author.Tests.{ltb-true, lt-ltb, ltb-false, le-ltb, leb-true, le-leb, eqb-true, eq-eqb}
 use lib.Dec.{eqb, eqb-refl, eqb→eq, leb, ltb}
 use lib.ListN.{length, getD, take, length-map}
 use lib.Seq.{length-take-le}
-use Rattle.lists.specs.Lists.{All, any, all, repeats, from}
+use Rattle.lists.specs.Lists.{any, all, repeats, from}
 use Rattle.lists.specs.Tests.{eqList, eqList→eq, eqList-refl}
 use Rattle.lists.proofs.Bools.{T→true, true→T, and-left, and-right, and-both, or-left, or-right, not-false, not-true, clash}
 use Rattle.lists.proofs.Lists.{All-take, any-append}
@@ -25,7 +25,7 @@ use Rattle.meaning.specs.Statement as M
 use Rattle.meaning.specs.Statement.{Statement, creates, asks, changes, insert, delete, update, value, numberedAll, settings, settingMarks, resolvedWhere, statementOf}
 use Rattle.meaning.proofs.Names.{has-position}
 use Rattle.meaning.proofs.Resolved.{items-some, numbered-length}
-use Rattle.table.specs.Sound.{usedSteps, usedComparisons, conditionNodes, usedSettings, settingRead, settingsRead, settingColumns, settingValues, settingOperands, soundCondition, conditionMarks, columnsAt, soundForm, soundUpdate, Passes, placedFrom, AgreesCondition, AgreesUpdate, FromUpdate, TableFits, TablesFit, UpdateFits}
+use Rattle.table.specs.Sound.{conditionNodes, usedSettings, settingRead, settingsRead, settingColumns, settingValues, settingOperands, soundCondition, conditionMarks, columnsAt, soundForm, soundUpdate, Passes, placedFrom, AgreesCondition, AgreesUpdate, FromUpdate, TableFits, TablesFit, UpdateFits}
 use Rattle.table.specs.declared.Condition.{Condition}
 use Rattle.table.specs.declared.Update.{Update}
 use Rattle.table.proofs.Stored.{map-twice}
@@ -509,3 +509,8 @@ module _ (ts : List Schema) (u : Update) where
 -- an update passes the test exactly if it is the compiled form of a sentence that passes
 pub update-sound : (ts : List Schema) → TablesFit ts → (u : Update) → UpdateFits u → (soundUpdate ts u ≡ true) ↔ FromUpdate ts u
 update-sound ts T u F = ((λ h. update-from ts T u F (update-parts ts u h)), source-update ts u)
+
+-- ---- what an INSERT that agrees gives
+
+pub agrees-values : (u : Update) (t n : ℕ) (vs : List M.Value) → AgreesUpdate u (record { table = t; change = insert vs; parameters = n }) → settingValues u ≡ vs
+agrees-values u t n vs A = ap (map (λ (s : ℕ × M.Value). s .1)) (A .settings-are) ∙ placed-values 0 vs

@@ -1,17 +1,14 @@
 -- Reading a stored condition: its steps, its comparisons, its operators, and the constants in it. Assumes nothing.
-use mathlib.Core.Path.{_≡_, refl, sym, ap, ap₂, _∙_, subst}
-use mathlib.Core.Bool.{Bool, true, false, not, _&&_, _||_, cond}
-use mathlib.Core.List.{List, [], _∷_, _++_, map}
-use Prim.Native.Nat.{ℕ, zero, suc, _+_, _*_, _-_, _≤_, _<_}
-use native.Mathlib.Nat.{not-suc-le-zero}
+use mathlib.Core.Path.{_≡_, refl, sym, ap, ap₂}
+use mathlib.Core.Bool.{Bool, true, _&&_}
+use mathlib.Core.List.{List, [], _∷_, map}
+use Prim.Native.Nat.{ℕ, zero, suc, _*_, _-_, _<_}
 use native.Mathlib.Omega.{arith}
 use borrow.Author.Tests.{ltb-true, lt-ltb}
-use lib.Dec.{eqb, leb, ltb}
-use lib.IntN.{ℤ}
-use lib.ListN.{length, getD, take}
-use Rattle.lists.specs.Lists.{All, nil, cons, any, all}
+use lib.Dec.{ltb}
+use lib.ListN.{length}
+use Rattle.lists.specs.Lists.{All, nil, cons, all}
 use Rattle.lists.proofs.Bools.{and-left, and-right, and-both}
-use Rattle.lists.proofs.Lists.{All-head, All-tail, All-map, all-true, map-same}
 use Rattle.meaning.specs.Operator.{Operator, eq, ne, lt, le, gt, ge}
 use Rattle.meaning.specs.Condition as C
 use Rattle.meaning.specs.Condition.{Where, always, under, sides, comparisonsIn}
@@ -19,7 +16,6 @@ use Rattle.meaning.specs.Postfix.{Node, leaf, allOf, anyOf, nodesIn, leaves}
 use Rattle.meaning.specs.Resolve.{operandConstants}
 use Rattle.meaning.specs.Limits.{isWithin32}
 use Rattle.meaning.specs.Statement as M
-use Rattle.meaning.specs.Statement.{column, value, constant, parameter}
 use Rattle.meaning.proofs.Postfix.{nodes-count}
 use Rattle.table.specs.Places.{operatorAt}
 use Rattle.table.specs.Sound.{operandRead, comparisonRead, nodesRead, operatorNumber, stepOf, OperandFits, ComparisonFits}
