@@ -3,3 +3,11 @@ pub mod Operands
 pub mod Steps
 pub mod Comparisons
 pub mod Readers
+pub mod Stored
+pub mod SoundCondition
+pub mod SoundNames
+pub mod SoundQuery
+pub mod SoundSettings
+pub mod SoundUpdate
+pub mod SoundTable
+pub mod SoundTables
