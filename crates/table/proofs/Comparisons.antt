@@ -3,17 +3,16 @@ use mathlib.Core.Path.{_≡_, refl, sym, ap, ap₂, subst, _∙_}
 use mathlib.Core.Bool.{Bool, true, false, cond, _||_}
 use mathlib.Core.Option.{none, some}
 use mathlib.Core.List.{List, [], _∷_, _++_}
-use Prim.Native.Nat.{ℕ, suc, _+_, _-_, _≤_, _<_}
+use Prim.Native.Nat.{ℕ, _+_, _-_, _≤_, _<_}
 use native.Mathlib.Omega.{arith}
 use borrow.Author.Tests.{lt-ltb}
 use lib.Dec.{ltb}
 use lib.ListN.{length, drop}
 use Rattle.lists.proofs.Bools.{clash}
 use Rattle.meaning.specs.Operator.{Operator, opposite}
-use Rattle.meaning.specs.Condition.{Comparison, compare}
-use Rattle.meaning.specs.Postfix.{Node, leaf, signed}
-use Rattle.meaning.specs.Tokens as T
-use Rattle.meaning.specs.Tokens.{tokens, operator}
+use Rattle.meaning.specs.Condition.{compare}
+use Rattle.meaning.specs.Postfix.{leaf, signed}
+use Rattle.meaning.specs.Tokens.{tokens}
 use Rattle.meaning.specs.Grammar.{constant, mark, Term, column, given, aToken, aTerm, operatorOf, aComparison}
 use Rattle.meaning.specs.Limits.{most-depth, markCount, termGivens}
 use Rattle.meaning.proofs.Readers.{aToken-some, aToken-none, then-some, then-none}
@@ -22,7 +21,7 @@ use Rattle.token.specs.Tokens.{kindOf, operatorNumber, tokenAt}
 use Rattle.table.specs.Places.{termOn, nodeOn, nodesOn, operatorAt}
 use Rattle.table.specs.Reading.{tokenPast, past, isOperand, isComparison, marksAt, oppositeOf, termPast, withSides, withNode, PutsNode, Stands, Found, Meets}
 use Rattle.table.specs.declared.conditions.Cursor.{Cursor}
-use Rattle.table.proofs.Operands.{append-marks, termOf, term-reader, term-none, IsTerm, is-term, operator-back, operator-few, opposite-is, opposite-few, no-operator, is-operator}
+use Rattle.table.proofs.Operands.{append-marks, termOf, term-reader, term-none, is-term, operator-back, operator-few, opposite-is, opposite-few, no-operator, is-operator}
 use Rattle.table.proofs.Steps.{Look, ended, seen, look, stands-there, name-length}
 
 -- ---- an operand
@@ -53,17 +52,18 @@ module _ (s : List ℕ) (at : ℕ) (u : Token) (e : u ≡ tokenAt s at) where
       go (seen v) =
           let t = v .token in
           let m = is-term t (u .start) (u .next) (name-length v) (ap isOperand (v .kind) ∙ h) in
-          let i = m .1 in
-          (m .0,
-          record {
-            on = omega (arith, v .from, v .moves);
-            within = v .inside;
-            begun = v .moves;
-            reads = ap aTerm (v .left) ∙ term-reader (t ∷ _) ∙ aToken-some termOf t _ _ (i .term);
-            here = i .here s (u .start) (stands-there v);
-            over = ap (λ k. tokenPast k (u .start) (u .next)) (sym (v .kind)) ∙ i .over;
-            marks = ap marksAt (sym (v .kind)) ∙ i .marks;
-          })
+          let i = m .1 in (
+            m .0,
+            record {
+              on = omega (arith, v .from, v .moves);
+              within = v .inside;
+              begun = v .moves;
+              reads = ap aTerm (v .left) ∙ term-reader (t ∷ _) ∙ aToken-some termOf t _ _ (i .term);
+              here = i .here s (u .start) (stands-there v);
+              over = ap (λ k. tokenPast k (u .start) (u .next)) (sym (v .kind)) ∙ i .over;
+              marks = ap marksAt (sym (v .kind)) ∙ i .marks;
+            },
+          )
 
 -- ---- an operator
 
@@ -89,14 +89,15 @@ module _ (s : List ℕ) (at : ℕ) (u : Token) (e : u ≡ tokenAt s at) where
       go (ended z q) = clash h (ap isComparison z)
       go (seen v) =
           let t = v .token in
-          let m = is-operator t (ap isComparison (v .kind) ∙ h) in
-          (m .0,
-          record {
-            on = omega (arith, v .from, v .moves);
-            within = v .inside;
-            reads = ap (aToken operatorOf) (v .left) ∙ aToken-some operatorOf t _ _ (ap operatorOf (m .1));
-            number = sym (v .kind) ∙ ap kindOf (m .1);
-          })
+          let m = is-operator t (ap isComparison (v .kind) ∙ h) in (
+            m .0,
+            record {
+              on = omega (arith, v .from, v .moves);
+              within = v .inside;
+              reads = ap (aToken operatorOf) (v .left) ∙ aToken-some operatorOf t _ _ (ap operatorOf (m .1));
+              number = sym (v .kind) ∙ ap kindOf (m .1);
+            },
+          )
 
 -- ---- a comparison's node
 

@@ -248,10 +248,12 @@ module _ (s : List ℕ) (c r : Cursor) where
   closes-not e i = ((λ _. e), λ _. subst (Passes s c r) (sym (passing-stops rparen (done tt) fails (tokens (drop (c .at) s)) i)) e)
 
 pub closes-here : (s : List ℕ) (c : Cursor) (next : ℕ) → c .ok ≡ true → Goes s (c .at) next rparen → Closes s c (movedTo next c)
-closes-here s c next e g =
-    ((λ z. clash e z), λ _.
-    subst (Passes s c (movedTo next c)) (sym (ap (expect rparen) (g .after) ∙ expect-here rparen (tokens (drop next s))))
-    (record { is = refl; moved = g .on; inside = g .within; left = refl }))
+closes-here s c next e g = (
+  (λ z. clash e z),
+  λ _.
+      subst (Passes s c (movedTo next c)) (sym (ap (expect rparen) (g .after) ∙ expect-here rparen (tokens (drop next s))))
+      (record { is = refl; moved = g .on; inside = g .within; left = refl }),
+)
 
 -- ---- the answers of `read_one`
 

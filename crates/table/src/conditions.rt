@@ -64,7 +64,7 @@ fn opposite(op: u8) -> u8
 
 // ---- nodes
 
-// How many numbers there is room for: three a node, and 15 nodes.
+// How many numbers there is room for: three a node, and 15 nodes. Only of an array by value is the length known to a proof; the compiled code copies nothing.
 fn room(places: [u16; 45]) -> usize
     ensures { λ r. ⌜ (r ≡ 45) × (length places ≡ 45) ⌝ }
 {
@@ -88,6 +88,7 @@ fn put(places: &mut [u16; 45], c: Cursor, node: u16, left: u16, right: u16) -> C
     d
 }
 
+// x or y, by a test.
 fn either(test: bool, x: u16, y: u16) -> u16
     ensures { λ r. ⌜ r ≡ cond test x y ⌝ }
 {
@@ -197,7 +198,14 @@ fn read_one(text: &[u8], places: &mut [u16; 45], c: Cursor, positive: bool, dept
 }
 
 // A comparison, whose first token is read.
-fn read_comparison(text: &[u8], places: &mut [u16; 45], c: Cursor, positive: bool, depth: u16, first: Token) -> Cursor
+fn read_comparison(
+    text: &[u8],
+    places: &mut [u16; 45],
+    c: Cursor,
+    positive: bool,
+    depth: u16,
+    first: Token,
+) -> Cursor
     requires { ⌜ (Stands (now text) c) × (first ≡ tokenAt (now text) (c .at)) ⌝ }
     ensures { λ r. ⌜ Meets (now (text .entry)) positive depth c (now (places .entry)) r (now (places .exit)) (aComparison (tokens (drop (c .at) (now (text .entry))))) ⌝ }
 {

@@ -93,7 +93,7 @@ and-read-one-requires : (t : ℕ) → read-and-lts.Need-read-one-requires (and-c
 and-read-one-requires t c κs = omega arith
 
 and-returns : (t : ℕ) → read-and-lts.Need-returns (and-calls t) (and-at t) read-and.Post
-and-returns t c = 
+and-returns t c =
     let a = c .before .before .before .before .before .args in
     let l = c .before .before .read-one in
     first-fails ands (a .text .now) (a .positive) (a .depth) (a .c) (a .places .now) (l .result) (l .last .1 .0) (l .ensures) (not-true _ (c .if1 .taken))
@@ -105,7 +105,7 @@ and-next-requires : (t : ℕ) → read-and-lts.Need-next-requires (and-calls t) 
 and-next-requires t c κs = search needs
 
 and-returns-2 : (t : ℕ) → read-and-lts.Need-returns-2 (and-calls t) (and-at t) read-and.Post
-and-returns-2 t c = 
+and-returns-2 t c =
     let a = c .before .before .before .before .before .before .before .before .before .args in
     let l = c .before .before .before .before .before .before .read-one in
     first-alone ands (a .text .now) (a .positive) (a .depth) (a .c) (a .places .now) (l .result) (l .last .1 .0) (l .ensures) (and-first t (c .before .before .before .before))
@@ -115,13 +115,13 @@ and-cast-p : (t : ℕ) → read-and-lts.Need-cast-p (and-calls t) (and-at t) rea
 and-cast-p t c = omega (arith, and-token t (c .before) .within, and-found t (c .before .before .before .before .before) .0 .short)
 
 and-read-and-requires : (t : ℕ) → read-and-lts.Need-read-and-requires (and-calls t) (and-at t) read-and.Post
-and-read-and-requires t c κs = 
+and-read-and-requires t c κs =
     let z = c .before .before .before .before .before .before .before .before .before .before .before in
     let on = and-found t (c .before .before .before .before .before .before) in
     omega (arith, on .1, may (and-token t (c .before .before)) (c .before .before .before .before .before .before .before .before .read-one .result) (z .args .depth) refl (on .0) (omega (arith, on .1, z .pre)), z .pre)
 
 and-returns-3 : (t : ℕ) → read-and-lts.Need-returns-3 (and-calls t) (and-at t) read-and.Post
-and-returns-3 t c = 
+and-returns-3 t c =
     let a = c .before .before .before .before .before .before .before .before .before .before .before .before .before .before .args in
     let l = c .before .before .before .before .before .before .before .before .before .before .before .read-one in
     let q = c .before .before .read-and in
@@ -131,7 +131,7 @@ and-either-requires : (t : ℕ) → read-and-lts.Need-either-requires (and-calls
 and-either-requires t c κs = search needs
 
 and-put-requires : (t : ℕ) → read-and-lts.Need-put-requires (and-calls t) (and-at t) read-and.Post
-and-put-requires t c κs = 
+and-put-requires t c κs =
     let z = c .before .before .before .before .before .before .before .before .before .before .before .before .before .before .before .before in
     let a = z .args in
     let p = c .before .before .before .before .before .before .before .before .before .before .before .before .before .read-one .result in
@@ -141,7 +141,7 @@ and-put-requires t c κs =
     may-put (a .text .now) p next (q .result) (and-found t (c .before .before .before .before .before .before .before .before .before .before .before) .0) (and-token t (c .before .before .before .before .before .before .before) .on) on
 
 and-returns-4 : (t : ℕ) → read-and-lts.Need-returns-4 (and-calls t) (and-at t) read-and.Post
-and-returns-4 t c = 
+and-returns-4 t c =
     let a = c .before .before .before .before .before .before .before .before .before .before .before .before .before .before .before .before .before .args in
     let l = c .before .before .before .before .before .before .before .before .before .before .before .before .before .before .read-one in
     let q = c .before .before .before .before .before .read-and in
@@ -170,7 +170,7 @@ or-read-and-requires : (t : ℕ) → read-or-lts.Need-read-and-requires (or-call
 or-read-and-requires t c κs = omega arith
 
 or-returns : (t : ℕ) → read-or-lts.Need-returns (or-calls t) (or-at t) read-or.Post
-or-returns t c = 
+or-returns t c =
     let a = c .before .before .before .before .before .args in
     let l = c .before .before .read-and in
     first-fails ors (a .text .now) (a .positive) (a .depth) (a .c) (a .places .now) (l .result) (l .last .1 .0) (l .ensures) (not-true _ (c .if1 .taken))
@@ -182,7 +182,7 @@ or-next-requires : (t : ℕ) → read-or-lts.Need-next-requires (or-calls t) (or
 or-next-requires t c κs = search needs
 
 or-returns-2 : (t : ℕ) → read-or-lts.Need-returns-2 (or-calls t) (or-at t) read-or.Post
-or-returns-2 t c = 
+or-returns-2 t c =
     let a = c .before .before .before .before .before .before .before .before .before .args in
     let l = c .before .before .before .before .before .before .read-and in
     first-alone ors (a .text .now) (a .positive) (a .depth) (a .c) (a .places .now) (l .result) (l .last .1 .0) (l .ensures) (or-first t (c .before .before .before .before))
@@ -192,13 +192,13 @@ or-cast-p : (t : ℕ) → read-or-lts.Need-cast-p (or-calls t) (or-at t) read-or
 or-cast-p t c = omega (arith, or-token t (c .before) .within, or-found t (c .before .before .before .before .before) .0 .short)
 
 or-read-or-requires : (t : ℕ) → read-or-lts.Need-read-or-requires (or-calls t) (or-at t) read-or.Post
-or-read-or-requires t c κs = 
+or-read-or-requires t c κs =
     let z = c .before .before .before .before .before .before .before .before .before .before .before in
     let on = or-found t (c .before .before .before .before .before .before) in
     omega (arith, on .1, may (or-token t (c .before .before)) (c .before .before .before .before .before .before .before .before .read-and .result) (z .args .depth) refl (on .0) (omega (arith, on .1, z .pre)), z .pre)
 
 or-returns-3 : (t : ℕ) → read-or-lts.Need-returns-3 (or-calls t) (or-at t) read-or.Post
-or-returns-3 t c = 
+or-returns-3 t c =
     let a = c .before .before .before .before .before .before .before .before .before .before .before .before .before .before .args in
     let l = c .before .before .before .before .before .before .before .before .before .before .before .read-and in
     let q = c .before .before .read-or in
@@ -208,7 +208,7 @@ or-either-requires : (t : ℕ) → read-or-lts.Need-either-requires (or-calls t)
 or-either-requires t c κs = search needs
 
 or-put-requires : (t : ℕ) → read-or-lts.Need-put-requires (or-calls t) (or-at t) read-or.Post
-or-put-requires t c κs = 
+or-put-requires t c κs =
     let z = c .before .before .before .before .before .before .before .before .before .before .before .before .before .before .before .before in
     let a = z .args in
     let p = c .before .before .before .before .before .before .before .before .before .before .before .before .before .read-and .result in
@@ -218,7 +218,7 @@ or-put-requires t c κs =
     may-put (a .text .now) p next (q .result) (or-found t (c .before .before .before .before .before .before .before .before .before .before .before) .0) (or-token t (c .before .before .before .before .before .before .before) .on) on
 
 or-returns-4 : (t : ℕ) → read-or-lts.Need-returns-4 (or-calls t) (or-at t) read-or.Post
-or-returns-4 t c = 
+or-returns-4 t c =
     let a = c .before .before .before .before .before .before .before .before .before .before .before .before .before .before .before .before .before .args in
     let l = c .before .before .before .before .before .before .before .before .before .before .before .before .before .before .read-and in
     let q = c .before .before .before .before .before .read-or in
@@ -248,12 +248,12 @@ one-add-read-one : (t : ℕ) → read-one-lts.Need-add-read-one (one-calls t) (o
 one-add-read-one t c = omega (arith, c .before .before .before .before .before .before .before .pre)
 
 one-read-one-requires : (t : ℕ) → read-one-lts.Need-read-one-requires (one-calls t) (one-at t) read-one.Post
-one-read-one-requires t c κs = 
+one-read-one-requires t c κs =
     let z = c .before .before .before .before .before .before .before in
     omega (arith, may (one-not t (c .before .before)) (z .args .c) (z .args .depth) refl (z .pre .1 .0) (z .pre .1 .1), z .pre)
 
 one-returns : (t : ℕ) → read-one-lts.Need-returns (one-calls t) (one-at t) read-one.Post
-one-returns t c = 
+one-returns t c =
     let a = c .before .before .before .before .before .before .before .before .args in
     one-negates (a .text .now) (a .positive) (a .depth) (a .c) (a .places .now) _ _ _ (one-not t (c .before .before .before)) (c .read-one .ensures)
 
@@ -264,18 +264,18 @@ one-add-read-or : (t : ℕ) → read-one-lts.Need-add-read-or (one-calls t) (one
 one-add-read-or t c = omega (arith, c .before .before .before .before .before .before .before .before .before .pre)
 
 one-read-or-requires : (t : ℕ) → read-one-lts.Need-read-or-requires (one-calls t) (one-at t) read-one.Post
-one-read-or-requires t c κs = 
+one-read-or-requires t c κs =
     let z = c .before .before .before .before .before .before .before .before .before in
     omega (arith, may (one-open t (c .before .before)) (z .args .c) (z .args .depth) refl (z .pre .1 .0) (z .pre .1 .1), z .pre)
 
 one-closed-requires : (t : ℕ) → read-one-lts.Need-closed-requires (one-calls t) (one-at t) read-one.Post
-one-closed-requires t c κs = 
+one-closed-requires t c κs =
     let a = c .before .before .before .before .before .before .before .before .before .before .args in
     let r = c .read-or in
     λ ok. found-on disjunction (a .text .now) (a .positive) (a .depth + 1) (movedTo (c .before .before .before .before .before .before .before .next .result .next) (a .c)) (a .places .now) (r .result) (r .last .1 .0) (r .ensures) ok .0
 
 one-returns-2 : (t : ℕ) → read-one-lts.Need-returns-2 (one-calls t) (one-at t) read-one.Post
-one-returns-2 t c = 
+one-returns-2 t c =
     let a = c .before .before .before .before .before .before .before .before .before .before .before .args in
     let r = c .before .read-or in
     one-closes (a .text .now) (a .positive) (a .depth) (a .c) (a .places .now) (r .result) (r .last .1 .0) _ (one-open t (c .before .before .before .before)) (r .ensures) (c .closed .result) (c .closed .ensures)
@@ -284,7 +284,7 @@ one-read-comparison-requires : (t : ℕ) → read-one-lts.Need-read-comparison-r
 one-read-comparison-requires t c κs = (c .before .before .before .before .before .before .before .before .pre .1 .0, c .before .before .before .before .before .next .ensures)
 
 one-returns-3 : (t : ℕ) → read-one-lts.Need-returns-3 (one-calls t) (one-at t) read-one.Post
-one-returns-3 t c = 
+one-returns-3 t c =
     let a = c .before .before .before .before .before .before .before .before .before .args in
     let u = c .before .before .before .before .before .before .next .result in
     let e = c .before .before .before .before .before .before .next .ensures in

@@ -40,7 +40,7 @@ returns-2 : tie.Need-returns-2
 returns-2 c =
     let z = c .before .before .before .before .before .before in
     let a = z .args in
-    no-sign (a .text .now) (a .positive) (a .depth) (a .c) (a .places .now) _ _ (a .first) (z .pre .1) (left-side (c .before .before .before )) _ (c .before .before .next .ensures) (sym (c .before .is-comparison .ensures) ∙ not-true _ (c .if2 .taken)) refl
+    no-sign (a .text .now) (a .positive) (a .depth) (a .c) (a .places .now) _ _ (a .first) (z .pre .1) (left-side (c .before .before .before)) _ (c .before .before .next .ensures) (sym (c .before .is-comparison .ensures) ∙ not-true _ (c .if2 .taken)) refl
 
 next-requires-2 : tie.Need-next-requires-2
 next-requires-2 c κs = search needs
@@ -52,7 +52,7 @@ returns-3 : tie.Need-returns-3
 returns-3 c =
     let z = c .before .before .before .before .before .before .before .before .before in
     let a = z .args in
-    no-right (a .text .now) (a .positive) (a .depth) (a .c) (a .places .now) _ _ (a .first) (z .pre .1) (left-side (c .before .before .before .before .before .before )) _ (c .before .before .before .before .before .next .ensures) (operator (c .before .before .before )) _ (c .before .before .next2 .ensures)
+    no-right (a .text .now) (a .positive) (a .depth) (a .c) (a .places .now) _ _ (a .first) (z .pre .1) (left-side (c .before .before .before .before .before .before)) _ (c .before .before .before .before .before .next .ensures) (operator (c .before .before .before)) _ (c .before .before .next2 .ensures)
     (sym (c .before .is-operand2 .ensures) ∙ not-true _ (c .if3 .taken)) refl
 
 sub-put-comparison : tie.Need-sub-put-comparison
@@ -64,13 +64,13 @@ put-comparison-requires : tie.Need-put-comparison-requires
 put-comparison-requires c κs =
     let z = c .before .before .before .before .before .before .before .before .before .before in
     let a = z .args in
-    fits (a .text .now) (a .positive) (a .depth) (a .c) (a .places .now) (a .c) (a .places .now) (a .first) (z .pre .1) (left-side (c .before .before .before .before .before .before .before )) (c .before .before .before .before .before .before .next .result) (c .before .before .before .before .before .before .next .ensures) (operator (c .before .before .before .before )) (c .before .before .before .next2 .result) (c .before .before .before .next2 .ensures) (right-side (c .before )) (z .pre .0)
+    fits (a .text .now) (a .positive) (a .depth) (a .c) (a .places .now) (a .c) (a .places .now) (a .first) (z .pre .1) (left-side (c .before .before .before .before .before .before .before)) (c .before .before .before .before .before .before .next .result) (c .before .before .before .before .before .before .next .ensures) (operator (c .before .before .before .before)) (c .before .before .before .next2 .result) (c .before .before .before .next2 .ensures) (right-side (c .before)) (z .pre .0)
 
 returns-4 : tie.Need-returns-4
 returns-4 c =
     let z = c .before .before .before .before .before .before .before .before .before .before .before in
     let a = z .args in
-    compares (a .text .now) (a .positive) (a .depth) (a .c) (a .places .now) _ _ (a .first) (z .pre .1) (left-side (c .before .before .before .before .before .before .before .before )) (c .before .before .before .before .before .before .before .next .result) (c .before .before .before .before .before .before .before .next .ensures) (operator (c .before .before .before .before .before )) (c .before .before .before .before .next2 .result) (c .before .before .before .before .next2 .ensures) (right-side (c .before .before )) (z .pre .0) (c .put-comparison .ensures)
+    compares (a .text .now) (a .positive) (a .depth) (a .c) (a .places .now) _ _ (a .first) (z .pre .1) (left-side (c .before .before .before .before .before .before .before .before)) (c .before .before .before .before .before .before .before .next .result) (c .before .before .before .before .before .before .before .next .ensures) (operator (c .before .before .before .before .before)) (c .before .before .before .before .next2 .result) (c .before .before .before .before .next2 .ensures) (right-side (c .before .before)) (z .pre .0) (c .put-comparison .ensures)
 
 pub read-comparison-spec : {M : Type 1} → statement M
 read-comparison-spec =
