@@ -4,15 +4,14 @@ use super::Condition;
 use super::Name;
 use token::Token;
 ghost use mathlib.Core.Path.{_≡_};
-ghost use mathlib.Core.Bool.{true, false};
-ghost use mathlib.Core.List.{[], _∷_};
-ghost use Prim.Native.Nat.{ℕ, _+_, _-_, _*_, _≤_, _<_};
+ghost use mathlib.Core.Bool.{true, cond};
+ghost use Prim.Native.Nat.{_-_, _≤_, _<_};
 ghost use lib.ListN.{length, drop};
 ghost use Rattle.meaning.specs.Condition.{atom, conjunction, disjunction};
 ghost use Rattle.meaning.specs.Grammar.{aComparison};
 ghost use Rattle.meaning.specs.Tokens.{tokens};
 ghost use Rattle.token.specs.Tokens.{tokenAt};
-ghost use Rattle.table.specs.Reading.{Stands, tokenPast, oppositeOf, PutsNode, Meets, Reads, Closes};
+ghost use Rattle.table.specs.Reading.{past, isOperand, isComparison, oppositeOf, withSides, PutsNode, Stands, Meets, Reads, Closes};
 
 // Where a reader stands in a text, and what it has counted: nodes of the condition, question marks. `over` says that a limit was passed by a name, a constant or
 // the depth; a reader that failed is not `ok`.
@@ -24,21 +23,34 @@ pub struct Cursor {
     pub at: u16,
 }
 
+// ---- tokens
+
+// How many bytes a token has.
+fn span(start: usize, next: usize) -> usize
+    ensures { λ r. ⌜ r ≡ next - start ⌝ }
+{
+    if start <= next { next - start } else { 0 }
+}
+
 // A name of more than 12 bytes, or a constant outside 32 bits.
 pub fn is_past(t: Token) -> bool
-    ensures { λ r. ⌜ r ≡ tokenPast (t .kind) (t .start) (t .next) ⌝ }
+    ensures { λ r. ⌜ r ≡ past t ⌝ }
 {
-    let kind = t.kind;
-    if kind == Token::BIG {
-        return true;
-    }
-    if kind == Token::NAME {
-        if t.start <= t.next {
-            return Name::BYTES < t.next - t.start;
-        }
-        return false;
-    }
-    false
+    (t.kind == Token::BIG) | ((t.kind == Token::NAME) & (Name::BYTES < span(t.start, t.next)))
+}
+
+// Whether a token is a name, a constant or a question mark.
+fn is_operand(kind: u8) -> bool
+    ensures { λ r. ⌜ r ≡ isOperand kind ⌝ }
+{
+    (Token::NAME <= kind) & (kind <= Token::MARK)
+}
+
+// Whether a token is one of the six operators.
+fn is_comparison(kind: u8) -> bool
+    ensures { λ r. ⌜ r ≡ isComparison kind ⌝ }
+{
+    (Token::EQ <= kind) & (kind <= Token::GE)
 }
 
 const OPPOSITES: [u8; 6] = [1, 0, 5, 4, 3, 2];
@@ -50,22 +62,61 @@ fn opposite(op: u8) -> u8
     if op < 6 { OPPOSITES[op as usize] } else { op }
 }
 
+// ---- nodes
+
+// How many numbers there is room for: three a node, and 15 nodes.
+fn room(places: [u16; 45]) -> usize
+    ensures { λ r. ⌜ (r ≡ 45) × (length places ≡ 45) ⌝ }
+{
+    places.len()
+}
+
 // A node at the end: a comparison (0 to 5) with the places of its sides, AND (6) or OR (7). Past the 15th none is noted, but it is counted.
 fn put(places: &mut [u16; 45], c: Cursor, node: u16, left: u16, right: u16) -> Cursor
     requires { ⌜ c .nodes < 256 ⌝ }
     ensures { λ r. ⌜ PutsNode (now (places .entry)) c node left right (now (places .exit)) r ⌝ }
 {
     let mut d = c;
-    let n = c.nodes as usize;
-    if n < Condition::STEPS {
-        let i = 3 * n;
+    d.nodes = c.nodes + 1;
+    let i = 3 * (c.nodes as usize);
+    if i + 2 < room(*places) {
         places[i] = node;
         places[i + 1] = left;
         places[i + 2] = right;
+        return d;
     }
-    d.nodes = c.nodes + 1;
     d
 }
+
+fn either(test: bool, x: u16, y: u16) -> u16
+    ensures { λ r. ⌜ r ≡ cond test x y ⌝ }
+{
+    if test { x } else { y }
+}
+
+// The comparison `op` of two tokens.
+fn put_comparison(
+    places: &mut [u16; 45],
+    c: Cursor,
+    positive: bool,
+    depth: u16,
+    a: Token,
+    op: u8,
+    b: Token,
+) -> Cursor
+    requires { ⌜ (c .nodes < 256) × (c .marks ≤ 256) × (a .start ≤ 256) × (b .start ≤ 256) × (b .next ≤ 256) ⌝ }
+    ensures { λ r. ⌜ PutsNode (now (places .entry)) (withSides depth a b c) (cond positive op (oppositeOf op)) (a .start) (b .start) (now (places .exit)) r ⌝ }
+{
+    let mut d = c;
+    d.ok = true;
+    d.over = c.over | ((Condition::DEPTH < depth) | (is_past(a) | is_past(b)));
+    d.marks = c.marks + (either(a.kind == Token::MARK, 1, 0) + either(b.kind == Token::MARK, 1, 0));
+    d.at = b.next as u16;
+    let node = either(positive, op as u16, opposite(op) as u16);
+    put(places, d, node, a.start as u16, b.start as u16)
+}
+
+// ---- the readers
 
 // A condition of ORs. Under an odd number of NOTs it is not `positive`.
 pub fn read_or(text: &[u8], places: &mut [u16; 45], c: Cursor, positive: bool, depth: u16) -> Cursor
@@ -85,7 +136,7 @@ pub fn read_or(text: &[u8], places: &mut [u16; 45], c: Cursor, positive: bool, d
     if !p.ok {
         return p;
     }
-    put(places, p, if positive { 7 } else { 6 }, 0, 0)
+    put(places, p, either(positive, 7, 6), 0, 0)
 }
 
 // A condition of ANDs.
@@ -106,12 +157,12 @@ fn read_and(text: &[u8], places: &mut [u16; 45], c: Cursor, positive: bool, dept
     if !p.ok {
         return p;
     }
-    put(places, p, if positive { 6 } else { 7 }, 0, 0)
+    put(places, p, either(positive, 6, 7), 0, 0)
 }
 
 // A condition in parentheses, whose inside is read: the closing one.
 fn closed(text: &[u8], c: Cursor) -> Cursor
-    requires { ⌜ c .ok ≡ true → Stands (now text) c ⌝ }
+    requires { ⌜ (c .ok ≡ true → Stands (now text) c) ⌝ }
     ensures { λ r. ⌜ Closes (now (text .entry)) c r ⌝ }
 {
     let mut d = c;
@@ -145,13 +196,6 @@ fn read_one(text: &[u8], places: &mut [u16; 45], c: Cursor, positive: bool, dept
     read_comparison(text, places, c, positive, depth, t)
 }
 
-// Whether a token is a column, a constant or a question mark.
-fn is_operand(kind: u8) -> bool
-    ensures { λ r. ⌜ r ≡ isOperand kind ⌝ }
-{
-    kind == Token::NAME || kind == Token::CONSTANT || kind == Token::BIG || kind == Token::MARK
-}
-
 // A comparison, whose first token is read.
 fn read_comparison(text: &[u8], places: &mut [u16; 45], c: Cursor, positive: bool, depth: u16, first: Token) -> Cursor
     requires { ⌜ (Stands (now text) c) × (first ≡ tokenAt (now text) (c .at)) ⌝ }
@@ -163,7 +207,7 @@ fn read_comparison(text: &[u8], places: &mut [u16; 45], c: Cursor, positive: boo
         return d;
     }
     let op = token::next(text, first.next);
-    if op.kind < Token::EQ || Token::GE < op.kind {
+    if !is_comparison(op.kind) {
         return d;
     }
     let last = token::next(text, op.next);
