@@ -3,3 +3,9 @@ pub mod Operands
 pub mod Steps
 pub mod Comparisons
 pub mod Readers
+pub mod SentenceLimits
+pub mod SentenceReaders
+pub mod SentenceTokens
+pub mod SentenceLists
+pub mod SentenceForms
+pub mod SentenceTexts
