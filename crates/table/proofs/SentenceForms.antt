@@ -23,7 +23,7 @@ use Rattle.table.specs.declared.sentences.Listing.{Listing}
 use Rattle.table.specs.declared.sentences.Entry.{Entry}
 use Rattle.table.specs.Places.{tokenOn, nameOn, nodesOn}
 use Rattle.table.specs.Reading.{Stands, movedTo, Meets, Reads}
-use Rattle.table.specs.Sentences.{itemsOn, itemOn, Before, Takes, After, Counts, Expects, ExpectsToken, longName, Names, outsideRows, CountsRows, Kind, names, values, settings, listPast, Holds, ReadsList, wherePast, Filters, calls, ReadsWhere, formOf, listLength, RowsAt, NamesAt, GivensAt, Entered, Starts, ReadsForm, Lists, Deletes}
+use Rattle.table.specs.Sentences.{itemsOn, itemOn, Ready, Within, Before, Takes, After, Counts, Expects, ExpectsToken, longName, Names, outsideRows, CountsRows, Kind, names, values, settings, listPast, Holds, ReadsList, wherePast, Filters, calls, ReadsWhere, formOf, listLength, RowsAt, NamesAt, GivensAt, Entered, Starts, ReadsForm, Lists, Deletes}
 use Rattle.table.proofs.Steps.{Goes}
 use Rattle.table.proofs.SentenceLimits.{sorted, ownPast, past-limit}
 use Rattle.table.proofs.SentenceReaders.{failed-before, finds, goes-on, counts-then}
@@ -101,6 +101,12 @@ module _ (s ls : List ℕ) (c m : Cursor) (p : Bool) (a : ℕ) (ps : List ℕ) (
       }
 
 -- ---- the five forms
+
+pub ready-start : (s : List ℕ) (c : Cursor) → Starts s c → Ready s c
+ready-start s c st = record { short = st .stands .short; stands = λ _. st .stands }
+
+pub list-starts : (s : List ℕ) (c : Cursor) → Ready s c → Within s c 0
+list-starts s c r = record { ready = r; small = omega arith; few = λ _. omega arith }
 
 module _ (s : List ℕ) (c : Cursor) (st : Starts s c) where
   pub of-table : (n : Placed) (c₁ : Cursor) (xs ys : List ℕ) (l : Listing) (c₂ c₃ : Cursor) (r : Placed)

@@ -25,7 +25,7 @@ use Rattle.table.specs.Reading.{Stands, movedTo}
 use Rattle.table.specs.Sentences.{itemsOn, Ready, Before, Takes, After, Counts, Expects, ExpectsToken, longName, Names, Gives, Kind, names, values, settings, Content, itemReader, itemOn, columnsIn, valuesIn, listPast, kindAt, PutsItem, Within, Holds, ReadsItem, ReadsList}
 use Rattle.table.proofs.Steps.{Goes}
 use Rattle.table.proofs.SentenceLimits.{sorted}
-use Rattle.table.proofs.SentenceReaders.{found, after-map, goes-on, recount, counts-then}
+use Rattle.table.proofs.SentenceReaders.{found, was-ok, ready-after, after-map, goes-on, stands-moved, recount, counts-then}
 
 -- ---- what is noted
 
@@ -117,6 +117,10 @@ kind-values n h = rw (ne-eqb n 0 (λ z. omega arith), eq-eqb n 1 h)
 pub kind-settings : (n : ℕ) → (n ≡ 0 → ⊥) → (n ≡ 1 → ⊥) → kindAt n ≡ settings
 kind-settings n h k = rw (ne-eqb n 0 h, ne-eqb n 1 k)
 
+-- an item of a kind is one of the kind with the same number
+pub of-kind : (k j : Kind) (s xs : List ℕ) (c : Cursor) (l : ℕ) (ys : List ℕ) (r : Listing) → j ≡ k → ReadsItem k s xs c l ys r → ReadsItem j s xs c l ys r
+of-kind k j s xs c l ys r e h = subst (λ i. ReadsItem i s xs c l ys r) (sym e) h
+
 -- ---- a list
 
 regroup : (a b p q : Bool) → (((a || false) || (b || false)) || (p || q)) ≡ ((a || p) || (b || q))
@@ -194,9 +198,26 @@ module _ (k : Kind) (s xs : List ℕ) (c : Cursor) (l : ℕ) (ys : List ℕ) (on
       left : c .at < one .c .at → length s - at < n
       left m = omega (arith, p .on, p .within)
 
--- an item that was read moved on, and the list is one longer
-pub item-read : (k : Kind) (s xs : List ℕ) (c : Cursor) (l : ℕ) (ys : List ℕ) (one : Listing) → ReadsItem k s xs c l ys one → one .c .ok ≡ true
-    → Stands s (one .c) × (c .at < one .c .at) × (one .listed ≡ l + 1)
-item-read k s xs c l ys one g e =
-    let f = found s (itemReader k) _ c (one .c) g e in
-    (f .2 .stands, f .3 .counts .moved, f .3 .listed-are)
+-- behind an item and a comma the list is read on, and less of the text is left
+module _ (k : Kind) (s xs : List ℕ) (c : Cursor) (l : ℕ) (ys : List ℕ) (one : Listing) (at : ℕ) where
+  pub list-asks : Within s c l → ReadsItem k s xs c l ys one → one .c .ok ≡ true → Goes s (one .c .at) at comma
+      → (length s - at < length s - c .at) × Within s (movedTo at (one .c)) (one .listed)
+  list-asks w g e p =
+      let f = found s (itemReader k) _ c (one .c) g e in
+      let st = f .2 .stands in
+      let m = f .3 .counts .moved in
+      let q = f .3 .listed-are in
+      let i = w .few (was-ok s (itemReader k) _ c (one .c) g e) in
+      let on = p .on in
+      let h = p .within in
+      let short = st .short in
+      (omega arith,
+      record {
+        ready = record { short = short; stands = λ _. stands-moved s (one .c) at st (omega arith) h };
+        small = omega arith;
+        few = λ _. omega arith;
+      })
+
+-- a reader may be called behind a list
+pub ready-list : (k : Kind) (s : List ℕ) → length s ≤ 256 → (xs : List ℕ) (c : Cursor) (l : ℕ) (ys : List ℕ) (r : Listing) → ReadsList k s xs c l ys r → Ready s (r .c)
+ready-list k s h xs c l ys r g = ready-after s (aList (itemReader k) (suc (length s))) _ c (r .c) h (g (suc (length s)) (omega arith))

@@ -38,6 +38,13 @@ module _ {A : Type 0} (s : List ℕ) (reader : Reader A) (Q : A → Type 0) (c r
       by-cursor true k = by-found (reader (tokens (drop (c .at) s))) (a .takes k)
       by-cursor false k = clash e (a .fails k)
 
+  pub was-ok : After s reader Q c r → r .ok ≡ true → c .ok ≡ true
+  was-ok a e = by-cursor (c .ok) refl
+    where
+      by-cursor : (b : Bool) → c .ok ≡ b → b ≡ true
+      by-cursor true k = refl
+      by-cursor false k = clash e (a .fails k)
+
   -- the next one may be called
   pub ready-after : length s ≤ 256 → After s reader Q c r → Ready s r
   ready-after h a = record { short = h; stands = λ e. found a e .2 .stands }

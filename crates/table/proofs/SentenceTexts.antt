@@ -17,10 +17,24 @@ use Rattle.token.specs.Tokens.{tokenAt}
 use Rattle.token.proofs.Laws.{token-end, token-ended}
 use Rattle.table.specs.declared.conditions.Cursor.{Cursor}
 use Rattle.table.specs.declared.sentences.Entry.{Entry}
-use Rattle.table.specs.Sentences.{Before, Takes, calls, Entered, Noted, ReadsForm, ReadsAny}
+use Rattle.table.specs.Sentences.{Before, Takes, calls, Entered, Noted, Starts, ReadsForm, ReadsAny}
 use Rattle.table.proofs.Steps.{Goes}
 
 -- ---- the first word
+
+-- nothing is counted behind it
+abbrev pub fresh : ℕ → Cursor
+fresh next = record { ok = true; over = false; nodes = 0; marks = 0; at = next }
+
+pub starts-here : (s : List ℕ) (next : ℕ) → length s ≤ 256 → next ≤ length s → Starts s (fresh next)
+starts-here s next h l =
+    record {
+      ok = refl;
+      stands = record { short = h; inside = l; few-nodes = omega arith; few-marks = omega arith };
+      over = refl;
+      nodes = refl;
+      marks = refl;
+    }
 
 module _ (n : ℕ) (ts : List Token) where
   pub first-table : aSentence n (keyword TABLE ∷ ts) ≡ aTable n ts
@@ -46,9 +60,9 @@ module _ (n : ℕ) (ts : List Token) where
 module _ (s ls ps : List ℕ) (r : Entry) where
   -- a form, behind its word
   pub starts-with : (k : Keyword) (reader : ℕ → Reader Sentence) → ((n : ℕ) (ts : List Token) → aSentence n (keyword k ∷ ts) ≡ reader n ts)
-      → (c : Cursor) → Goes s 0 (c .at) (keyword k) → ReadsForm reader s c ls ps r → ReadsAny s ls ps r
-  starts-with k reader f c g h n l =
-      subst (Takes s (r .c) (Entered s ls ps r)) (sym (ap (aSentence n) (g .after) ∙ f n (tokens (drop (c .at) s)))) (h n l)
+      → (next : ℕ) → Goes s 0 next (keyword k) → ReadsForm reader s (fresh next) ls ps r → ReadsAny s ls ps r
+  starts-with k reader f next g h n l =
+      subst (Takes s (r .c) (Entered s ls ps r)) (sym (ap (aSentence n) (g .after) ∙ f n (tokens (drop next s)))) (h n l)
 
   -- no form's word
   pub starts-not : begins (keyword TABLE) (tokens s) ≡ false → begins (keyword SELECT) (tokens s) ≡ false → begins (keyword INSERT) (tokens s) ≡ false

@@ -27,9 +27,9 @@ use Rattle.table.specs.declared.conditions.Cursor.{Cursor}
 use Rattle.table.specs.declared.sentences.Placed.{Placed}
 use Rattle.table.specs.Places.{tokenOn, nameOn, givenOn}
 use Rattle.table.specs.Reading.{Stands, tokenPast, past, marksAt, movedTo}
-use Rattle.table.specs.Sentences.{Before, Counts, Expects, longName, Names, Gives, isBetween, outsideRows, isRowsPast, CountsRows}
+use Rattle.table.specs.Sentences.{Ready, Before, Counts, Expects, ExpectsToken, longName, Names, Gives, isBetween, outsideRows, isRowsPast, CountsRows}
 use Rattle.table.proofs.Steps.{Look, ended, seen, look, stands-there, name-length, goes, stops}
-use Rattle.table.proofs.SentenceReaders.{failed-before, finds-none, finds, stands-moved}
+use Rattle.table.proofs.SentenceReaders.{failed-before, finds-none, finds, ready-after, stands-moved}
 
 -- ---- what the token u says that was read at a place
 
@@ -326,3 +326,12 @@ module _ (s : List ℕ) (c : Cursor) where
                 marks-are = sym (add-zero (c .marks));
                 nodes-are = refl;
               }, stands-there v ∙ i .1)
+
+-- ---- the next reader may be called
+
+module _ (s : List ℕ) (h : length s ≤ 256) (c : Cursor) where
+  pub ready-expect : (t : T.Token) (r : Cursor) → ExpectsToken s t c r → Ready s r
+  ready-expect t r a = ready-after s (expect t) _ c r h a
+
+  pub ready-name : (r : Placed) → Names s c r → Ready s (r .c)
+  ready-name r a = ready-after s aName _ c (r .c) h a

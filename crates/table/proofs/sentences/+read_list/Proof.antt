@@ -1,4 +1,16 @@
-use Prim.Native.Nat.{ℕ, _<_}
+-- The cycle of calls {read_list}. The measure is the length of the text that is left.
+-- Assumes nothing.
+use Prim.Native.Nat.{ℕ, _-_, _<_}
+use mathlib.Core.Path.{refl}
+use native.Mathlib.Omega.{arith}
+use borrow.Author.Needs.{needs}
+use borrow.Author.Tests.{not-true, not-false}
+use lib.ListN.{length}
+use Rattle.meaning.specs.Tokens.{comma}
+use Rattle.table.specs.Sentences.{kindAt}
+use Rattle.table.proofs.Steps.{goes, stops}
+use Rattle.table.proofs.SentenceTokens.{stays}
+use Rattle.table.proofs.SentenceLists.{list-fails, list-ends, list-goes, list-asks}
 use borrow.Fn.Kinds.{In}
 use borrow.Fn.PlainCycle.{Measures, is, falls, and}
 use Rattle.table.proofs.sentences.read_list.Reads as read-list
@@ -9,120 +21,67 @@ use Rattle.token.proofs.next.Reads as next-reads
 use Rattle.table.proofs.sentences.+read_list.{statement}
 use Rattle.table.proofs.sentences.+read_list.Tie.{close}
 
-abbrev μ-read-list : Measures 2 read-list-kinds.ps ℕ
-μ-read-list κs a = ?
+abbrev μ-list : Measures 2 read-list-kinds.ps ℕ
+μ-list κs a = length (a .0 .now) - a .1 .1 .0 .at
 
-abbrev read-list-at : ℕ → In 2 read-list-kinds.ps
-read-list-at t = and 2 read-list-kinds.ps (is 2 read-list-kinds.ps μ-read-list t) read-list.Pre
+-- what `read_list` is given at the measure t, and what a call of it asks below t
+abbrev list-at : ℕ → In 2 read-list-kinds.ps
+list-at t = and 2 read-list-kinds.ps (is 2 read-list-kinds.ps μ-list t) read-list.Pre
 
-abbrev read-list-below : ℕ → In 2 read-list-kinds.ps
-read-list-below t =
-    and 2 read-list-kinds.ps (falls 2 read-list-kinds.ps _<_ μ-read-list t) read-list.Pre
+abbrev list-below : ℕ → In 2 read-list-kinds.ps
+list-below t = and 2 read-list-kinds.ps (falls 2 read-list-kinds.ps _<_ μ-list t) read-list.Pre
 
--- src/sentences.rt:195:9
-read-list-read-item-requires : (t : ℕ) → read-list-lts.Need-read-item-requires (
-  read-item-reads.Asked,
-  read-item-reads.Learnt,
-  next-reads.Asked,
-  next-reads.Learnt,
-  read-list-below t,
-  read-list.Post,
-) (read-list-at t) read-list.Post
-read-list-read-item-requires t c κs = ?
+abbrev calls : ℕ → read-list-lts.Claims
+calls t = (read-item-reads.Asked, read-item-reads.Learnt, next-reads.Asked, next-reads.Learnt, list-below t, read-list.Post)
 
--- src/sentences.rt:198:9
-read-list-returns : (t : ℕ) → read-list-lts.Need-returns (
-  read-item-reads.Asked,
-  read-item-reads.Learnt,
-  next-reads.Asked,
-  next-reads.Learnt,
-  read-list-below t,
-  read-list.Post,
-) (read-list-at t) read-list.Post
-read-list-returns t c = ?
+read-item-requires : (t : ℕ) → read-list-lts.Need-read-item-requires (calls t) (list-at t) read-list.Post
+read-item-requires t c κs = c .before .before .pre .1
 
--- src/sentences.rt:200:30
-read-list-cast-next : (t : ℕ) → read-list-lts.Need-cast-next (
-  read-item-reads.Asked,
-  read-item-reads.Learnt,
-  next-reads.Asked,
-  next-reads.Learnt,
-  read-list-below t,
-  read-list.Post,
-) (read-list-at t) read-list.Post
-read-list-cast-next t c = ?
+returns : (t : ℕ) → read-list-lts.Need-returns (calls t) (list-at t) read-list.Post
+returns t c =
+    let a = c .before .before .before .before .before .before .args in
+    list-fails (kindAt (a .kind)) (a .text .now) (a .list .now) (a .c) (a .listed) _ _ (c .before .before .before .read-item .ensures) (not-true _ (c .if1 .taken))
 
--- src/sentences.rt:200:9
-read-list-next-requires : (t : ℕ) → read-list-lts.Need-next-requires (
-  read-item-reads.Asked,
-  read-item-reads.Learnt,
-  next-reads.Asked,
-  next-reads.Learnt,
-  read-list-below t,
-  read-list.Post,
-) (read-list-at t) read-list.Post
-read-list-next-requires t c κs = ?
+cast-next : (t : ℕ) → read-list-lts.Need-cast-next (calls t) (list-at t) read-list.Post
+cast-next t c = search needs
 
--- src/sentences.rt:202:9
-read-list-returns-2 : (t : ℕ) → read-list-lts.Need-returns-2 (
-  read-item-reads.Asked,
-  read-item-reads.Learnt,
-  next-reads.Asked,
-  next-reads.Learnt,
-  read-list-below t,
-  read-list.Post,
-) (read-list-at t) read-list.Post
-read-list-returns-2 t c = ?
+next-requires : (t : ℕ) → read-list-lts.Need-next-requires (calls t) (list-at t) read-list.Post
+next-requires t c κs = search needs
 
--- src/sentences.rt:204:12
-read-list-cast-p : (t : ℕ) → read-list-lts.Need-cast-p (
-  read-item-reads.Asked,
-  read-item-reads.Learnt,
-  next-reads.Asked,
-  next-reads.Learnt,
-  read-list-below t,
-  read-list.Post,
-) (read-list-at t) read-list.Post
-read-list-cast-p t c = ?
+returns-2 : (t : ℕ) → read-list-lts.Need-returns-2 (calls t) (list-at t) read-list.Post
+returns-2 t c =
+    let a = c .before .before .before .before .before .before .before .before .before .before .args in
+    let g = c .before .before .before .before .before .before .before .read-item in
+    list-ends (kindAt (a .kind)) (a .text .now) (a .list .now) (a .c) (a .listed) _ _ (g .ensures)
+    (stops (a .text .now) (g .result .c .at) (c .before .before .next .result) (c .before .before .next .ensures) comma (c .if2 .taken))
 
--- src/sentences.rt:205:5
-read-list-read-list-requires : (t : ℕ) → read-list-lts.Need-read-list-requires (
-  read-item-reads.Asked,
-  read-item-reads.Learnt,
-  next-reads.Asked,
-  next-reads.Learnt,
-  read-list-below t,
-  read-list.Post,
-) (read-list-at t) read-list.Post
-read-list-read-list-requires t c κs = ?
+cast-p : (t : ℕ) → read-list-lts.Need-cast-p (calls t) (list-at t) read-list.Post
+cast-p t c =
+    let z = c .before .before .before .before .before .before .before .before .before .before .before in
+    let w = stays (z .args .text .now) (c .before .before .before .before .before .before .before .before .read-item .result .c .at) (c .before .before .before .next .result) (c .before .before .before .next .ensures) in
+    omega (arith, w, z .pre .1 .ready .short)
 
--- src/sentences.rt:191:1
-read-list-returns-3 : (t : ℕ) → read-list-lts.Need-returns-3 (
-  read-item-reads.Asked,
-  read-item-reads.Learnt,
-  next-reads.Asked,
-  next-reads.Learnt,
-  read-list-below t,
-  read-list.Post,
-) (read-list-at t) read-list.Post
-read-list-returns-3 t c = ?
+read-list-requires : (t : ℕ) → read-list-lts.Need-read-list-requires (calls t) (list-at t) read-list.Post
+read-list-requires t c κs =
+    let z = c .before .before .before .before .before .before .before .before .before .before .before .before in
+    let a = z .args in
+    let s = a .text .now in
+    let g = c .before .before .before .before .before .before .before .before .before .read-item in
+    let k = not-false _ (c .before .before .before .before .before .before .if1 .left) in
+    let p = goes s (g .result .c .at) (c .before .before .before .before .next .result) (c .before .before .before .before .next .ensures) comma refl (c .before .before .if2 .left) in
+    let w = list-asks (kindAt (a .kind)) s (a .list .now) (a .c) (a .listed) _ (g .result) _ (z .pre .1) (g .ensures) k p in
+    (omega (arith, w .0, z .pre .0), w .1)
+
+returns-3 : (t : ℕ) → read-list-lts.Need-returns-3 (calls t) (list-at t) read-list.Post
+returns-3 t c =
+    let a = c .before .before .before .before .before .before .before .before .before .before .before .before .before .args in
+    let s = a .text .now in
+    let g = c .before .before .before .before .before .before .before .before .before .before .read-item in
+    let k = not-false _ (c .before .before .before .before .before .before .before .if1 .left) in
+    let p = goes s (g .result .c .at) (c .before .before .before .before .before .next .result) (c .before .before .before .before .before .next .ensures) comma refl (c .before .before .before .if2 .left) in
+    list-goes (kindAt (a .kind)) s (a .list .now) (a .c) (a .listed) _ (g .result) (g .ensures) _ _ _ k p (c .read-list .ensures)
 
 pub +read-list-spec : {M : Type 1} → statement M
-+read-list-spec = close μ-read-list λ t. read-list-lts.spec (
-  read-item-reads.Asked,
-  read-item-reads.Learnt,
-  next-reads.Asked,
-  next-reads.Learnt,
-  read-list-below t,
-  read-list.Post,
-)
-    (read-list-at t)
-    read-list.Post
-    (read-list-read-item-requires t)
-    (read-list-returns t)
-    (read-list-cast-next t)
-    (read-list-next-requires t)
-    (read-list-returns-2 t)
-    (read-list-cast-p t)
-    (read-list-read-list-requires t)
-    (read-list-returns-3 t)
++read-list-spec =
+    close μ-list
+    (λ t. read-list-lts.spec (calls t) (list-at t) read-list.Post (read-item-requires t) (returns t) (cast-next t) (next-requires t) (returns-2 t) (cast-p t) (read-list-requires t) (returns-3 t))

@@ -1,3 +1,12 @@
+-- `table::sentences::read_form` meets its contract.
+-- Assumes nothing.
+use Rattle.table.proofs.SentenceTexts.{starts-here, starts-with, starts-not, first-table, first-select, first-insert, first-update, first-delete}
+use Rattle.table.proofs.SentenceTokens.{stays}
+use Rattle.table.proofs.Steps.{goes, stops}
+use Rattle.meaning.specs.Grammar.{aTable, aSelect, anInsert, anUpdate, aDelete}
+use Rattle.meaning.specs.Tokens.{keyword, TABLE, SELECT, INSERT, UPDATE, DELETE}
+use native.Mathlib.Omega.{arith}
+use mathlib.Core.Path.{refl}
 use borrow.Author.Needs.{needs}
 use Rattle.table.proofs.sentences.read_form.Statement.{statement}
 use Rattle.table.proofs.sentences.read_form.Tie as tie
@@ -16,51 +25,77 @@ next-requires c κs = search needs
 
 -- src/sentences.rt:324:13
 cast-t6 : tie.Need-cast-t6
-cast-t6 c = ?
+cast-t6 c =
+    let z = c .before .before .before in
+    let a = z .args in
+    omega (arith, stays (a .text .now) 0 (c .before .next .result) (c .before .next .ensures), z .pre)
 
 -- src/sentences.rt:327:9
 read-table-requires : tie.Need-read-table-requires
-read-table-requires c κs = ?
+read-table-requires c κs =
+    let a = c .before .before .before .before .before .before .args in
+    starts-here (a .text .now) (c .before .before .before .before .next .result .next) (c .before .before .before .before .before .before .pre) (stays (a .text .now) 0 (c .before .before .before .before .next .result) (c .before .before .before .before .next .ensures))
 
 -- src/sentences.rt:327:9
 returns : tie.Need-returns
-returns c = ?
+returns c =
+    let a = c .before .before .before .before .before .before .before .args in
+    starts-with (a .text .now) _ _ (c .read-table .result) TABLE aTable first-table _ (goes (a .text .now) 0 (c .before .before .before .before .before .next .result) (c .before .before .before .before .before .next .ensures) (keyword TABLE) refl (c .before .before .if1 .taken)) (c .read-table .ensures _)
 
 -- src/sentences.rt:330:9
 read-select-requires : tie.Need-read-select-requires
-read-select-requires c κs = ?
+read-select-requires c κs =
+    let a = c .before .before .before .before .before .before .before .before .before .args in
+    starts-here (a .text .now) (c .before .before .before .before .before .before .before .next .result .next) (c .before .before .before .before .before .before .before .before .before .pre) (stays (a .text .now) 0 (c .before .before .before .before .before .before .before .next .result) (c .before .before .before .before .before .before .before .next .ensures))
 
 -- src/sentences.rt:330:9
 returns-2 : tie.Need-returns-2
-returns-2 c = ?
+returns-2 c =
+    let a = c .before .before .before .before .before .before .before .before .before .before .args in
+    starts-with (a .text .now) _ _ (c .read-select .result) SELECT aSelect first-select _ (goes (a .text .now) 0 (c .before .before .before .before .before .before .before .before .next .result) (c .before .before .before .before .before .before .before .before .next .ensures) (keyword SELECT) refl (c .before .before .before .if2 .taken)) (c .read-select .ensures)
 
 -- src/sentences.rt:333:9
 read-insert-requires : tie.Need-read-insert-requires
-read-insert-requires c κs = ?
+read-insert-requires c κs =
+    let a = c .before .before .before .before .before .before .before .before .before .before .args in
+    starts-here (a .text .now) (c .before .before .before .before .before .before .before .before .next .result .next) (c .before .before .before .before .before .before .before .before .before .before .pre) (stays (a .text .now) 0 (c .before .before .before .before .before .before .before .before .next .result) (c .before .before .before .before .before .before .before .before .next .ensures))
 
 -- src/sentences.rt:333:9
 returns-3 : tie.Need-returns-3
-returns-3 c = ?
+returns-3 c =
+    let a = c .before .before .before .before .before .before .before .before .before .before .before .args in
+    starts-with (a .text .now) _ _ (c .read-insert .result) INSERT anInsert first-insert _ (goes (a .text .now) 0 (c .before .before .before .before .before .before .before .before .before .next .result) (c .before .before .before .before .before .before .before .before .before .next .ensures) (keyword INSERT) refl (c .before .before .if3 .taken)) (c .read-insert .ensures _)
 
 -- src/sentences.rt:336:9
 read-update-requires : tie.Need-read-update-requires
-read-update-requires c κs = ?
+read-update-requires c κs =
+    let a = c .before .before .before .before .before .before .before .before .before .before .before .before .before .args in
+    starts-here (a .text .now) (c .before .before .before .before .before .before .before .before .before .before .before .next .result .next) (c .before .before .before .before .before .before .before .before .before .before .before .before .before .pre) (stays (a .text .now) 0 (c .before .before .before .before .before .before .before .before .before .before .before .next .result) (c .before .before .before .before .before .before .before .before .before .before .before .next .ensures))
 
 -- src/sentences.rt:336:9
 returns-4 : tie.Need-returns-4
-returns-4 c = ?
+returns-4 c =
+    let a = c .before .before .before .before .before .before .before .before .before .before .before .before .before .before .args in
+    starts-with (a .text .now) _ _ (c .read-update .result) UPDATE anUpdate first-update _ (goes (a .text .now) 0 (c .before .before .before .before .before .before .before .before .before .before .before .before .next .result) (c .before .before .before .before .before .before .before .before .before .before .before .before .next .ensures) (keyword UPDATE) refl (c .before .before .before .if4 .taken)) (c .read-update .ensures)
 
 -- src/sentences.rt:339:9
 read-delete-requires : tie.Need-read-delete-requires
-read-delete-requires c κs = ?
+read-delete-requires c κs =
+    let a = c .before .before .before .before .before .before .before .before .before .before .before .before .before .before .args in
+    starts-here (a .text .now) (c .before .before .before .before .before .before .before .before .before .before .before .before .next .result .next) (c .before .before .before .before .before .before .before .before .before .before .before .before .before .before .pre) (stays (a .text .now) 0 (c .before .before .before .before .before .before .before .before .before .before .before .before .next .result) (c .before .before .before .before .before .before .before .before .before .before .before .before .next .ensures))
 
 -- src/sentences.rt:339:9
 returns-5 : tie.Need-returns-5
-returns-5 c = ?
+returns-5 c =
+    let a = c .before .before .before .before .before .before .before .before .before .before .before .before .before .before .before .args in
+    starts-with (a .text .now) _ _ (c .read-delete .result) DELETE aDelete first-delete _ (goes (a .text .now) 0 (c .before .before .before .before .before .before .before .before .before .before .before .before .before .next .result) (c .before .before .before .before .before .before .before .before .before .before .before .before .before .next .ensures) (keyword DELETE) refl (c .before .before .if5 .taken)) (c .read-delete .ensures _)
 
 -- src/sentences.rt:314:1
 returns-6 : tie.Need-returns-6
-returns-6 c = ?
+returns-6 c =
+    let a = c .before .before .before .before .before .before .before .before .before .before .before .before .before .args in
+    starts-not (a .text .now) _ _ _ (stops (a .text .now) 0 (c .before .before .before .before .before .before .before .before .before .before .before .next .result) (c .before .before .before .before .before .before .before .before .before .before .before .next .ensures) (keyword TABLE) (c .before .before .before .before .before .before .before .before .if1 .left)) (stops (a .text .now) 0 (c .before .before .before .before .before .before .before .before .before .before .before .next .result) (c .before .before .before .before .before .before .before .before .before .before .before .next .ensures) (keyword SELECT) (c .before .before .before .before .before .before .if2 .left)) (stops (a .text .now) 0 (c .before .before .before .before .before .before .before .before .before .before .before .next .result) (c .before .before .before .before .before .before .before .before .before .before .before .next .ensures) (keyword INSERT) (c .before .before .before .before .if3 .left))
+    (stops (a .text .now) 0 (c .before .before .before .before .before .before .before .before .before .before .before .next .result) (c .before .before .before .before .before .before .before .before .before .before .before .next .ensures) (keyword UPDATE) (c .before .before .if4 .left)) (stops (a .text .now) 0 (c .before .before .before .before .before .before .before .before .before .before .before .next .result) (c .before .before .before .before .before .before .before .before .before .before .before .next .ensures) (keyword DELETE) (c .if5 .left)) refl
 
 pub read-form-spec : {M : Type 1} → statement M
 read-form-spec =

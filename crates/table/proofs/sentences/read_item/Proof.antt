@@ -1,3 +1,15 @@
+-- `table::sentences::read_item` meets its contract.
+-- Assumes nothing.
+use Rattle.table.proofs.SentenceLists.{name-item, value-item, setting-item, of-kind, kind-names, kind-values, kind-settings}
+use Rattle.table.specs.Sentences.{names, values, settings, kindAt}
+use mathlib.Core.Path.{refl}
+use Rattle.table.proofs.SentenceLists.{name-item, value-item, setting-item, kind-names, kind-values, kind-settings}
+use Rattle.table.proofs.SentenceTokens.{ready-expect, ready-name}
+use Rattle.table.specs.Sentences.{ReadsItem}
+use Rattle.meaning.specs.Tokens.{operator}
+use Rattle.meaning.specs.Operator.{Operator}
+use native.Mathlib.Omega.{arith}
+use mathlib.Core.Path.{refl, sym, subst}
 use borrow.Author.Needs.{needs}
 use Rattle.table.proofs.sentences.read_item.Statement.{statement}
 use Rattle.table.proofs.sentences.read_item.Tie as tie
@@ -18,7 +30,11 @@ put-item-requires c κs = search needs
 
 -- src/sentences.rt:168:9
 returns : tie.Need-returns
-returns c = ?
+returns c =
+    let z = c .before .before .before .before .before .before in
+    let a = z .args in
+    of-kind names (kindAt (a .kind)) (a .text .now) (a .list .now) (a .c) (a .listed) _ _ (kind-names (a .kind) (c .before .before .before .before .if1 .taken))
+    (name-item (a .text .now) (a .list .now) (a .c) (a .listed) _ _ (c .put-item .ensures .0) (c .before .before .before .read-name .result) 0 (c .before .before .before .read-name .ensures) (c .put-item .ensures .1))
 
 -- src/sentences.rt:174:13
 read-value-requires : tie.Need-read-value-requires
@@ -30,7 +46,11 @@ put-item-requires-2 c κs = search needs
 
 -- src/sentences.rt:176:9
 returns-2 : tie.Need-returns-2
-returns-2 c = ?
+returns-2 c =
+    let z = c .before .before .before .before .before .before .before in
+    let a = z .args in
+    of-kind values (kindAt (a .kind)) (a .text .now) (a .list .now) (a .c) (a .listed) _ _ (kind-values (a .kind) (c .before .before .before .before .if2 .taken))
+    (value-item (a .text .now) (a .list .now) (a .c) (a .listed) _ _ (c .put-item2 .ensures .0) (c .before .before .before .read-value .result) 0 (c .before .before .before .read-value .ensures) (c .put-item2 .ensures .1))
 
 -- src/sentences.rt:181:9
 read-name-requires-2 : tie.Need-read-name-requires-2
@@ -38,11 +58,15 @@ read-name-requires-2 c κs = search needs
 
 -- src/sentences.rt:182:30
 expect-requires : tie.Need-expect-requires
-expect-requires c κs = ?
+expect-requires c κs =
+    let z = c .before .before .before .before in
+    (ready-name (z .args .text .now) (z .pre .ready .short) (z .args .c) (c .read-name2 .result) (c .read-name2 .ensures), omega arith)
 
 -- src/sentences.rt:182:9
 read-value-requires-2 : tie.Need-read-value-requires-2
-read-value-requires-2 c κs = ?
+read-value-requires-2 c κs =
+    let z = c .before .before .before .before .before in
+    ready-expect (z .args .text .now) (z .pre .ready .short) (c .before .read-name2 .result .c) (operator Operator.eq) (c .expect .result) (c .expect .ensures (operator Operator.eq) refl)
 
 -- src/sentences.rt:186:17
 put-item-requires-3 : tie.Need-put-item-requires-3
@@ -50,7 +74,12 @@ put-item-requires-3 c κs = search needs
 
 -- src/sentences.rt:161:1
 returns-3 : tie.Need-returns-3
-returns-3 c = ?
+returns-3 c =
+    let z = c .before .before .before .before .before .before .before .before .before in
+    let a = z .args in
+    of-kind settings (kindAt (a .kind)) (a .text .now) (a .list .now) (a .c) (a .listed) _ _ (kind-settings (a .kind) (c .before .before .before .before .before .before .before .if1 .left) (c .before .before .before .before .before .before .if2 .left))
+    (setting-item (a .text .now) (a .list .now) (a .c) (a .listed) _ _ (c .put-item3 .ensures .0) (c .before .before .before .before .before .read-name2 .result) (c .before .before .before .before .expect .result) (c .before .before .before .read-value2 .result)
+    (c .before .before .before .before .before .read-name2 .ensures) (c .before .before .before .before .expect .ensures (operator Operator.eq) refl) (c .before .before .before .read-value2 .ensures) (c .put-item3 .ensures .1))
 
 pub read-item-spec : {M : Type 1} → statement M
 read-item-spec =

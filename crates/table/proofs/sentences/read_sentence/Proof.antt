@@ -1,3 +1,8 @@
+-- `table::sentences::read_sentence` meets its contract.
+-- Assumes nothing.
+use Rattle.table.proofs.SentenceTexts.{no-sentence, more-follows, all-read}
+use borrow.Author.Tests.{not-true, not-false}
+use mathlib.Core.Path.{refl}
 use borrow.Author.Needs.{needs}
 use Rattle.table.proofs.sentences.read_sentence.Statement.{statement}
 use Rattle.table.proofs.sentences.read_sentence.Tie as tie
@@ -12,7 +17,10 @@ read-form-requires c κs = search needs
 
 -- src/sentences.rt:359:9
 returns : tie.Need-returns
-returns c = ?
+returns c =
+    let a = c .before .before .before .before .before .before .before .args in
+    let r = c .before .before .before .read-form in
+    no-sentence (a .text .now) (r .last .1 .0) (r .last .1 .1 .0) (r .result) (r .ensures) (not-true _ (c .if1 .taken))
 
 -- src/sentences.rt:361:30
 cast-next : tie.Need-cast-next
@@ -24,11 +32,17 @@ next-requires c κs = search needs
 
 -- src/sentences.rt:352:1
 returns-2 : tie.Need-returns-2
-returns-2 c = ?
+returns-2 c =
+    let a = c .before .before .before .before .before .before .before .before .before .before .before .args in
+    let r = c .before .before .before .before .before .before .before .read-form in
+    more-follows (a .text .now) (r .last .1 .0) (r .last .1 .1 .0) (r .result) (r .ensures) (c .before .before .next .result) (c .before .before .next .ensures) _ (c .if2 .taken) refl
 
 -- src/sentences.rt:352:1
 returns-3 : tie.Need-returns-3
-returns-3 c = ?
+returns-3 c =
+    let a = c .before .before .before .before .before .before .before .before .before .before .before .args in
+    let r = c .before .before .before .before .before .before .before .read-form in
+    all-read (a .text .now) (r .last .1 .0) (r .last .1 .1 .0) (r .result) (r .ensures) (c .before .before .next .result) (c .before .before .next .ensures) (not-false _ (c .before .before .before .before .if1 .left)) (c .if2 .left)
 
 pub read-sentence-spec : {M : Type 1} → statement M
 read-sentence-spec =
