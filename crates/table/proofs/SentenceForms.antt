@@ -3,27 +3,24 @@ use mathlib.Core.Path.{_≡_, refl, sym, ap, subst, _∙_}
 use mathlib.Core.Bool.{Bool, true, false, _||_, or-false}
 use mathlib.Core.Option.{Option, none, some}
 use mathlib.Core.List.{List, [], _∷_, _++_, map, append-nil}
-use Prim.Native.Nat.{ℕ, zero, suc, _+_, _-_, _*_, _≤_, _<_}
+use Prim.Native.Nat.{ℕ, _+_}
 use native.Mathlib.Nat.{add-zero, zero-add}
 use native.Mathlib.Omega.{arith}
-use lib.Dec.{ltb}
-use lib.IntN.{ℤ}
 use lib.ListN.{length, drop}
 use Rattle.lists.proofs.Bools.{clash}
 use Rattle.meaning.specs.Condition.{Condition, disjunction, Where, always, under, operandsIn}
 use Rattle.meaning.specs.Postfix.{nodesIn}
-use Rattle.meaning.specs.Tokens as T
 use Rattle.meaning.specs.Tokens.{Name, Token, keyword, lparen, rparen, ROWS, FROM, WHERE, INTO, VALUES, SET, tokens}
-use Rattle.meaning.specs.Grammar.{Given, Term, Listed, items, Sentence, table, select, insert, update, delete, Reader, then, _>>=_, done, passing, expect, aToken, constantOf, aName, aList, aSetting, aGiven, aCondition, aWhere, aTable, aSelect, anInsert, anUpdate, aDelete}
-use Rattle.meaning.specs.Limits.{tableNamed, listColumns, listGivens, rowsOutside, whereOf, termGivens, markCount, givens, outside32}
+use Rattle.meaning.specs.Grammar.{Given, Term, items, Sentence, table, select, insert, update, delete, Reader, then, _>>=_, done, expect, aToken, constantOf, aName, aList, aSetting, aGiven, aCondition, aWhere, aTable, aSelect, anInsert, anUpdate}
+use Rattle.meaning.specs.Limits.{tableNamed, listGivens, whereOf, termGivens, markCount, givens}
 use Rattle.meaning.proofs.Readers.{begins, passing-stops, passing-yes}
 use Rattle.table.specs.declared.conditions.Cursor.{Cursor}
 use Rattle.table.specs.declared.sentences.Placed.{Placed}
 use Rattle.table.specs.declared.sentences.Listing.{Listing}
 use Rattle.table.specs.declared.sentences.Entry.{Entry}
-use Rattle.table.specs.Places.{tokenOn, nameOn, nodesOn}
+use Rattle.table.specs.Places.{nameOn, nodesOn}
 use Rattle.table.specs.Reading.{Stands, movedTo, Meets, Reads}
-use Rattle.table.specs.Sentences.{itemsOn, itemOn, Ready, Within, Before, Takes, After, Counts, Expects, ExpectsToken, longName, Names, outsideRows, CountsRows, Kind, names, values, settings, listPast, Holds, ReadsList, wherePast, Filters, calls, ReadsWhere, formOf, listLength, RowsAt, NamesAt, GivensAt, Entered, Starts, ReadsForm, Lists, Deletes}
+use Rattle.table.specs.Sentences.{itemOn, Ready, Within, Takes, Counts, Expects, isLongName, Names, outsideRows, CountsRows, names, values, settings, listPast, ReadsList, wherePast, Filters, ReadsWhere, formOf, listLength, RowsAt, NamesAt, GivensAt, Entered, Starts, ReadsForm, Lists, Deletes}
 use Rattle.table.proofs.Steps.{Goes}
 use Rattle.table.proofs.SentenceLimits.{sorted, ownPast, past-limit}
 use Rattle.table.proofs.SentenceReaders.{failed-before, finds, goes-on, counts-then}
@@ -63,9 +60,10 @@ module _ (s : List ℕ) (c : Cursor) (xs : List ℕ) where
 
       go : (o : Option (Condition Term disjunction × List Token)) → Meets s true 0 (movedTo at c) xs r ys o → Takes s r (Filters s c xs r ys) (then o (λ t. done (under t)))
       go none q = q
-      go (some x) q =
-          (record { ok = q .ok; stands = q .stands; left = q .left },
-          record { over = q .over; marks-are = q .marks-are; nodes-are = q .nodes-are; noted = q .noted })
+      go (some x) q = (
+        record { ok = q .ok; stands = q .stands; left = q .left },
+        record { over = q .over; marks-are = q .marks-are; nodes-are = q .nodes-are; noted = q .noted },
+      )
 
 -- ---- a sentence from what was counted up to m, before its WHERE
 
@@ -122,10 +120,12 @@ module _ (s : List ℕ) (c : Cursor) (st : Starts s c) where
       goes-on s _ _ Q (l .c) (r .c) (aList aName k (tokens (drop (c₁ .at) s))) (list .takes (b₂ .ok)) (λ f. h₆ .fails (word .fails (close .fails f))) (λ cs b₃ q₃.
       goes-on s _ _ Q c₂ (r .c) (expect rparen (tokens (drop (l .c .at) s))) (close .takes (b₃ .ok)) (λ f. h₆ .fails (word .fails f)) (λ u₄ b₄ q₄.
       goes-on s _ _ Q c₃ (r .c) (expect (keyword ROWS) (tokens (drop (c₂ .at) s))) (word .takes (b₄ .ok)) (λ f. h₆ .fails f) (λ u₅ b₅ q₅.
-      goes-on s _ _ Q (r .c) (r .c) (aToken constantOf (tokens (drop (c₃ .at) s))) (h₆ .takes (b₅ .ok)) (λ f. f) (λ z b₆ q₆.
-      (b₆, entered s ys c (r .c) _ _ ps E ps (table t cs z) st
-      (counts-then c c₃ (r .c) _ _ _ _ (counts-then c c₂ c₃ _ _ _ _ (counts-then c (l .c) c₂ _ _ _ _ (counts-then c c₁ (l .c) _ _ _ _ (counts-then c (n .c) c₁ _ _ _ _ (q₁ .0) q₂) (q₃ .counts)) q₄) q₅) (q₆ .0))
-      (filters-nothing s (r .c) ps) (b₆ .ok) refl (order (longName t) (listPast (items cs) []) (outsideRows z)) refl (q₁ .1) (q₆ .1) (q₃ .listed-are ∙ zero-add (length (items cs))) (q₃ .noted) tt)))))))
+      goes-on s _ _ Q (r .c) (r .c) (aToken constantOf (tokens (drop (c₃ .at) s))) (h₆ .takes (b₅ .ok)) (λ f. f) (λ z b₆ q₆. (
+        b₆,
+        entered s ys c (r .c) _ _ ps E ps (table t cs z) st
+            (counts-then c c₃ (r .c) _ _ _ _ (counts-then c c₂ c₃ _ _ _ _ (counts-then c (l .c) c₂ _ _ _ _ (counts-then c c₁ (l .c) _ _ _ _ (counts-then c (n .c) c₁ _ _ _ _ (q₁ .0) q₂) (q₃ .counts)) q₄) q₅) (q₆ .0))
+            (filters-nothing s (r .c) ps) (b₆ .ok) refl (order (isLongName t) (listPast (items cs) []) (outsideRows z)) refl (q₁ .1) (q₆ .1) (q₃ .listed-are ∙ zero-add (length (items cs))) (q₃ .noted) tt,
+      )))))))
     where
       E : Entry
       E = record { c = r .c; form = 0; table = n .place; rows = r .place; listed = l .listed }
@@ -146,9 +146,11 @@ module _ (s : List ℕ) (c : Cursor) (st : Starts s c) where
       goes-on s _ _ Q (l .c) r (aList aName k (tokens (drop (c .at) s))) (list .takes (st .ok)) (λ f. tail .fails (h₃ .fails (word .fails f))) (λ cs b₁ q₁.
       goes-on s _ _ Q c₁ r (expect (keyword FROM) (tokens (drop (l .c .at) s))) (word .takes (b₁ .ok)) (λ f. tail .fails (h₃ .fails f)) (λ u₂ b₂ q₂.
       goes-on s _ _ Q (n .c) r (aName (tokens (drop (c₁ .at) s))) (h₃ .takes (b₂ .ok)) (λ f. tail .fails f) (λ t b₃ q₃.
-      goes-on s _ _ Q r r (aWhere k (tokens (drop (n .c .at) s))) (tail .takes (b₃ .ok)) (λ f. f) (λ w b₄ q₄.
-      (b₄, entered s ys c (n .c) _ _ ps E ps′ (select cs t w) st (counts-then c c₁ (n .c) _ _ _ _ (counts-then c (l .c) c₁ _ _ _ _ (q₁ .counts) q₂) (q₃ .0)) q₄
-      (b₄ .ok) refl (order (longName t) (listPast (items cs) []) (wherePast w)) refl (q₃ .1) tt (q₁ .listed-are ∙ zero-add (length (items cs))) (q₁ .noted) tt)))))
+      goes-on s _ _ Q r r (aWhere k (tokens (drop (n .c .at) s))) (tail .takes (b₃ .ok)) (λ f. f) (λ w b₄ q₄. (
+        b₄,
+        entered s ys c (n .c) _ _ ps E ps′ (select cs t w) st (counts-then c c₁ (n .c) _ _ _ _ (counts-then c (l .c) c₁ _ _ _ _ (q₁ .counts) q₂) (q₃ .0)) q₄
+            (b₄ .ok) refl (order (isLongName t) (listPast (items cs) []) (wherePast w)) refl (q₃ .1) tt (q₁ .listed-are ∙ zero-add (length (items cs))) (q₁ .noted) tt,
+      )))))
     where
       E : Entry
       E = record { c = r; form = 1; table = n .place; rows = 0; listed = l .listed }
@@ -173,10 +175,12 @@ module _ (s : List ℕ) (c : Cursor) (st : Starts s c) where
       goes-on s _ _ Q c₂ r (expect (keyword VALUES) (tokens (drop (n .c .at) s))) (word .takes (b₂ .ok)) (λ f. close .fails (list .fails (open′ .fails f))) (λ u₃ b₃ q₃.
       goes-on s _ _ Q c₃ r (expect lparen (tokens (drop (c₂ .at) s))) (open′ .takes (b₃ .ok)) (λ f. close .fails (list .fails f)) (λ u₄ b₄ q₄.
       goes-on s _ _ Q (l .c) r (aList aGiven k (tokens (drop (c₃ .at) s))) (list .takes (b₄ .ok)) (λ f. close .fails f) (λ vs b₅ q₅.
-      goes-on s _ _ Q r r (expect rparen (tokens (drop (l .c .at) s))) (close .takes (b₅ .ok)) (λ f. f) (λ u₆ b₆ q₆.
-      (b₆, entered s ys c r _ _ ps E ps (insert t vs) st
-      (counts-then c (l .c) r _ _ _ _ (counts-then c c₃ (l .c) _ _ _ _ (counts-then c c₂ c₃ _ _ _ _ (counts-then c (n .c) c₂ _ _ _ _ (counts-then c c₁ (n .c) _ _ _ _ q₁ (q₂ .0)) q₃) q₄) (q₅ .counts)) q₆)
-      (filters-nothing s r ps) (b₆ .ok) refl (order (longName t) (listPast [] (items vs))) (omega arith) (q₂ .1) tt (q₅ .listed-are ∙ zero-add (length (items vs))) tt (q₅ .noted))))))))
+      goes-on s _ _ Q r r (expect rparen (tokens (drop (l .c .at) s))) (close .takes (b₅ .ok)) (λ f. f) (λ u₆ b₆ q₆. (
+        b₆,
+        entered s ys c r _ _ ps E ps (insert t vs) st
+            (counts-then c (l .c) r _ _ _ _ (counts-then c c₃ (l .c) _ _ _ _ (counts-then c c₂ c₃ _ _ _ _ (counts-then c (n .c) c₂ _ _ _ _ (counts-then c c₁ (n .c) _ _ _ _ q₁ (q₂ .0)) q₃) q₄) (q₅ .counts)) q₆)
+            (filters-nothing s r ps) (b₆ .ok) refl (order (isLongName t) (listPast [] (items vs))) (omega arith) (q₂ .1) tt (q₅ .listed-are ∙ zero-add (length (items vs))) tt (q₅ .noted),
+      )))))))
     where
       E : Entry
       E = record { c = r; form = 2; table = n .place; rows = 0; listed = l .listed }
@@ -197,12 +201,14 @@ module _ (s : List ℕ) (c : Cursor) (st : Starts s c) where
       goes-on s _ _ Q (n .c) r (aName (tokens (drop (c .at) s))) (h₁ .takes (st .ok)) (λ f. tail .fails (list .fails (word .fails f))) (λ t b₁ q₁.
       goes-on s _ _ Q c₁ r (expect (keyword SET) (tokens (drop (n .c .at) s))) (word .takes (b₁ .ok)) (λ f. tail .fails (list .fails f)) (λ u₂ b₂ q₂.
       goes-on s _ _ Q (l .c) r (aList aSetting k (tokens (drop (c₁ .at) s))) (list .takes (b₂ .ok)) (λ f. tail .fails f) (λ ss b₃ q₃.
-      goes-on s _ _ Q r r (aWhere k (tokens (drop (l .c .at) s))) (tail .takes (b₃ .ok)) (λ f. f) (λ w b₄ q₄.
-      (b₄, entered s ys c (l .c) _ _ ps E ps′ (update t ss w) st (counts-then c c₁ (l .c) _ _ _ _ (counts-then c (n .c) c₁ _ _ _ _ (q₁ .0) q₂) (q₃ .counts)) q₄
-      (b₄ .ok) refl (order (longName t) (listPast (map (λ (x : Name × Given). x .0) (items ss)) (map (λ (x : Name × Given). x .1) (items ss))) (wherePast w)) (omega arith)
-      (q₁ .1) tt (q₃ .listed-are ∙ zero-add (length (items ss)))
-      (λ m. sym (map-items (λ (x : Name × Given). x .0) (itemOn settings s) (l .listed) ys) ∙ ap (map (λ (x : Name × Given). x .0)) (q₃ .noted m))
-      (λ m. sym (map-items (λ (x : Name × Given). x .1) (itemOn settings s) (l .listed) ys) ∙ ap (map (λ (x : Name × Given). x .1)) (q₃ .noted m)))))))
+      goes-on s _ _ Q r r (aWhere k (tokens (drop (l .c .at) s))) (tail .takes (b₃ .ok)) (λ f. f) (λ w b₄ q₄. (
+        b₄,
+        entered s ys c (l .c) _ _ ps E ps′ (update t ss w) st (counts-then c c₁ (l .c) _ _ _ _ (counts-then c (n .c) c₁ _ _ _ _ (q₁ .0) q₂) (q₃ .counts)) q₄
+            (b₄ .ok) refl (order (isLongName t) (listPast (map (λ (x : Name × Given). x .0) (items ss)) (map (λ (x : Name × Given). x .1) (items ss))) (wherePast w)) (omega arith)
+            (q₁ .1) tt (q₃ .listed-are ∙ zero-add (length (items ss)))
+            (λ m. sym (map-items (λ (x : Name × Given). x .0) (itemOn settings s) (l .listed) ys) ∙ ap (map (λ (x : Name × Given). x .0)) (q₃ .noted m))
+            (λ m. sym (map-items (λ (x : Name × Given). x .1) (itemOn settings s) (l .listed) ys) ∙ ap (map (λ (x : Name × Given). x .1)) (q₃ .noted m)),
+      )))))
     where
       E : Entry
       E = record { c = r; form = 3; table = n .place; rows = 0; listed = l .listed }

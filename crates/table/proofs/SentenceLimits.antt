@@ -1,22 +1,21 @@
 -- A sentence is past a limit exactly if one of its parts is by itself, or there are too many items, question marks or nodes. Assumes nothing.
-use mathlib.Core.Path.{_≡_, refl, sym, ap, ap₂, _∙_}
-use mathlib.Core.Bool.{Bool, true, false, _||_, or-comm, or-assoc, or-false, or-self, or-self-left}
-use mathlib.Core.List.{List, [], _∷_, _++_, append-nil}
-use Prim.Native.Nat.{ℕ, suc, _+_, _*_, _≤_, _<_, max}
+use mathlib.Core.Path.{_≡_, refl, sym, ap, _∙_}
+use mathlib.Core.Bool.{Bool, true, false, _||_, or-comm, or-assoc, or-false, or-self}
+use mathlib.Core.List.{List, [], _∷_, _++_}
+use Prim.Native.Nat.{ℕ, suc, _+_, _*_, _<_, max}
 use native.Mathlib.Nat.{add-zero, zero-add}
 use native.Mathlib.Omega.{arith}
-use borrow.Author.Tests.{ltb-true, ltb-false, lt-ltb, le-ltb}
+use borrow.Author.Tests.{ltb-true, ltb-false, lt-ltb}
 use lib.Dec.{ltb}
 use lib.ListN.{length, length-append, length-map}
 use Rattle.lists.specs.Lists.{any}
 use Rattle.lists.proofs.Lists.{any-append}
 use Rattle.meaning.specs.Condition.{Comparison, Level, Condition, compare, negate, group, alone, both, single, either, Where, always, under, comparisons, sides, comparisonsIn, operandsIn, depth, depthIn, atom}
 use Rattle.meaning.specs.Postfix.{nodes, nodesIn}
-use Rattle.meaning.specs.Tokens.{Name}
-use Rattle.meaning.specs.Grammar.{Given, Term, column, given, items, Sentence, table, select, insert, update, delete}
-use Rattle.meaning.specs.Limits.{most-name, most-items, most-marks, most-comparisons, most-depth, tableNamed, listColumns, listGivens, rowsOf, whereOf, termGivens, termColumns, columnsNamed, givens, markCount, outside32, rowsOutside, manyItems, manyMarks, manyComparisons, pastLimit}
+use Rattle.meaning.specs.Grammar.{Term, column, given, items, Sentence, table, select, insert, update, delete}
+use Rattle.meaning.specs.Limits.{most-items, most-marks, most-comparisons, most-depth, tableNamed, listColumns, listGivens, whereOf, termGivens, termColumns, givens, markCount, outside32, rowsOutside, manyItems, manyMarks, manyComparisons, pastLimit}
 use Rattle.table.specs.Reading.{termPast, conditionPast}
-use Rattle.table.specs.Sentences.{longName, listPast, wherePast, listLength}
+use Rattle.table.specs.Sentences.{isLongName, listPast, wherePast, listLength}
 
 -- ---- Booleans and tests of numbers
 
@@ -116,7 +115,7 @@ where-past (under t) = condition-past 0 t ∙ rw (zero-add (depth t))
 
 -- past a limit by a name, a constant or the depth
 abbrev pub ownPast : Sentence → Bool
-ownPast x = longName (tableNamed x) || (listPast (listColumns x) (listGivens x) || (rowsOutside x || wherePast (whereOf x)))
+ownPast x = isLongName (tableNamed x) || (listPast (listColumns x) (listGivens x) || (rowsOutside x || wherePast (whereOf x)))
 
 many-items : (x : Sentence) → manyItems x ≡ ltb most-items (listLength x)
 many-items (table t cs z) = or-false _
@@ -136,7 +135,12 @@ pub past-limit : (x : Sentence)
 unfolding pastLimit
 past-limit x =
     let w = whereOf x in
-    rw (many-items x, any-append longName (listColumns x) (termColumns (operandsIn w)), any-append outside32 (listGivens x) (termGivens (operandsIn w)),
-    where-past w, many-nodes w)
-    (in-order (ltb most-items (listLength x)) (rowsOutside x) (manyMarks x) (manyComparisons x) (ltb most-depth (depthIn w)) (longName (tableNamed x))
-    (any longName (listColumns x)) (any outside32 (listGivens x)) (any longName (termColumns (operandsIn w))) (any outside32 (termGivens (operandsIn w))))
+    rw (
+      many-items x,
+      any-append isLongName (listColumns x) (termColumns (operandsIn w)),
+      any-append outside32 (listGivens x) (termGivens (operandsIn w)),
+      where-past w,
+      many-nodes w,
+    )
+    (in-order (ltb most-items (listLength x)) (rowsOutside x) (manyMarks x) (manyComparisons x) (ltb most-depth (depthIn w)) (isLongName (tableNamed x))
+    (any isLongName (listColumns x)) (any outside32 (listGivens x)) (any isLongName (termColumns (operandsIn w))) (any outside32 (termGivens (operandsIn w))))

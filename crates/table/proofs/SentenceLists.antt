@@ -1,28 +1,25 @@
 -- Items and lists: what `put_item` leaves, and the steps of the readers. Assumes nothing.
 use mathlib.Core.Path.{_≡_, refl, sym, ap, subst, _∙_}
 use mathlib.Core.Bool.{Bool, true, false, _||_, or-false}
-use mathlib.Core.Option.{Option, none, some}
 use mathlib.Core.List.{List, [], _∷_, _++_, map, append-assoc}
 use Prim.Native.Nat.{ℕ, zero, suc, _+_, _-_, _*_, _≤_, _<_}
 use native.Mathlib.Nat.{add-zero}
 use native.Mathlib.Numerals.{add-one}
 use native.Mathlib.Omega.{arith}
 use borrow.Author.Tests.{eq-eqb, ne-eqb}
-use lib.Dec.{eqb}
 use lib.ListN.{length, set, drop, getD}
 use Rattle.lists.specs.Lists.{any}
 use Rattle.lists.proofs.Bools.{clash}
 use Rattle.meaning.specs.Operator.{Operator}
-use Rattle.meaning.specs.Tokens.{Name, Token, operator, comma, tokens}
-use Rattle.meaning.specs.Grammar.{Given, Listed, last, next, items, Reader, then, _>>=_, done, passing, expect, aName, aGiven, aSetting, aList}
-use Rattle.meaning.specs.Limits.{most-items, outside32, markIn, markCount}
+use Rattle.meaning.specs.Tokens.{Name, operator, comma, tokens}
+use Rattle.meaning.specs.Grammar.{Given, Listed, last, next, items, Reader, _>>=_, done, passing, expect, aName, aGiven, aList}
+use Rattle.meaning.specs.Limits.{most-items, outside32, markCount}
 use Rattle.meaning.proofs.Readers.{begins, passing-stops, passing-yes}
 use Rattle.table.specs.declared.conditions.Cursor.{Cursor}
 use Rattle.table.specs.declared.sentences.Placed.{Placed}
 use Rattle.table.specs.declared.sentences.Listing.{Listing}
-use Rattle.table.specs.Places.{nameOn, givenOn}
-use Rattle.table.specs.Reading.{Stands, movedTo}
-use Rattle.table.specs.Sentences.{itemsOn, Ready, Before, Takes, After, Counts, Expects, ExpectsToken, longName, Names, Gives, Kind, names, values, settings, Content, itemReader, itemOn, columnsIn, valuesIn, listPast, kindAt, PutsItem, Within, Holds, ReadsItem, ReadsList}
+use Rattle.table.specs.Reading.{movedTo}
+use Rattle.table.specs.Sentences.{itemsOn, Ready, Takes, Counts, ExpectsToken, isLongName, Names, Gives, Kind, names, values, settings, Content, itemReader, itemOn, columnsIn, valuesIn, listPast, kindAt, PutsItem, Within, Holds, ReadsItem, ReadsList}
 use Rattle.table.proofs.Steps.{Goes}
 use Rattle.table.proofs.SentenceLimits.{sorted}
 use Rattle.table.proofs.SentenceReaders.{found, was-ok, ready-after, after-map, goes-on, stands-moved, recount, counts-then}
@@ -101,10 +98,10 @@ module _ (s xs : List ℕ) (c : Cursor) (l : ℕ) (ys : List ℕ) (m : ℕ) (e :
       Q : Name × Given → Type 0
       Q x = Holds settings s xs c l ys (record { c = v .c; listed = m }) (x ∷ [])
 
-      both : (x : Name) (y : Given) → Counts c (n .c) (longName x) 0 → Counts (n .c) d false 0 → Counts d (v .c) (outside32 y) (markCount (y ∷ []))
-          → Counts c (v .c) ((longName x || false) || (outside32 y || false)) (markCount (y ∷ []))
+      both : (x : Name) (y : Given) → Counts c (n .c) (isLongName x) 0 → Counts (n .c) d false 0 → Counts d (v .c) (outside32 y) (markCount (y ∷ []))
+          → Counts c (v .c) ((isLongName x || false) || (outside32 y || false)) (markCount (y ∷ []))
       both x y a b g =
-          recount c (v .c) _ _ _ _ (sym (ap (λ z. (longName x || false) || z) (or-false (outside32 y)))) (omega arith)
+          recount c (v .c) _ _ _ _ (sym (ap (λ z. (isLongName x || false) || z) (or-false (outside32 y)))) (omega arith)
           (counts-then c d (v .c) _ _ _ _ (counts-then c (n .c) d _ _ _ _ a b) g)
 
 -- by the number of its kind
@@ -129,9 +126,9 @@ regroup a b p q = simp sorted
 -- one item, and those behind it
 past-more : (k : Kind) (x : Content k) (us : List (Content k))
     → (listPast (columnsIn k (x ∷ [])) (valuesIn k (x ∷ [])) || listPast (columnsIn k us) (valuesIn k us)) ≡ listPast (columnsIn k (x ∷ us)) (valuesIn k (x ∷ us))
-past-more names x us = regroup (longName x) false (any longName us) false
+past-more names x us = regroup (isLongName x) false (any isLongName us) false
 past-more values x us = regroup false (outside32 x) false (any outside32 us)
-past-more settings x us = regroup (longName (x .0)) (outside32 (x .1)) (any longName (columnsIn settings us)) (any outside32 (valuesIn settings us))
+past-more settings x us = regroup (isLongName (x .0)) (outside32 (x .1)) (any isLongName (columnsIn settings us)) (any outside32 (valuesIn settings us))
 
 marks-more : (k : Kind) (x : Content k) (us : List (Content k)) → markCount (valuesIn k (x ∷ [])) + markCount (valuesIn k us) ≡ markCount (valuesIn k (x ∷ us))
 marks-more names x us = refl
@@ -148,8 +145,8 @@ module _ (k : Kind) (s xs : List ℕ) (c : Cursor) (l : ℕ) (ys : List ℕ) (on
       let comma : Counts (one .c) (movedTo at (one .c)) false 0 = record { moved = h; over = sym (or-false (one .c .over)); marks-are = sym (add-zero (one .c .marks)); nodes-are = refl } in
       record {
         counts =
-          recount c (r .c) _ _ _ _ (ap (λ b. b || listPast (columnsIn k us) (valuesIn k us)) (or-false (listPast (columnsIn k (x ∷ [])) (valuesIn k (x ∷ [])))) ∙ past-more k x us) (omega (arith, marks-more k x us))
-          (counts-then c (movedTo at (one .c)) (r .c) _ _ _ _ (counts-then c (one .c) (movedTo at (one .c)) _ _ _ _ (p .counts) comma) (q .counts));
+            recount c (r .c) _ _ _ _ (ap (λ b. b || listPast (columnsIn k us) (valuesIn k us)) (or-false (listPast (columnsIn k (x ∷ [])) (valuesIn k (x ∷ [])))) ∙ past-more k x us) (omega (arith, marks-more k x us))
+            (counts-then c (movedTo at (one .c)) (r .c) _ _ _ _ (counts-then c (one .c) (movedTo at (one .c)) _ _ _ _ (p .counts) comma) (q .counts));
         listed-are = omega arith;
         noted = λ m.
             q .noted m ∙ ap (λ ns. ns ++ us) (p .noted (omega arith)) ∙ append-assoc (itemsOn (itemOn k s) l xs) (x ∷ []) us;
@@ -210,13 +207,14 @@ module _ (k : Kind) (s xs : List ℕ) (c : Cursor) (l : ℕ) (ys : List ℕ) (on
       let i = w .few (was-ok s (itemReader k) _ c (one .c) g e) in
       let on = p .on in
       let h = p .within in
-      let short = st .short in
-      (omega arith,
-      record {
-        ready = record { short = short; stands = λ _. stands-moved s (one .c) at st (omega arith) h };
-        small = omega arith;
-        few = λ _. omega arith;
-      })
+      let short = st .short in (
+        omega arith,
+        record {
+          ready = record { short = short; stands = λ _. stands-moved s (one .c) at st (omega arith) h };
+          small = omega arith;
+          few = λ _. omega arith;
+        },
+      )
 
 -- a reader may be called behind a list
 pub ready-list : (k : Kind) (s : List ℕ) → length s ≤ 256 → (xs : List ℕ) (c : Cursor) (l : ℕ) (ys : List ℕ) (r : Listing) → ReadsList k s xs c l ys r → Ready s (r .c)

@@ -1,6 +1,5 @@
 -- A sentence from its first word, and to the end of the text. Assumes nothing.
 use mathlib.Core.Path.{_≡_, refl, sym, ap, subst, _∙_}
-use mathlib.Core.Logic.{_≢_}
 use mathlib.Core.Bool.{true, false}
 use mathlib.Core.Option.{Option, none, some}
 use mathlib.Core.List.{List, [], _∷_}
@@ -17,7 +16,7 @@ use Rattle.token.specs.Tokens.{tokenAt}
 use Rattle.token.proofs.Laws.{token-end, token-ended}
 use Rattle.table.specs.declared.conditions.Cursor.{Cursor}
 use Rattle.table.specs.declared.sentences.Entry.{Entry}
-use Rattle.table.specs.Sentences.{Before, Takes, calls, Entered, Noted, Starts, ReadsForm, ReadsAny}
+use Rattle.table.specs.Sentences.{Takes, calls, Entered, Noted, Starts, ReadsForm, ReadsAny}
 use Rattle.table.proofs.Steps.{Goes}
 
 -- ---- the first word

@@ -1,33 +1,31 @@
 -- The readers of one token: a token that its kind tells, a name, a value, the constant of ROWS. Assumes nothing.
-use mathlib.Core.Path.{_≡_, refl, sym, ap, ap₂, subst, _∙_}
+use mathlib.Core.Path.{_≡_, refl, sym, ap, ap₂, _∙_}
 use mathlib.Core.Bool.{Bool, true, false, not, cond, _&&_, _||_, or-false, or-true}
 use mathlib.Core.Option.{Option, none, some}
 use mathlib.Core.List.{List, [], _∷_}
-use Prim.Native.Nat.{ℕ, suc, _+_, _-_, _≤_, _<_}
+use Prim.Native.Nat.{ℕ, _+_, _-_, _≤_, _<_}
 use native.Mathlib.Nat.{add-zero, le-trans}
 use native.Mathlib.Omega.{arith}
 use borrow.Author.Tests.{leb-true, le-leb}
-use lib.Dec.{leb, ltb, eqb}
+use lib.Dec.{leb, eqb}
 use lib.IntN.{ℤ, pos, negsuc}
 use lib.ListN.{length, drop}
-use lib.Signed.{leZ, ltZ}
-use Rattle.lists.specs.Lists.{dropWhile}
+use lib.Signed.{ltZ}
 use Rattle.lists.proofs.Bools.{and-left, and-right, clash, leZ-not, not-and, not-not}
 use Rattle.meaning.specs.Tokens as T
-use Rattle.meaning.specs.Tokens.{Name, keyword, name, operator, comma, lparen, rparen, other, isSpace, firstToken, tokens}
-use Rattle.meaning.specs.Grammar.{Given, constant, mark, givenToken, Reader, passing, done, fails, expect, aToken, nameOf, constantOf, aName, aGiven}
-use Rattle.meaning.specs.Limits.{isWithin32, outside32, markIn, markCount}
-use Rattle.meaning.proofs.Readers.{aToken-some, aToken-none, passing-stops, begins, expect-here, some-none}
-use Rattle.meaning.proofs.Stream.{tokens-none, tokens-some}
+use Rattle.meaning.specs.Tokens.{Name, keyword, name, operator, comma, lparen, rparen, other, tokens}
+use Rattle.meaning.specs.Grammar.{Given, constant, mark, done, fails, expect, aToken, nameOf, constantOf, aName, aGiven}
+use Rattle.meaning.specs.Limits.{isWithin32, outside32, markCount}
+use Rattle.meaning.proofs.Readers.{aToken-some, aToken-none, passing-stops, expect-here}
 use Rattle.token.specs.declared.Token.{Token}
 use Rattle.token.specs.Tokens.{kindOf, valueOf, tokenAt}
 use Rattle.token.proofs.Laws.{Reads, start-next, next-inside}
 use Rattle.token.proofs.TokenKinds.{isFixed}
 use Rattle.table.specs.declared.conditions.Cursor.{Cursor}
 use Rattle.table.specs.declared.sentences.Placed.{Placed}
-use Rattle.table.specs.Places.{tokenOn, nameOn, givenOn}
+use Rattle.table.specs.Places.{tokenOn, givenOn}
 use Rattle.table.specs.Reading.{Stands, tokenPast, past, marksAt, movedTo}
-use Rattle.table.specs.Sentences.{Ready, Before, Counts, Expects, ExpectsToken, longName, Names, Gives, isBetween, outsideRows, isRowsPast, CountsRows}
+use Rattle.table.specs.Sentences.{Ready, Before, Counts, Expects, ExpectsToken, isLongName, Names, Gives, isBetween, outsideRows, isRowsPast, CountsRows}
 use Rattle.table.proofs.Steps.{Look, ended, seen, look, stands-there, name-length, goes, stops}
 use Rattle.table.proofs.SentenceReaders.{failed-before, finds-none, finds, ready-after, stands-moved}
 
@@ -261,7 +259,7 @@ module _ (s : List ℕ) (c : Cursor) where
         (token-none constantOf s (c .at) u (look s (c .at) u e) (λ t q. no-constant t (ap (λ n. isBetween n 3 4) q ∙ h))) f
 
     module _ (k : c .ok ≡ true) (st : Stands s c) where
-      long : (n : Name) → u .kind ≡ 2 → u .next - u .start ≡ length n → past u ≡ longName n
+      long : (n : Name) → u .kind ≡ 2 → u .next - u .start ≡ length n → past u ≡ isLongName n
       unfolding tokenPast
       long n h l = rw (h, l)
 
@@ -274,13 +272,15 @@ module _ (s : List ℕ) (c : Cursor) where
               let i = is-name (v .token) (v .kind ∙ h) in
               let n = i .0 in
               finds s aName _ c (stepped c u (past u) (c .marks)) n (tokens (drop (u .next) s)) k (token-found nameOf s (c .at) u v n (ap nameOf (i .1)))
-              (stepped-before s c u k st v (past u) (c .marks) (omega (arith, st .few-marks, on s c u k st v)))
-              (record {
-                moved = on s c u k st v;
-                over = ap (λ b. c .over || b) (long n h (name-length v n (i .1)));
-                marks-are = sym (add-zero (c .marks));
-                nodes-are = refl;
-              }, rw (stands-there v ∙ i .1))
+              (stepped-before s c u k st v (past u) (c .marks) (omega (arith, st .few-marks, on s c u k st v))) (
+                record {
+                  moved = on s c u k st v;
+                  over = ap (λ b. c .over || b) (long n h (name-length v n (i .1)));
+                  marks-are = sym (add-zero (c .marks));
+                  nodes-are = refl;
+                },
+                rw (stands-there v ∙ i .1),
+              )
 
       pub value-found : isBetween (u .kind) 3 5 ≡ true → Gives s c (record { c = stepped c u (past u) (c .marks + marksAt (u .kind)); place = u .start })
       value-found h = go (look s (c .at) u e)
@@ -296,13 +296,15 @@ module _ (s : List ℕ) (c : Cursor) where
               let w = i .1 in
               finds s aGiven _ c (stepped c u (past u) (c .marks + marksAt (u .kind))) g (tokens (drop (u .next) s)) k
               (given-reader (tokens (drop (c .at) s)) ∙ token-found givenOf s (c .at) u v g (w .is))
-              (stepped-before s c u k st v (past u) (c .marks + marksAt (u .kind)) (omega (arith, st .few-marks, on s c u k st v, few-marks (u .kind))))
-              (record {
-                moved = on s c u k st v;
-                over = ap (λ b. c .over || b) (ap (λ n. tokenPast n (u .start) (u .next)) (sym (v .kind)) ∙ w .over (u .start) (u .next));
-                marks-are = ap (λ m. c .marks + m) (ap marksAt (sym (v .kind)) ∙ w .marks);
-                nodes-are = refl;
-              }, w .here s (u .start) (stands-there v))
+              (stepped-before s c u k st v (past u) (c .marks + marksAt (u .kind)) (omega (arith, st .few-marks, on s c u k st v, few-marks (u .kind)))) (
+                record {
+                  moved = on s c u k st v;
+                  over = ap (λ b. c .over || b) (ap (λ n. tokenPast n (u .start) (u .next)) (sym (v .kind)) ∙ w .over (u .start) (u .next));
+                  marks-are = ap (λ m. c .marks + m) (ap marksAt (sym (v .kind)) ∙ w .marks);
+                  nodes-are = refl;
+                },
+                w .here s (u .start) (stands-there v),
+              )
 
       pub rows-found : isBetween (u .kind) 3 4 ≡ true → CountsRows s c (record { c = stepped c u (isRowsPast (u .kind) (u .value)) (c .marks); place = u .start })
       rows-found h = go (look s (c .at) u e)
@@ -317,15 +319,17 @@ module _ (s : List ℕ) (c : Cursor) where
               let z = i .0 in
               finds s (aToken constantOf) _ c (stepped c u (isRowsPast (u .kind) (u .value)) (c .marks)) z (tokens (drop (u .next) s)) k
               (token-found constantOf s (c .at) u v z (ap constantOf (i .1)))
-              (stepped-before s c u k st v (isRowsPast (u .kind) (u .value)) (c .marks) (omega (arith, st .few-marks, on s c u k st v)))
-              (record {
-                moved = on s c u k st v;
-                over =
-                  ap (λ b. c .over || b)
-                  (ap₂ isRowsPast (sym (v .kind) ∙ ap kindOf (i .1)) (sym (v .value) ∙ ap valueOf (i .1)) ∙ rows-past z);
-                marks-are = sym (add-zero (c .marks));
-                nodes-are = refl;
-              }, stands-there v ∙ i .1)
+              (stepped-before s c u k st v (isRowsPast (u .kind) (u .value)) (c .marks) (omega (arith, st .few-marks, on s c u k st v))) (
+                record {
+                  moved = on s c u k st v;
+                  over =
+                      ap (λ b. c .over || b)
+                      (ap₂ isRowsPast (sym (v .kind) ∙ ap kindOf (i .1)) (sym (v .value) ∙ ap valueOf (i .1)) ∙ rows-past z);
+                  marks-are = sym (add-zero (c .marks));
+                  nodes-are = refl;
+                },
+                stands-there v ∙ i .1,
+              )
 
 -- ---- the next reader may be called
 

@@ -14,8 +14,8 @@ use Rattle.meaning.specs.Condition.{Where, always, under, operandsIn}
 use Rattle.meaning.specs.Postfix.{nodesIn}
 use Rattle.meaning.specs.Tokens as T
 use Rattle.meaning.specs.Tokens.{Name, Token, tokens}
-use Rattle.meaning.specs.Grammar.{Given, constant, Term, items, Sentence, table, select, insert, update, delete, Reader, expect, constantOf, aToken, aName, aGiven, aSetting, aList, aWhere, aTable, aSelect, anInsert, anUpdate, aDelete, aSentence, sentence, Listed}
-use Rattle.meaning.specs.Limits.{most-name, most-rows, most-items, tableNamed, listColumns, listGivens, whereOf, termGivens, markCount, givens, outside32, pastLimit}
+use Rattle.meaning.specs.Grammar.{Given, constant, Term, items, Sentence, table, select, insert, update, delete, Reader, expect, constantOf, aToken, aName, aGiven, aSetting, aList, aWhere, aDelete, aSentence}
+use Rattle.meaning.specs.Limits.{most-name, most-rows, most-items, tableNamed, whereOf, termGivens, markCount, givens, outside32, pastLimit}
 use Rattle.token.specs.Tokens.{kindOf}
 use Rattle.table.specs.Places.{tokenOn, nameOn, givenOn, nodesOn}
 use Rattle.table.specs.Reading.{Stands, conditionPast}
@@ -76,11 +76,11 @@ ExpectsToken s t c r = After s (expect t) (λ u. Counts c r false 0) c r
 abbrev pub Expects : List ℕ → ℕ → Cursor → Cursor → Type 0
 Expects s k c r = (t : Token) → kindOf t ≡ k → ExpectsToken s t c r
 
-abbrev pub longName : Name → Bool
-longName n = ltb most-name (length n)
+abbrev pub isLongName : Name → Bool
+isLongName n = ltb most-name (length n)
 
 abbrev pub Names : List ℕ → Cursor → Placed → Type 0
-Names s c r = After s aName (λ n. Counts c (r .c) (longName n) 0 × (nameOn s (r .place) ≡ n)) c (r .c)
+Names s c r = After s aName (λ n. Counts c (r .c) (isLongName n) 0 × (nameOn s (r .place) ≡ n)) c (r .c)
 
 abbrev pub Gives : List ℕ → Cursor → Placed → Type 0
 Gives s c r = After s aGiven (λ v. Counts c (r .c) (outside32 v) (markCount (v ∷ [])) × (givenOn s (r .place) ≡ v)) c (r .c)
@@ -131,7 +131,7 @@ valuesIn values xs = xs
 valuesIn settings xs = map (λ (x : Name × Given). x .1) xs
 
 abbrev pub listPast : List Name → List Given → Bool
-listPast cs vs = any longName cs || any outside32 vs
+listPast cs vs = any isLongName cs || any outside32 vs
 
 -- the kinds by their numbers
 abbrev pub kindAt : ℕ → Kind
@@ -251,7 +251,7 @@ pub record Starts (s : List ℕ) (c : Cursor) : Type 0 where
 abbrev pub ReadsForm : (ℕ → Reader Sentence) → List ℕ → Cursor → List ℕ → List ℕ → Entry → Type 0
 ReadsForm reader s c ls ps r = (n : ℕ) → calls s ≤ n → Takes s (r .c) (Entered s ls ps r) (reader n (tokens (drop (c .at) s)))
 
--- the forms that note in one array, or say nothing of the other
+-- TABLE and INSERT note no condition, and DELETE no list: what stands in the other array does not matter
 abbrev pub Lists : (ℕ → Reader Sentence) → List ℕ → Cursor → List ℕ → Entry → Type 0
 Lists reader s c ls r = (ps : List ℕ) → ReadsForm reader s c ls ps r
 

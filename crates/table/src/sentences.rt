@@ -34,15 +34,21 @@ pub struct Entry {
 
 impl Entry {
     pub const TABLE: u8 = 0;
+
     pub const SELECT: u8 = 1;
+
     pub const INSERT: u8 = 2;
+
     pub const UPDATE: u8 = 3;
+
     pub const DELETE: u8 = 4;
 }
 
 // What a list holds.
 const NAMES: u8 = 0;
+
 const VALUES: u8 = 1;
+
 const SETTINGS: u8 = 2;
 
 // ---- tokens
@@ -253,7 +259,10 @@ fn read_table(text: &[u8], list: &mut [u16; 16], c: Cursor) -> Entry
 {
     let t = read_name(text, c);
     let l = read_list(text, list, expect(text, t.c, Token::OPEN), 0, NAMES);
-    let r = read_rows(text, expect(text, expect(text, l.c, Token::CLOSE), Token::ROWS));
+    let r = read_rows(
+        text,
+        expect(text, expect(text, l.c, Token::CLOSE), Token::ROWS),
+    );
     let d = r.c;
     Entry {
         c: d,
@@ -286,7 +295,13 @@ fn read_insert(text: &[u8], list: &mut [u16; 16], c: Cursor) -> Entry
     ensures { λ r. ⌜ Lists anInsert (now (text .entry)) c (now (list .exit)) r ⌝ }
 {
     let t = read_name(text, expect(text, c, Token::INTO));
-    let l = read_list(text, list, expect(text, expect(text, t.c, Token::VALUES), Token::OPEN), 0, VALUES);
+    let l = read_list(
+        text,
+        list,
+        expect(text, expect(text, t.c, Token::VALUES), Token::OPEN),
+        0,
+        VALUES,
+    );
     Entry {
         c: expect(text, l.c, Token::CLOSE),
         form: Entry::INSERT,

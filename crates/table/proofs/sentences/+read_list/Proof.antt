@@ -5,19 +5,19 @@ use mathlib.Core.Path.{refl}
 use native.Mathlib.Omega.{arith}
 use borrow.Author.Needs.{needs}
 use borrow.Author.Tests.{not-true, not-false}
+use borrow.Fn.Kinds.{In}
+use borrow.Fn.PlainCycle.{Measures, is, falls, and}
 use lib.ListN.{length}
 use Rattle.meaning.specs.Tokens.{comma}
+use Rattle.token.proofs.next.Reads as next-reads
 use Rattle.table.specs.Sentences.{kindAt}
 use Rattle.table.proofs.Steps.{goes, stops}
 use Rattle.table.proofs.SentenceTokens.{stays}
 use Rattle.table.proofs.SentenceLists.{list-fails, list-ends, list-goes, list-asks}
-use borrow.Fn.Kinds.{In}
-use borrow.Fn.PlainCycle.{Measures, is, falls, and}
 use Rattle.table.proofs.sentences.read_list.Reads as read-list
 use Rattle.table.proofs.sentences.read_list.Kinds as read-list-kinds
 use Rattle.table.proofs.sentences.+read_list.Lts-read_list as read-list-lts
 use Rattle.table.proofs.sentences.read_item.Reads as read-item-reads
-use Rattle.token.proofs.next.Reads as next-reads
 use Rattle.table.proofs.sentences.+read_list.{statement}
 use Rattle.table.proofs.sentences.+read_list.Tie.{close}
 

@@ -1,40 +1,31 @@
 -- `table::sentences::expect` meets its contract.
 -- Assumes nothing.
-use Rattle.table.proofs.SentenceTokens.{stays, expect-failed, expect-none, expect-found}
 use mathlib.Core.Path.{refl}
-use borrow.Author.Tests.{not-true, not-false}
 use native.Mathlib.Omega.{arith}
+use borrow.Author.Tests.{not-true, not-false}
 use borrow.Author.Needs.{needs}
+use Rattle.table.proofs.SentenceTokens.{stays, expect-failed, expect-none, expect-found}
 use Rattle.table.proofs.sentences.expect.Statement.{statement}
 use Rattle.table.proofs.sentences.expect.Tie as tie
-use Rattle.table.proofs.sentences.expect.Reads as reads
-use Rattle.table.proofs.sentences.expect.Lts as lts
-use Rattle.token.proofs.next.Reads as next-reads
 
--- src/sentences.rt:57:9
 returns : tie.Need-returns
 returns c = let a = c .before .before .before .args in expect-failed (a .text .now) (a .kind) (a .c) (not-true _ (c .if1 .taken))
 
--- src/sentences.rt:59:30
 cast-next : tie.Need-cast-next
 cast-next c = search needs
 
--- src/sentences.rt:59:9
 next-requires : tie.Need-next-requires
 next-requires c κs = search needs
 
--- src/sentences.rt:62:9
 returns-2 : tie.Need-returns-2
 returns-2 c = let a = c .before .before .before .before .before .before .before .args in expect-none (a .text .now) (a .kind) (a .c) _ (c .before .before .next .ensures) _ (c .if2 .taken) refl
 
--- src/sentences.rt:64:12
 cast-p : tie.Need-cast-p
 cast-p c =
     let z = c .before .before .before .before .before .before .before .before in
     let w = stays (z .args .text .now) (z .args .c .at) (c .before .before .before .next .result) (c .before .before .before .next .ensures) in
     omega (arith, w, z .pre .0 .short)
 
--- src/sentences.rt:51:1
 returns-3 : tie.Need-returns-3
 returns-3 c =
     let z = c .before .before .before .before .before .before .before .before in

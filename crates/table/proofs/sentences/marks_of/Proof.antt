@@ -3,14 +3,10 @@
 use borrow.Author.Tests.{eq-eqb, ne-eqb}
 use Rattle.table.proofs.sentences.marks_of.Statement.{statement}
 use Rattle.table.proofs.sentences.marks_of.Tie as tie
-use Rattle.table.proofs.sentences.marks_of.Reads as reads
-use Rattle.table.proofs.sentences.marks_of.Lts as lts
 
--- src/sentences.rt:92:1
 returns : tie.Need-returns
 returns c = rw (eq-eqb _ 5 (c .if1 .taken))
 
--- src/sentences.rt:92:1
 returns-2 : tie.Need-returns-2
 returns-2 c = rw (ne-eqb _ 5 (c .if1 .left))
 

@@ -1,32 +1,22 @@
 -- `table::sentences::read_delete` meets its contract.
 -- Assumes nothing.
+use mathlib.Core.Path.{refl}
+use native.Mathlib.Omega.{arith}
+use Rattle.meaning.specs.Tokens.{keyword, FROM}
 use Rattle.table.proofs.SentenceForms.{ready-start, of-delete}
 use Rattle.table.proofs.SentenceTokens.{ready-expect, ready-name}
-use Rattle.meaning.specs.Tokens.{keyword, FROM}
-use native.Mathlib.Omega.{arith}
-use mathlib.Core.Path.{refl}
-use borrow.Author.Needs.{needs}
 use Rattle.table.proofs.sentences.read_delete.Statement.{statement}
 use Rattle.table.proofs.sentences.read_delete.Tie as tie
-use Rattle.table.proofs.sentences.read_delete.Reads as reads
-use Rattle.table.proofs.sentences.read_delete.Lts as lts
-use Rattle.table.proofs.sentences.expect.Reads as expect-reads
-use Rattle.table.proofs.sentences.read_name.Reads as read-name-reads
-use Rattle.table.proofs.sentences.read_where.Reads as read-where-reads
 
--- src/sentences.rt:301:29
 expect-requires : tie.Need-expect-requires
 expect-requires c κs = (ready-start (c .before .args .text .now) (c .before .args .c) (c .before .pre), omega arith)
 
--- src/sentences.rt:301:9
 read-name-requires : tie.Need-read-name-requires
 read-name-requires c κs = ready-expect (c .before .before .args .text .now) (c .before .before .pre .stands .short) (c .before .before .args .c) (keyword FROM) (c .expect .result) (c .expect .ensures (keyword FROM) refl)
 
--- src/sentences.rt:303:12
 read-where-requires : tie.Need-read-where-requires
 read-where-requires c κs = ready-name (c .before .before .before .before .args .text .now) (c .before .before .before .before .pre .stands .short) (c .before .before .expect .result) (c .before .read-name .result) (c .before .read-name .ensures)
 
--- src/sentences.rt:297:1
 returns : tie.Need-returns
 returns c =
     let z = c .before .before .before .before .before in

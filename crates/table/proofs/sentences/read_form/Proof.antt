@@ -1,96 +1,75 @@
 -- `table::sentences::read_form` meets its contract.
 -- Assumes nothing.
-use Rattle.table.proofs.SentenceTexts.{starts-here, starts-with, starts-not, first-table, first-select, first-insert, first-update, first-delete}
-use Rattle.table.proofs.SentenceTokens.{stays}
-use Rattle.table.proofs.Steps.{goes, stops}
+use mathlib.Core.Path.{refl}
+use native.Mathlib.Omega.{arith}
+use borrow.Author.Needs.{needs}
 use Rattle.meaning.specs.Grammar.{aTable, aSelect, anInsert, anUpdate, aDelete}
 use Rattle.meaning.specs.Tokens.{keyword, TABLE, SELECT, INSERT, UPDATE, DELETE}
-use native.Mathlib.Omega.{arith}
-use mathlib.Core.Path.{refl}
-use borrow.Author.Needs.{needs}
+use Rattle.table.proofs.Steps.{goes, stops}
+use Rattle.table.proofs.SentenceTexts.{starts-here, starts-with, starts-not, first-table, first-select, first-insert, first-update, first-delete}
+use Rattle.table.proofs.SentenceTokens.{stays}
 use Rattle.table.proofs.sentences.read_form.Statement.{statement}
 use Rattle.table.proofs.sentences.read_form.Tie as tie
-use Rattle.table.proofs.sentences.read_form.Reads as reads
-use Rattle.table.proofs.sentences.read_form.Lts as lts
-use Rattle.table.proofs.sentences.read_delete.Reads as read-delete-reads
-use Rattle.table.proofs.sentences.read_insert.Reads as read-insert-reads
-use Rattle.table.proofs.sentences.read_select.Reads as read-select-reads
-use Rattle.table.proofs.sentences.read_table.Reads as read-table-reads
-use Rattle.table.proofs.sentences.read_update.Reads as read-update-reads
-use Rattle.token.proofs.next.Reads as next-reads
 
--- src/sentences.rt:318:9
 next-requires : tie.Need-next-requires
 next-requires c κs = search needs
 
--- src/sentences.rt:324:13
 cast-t6 : tie.Need-cast-t6
 cast-t6 c =
     let z = c .before .before .before in
     let a = z .args in
     omega (arith, stays (a .text .now) 0 (c .before .next .result) (c .before .next .ensures), z .pre)
 
--- src/sentences.rt:327:9
 read-table-requires : tie.Need-read-table-requires
 read-table-requires c κs =
     let a = c .before .before .before .before .before .before .args in
     starts-here (a .text .now) (c .before .before .before .before .next .result .next) (c .before .before .before .before .before .before .pre) (stays (a .text .now) 0 (c .before .before .before .before .next .result) (c .before .before .before .before .next .ensures))
 
--- src/sentences.rt:327:9
 returns : tie.Need-returns
 returns c =
     let a = c .before .before .before .before .before .before .before .args in
     starts-with (a .text .now) _ _ (c .read-table .result) TABLE aTable first-table _ (goes (a .text .now) 0 (c .before .before .before .before .before .next .result) (c .before .before .before .before .before .next .ensures) (keyword TABLE) refl (c .before .before .if1 .taken)) (c .read-table .ensures _)
 
--- src/sentences.rt:330:9
 read-select-requires : tie.Need-read-select-requires
 read-select-requires c κs =
     let a = c .before .before .before .before .before .before .before .before .before .args in
     starts-here (a .text .now) (c .before .before .before .before .before .before .before .next .result .next) (c .before .before .before .before .before .before .before .before .before .pre) (stays (a .text .now) 0 (c .before .before .before .before .before .before .before .next .result) (c .before .before .before .before .before .before .before .next .ensures))
 
--- src/sentences.rt:330:9
 returns-2 : tie.Need-returns-2
 returns-2 c =
     let a = c .before .before .before .before .before .before .before .before .before .before .args in
     starts-with (a .text .now) _ _ (c .read-select .result) SELECT aSelect first-select _ (goes (a .text .now) 0 (c .before .before .before .before .before .before .before .before .next .result) (c .before .before .before .before .before .before .before .before .next .ensures) (keyword SELECT) refl (c .before .before .before .if2 .taken)) (c .read-select .ensures)
 
--- src/sentences.rt:333:9
 read-insert-requires : tie.Need-read-insert-requires
 read-insert-requires c κs =
     let a = c .before .before .before .before .before .before .before .before .before .before .args in
     starts-here (a .text .now) (c .before .before .before .before .before .before .before .before .next .result .next) (c .before .before .before .before .before .before .before .before .before .before .pre) (stays (a .text .now) 0 (c .before .before .before .before .before .before .before .before .next .result) (c .before .before .before .before .before .before .before .before .next .ensures))
 
--- src/sentences.rt:333:9
 returns-3 : tie.Need-returns-3
 returns-3 c =
     let a = c .before .before .before .before .before .before .before .before .before .before .before .args in
     starts-with (a .text .now) _ _ (c .read-insert .result) INSERT anInsert first-insert _ (goes (a .text .now) 0 (c .before .before .before .before .before .before .before .before .before .next .result) (c .before .before .before .before .before .before .before .before .before .next .ensures) (keyword INSERT) refl (c .before .before .if3 .taken)) (c .read-insert .ensures _)
 
--- src/sentences.rt:336:9
 read-update-requires : tie.Need-read-update-requires
 read-update-requires c κs =
     let a = c .before .before .before .before .before .before .before .before .before .before .before .before .before .args in
     starts-here (a .text .now) (c .before .before .before .before .before .before .before .before .before .before .before .next .result .next) (c .before .before .before .before .before .before .before .before .before .before .before .before .before .pre) (stays (a .text .now) 0 (c .before .before .before .before .before .before .before .before .before .before .before .next .result) (c .before .before .before .before .before .before .before .before .before .before .before .next .ensures))
 
--- src/sentences.rt:336:9
 returns-4 : tie.Need-returns-4
 returns-4 c =
     let a = c .before .before .before .before .before .before .before .before .before .before .before .before .before .before .args in
     starts-with (a .text .now) _ _ (c .read-update .result) UPDATE anUpdate first-update _ (goes (a .text .now) 0 (c .before .before .before .before .before .before .before .before .before .before .before .before .next .result) (c .before .before .before .before .before .before .before .before .before .before .before .before .next .ensures) (keyword UPDATE) refl (c .before .before .before .if4 .taken)) (c .read-update .ensures)
 
--- src/sentences.rt:339:9
 read-delete-requires : tie.Need-read-delete-requires
 read-delete-requires c κs =
     let a = c .before .before .before .before .before .before .before .before .before .before .before .before .before .before .args in
     starts-here (a .text .now) (c .before .before .before .before .before .before .before .before .before .before .before .before .next .result .next) (c .before .before .before .before .before .before .before .before .before .before .before .before .before .before .pre) (stays (a .text .now) 0 (c .before .before .before .before .before .before .before .before .before .before .before .before .next .result) (c .before .before .before .before .before .before .before .before .before .before .before .before .next .ensures))
 
--- src/sentences.rt:339:9
 returns-5 : tie.Need-returns-5
 returns-5 c =
     let a = c .before .before .before .before .before .before .before .before .before .before .before .before .before .before .before .args in
     starts-with (a .text .now) _ _ (c .read-delete .result) DELETE aDelete first-delete _ (goes (a .text .now) 0 (c .before .before .before .before .before .before .before .before .before .before .before .before .before .next .result) (c .before .before .before .before .before .before .before .before .before .before .before .before .before .next .ensures) (keyword DELETE) refl (c .before .before .if5 .taken)) (c .read-delete .ensures _)
 
--- src/sentences.rt:314:1
 returns-6 : tie.Need-returns-6
 returns-6 c =
     let a = c .before .before .before .before .before .before .before .before .before .before .before .before .before .args in

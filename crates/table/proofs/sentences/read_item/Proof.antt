@@ -1,34 +1,22 @@
 -- `table::sentences::read_item` meets its contract.
 -- Assumes nothing.
-use Rattle.table.proofs.SentenceLists.{name-item, value-item, setting-item, of-kind, kind-names, kind-values, kind-settings}
-use Rattle.table.specs.Sentences.{names, values, settings, kindAt}
 use mathlib.Core.Path.{refl}
-use Rattle.table.proofs.SentenceLists.{name-item, value-item, setting-item, kind-names, kind-values, kind-settings}
-use Rattle.table.proofs.SentenceTokens.{ready-expect, ready-name}
-use Rattle.table.specs.Sentences.{ReadsItem}
+use native.Mathlib.Omega.{arith}
+use borrow.Author.Needs.{needs}
 use Rattle.meaning.specs.Tokens.{operator}
 use Rattle.meaning.specs.Operator.{Operator}
-use native.Mathlib.Omega.{arith}
-use mathlib.Core.Path.{refl, sym, subst}
-use borrow.Author.Needs.{needs}
+use Rattle.table.specs.Sentences.{names, values, settings, kindAt}
+use Rattle.table.proofs.SentenceLists.{name-item, value-item, setting-item, of-kind, kind-names, kind-values, kind-settings}
+use Rattle.table.proofs.SentenceTokens.{ready-expect, ready-name}
 use Rattle.table.proofs.sentences.read_item.Statement.{statement}
 use Rattle.table.proofs.sentences.read_item.Tie as tie
-use Rattle.table.proofs.sentences.read_item.Reads as reads
-use Rattle.table.proofs.sentences.read_item.Lts as lts
-use Rattle.table.proofs.sentences.expect.Reads as expect-reads
-use Rattle.table.proofs.sentences.put_item.Reads as put-item-reads
-use Rattle.table.proofs.sentences.read_name.Reads as read-name-reads
-use Rattle.table.proofs.sentences.read_value.Reads as read-value-reads
 
--- src/sentences.rt:166:13
 read-name-requires : tie.Need-read-name-requires
 read-name-requires c κs = search needs
 
--- src/sentences.rt:170:21
 put-item-requires : tie.Need-put-item-requires
 put-item-requires c κs = search needs
 
--- src/sentences.rt:168:9
 returns : tie.Need-returns
 returns c =
     let z = c .before .before .before .before .before .before in
@@ -36,15 +24,12 @@ returns c =
     of-kind names (kindAt (a .kind)) (a .text .now) (a .list .now) (a .c) (a .listed) _ _ (kind-names (a .kind) (c .before .before .before .before .if1 .taken))
     (name-item (a .text .now) (a .list .now) (a .c) (a .listed) _ _ (c .put-item .ensures .0) (c .before .before .before .read-name .result) 0 (c .before .before .before .read-name .ensures) (c .put-item .ensures .1))
 
--- src/sentences.rt:174:13
 read-value-requires : tie.Need-read-value-requires
 read-value-requires c κs = search needs
 
--- src/sentences.rt:178:21
 put-item-requires-2 : tie.Need-put-item-requires-2
 put-item-requires-2 c κs = search needs
 
--- src/sentences.rt:176:9
 returns-2 : tie.Need-returns-2
 returns-2 c =
     let z = c .before .before .before .before .before .before .before in
@@ -52,27 +37,22 @@ returns-2 c =
     of-kind values (kindAt (a .kind)) (a .text .now) (a .list .now) (a .c) (a .listed) _ _ (kind-values (a .kind) (c .before .before .before .before .if2 .taken))
     (value-item (a .text .now) (a .list .now) (a .c) (a .listed) _ _ (c .put-item2 .ensures .0) (c .before .before .before .read-value .result) 0 (c .before .before .before .read-value .ensures) (c .put-item2 .ensures .1))
 
--- src/sentences.rt:181:9
 read-name-requires-2 : tie.Need-read-name-requires-2
 read-name-requires-2 c κs = search needs
 
--- src/sentences.rt:182:30
 expect-requires : tie.Need-expect-requires
 expect-requires c κs =
     let z = c .before .before .before .before in
     (ready-name (z .args .text .now) (z .pre .ready .short) (z .args .c) (c .read-name2 .result) (c .read-name2 .ensures), omega arith)
 
--- src/sentences.rt:182:9
 read-value-requires-2 : tie.Need-read-value-requires-2
 read-value-requires-2 c κs =
     let z = c .before .before .before .before .before in
     ready-expect (z .args .text .now) (z .pre .ready .short) (c .before .read-name2 .result .c) (operator Operator.eq) (c .expect .result) (c .expect .ensures (operator Operator.eq) refl)
 
--- src/sentences.rt:186:17
 put-item-requires-3 : tie.Need-put-item-requires-3
 put-item-requires-3 c κs = search needs
 
--- src/sentences.rt:161:1
 returns-3 : tie.Need-returns-3
 returns-3 c =
     let z = c .before .before .before .before .before .before .before .before .before in

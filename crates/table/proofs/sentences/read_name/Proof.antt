@@ -1,52 +1,40 @@
 -- `table::sentences::read_name` meets its contract.
 -- Assumes nothing.
-use Rattle.table.proofs.SentenceTokens.{stays, starts, name-failed, name-none, name-found}
 use mathlib.Core.Path.{refl}
-use borrow.Author.Tests.{not-true, not-false}
 use native.Mathlib.Omega.{arith}
+use borrow.Author.Tests.{not-true, not-false}
 use borrow.Author.Needs.{needs}
+use Rattle.table.proofs.SentenceTokens.{stays, starts, name-failed, name-none, name-found}
 use Rattle.table.proofs.sentences.read_name.Statement.{statement}
 use Rattle.table.proofs.sentences.read_name.Tie as tie
-use Rattle.table.proofs.sentences.read_name.Reads as reads
-use Rattle.table.proofs.sentences.read_name.Lts as lts
-use Rattle.table.proofs.conditions.is_past.Reads as is-past-reads
-use Rattle.token.proofs.next.Reads as next-reads
 
--- src/sentences.rt:75:9
 returns : tie.Need-returns
 returns c = let a = c .before .before .before .args in name-failed (a .text .now) (a .c) _ (not-true _ (c .if1 .taken)) (not-true _ (c .if1 .taken))
 
--- src/sentences.rt:77:30
 cast-next : tie.Need-cast-next
 cast-next c = search needs
 
--- src/sentences.rt:77:9
 next-requires : tie.Need-next-requires
 next-requires c κs = search needs
 
--- src/sentences.rt:80:9
 returns-2 : tie.Need-returns-2
 returns-2 c = let a = c .before .before .before .before .before .before .before .args in name-none (a .text .now) (a .c) (c .before .before .next .result) (c .before .before .next .ensures) _ (c .if2 .taken) refl
 
--- src/sentences.rt:82:12
 cast-p : tie.Need-cast-p
 cast-p c =
     let z = c .before .before .before .before .before .before .before .before in
     let w = stays (z .args .text .now) (z .args .c .at) (c .before .before .before .next .result) (c .before .before .before .next .ensures) in
     omega (arith, w, z .pre .short)
 
--- src/sentences.rt:83:23
 is-past-requires : tie.Need-is-past-requires
 is-past-requires c κs = search needs
 
--- src/sentences.rt:86:16
 cast-t7 : tie.Need-cast-t7
 cast-t7 c =
     let z = c .before .before .before .before .before .before .before .before .before .before .before in
     let w = starts (z .args .text .now) (z .args .c .at) (c .before .before .before .before .before .before .next .result) (c .before .before .before .before .before .before .next .ensures) in
     omega (arith, w, z .pre .short)
 
--- src/sentences.rt:69:1
 returns-3 : tie.Need-returns-3
 returns-3 c =
     let z = c .before .before .before .before .before .before .before .before .before .before .before in

@@ -1,57 +1,43 @@
 -- `table::sentences::read_rows` meets its contract.
 -- Assumes nothing.
-use Rattle.table.proofs.SentenceTokens.{stays, starts, rows-failed, rows-none, rows-found}
 use mathlib.Core.Path.{refl, sym, _∙_}
-use borrow.Author.Tests.{not-true, not-false}
 use native.Mathlib.Omega.{arith}
+use borrow.Author.Tests.{not-true, not-false}
 use borrow.Author.Needs.{needs}
+use Rattle.table.proofs.SentenceTokens.{stays, starts, rows-failed, rows-none, rows-found}
 use Rattle.table.proofs.sentences.read_rows.Statement.{statement}
 use Rattle.table.proofs.sentences.read_rows.Tie as tie
-use Rattle.table.proofs.sentences.read_rows.Reads as reads
-use Rattle.table.proofs.sentences.read_rows.Lts as lts
-use Rattle.table.proofs.sentences.is_between.Reads as is-between-reads
-use Rattle.table.proofs.sentences.is_rows_past.Reads as is-rows-past-reads
-use Rattle.token.proofs.next.Reads as next-reads
 
--- src/sentences.rt:141:9
 returns : tie.Need-returns
 returns c = let a = c .before .before .before .args in rows-failed (a .text .now) (a .c) _ (not-true _ (c .if1 .taken)) (not-true _ (c .if1 .taken))
 
--- src/sentences.rt:143:30
 cast-next : tie.Need-cast-next
 cast-next c = search needs
 
--- src/sentences.rt:143:9
 next-requires : tie.Need-next-requires
 next-requires c κs = search needs
 
--- src/sentences.rt:144:9
 is-between-requires : tie.Need-is-between-requires
 is-between-requires c κs = search needs
 
--- src/sentences.rt:146:9
 returns-2 : tie.Need-returns-2
 returns-2 c = let a = c .before .before .before .before .before .before .before .args in rows-none (a .text .now) (a .c) (c .before .before .next .result) (c .before .before .next .ensures) _ (sym (c .before .is-between .ensures) ∙ not-true _ (c .if2 .taken)) refl
 
--- src/sentences.rt:148:12
 cast-p : tie.Need-cast-p
 cast-p c =
     let z = c .before .before .before .before .before .before .before .before in
     let w = stays (z .args .text .now) (z .args .c .at) (c .before .before .before .next .result) (c .before .before .before .next .ensures) in
     omega (arith, w, z .pre .short)
 
--- src/sentences.rt:149:23
 is-rows-past-requires : tie.Need-is-rows-past-requires
 is-rows-past-requires c κs = search needs
 
--- src/sentences.rt:152:16
 cast-t8 : tie.Need-cast-t8
 cast-t8 c =
     let z = c .before .before .before .before .before .before .before .before .before .before .before in
     let w = starts (z .args .text .now) (z .args .c .at) (c .before .before .before .before .before .before .next .result) (c .before .before .before .before .before .before .next .ensures) in
     omega (arith, w, z .pre .short)
 
--- src/sentences.rt:135:1
 returns-3 : tie.Need-returns-3
 returns-3 c =
     let z = c .before .before .before .before .before .before .before .before .before .before .before in

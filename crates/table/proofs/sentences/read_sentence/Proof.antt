@@ -1,43 +1,33 @@
 -- `table::sentences::read_sentence` meets its contract.
 -- Assumes nothing.
-use Rattle.table.proofs.SentenceTexts.{no-sentence, more-follows, all-read}
-use borrow.Author.Tests.{not-true, not-false}
 use mathlib.Core.Path.{refl}
+use borrow.Author.Tests.{not-true, not-false}
 use borrow.Author.Needs.{needs}
+use Rattle.table.proofs.SentenceTexts.{no-sentence, more-follows, all-read}
 use Rattle.table.proofs.sentences.read_sentence.Statement.{statement}
 use Rattle.table.proofs.sentences.read_sentence.Tie as tie
-use Rattle.table.proofs.sentences.read_sentence.Reads as reads
-use Rattle.table.proofs.sentences.read_sentence.Lts as lts
-use Rattle.table.proofs.sentences.read_form.Reads as read-form-reads
-use Rattle.token.proofs.next.Reads as next-reads
 
--- src/sentences.rt:356:9
 read-form-requires : tie.Need-read-form-requires
 read-form-requires c κs = search needs
 
--- src/sentences.rt:359:9
 returns : tie.Need-returns
 returns c =
     let a = c .before .before .before .before .before .before .before .args in
     let r = c .before .before .before .read-form in
     no-sentence (a .text .now) (r .last .1 .0) (r .last .1 .1 .0) (r .result) (r .ensures) (not-true _ (c .if1 .taken))
 
--- src/sentences.rt:361:30
 cast-next : tie.Need-cast-next
 cast-next c = search needs
 
--- src/sentences.rt:361:9
 next-requires : tie.Need-next-requires
 next-requires c κs = search needs
 
--- src/sentences.rt:352:1
 returns-2 : tie.Need-returns-2
 returns-2 c =
     let a = c .before .before .before .before .before .before .before .before .before .before .before .args in
     let r = c .before .before .before .before .before .before .before .read-form in
     more-follows (a .text .now) (r .last .1 .0) (r .last .1 .1 .0) (r .result) (r .ensures) (c .before .before .next .result) (c .before .before .next .ensures) _ (c .if2 .taken) refl
 
--- src/sentences.rt:352:1
 returns-3 : tie.Need-returns-3
 returns-3 c =
     let a = c .before .before .before .before .before .before .before .before .before .before .before .args in

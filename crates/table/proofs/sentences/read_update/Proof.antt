@@ -1,39 +1,27 @@
 -- `table::sentences::read_update` meets its contract.
 -- Assumes nothing.
+use mathlib.Core.Path.{refl}
+use native.Mathlib.Omega.{arith}
+use Rattle.meaning.specs.Tokens.{keyword, SET}
+use Rattle.table.specs.Sentences.{settings}
 use Rattle.table.proofs.SentenceForms.{ready-start, list-starts, of-update}
 use Rattle.table.proofs.SentenceLists.{ready-list}
 use Rattle.table.proofs.SentenceTokens.{ready-expect, ready-name}
-use Rattle.table.specs.Sentences.{settings}
-use Rattle.meaning.specs.Tokens.{keyword, SET}
-use native.Mathlib.Omega.{arith}
-use mathlib.Core.Path.{refl}
-use borrow.Author.Needs.{needs}
 use Rattle.table.proofs.sentences.read_update.Statement.{statement}
 use Rattle.table.proofs.sentences.read_update.Tie as tie
-use Rattle.table.proofs.sentences.read_update.Reads as reads
-use Rattle.table.proofs.sentences.read_update.Lts as lts
-use Rattle.table.proofs.sentences.expect.Reads as expect-reads
-use Rattle.table.proofs.sentences.read_list.Reads as read-list-reads
-use Rattle.table.proofs.sentences.read_name.Reads as read-name-reads
-use Rattle.table.proofs.sentences.read_where.Reads as read-where-reads
 
--- src/sentences.rt:285:9
 read-name-requires : tie.Need-read-name-requires
 read-name-requires c κs = ready-start (c .before .args .text .now) (c .before .args .c) (c .before .pre)
 
--- src/sentences.rt:286:35
 expect-requires : tie.Need-expect-requires
 expect-requires c κs = (ready-name (c .before .before .before .args .text .now) (c .before .before .before .pre .stands .short) (c .before .before .before .args .c) (c .before .read-name .result) (c .before .read-name .ensures), omega arith)
 
--- src/sentences.rt:286:9
 read-list-requires : tie.Need-read-list-requires
 read-list-requires c κs = list-starts (c .before .before .before .before .args .text .now) (c .expect .result) (ready-expect (c .before .before .before .before .args .text .now) (c .before .before .before .before .pre .stands .short) (c .before .before .read-name .result .c) (keyword SET) (c .expect .result) (c .expect .ensures (keyword SET) refl))
 
--- src/sentences.rt:288:12
 read-where-requires : tie.Need-read-where-requires
 read-where-requires c κs = ready-list settings (c .before .before .before .before .before .before .args .text .now) (c .before .before .before .before .before .before .pre .stands .short) (c .before .before .before .before .before .before .args .list .now) (c .before .before .expect .result) 0 _ (c .before .read-list .result) (c .before .read-list .ensures)
 
--- src/sentences.rt:281:1
 returns : tie.Need-returns
 returns c =
     let z = c .before .before .before .before .before .before .before in

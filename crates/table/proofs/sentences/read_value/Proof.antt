@@ -1,69 +1,52 @@
 -- `table::sentences::read_value` meets its contract.
 -- Assumes nothing.
-use Rattle.table.proofs.SentenceTokens.{stays, starts, few-marks, value-failed, value-none, value-found}
 use mathlib.Core.Path.{refl, sym, _∙_}
-use borrow.Author.Tests.{not-true, not-false}
 use native.Mathlib.Omega.{arith}
+use borrow.Author.Tests.{not-true, not-false}
 use borrow.Author.Needs.{needs}
+use Rattle.table.proofs.SentenceTokens.{stays, starts, few-marks, value-failed, value-none, value-found}
 use Rattle.table.proofs.sentences.read_value.Statement.{statement}
 use Rattle.table.proofs.sentences.read_value.Tie as tie
-use Rattle.table.proofs.sentences.read_value.Reads as reads
-use Rattle.table.proofs.sentences.read_value.Lts as lts
-use Rattle.table.proofs.conditions.is_past.Reads as is-past-reads
-use Rattle.table.proofs.sentences.is_between.Reads as is-between-reads
-use Rattle.table.proofs.sentences.marks_of.Reads as marks-of-reads
-use Rattle.token.proofs.next.Reads as next-reads
 
--- src/sentences.rt:111:9
 returns : tie.Need-returns
 returns c = let a = c .before .before .before .args in value-failed (a .text .now) (a .c) _ (not-true _ (c .if1 .taken)) (not-true _ (c .if1 .taken))
 
--- src/sentences.rt:113:30
 cast-next : tie.Need-cast-next
 cast-next c = search needs
 
--- src/sentences.rt:113:9
 next-requires : tie.Need-next-requires
 next-requires c κs = search needs
 
--- src/sentences.rt:114:9
 is-between-requires : tie.Need-is-between-requires
 is-between-requires c κs = search needs
 
--- src/sentences.rt:116:9
 returns-2 : tie.Need-returns-2
 returns-2 c = let a = c .before .before .before .before .before .before .before .args in value-none (a .text .now) (a .c) (c .before .before .next .result) (c .before .before .next .ensures) _ (sym (c .before .is-between .ensures) ∙ not-true _ (c .if2 .taken)) refl
 
--- src/sentences.rt:118:12
 cast-p : tie.Need-cast-p
 cast-p c =
     let z = c .before .before .before .before .before .before .before .before in
     let w = stays (z .args .text .now) (z .args .c .at) (c .before .before .before .next .result) (c .before .before .before .next .ensures) in
     omega (arith, w, z .pre .short)
 
--- src/sentences.rt:119:23
 is-past-requires : tie.Need-is-past-requires
 is-past-requires c κs = search needs
 
--- src/sentences.rt:120:25
 marks-of-requires : tie.Need-marks-of-requires
 marks-of-requires c κs = search needs
 
--- src/sentences.rt:120:15
 add-p : tie.Need-add-p
 add-p c =
     let z = c .before .before .before .before .before .before .before .before .before .before .before .before in
     let st = z .pre .stands (not-false _ (c .before .before .before .before .before .before .before .before .before .if1 .left)) in
     omega (arith, c .before .marks-of .ensures, few-marks (c .before .before .before .before .before .before .before .next .result .kind), st .few-marks, st .inside, st .short)
 
--- src/sentences.rt:123:16
 cast-t8 : tie.Need-cast-t8
 cast-t8 c =
     let z = c .before .before .before .before .before .before .before .before .before .before .before .before .before in
     let w = starts (z .args .text .now) (z .args .c .at) (c .before .before .before .before .before .before .before .before .next .result) (c .before .before .before .before .before .before .before .before .next .ensures) in
     omega (arith, w, z .pre .short)
 
--- src/sentences.rt:105:1
 returns-3 : tie.Need-returns-3
 returns-3 c =
     let z = c .before .before .before .before .before .before .before .before .before .before .before .before .before in
