@@ -206,13 +206,14 @@ fn read_comparison(text: &[u8], places: &mut [u16; 45], c: Cursor, positive: boo
     if !is_operand(first.kind) {
         return d;
     }
-    let op = token::next(text, first.next);
-    if !is_comparison(op.kind) {
+    let mut t = token::next(text, first.next);
+    let op = t.kind;
+    if !is_comparison(op) {
         return d;
     }
-    let last = token::next(text, op.next);
-    if !is_operand(last.kind) {
+    t = token::next(text, t.next);
+    if !is_operand(t.kind) {
         return d;
     }
-    put_comparison(places, c, positive, depth, first, op.kind - Token::EQ, last)
+    put_comparison(places, c, positive, depth, first, op - Token::EQ, t)
 }

@@ -57,20 +57,20 @@ returns-3 c =
 
 sub-put-comparison : tie.Need-sub-put-comparison
 sub-put-comparison c =
-    let k = c .before .before .before .before .before .before .before .next .result .kind in
-    omega (arith, leb-true 9 k (and-left (leb 9 k) (leb k 14) (operator (c .before .before .before .before .before))))
+    let k = c .before .before .before .before .before .before .next .result .kind in
+    omega (arith, leb-true 9 k (and-left (leb 9 k) (leb k 14) (operator (c .before .before .before .before))))
 
 put-comparison-requires : tie.Need-put-comparison-requires
 put-comparison-requires c κs =
-    let z = c .before .before .before .before .before .before .before .before .before .before .before in
+    let z = c .before .before .before .before .before .before .before .before .before .before in
     let a = z .args in
-    fits (a .text .now) (a .positive) (a .depth) (a .c) (a .places .now) (a .c) (a .places .now) (a .first) (z .pre .1) (left-side (c .before .before .before .before .before .before .before .before )) (c .before .before .before .before .before .before .before .next .result) (c .before .before .before .before .before .before .before .next .ensures) (operator (c .before .before .before .before .before )) (c .before .before .before .before .next2 .result) (c .before .before .before .before .next2 .ensures) (right-side (c .before .before )) (z .pre .0)
+    fits (a .text .now) (a .positive) (a .depth) (a .c) (a .places .now) (a .c) (a .places .now) (a .first) (z .pre .1) (left-side (c .before .before .before .before .before .before .before )) (c .before .before .before .before .before .before .next .result) (c .before .before .before .before .before .before .next .ensures) (operator (c .before .before .before .before )) (c .before .before .before .next2 .result) (c .before .before .before .next2 .ensures) (right-side (c .before )) (z .pre .0)
 
 returns-4 : tie.Need-returns-4
 returns-4 c =
-    let z = c .before .before .before .before .before .before .before .before .before .before .before .before in
+    let z = c .before .before .before .before .before .before .before .before .before .before .before in
     let a = z .args in
-    compares (a .text .now) (a .positive) (a .depth) (a .c) (a .places .now) _ _ (a .first) (z .pre .1) (left-side (c .before .before .before .before .before .before .before .before .before )) (c .before .before .before .before .before .before .before .before .next .result) (c .before .before .before .before .before .before .before .before .next .ensures) (operator (c .before .before .before .before .before .before )) (c .before .before .before .before .before .next2 .result) (c .before .before .before .before .before .next2 .ensures) (right-side (c .before .before .before )) (z .pre .0) (c .put-comparison .ensures)
+    compares (a .text .now) (a .positive) (a .depth) (a .c) (a .places .now) _ _ (a .first) (z .pre .1) (left-side (c .before .before .before .before .before .before .before .before )) (c .before .before .before .before .before .before .before .next .result) (c .before .before .before .before .before .before .before .next .ensures) (operator (c .before .before .before .before .before )) (c .before .before .before .before .next2 .result) (c .before .before .before .before .next2 .ensures) (right-side (c .before .before )) (z .pre .0) (c .put-comparison .ensures)
 
 pub read-comparison-spec : {M : Type 1} → statement M
 read-comparison-spec =
