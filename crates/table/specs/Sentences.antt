@@ -14,7 +14,7 @@ use Rattle.meaning.specs.Condition.{Where, always, under, operandsIn}
 use Rattle.meaning.specs.Postfix.{nodesIn}
 use Rattle.meaning.specs.Tokens as T
 use Rattle.meaning.specs.Tokens.{Name, Token, tokens}
-use Rattle.meaning.specs.Grammar.{Given, constant, Term, items, Sentence, table, select, insert, update, delete, Reader, expect, constantOf, aToken, aName, aGiven, aSetting, aList, aWhere, aDelete, aSentence}
+use Rattle.meaning.specs.Grammar.{Given, Term, items, Sentence, table, select, insert, update, delete, Reader, expect, constantOf, aToken, aName, aGiven, aSetting, aList, aWhere, aDelete, aSentence}
 use Rattle.meaning.specs.Limits.{most-name, most-rows, most-items, tableNamed, whereOf, termGivens, markCount, givens, outside32, pastLimit}
 use Rattle.token.specs.Tokens.{kindOf}
 use Rattle.table.specs.Places.{tokenOn, nameOn, givenOn, nodesOn}
@@ -137,7 +137,7 @@ listPast cs vs = any isLongName cs || any outside32 vs
 abbrev pub kindAt : ℕ → Kind
 kindAt n = cond (eqb n 0) names (cond (eqb n 1) values settings)
 
--- an item at the end: noted if it is one of the first eight
+-- an item at the end, by the places of its name and its value: noted if it is one of the first eight, for which there is room
 pub record PutsItem (xs : List ℕ) (n a b : ℕ) (ys : List ℕ) : Type 0 where
   pub size : length xs ≡ 2 * most-items
   pub noted : n < most-items → ys ≡ set (set xs (2 * n) a) (2 * n + 1) b
@@ -148,7 +148,7 @@ pub record Within (s : List ℕ) (c : Cursor) (l : ℕ) : Type 0 where
   pub small : l ≤ 256
   pub few : c .ok ≡ true → l ≤ c .at
 
--- the items xs were read from c on, up to r, after l others: counted, and noted if there was room
+-- the items `found` were read from c on, up to r, after l others: counted, and noted if there was room
 pub record Holds (k : Kind) (s xs : List ℕ) (c : Cursor) (l : ℕ) (ys : List ℕ) (r : Listing) (found : List (Content k)) : Type 0 where
   pub counts : Counts c (r .c) (listPast (columnsIn k found) (valuesIn k found)) (markCount (valuesIn k found))
   pub listed-are : r .listed ≡ l + length found
@@ -240,7 +240,7 @@ abbrev pub Noted : List ℕ → List ℕ → List ℕ → Entry → Option Sente
 Noted s ls ps r none = r .c .ok ≡ false
 Noted s ls ps r (some x) = Entered s ls ps r x
 
--- a form, after its first word, where nothing was counted yet
+-- what a form asks, after its first word: nothing was counted yet
 pub record Starts (s : List ℕ) (c : Cursor) : Type 0 where
   pub ok : c .ok ≡ true
   pub stands : Stands s c

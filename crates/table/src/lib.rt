@@ -1,7 +1,7 @@
 // The table layer: statement texts to statements in which names are positions and question marks are numbered. Nothing of a text is needed afterwards.
 mod conditions; // the readers of OR, AND and single conditions
 mod sentences; // the five forms: where each token of a sentence stands
-// mod build; // names looked up, statements put together
+mod build; // names looked up, statements put together
 
 // A name: its first `len` bytes.
 pub struct Name {
