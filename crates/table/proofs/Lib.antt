@@ -11,3 +11,9 @@ pub mod SoundSettings
 pub mod SoundUpdate
 pub mod SoundTable
 pub mod SoundTables
+pub mod SentenceLimits
+pub mod SentenceReaders
+pub mod SentenceTokens
+pub mod SentenceLists
+pub mod SentenceForms
+pub mod SentenceTexts

@@ -2,3 +2,4 @@ pub mod Places
 pub mod Reading
 pub mod Catalog
 pub mod Sound
+pub mod Sentences

@@ -24,7 +24,9 @@ pub struct Table {
 
 impl Table {
     pub const TABLES: usize = 8;
+
     pub const COLUMNS: usize = 8;
+
     pub const ROWS: u16 = 512;
 }
 
@@ -52,7 +54,9 @@ pub struct Condition {
 
 impl Condition {
     pub const COMPARISONS: usize = 8;
+
     pub const STEPS: usize = 15;
+
     pub const DEPTH: u16 = 8;
 }
 
@@ -67,6 +71,7 @@ pub struct Query {
 
 impl Query {
     pub const QUERIES: usize = 16;
+
     pub const SELECTED: usize = 8;
 }
 
@@ -94,8 +99,12 @@ pub struct Update {
 
 impl Update {
     pub const UPDATES: usize = 16;
+
     pub const SETTINGS: usize = 8;
+
     pub const INSERT: u8 = 0;
+
     pub const UPDATE: u8 = 1;
+
     pub const DELETE: u8 = 2;
 }
