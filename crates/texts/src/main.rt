@@ -2,6 +2,7 @@
 // just an exclamation mark empties the store. There are 5,000 cells.
 use table::Comparison;
 use table::Condition;
+use table::Name;
 use table::Operand;
 use table::Query;
 use table::Statement;
@@ -19,7 +20,17 @@ struct Store {
 }
 
 fn empty() -> Store {
-    let none = table::no_table();
+    let name = Name {
+        bytes: [0; 12],
+        len: 0,
+    };
+    let none = Table {
+        name,
+        columns: [name; 8],
+        count: 0,
+        capacity: 0,
+        rows: 0,
+    };
     Store {
         tables: [none; 8],
         used: 0,
