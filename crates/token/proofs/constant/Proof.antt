@@ -27,7 +27,7 @@ returns c =
 
 -- src/lib.rt:207:9
 plain-requires : tie.Need-plain-requires
-plain-requires c κs = search needs
+plain-requires c κs = tt
 
 -- src/lib.rt:207:9
 returns-2 : tie.Need-returns-2
@@ -48,7 +48,7 @@ returns-3 c =
 
 -- src/lib.rt:217:5
 plain-requires-2 : tie.Need-plain-requires-2
-plain-requires-2 c κs = search needs
+plain-requires-2 c κs = tt
 
 -- src/lib.rt:195:1
 returns-4 : tie.Need-returns-4

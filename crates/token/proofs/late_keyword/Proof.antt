@@ -5,51 +5,50 @@ use lib.ListN.{drop}
 use Rattle.meaning.specs.Tokens.{VALUES, UPDATE, SET, DELETE, AND, OR, NOT, keywords}
 use Rattle.token.specs.Parts.{part}
 use Rattle.token.proofs.Words.{keyword-step}
-use borrow.Author.Needs.{needs}
 use Rattle.token.proofs.late_keyword.Statement.{statement}
 use Rattle.token.proofs.late_keyword.Tie as tie
 
 slice-aggregate-word-or : tie.Need-slice-aggregate-word-or
-slice-aggregate-word-or c = search needs
+slice-aggregate-word-or c = refl
 
 word-or-requires : tie.Need-word-or-requires
-word-or-requires c κs = search needs
+word-or-requires c κs = c .before .before .pre
 
 slice-aggregate-word-or-2 : tie.Need-slice-aggregate-word-or-2
-slice-aggregate-word-or-2 c = search needs
+slice-aggregate-word-or-2 c = refl
 
 word-or-requires-2 : tie.Need-word-or-requires-2
-word-or-requires-2 c κs = search needs
+word-or-requires-2 c κs = c .before .before .before .before .pre
 
 slice-aggregate-word-or-3 : tie.Need-slice-aggregate-word-or-3
-slice-aggregate-word-or-3 c = search needs
+slice-aggregate-word-or-3 c = refl
 
 word-or-requires-3 : tie.Need-word-or-requires-3
-word-or-requires-3 c κs = search needs
+word-or-requires-3 c κs = c .before .before .before .before .before .before .pre
 
 slice-aggregate-word-or-4 : tie.Need-slice-aggregate-word-or-4
-slice-aggregate-word-or-4 c = search needs
+slice-aggregate-word-or-4 c = refl
 
 word-or-requires-4 : tie.Need-word-or-requires-4
-word-or-requires-4 c κs = search needs
+word-or-requires-4 c κs = c .before .before .before .before .before .before .before .before .pre
 
 slice-aggregate-word-or-5 : tie.Need-slice-aggregate-word-or-5
-slice-aggregate-word-or-5 c = search needs
+slice-aggregate-word-or-5 c = refl
 
 word-or-requires-5 : tie.Need-word-or-requires-5
-word-or-requires-5 c κs = search needs
+word-or-requires-5 c κs = c .before .before .before .before .before .before .before .before .before .before .pre
 
 slice-aggregate-word-or-6 : tie.Need-slice-aggregate-word-or-6
-slice-aggregate-word-or-6 c = search needs
+slice-aggregate-word-or-6 c = refl
 
 word-or-requires-6 : tie.Need-word-or-requires-6
-word-or-requires-6 c κs = search needs
+word-or-requires-6 c κs = c .before .before .before .before .before .before .before .before .before .before .before .before .pre
 
 slice-aggregate-word-or-7 : tie.Need-slice-aggregate-word-or-7
-slice-aggregate-word-or-7 c = search needs
+slice-aggregate-word-or-7 c = refl
 
 word-or-requires-7 : tie.Need-word-or-requires-7
-word-or-requires-7 c κs = search needs
+word-or-requires-7 c κs = c .before .before .before .before .before .before .before .before .before .before .before .before .before .before .pre
 
 returns : tie.Need-returns
 returns c =

@@ -19,7 +19,7 @@ run-end-requires : tie.Need-run-end-requires
 run-end-requires c κs = search needs
 
 plain-requires : tie.Need-plain-requires
-plain-requires c κs = search needs
+plain-requires c κs = tt
 
 returns : tie.Need-returns
 returns c =
@@ -34,7 +34,7 @@ digits-requires : tie.Need-digits-requires
 digits-requires c κs = search needs
 
 constant-requires : tie.Need-constant-requires
-constant-requires c κs = search needs
+constant-requires c κs = tt
 
 returns-2 : tie.Need-returns-2
 returns-2 c =
@@ -48,7 +48,7 @@ returns-2 c =
     ∙ minus-number (a .text .now) (a .at) end (p .0) (p .1) (c .before .before .before .before .before .run-end .ensures .0) (c .before .before .before .before .if1 .left) (sym (c .before .before .before .run-end2 .ensures .0) ∙ c .before .before .if2 .taken)
 
 plain-requires-2 : tie.Need-plain-requires-2
-plain-requires-2 c κs = search needs
+plain-requires-2 c κs = tt
 
 returns-3 : tie.Need-returns-3
 returns-3 c =

@@ -22,7 +22,7 @@ digits-requires : tie.Need-digits-requires
 digits-requires c κs = search needs
 
 constant-requires : tie.Need-constant-requires
-constant-requires c κs = search needs
+constant-requires c κs = tt
 
 returns : tie.Need-returns
 returns c =
@@ -39,13 +39,13 @@ shared-slice-read-is-small : tie.Need-shared-slice-read-is-small
 shared-slice-read-is-small c = search needs
 
 is-small-requires : tie.Need-is-small-requires
-is-small-requires c κs = search needs
+is-small-requires c κs = tt
 
 run-end-requires-3 : tie.Need-run-end-requires-3
 run-end-requires-3 c κs = search needs
 
 plain-requires : tie.Need-plain-requires
-plain-requires c κs = search needs
+plain-requires c κs = tt
 
 returns-2 : tie.Need-returns-2
 returns-2 c =
@@ -59,7 +59,7 @@ keyword-requires : tie.Need-keyword-requires
 keyword-requires c κs = search needs
 
 plain-requires-2 : tie.Need-plain-requires-2
-plain-requires-2 c κs = search needs
+plain-requires-2 c κs = tt
 
 returns-3 : tie.Need-returns-3
 returns-3 c =

@@ -9,7 +9,7 @@ is-word-requires : tie.Need-is-word-requires
 is-word-requires c κs = search needs
 
 either-requires : tie.Need-either-requires
-either-requires c κs = search needs
+either-requires c κs = tt
 
 returns : tie.Need-returns
 returns c = c .either .ensures ∙ rw (c .before .is-word .ensures)
