@@ -10,7 +10,7 @@ use native.Mathlib.Decide.{ℕ-discrete}
 use borrow.Author.Tests.{eq-eqb, ne-eqb, ltb-true, leb-true}
 use lib.Dec.{ltb, leb, eqb, eqb·zero-suc, eqb·suc-suc, eqb→eq, eqb-refl, lit<}
 use lib.IntN.{pos}
-use lib.ListN.{length, getD, take, drop, length-take, length-drop}
+use lib.ListN.{length, getD, drop, length-take, length-drop}
 use lib.Seq.{take-suc, getD-drop}
 use Rattle.lists.specs.Lists.{bytes, all, All, nil, cons, takeWhile}
 use Rattle.lists.specs.Tests.{eqList, eqList→eq, eqList-refl}

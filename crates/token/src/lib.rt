@@ -1,10 +1,9 @@
 // The tokens of a statement text.
 ghost use mathlib.Core.Path.{_≡_};
 ghost use mathlib.Core.Bool.{true, false, cond};
-ghost use mathlib.Core.List.{_∷_};
 ghost use Prim.Native.Nat.{_+_, _-_, _*_, _≤_, _<_, min};
 ghost use lib.IntN.{pos, negℤ};
-ghost use lib.ListN.{length, getD, take, drop};
+ghost use lib.ListN.{length, getD, drop};
 ghost use Rattle.lists.specs.Lists.{takeWhile};
 ghost use Rattle.meaning.specs.Tokens.{isDigit, isSmall, isCapital, isNameByte, isWordByte, isMinus, decimal, constant as constantToken, keywords, keywordIn};
 ghost use Rattle.token.specs.Tokens.{kindOf, made, tokenOf, tokenAt};

@@ -1,6 +1,5 @@
 -- `token::any_keyword` meets its contract.
 -- Assumes nothing.
-use borrow.Author.Needs.{needs}
 use Rattle.token.proofs.any_keyword.Statement.{statement}
 use Rattle.token.proofs.any_keyword.Tie as tie
 

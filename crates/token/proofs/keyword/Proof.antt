@@ -1,11 +1,11 @@
 -- `token::keyword` meets its contract: a keyword is told by its length and its number.
 -- Assumes nothing.
-use mathlib.Core.Path.{_≡_, refl, sym, ap, ap₂, _∙_}
+use mathlib.Core.Path.{_≡_, refl, sym, ap₂, _∙_}
 use Prim.Native.Nat.{_<_, _-_}
 use native.Mathlib.Omega.{arith}
 use lib.ListN.{length}
 use Rattle.meaning.specs.Tokens.{keywords}
-use Rattle.token.specs.Parts.{part, packedOf, kindAmong}
+use Rattle.token.specs.Parts.{part, kindAmong}
 use Rattle.token.proofs.Words.{part-length, part-bytes, among-is, long-word}
 use borrow.Author.Needs.{needs}
 use Rattle.token.proofs.keyword.Statement.{statement}

@@ -1,6 +1,5 @@
 -- `token::late_keyword` meets its contract.
 -- Assumes nothing.
-use borrow.Author.Needs.{needs}
 use Rattle.token.proofs.late_keyword.Statement.{statement}
 use Rattle.token.proofs.late_keyword.Tie as tie
 

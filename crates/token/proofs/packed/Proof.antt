@@ -1,6 +1,6 @@
 -- `token::packed` meets its contract. The invariant: the bytes passed as one number, below the power of 256 that they can reach.
 -- Assumes nothing.
-use mathlib.Core.Path.{_≡_, sym, _∙_}
+use mathlib.Core.Path.{_≡_}
 use Prim.Native.Nat.{_≤_, _<_, _-_, _+_}
 use native.Mathlib.Omega.{arith}
 use borrow.Author.Needs.{needs}

@@ -5,31 +5,24 @@ use borrow.Author.Tests.{ne-eqb}
 use Rattle.token.proofs.passes.Statement.{statement}
 use Rattle.token.proofs.passes.Tie as tie
 
--- src/lib.rt:117:9
 returns : tie.Need-returns
 returns c = rw (c .if1 .taken)
 
--- src/lib.rt:120:9
 is-digit-requires : tie.Need-is-digit-requires
 is-digit-requires c κs = tt
 
--- src/lib.rt:120:9
 returns-2 : tie.Need-returns-2
 returns-2 c = c .is-digit .ensures ∙ rw (c .before .if2 .taken)
 
--- src/lib.rt:123:9
 is-name-byte-requires : tie.Need-is-name-byte-requires
 is-name-byte-requires c κs = tt
 
--- src/lib.rt:123:9
 returns-3 : tie.Need-returns-3
 returns-3 c = c .is-name-byte .ensures ∙ rw (c .before .if3 .taken)
 
--- src/lib.rt:125:5
 is-word-byte-requires : tie.Need-is-word-byte-requires
 is-word-byte-requires c κs = tt
 
--- src/lib.rt:113:1
 returns-4 : tie.Need-returns-4
 returns-4 c = c .is-word-byte .ensures ∙ rw (ne-eqb _ _ (c .before .before .before .if1 .left), ne-eqb _ _ (c .before .before .if2 .left), ne-eqb _ _ (c .before .if3 .left))
 

@@ -6,7 +6,7 @@ use native.Mathlib.Omega.{arith}
 use lib.IntN.{pos}
 use lib.ListN.{getD}
 use Rattle.token.specs.Tokens.{made}
-use Rattle.token.specs.Parts.{pairOf, singleOf}
+use Rattle.token.specs.Parts.{pairOf}
 use Rattle.token.proofs.Cases.{two-fit, sign-two, sign-one}
 use borrow.Author.Needs.{needs}
 use Rattle.token.proofs.sign.Statement.{statement}
