@@ -36,7 +36,9 @@ impl Token {
     pub const OPEN: u8 = 7;
 
     pub const CLOSE: u8 = 8;
-    // = <> < <= > >=
+    // The first of the six comparisons: = <> < <= > >=
+    pub const COMPARISON: u8 = 9;
+
     pub const EQ: u8 = 9;
 
     pub const NE: u8 = 10;
@@ -104,25 +106,25 @@ fn plain(kind: u8, start: usize, next: usize) -> Token
 fn is_digit(b: u8) -> bool
     ensures { λ r. ⌜ r ≡ isDigit b ⌝ }
 {
-    (48 <= b) & (b <= 57)
+    (b'0' <= b) & (b <= b'9')
 }
 
 fn is_small(b: u8) -> bool
     ensures { λ r. ⌜ r ≡ isSmall b ⌝ }
 {
-    (97 <= b) & (b <= 122)
+    (b'a' <= b) & (b <= b'z')
 }
 
 fn is_capital(b: u8) -> bool
     ensures { λ r. ⌜ r ≡ isCapital b ⌝ }
 {
-    (65 <= b) & (b <= 90)
+    (b'A' <= b) & (b <= b'Z')
 }
 
 fn is_name_byte(b: u8) -> bool
     ensures { λ r. ⌜ r ≡ isNameByte b ⌝ }
 {
-    is_small(b) | (is_digit(b) | (b == 95))
+    is_small(b) | (is_digit(b) | (b == b'_'))
 }
 
 fn is_word_byte(b: u8) -> bool
@@ -190,7 +192,7 @@ fn with_digit(n: u64, b: u8) -> u64
     requires { ⌜ n ≤ 2147483649 ⌝ }
     ensures { λ r. ⌜ r ≡ min (n * 10 + (b - 48)) 2147483649 ⌝ }
 {
-    let d = if b < 48 { 0 } else { wide(b) - 48 };
+    let d = if b < b'0' { 0 } else { wide(b) - 48 };
     capped(n * 10 + d)
 }
 
