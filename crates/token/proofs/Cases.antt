@@ -2,7 +2,7 @@
 use mathlib.Core.Path.{_≡_, refl, sym, ap, ap₂, _∙_}
 use mathlib.Core.Logic.{_≢_}
 use mathlib.Core.Bool.{Bool, true, false, cond, _&&_}
-use mathlib.Core.Option.{Option, none, some}
+use mathlib.Core.Option.{none, some}
 use mathlib.Core.List.{List, [], _∷_}
 use Prim.Native.Nat.{ℕ, _+_, _-_, _≤_, _<_}
 use native.Mathlib.Omega.{arith}
@@ -10,7 +10,7 @@ use native.Mathlib.Decide.{decLe, ℕ-discrete}
 use borrow.Author.Tests.{eq-eqb, ne-eqb}
 use lib.Dec.{eqb}
 use lib.IntN.{ℤ, pos, negℤ}
-use lib.ListN.{length, getD, take, drop, drop-of-length-le, length-drop, List·getD-eq-default}
+use lib.ListN.{length, getD, drop, drop-of-length-le, length-drop, List·getD-eq-default}
 use lib.Seq.{drop-drop}
 use Rattle.lists.specs.Lists.{all, takeWhile, dropWhile}
 use Rattle.lists.proofs.Runs.{take-yes, drop-yes, run-length, take-run, drop-run}
@@ -19,7 +19,7 @@ use Rattle.meaning.specs.Tokens.{isDigit, isSmall, isNameByte, isWordByte, isSp
 use Rattle.meaning.proofs.Stream.{from-word, from-minus, from-sign}
 use Rattle.token.specs.declared.Token.{Token}
 use Rattle.token.specs.Tokens.{kindOf, made, tokenOf, tokenAt}
-use Rattle.token.specs.Parts.{passes, part, pairOf, singleOf, readAt}
+use Rattle.token.specs.Parts.{part, pairOf, singleOf, readAt}
 use Rattle.token.proofs.Runs.{drop-here, length-zero}
 use Rattle.token.proofs.Words.{keyword-value, run-narrow, digit-word, name-word, name-is}
 use Rattle.token.proofs.Signs.{Found, sign-long, sign-short, sign-last}
@@ -45,13 +45,6 @@ unfolding readAt
 reads s at x e = ap (λ (y : M.Token × List ℕ). tokenOf (y .0) at (length s - length (y .1))) (sym e)
 
 -- ---- words
-
--- the run of digits, or of the bytes of names, is the whole word, or is not
-whole : (n m at end : ℕ) → end ≡ at + m → at + n ≡ end → eqb n m ≡ true
-whole n m at end e h = eq-eqb n m (omega arith)
-
-not-whole : (n m at end : ℕ) → end ≡ at + m → (at + n ≡ end → ⊥) → eqb n m ≡ false
-not-whole n m at end e h = ne-eqb n m (λ q. h (omega arith))
 
 -- runs from one position on are as long as each other exactly if they end together
 same-ends : (n m at i j : ℕ) → i ≡ at + n → j ≡ at + m → eqb n m ≡ eqb i j
@@ -79,10 +72,11 @@ module _ (s : List ℕ) (at end : ℕ) (h : at < length s) (wb : isWordByte (get
       let l : at ≤ length s = omega arith in
       ap (tokenOf (word here) at) (sym (run-next isWordByte s at end e l)) ∙ reads s at (word here, dropWhile isWordByte (drop at s)) from-here
 
-  digits-is : all isDigit here ≡ eqb (length (takeWhile isDigit (drop at s))) (length (takeWhile isWordByte (drop at s)))
-  digits-is = ap (all isDigit) (part-run isWordByte s at end e) ∙ run-narrow isDigit isWordByte digit-word (drop at s)
+  -- `digits`, `small` and `names` are what the code works out
+  digits-is : (digits : ℕ) → digits ≡ at + length (takeWhile isDigit (drop at s)) → all isDigit here ≡ eqb digits end
+  digits-is digits d =
+      ap (all isDigit) (part-run isWordByte s at end e) ∙ run-narrow isDigit isWordByte digit-word (drop at s) ∙ same-ends _ _ at digits end d e
 
-  -- `small` and `names` are what the code works out
   pub names-is : (small : Bool) (names : ℕ) → small ≡ isSmall (getD s at 0) → names ≡ at + length (takeWhile isNameByte (drop at s)) → isName here ≡ (small && eqb names end)
   names-is small names f n =
       ap isName (part-run isWordByte s at end e ∙ ap (takeWhile isWordByte) (drop-here s at h))
@@ -90,28 +84,29 @@ module _ (s : List ℕ) (at end : ℕ) (h : at < length s) (wb : isWordByte (get
       ∙ ap₂ _&&_ (sym f)
       (ap (λ u. all isNameByte (takeWhile isWordByte u)) (sym (drop-here s at h)) ∙ run-narrow isNameByte isWordByte name-word (drop at s) ∙ same-ends _ _ at names end n e)
 
-  pub word-number : at + length (takeWhile isDigit (drop at s)) ≡ end → tokenOf (constant (pos (decimal here))) at end ≡ readAt s at
-  unfolding word
-  word-number d =
-      let q : all isDigit here ≡ true = digits-is ∙ whole _ _ at end e d in
-      ap (λ (b : Bool). tokenOf (cond b (constant (pos (decimal here))) (cond (isName here) (name here) (keywordIn keywords here))) at end) (sym q) ∙ word-reads
-
-  module _ (d : at + length (takeWhile isDigit (drop at s)) ≡ end → ⊥) where
-    wordy : tokenOf (cond (isName here) (name here) (keywordIn keywords here)) at end ≡ readAt s at
+  module _ (digits : ℕ) (d : digits ≡ at + length (takeWhile isDigit (drop at s))) where
+    pub word-number : digits ≡ end → tokenOf (constant (pos (decimal here))) at end ≡ readAt s at
     unfolding word
-    wordy =
-        let q : all isDigit here ≡ false = digits-is ∙ not-whole _ _ at end e d in
-        ap (λ (b : Bool). tokenOf (cond b (constant (pos (decimal here))) (cond (isName here) (name here) (keywordIn keywords here))) at end) (sym q) ∙ word-reads
+    word-number q =
+        let r : all isDigit here ≡ true = digits-is digits d ∙ eq-eqb digits end q in
+        ap (λ (b : Bool). tokenOf (cond b (constant (pos (decimal here))) (cond (isName here) (name here) (keywordIn keywords here))) at end) (sym r) ∙ word-reads
 
-    pub word-name : isName here ≡ true → made 2 (pos 0) at end ≡ readAt s at
-    unfolding tokenOf
-    word-name q = ap (λ (x : Bool). tokenOf (cond x (name here) (keywordIn keywords here)) at end) (sym q) ∙ wordy
+    no-number : (digits ≡ end → ⊥) → tokenOf (cond (isName here) (name here) (keywordIn keywords here)) at end ≡ readAt s at
+    unfolding word
+    no-number q =
+        let r : all isDigit here ≡ false = digits-is digits d ∙ ne-eqb digits end q in
+        ap (λ (b : Bool). tokenOf (cond b (constant (pos (decimal here))) (cond (isName here) (name here) (keywordIn keywords here))) at end) (sym r) ∙ word-reads
 
-    pub word-key : isName here ≡ false → made (kindOf (keywordIn keywords here)) (pos 0) at end ≡ readAt s at
+    pub word-name : (digits ≡ end → ⊥) → isName here ≡ true → made 2 (pos 0) at end ≡ readAt s at
     unfolding tokenOf
-    word-key q =
+    word-name q n = ap (λ (x : Bool). tokenOf (cond x (name here) (keywordIn keywords here)) at end) (sym n) ∙ no-number q
+
+    pub word-key : (digits ≡ end → ⊥) → isName here ≡ false → made (kindOf (keywordIn keywords here)) (pos 0) at end ≡ readAt s at
+    unfolding tokenOf
+    word-key q n =
         ap (λ (z : ℤ). made (kindOf (keywordIn keywords here)) z at end) (sym (keyword-value keywords here))
-        ∙ ap (λ (x : Bool). tokenOf (cond x (name here) (keywordIn keywords here)) at end) (sym q) ∙ wordy
+        ∙ ap (λ (x : Bool). tokenOf (cond x (name here) (keywordIn keywords here)) at end) (sym n)
+        ∙ no-number q
 
 -- ---- a minus, and the word right after it
 
@@ -138,8 +133,9 @@ module _ (s : List ℕ) (at end : ℕ) (h : at < length s) (m : getD s at 0 ≡ 
       ap₂ (λ w next. tokenOf (negative w) at next) behind-is (sym (run-next isWordByte s (at + 1) end e l))
       ∙ reads s at (negative (takeWhile isWordByte v), dropWhile isWordByte v) (from-minus (getD s at 0) v (rw m) (rw m))
 
-  digits-behind : all isDigit behind ≡ eqb (length (takeWhile isDigit (drop (at + 1) s))) (length (takeWhile isWordByte (drop (at + 1) s)))
-  digits-behind = ap (all isDigit) behind-is ∙ run-narrow isDigit isWordByte digit-word (drop (at + 1) s)
+  digits-behind : (digits : ℕ) → digits ≡ at + 1 + length (takeWhile isDigit (drop (at + 1) s)) → all isDigit behind ≡ eqb digits end
+  digits-behind digits d =
+      ap (all isDigit) behind-is ∙ run-narrow isDigit isWordByte digit-word (drop (at + 1) s) ∙ same-ends _ _ (at + 1) digits end d e
 
   pub minus-none : at + 1 ≡ end → made 1 (pos 0) at end ≡ readAt s at
   unfolding tokenOf negative
@@ -147,21 +143,21 @@ module _ (s : List ℕ) (at end : ℕ) (h : at < length s) (m : getD s at 0 ≡ 
       let z : behind ≡ [] = length-zero behind (omega (arith, behind-length)) in
       ap (λ (w : List ℕ). tokenOf (negative w) at end) (sym z) ∙ minus-reads
 
-  module _ (some-word : at + 1 ≡ end → ⊥) where
+  module _ (some-word : at + 1 ≡ end → ⊥) (digits : ℕ) (d : digits ≡ at + 1 + length (takeWhile isDigit (drop (at + 1) s))) where
     long : negative behind ≡ cond (all isDigit behind) (constant (negℤ (pos (decimal behind)))) other
     long = negative-is behind (λ z. some-word (omega (arith, behind-length)))
 
-    pub minus-number : at + 1 + length (takeWhile isDigit (drop (at + 1) s)) ≡ end → tokenOf (constant (negℤ (pos (decimal behind)))) at end ≡ readAt s at
-    minus-number d =
-        let q : all isDigit behind ≡ true = digits-behind ∙ whole _ _ (at + 1) end e d in
-        ap (λ (t : M.Token). tokenOf t at end) (sym (long ∙ rw q)) ∙ minus-reads
+    pub minus-number : digits ≡ end → tokenOf (constant (negℤ (pos (decimal behind)))) at end ≡ readAt s at
+    minus-number q =
+        let r : all isDigit behind ≡ true = digits-behind digits d ∙ eq-eqb digits end q in
+        ap (λ (t : M.Token). tokenOf t at end) (sym (long ∙ rw r)) ∙ minus-reads
 
-    pub minus-other : (at + 1 + length (takeWhile isDigit (drop (at + 1) s)) ≡ end → ⊥) → made 1 (pos 0) at end ≡ readAt s at
+    pub minus-other : (digits ≡ end → ⊥) → made 1 (pos 0) at end ≡ readAt s at
     unfolding tokenOf
-    minus-other d =
-        let q : all isDigit behind ≡ false = digits-behind ∙ not-whole _ _ (at + 1) end e d in
-        let r : negative behind ≡ other = long ∙ rw q in
-        ap (λ (t : M.Token). tokenOf t at end) (sym r) ∙ minus-reads
+    minus-other q =
+        let r : all isDigit behind ≡ false = digits-behind digits d ∙ ne-eqb digits end q in
+        let t : negative behind ≡ other = long ∙ rw r in
+        ap (λ (t : M.Token). tokenOf t at end) (sym t) ∙ minus-reads
 
 -- ---- signs
 

@@ -1,7 +1,7 @@
 -- What `next` finds, for its callers: the tokens of a text from a position on are its token and those from the token's end on. Assumes nothing.
 use mathlib.Core.Path.{_≡_, refl, sym, ap, ap₂, subst, _∙_}
 use mathlib.Core.Logic.{_≢_}
-use mathlib.Core.Bool.{Bool, true, false, cond, _&&_, not}
+use mathlib.Core.Bool.{Bool, true, false, cond, not}
 use mathlib.Core.Option.{Option, none, some}
 use mathlib.Core.List.{List, [], _∷_}
 use Prim.Native.Nat.{ℕ, _+_, _-_, _≤_, _<_}
@@ -23,15 +23,15 @@ use Rattle.meaning.specs.Tokens.{Name, keyword, name, constant, other, isDigit,
 use Rattle.meaning.proofs.Readers.{some-none, some-same}
 use Rattle.meaning.proofs.Stream.{from-word, from-minus, from-sign, sign-here, sign-later, first-shorter, first-spaces, tokens-none, tokens-some}
 use Rattle.token.specs.declared.Token.{Token}
-use Rattle.token.specs.Tokens.{kindOf, valueOf, made, tokenOf, tokenAt}
+use Rattle.token.specs.Tokens.{kindOf, valueOf, tokenOf, tokenAt}
 use Rattle.token.proofs.Cases.{none-is, some-is, past-end}
 use Rattle.token.proofs.TokenKinds.{kind-some, kind-name}
 
 -- ---- what a token leaves is an end of the text
 
-pub record Ending (u left : List ℕ) : Type 0 where
-  pub from : ℕ
-  pub same : left ≡ drop from u
+record Ending (u left : List ℕ) : Type 0 where
+  from : ℕ
+  same : left ≡ drop from u
 
 -- an end of a text starts where its length says
 ending-at : (u left : List ℕ) → Ending u left → left ≡ drop (length u - length left) u

@@ -13,8 +13,8 @@ use lib.ListN.{length, getD, take, drop, length-drop}
 use lib.Seq.{take-suc, getD-drop}
 use lib.Signed.{mag}
 use mir.Syntax.{Width, w32, w64}
-use mir.Val.{SFits, toZ, ofZ, hbits}
-use mir.Facts.{toZ-ofZ, toZ-pos}
+use mir.Val.{SFits, toZ, hbits}
+use mir.Facts.{toZ-pos}
 use Rattle.meaning.specs.Tokens.{decimalOn, decimal, constant}
 use Rattle.meaning.specs.Limits.{isWithin32}
 use Rattle.token.specs.declared.Token.{Token}

@@ -1,23 +1,25 @@
--- Laws of the comparison of a word with bytes, one byte after another. Assumes nothing.
-use mathlib.Core.Path.{_≡_, refl, sym, ap, _∙_}
+-- Laws of words: their bytes as one number, which words are keywords, names and constants. Assumes nothing.
+use mathlib.Core.Path.{_≡_, refl, sym, ap, ap₂, _∙_}
 use mathlib.Core.Bool.{Bool, true, false, cond, _&&_, _||_, and-false, or-true}
-use mathlib.Core.List.{List, [], _∷_}
-use Prim.Native.Nat.{ℕ, suc, _+_, _-_, _≤_, _<_}
-use native.Mathlib.Numerals.{add-one}
-use native.Mathlib.Omega.{arith}
-use borrow.Author.Tests.{eq-eqb, ne-eqb}
-use lib.Dec.{eqb, eqb·zero-suc, eqb·suc-suc}
-use lib.IntN.{pos}
-use lib.ListN.{length, getD, take, drop, drop-of-length-le, length-take, length-drop}
-use lib.Seq.{drop-cons, getD-take, getD-drop}
+use mathlib.Core.List.{List, [], _∷_, _++_}
+use Prim.Native.Nat.{ℕ, suc, _+_, _-_, _*_, _^_, _≤_, _<_}
 use Prim.Native.String.{String}
-use Rattle.lists.specs.Lists.{bytes, all, takeWhile}
-use Rattle.lists.specs.Tests.{eqList}
-use Rattle.lists.proofs.Bools.{clash}
+use native.Mathlib.Nat.{sub-self, pow-suc, pow-le-pow-right}
+use native.Mathlib.Omega.{arith}
+use native.Mathlib.Decide.{ℕ-discrete}
+use borrow.Author.Tests.{eq-eqb, ne-eqb, ltb-true, leb-true}
+use lib.Dec.{ltb, leb, eqb, eqb·zero-suc, eqb·suc-suc, eqb→eq, eqb-refl, lit<}
+use lib.IntN.{pos}
+use lib.ListN.{length, getD, drop, length-take, length-drop}
+use lib.Seq.{take-suc, getD-drop}
+use Rattle.lists.specs.Lists.{bytes, all, All, nil, cons, takeWhile}
+use Rattle.lists.specs.Tests.{eqList, eqList→eq, eqList-refl}
+use Rattle.lists.proofs.Bools.{clash, contra, and-left, and-right, and-both, T→true, true→T}
+use Rattle.lists.proofs.Lists.{All-head, All-tail, All-map, All-take, all-true}
 use Rattle.lists.proofs.Runs.{take-yes}
 use Rattle.meaning.specs.Tokens.{Keyword, keyword, keywordIn, isDigit, isSmall, isCapital, isNameByte, isWordByte, isName}
 use Rattle.token.specs.Tokens.{kindOf, valueOf}
-use Rattle.token.specs.Parts.{part}
+use Rattle.token.specs.Parts.{part, packedOn, packedOf, kindAmong}
 
 pub part-length : (s : List ℕ) (at end : ℕ) → end ≤ length s → length (part s at end) ≡ end - at
 part-length s at end h = simp (length-take, length-drop) (omega arith)
@@ -29,40 +31,97 @@ same-lengths [] (y ∷ ys) h = refl
 same-lengths (x ∷ xs) [] h = refl
 same-lengths (x ∷ xs) (y ∷ ys) h = ap (λ (b : Bool). eqb x y && b) (same-lengths xs ys (λ e. h (ap suc e))) ∙ and-false (eqb x y)
 
-module _ (s w : List ℕ) (at end i : ℕ) (fits : end ≤ length s) (long : end - at ≡ length w) where
-  -- all of the word is passed
-  pub word-done : length w ≤ i → eqList eqb (drop i (part s at end)) (drop i w) ≡ true
-  word-done h =
-      let n : length (part s at end) ≡ end - at = part-length s at end fits in
-      let l : length (part s at end) ≤ i = omega arith in
-      rw (drop-of-length-le w h, drop-of-length-le (part s at end) l)
+-- ---- the bytes of a word as one number
 
-  here : i < length w
-      → eqList eqb (drop i (part s at end)) (drop i w) ≡ (eqb (getD s (at + i) 0) (getD w i 0) && eqList eqb (drop (i + 1) (part s at end)) (drop (i + 1) w))
-  here h =
-      let n : length (part s at end) ≡ end - at = part-length s at end fits in
-      let l : i < length (part s at end) = omega arith in
-      let k : i < end - at = omega arith in
-      rw (drop-cons w i 0 h, drop-cons (part s at end) i 0 l, getD-take (end - at) (drop at s) i 0 k, getD-drop at s i 0, add-one)
+-- one byte more
+on-snoc : (n : ℕ) (w : List ℕ) (b : ℕ) → packedOn n (w ++ (b ∷ [])) ≡ packedOn n w * 256 + b
+on-snoc n [] b = refl
+on-snoc n (c ∷ w) b = on-snoc (n * 256 + c) w b
 
-  -- the bytes at i agree, or differ
-  pub word-more : i < length w → getD s (at + i) 0 ≡ getD w i 0
-      → eqList eqb (drop i (part s at end)) (drop i w) ≡ eqList eqb (drop (i + 1) (part s at end)) (drop (i + 1) w)
-  word-more h e = here h ∙ rw (eq-eqb _ _ e)
+packed-step : (s : List ℕ) (at i : ℕ) → at ≤ i → i < length s → packedOf (part s at (i + 1)) ≡ packedOf (part s at i) * 256 + getD s i 0
+packed-step s at i le lt =
+    let q : i + 1 - at ≡ suc (i - at) = omega arith in
+    let p : at + (i - at) ≡ i = omega arith in
+    let h : i - at < length (drop at s) = rw length-drop (omega arith) in
+    rw (q, take-suc (drop at s) (i - at) 0 h, getD-drop at s (i - at) 0, p) (on-snoc 0 (part s at i) (getD s i 0))
 
-  pub word-stop : i < length w → (getD s (at + i) 0 ≡ getD w i 0 → ⊥) → eqList eqb (drop i (part s at end)) (drop i w) ≡ false
-  word-stop h e = here h ∙ rw (ne-eqb _ _ e)
+-- and below the power of 256 that so many bytes can reach
+abbrev pub Packed : List ℕ → ℕ → ℕ → ℕ → Type 0
+Packed s at i w = (w ≡ packedOf (part s at i)) × (w < 256 ^ (i - at))
+
+pub packed-start : (s : List ℕ) (at : ℕ) → Packed s at at 0
+packed-start s at = rw sub-self (refl, lit< tt)
+
+pub packed-more : (s : List ℕ) (at i w : ℕ) → at ≤ i → i < length s → getD s i 0 < 256 → Packed s at i w → Packed s at (i + 1) (w * 256 + getD s i 0)
+packed-more s at i w le lt b h =
+    let q : i + 1 - at ≡ suc (i - at) = omega arith in
+    let p = pow-suc 256 (i - at) in
+    (ap (λ n. n * 256 + getD s i 0) (h .0) ∙ sym (packed-step s at i le lt), rw (q, p) (omega (arith, h .1)))
+
+pub power-small : (j : ℕ) → j ≤ 5 → 256 ^ j ≤ 1099511627776
+power-small j h = pow-le-pow-right (lit< tt) h
+
+-- bytes: numbers below 256
+abbrev pub Bytes : List ℕ → Type 0
+Bytes w = All (λ (b : ℕ). b < 256) w
+
+-- words of one length and one number are the same
+packed-same : (n m : ℕ) (w v : List ℕ) → Bytes w → Bytes v → length w ≡ length v → packedOn n w ≡ packedOn m v → (n ≡ m) × (w ≡ v)
+packed-same n m [] [] h k l e = (e, refl)
+packed-same n m [] (c ∷ v) h k l e = absurd (omega arith)
+packed-same n m (b ∷ w) [] h k l e = absurd (omega arith)
+packed-same n m (b ∷ w) (c ∷ v) h k l e =
+    let r = packed-same (n * 256 + b) (m * 256 + c) w v (All-tail h) (All-tail k) (omega arith) e in
+    let p : b < 256 = All-head h in
+    let q : c < 256 = All-head k in
+    let d : b ≡ c = omega (arith, r .0) in
+    (omega (arith, r .0), ap₂ _∷_ d (r .1))
+
+packed-is : (w v : List ℕ) → Bytes w → Bytes v → eqList eqb w v ≡ (eqb (length w) (length v) && eqb (packedOf w) (packedOf v))
+packed-is w v h k = go (ℕ-discrete (length w) (length v)) (ℕ-discrete (packedOf w) (packedOf v))
+  where
+    go : Dec (length w ≡ length v) → Dec (packedOf w ≡ packedOf v) → eqList eqb w v ≡ (eqb (length w) (length v) && eqb (packedOf w) (packedOf v))
+    go (no l) d = same-lengths w v l ∙ rw (ne-eqb _ _ l)
+    go (yes l) (yes e) =
+        ap (λ u. eqList eqb u v) (packed-same 0 0 w v h k l e .1)
+        ∙ T→true (eqList eqb v v) (eqList-refl eqb eqb-refl v)
+        ∙ sym (and-both _ _ (eq-eqb (length w) (length v) l) (eq-eqb (packedOf w) (packedOf v) e))
+    go (yes l) (no e) =
+        let f : eqb (packedOf w) (packedOf v) ≡ false = ne-eqb (packedOf w) (packedOf v) e in
+        contra (eqList eqb w v) (eqb (packedOf w) (packedOf v)) (λ t. eq-eqb _ _ (ap packedOf (eqList→eq eqb eqb→eq w v (true→T (eqList eqb w v) t)))) f
+        ∙ sym (ap (λ (x : Bool). eqb (length w) (length v) && x) f ∙ and-false (eqb (length w) (length v)))
 
 -- ---- keywords
 
--- one keyword more, in front of others
-pub keyword-step : (x : String × Keyword) (xs : List (String × Keyword)) (w : List ℕ) (k j : ℕ)
-    → k ≡ cond (eqList eqb w (bytes (x .0))) (kindOf (keyword (x .1))) j → j ≡ kindOf (keywordIn xs w) → k ≡ kindOf (keywordIn (x ∷ xs) w)
-keyword-step x xs w k j e h = e ∙ go (eqList eqb w (bytes (x .0)))
+abbrev shorts : String × Keyword → Bool
+shorts x = leb (length (bytes (x .0))) 6 && all (λ (b : ℕ). ltb b 256) (bytes (x .0))
+
+all-bytes : (w : List ℕ) → all (λ (b : ℕ). ltb b 256) w ≡ true → Bytes w
+all-bytes w h = All-map (λ b e. ltb-true b 256 e) (all-true (λ (b : ℕ). ltb b 256) w h)
+
+-- a keyword is told by its length and its number
+pub among-is : (xs : List (String × Keyword)) (w : List ℕ) → all shorts xs ≡ true → Bytes w → kindAmong xs (length w) (packedOf w) ≡ kindOf (keywordIn xs w)
+among-is [] w h k = refl
+among-is (x ∷ xs) w h k =
+    let v = bytes (x .0) in
+    let p = and-left (shorts x) (all shorts xs) h in
+    let q = packed-is w v k (all-bytes v (and-right (leb (length v) 6) (all (λ (b : ℕ). ltb b 256) v) p)) in
+    ap (λ (b : Bool). cond b (kindOf (keyword (x .1))) (kindAmong xs (length w) (packedOf w))) (sym q)
+    ∙ go (eqList eqb w v) (among-is xs w (and-right (shorts x) (all shorts xs) h) k)
   where
-    go : (b : Bool) → cond b (kindOf (keyword (x .1))) j ≡ kindOf (cond b (keyword (x .1)) (keywordIn xs w))
-    go true = refl
-    go false = h
+    go : (b : Bool) → kindAmong xs (length w) (packedOf w) ≡ kindOf (keywordIn xs w)
+        → cond b (kindOf (keyword (x .1))) (kindAmong xs (length w) (packedOf w)) ≡ kindOf (cond b (keyword (x .1)) (keywordIn xs w))
+    go true e = refl
+    go false e = e
+
+-- and a word of more than six bytes is none
+pub long-word : (xs : List (String × Keyword)) (w : List ℕ) → all shorts xs ≡ true → 6 < length w → kindOf (keywordIn xs w) ≡ 1
+long-word [] w h k = refl
+long-word (x ∷ xs) w h k =
+    let v = bytes (x .0) in
+    let p = leb-true (length v) 6 (and-left (leb (length v) 6) _ (and-left (shorts x) (all shorts xs) h)) in
+    let q : eqList eqb w v ≡ false = same-lengths w v (λ e. omega arith) in
+    ap (λ (b : Bool). kindOf (cond b (keyword (x .1)) (keywordIn xs w))) q ∙ long-word xs w (and-right (shorts x) (all shorts xs) h) k
 
 pub keyword-value : (xs : List (String × Keyword)) (w : List ℕ) → valueOf (keywordIn xs w) ≡ pos 0
 keyword-value [] w = refl
@@ -71,6 +130,14 @@ keyword-value (x ∷ xs) w = go (eqList eqb w (bytes (x .0))) (keyword-value xs 
     go : (b : Bool) → valueOf (keywordIn xs w) ≡ pos 0 → valueOf (cond b (keyword (x .1)) (keywordIn xs w)) ≡ pos 0
     go true h = refl
     go false h = h
+
+-- the bytes of a part of a text
+all-below : (s : List ℕ) → ((i : ℕ) → getD s i 0 < 256) → Bytes s
+all-below [] h = nil
+all-below (b ∷ s) h = cons (h 0) (all-below s (λ i. h (suc i)))
+
+pub part-bytes : (s : List ℕ) (at end : ℕ) → ((i : ℕ) → getD s i 0 < 256) → Bytes (part s at end)
+part-bytes s at end h = All-take (end - at) (all-below (drop at s) (λ i. rw (getD-drop at s i 0) (h (at + i))))
 
 -- ---- which words are constants, and which are names
 

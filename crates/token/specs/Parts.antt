@@ -1,13 +1,15 @@
 -- What the private functions find: runs, words, signs. Assumes nothing: these are definitions.
 use mathlib.Core.Bool.{Bool, true, false, cond, _&&_}
-use mathlib.Core.List.{List}
-use Prim.Native.Nat.{ℕ, _+_, _-_}
+use mathlib.Core.List.{List, [], _∷_}
+use Prim.Native.Nat.{ℕ, _+_, _-_, _*_}
+use Prim.Native.String.{String}
 use lib.Dec.{eqb}
 use lib.IntN.{ℤ, pos, negℤ}
 use lib.ListN.{length, getD, take, drop}
-use Rattle.meaning.specs.Tokens.{isDigit, isNameByte, isWordByte, isSpace, tokenFrom}
+use Rattle.lists.specs.Lists.{bytes}
+use Rattle.meaning.specs.Tokens.{Keyword, keyword, isDigit, isNameByte, isWordByte, isSpace, tokenFrom}
 use Rattle.token.specs.declared.Token.{Token}
-use Rattle.token.specs.Tokens.{tokenOf}
+use Rattle.token.specs.Tokens.{kindOf, tokenOf}
 
 -- the byte b belongs to a run of the kind k: spaces, digits, the bytes of names, the bytes of words
 abbrev pub passes : ℕ → ℕ → Bool
@@ -21,6 +23,19 @@ part s at end = take (end - at) (drop at s)
 abbrev pub signed : Bool → ℕ → ℤ
 signed true n = negℤ (pos n)
 signed false n = pos n
+
+-- the bytes of a word as one number, in base 256
+abbrev pub packedOn : ℕ → List ℕ → ℕ
+packedOn n [] = n
+packedOn n (b ∷ w) = packedOn (n * 256 + b) w
+
+abbrev pub packedOf : List ℕ → ℕ
+packedOf w = packedOn 0 w
+
+-- the kind of the keyword that has n bytes and the number w; 1 is none of them
+abbrev pub kindAmong : List (String × Keyword) → ℕ → ℕ → ℕ
+kindAmong [] n w = 1
+kindAmong (x ∷ xs) n w = cond (eqb n (length (bytes (x .0))) && eqb w (packedOf (bytes (x .0)))) (kindOf (keyword (x .1))) (kindAmong xs n w)
 
 -- the kind of a sign of two bytes, the byte b and then n, and of a sign of one byte; 1 is neither
 abbrev pub pairOf : ℕ → ℕ → ℕ

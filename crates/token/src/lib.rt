@@ -1,16 +1,13 @@
 // The tokens of a statement text.
 ghost use mathlib.Core.Path.{_≡_};
 ghost use mathlib.Core.Bool.{true, false, cond};
-ghost use mathlib.Core.List.{_∷_};
 ghost use Prim.Native.Nat.{_+_, _-_, _*_, _≤_, _<_, min};
-ghost use lib.Dec.{eqb};
 ghost use lib.IntN.{pos, negℤ};
-ghost use lib.ListN.{length, getD, take, drop};
+ghost use lib.ListN.{length, getD, drop};
 ghost use Rattle.lists.specs.Lists.{takeWhile};
-ghost use Rattle.lists.specs.Tests.{eqList};
 ghost use Rattle.meaning.specs.Tokens.{isDigit, isSmall, isCapital, isNameByte, isWordByte, isMinus, decimal, constant as constantToken, keywords, keywordIn};
 ghost use Rattle.token.specs.Tokens.{kindOf, made, tokenOf, tokenAt};
-ghost use Rattle.token.specs.Parts.{passes as passesTest, part, signed, pairOf, singleOf, readAt};
+ghost use Rattle.token.specs.Parts.{passes as passesTest, part, signed, packedOf, kindAmong, pairOf, singleOf, readAt};
 
 // A token: its kind, a constant's value (0 for other kinds), where it starts, and where the text goes on after it.
 pub struct Token {
@@ -39,7 +36,9 @@ impl Token {
     pub const OPEN: u8 = 7;
 
     pub const CLOSE: u8 = 8;
-    // = <> < <= > >=
+    // The first of the six comparisons: = <> < <= > >=
+    pub const COMPARISON: u8 = 9;
+
     pub const EQ: u8 = 9;
 
     pub const NE: u8 = 10;
@@ -107,25 +106,25 @@ fn plain(kind: u8, start: usize, next: usize) -> Token
 fn is_digit(b: u8) -> bool
     ensures { λ r. ⌜ r ≡ isDigit b ⌝ }
 {
-    (48 <= b) & (b <= 57)
+    (b'0' <= b) & (b <= b'9')
 }
 
 fn is_small(b: u8) -> bool
     ensures { λ r. ⌜ r ≡ isSmall b ⌝ }
 {
-    (97 <= b) & (b <= 122)
+    (b'a' <= b) & (b <= b'z')
 }
 
 fn is_capital(b: u8) -> bool
     ensures { λ r. ⌜ r ≡ isCapital b ⌝ }
 {
-    (65 <= b) & (b <= 90)
+    (b'A' <= b) & (b <= b'Z')
 }
 
 fn is_name_byte(b: u8) -> bool
     ensures { λ r. ⌜ r ≡ isNameByte b ⌝ }
 {
-    is_small(b) | (is_digit(b) | (b == 95))
+    is_small(b) | (is_digit(b) | (b == b'_'))
 }
 
 fn is_word_byte(b: u8) -> bool
@@ -193,7 +192,7 @@ fn with_digit(n: u64, b: u8) -> u64
     requires { ⌜ n ≤ 2147483649 ⌝ }
     ensures { λ r. ⌜ r ≡ min (n * 10 + (b - 48)) 2147483649 ⌝ }
 {
-    let d = if b < 48 { 0 } else { wide(b) - 48 };
+    let d = if b < b'0' { 0 } else { wide(b) - 48 };
     capped(n * 10 + d)
 }
 
@@ -244,64 +243,62 @@ fn constant(minus: bool, n: u64, start: usize, next: usize) -> Token
 
 // ---- words
 
-// Whether the word from `at` up to `end` is `word`.
-fn is_word<'a>(text: &'a [u8], at: usize, end: usize, word: &'a [u8]) -> bool
-    requires { ⌜ (at ≤ end) × (end ≤ length (now text)) ⌝ }
-    ensures { λ r. ⌜ r ≡ eqList eqb (part (now (text .entry)) at end) (now (word .entry)) ⌝ }
-{
-    if end - at != word.len() {
-        return false;
-    }
-    let mut i = 0;
-    while i < word.len() {
-        if text[at + i] != word[i] {
-            return false;
-        }
-        i += 1;
-    }
-    true
-}
-
 fn either(test: bool, x: u8, y: u8) -> u8
     ensures { λ r. ⌜ r ≡ cond test x y ⌝ }
 {
     if test { x } else { y }
 }
 
-// `kind` if the word from `at` up to `end` is `word`, and else `other`.
-fn word_or<'a>(text: &'a [u8], at: usize, end: usize, word: &'a [u8], kind: u8, other: u8) -> u8
-    requires { ⌜ (at ≤ end) × (end ≤ length (now text)) ⌝ }
-    ensures { λ r. ⌜ r ≡ cond (eqList eqb (part (now (text .entry)) at end) (now (word .entry))) kind other ⌝ }
+// The bytes from `at` up to `end` as one number, at most six of them: NOT is 0x4E4F54.
+fn packed(text: &[u8], at: usize, end: usize) -> u64
+    requires { ⌜ (at ≤ end) × (end ≤ length (now text)) × (end ≤ at + 6) ⌝ }
+    ensures { λ r. ⌜ r ≡ packedOf (part (now (text .entry)) at end) ⌝ }
 {
-    either(is_word(text, at, end, word), kind, other)
+    let mut w: u64 = 0;
+    let mut i = at;
+    while i < end {
+        w = w * 256 + wide(text[i]);
+        i += 1;
+    }
+    w
 }
 
-// The kind of a word that is no name and no constant: first the later half of the keywords.
-fn late_keyword(text: &[u8], at: usize, end: usize) -> u8
-    requires { ⌜ (at ≤ end) × (end ≤ length (now text)) ⌝ }
-    ensures { λ r. ⌜ r ≡ kindOf (keywordIn (drop 7 keywords) (part (now (text .entry)) at end)) ⌝ }
+// The kind of a word of n bytes that are the number w: first the later half of the keywords.
+fn late_keyword(n: usize, w: u64) -> u8
+    ensures { λ r. ⌜ r ≡ kindAmong (drop 7 keywords) n w ⌝ }
 {
-    let mut k = word_or(text, at, end, b"NOT", Token::NOT, Token::OTHER);
-    k = word_or(text, at, end, b"OR", Token::OR, k);
-    k = word_or(text, at, end, b"AND", Token::AND, k);
-    k = word_or(text, at, end, b"DELETE", Token::DELETE, k);
-    k = word_or(text, at, end, b"SET", Token::SET, k);
-    k = word_or(text, at, end, b"UPDATE", Token::UPDATE, k);
-    word_or(text, at, end, b"VALUES", Token::VALUES, k)
+    let mut k = either((n == 3) & (w == 0x4E4F54), Token::NOT, Token::OTHER);
+    k = either((n == 2) & (w == 0x4F52), Token::OR, k);
+    k = either((n == 3) & (w == 0x414E44), Token::AND, k);
+    k = either((n == 6) & (w == 0x44454C455445), Token::DELETE, k);
+    k = either((n == 3) & (w == 0x534554), Token::SET, k);
+    k = either((n == 6) & (w == 0x555044415445), Token::UPDATE, k);
+    either((n == 6) & (w == 0x56414C554553), Token::VALUES, k)
 }
 
+fn any_keyword(n: usize, w: u64) -> u8
+    ensures { λ r. ⌜ r ≡ kindAmong keywords n w ⌝ }
+{
+    let mut k = late_keyword(n, w);
+    k = either((n == 4) & (w == 0x494E544F), Token::INTO, k);
+    k = either((n == 6) & (w == 0x494E53455254), Token::INSERT, k);
+    k = either((n == 5) & (w == 0x5748455245), Token::WHERE, k);
+    k = either((n == 4) & (w == 0x46524F4D), Token::FROM, k);
+    k = either((n == 6) & (w == 0x53454C454354), Token::SELECT, k);
+    k = either((n == 4) & (w == 0x524F5753), Token::ROWS, k);
+    either((n == 5) & (w == 0x5441424C45), Token::TABLE, k)
+}
+
+// The kind of a word that is no name and no constant. No keyword has more than six bytes.
 fn keyword(text: &[u8], at: usize, end: usize) -> u8
     requires { ⌜ (at ≤ end) × (end ≤ length (now text)) ⌝ }
     ensures { λ r. ⌜ r ≡ kindOf (keywordIn keywords (part (now (text .entry)) at end)) ⌝ }
 {
-    let mut k = late_keyword(text, at, end);
-    k = word_or(text, at, end, b"INTO", Token::INTO, k);
-    k = word_or(text, at, end, b"INSERT", Token::INSERT, k);
-    k = word_or(text, at, end, b"WHERE", Token::WHERE, k);
-    k = word_or(text, at, end, b"FROM", Token::FROM, k);
-    k = word_or(text, at, end, b"SELECT", Token::SELECT, k);
-    k = word_or(text, at, end, b"ROWS", Token::ROWS, k);
-    word_or(text, at, end, b"TABLE", Token::TABLE, k)
+    let n = end - at;
+    if n <= 6 {
+        return any_keyword(n, packed(text, at, end));
+    }
+    Token::OTHER
 }
 
 // The word that starts at `at`.

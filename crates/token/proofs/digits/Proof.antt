@@ -1,7 +1,7 @@
 -- `token::digits` meets its contract.
 -- Assumes nothing.
 use mathlib.Core.Path.{_≡_}
-use Prim.Native.Nat.{_≤_, _<_, _-_, _+_, min}
+use Prim.Native.Nat.{_≤_, _<_, _-_, min}
 use native.Mathlib.Omega.{arith}
 use borrow.Author.Needs.{needs}
 use lib.ListN.{length}

@@ -1,15 +1,14 @@
 -- `token::is_name_byte` meets its contract.
 -- Assumes nothing.
-use borrow.Author.Needs.{needs}
 use Rattle.meaning.specs.Tokens.{isNameByte}
 use Rattle.token.proofs.is_name_byte.Statement.{statement}
 use Rattle.token.proofs.is_name_byte.Tie as tie
 
 is-small-requires : tie.Need-is-small-requires
-is-small-requires c κs = search needs
+is-small-requires c κs = tt
 
 is-digit-requires : tie.Need-is-digit-requires
-is-digit-requires c κs = search needs
+is-digit-requires c κs = tt
 
 returns : tie.Need-returns
 unfolding isNameByte

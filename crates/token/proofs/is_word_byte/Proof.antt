@@ -1,15 +1,14 @@
 -- `token::is_word_byte` meets its contract.
 -- Assumes nothing.
-use borrow.Author.Needs.{needs}
 use Rattle.meaning.specs.Tokens.{isWordByte}
 use Rattle.token.proofs.is_word_byte.Statement.{statement}
 use Rattle.token.proofs.is_word_byte.Tie as tie
 
 is-name-byte-requires : tie.Need-is-name-byte-requires
-is-name-byte-requires c κs = search needs
+is-name-byte-requires c κs = tt
 
 is-capital-requires : tie.Need-is-capital-requires
-is-capital-requires c κs = search needs
+is-capital-requires c κs = tt
 
 returns : tie.Need-returns
 unfolding isWordByte

@@ -1,89 +1,40 @@
--- `token::keyword` meets its contract.
+-- `token::keyword` meets its contract: a keyword is told by its length and its number.
 -- Assumes nothing.
-use mathlib.Core.Path.{refl}
-use lib.ListN.{drop}
-use Rattle.meaning.specs.Tokens.{TABLE, ROWS, SELECT, FROM, WHERE, INSERT, INTO, keywords}
-use Rattle.token.specs.Parts.{part}
-use Rattle.token.proofs.Words.{keyword-step}
+use mathlib.Core.Path.{_≡_, refl, sym, ap₂, _∙_}
+use Prim.Native.Nat.{_<_, _-_}
+use native.Mathlib.Omega.{arith}
+use lib.ListN.{length}
+use Rattle.meaning.specs.Tokens.{keywords}
+use Rattle.token.specs.Parts.{part, kindAmong}
+use Rattle.token.proofs.Words.{part-length, part-bytes, among-is, long-word}
 use borrow.Author.Needs.{needs}
 use Rattle.token.proofs.keyword.Statement.{statement}
 use Rattle.token.proofs.keyword.Tie as tie
 
-late-keyword-requires : tie.Need-late-keyword-requires
-late-keyword-requires c κs = search needs
+sub-n : tie.Need-sub-n
+sub-n c = search needs
 
-slice-aggregate-word-or : tie.Need-slice-aggregate-word-or
-slice-aggregate-word-or c = search needs
+packed-requires : tie.Need-packed-requires
+packed-requires c κs = search needs
 
-word-or-requires : tie.Need-word-or-requires
-word-or-requires c κs = search needs
-
-slice-aggregate-word-or-2 : tie.Need-slice-aggregate-word-or-2
-slice-aggregate-word-or-2 c = search needs
-
-word-or-requires-2 : tie.Need-word-or-requires-2
-word-or-requires-2 c κs = search needs
-
-slice-aggregate-word-or-3 : tie.Need-slice-aggregate-word-or-3
-slice-aggregate-word-or-3 c = search needs
-
-word-or-requires-3 : tie.Need-word-or-requires-3
-word-or-requires-3 c κs = search needs
-
-slice-aggregate-word-or-4 : tie.Need-slice-aggregate-word-or-4
-slice-aggregate-word-or-4 c = search needs
-
-word-or-requires-4 : tie.Need-word-or-requires-4
-word-or-requires-4 c κs = search needs
-
-slice-aggregate-word-or-5 : tie.Need-slice-aggregate-word-or-5
-slice-aggregate-word-or-5 c = search needs
-
-word-or-requires-5 : tie.Need-word-or-requires-5
-word-or-requires-5 c κs = search needs
-
-slice-aggregate-word-or-6 : tie.Need-slice-aggregate-word-or-6
-slice-aggregate-word-or-6 c = search needs
-
-word-or-requires-6 : tie.Need-word-or-requires-6
-word-or-requires-6 c κs = search needs
-
-slice-aggregate-word-or-7 : tie.Need-slice-aggregate-word-or-7
-slice-aggregate-word-or-7 c = search needs
-
-word-or-requires-7 : tie.Need-word-or-requires-7
-word-or-requires-7 c κs = search needs
+any-keyword-requires : tie.Need-any-keyword-requires
+any-keyword-requires c κs = tt
 
 returns : tie.Need-returns
 returns c =
-    let a = c .before .before .before .before .before .before .before .before .before .before .before .before .before .before .before .before .args in
+    let a = c .before .before .before .before .args in
     let w = part (a .text .now) (a .at) (a .end) in
-    keyword-step ("TABLE", TABLE) (drop 1 keywords) w (c .word-or7 .result) (c .before .before .word-or6 .result) (c .word-or7 .ensures)
-    (keyword-step ("ROWS", ROWS) (drop 2 keywords) w (c .before .before .word-or6 .result) (c .before .before .before .before .word-or5 .result) (c .before .before .word-or6 .ensures)
-    (keyword-step ("SELECT", SELECT) (drop 3 keywords) w (c .before .before .before .before .word-or5 .result) (c .before .before .before .before .before .before .word-or4 .result) (c .before .before .before .before .word-or5 .ensures)
-    (keyword-step ("FROM", FROM) (drop 4 keywords) w (c .before .before .before .before .before .before .word-or4 .result) (c .before .before .before .before .before .before .before .before .word-or3 .result) (c .before .before .before .before .before .before .word-or4 .ensures)
-    (keyword-step ("WHERE", WHERE) (drop 5 keywords) w (c .before .before .before .before .before .before .before .before .word-or3 .result) (c .before .before .before .before .before .before .before .before .before .before .word-or2 .result) (c .before .before .before .before .before .before .before .before .word-or3 .ensures)
-    (keyword-step ("INSERT", INSERT) (drop 6 keywords) w (c .before .before .before .before .before .before .before .before .before .before .word-or2 .result) (c .before .before .before .before .before .before .before .before .before .before .before .before .word-or .result) (c .before .before .before .before .before .before .before .before .before .before .word-or2 .ensures)
-    (keyword-step ("INTO", INTO) (drop 7 keywords) w (c .before .before .before .before .before .before .before .before .before .before .before .before .word-or .result) (c .before .before .before .before .before .before .before .before .before .before .before .before .before .before .late-keyword .result) (c .before .before .before .before .before .before .before .before .before .before .before .before .word-or .ensures)
-    (c .before .before .before .before .before .before .before .before .before .before .before .before .before .before .late-keyword .ensures)))))))
+    let l : length w ≡ a .end - a .at = part-length (a .text .now) (a .at) (a .end) (c .before .before .before .before .pre .1) in
+    c .any-keyword .ensures
+    ∙ ap₂ (kindAmong keywords) (sym l) (c .before .packed .ensures)
+    ∙ among-is keywords w refl (part-bytes (a .text .now) (a .at) (a .end) (λ i. omega (arith, c .before .before .before .shared-slice-known .given i)))
+
+returns-2 : tie.Need-returns-2
+returns-2 c =
+    let a = c .before .before .args in
+    let l = part-length (a .text .now) (a .at) (a .end) (c .before .before .pre .1) in
+    let h : 6 < length (part (a .text .now) (a .at) (a .end)) = omega arith in
+    sym (long-word keywords (part (a .text .now) (a .at) (a .end)) refl h)
 
 pub keyword-spec : {M : Type 1} → statement M
-keyword-spec =
-    tie.close
-    (tie.spec
-    late-keyword-requires
-    slice-aggregate-word-or
-    word-or-requires
-    slice-aggregate-word-or-2
-    word-or-requires-2
-    slice-aggregate-word-or-3
-    word-or-requires-3
-    slice-aggregate-word-or-4
-    word-or-requires-4
-    slice-aggregate-word-or-5
-    word-or-requires-5
-    slice-aggregate-word-or-6
-    word-or-requires-6
-    slice-aggregate-word-or-7
-    word-or-requires-7
-    returns)
+keyword-spec = tie.close (tie.spec sub-n packed-requires any-keyword-requires returns returns-2)

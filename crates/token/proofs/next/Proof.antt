@@ -8,7 +8,7 @@ use Rattle.token.proofs.next.Statement.{statement}
 use Rattle.token.proofs.next.Tie as tie
 
 plain-requires : tie.Need-plain-requires
-plain-requires c κs = search needs
+plain-requires c κs = tt
 
 returns : tie.Need-returns
 returns c = c .plain .ensures ∙ past-end (c .before .before .before .args .text .now) (c .before .before .before .args .at) (c .before .if1 .taken)
@@ -17,7 +17,7 @@ run-end-requires : tie.Need-run-end-requires
 run-end-requires c κs = search needs
 
 plain-requires-2 : tie.Need-plain-requires-2
-plain-requires-2 c κs = search needs
+plain-requires-2 c κs = tt
 
 returns-2 : tie.Need-returns-2
 returns-2 c = c .plain2 .ensures ∙ spaces-only (c .before .before .before .before .before .args .text .now) (c .before .before .before .before .before .args .at) (c .before .before .run-end .result) (c .before .before .run-end .ensures .0) (c .before .if2 .taken)
@@ -26,7 +26,7 @@ shared-slice-read-b : tie.Need-shared-slice-read-b
 shared-slice-read-b c = search needs
 
 is-word-byte-requires : tie.Need-is-word-byte-requires
-is-word-byte-requires c κs = search needs
+is-word-byte-requires c κs = tt
 
 word-requires : tie.Need-word-requires
 word-requires c κs = (c .before .before .before .if2 .left, sym (c .before .is-word-byte .ensures) ∙ c .if3 .taken)

@@ -25,7 +25,7 @@ shared-slice-read-passes : tie.Need-shared-slice-read-passes Inv-loop μ-loop
 shared-slice-read-passes c = search needs
 
 passes-requires : tie.Need-passes-requires Inv-loop μ-loop
-passes-requires c κs = search needs
+passes-requires c κs = tt
 
 returns : tie.Need-returns Inv-loop μ-loop
 returns c =

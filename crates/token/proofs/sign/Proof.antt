@@ -6,7 +6,7 @@ use native.Mathlib.Omega.{arith}
 use lib.IntN.{pos}
 use lib.ListN.{getD}
 use Rattle.token.specs.Tokens.{made}
-use Rattle.token.specs.Parts.{pairOf, singleOf}
+use Rattle.token.specs.Parts.{pairOf}
 use Rattle.token.proofs.Cases.{two-fit, sign-two, sign-one}
 use borrow.Author.Needs.{needs}
 use Rattle.token.proofs.sign.Statement.{statement}
@@ -19,19 +19,19 @@ add-byte-at : tie.Need-add-byte-at
 add-byte-at c = search needs
 
 byte-at-requires : tie.Need-byte-at-requires
-byte-at-requires c κs = search needs
+byte-at-requires c κs = tt
 
 pair-requires : tie.Need-pair-requires
-pair-requires c κs = search needs
+pair-requires c κs = tt
 
 single-requires : tie.Need-single-requires
-single-requires c κs = search needs
+single-requires c κs = tt
 
 add-plain : tie.Need-add-plain
 add-plain c = search needs
 
 plain-requires : tie.Need-plain-requires
-plain-requires c κs = search needs
+plain-requires c κs = tt
 
 returns : tie.Need-returns
 returns c =
@@ -49,7 +49,7 @@ add-plain-2 c =
     omega (arith, two-fit (a .text .now) (a .at) (p .0) (p .1) (p .2) (λ e. c .if1 .left (k ∙ e)))
 
 plain-requires-2 : tie.Need-plain-requires-2
-plain-requires-2 c κs = search needs
+plain-requires-2 c κs = tt
 
 returns-2 : tie.Need-returns-2
 returns-2 c =

@@ -1,29 +1,28 @@
 -- `token::single` meets its contract.
 -- Assumes nothing.
-use borrow.Author.Needs.{needs}
 use Rattle.token.proofs.single.Statement.{statement}
 use Rattle.token.proofs.single.Tie as tie
 
 either-requires : tie.Need-either-requires
-either-requires c κs = search needs
+either-requires c κs = tt
 
 either-requires-2 : tie.Need-either-requires-2
-either-requires-2 c κs = search needs
+either-requires-2 c κs = tt
 
 either-requires-3 : tie.Need-either-requires-3
-either-requires-3 c κs = search needs
+either-requires-3 c κs = tt
 
 either-requires-4 : tie.Need-either-requires-4
-either-requires-4 c κs = search needs
+either-requires-4 c κs = tt
 
 either-requires-5 : tie.Need-either-requires-5
-either-requires-5 c κs = search needs
+either-requires-5 c κs = tt
 
 either-requires-6 : tie.Need-either-requires-6
-either-requires-6 c κs = search needs
+either-requires-6 c κs = tt
 
 either-requires-7 : tie.Need-either-requires-7
-either-requires-7 c κs = search needs
+either-requires-7 c κs = tt
 
 returns : tie.Need-returns
 returns c = rw (c .either7 .ensures, c .before .either6 .ensures, c .before .before .either5 .ensures, c .before .before .before .either4 .ensures, c .before .before .before .before .either3 .ensures, c .before .before .before .before .before .either2 .ensures, c .before .before .before .before .before .before .either .ensures)

@@ -7,7 +7,7 @@ use Rattle.token.proofs.with_digit.Statement.{statement}
 use Rattle.token.proofs.with_digit.Tie as tie
 
 wide-requires : tie.Need-wide-requires
-wide-requires c κs = search needs
+wide-requires c κs = tt
 
 sub-d : tie.Need-sub-d
 sub-d c = search needs
@@ -19,7 +19,7 @@ add-capped : tie.Need-add-capped
 add-capped c = ⊎-elim (λ w. omega arith) (λ w. omega arith) (c .before .if1 .came)
 
 capped-requires : tie.Need-capped-requires
-capped-requires c κs = search needs
+capped-requires c κs = tt
 
 returns : tie.Need-returns
 returns c = ⊎-elim (λ w. omega arith) (λ w. omega arith) (c .before .before .if1 .came)
