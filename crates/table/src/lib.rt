@@ -99,3 +99,20 @@ impl Update {
     pub const UPDATE: u8 = 1;
     pub const DELETE: u8 = 2;
 }
+
+// What a text compiles to: the number of its refusal (then everything else is empty), or 0, the kind and the thing itself.
+pub struct Statement {
+    pub refusal: u8,
+    pub kind: u8,
+    pub table: Table,
+    pub query: Query,
+    pub update: Update,
+}
+
+impl Statement {
+    pub const TEXT: usize = 256;
+    pub const MARKS: u16 = 8;
+    pub const TABLE: u8 = 1;
+    pub const QUERY: u8 = 2;
+    pub const UPDATE: u8 = 3;
+}

@@ -1,0 +1,42 @@
+-- `token::single` meets its contract.
+-- Assumes nothing.
+use borrow.Author.Needs.{needs}
+use Rattle.token.proofs.single.Statement.{statement}
+use Rattle.token.proofs.single.Tie as tie
+
+either-requires : tie.Need-either-requires
+either-requires c κs = search needs
+
+either-requires-2 : tie.Need-either-requires-2
+either-requires-2 c κs = search needs
+
+either-requires-3 : tie.Need-either-requires-3
+either-requires-3 c κs = search needs
+
+either-requires-4 : tie.Need-either-requires-4
+either-requires-4 c κs = search needs
+
+either-requires-5 : tie.Need-either-requires-5
+either-requires-5 c κs = search needs
+
+either-requires-6 : tie.Need-either-requires-6
+either-requires-6 c κs = search needs
+
+either-requires-7 : tie.Need-either-requires-7
+either-requires-7 c κs = search needs
+
+returns : tie.Need-returns
+returns c = rw (c .either7 .ensures, c .before .either6 .ensures, c .before .before .either5 .ensures, c .before .before .before .either4 .ensures, c .before .before .before .before .either3 .ensures, c .before .before .before .before .before .either2 .ensures, c .before .before .before .before .before .before .either .ensures)
+
+pub single-spec : {M : Type 1} → statement M
+single-spec =
+    tie.close
+    (tie.spec
+    either-requires
+    either-requires-2
+    either-requires-3
+    either-requires-4
+    either-requires-5
+    either-requires-6
+    either-requires-7
+    returns)

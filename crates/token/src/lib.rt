@@ -1,0 +1,397 @@
+// The tokens of a statement text.
+ghost use mathlib.Core.Path.{_≡_};
+ghost use mathlib.Core.Bool.{true, false, cond};
+ghost use mathlib.Core.List.{_∷_};
+ghost use Prim.Native.Nat.{_+_, _-_, _*_, _≤_, _<_, min};
+ghost use lib.Dec.{eqb};
+ghost use lib.IntN.{pos, negℤ};
+ghost use lib.ListN.{length, getD, take, drop};
+ghost use Rattle.lists.specs.Lists.{takeWhile};
+ghost use Rattle.lists.specs.Tests.{eqList};
+ghost use Rattle.meaning.specs.Tokens.{isDigit, isSmall, isCapital, isNameByte, isWordByte, isMinus, decimal, constant as constantToken, keywords, keywordIn};
+ghost use Rattle.token.specs.Tokens.{kindOf, made, tokenOf, tokenAt};
+ghost use Rattle.token.specs.Parts.{passes as passesTest, part, signed, pairOf, singleOf, readAt};
+
+// A token: its kind, a constant's value (0 for other kinds), where it starts, and where the text goes on after it.
+pub struct Token {
+    pub kind: u8,
+    pub value: i32,
+    pub start: usize,
+    pub next: usize,
+}
+
+impl Token {
+    // No token is left.
+    pub const END: u8 = 0;
+    // It belongs to no sentence.
+    pub const OTHER: u8 = 1;
+    // The name's bytes stand from `start` up to `next`.
+    pub const NAME: u8 = 2;
+    // A constant within 32 bits, and one outside.
+    pub const CONSTANT: u8 = 3;
+
+    pub const BIG: u8 = 4;
+    // ? , ( )
+    pub const MARK: u8 = 5;
+
+    pub const COMMA: u8 = 6;
+
+    pub const OPEN: u8 = 7;
+
+    pub const CLOSE: u8 = 8;
+    // = <> < <= > >=
+    pub const EQ: u8 = 9;
+
+    pub const NE: u8 = 10;
+
+    pub const LT: u8 = 11;
+
+    pub const LE: u8 = 12;
+
+    pub const GT: u8 = 13;
+
+    pub const GE: u8 = 14;
+    // The keywords.
+    pub const TABLE: u8 = 15;
+
+    pub const ROWS: u8 = 16;
+
+    pub const SELECT: u8 = 17;
+
+    pub const FROM: u8 = 18;
+
+    pub const WHERE: u8 = 19;
+
+    pub const INSERT: u8 = 20;
+
+    pub const INTO: u8 = 21;
+
+    pub const VALUES: u8 = 22;
+
+    pub const UPDATE: u8 = 23;
+
+    pub const SET: u8 = 24;
+
+    pub const DELETE: u8 = 25;
+
+    pub const AND: u8 = 26;
+
+    pub const OR: u8 = 27;
+
+    pub const NOT: u8 = 28;
+}
+
+// The runs of bytes that `run_end` follows.
+const SPACES: u8 = 0;
+
+const DIGITS: u8 = 1;
+
+const NAMES: u8 = 2;
+
+const WORDS: u8 = 3;
+
+// A token that is no constant.
+fn plain(kind: u8, start: usize, next: usize) -> Token
+    ensures { λ r. ⌜ r ≡ made kind (pos 0) start next ⌝ }
+{
+    Token {
+        kind,
+        value: 0,
+        start,
+        next,
+    }
+}
+
+// ---- bytes
+
+fn is_digit(b: u8) -> bool
+    ensures { λ r. ⌜ r ≡ isDigit b ⌝ }
+{
+    (48 <= b) & (b <= 57)
+}
+
+fn is_small(b: u8) -> bool
+    ensures { λ r. ⌜ r ≡ isSmall b ⌝ }
+{
+    (97 <= b) & (b <= 122)
+}
+
+fn is_capital(b: u8) -> bool
+    ensures { λ r. ⌜ r ≡ isCapital b ⌝ }
+{
+    (65 <= b) & (b <= 90)
+}
+
+fn is_name_byte(b: u8) -> bool
+    ensures { λ r. ⌜ r ≡ isNameByte b ⌝ }
+{
+    is_small(b) | (is_digit(b) | (b == 95))
+}
+
+fn is_word_byte(b: u8) -> bool
+    ensures { λ r. ⌜ r ≡ isWordByte b ⌝ }
+{
+    is_name_byte(b) | is_capital(b)
+}
+
+// Whether a byte belongs to a run of the kind k.
+fn passes(k: u8, b: u8) -> bool
+    ensures { λ r. ⌜ r ≡ passesTest k b ⌝ }
+{
+    if k == SPACES {
+        return b == b' ';
+    }
+    if k == DIGITS {
+        return is_digit(b);
+    }
+    if k == NAMES {
+        return is_name_byte(b);
+    }
+    is_word_byte(b)
+}
+
+// The byte at a position, or 0 past the end.
+fn byte_at(text: &[u8], at: usize) -> u8
+    ensures { λ r. ⌜ r ≡ getD (now (text .entry)) at 0 ⌝ }
+{
+    if at < text.len() { text[at] } else { 0 }
+}
+
+// The end of the run of the kind k that starts at `at`.
+fn run_end(text: &[u8], at: usize, k: u8) -> usize
+    requires { ⌜ at ≤ length (now text) ⌝ }
+    ensures { λ r. ⌜ (r ≡ at + length (takeWhile (passesTest k) (drop at (now (text .entry))))) × (r ≤ length (now (text .entry))) ⌝ }
+{
+    let mut i = at;
+    while i < text.len() {
+        if !passes(k, text[i]) {
+            return i;
+        }
+        i += 1;
+    }
+    i
+}
+
+// ---- constants
+
+// The value of the digits from `from` up to `end`, or 2147483649 where it is larger.
+fn digits(text: &[u8], from: usize, end: usize) -> u64
+    requires { ⌜ (from ≤ end) × (end ≤ length (now text)) ⌝ }
+    ensures { λ r. ⌜ r ≡ min (decimal (part (now (text .entry)) from end)) 2147483649 ⌝ }
+{
+    let mut n: u64 = 0;
+    let mut i = from;
+    while i < end {
+        n = with_digit(n, text[i]);
+        i += 1;
+    }
+    n
+}
+
+// The number with one more digit, or 2147483649 where that is larger.
+fn with_digit(n: u64, b: u8) -> u64
+    requires { ⌜ n ≤ 2147483649 ⌝ }
+    ensures { λ r. ⌜ r ≡ min (n * 10 + (b - 48)) 2147483649 ⌝ }
+{
+    let d = if b < 48 { 0 } else { wide(b) - 48 };
+    capped(n * 10 + d)
+}
+
+fn wide(b: u8) -> u64
+    ensures { λ r. ⌜ r ≡ b ⌝ }
+{
+    b as u64
+}
+
+fn capped(n: u64) -> u64
+    ensures { λ r. ⌜ r ≡ min n 2147483649 ⌝ }
+{
+    if n < 2147483649 { n } else { 2147483649 }
+}
+
+fn negative(n: u64) -> i32
+    requires { ⌜ n ≤ 2147483648 ⌝ }
+    ensures { λ r. ⌜ r ≡ negℤ (pos n) ⌝ }
+{
+    (-(n as i64)) as i32
+}
+
+// The constant with a minus or none before digits of the value n. The least that is taken is -2147483648.
+fn constant(minus: bool, n: u64, start: usize, next: usize) -> Token
+    ensures { λ r. ⌜ r ≡ tokenOf (constantToken (signed minus n)) start next ⌝ }
+{
+    if minus {
+        if n <= 2147483648 {
+            return Token {
+                kind: Token::CONSTANT,
+                value: negative(n),
+                start,
+                next,
+            };
+        }
+        return plain(Token::BIG, start, next);
+    }
+    if n <= 2147483647 {
+        return Token {
+            kind: Token::CONSTANT,
+            value: n as i32,
+            start,
+            next,
+        };
+    }
+    plain(Token::BIG, start, next)
+}
+
+// ---- words
+
+// Whether the word from `at` up to `end` is `word`.
+fn is_word<'a>(text: &'a [u8], at: usize, end: usize, word: &'a [u8]) -> bool
+    requires { ⌜ (at ≤ end) × (end ≤ length (now text)) ⌝ }
+    ensures { λ r. ⌜ r ≡ eqList eqb (part (now (text .entry)) at end) (now (word .entry)) ⌝ }
+{
+    if end - at != word.len() {
+        return false;
+    }
+    let mut i = 0;
+    while i < word.len() {
+        if text[at + i] != word[i] {
+            return false;
+        }
+        i += 1;
+    }
+    true
+}
+
+fn either(test: bool, x: u8, y: u8) -> u8
+    ensures { λ r. ⌜ r ≡ cond test x y ⌝ }
+{
+    if test { x } else { y }
+}
+
+// `kind` if the word from `at` up to `end` is `word`, and else `other`.
+fn word_or<'a>(text: &'a [u8], at: usize, end: usize, word: &'a [u8], kind: u8, other: u8) -> u8
+    requires { ⌜ (at ≤ end) × (end ≤ length (now text)) ⌝ }
+    ensures { λ r. ⌜ r ≡ cond (eqList eqb (part (now (text .entry)) at end) (now (word .entry))) kind other ⌝ }
+{
+    either(is_word(text, at, end, word), kind, other)
+}
+
+// The kind of a word that is no name and no constant: first the later half of the keywords.
+fn late_keyword(text: &[u8], at: usize, end: usize) -> u8
+    requires { ⌜ (at ≤ end) × (end ≤ length (now text)) ⌝ }
+    ensures { λ r. ⌜ r ≡ kindOf (keywordIn (drop 7 keywords) (part (now (text .entry)) at end)) ⌝ }
+{
+    let mut k = word_or(text, at, end, b"NOT", Token::NOT, Token::OTHER);
+    k = word_or(text, at, end, b"OR", Token::OR, k);
+    k = word_or(text, at, end, b"AND", Token::AND, k);
+    k = word_or(text, at, end, b"DELETE", Token::DELETE, k);
+    k = word_or(text, at, end, b"SET", Token::SET, k);
+    k = word_or(text, at, end, b"UPDATE", Token::UPDATE, k);
+    word_or(text, at, end, b"VALUES", Token::VALUES, k)
+}
+
+fn keyword(text: &[u8], at: usize, end: usize) -> u8
+    requires { ⌜ (at ≤ end) × (end ≤ length (now text)) ⌝ }
+    ensures { λ r. ⌜ r ≡ kindOf (keywordIn keywords (part (now (text .entry)) at end)) ⌝ }
+{
+    let mut k = late_keyword(text, at, end);
+    k = word_or(text, at, end, b"INTO", Token::INTO, k);
+    k = word_or(text, at, end, b"INSERT", Token::INSERT, k);
+    k = word_or(text, at, end, b"WHERE", Token::WHERE, k);
+    k = word_or(text, at, end, b"FROM", Token::FROM, k);
+    k = word_or(text, at, end, b"SELECT", Token::SELECT, k);
+    k = word_or(text, at, end, b"ROWS", Token::ROWS, k);
+    word_or(text, at, end, b"TABLE", Token::TABLE, k)
+}
+
+// The word that starts at `at`.
+fn word(text: &[u8], at: usize) -> Token
+    requires { ⌜ (at < length (now text)) × (isWordByte (getD (now text) at 0) ≡ true) ⌝ }
+    ensures { λ r. ⌜ r ≡ readAt (now (text .entry)) at ⌝ }
+{
+    let end = run_end(text, at, WORDS);
+    if run_end(text, at, DIGITS) == end {
+        return constant(false, digits(text, at, end), at, end);
+    }
+    if is_small(text[at]) & (run_end(text, at, NAMES) == end) {
+        return plain(Token::NAME, at, end);
+    }
+    plain(keyword(text, at, end), at, end)
+}
+
+// The minus at `at`, and the word right after it.
+fn minus(text: &[u8], at: usize) -> Token
+    requires { ⌜ (at < length (now text)) × (getD (now text) at 0 ≡ 45) ⌝ }
+    ensures { λ r. ⌜ r ≡ readAt (now (text .entry)) at ⌝ }
+{
+    let from = at + 1;
+    let end = run_end(text, from, WORDS);
+    if from == end {
+        return plain(Token::OTHER, at, end);
+    }
+    if run_end(text, from, DIGITS) == end {
+        return constant(true, digits(text, from, end), at, end);
+    }
+    plain(Token::OTHER, at, end)
+}
+
+// ---- signs
+
+// The kind of a sign of two bytes.
+fn pair(b: u8, n: u8) -> u8
+    ensures { λ r. ⌜ r ≡ pairOf b n ⌝ }
+{
+    let mut k = either((b'=' == n) & (b'>' == b), Token::GE, Token::OTHER);
+    k = either((b'=' == n) & (b'<' == b), Token::LE, k);
+    either((b'>' == n) & (b'<' == b), Token::NE, k)
+}
+
+// The kind of a sign of one byte.
+fn single(b: u8) -> u8
+    ensures { λ r. ⌜ r ≡ singleOf b ⌝ }
+{
+    let mut k = either(b')' == b, Token::CLOSE, Token::OTHER);
+    k = either(b'(' == b, Token::OPEN, k);
+    k = either(b',' == b, Token::COMMA, k);
+    k = either(b'?' == b, Token::MARK, k);
+    k = either(b'>' == b, Token::GT, k);
+    k = either(b'<' == b, Token::LT, k);
+    either(b'=' == b, Token::EQ, k)
+}
+
+// The sign at `at`: the longest that fits.
+fn sign(text: &[u8], at: usize) -> Token
+    requires { ⌜ (at < length (now text)) × (isWordByte (getD (now text) at 0) ≡ false) × (isMinus (getD (now text) at 0) ≡ false) ⌝ }
+    ensures { λ r. ⌜ r ≡ readAt (now (text .entry)) at ⌝ }
+{
+    let b = text[at];
+    let k = pair(b, byte_at(text, at + 1));
+    if k == Token::OTHER {
+        return plain(single(b), at, at + 1);
+    }
+    plain(k, at, at + 2)
+}
+
+// ---- the first token
+
+// The first token from `at` on.
+pub fn next(text: &[u8], at: usize) -> Token
+    ensures { λ r. ⌜ r ≡ tokenAt (now (text .entry)) at ⌝ }
+{
+    let len = text.len();
+    if len <= at {
+        return plain(Token::END, len, len);
+    }
+    let from = run_end(text, at, SPACES);
+    if len <= from {
+        return plain(Token::END, len, len);
+    }
+    let b = text[from];
+    if is_word_byte(b) {
+        return word(text, from);
+    }
+    if b == b'-' {
+        return minus(text, from);
+    }
+    sign(text, from)
+}
