@@ -1,9 +1,30 @@
 -- What the functions that put statements together make of noted places. Assumes nothing: these are definitions.
-use mathlib.Core.Bool.{Bool, false}
+use mathlib.Core.Path.{_≡_}
+use mathlib.Core.Bool.{Bool, true, false, _&&_, _||_, cond}
 use mathlib.Core.List.{List, [], _∷_, map}
-use Prim.Native.Nat.{ℕ}
+use Prim.Native.Nat.{ℕ, _+_}
+use lib.Dec.{eqb, ltb}
+use lib.IntN.{ℤ, pos, natAbs}
+use lib.ListN.{take}
+use lib.Signed.{leZ}
+use Rattle.meaning.specs.Condition as C
+use Rattle.meaning.specs.Condition.{renamed}
+use Rattle.meaning.specs.Postfix.{Node, leaf, allOf, anyOf}
+use Rattle.meaning.specs.Grammar.{Given, constant, mark, Term, column, given}
+use Rattle.meaning.specs.Limits.{isWithin32, markIn, markCount}
 use Rattle.meaning.specs.Names.{position}
+use Rattle.meaning.specs.Statement.{numbered}
 use Rattle.meaning.specs.Plain.{lowestOf}
+use Rattle.token.specs.Tokens.{valueOf}
+use Rattle.table.specs.Places.{tokenOn, termOn, operatorAt, nodesOn}
+use Rattle.table.specs.Compiled.{padded, valueStruct, noSetting, stepOf}
+use Rattle.table.specs.declared.Operand.{Operand}
+use Rattle.table.specs.declared.Operand.the-variants.{Column, Constant, Parameter}
+use Rattle.table.specs.declared.Comparison.{Comparison}
+use Rattle.table.specs.declared.Value.{Value}
+use Rattle.table.specs.declared.Value.the-variants.{Constant as ConstantValue, Parameter as ParameterValue}
+use Rattle.table.specs.declared.Setting.{Setting}
+use Rattle.table.specs.declared.build.Settings.{Settings}
 
 -- the lowest of 6 to 9 whose condition holds, or 0
 abbrev pub lowestBy : Bool → Bool → Bool → Bool → ℕ
@@ -12,3 +33,81 @@ lowestBy unknown taken miscounted full = lowestOf ((6, unknown) ∷ (7, taken) �
 -- the places of names among others
 abbrev pub placesOf : List (List ℕ) → List (List ℕ) → List ℕ
 placesOf columns names = map (position columns) names
+
+-- ---- what is kept of a name and of a constant: all, where a text is within the limits
+
+abbrev pub shortName : List ℕ → List ℕ
+shortName n = take 12 n
+
+abbrev pub shortNames : List (List ℕ) → List (List ℕ)
+shortNames ns = map shortName ns
+
+abbrev pub shortGiven : Given → Given
+shortGiven (constant z) = constant (cond (isWithin32 z) z (pos 0))
+shortGiven mark = mark
+
+abbrev pub shortTerm : Term → Term
+shortTerm (column n) = column (shortName n)
+shortTerm (given v) = given (shortGiven v)
+
+abbrev pub shortNode : Node Term → Node Term
+shortNode (leaf c) = leaf (renamed shortTerm c)
+shortNode allOf = allOf
+shortNode anyOf = anyOf
+
+abbrev pub shortNodes : List (Node Term) → List (Node Term)
+shortNodes ns = map shortNode ns
+
+-- ---- tokens
+
+-- the kinds of constants
+abbrev pub isConstant : ℕ → Bool
+isConstant k = eqb k 3 || eqb k 4
+
+-- 1 to 512 rows, or none
+unfoldable pub rowsIn : ℤ → ℕ
+rowsIn z = cond (leZ (pos 1) z && leZ z (pos 512)) (natAbs z) 0
+
+abbrev pub rowsOn : List ℕ → ℕ → ℕ
+rowsOn s p = rowsIn (valueOf (tokenOn s p))
+
+-- ---- settings
+
+abbrev pub markInValue : Value → ℕ
+markInValue (ConstantValue z) = 0
+markInValue (ParameterValue k) = 1
+
+-- values for columns, where m marks stand before
+abbrev pub settingsFrom : ℕ → List ℕ → List Given → List Setting
+settingsFrom m [] vs = []
+settingsFrom m (c ∷ cs) [] = []
+settingsFrom m (c ∷ cs) (v ∷ vs) = record { column = c; value = valueStruct (numbered m v) } ∷ settingsFrom (m + markIn v) cs vs
+
+abbrev pub settingsOn : List ℕ → List Given → Settings
+settingsOn cs vs = record { all = padded 8 noSetting (settingsFrom 0 cs (map shortGiven vs)); marks = markCount vs }
+
+-- ---- conditions
+
+abbrev pub markInSide : Operand → ℕ
+markInSide (Column i) = 0
+markInSide (Constant z) = 0
+markInSide (Parameter k) = 1
+
+abbrev pub comparisonOn : List ℕ → ℕ → ℕ → ℕ → C.Comparison Term
+comparisonOn s k a b = record { left = termOn s a; op = operatorAt k; right = termOn s b }
+
+abbrev pub stepIn : ℕ → ℕ
+stepIn k = cond (ltb k 6) 0 (cond (eqb k 6) 1 2)
+
+-- the steps of the nodes that are noted, in a text or another
+abbrev pub StepsAre : ℕ → List ℕ → List ℕ → Type 0
+StepsAre n places r = (s : List ℕ) → r ≡ padded 15 0 (map stepOf (nodesOn s n places))
+
+-- columns below a limit
+abbrev pub operandBelow : ℕ → Operand → Bool
+operandBelow n (Column i) = ltb i n
+operandBelow n (Constant z) = true
+operandBelow n (Parameter k) = true
+
+abbrev pub sidesBelow : ℕ → Comparison → Bool
+sidesBelow n c = operandBelow n (c .left) && operandBelow n (c .right)

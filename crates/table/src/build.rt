@@ -1,19 +1,32 @@
 // Names looked up in the tables that there are, and statements put together.
+use super::Comparison;
+use super::Condition;
 use super::Name;
+use super::Operand;
+use super::Setting;
 use super::Table;
+use super::Update;
+use super::Value;
+use token::Token;
 ghost use mathlib.Core.Path.{_≡_};
 ghost use mathlib.Core.Bool.{Bool, true, false, _&&_, _||_};
 ghost use mathlib.Core.List.{List, [], _∷_, map};
 ghost use Prim.Native.Nat.{ℕ, _+_, _-_, _*_, _≤_, _<_, min};
 ghost use lib.Dec.{eqb, ltb};
-ghost use lib.ListN.{length, take};
+ghost use lib.ListN.{length, take, drop, replicate};
 ghost use Rattle.lists.specs.Lists.{all, repeats};
 ghost use Rattle.lists.specs.Tests.{eqList};
+ghost use Rattle.meaning.specs.Condition.{renamed};
+ghost use Rattle.meaning.specs.Postfix.{leaves};
 ghost use Rattle.meaning.specs.Names.{sameName, position, tableNames};
+ghost use Rattle.meaning.specs.Statement.{numbered, operandOf, comparisonOf};
+ghost use Rattle.meaning.specs.Resolve.{resolveNodes};
 ghost use Rattle.meaning.specs.Cells.{areaSize, areasSize};
+ghost use Rattle.table.specs.Places.{tokenOn, nameOn, givenOn, termOn, nodesOn};
+ghost use Rattle.table.specs.Sentences.{namesOn, givensOn};
 ghost use Rattle.table.specs.Catalog.{nameOfStruct, namesOf, schemaOf, schemasOf};
-ghost use Rattle.table.specs.Compiled.{padded, noName};
-ghost use Rattle.table.specs.Built.{lowestBy, placesOf};
+ghost use Rattle.table.specs.Compiled.{padded, nameStruct, noName, valueStruct, operandStruct, comparisonStruct, noComparison, stepOf, conditionStruct, noSetting};
+ghost use Rattle.table.specs.Built.{lowestBy, placesOf, shortName, shortNames, shortGiven, shortTerm, shortNodes, isConstant, rowsIn, rowsOn, markInValue, markInSide, comparisonOn, stepIn, settingsOn, operandBelow, sidesBelow, StepsAre};
 
 fn least(a: usize, b: usize) -> usize
     ensures { λ r. ⌜ r ≡ min a b ⌝ }
@@ -155,6 +168,228 @@ fn areas(tables: [Table; 8], used: u8) -> u32
         i += 1;
     }
     sum
+}
+
+// ---- what stands at a place of a text
+
+// The name from `start` up to `end`, at most twelve bytes of it.
+fn name_from(text: &[u8], start: usize, end: usize) -> Name
+    requires { ⌜ (start ≤ end) × (end ≤ length (now text)) ⌝ }
+    ensures { λ r. ⌜ r ≡ nameStruct (shortName (take (end - start) (drop start (now (text .entry))))) ⌝ }
+{
+    let n = least(end - start, Name::BYTES);
+    let mut bytes = [0u8; 12];
+    let mut i = 0;
+    while i < n {
+        bytes[i] = text[start + i];
+        i += 1;
+    }
+    Name { bytes, len: n as u8 }
+}
+
+fn no_name() -> Name
+    ensures { λ r. ⌜ r ≡ noName ⌝ }
+{
+    Name {
+        bytes: [0u8; 12],
+        len: 0,
+    }
+}
+
+fn name_at(text: &[u8], place: usize) -> Name
+    ensures { λ r. ⌜ r ≡ nameStruct (shortName (nameOn (now (text .entry)) place)) ⌝ }
+{
+    let t = token::next(text, place);
+    if t.kind == Token::NAME {
+        return name_from(text, t.start, t.next);
+    }
+    no_name()
+}
+
+fn is_constant(kind: u8) -> bool
+    ensures { λ r. ⌜ r ≡ isConstant kind ⌝ }
+{
+    (kind == Token::CONSTANT) | (kind == Token::BIG)
+}
+
+// A constant, or the question mark before which so many stand.
+fn value_at(text: &[u8], place: usize, marks: u8) -> Value
+    ensures { λ r. ⌜ r ≡ valueStruct (numbered marks (shortGiven (givenOn (now (text .entry)) place))) ⌝ }
+{
+    let t = token::next(text, place);
+    if is_constant(t.kind) {
+        return Value::Constant(t.value);
+    }
+    Value::Parameter(marks)
+}
+
+// A side of a comparison.
+fn operand_at(text: &[u8], place: usize, columns: [Name; 8], count: u8, marks: u8) -> Operand
+    ensures { λ r. ⌜ r ≡ operandStruct (operandOf (namesOf columns count) marks (shortTerm (termOn (now (text .entry)) place))) ⌝ }
+{
+    let t = token::next(text, place);
+    if t.kind == Token::NAME {
+        return Operand::Column(find(name_from(text, t.start, t.next), columns, count));
+    }
+    if is_constant(t.kind) {
+        return Operand::Constant(t.value);
+    }
+    Operand::Parameter(marks)
+}
+
+// A number of rows.
+fn rows_in(z: i32) -> u16
+    ensures { λ r. ⌜ r ≡ rowsIn z ⌝ }
+{
+    if z < 1 {
+        return 0;
+    }
+    if 512 < z {
+        return 0;
+    }
+    z as u16
+}
+
+fn rows_at(text: &[u8], place: usize) -> u16
+    ensures { λ r. ⌜ r ≡ rowsOn (now (text .entry)) place ⌝ }
+{
+    let t = token::next(text, place);
+    rows_in(t.value)
+}
+
+fn no_names() -> [Name; 8]
+    ensures { λ r. ⌜ r ≡ replicate 8 noName ⌝ }
+{
+    [no_name(); 8]
+}
+
+// The names of the first n items of a list.
+fn names_at(text: &[u8], list: [u16; 16], n: usize) -> [Name; 8]
+    requires { ⌜ n ≤ 8 ⌝ }
+    ensures { λ r. ⌜ r ≡ padded 8 noName (map nameStruct (shortNames (namesOn (now (text .entry)) n list))) ⌝ }
+{
+    let mut names = no_names();
+    let mut i = 0;
+    while i < n {
+        let p = list[2 * i];
+        names[i] = name_at(text, p as usize);
+        i += 1;
+    }
+    names
+}
+
+// ---- settings
+
+fn mark_in(v: Value) -> u8
+    ensures { λ r. ⌜ r ≡ markInValue v ⌝ }
+{
+    match v {
+        Value::Constant(_) => 0,
+        Value::Parameter(_) => 1,
+    }
+}
+
+// Settings, and how many question marks they have.
+pub struct Settings {
+    pub all: [Setting; 8],
+    pub marks: u8,
+}
+
+fn no_settings() -> [Setting; 8]
+    ensures { λ r. ⌜ r ≡ replicate 8 noSetting ⌝ }
+{
+    let none = Setting {
+        column: 0,
+        value: Value::Constant(0),
+    };
+    [none; 8]
+}
+
+// The values of the first n items of a list, for these columns.
+fn settings_at(text: &[u8], list: [u16; 16], n: usize, columns: [u8; 8]) -> Settings
+    requires { ⌜ n ≤ 8 ⌝ }
+    ensures { λ r. ⌜ r ≡ settingsOn (take n columns) (givensOn (now (text .entry)) n list) ⌝ }
+{
+    let mut all = no_settings();
+    let mut marks: u8 = 0;
+    let mut i = 0;
+    while i < n {
+        let p = list[2 * i + 1];
+        let column = columns[i];
+        let value = value_at(text, p as usize, marks);
+        all[i] = Setting { column, value };
+        marks += mark_in(value);
+        i += 1;
+    }
+    Settings { all, marks }
+}
+
+// ---- conditions
+
+fn mark_of(side: Operand) -> u8
+    ensures { λ r. ⌜ r ≡ markInSide side ⌝ }
+{
+    match side {
+        Operand::Column(_) => 0,
+        Operand::Constant(_) => 0,
+        Operand::Parameter(_) => 1,
+    }
+}
+
+// A comparison, by its number and the places of its sides.
+fn comparison_at(text: &[u8], op: u16, left: u16, right: u16, columns: [Name; 8], count: u8, marks: u8) -> Comparison
+    requires { ⌜ (op < 6) × (marks < 128) ⌝ }
+    ensures { λ r. ⌜ r ≡ comparisonStruct (comparisonOf (namesOf columns count) marks (renamed shortTerm (comparisonOn (now (text .entry)) op left right))) ⌝ }
+{
+    let a = operand_at(text, left as usize, columns, count, marks);
+    let b = operand_at(text, right as usize, columns, count, marks + mark_of(a));
+    Comparison {
+        left: a,
+        op: op as u8,
+        right: b,
+    }
+}
+
+fn marks_of(c: Comparison) -> u8
+    ensures { λ r. ⌜ r ≡ markInSide (c .left) + markInSide (c .right) ⌝ }
+{
+    let a = c.left;
+    let b = c.right;
+    mark_of(a) + mark_of(b)
+}
+
+fn no_comparisons() -> [Comparison; 8]
+    ensures { λ r. ⌜ r ≡ replicate 8 noComparison ⌝ }
+{
+    let none = Comparison {
+        left: Operand::Constant(0),
+        op: 0,
+        right: Operand::Constant(0),
+    };
+    [none; 8]
+}
+
+fn step_in(node: u16) -> u8
+    ensures { λ r. ⌜ r ≡ stepIn node ⌝ }
+{
+    if node < 6 {
+        return 0;
+    }
+    if node == 6 { 1 } else { 2 }
+}
+
+fn steps_at(places: [u16; 45], nodes: usize) -> [u8; 15]
+    requires { ⌜ nodes ≤ 15 ⌝ }
+    ensures { λ r. ⌜ StepsAre nodes places r ⌝ }
+{
+    let mut steps = [0u8; 15];
+    let mut i = 0;
+    while i < nodes {
+        let k = places[3 * i];
+        steps[i] = step_in(k);
+        i += 1;
+    }
+    steps
 }
 
 // ---- refusals
