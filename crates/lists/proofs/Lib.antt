@@ -5,3 +5,4 @@ pub mod Written
 pub mod Moved
 pub mod Changed
 pub mod Runs
+pub mod Stacks

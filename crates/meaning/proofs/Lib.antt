@@ -14,3 +14,5 @@ pub mod Few
 pub mod Classes
 pub mod Weakening
 pub mod Demand
+pub mod Postfix
+pub mod Resolve

@@ -6,6 +6,7 @@ pub mod Grammar
 pub mod Limits
 pub mod Names
 pub mod Statement
+pub mod Resolve
 pub mod Meaning
 pub mod Cells
 pub mod Record

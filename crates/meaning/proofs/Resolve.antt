@@ -1,0 +1,370 @@
+-- Names resolved and question marks numbered in a condition in postfix order: it is what the condition itself gives; joins, constants and the number of
+-- question marks stay; the tests of the outcome hold of it; and what passes the tests comes from a condition that names the table's columns. Assumes nothing.
+use mathlib.Core.Path.{_≡_, refl, sym, ap, ap₂, _∙_, subst}
+use mathlib.Core.Bool.{Bool, true, false, not, _||_, cond, or-true}
+use mathlib.Core.List.{List, [], _∷_, _++_}
+use Prim.Native.Nat.{ℕ, zero, suc, _+_, _≤_, _<_}
+use native.Mathlib.Nat.{le-of-suc-le-suc, not-suc-le-zero, add-zero}
+use native.Mathlib.Omega.{arith}
+use borrow.Author.Tests.{ltb-true, lt-ltb, eqb-true, eq-eqb}
+use lib.Dec.{eqb, eqb-refl, ltb}
+use lib.IntN.{ℤ}
+use lib.ListN.{length, getD}
+use Rattle.lists.specs.Lists.{All, any, all, repeats}
+use Rattle.lists.specs.Tests.{eqList-refl}
+use Rattle.lists.proofs.Bools.{T→true, and-left, and-right, and-both, or-left, or-right, not-false, contra}
+use Rattle.lists.proofs.Lists.{any-false}
+use Rattle.lists.proofs.Places.{All-at}
+use Rattle.meaning.specs.Condition.{Comparison, Level, Condition, compare, negate, group, alone, both, single, either, Where, always, under, comparisons, sides, comparisonsIn, operandsIn, depthIn, renamed}
+use Rattle.meaning.specs.Postfix.{Node, leaf, allOf, anyOf, signed, joinAll, joinAny, nodes, nodesIn, leaves, balancedOn, isPostfix}
+use Rattle.meaning.specs.Tokens.{Name}
+use Rattle.meaning.specs.Grammar as G
+use Rattle.meaning.specs.Grammar.{mark, Term, given}
+use Rattle.meaning.specs.Limits.{termGivens, termColumns, markCount, isWithin32, outside32}
+use Rattle.meaning.specs.Names.{sameName, has, position}
+use Rattle.meaning.specs.Statement.{Operand, column, value, constant, parameter, markInTerm, operandOf, comparisonOf, resolved, resolvedWhere}
+use Rattle.meaning.specs.Resolve.{marksPast, marksAfter, resolveNodes, termConstants, operandConstants, markInOperand, parameterCount, isNumbered, numberedOn, numberedFrom, isBelow, columnsBelow}
+use Rattle.meaning.proofs.Names.{same-is, has-position}
+use Rattle.meaning.proofs.Postfix.{sides-nodes, sides-in, leaves-in, postfix-where, where-postfix}
+
+-- ---- the marks passed
+
+term-marks : (t : Term) (ts : List Term) → markCount (termGivens (t ∷ ts)) ≡ markInTerm t + markCount (termGivens ts)
+term-marks (G.column n) ts = omega arith
+term-marks (given v) ts = refl
+
+-- those of the comparisons
+pub marks-after : (m : ℕ) (ns : List (Node Term)) → marksAfter m ns ≡ m + markCount (termGivens (sides (leaves ns)))
+marks-after m [] = sym (add-zero m)
+marks-after m (leaf c ∷ ns) =
+    marks-after (marksPast m c) ns
+    ∙ omega (arith, term-marks (c .left) (c .right ∷ sides (leaves ns)), term-marks (c .right) (sides (leaves ns)))
+marks-after m (allOf ∷ ns) = marks-after m ns
+marks-after m (anyOf ∷ ns) = marks-after m ns
+
+-- over the nodes of a condition: its marks
+pub marks-nodes : {l : Level} (m : ℕ) (p : Bool) (c : Condition Term l) → marksAfter m (nodes p c) ≡ m + markCount (termGivens (sides (comparisons c)))
+marks-nodes m p c = marks-after m (nodes p c) ∙ ap (λ os. m + markCount (termGivens os)) (sides-nodes p c)
+
+pub marks-in : (m : ℕ) (w : Where Term) → marksAfter m (nodesIn w) ≡ m + markCount (termGivens (operandsIn w))
+marks-in m w = marks-after m (nodesIn w) ∙ ap (λ os. m + markCount (termGivens os)) (sides-in w)
+
+module _ (columns : List Name) where
+  -- ---- the nodes of the condition with names resolved
+
+  pub resolve-append : (m : ℕ) (ns ms : List (Node Term))
+      → resolveNodes columns m (ns ++ ms) ≡ resolveNodes columns m ns ++ resolveNodes columns (marksAfter m ns) ms
+  resolve-append m [] ms = refl
+  resolve-append m (leaf c ∷ ns) ms = ap (λ r. leaf (comparisonOf columns m c) ∷ r) (resolve-append (marksPast m c) ns ms)
+  resolve-append m (allOf ∷ ns) ms = ap (λ r. allOf ∷ r) (resolve-append m ns ms)
+  resolve-append m (anyOf ∷ ns) ms = ap (λ r. anyOf ∷ r) (resolve-append m ns ms)
+
+  resolve-signed : (m : ℕ) (p : Bool) (c : Comparison Term) → signed p (comparisonOf columns m c) ≡ comparisonOf columns m (signed p c)
+  resolve-signed m true c = refl
+  resolve-signed m false c = refl
+
+  resolve-all : (m : ℕ) (p : Bool) → resolveNodes columns m (joinAll p ∷ []) ≡ joinAll p ∷ []
+  resolve-all m true = refl
+  resolve-all m false = refl
+
+  resolve-any : (m : ℕ) (p : Bool) → resolveNodes columns m (joinAny p ∷ []) ≡ joinAny p ∷ []
+  resolve-any m true = refl
+  resolve-any m false = refl
+
+  resolve-joined : (m n : ℕ) (xs ys : List (Node Term)) (j : Node Term) (cs ds : List (Node Operand)) (k : Node Operand)
+      → marksAfter m xs ≡ n → cs ≡ resolveNodes columns m xs → ds ≡ resolveNodes columns n ys
+      → ((i : ℕ) → resolveNodes columns i (j ∷ []) ≡ k ∷ []) → cs ++ (ds ++ (k ∷ [])) ≡ resolveNodes columns m (xs ++ (ys ++ (j ∷ [])))
+  resolve-joined m n xs ys j cs ds k e hx hy hj =
+      sym
+      (resolve-append m xs (ys ++ (j ∷ []))
+      ∙ ap₂ _++_ (sym hx)
+      (resolve-append (marksAfter m xs) ys (j ∷ [])
+      ∙ ap₂ _++_ (ap (λ i. resolveNodes columns i ys) e ∙ sym hy) (hj (marksAfter (marksAfter m xs) ys))))
+
+  -- resolving a condition and taking its nodes is taking its nodes and resolving them
+  pub resolve-nodes : {l : Level} (m : ℕ) (p : Bool) (c : Condition Term l) → nodes p (resolved columns m c) ≡ resolveNodes columns m (nodes p c)
+  resolve-nodes m p (compare c) = ap (λ d. leaf d ∷ []) (resolve-signed m p c)
+  resolve-nodes m p (negate c) = resolve-nodes m (not p) c
+  resolve-nodes m p (group c) = resolve-nodes m p c
+  resolve-nodes m p (alone c) = resolve-nodes m p c
+  resolve-nodes m p (both c d) =
+      let n : ℕ = m + markCount (termGivens (sides (comparisons c))) in
+      resolve-joined m n (nodes p c) (nodes p d) (joinAll p) (nodes p (resolved columns m c)) (nodes p (resolved columns n d)) (joinAll p)
+      (marks-nodes m p c) (resolve-nodes m p c) (resolve-nodes n p d) (λ i. resolve-all i p)
+  resolve-nodes m p (single c) = resolve-nodes m p c
+  resolve-nodes m p (either c d) =
+      let n : ℕ = m + markCount (termGivens (sides (comparisons c))) in
+      resolve-joined m n (nodes p c) (nodes p d) (joinAny p) (nodes p (resolved columns m c)) (nodes p (resolved columns n d)) (joinAny p)
+      (marks-nodes m p c) (resolve-nodes m p c) (resolve-nodes n p d) (λ i. resolve-any i p)
+
+  pub resolve-where : (m : ℕ) (w : Where Term) → nodesIn (resolvedWhere columns m w) ≡ resolveNodes columns m (nodesIn w)
+  resolve-where m always = refl
+  resolve-where m (under c) = resolve-nodes m true c
+
+  -- ---- what stays
+
+  -- the joins
+  pub resolve-balanced : (k m : ℕ) (ns : List (Node Term)) → balancedOn k (resolveNodes columns m ns) ≡ balancedOn k ns
+  resolve-balanced zero m [] = refl
+  resolve-balanced (suc zero) m [] = refl
+  resolve-balanced (suc (suc k)) m [] = refl
+  resolve-balanced k m (leaf c ∷ ns) = resolve-balanced (suc k) (marksPast m c) ns
+  resolve-balanced zero m (allOf ∷ ns) = refl
+  resolve-balanced (suc zero) m (allOf ∷ ns) = refl
+  resolve-balanced (suc (suc k)) m (allOf ∷ ns) = resolve-balanced (suc k) m ns
+  resolve-balanced zero m (anyOf ∷ ns) = refl
+  resolve-balanced (suc zero) m (anyOf ∷ ns) = refl
+  resolve-balanced (suc (suc k)) m (anyOf ∷ ns) = resolve-balanced (suc k) m ns
+
+  pub resolve-postfix : (m : ℕ) (ns : List (Node Term)) → isPostfix (resolveNodes columns m ns) ≡ isPostfix ns
+  resolve-postfix m [] = refl
+  resolve-postfix m (leaf c ∷ ns) = resolve-balanced 0 m (leaf c ∷ ns)
+  resolve-postfix m (allOf ∷ ns) = refl
+  resolve-postfix m (anyOf ∷ ns) = refl
+
+  -- the number of nodes, and of comparisons
+  pub resolve-length : (m : ℕ) (ns : List (Node Term)) → length (resolveNodes columns m ns) ≡ length ns
+  resolve-length m [] = refl
+  resolve-length m (leaf c ∷ ns) = ap suc (resolve-length (marksPast m c) ns)
+  resolve-length m (allOf ∷ ns) = ap suc (resolve-length m ns)
+  resolve-length m (anyOf ∷ ns) = ap suc (resolve-length m ns)
+
+  pub resolve-leaves : (m : ℕ) (ns : List (Node Term)) → length (leaves (resolveNodes columns m ns)) ≡ length (leaves ns)
+  resolve-leaves m [] = refl
+  resolve-leaves m (leaf c ∷ ns) = ap suc (resolve-leaves (marksPast m c) ns)
+  resolve-leaves m (allOf ∷ ns) = resolve-leaves m ns
+  resolve-leaves m (anyOf ∷ ns) = resolve-leaves m ns
+
+  -- the constants
+  constant-of : (m : ℕ) (t : Term) (os : List Operand) (ts : List Term) → operandConstants os ≡ termConstants ts
+      → operandConstants (operandOf columns m t ∷ os) ≡ termConstants (t ∷ ts)
+  constant-of m (G.column n) os ts h = h
+  constant-of m (given (G.constant z)) os ts h = ap (λ r. z ∷ r) h
+  constant-of m (given mark) os ts h = h
+
+  pub resolve-constants : (m : ℕ) (ns : List (Node Term)) → operandConstants (sides (leaves (resolveNodes columns m ns))) ≡ termConstants (sides (leaves ns))
+  resolve-constants m [] = refl
+  resolve-constants m (leaf c ∷ ns) =
+      let os : List Operand = sides (leaves (resolveNodes columns (marksPast m c) ns)) in
+      let n : ℕ = m + markInTerm (c .left) in
+      constant-of m (c .left) (operandOf columns n (c .right) ∷ os) (c .right ∷ sides (leaves ns))
+      (constant-of n (c .right) os (sides (leaves ns)) (resolve-constants (marksPast m c) ns))
+  resolve-constants m (allOf ∷ ns) = resolve-constants m ns
+  resolve-constants m (anyOf ∷ ns) = resolve-constants m ns
+
+  -- the number of question marks
+  operand-marks : (m : ℕ) (t : Term) → markInOperand (operandOf columns m t) ≡ markInTerm t
+  operand-marks m (G.column n) = refl
+  operand-marks m (given (G.constant z)) = refl
+  operand-marks m (given mark) = refl
+
+  pub resolve-marks : (m : ℕ) (ns : List (Node Term))
+      → parameterCount (sides (leaves (resolveNodes columns m ns))) ≡ markCount (termGivens (sides (leaves ns)))
+  resolve-marks m [] = refl
+  resolve-marks m (leaf c ∷ ns) =
+      let n : ℕ = m + markInTerm (c .left) in
+      omega (
+        arith,
+        operand-marks m (c .left),
+        operand-marks n (c .right),
+        resolve-marks (marksPast m c) ns,
+        term-marks (c .left) (c .right ∷ sides (leaves ns)),
+        term-marks (c .right) (sides (leaves ns)),
+      )
+  resolve-marks m (allOf ∷ ns) = resolve-marks m ns
+  resolve-marks m (anyOf ∷ ns) = resolve-marks m ns
+
+  -- ---- the tests hold of it
+
+  operand-numbered : (m : ℕ) (t : Term) → isNumbered m (operandOf columns m t) ≡ true
+  operand-numbered m (G.column n) = refl
+  operand-numbered m (given (G.constant z)) = refl
+  operand-numbered m (given mark) = eq-eqb (suc m) (suc m) refl
+
+  numbered-next : (m : ℕ) (t : Term) (os : List Operand) → numberedOn (m + markInTerm t) os ≡ true → numberedOn m (operandOf columns m t ∷ os) ≡ true
+  numbered-next m t os h =
+      and-both (isNumbered m (operandOf columns m t)) _ (operand-numbered m t) (ap (λ k. numberedOn (m + k) os) (operand-marks m t) ∙ h)
+
+  -- its question marks are numbered
+  pub resolve-numbered : (m : ℕ) (ns : List (Node Term)) → numberedFrom m (resolveNodes columns m ns) ≡ true
+  resolve-numbered m [] = refl
+  resolve-numbered m (leaf c ∷ ns) =
+      let os : List Operand = sides (leaves (resolveNodes columns (marksPast m c) ns)) in
+      let n : ℕ = m + markInTerm (c .left) in
+      numbered-next m (c .left) (operandOf columns n (c .right) ∷ os) (numbered-next n (c .right) os (resolve-numbered (marksPast m c) ns))
+  resolve-numbered m (allOf ∷ ns) = resolve-numbered m ns
+  resolve-numbered m (anyOf ∷ ns) = resolve-numbered m ns
+
+  abbrev strange : Name → Bool
+  strange n = not (has columns n)
+
+  below-next : (m : ℕ) (t : Term) (ts : List Term) (os : List Operand) → any strange (termColumns (t ∷ ts)) ≡ false
+      → (any strange (termColumns ts) ≡ false → all (isBelow (length columns)) os ≡ true) → all (isBelow (length columns)) (operandOf columns m t ∷ os) ≡ true
+  below-next m (G.column n) ts os h k =
+      and-both (ltb (position columns n) (length columns)) _
+      (lt-ltb (position columns n) (length columns) (has-position columns n (not-false (has columns n) (or-left (strange n) (any strange (termColumns ts)) h))))
+      (k (or-right (strange n) (any strange (termColumns ts)) h))
+  below-next m (given v) ts os h k = k h
+
+  -- its columns are those of the table, if the names are
+  pub resolve-below : (m : ℕ) (ns : List (Node Term)) → any (λ (n : Name). not (has columns n)) (termColumns (sides (leaves ns))) ≡ false
+      → columnsBelow (length columns) (resolveNodes columns m ns) ≡ true
+  resolve-below m [] h = refl
+  resolve-below m (leaf c ∷ ns) h =
+      let os : List Operand = sides (leaves (resolveNodes columns (marksPast m c) ns)) in
+      let n : ℕ = m + markInTerm (c .left) in
+      below-next m (c .left) (c .right ∷ sides (leaves ns)) (operandOf columns n (c .right) ∷ os) h
+      (λ k. below-next n (c .right) (sides (leaves ns)) os k (resolve-below (marksPast m c) ns))
+  resolve-below m (allOf ∷ ns) h = resolve-below m ns h
+  resolve-below m (anyOf ∷ ns) h = resolve-below m ns h
+
+-- the constants of terms that are outside 32 bits
+pub outside-constants : (ts : List Term) → any outside32 (termGivens ts) ≡ any (λ (z : ℤ). not (isWithin32 z)) (termConstants ts)
+outside-constants [] = refl
+outside-constants (G.column n ∷ ts) = outside-constants ts
+outside-constants (given (G.constant z) ∷ ts) = ap (λ b. not (isWithin32 z) || b) (outside-constants ts)
+outside-constants (given mark ∷ ts) = outside-constants ts
+
+-- ---- names of a list of different names
+
+pub same-name : (n : Name) → sameName n n ≡ true
+same-name n = T→true (sameName n n) (eqList-refl eqb eqb-refl n)
+
+pub same-swap : (m n : Name) → sameName m n ≡ false → sameName n m ≡ false
+same-swap m n h = contra (sameName n m) (sameName m n) (λ e. ap (sameName m) (same-is n m e) ∙ same-name m) h
+
+-- the name at a place inside the list is there
+pub has-at : (ns : List Name) (i : ℕ) (d : Name) → i < length ns → has ns (getD ns i d) ≡ true
+has-at [] i d h = absurd (not-suc-le-zero h)
+has-at (n ∷ ns) zero d h = ap (λ b. b || has ns n) (same-name n)
+has-at (n ∷ ns) (suc i) d h =
+    ap (λ b. sameName (getD ns i d) n || b) (has-at ns i d (le-of-suc-le-suc h)) ∙ or-true (sameName (getD ns i d) n)
+
+-- and where the names are different, that is its place
+pub position-at : (ns : List Name) (i : ℕ) (d : Name) → repeats sameName ns ≡ false → i < length ns → position ns (getD ns i d) ≡ i
+position-at [] i d r h = absurd (not-suc-le-zero h)
+position-at (n ∷ ns) zero d r h = ap (λ b. cond b 0 (suc (position ns n))) (same-name n)
+position-at (n ∷ ns) (suc i) d r h =
+    let k : i < length ns = le-of-suc-le-suc h in
+    let others : All (λ m. sameName n m ≡ false) ns = any-false (sameName n) ns (or-left (any (sameName n) ns) (repeats sameName ns) r) in
+    ap (λ b. cond b 0 (suc (position ns (getD ns i d)))) (same-swap n (getD ns i d) (All-at i d k others))
+    ∙ ap suc (position-at ns i d (or-right (any (sameName n) ns) (repeats sameName ns) r) k)
+
+-- ---- back: nodes that pass the tests come from names
+
+same-comparison : {O : Type 0} (a b : O) (c : Comparison O) → a ≡ c .left → b ≡ c .right
+    → _≡_ {A = Comparison O} (record { left = a; op = c .op; right = b }) c
+same-comparison a b c e f = λ i. record { left = e i; op = c .op; right = f i }
+
+module _ (columns : List Name) where
+  -- a term of which the operand comes
+  abbrev pub termAt : Operand → Term
+  termAt (column i) = G.column (getD columns i [])
+  termAt (value (constant z)) = given (G.constant z)
+  termAt (value (parameter k)) = given mark
+
+  abbrev pub unresolved : List (Node Operand) → List (Node Term)
+  unresolved [] = []
+  unresolved (leaf c ∷ ns) = leaf (renamed termAt c) ∷ unresolved ns
+  unresolved (allOf ∷ ns) = allOf ∷ unresolved ns
+  unresolved (anyOf ∷ ns) = anyOf ∷ unresolved ns
+
+  mark-at : (o : Operand) → markInTerm (termAt o) ≡ markInOperand o
+  mark-at (column i) = refl
+  mark-at (value (constant z)) = refl
+  mark-at (value (parameter k)) = refl
+
+  term-known : (o : Operand) (ts : List Term) → isBelow (length columns) o ≡ true → any (strange columns) (termColumns ts) ≡ false
+      → any (strange columns) (termColumns (termAt o ∷ ts)) ≡ false
+  term-known (column i) ts h k =
+      ap (λ b. not b || any (strange columns) (termColumns ts)) (has-at columns i [] (ltb-true i (length columns) h)) ∙ k
+  term-known (value (constant z)) ts h k = k
+  term-known (value (parameter j)) ts h k = k
+
+  -- they name columns that there are
+  pub unresolved-known : (ns : List (Node Operand)) → columnsBelow (length columns) ns ≡ true
+      → any (λ (n : Name). not (has columns n)) (termColumns (sides (leaves (unresolved ns)))) ≡ false
+  unresolved-known [] h = refl
+  unresolved-known (leaf c ∷ ns) h =
+      let os : List Operand = sides (leaves ns) in
+      let ts : List Term = sides (leaves (unresolved ns)) in
+      let r : all (isBelow (length columns)) (c .right ∷ os) ≡ true = and-right (isBelow (length columns) (c .left)) _ h in
+      term-known (c .left) (termAt (c .right) ∷ ts) (and-left (isBelow (length columns) (c .left)) _ h)
+      (term-known (c .right) ts (and-left (isBelow (length columns) (c .right)) _ r)
+      (unresolved-known ns (and-right (isBelow (length columns) (c .right)) _ r)))
+  unresolved-known (allOf ∷ ns) h = unresolved-known ns h
+  unresolved-known (anyOf ∷ ns) h = unresolved-known ns h
+
+  -- a WHERE of which the nodes ns come, and what is in it
+  pub record Source (m : ℕ) (ns : List (Node Operand)) : Type 0 where
+    pub source : Where Term
+    pub resolves : nodesIn (resolvedWhere columns m source) ≡ ns
+    pub known : any (λ (n : Name). not (has columns n)) (termColumns (operandsIn source)) ≡ false
+    pub constants : termConstants (operandsIn source) ≡ operandConstants (sides (leaves ns))
+    pub marks : markCount (termGivens (operandsIn source)) ≡ parameterCount (sides (leaves ns))
+    pub size : length (comparisonsIn source) ≡ length (leaves ns)
+    pub shallow : length (leaves ns) ≤ 8 → depthIn source ≤ 8
+
+  module _ (different : repeats sameName columns ≡ false) where
+    operand-back : (m : ℕ) (o : Operand) → isBelow (length columns) o ≡ true → isNumbered m o ≡ true → operandOf columns m (termAt o) ≡ o
+    operand-back m (column i) h k = ap column (position-at columns i [] different (ltb-true i (length columns) h))
+    operand-back m (value (constant z)) h k = refl
+    operand-back m (value (parameter j)) h k = ap (λ i. value (parameter i)) (sym (eqb-true j (suc m) k))
+
+    -- and resolve to the nodes that were given
+    pub resolve-unresolved : (m : ℕ) (ns : List (Node Operand)) → columnsBelow (length columns) ns ≡ true → numberedFrom m ns ≡ true
+        → resolveNodes columns m (unresolved ns) ≡ ns
+    resolve-unresolved m [] h k = refl
+    resolve-unresolved m (leaf c ∷ ns) h k =
+        let l : Operand = c .left in
+        let r : Operand = c .right in
+        let n : ℕ = m + markInOperand l in
+        let h₁ : all (isBelow (length columns)) (r ∷ sides (leaves ns)) ≡ true = and-right (isBelow (length columns) l) _ h in
+        let k₁ : numberedOn n (r ∷ sides (leaves ns)) ≡ true = and-right (isNumbered m l) _ k in
+        let e : operandOf columns m (termAt l) ≡ l = operand-back m l (and-left (isBelow (length columns) l) _ h) (and-left (isNumbered m l) _ k) in
+        let f : operandOf columns (m + markInTerm (termAt l)) (termAt r) ≡ r =
+        ap (λ i. operandOf columns (m + i) (termAt r)) (mark-at l)
+        ∙ operand-back n r (and-left (isBelow (length columns) r) _ h₁) (and-left (isNumbered n r) _ k₁) in
+        ap₂ (λ d rest. leaf d ∷ rest) (same-comparison (operandOf columns m (termAt l)) (operandOf columns (m + markInTerm (termAt l)) (termAt r)) c e f)
+        (ap₂ (λ i j. resolveNodes columns (m + i + j) (unresolved ns)) (mark-at l) (mark-at r)
+        ∙ resolve-unresolved (n + markInOperand r) ns (and-right (isBelow (length columns) r) _ h₁) (and-right (isNumbered n r) _ k₁))
+    resolve-unresolved m (allOf ∷ ns) h k = ap (λ r. allOf ∷ r) (resolve-unresolved m ns h k)
+    resolve-unresolved m (anyOf ∷ ns) h k = ap (λ r. anyOf ∷ r) (resolve-unresolved m ns h k)
+
+    -- nodes that pass the tests come from nodes that name columns that there are; joins, constants and the number of question marks are the same by the laws above
+    pub unresolve : (m : ℕ) (ns : List (Node Operand)) → columnsBelow (length columns) ns ≡ true → numberedFrom m ns ≡ true
+        → (ts : List (Node Term)) × (resolveNodes columns m ts ≡ ns) × (any (λ (n : Name). not (has columns n)) (termColumns (sides (leaves ts))) ≡ false)
+    unresolve m ns h k = (unresolved ns, resolve-unresolved m ns h k, unresolved-known ns h)
+
+    -- nodes that pass the three tests come from a WHERE
+    pub where-source : (m : ℕ) (ns : List (Node Operand)) → isPostfix ns ≡ true → columnsBelow (length columns) ns ≡ true → numberedFrom m ns ≡ true
+        → Source m ns
+    where-source m ns p h k =
+        let ts : List (Node Term) = unresolved ns in
+        let back : resolveNodes columns m ts ≡ ns = resolve-unresolved m ns h k in
+        let q : isPostfix ts ≡ true = sym (resolve-postfix columns m ts) ∙ ap isPostfix back ∙ p in
+        let b : (w : Where Term) × (nodesIn w ≡ ts) × (length (leaves ts) ≤ 8 → depthIn w ≤ 8) = where-postfix ts q in
+        let w : Where Term = b .0 in
+        let inside : sides (leaves ts) ≡ operandsIn w = ap (λ us. sides (leaves us)) (sym (b .1)) ∙ sides-in w in
+        let many : length (leaves ts) ≡ length (leaves ns) = sym (resolve-leaves columns m ts) ∙ ap (λ us. length (leaves us)) back in
+        record {
+          source = w;
+          resolves = resolve-where columns m w ∙ ap (resolveNodes columns m) (b .1) ∙ back;
+          known = ap (λ os. any (λ (n : Name). not (has columns n)) (termColumns os)) (sym inside) ∙ unresolved-known ns h;
+          constants = ap termConstants (sym inside) ∙ sym (resolve-constants columns m ts) ∙ ap (λ us. operandConstants (sides (leaves us))) back;
+          marks = ap (λ os. markCount (termGivens os)) (sym inside) ∙ sym (resolve-marks columns m ts) ∙ ap (λ us. parameterCount (sides (leaves us))) back;
+          size = sym (leaves-in w) ∙ ap (λ us. length (leaves us)) (b .1) ∙ many;
+          shallow = λ s. b .2 (subst (λ i. i ≤ 8) (sym many) s);
+        }
+
+-- and those of a WHERE that names columns that there are pass them
+pub where-passes : (columns : List Name) (m : ℕ) (w : Where Term) → any (λ (n : Name). not (has columns n)) (termColumns (operandsIn w)) ≡ false
+    → (isPostfix (nodesIn (resolvedWhere columns m w)) ≡ true)
+    × (columnsBelow (length columns) (nodesIn (resolvedWhere columns m w)) ≡ true)
+    × (numberedFrom m (nodesIn (resolvedWhere columns m w)) ≡ true)
+where-passes columns m w h = (
+  postfix-where (resolvedWhere columns m w),
+  ap (columnsBelow (length columns)) (resolve-where columns m w)
+      ∙ resolve-below columns m (nodesIn w) (ap (λ os. any (λ (n : Name). not (has columns n)) (termColumns os)) (sides-in w) ∙ h),
+  ap (numberedFrom m) (resolve-where columns m w) ∙ resolve-numbered columns m (nodesIn w),
+)

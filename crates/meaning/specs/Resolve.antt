@@ -1,0 +1,79 @@
+-- Names resolved and question marks numbered in a condition in postfix order, from left to right; and tests of the outcome: whether its columns are those of a
+-- table, and whether its question marks are numbered so. Assumes nothing: these are definitions.
+use mathlib.Core.Bool.{Bool, true, _&&_}
+use mathlib.Core.List.{List, [], _∷_}
+use Prim.Native.Nat.{ℕ, suc, _+_}
+use lib.Dec.{eqb, ltb}
+use lib.IntN.{ℤ}
+use Rattle.lists.specs.Lists.{all}
+use Rattle.meaning.specs.Condition.{Comparison, sides}
+use Rattle.meaning.specs.Postfix.{Node, leaf, allOf, anyOf, leaves}
+use Rattle.meaning.specs.Tokens.{Name}
+use Rattle.meaning.specs.Grammar as G
+use Rattle.meaning.specs.Grammar.{Term, given, mark}
+use Rattle.meaning.specs.Statement.{Operand, column, value, constant, parameter, markInTerm, comparisonOf}
+
+-- ---- the walk, where m marks stand before
+
+-- the marks that stand before what follows a comparison; before what follows the nodes
+abbrev pub marksPast : ℕ → Comparison Term → ℕ
+marksPast m c = m + markInTerm (c .left) + markInTerm (c .right)
+
+abbrev pub marksAfter : ℕ → List (Node Term) → ℕ
+marksAfter m [] = m
+marksAfter m (leaf c ∷ ns) = marksAfter (marksPast m c) ns
+marksAfter m (allOf ∷ ns) = marksAfter m ns
+marksAfter m (anyOf ∷ ns) = marksAfter m ns
+
+abbrev pub resolveNodes : List Name → ℕ → List (Node Term) → List (Node Operand)
+resolveNodes columns m [] = []
+resolveNodes columns m (leaf c ∷ ns) = leaf (comparisonOf columns m c) ∷ resolveNodes columns (marksPast m c) ns
+resolveNodes columns m (allOf ∷ ns) = allOf ∷ resolveNodes columns m ns
+resolveNodes columns m (anyOf ∷ ns) = anyOf ∷ resolveNodes columns m ns
+
+-- ---- what is in it
+
+abbrev pub termConstants : List Term → List ℤ
+termConstants [] = []
+termConstants (G.column n ∷ ts) = termConstants ts
+termConstants (given (G.constant z) ∷ ts) = z ∷ termConstants ts
+termConstants (given mark ∷ ts) = termConstants ts
+
+abbrev pub operandConstants : List Operand → List ℤ
+operandConstants [] = []
+operandConstants (column i ∷ os) = operandConstants os
+operandConstants (value (constant z) ∷ os) = z ∷ operandConstants os
+operandConstants (value (parameter k) ∷ os) = operandConstants os
+
+abbrev pub markInOperand : Operand → ℕ
+markInOperand (column i) = 0
+markInOperand (value (constant z)) = 0
+markInOperand (value (parameter k)) = 1
+
+abbrev pub parameterCount : List Operand → ℕ
+parameterCount [] = 0
+parameterCount (o ∷ os) = markInOperand o + parameterCount os
+
+-- ---- tests
+
+-- a question mark is m + 1
+abbrev pub isNumbered : ℕ → Operand → Bool
+isNumbered m (column i) = true
+isNumbered m (value (constant z)) = true
+isNumbered m (value (parameter k)) = eqb k (suc m)
+
+-- the question marks are m + 1, m + 2 and on, from left to right
+abbrev pub numberedOn : ℕ → List Operand → Bool
+numberedOn m [] = true
+numberedOn m (o ∷ os) = isNumbered m o && numberedOn (m + markInOperand o) os
+
+abbrev pub numberedFrom : ℕ → List (Node Operand) → Bool
+numberedFrom m ns = numberedOn m (sides (leaves ns))
+
+-- a column is one of the first n
+abbrev pub isBelow : ℕ → Operand → Bool
+isBelow n (column i) = ltb i n
+isBelow n (value v) = true
+
+abbrev pub columnsBelow : ℕ → List (Node Operand) → Bool
+columnsBelow n ns = all (isBelow n) (sides (leaves ns))
