@@ -1,2 +1,6 @@
 pub mod Walks
 pub mod Found
+pub mod Standing
+pub mod Parts
+pub mod Values
+pub mod Left

@@ -62,15 +62,17 @@ pub record Fills {A : Type 0} (goal out : List A) (i : ℕ) (left : List A) : Ty
   pub fills : sets out i left ≡ goal
 
 module _ {A : Type 0} where
-  pub fills-start : (n : ℕ) (d : A) (xs : List A) → length xs ≤ n → Fills (padded n d xs) (replicate n d) 0 xs
-  fills-start n d xs h = record {
-    room = omega (arith, length-replicate n d);
-    fills =
-        let e : 0 + length xs ≡ length xs = omega arith in
-        sets-eq xs (replicate n d) 0 (omega (arith, length-replicate n d))
-        ∙ ap (λ (k : ℕ). xs ++ drop k (replicate n d)) e
-        ∙ ap (λ (ys : List A). xs ++ ys) (drop-replicate (length xs) n d h);
-  }
+  pub fills-start : (n : ℕ) (d : A) (xs out : List A) → out ≡ replicate n d → length xs ≤ n → Fills (padded n d xs) out 0 xs
+  fills-start n d xs out q h =
+      let e : 0 + length xs ≡ length xs = omega arith in
+      let l : length out ≡ n = ap length q ∙ length-replicate n d in
+      record {
+        room = omega arith;
+        fills =
+            sets-eq xs out 0 (omega arith)
+            ∙ ap₂ (λ (k : ℕ) (ys : List A). xs ++ drop k ys) e q
+            ∙ ap (λ (ys : List A). xs ++ ys) (drop-replicate (length xs) n d h);
+      }
 
   pub fills-more : (goal out : List A) (i : ℕ) (left : List A) (y : A) (less : List A) → left ≡ y ∷ less → Fills goal out i left → Fills goal (set out i y) (i + 1) less
   fills-more goal out i left y less e F =

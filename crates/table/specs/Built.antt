@@ -6,7 +6,7 @@ use Prim.Native.Nat.{ℕ, _+_}
 use lib.Dec.{eqb, ltb}
 use lib.IntN.{ℤ, pos, natAbs}
 use lib.ListN.{take}
-use lib.Signed.{leZ}
+use lib.Signed.{ltZ}
 use Rattle.meaning.specs.Condition as C
 use Rattle.meaning.specs.Condition.{renamed}
 use Rattle.meaning.specs.Postfix.{Node, leaf, allOf, anyOf}
@@ -66,7 +66,7 @@ isConstant k = eqb k 3 || eqb k 4
 
 -- 1 to 512 rows, or none
 unfoldable pub rowsIn : ℤ → ℕ
-rowsIn z = cond (leZ (pos 1) z && leZ z (pos 512)) (natAbs z) 0
+rowsIn z = cond (ltZ z (pos 1)) 0 (cond (ltZ (pos 512) z) 0 (natAbs z))
 
 abbrev pub rowsOn : List ℕ → ℕ → ℕ
 rowsOn s p = rowsIn (valueOf (tokenOn s p))

@@ -1,6 +1,6 @@
 -- `positions` meets its contract. The invariant: the names left are still to be looked up. Assumes nothing.
 use borrow.Author.Needs.{needs}
-use mathlib.Core.Path.{_≡_, sym, ap, _∙_}
+use mathlib.Core.Path.{_≡_, refl, sym, ap, _∙_}
 use mathlib.Core.List.{List, map}
 use Prim.Native.Nat.{ℕ, _-_, _≤_}
 use native.Mathlib.Omega.{arith}
@@ -27,7 +27,7 @@ loop-holds : tie.Need-loop-holds Inv-loop μ-loop
 loop-holds c = 
     let a = c .args in
     let e : length (a .t1) ≡ 8 = search needs in
-    (omega arith, e, fills-start 8 0 _ (omega (arith, length-first (looked (a .columns) (a .count)) (a .n) (a .t1) (omega arith))))
+    (omega arith, e, fills-start 8 0 _ _ refl (omega (arith, length-first (looked (a .columns) (a .count)) (a .n) (a .t1) (omega arith))))
 
 mul-x : tie.Need-mul-x Inv-loop μ-loop
 mul-x c = search needs
