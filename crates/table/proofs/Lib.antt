@@ -4,3 +4,5 @@ pub mod Standing
 pub mod Parts
 pub mod Values
 pub mod Left
+pub mod Sets
+pub mod Resolving

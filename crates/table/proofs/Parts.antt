@@ -22,6 +22,8 @@ use Rattle.meaning.specs.Statement.{numbered, markInTerm, operandOf, comparison
 use Rattle.token.specs.Tokens.{operatorNumber}
 use Rattle.table.specs.declared.Operand.{Operand}
 use Rattle.table.specs.declared.Operand.the-variants.{Column, Constant, Parameter}
+use Rattle.table.specs.declared.Value.{Value}
+use Rattle.table.specs.declared.Value.the-variants.{Constant as ConstantValue, Parameter as ParameterValue}
 use Rattle.table.specs.Places.{termOn, operatorAt}
 use Rattle.table.specs.Compiled.{valueStruct, operandStruct, comparisonStruct}
 use Rattle.table.specs.Built.{rowsIn, shortGiven, shortTerm, markInValue, markInSide, comparisonOn}
@@ -51,6 +53,14 @@ pub mark-few : (o : Operand) → markInSide o ≤ 1
 mark-few (Column i) = omega arith
 mark-few (Constant z) = omega arith
 mark-few (Parameter k) = omega arith
+
+pub mark-value-few : (v : Value) → markInValue v ≤ 1
+mark-value-few (ConstantValue z) = omega arith
+mark-value-few (ParameterValue k) = omega arith
+
+pub mark-one : (v : Given) → markIn v ≤ 1
+mark-one (G.constant z) = omega arith
+mark-one G.mark = omega arith
 
 pub mark-given : (m : ℕ) (v : Given) → markInValue (valueStruct (numbered m v)) ≡ markIn v
 mark-given m (G.constant z) = refl

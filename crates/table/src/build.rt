@@ -392,6 +392,67 @@ fn steps_at(places: [u16; 45], nodes: usize) -> [u8; 15]
     steps
 }
 
+// The condition of the nodes that are noted, with columns of these names, where so many question marks stand before it.
+fn condition_at(text: &[u8], places: [u16; 45], nodes: usize, columns: [Name; 8], count: u8, marks: u8) -> Condition
+    requires { ⌜ (nodes ≤ 15) × (marks ≤ 8) × (length (leaves (nodesOn (now text) nodes places)) ≤ 8) ⌝ }
+    ensures { λ r. ⌜ r ≡ conditionStruct (resolveNodes (namesOf columns count) marks (shortNodes (nodesOn (now (text .entry)) nodes places))) ⌝ }
+{
+    let mut comparisons = no_comparisons();
+    let mut found: usize = 0;
+    let mut m = marks;
+    let mut i = 0;
+    while i < nodes {
+        let op = places[3 * i];
+        if op < 6 {
+            let c = comparison_at(text, op, places[3 * i + 1], places[3 * i + 2], columns, count, m);
+            comparisons[found] = c;
+            found += 1;
+            m += marks_of(c);
+        }
+        i += 1;
+    }
+    Condition {
+        comparisons,
+        steps: steps_at(places, nodes),
+        count: found as u8,
+    }
+}
+
+// Whether a side's column is below `limit`.
+fn is_below(side: Operand, limit: usize) -> bool
+    ensures { λ r. ⌜ r ≡ operandBelow limit side ⌝ }
+{
+    match side {
+        Operand::Column(i) => (i as usize) < limit,
+        Operand::Constant(_) => true,
+        Operand::Parameter(_) => true,
+    }
+}
+
+fn sides_below(c: Comparison, limit: usize) -> bool
+    ensures { λ r. ⌜ r ≡ sidesBelow limit c ⌝ }
+{
+    let a = c.left;
+    let b = c.right;
+    is_below(a, limit) & is_below(b, limit)
+}
+
+// Whether all columns of a condition are below `limit`.
+fn columns_below(comparisons: [Comparison; 8], count: u8, limit: usize) -> bool
+    requires { ⌜ count ≤ 8 ⌝ }
+    ensures { λ r. ⌜ r ≡ all (sidesBelow limit) (take count comparisons) ⌝ }
+{
+    let n = count as usize;
+    let mut ok = true;
+    let mut i = 0;
+    while i < n {
+        let c = comparisons[i];
+        ok = ok & sides_below(c, limit);
+        i += 1;
+    }
+    ok
+}
+
 // ---- refusals
 
 // The lowest of 6 to 9 whose condition holds, or 0.

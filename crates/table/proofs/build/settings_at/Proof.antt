@@ -1,84 +1,74 @@
+-- `settings_at` meets its contract. The invariant: the settings left are still to be read. Assumes nothing.
+use borrow.Author.Needs.{needs}
+use mathlib.Core.Path.{_≡_}
+use Prim.Native.Nat.{ℕ, _-_, _≤_}
+use native.Mathlib.Omega.{arith}
+use lib.ListN.{length}
+use Rattle.table.proofs.Parts.{mark-value-few}
+use Rattle.table.proofs.Sets.{SetUp, set-start, set-more, set-end}
 use Rattle.table.proofs.build.settings_at.Statement.{statement}
 use Rattle.table.proofs.build.settings_at.Tie as tie
-use Rattle.table.proofs.build.settings_at.Reads as reads
-use Rattle.table.proofs.build.settings_at.Lts as lts
-use Rattle.table.proofs.build.mark_in.Reads as mark-in-reads
-use Rattle.table.proofs.build.no_settings.Reads as no-settings-reads
-use Rattle.table.proofs.build.value_at.Reads as value-at-reads
 
 abbrev Inv-loop : tie.InvT-loop
-Inv-loop text n list columns all₀ marks₀ i₀ all marks i = ?
+Inv-loop text n list columns all₀ marks₀ i₀ all marks i = (length columns ≡ 8) × SetUp text list columns n all marks i
 
 abbrev μ-loop : tie.MeasureT-loop
-μ-loop text n list columns all₀ marks₀ i₀ all marks i = ?
+μ-loop text n list columns all₀ marks₀ i₀ all marks i = n - i
 
--- src/build.rt:313:19
 no-settings-requires : tie.Need-no-settings-requires Inv-loop μ-loop
-no-settings-requires c κs = ?
+no-settings-requires c κs = search needs
 
--- src/build.rt:316:5
 loop-holds : tie.Need-loop-holds Inv-loop μ-loop
-loop-holds c = ?
+loop-holds c = (search needs, set-start _ _ _ _ _ (c .no-settings .ensures) (omega arith))
 
--- src/build.rt:317:22
 mul-p : tie.Need-mul-p Inv-loop μ-loop
-mul-p c = ?
+mul-p c = search needs
 
--- src/build.rt:317:22
 add-p : tie.Need-add-p Inv-loop μ-loop
-add-p c = ?
+add-p c = search needs
 
--- src/build.rt:317:17
 mul-p-2 : tie.Need-mul-p-2 Inv-loop μ-loop
-mul-p-2 c = ?
+mul-p-2 c = search needs
 
--- src/build.rt:317:17
 array-read-p : tie.Need-array-read-p Inv-loop μ-loop
-array-read-p c = ?
+array-read-p c = search needs
 
--- src/build.rt:318:22
 array-read-column : tie.Need-array-read-column Inv-loop μ-loop
-array-read-column c = ?
+array-read-column c = search needs
 
--- src/build.rt:319:36
 cast-value-at : tie.Need-cast-value-at Inv-loop μ-loop
-cast-value-at c = ?
+cast-value-at c = search needs
 
--- src/build.rt:319:13
 value-at-requires : tie.Need-value-at-requires Inv-loop μ-loop
-value-at-requires c κs = ?
+value-at-requires c κs = search needs
 
--- src/build.rt:320:9
 mul-all : tie.Need-mul-all Inv-loop μ-loop
-mul-all c = ?
+mul-all c = search needs
 
--- src/build.rt:320:9
 array-set-from-all : tie.Need-array-set-from-all Inv-loop μ-loop
-array-set-from-all c = ?
+array-set-from-all c = search needs
 
--- src/build.rt:321:18
 mark-in-requires : tie.Need-mark-in-requires Inv-loop μ-loop
-mark-in-requires c κs = ?
+mark-in-requires c κs = search needs
 
--- src/build.rt:321:9
 add-marks : tie.Need-add-marks Inv-loop μ-loop
-add-marks c = ?
+add-marks c =
+    let l = c .before .before .before .loop in
+    record { fits = omega (arith, c .mark-in .ensures, mark-value-few (c .before .value-at .result), l .inv .1 .few, c .before .before .loop-test .taken) }
 
--- src/build.rt:322:9
 add-i : tie.Need-add-i Inv-loop μ-loop
-add-i c = ?
+add-i c = search needs
 
--- src/build.rt:316:5
 loop-less : tie.Need-loop-less Inv-loop μ-loop
-loop-less c = ?
+loop-less c = search needs
 
--- src/build.rt:316:5
 loop-again : tie.Need-loop-again Inv-loop μ-loop
-loop-again c = ?
+loop-again c = 
+    let l = c .before .before .before .loop in
+    (l .inv .0, set-more _ _ _ _ (omega arith) _ _ _ _ _ (c .before .before .loop-test .taken) (c .before .value-at .ensures) (c .mark-in .ensures) (l .inv .1))
 
--- src/build.rt:309:1
 returns : tie.Need-returns Inv-loop μ-loop
-returns c = ?
+returns c = set-end _ _ _ _ _ _ _ (c .loop-test .left) (c .before .loop .inv .1)
 
 pub settings-at-spec : {M : Type 1} → statement M
 settings-at-spec =
