@@ -6,3 +6,4 @@ pub mod Values
 pub mod Left
 pub mod Sets
 pub mod Resolving
+pub mod Assembled

@@ -1,29 +1,36 @@
 -- What the functions that put statements together make of noted places. Assumes nothing: these are definitions.
 use mathlib.Core.Path.{_≡_}
-use mathlib.Core.Bool.{Bool, true, false, _&&_, _||_, cond}
+use mathlib.Core.Bool.{Bool, true, false, not, _&&_, _||_, cond}
 use mathlib.Core.List.{List, [], _∷_, map}
-use Prim.Native.Nat.{ℕ, _+_}
-use lib.Dec.{eqb, ltb}
+use Prim.Native.Nat.{ℕ, _+_, _-_, _*_, _≤_}
+use lib.Dec.{eqb, ltb, leb}
 use lib.IntN.{ℤ, pos, natAbs}
-use lib.ListN.{take}
+use lib.ListN.{length, take}
 use lib.Signed.{ltZ}
+use Rattle.lists.specs.Lists.{all, repeats, from}
 use Rattle.meaning.specs.Condition as C
 use Rattle.meaning.specs.Condition.{renamed}
-use Rattle.meaning.specs.Postfix.{Node, leaf, allOf, anyOf}
+use Rattle.meaning.specs.Postfix.{Node, leaf, allOf, anyOf, leaves}
 use Rattle.meaning.specs.Grammar.{Given, constant, mark, Term, column, given}
 use Rattle.meaning.specs.Limits.{isWithin32, markIn, markCount}
-use Rattle.meaning.specs.Names.{position}
+use Rattle.meaning.specs.Names.{Schema, sameName, has, position, tableNames}
 use Rattle.meaning.specs.Statement.{numbered}
+use Rattle.meaning.specs.Resolve.{resolveNodes}
+use Rattle.meaning.specs.Cells.{areasSize}
 use Rattle.meaning.specs.Plain.{lowestOf}
 use Rattle.token.specs.Tokens.{valueOf}
-use Rattle.table.specs.Places.{tokenOn, termOn, operatorAt, nodesOn}
-use Rattle.table.specs.Compiled.{padded, valueStruct, noSetting, stepOf}
+use Rattle.table.specs.Places.{tokenOn, nameOn, termOn, operatorAt, nodesOn}
+use Rattle.table.specs.Sentences.{namesOn, givensOn}
+use Rattle.table.specs.Compiled.{padded, tableStruct, valueStruct, noSetting, stepOf, conditionStruct, created, asked, changing, settled}
 use Rattle.table.specs.declared.Operand.{Operand}
 use Rattle.table.specs.declared.Operand.the-variants.{Column, Constant, Parameter}
 use Rattle.table.specs.declared.Comparison.{Comparison}
+use Rattle.table.specs.declared.Condition.{Condition}
 use Rattle.table.specs.declared.Value.{Value}
 use Rattle.table.specs.declared.Value.the-variants.{Constant as ConstantValue, Parameter as ParameterValue}
 use Rattle.table.specs.declared.Setting.{Setting}
+use Rattle.table.specs.declared.Statement.{Statement}
+use Rattle.table.specs.declared.sentences.Entry.{Entry}
 use Rattle.table.specs.declared.build.Settings.{Settings}
 
 -- the lowest of 6 to 9 whose condition holds, or 0
@@ -111,3 +118,95 @@ operandBelow n (Parameter k) = true
 
 abbrev pub sidesBelow : ℕ → Comparison → Bool
 sidesBelow n c = operandBelow n (c .left) && operandBelow n (c .right)
+
+abbrev pub conditionBelow : ℕ → Condition → Bool
+conditionBelow n c = all (sidesBelow n) (take (c .count) (c .comparisons))
+
+abbrev pub placesBelow : ℕ → List ℕ → Bool
+placesBelow n at = all (λ (i : ℕ). ltb i n) at
+
+-- ---- the five forms, of a sentence as it was read
+
+-- what was noted is within the limits
+pub record Fits (s ps : List ℕ) (e : Entry) : Type 0 where
+  pub listed : e .listed ≤ 8
+  pub marks : e .c .marks ≤ 8
+  pub nodes : e .c .nodes ≤ 15
+  pub comparisons : length (leaves (nodesOn s (e .c .nodes) ps)) ≤ 8
+
+-- the names of its list, and its condition where m marks stand before it
+abbrev pub listedOn : List ℕ → List ℕ → Entry → List (List ℕ)
+listedOn s ls e = shortNames (namesOn s (e .listed) ls)
+
+abbrev pub conditionOn : List ℕ → List ℕ → Entry → List (List ℕ) → ℕ → Condition
+conditionOn s ps e columns m = conditionStruct (resolveNodes columns m (shortNodes (nodesOn s (e .c .nodes) ps)))
+
+-- places or columns of its condition that are not there
+abbrev pub unknownOn : List (List ℕ) → List ℕ → Condition → Bool
+unknownOn columns at condition = not (placesBelow (length columns) at && conditionBelow (length columns) condition)
+
+abbrev pub schemaOn : List ℕ → List ℕ → Entry → Schema
+schemaOn s ls e = record { name = shortName (nameOn s (e .table)); columns = listedOn s ls e; capacity = rowsOn s (e .rows) }
+
+-- beside the tables ts; `columns` are those of its table, whose number is i
+unfoldable pub tableOn : List ℕ → List ℕ → Entry → List Schema → ℕ → Statement
+tableOn s ls e ts cells =
+    settled
+    (lowestBy false
+    (has (tableNames ts) (shortName (nameOn s (e .table))) || repeats sameName (listedOn s ls e))
+    false
+    (leb 8 (length ts) || ltb (cells - areasSize ts) (e .listed * rowsOn s (e .rows))))
+    (created (tableStruct (schemaOn s ls e)))
+
+unfoldable pub selectOn : List ℕ → List ℕ → List ℕ → Entry → List (List ℕ) → ℕ → ℕ → Statement
+selectOn s ls ps e columns i queries =
+    settled (lowestBy (unknownOn columns (placesOf columns (listedOn s ls e)) (conditionOn s ps e columns 0)) false false (leb 16 queries))
+    (asked (record {
+      table = i;
+      selected = padded 8 0 (placesOf columns (listedOn s ls e));
+      count = e .listed;
+      parameters = e .c .marks;
+      condition = conditionOn s ps e columns 0;
+    }))
+
+unfoldable pub insertOn : List ℕ → List ℕ → Entry → List (List ℕ) → ℕ → ℕ → Statement
+insertOn s ls e columns i updates =
+    settled (lowestBy false false (not (eqb (e .listed) (length columns))) (leb 16 updates))
+    (changing (record {
+      form = 0;
+      table = i;
+      settings = settingsOn (take (e .listed) (from 0 8)) (givensOn s (e .listed) ls) .all;
+      count = e .listed;
+      parameters = e .c .marks;
+      condition = conditionStruct [];
+    }))
+
+-- the settings of an UPDATE
+abbrev pub setsOn : List ℕ → List ℕ → Entry → List (List ℕ) → Settings
+setsOn s ls e columns = settingsOn (placesOf columns (listedOn s ls e)) (givensOn s (e .listed) ls)
+
+unfoldable pub updateOn : List ℕ → List ℕ → List ℕ → Entry → List (List ℕ) → ℕ → ℕ → Statement
+updateOn s ls ps e columns i updates =
+    settled
+    (lowestBy (unknownOn columns (placesOf columns (listedOn s ls e)) (conditionOn s ps e columns (setsOn s ls e columns .marks)))
+    (repeats sameName (listedOn s ls e)) false (leb 16 updates))
+    (changing (record {
+      form = 1;
+      table = i;
+      settings = setsOn s ls e columns .all;
+      count = e .listed;
+      parameters = e .c .marks;
+      condition = conditionOn s ps e columns (setsOn s ls e columns .marks);
+    }))
+
+unfoldable pub deleteOn : List ℕ → List ℕ → Entry → List (List ℕ) → ℕ → ℕ → Statement
+deleteOn s ps e columns i updates =
+    settled (lowestBy (unknownOn columns [] (conditionOn s ps e columns 0)) false false (leb 16 updates))
+    (changing (record {
+      form = 2;
+      table = i;
+      settings = padded 8 noSetting [];
+      count = 0;
+      parameters = e .c .marks;
+      condition = conditionOn s ps e columns 0;
+    }))

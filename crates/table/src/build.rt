@@ -3,30 +3,33 @@ use super::Comparison;
 use super::Condition;
 use super::Name;
 use super::Operand;
+use super::Query;
 use super::Setting;
+use super::Statement;
 use super::Table;
 use super::Update;
 use super::Value;
+use super::sentences::Entry;
 use token::Token;
 ghost use mathlib.Core.Path.{_≡_};
-ghost use mathlib.Core.Bool.{Bool, true, false, _&&_, _||_};
+ghost use mathlib.Core.Bool.{Bool, true, false, not, _&&_, _||_};
 ghost use mathlib.Core.List.{List, [], _∷_, map};
 ghost use Prim.Native.Nat.{ℕ, _+_, _-_, _*_, _≤_, _<_, min};
-ghost use lib.Dec.{eqb, ltb};
+ghost use lib.Dec.{eqb, ltb, leb};
 ghost use lib.ListN.{length, take, drop, replicate};
 ghost use Rattle.lists.specs.Lists.{all, repeats};
 ghost use Rattle.lists.specs.Tests.{eqList};
 ghost use Rattle.meaning.specs.Condition.{renamed};
 ghost use Rattle.meaning.specs.Postfix.{leaves};
-ghost use Rattle.meaning.specs.Names.{sameName, position, tableNames};
+ghost use Rattle.meaning.specs.Names.{sameName, has, position, tableNames};
 ghost use Rattle.meaning.specs.Statement.{numbered, operandOf, comparisonOf};
 ghost use Rattle.meaning.specs.Resolve.{resolveNodes};
 ghost use Rattle.meaning.specs.Cells.{areaSize, areasSize};
 ghost use Rattle.table.specs.Places.{tokenOn, nameOn, givenOn, termOn, nodesOn};
 ghost use Rattle.table.specs.Sentences.{namesOn, givensOn};
 ghost use Rattle.table.specs.Catalog.{nameOfStruct, namesOf, schemaOf, schemasOf};
-ghost use Rattle.table.specs.Compiled.{padded, nameStruct, noName, valueStruct, operandStruct, comparisonStruct, noComparison, stepOf, conditionStruct, noSetting};
-ghost use Rattle.table.specs.Built.{lowestBy, placesOf, shortName, shortNames, shortGiven, shortTerm, shortNodes, isConstant, rowsIn, rowsOn, markInValue, markInSide, comparisonOn, stepIn, settingsOn, operandBelow, sidesBelow, StepsAre};
+ghost use Rattle.table.specs.Compiled.{padded, nameStruct, noName, valueStruct, operandStruct, comparisonStruct, noComparison, stepOf, conditionStruct, noSetting, noTable, noQuery, noUpdate, created as createdAs, asked as askedAs, changing as changingAs, refusedBy, settled};
+ghost use Rattle.table.specs.Built.{lowestBy, placesOf, shortName, shortNames, shortGiven, shortTerm, shortNodes, isConstant, rowsIn, rowsOn, markInValue, markInSide, comparisonOn, stepIn, settingsOn, operandBelow, sidesBelow, StepsAre, placesBelow, conditionBelow, Fits, tableOn, selectOn, insertOn, updateOn, deleteOn};
 
 fn least(a: usize, b: usize) -> usize
     ensures { λ r. ⌜ r ≡ min a b ⌝ }
@@ -469,4 +472,249 @@ fn lowest(unknown: bool, taken: bool, miscounted: bool, full: bool) -> u8
         return 8;
     }
     if full { 9 } else { 0 }
+}
+
+// The refusal of a statement that names columns: the first n of `at` and those of its condition.
+fn refusal_of(at: [u8; 8], n: usize, condition: Condition, width: usize, taken: bool, full: bool) -> u8
+    requires { ⌜ (n ≤ 8) × (condition .count ≤ 8) ⌝ }
+    ensures { λ r. ⌜ r ≡ lowestBy (not (placesBelow width (take n at) && conditionBelow width condition)) taken false full ⌝ }
+{
+    let comparisons = condition.comparisons;
+    let known = are_below(at, n, width) & columns_below(comparisons, condition.count, width);
+    lowest(!known, taken, false, full)
+}
+
+// ---- statements
+
+fn no_condition() -> Condition
+    ensures { λ r. ⌜ r ≡ conditionStruct [] ⌝ }
+{
+    Condition {
+        comparisons: no_comparisons(),
+        steps: [0u8; 15],
+        count: 0,
+    }
+}
+
+fn no_table() -> Table
+    ensures { λ r. ⌜ r ≡ noTable ⌝ }
+{
+    Table {
+        name: no_name(),
+        columns: no_names(),
+        count: 0,
+        capacity: 0,
+        rows: 0,
+    }
+}
+
+fn no_query() -> Query
+    ensures { λ r. ⌜ r ≡ noQuery ⌝ }
+{
+    Query {
+        table: 0,
+        selected: [0u8; 8],
+        count: 0,
+        parameters: 0,
+        condition: no_condition(),
+    }
+}
+
+fn no_update() -> Update
+    ensures { λ r. ⌜ r ≡ noUpdate ⌝ }
+{
+    Update {
+        form: Update::INSERT,
+        table: 0,
+        settings: no_settings(),
+        count: 0,
+        parameters: 0,
+        condition: no_condition(),
+    }
+}
+
+pub fn refused(number: u8) -> Statement
+    ensures { λ r. ⌜ r ≡ refusedBy number ⌝ }
+{
+    Statement {
+        refusal: number,
+        kind: 0,
+        table: no_table(),
+        query: no_query(),
+        update: no_update(),
+    }
+}
+
+// A table, or its refusal.
+fn created(number: u8, t: Table) -> Statement
+    ensures { λ r. ⌜ r ≡ settled number (createdAs t) ⌝ }
+{
+    if number == 0 {
+        return Statement {
+            refusal: 0,
+            kind: Statement::TABLE,
+            table: t,
+            query: no_query(),
+            update: no_update(),
+        };
+    }
+    refused(number)
+}
+
+// A question, or its refusal.
+fn asked(number: u8, q: Query) -> Statement
+    ensures { λ r. ⌜ r ≡ settled number (askedAs q) ⌝ }
+{
+    if number == 0 {
+        return Statement {
+            refusal: 0,
+            kind: Statement::QUERY,
+            table: no_table(),
+            query: q,
+            update: no_update(),
+        };
+    }
+    refused(number)
+}
+
+// An update, or its refusal.
+fn changing(number: u8, u: Update) -> Statement
+    ensures { λ r. ⌜ r ≡ settled number (changingAs u) ⌝ }
+{
+    if number == 0 {
+        return Statement {
+            refusal: 0,
+            kind: Statement::UPDATE,
+            table: no_table(),
+            query: no_query(),
+            update: u,
+        };
+    }
+    refused(number)
+}
+
+// ---- the five forms
+
+// Whether a table of that name is there, or a column twice.
+fn is_taken(name: Name, columns: [Name; 8], n: usize, tables: [Table; 8], used: u8) -> bool
+    requires { ⌜ n ≤ 8 ⌝ }
+    ensures { λ r. ⌜ r ≡ (has (tableNames (schemasOf tables used)) (nameOfStruct name) || repeats sameName (namesOf columns n)) ⌝ }
+{
+    let there = (find_table(name, tables, used) as usize) < table_count(tables, used);
+    there | is_repeated(columns, n)
+}
+
+// How many tables there are.
+fn table_count(tables: [Table; 8], used: u8) -> usize
+    ensures { λ r. ⌜ (r ≡ length (schemasOf tables used)) × (r ≤ 8) × (r ≡ min used 8) ⌝ }
+{
+    least(used as usize, Table::TABLES)
+}
+
+// Whether there is no place for a table of that size.
+fn is_full(tables: [Table; 8], used: u8, cells: u32, size: u32) -> bool
+    ensures { λ r. ⌜ r ≡ (leb 8 (length (schemasOf tables used)) || ltb (cells - areasSize (schemasOf tables used)) size) ⌝ }
+{
+    let taken = areas(tables, used);
+    let left = if taken < cells { cells - taken } else { 0 };
+    (Table::TABLES <= table_count(tables, used)) | (left < size)
+}
+
+pub fn table(text: &[u8], list: [u16; 16], e: Entry, tables: [Table; 8], used: u8, cells: u32) -> Statement
+    requires { ⌜ e .listed ≤ 8 ⌝ }
+    ensures { λ r. ⌜ r ≡ tableOn (now (text .entry)) list e (schemasOf tables used) cells ⌝ }
+{
+    let n = e.listed as usize;
+    let name = name_at(text, e.table as usize);
+    let columns = names_at(text, list, n);
+    let capacity = rows_at(text, e.rows as usize);
+    let taken = is_taken(name, columns, n, tables, used);
+    let full = is_full(tables, used, cells, (e.listed as u32) * (capacity as u32));
+    let t = Table {
+        name,
+        columns,
+        count: e.listed as u8,
+        capacity,
+        rows: 0,
+    };
+    created(lowest(false, taken, false, full), t)
+}
+
+pub fn select(text: &[u8], list: [u16; 16], places: [u16; 45], e: Entry, columns: [Name; 8], count: u8, table: u8, queries: u8) -> Statement
+    requires { ⌜ Fits (now text) places e ⌝ }
+    ensures { λ r. ⌜ r ≡ selectOn (now (text .entry)) list places e (namesOf columns count) table queries ⌝ }
+{
+    let n = e.listed as usize;
+    let names = names_at(text, list, n);
+    let selected = positions(names, n, columns, count);
+    let condition = condition_at(text, places, e.c.nodes as usize, columns, count, 0);
+    let number = refusal_of(selected, n, condition, width(columns, count), false, 16 <= queries);
+    let q = Query {
+        table,
+        selected,
+        count: e.listed as u8,
+        parameters: e.c.marks as u8,
+        condition,
+    };
+    asked(number, q)
+}
+
+const PLACES: [u8; 8] = [0, 1, 2, 3, 4, 5, 6, 7];
+
+pub fn insert(text: &[u8], list: [u16; 16], e: Entry, columns: [Name; 8], count: u8, table: u8, updates: u8) -> Statement
+    requires { ⌜ (e .listed ≤ 8) × (e .c .marks ≤ 8) ⌝ }
+    ensures { λ r. ⌜ r ≡ insertOn (now (text .entry)) list e (namesOf columns count) table updates ⌝ }
+{
+    let n = e.listed as usize;
+    let s = settings_at(text, list, n, PLACES);
+    let settings = s.all;
+    let number = lowest(false, false, n != width(columns, count), 16 <= updates);
+    let u = Update {
+        form: Update::INSERT,
+        table,
+        settings,
+        count: e.listed as u8,
+        parameters: e.c.marks as u8,
+        condition: no_condition(),
+    };
+    changing(number, u)
+}
+
+pub fn update(text: &[u8], list: [u16; 16], places: [u16; 45], e: Entry, columns: [Name; 8], count: u8, table: u8, updates: u8) -> Statement
+    requires { ⌜ Fits (now text) places e ⌝ }
+    ensures { λ r. ⌜ r ≡ updateOn (now (text .entry)) list places e (namesOf columns count) table updates ⌝ }
+{
+    let n = e.listed as usize;
+    let names = names_at(text, list, n);
+    let at = positions(names, n, columns, count);
+    let s = settings_at(text, list, n, at);
+    let settings = s.all;
+    let condition = condition_at(text, places, e.c.nodes as usize, columns, count, s.marks);
+    let number = refusal_of(at, n, condition, width(columns, count), is_repeated(names, n), 16 <= updates);
+    let u = Update {
+        form: Update::UPDATE,
+        table,
+        settings,
+        count: e.listed as u8,
+        parameters: e.c.marks as u8,
+        condition,
+    };
+    changing(number, u)
+}
+
+pub fn delete(text: &[u8], places: [u16; 45], e: Entry, columns: [Name; 8], count: u8, table: u8, updates: u8) -> Statement
+    requires { ⌜ Fits (now text) places e ⌝ }
+    ensures { λ r. ⌜ r ≡ deleteOn (now (text .entry)) places e (namesOf columns count) table updates ⌝ }
+{
+    let condition = condition_at(text, places, e.c.nodes as usize, columns, count, 0);
+    let number = refusal_of(PLACES, 0, condition, width(columns, count), false, 16 <= updates);
+    let u = Update {
+        form: Update::DELETE,
+        table,
+        settings: no_settings(),
+        count: 0,
+        parameters: e.c.marks as u8,
+        condition,
+    };
+    changing(number, u)
 }
