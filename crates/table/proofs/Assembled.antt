@@ -3,15 +3,17 @@ use mathlib.Core.Path.{_≡_, refl, sym, ap, ap₂, _∙_}
 use mathlib.Core.Bool.{Bool, true, false, not, _&&_, _||_}
 use mathlib.Core.List.{List, [], _∷_, _++_, map}
 use Prim.Native.Nat.{ℕ, zero, suc, _+_, _-_, _*_, _≤_, _<_, min}
+use native.Mathlib.Nat.{le-of-suc-le-suc, not-suc-le-zero}
 use native.Mathlib.Omega.{arith}
+use borrow.Author.Tests.{lt-ltb, le-ltb, eq-eqb, ne-eqb}
 use lib.Dec.{eqb, ltb, leb}
-use lib.ListN.{length, take, replicate, length-take, length-map}
-use lib.Seq.{take-at}
+use lib.ListN.{length, getD, take, replicate, length-take, length-map}
+use lib.Seq.{take-at, getD-take}
 use Rattle.lists.specs.Lists.{repeats, from}
 use Rattle.meaning.specs.Postfix.{Node, leaves}
 use Rattle.meaning.specs.Grammar.{Given, Term}
 use Rattle.meaning.specs.Limits.{markIn, markCount}
-use Rattle.meaning.specs.Names.{Schema, sameName, has, position, tableNames}
+use Rattle.meaning.specs.Names.{Schema, noSchema, sameName, has, position, tableNames}
 use Rattle.meaning.specs.Cells.{areasSize}
 use Rattle.meaning.specs.Resolve.{resolveNodes}
 use Rattle.table.specs.declared.Name.{Name}
@@ -25,9 +27,9 @@ use Rattle.table.specs.declared.sentences.Entry.{Entry}
 use Rattle.table.specs.declared.build.Settings.{Settings}
 use Rattle.table.specs.Places.{nameOn, givenOn, nodesOn}
 use Rattle.table.specs.Sentences.{namesOn, givensOn}
-use Rattle.table.specs.Catalog.{nameOfStruct, namesOf, schemasOf}
+use Rattle.table.specs.Catalog.{nameOfStruct, namesOf, schemaOf, schemasOf}
 use Rattle.table.specs.Compiled.{padded, nameStruct, noName, tableStruct, noSetting, conditionStruct, created, asked, changing, refusedBy, settled}
-use Rattle.table.specs.Built.{lowestBy, placesOf, shortName, shortNames, shortNodes, rowsOn, settingsOn, conditionBelow, placesBelow, Fits, listedOn, conditionOn, unknownOn, schemaOn, tableOn, selectOn, insertOn, setsOn, updateOn, deleteOn}
+use Rattle.table.specs.Built.{lowestBy, placesOf, shortName, shortNames, shortNodes, rowsOn, settingsOn, conditionBelow, placesBelow, Fits, listedOn, conditionOn, unknownOn, schemaOn, tableOn, selectOn, insertOn, setsOn, updateOn, deleteOn, formOn, numberOn, besideOn}
 use Rattle.table.proofs.Walks.{map-map}
 use Rattle.table.proofs.Left.{length-items}
 use Rattle.table.proofs.Values.{name-back}
@@ -177,3 +179,50 @@ module _ (s ls : List ℕ) (e : Entry) (ts : List Schema) (cells : ℕ) where
       let c : e .listed ≡ length (listedOn s ls e) = sym (listed-count s ls e) in
       er ∙ λ j. settled ((em ∙ ap₂ (λ (x y : Bool). lowestBy false x false y) t f) j)
       (created (record { name = ea j; columns = ec j; count = c j; capacity = ek j; rows = 0 }))
+
+-- ---- by the form
+
+module _ (s ls ps : List ℕ) (e : Entry) (columns : List (List ℕ)) (i queries updates : ℕ) where
+  pub form-select : (r : Statement) → r ≡ selectOn s ls ps e columns i queries → e .form ≡ 1 → r ≡ formOn s ls ps e columns i queries updates
+  form-select r h k = rw (eq-eqb (e .form) 1 k) h
+
+  pub form-insert : (r : Statement) → r ≡ insertOn s ls e columns i updates → (e .form ≡ 1 → ⊥) → e .form ≡ 2 → r ≡ formOn s ls ps e columns i queries updates
+  form-insert r h a k = rw (ne-eqb (e .form) 1 a, eq-eqb (e .form) 2 k) h
+
+  pub form-update : (r : Statement) → r ≡ updateOn s ls ps e columns i updates → (e .form ≡ 1 → ⊥) → (e .form ≡ 2 → ⊥) → e .form ≡ 3 → r ≡ formOn s ls ps e columns i queries updates
+  form-update r h a b k = rw (ne-eqb (e .form) 1 a, ne-eqb (e .form) 2 b, eq-eqb (e .form) 3 k) h
+
+  pub form-delete : (r : Statement) → r ≡ deleteOn s ps e columns i updates → (e .form ≡ 1 → ⊥) → (e .form ≡ 2 → ⊥) → (e .form ≡ 3 → ⊥) → r ≡ formOn s ls ps e columns i queries updates
+  form-delete r h a b k = rw (ne-eqb (e .form) 1 a, ne-eqb (e .form) 2 b, ne-eqb (e .form) 3 k) h
+
+-- ---- the table of a sentence
+
+getD-inside : {A B : Type 0} (f : A → B) (l : List A) (i : ℕ) (d : A) (x : B) → i < length l → getD (map f l) i x ≡ f (getD l i d)
+getD-inside f [] i d x h = absurd (not-suc-le-zero h)
+getD-inside f (a ∷ l) zero d x h = refl
+getD-inside f (a ∷ l) (suc i) d x h = getD-inside f l i d x (le-of-suc-le-suc h)
+
+schema-at : (tables : List Table) (used i : ℕ) (d : Table) → i < length (schemasOf tables used) → getD (schemasOf tables used) i noSchema ≡ schemaOf (getD tables i d)
+schema-at tables used i d h =
+    let l : length (schemasOf tables used) ≡ min used (length tables) = length-map (take used tables) schemaOf ∙ length-take used tables in
+    getD-inside schemaOf (take used tables) i d noSchema (omega (arith, length-map (take used tables) schemaOf))
+    ∙ ap schemaOf (getD-take used tables i d (omega arith))
+
+module _ (s ls ps : List ℕ) (e : Entry) (tables : List Table) (used queries updates : ℕ) (name : Name) (i n : ℕ)
+    (en : name ≡ nameStruct (shortName (nameOn s (e .table)))) (ei : i ≡ position (tableNames (schemasOf tables used)) (nameOfStruct name)) (el : n ≡ length (schemasOf tables used)) where
+  number-is : i ≡ numberOn s e (schemasOf tables used)
+  number-is = ei ∙ ap (position (tableNames (schemasOf tables used))) (ap nameOfStruct en ∙ name-back (shortName (nameOn s (e .table))))
+
+  pub beside-none : (r : Statement) → n ≤ i → r ≡ refusedBy 6 → r ≡ besideOn s ls ps e (schemasOf tables used) queries updates
+  beside-none r h q =
+      let k : length (schemasOf tables used) ≤ numberOn s e (schemasOf tables used) = omega (arith, number-is) in
+      rw (le-ltb (numberOn s e (schemasOf tables used)) (length (schemasOf tables used)) k) q
+
+  pub beside-some : (r : Statement) (d : Table) → i < n → r ≡ formOn s ls ps e (namesOf (getD tables i d .columns) (getD tables i d .count)) i queries updates
+      → r ≡ besideOn s ls ps e (schemasOf tables used) queries updates
+  beside-some r d h q =
+      let j : ℕ = numberOn s e (schemasOf tables used) in
+      let k : j < length (schemasOf tables used) = omega (arith, number-is) in
+      let c : namesOf (getD tables i d .columns) (getD tables i d .count) ≡ getD (schemasOf tables used) j noSchema .columns =
+      ap (λ (m : ℕ). namesOf (getD tables m d .columns) (getD tables m d .count)) number-is ∙ ap (λ (t : Schema). t .columns) (sym (schema-at tables used j d k)) in
+      rw (lt-ltb j (length (schemasOf tables used)) k) (q ∙ ap₂ (λ (x : List (List ℕ)) (m : ℕ). formOn s ls ps e x m queries updates) c number-is)

@@ -5,7 +5,7 @@ use mathlib.Core.List.{List, [], _∷_, map}
 use Prim.Native.Nat.{ℕ, _+_, _-_, _*_, _≤_}
 use lib.Dec.{eqb, ltb, leb}
 use lib.IntN.{ℤ, pos, natAbs}
-use lib.ListN.{length, take}
+use lib.ListN.{length, getD, take}
 use lib.Signed.{ltZ}
 use Rattle.lists.specs.Lists.{all, repeats, from}
 use Rattle.meaning.specs.Condition as C
@@ -13,7 +13,7 @@ use Rattle.meaning.specs.Condition.{renamed}
 use Rattle.meaning.specs.Postfix.{Node, leaf, allOf, anyOf, leaves}
 use Rattle.meaning.specs.Grammar.{Given, constant, mark, Term, column, given}
 use Rattle.meaning.specs.Limits.{isWithin32, markIn, markCount}
-use Rattle.meaning.specs.Names.{Schema, sameName, has, position, tableNames}
+use Rattle.meaning.specs.Names.{Schema, noSchema, sameName, has, position, tableNames}
 use Rattle.meaning.specs.Statement.{numbered}
 use Rattle.meaning.specs.Resolve.{resolveNodes}
 use Rattle.meaning.specs.Cells.{areasSize}
@@ -21,7 +21,7 @@ use Rattle.meaning.specs.Plain.{lowestOf}
 use Rattle.token.specs.Tokens.{valueOf}
 use Rattle.table.specs.Places.{tokenOn, nameOn, termOn, operatorAt, nodesOn}
 use Rattle.table.specs.Sentences.{namesOn, givensOn}
-use Rattle.table.specs.Compiled.{padded, tableStruct, valueStruct, noSetting, stepOf, conditionStruct, created, asked, changing, settled}
+use Rattle.table.specs.Compiled.{padded, tableStruct, valueStruct, noSetting, stepOf, conditionStruct, created, asked, changing, refusedBy, settled}
 use Rattle.table.specs.declared.Operand.{Operand}
 use Rattle.table.specs.declared.Operand.the-variants.{Column, Constant, Parameter}
 use Rattle.table.specs.declared.Comparison.{Comparison}
@@ -210,3 +210,24 @@ deleteOn s ps e columns i updates =
       parameters = e .c .marks;
       condition = conditionOn s ps e columns 0;
     }))
+
+-- past a limit
+abbrev pub overOn : Entry → Bool
+overOn e = e .c .over || (ltb 8 (e .listed) || (ltb 8 (e .c .marks) || ltb 15 (e .c .nodes)))
+
+-- a question or an update, by its form
+abbrev pub formOn : List ℕ → List ℕ → List ℕ → Entry → List (List ℕ) → ℕ → ℕ → ℕ → Statement
+formOn s ls ps e columns i queries updates =
+    cond (eqb (e .form) 1) (selectOn s ls ps e columns i queries)
+    (cond (eqb (e .form) 2) (insertOn s ls e columns i updates)
+    (cond (eqb (e .form) 3) (updateOn s ls ps e columns i updates) (deleteOn s ps e columns i updates)))
+
+-- of a table of ts
+abbrev pub numberOn : List ℕ → Entry → List Schema → ℕ
+numberOn s e ts = position (tableNames ts) (shortName (nameOn s (e .table)))
+
+abbrev pub besideOn : List ℕ → List ℕ → List ℕ → Entry → List Schema → ℕ → ℕ → Statement
+besideOn s ls ps e ts queries updates =
+    cond (ltb (numberOn s e ts) (length ts))
+    (formOn s ls ps e (getD ts (numberOn s e ts) noSchema .columns) (numberOn s e ts) queries updates)
+    (refusedBy 6)

@@ -29,7 +29,7 @@ ghost use Rattle.table.specs.Places.{tokenOn, nameOn, givenOn, termOn, n
 ghost use Rattle.table.specs.Sentences.{namesOn, givensOn};
 ghost use Rattle.table.specs.Catalog.{nameOfStruct, namesOf, schemaOf, schemasOf};
 ghost use Rattle.table.specs.Compiled.{padded, nameStruct, noName, valueStruct, operandStruct, comparisonStruct, noComparison, stepOf, conditionStruct, noSetting, noTable, noQuery, noUpdate, created as createdAs, asked as askedAs, changing as changingAs, refusedBy, settled};
-ghost use Rattle.table.specs.Built.{lowestBy, placesOf, shortName, shortNames, shortGiven, shortTerm, shortNodes, isConstant, rowsIn, rowsOn, markInValue, markInSide, comparisonOn, stepIn, settingsOn, operandBelow, sidesBelow, StepsAre, placesBelow, conditionBelow, Fits, tableOn, selectOn, insertOn, updateOn, deleteOn};
+ghost use Rattle.table.specs.Built.{lowestBy, placesOf, shortName, shortNames, shortGiven, shortTerm, shortNodes, isConstant, rowsIn, rowsOn, markInValue, markInSide, comparisonOn, stepIn, settingsOn, operandBelow, sidesBelow, StepsAre, placesBelow, conditionBelow, Fits, tableOn, selectOn, insertOn, updateOn, deleteOn, overOn, formOn, besideOn};
 
 fn least(a: usize, b: usize) -> usize
     ensures { λ r. ⌜ r ≡ min a b ⌝ }
@@ -717,4 +717,44 @@ pub fn delete(text: &[u8], places: [u16; 45], e: Entry, columns: [Name; 8], coun
         condition,
     };
     changing(number, u)
+}
+
+// ---- sentences
+
+// Whether a sentence is past a limit.
+pub fn is_over(e: Entry) -> bool
+    ensures { λ r. ⌜ r ≡ overOn e ⌝ }
+{
+    e.c.over | ((8 < e.listed) | ((Statement::MARKS < e.c.marks) | (15 < e.c.nodes)))
+}
+
+// A question or an update of a table with these columns.
+fn form(text: &[u8], list: [u16; 16], places: [u16; 45], e: Entry, columns: [Name; 8], count: u8, table: u8, queries: u8, updates: u8) -> Statement
+    requires { ⌜ Fits (now text) places e ⌝ }
+    ensures { λ r. ⌜ r ≡ formOn (now (text .entry)) list places e (namesOf columns count) table queries updates ⌝ }
+{
+    if e.form == 1 {
+        return select(text, list, places, e, columns, count, table, queries);
+    }
+    if e.form == 2 {
+        return insert(text, list, e, columns, count, table, updates);
+    }
+    if e.form == 3 {
+        return update(text, list, places, e, columns, count, table, updates);
+    }
+    delete(text, places, e, columns, count, table, updates)
+}
+
+// A question or an update of one of the tables.
+pub fn beside(text: &[u8], list: [u16; 16], places: [u16; 45], e: Entry, tables: [Table; 8], used: u8, queries: u8, updates: u8) -> Statement
+    requires { ⌜ Fits (now text) places e ⌝ }
+    ensures { λ r. ⌜ r ≡ besideOn (now (text .entry)) list places e (schemasOf tables used) queries updates ⌝ }
+{
+    let i = find_table(name_at(text, e.table as usize), tables, used);
+    if table_count(tables, used) <= (i as usize) {
+        return refused(6);
+    }
+    let t = tables[i as usize];
+    let columns = t.columns;
+    form(text, list, places, e, columns, t.count, i, queries, updates)
 }
