@@ -7,3 +7,6 @@ pub mod Left
 pub mod Sets
 pub mod Resolving
 pub mod Assembled
+pub mod Limited
+pub mod Known
+pub mod Compiles
