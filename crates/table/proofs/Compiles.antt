@@ -17,10 +17,10 @@ use Rattle.meaning.specs.Tokens as T
 use Rattle.meaning.specs.Tokens.{Name}
 use Rattle.meaning.specs.Grammar.{Given, Term, Listed, items, Sentence, table, select, insert, update, delete, sentence}
 use Rattle.meaning.specs.Limits.{tooLong, tableNamed, listColumns, listGivens, whereOf, termColumns, termGivens, outside32, givens, markCount, pastLimit}
-use Rattle.meaning.specs.Names.{Schema, noSchema, sameName, has, position, tableNames, columnsOf, missing, unknown, taken, miscounted}
+use Rattle.meaning.specs.Names.{Schema, noSchema, sameName, has, position, tableNames, columnsOf, missing, isTable, unknown, taken, miscounted}
 use Rattle.meaning.specs.Statement.{settings, settingMarks, numberedAll, resolvedWhere, statementOf}
 use Rattle.meaning.specs.Cells.{areasSize}
-use Rattle.meaning.specs.Plain.{Plain, noQuery, noUpdate, schemas, noPlace, addConditions, lowestOf}
+use Rattle.meaning.specs.Plain.{Plain, noQuery, noUpdate, schemas, noPlace, addConditions, orElse, lowestOf}
 use Rattle.meaning.specs.Resolve.{resolveNodes}
 use Rattle.meaning.proofs.Postfix.{sides-in, leaves-in, few-nodes}
 use Rattle.meaning.proofs.Resolve.{resolve-where}
@@ -36,6 +36,7 @@ use Rattle.table.specs.Catalog.{schemaOf, schemasOf, rowless, catalog}
 use Rattle.table.specs.Compiled.{padded, tableStruct, noSetting, conditionStruct, queryStruct, settingStruct, placedFrom, updateStruct, created, asked, changing, refusedBy, structOf, structOfText, settled, compiledOf}
 use Rattle.table.specs.Built.{lowestBy, placesOf, shortName, shortNames, shortGiven, shortNodes, rowsIn, rowsOn, settingsFrom, settingsOn, Fits, listedOn, conditionOn, unknownOn, schemaOn, tableOn, selectOn, insertOn, setsOn, updateOn, deleteOn, overOn, formOn, numberOn, besideOn}
 use Rattle.table.proofs.Found.{has-ltb}
+use Rattle.table.proofs.Assembled.{form-select, form-insert, form-update, form-delete}
 use Rattle.table.proofs.Limited.{inside-rows, short-table, short-listed, short-tested, within-listed, within-tested, whole-name, whole-names, whole-givens, whole-nodes, whole-rows}
 use Rattle.table.proofs.Known.{lacks, unknown-is, settings-are, settings-count, placed-are, placed-count}
 
@@ -206,3 +207,135 @@ module _ (s ls ps : List ℕ) (e : Entry) (tables : List Table) (used queries up
         let d : conditionOn s ps e C 0 ≡ conditionStruct (nodesIn (resolvedWhere C 0 q)) = condition-kept s ls ps e x E w nodes C 0 ∙ where-kept C 0 q in
         λ j. settled (lowestBy (u j) false false (changes-few j))
         (changing (record { form = 2; table = i; settings = padded 8 noSetting []; count = 0; parameters = E .marks-are j; condition = d j }))
+
+  -- by its form
+  form-compiles : (x : Sentence) → isTable x ≡ false → Entered s ls ps e x → pastLimit x ≡ false → e .c .nodes ≤ 15 → has (tableNames S) (tableNamed x) ≡ true
+      → formOn s ls ps e (columnsOf S (tableNamed x)) (position (tableNames S) (tableNamed x)) queries updates ≡ decided P S x
+  form-compiles (table t cs z) b E w h k = clash refl b
+  form-compiles (select cs t q) b E w h k = sym (form-select s ls ps e (columnsOf S t) (position (tableNames S) t) queries updates _ refl (E .form)) ∙ select-compiles t k h cs q E w
+  form-compiles (insert t vs) b E w h k =
+      sym (form-insert s ls ps e (columnsOf S t) (position (tableNames S) t) queries updates _ refl (λ l. omega (arith, E .form)) (E .form))
+      ∙ insert-compiles t k h vs E w
+  form-compiles (update t ss q) b E w h k =
+      sym (form-update s ls ps e (columnsOf S t) (position (tableNames S) t) queries updates _ refl (λ l. omega (arith, E .form)) (λ l. omega (arith, E .form)) (E .form))
+      ∙ update-compiles t k h ss q E w
+  form-compiles (delete t q) b E w h k =
+      sym (form-delete s ls ps e (columnsOf S t) (position (tableNames S) t) queries updates _ refl (λ l. omega (arith, E .form)) (λ l. omega (arith, E .form)) (λ l. omega (arith, E .form)))
+      ∙ delete-compiles t k h q E w
+
+  -- a table that is not there
+  unknown-table : (x : Sentence) → isTable x ≡ false → has (tableNames S) (tableNamed x) ≡ false → refusedBy 6 ≡ decided P S x
+  unfolding unknown
+  unknown-table x b k = rw (b, k)
+
+  beside-compiles : (x : Sentence) → isTable x ≡ false → Entered s ls ps e x → pastLimit x ≡ false → e .c .nodes ≤ 15 → besideOn s ls ps e S queries updates ≡ decided P S x
+  beside-compiles x b E w h =
+      ap (λ (n : Name). cond (ltb (position (tableNames S) n) (length S)) (formOn s ls ps e (columnsOf S n) (position (tableNames S) n) queries updates) (refusedBy 6)) (table-kept s ls ps e x E w)
+      ∙ ap (λ (c : Bool). cond c (formOn s ls ps e (columnsOf S (tableNamed x)) (position (tableNames S) (tableNamed x)) queries updates) (refusedBy 6)) found
+      ∙ go (has (tableNames S) (tableNamed x)) refl
+    where
+      found : ltb (position (tableNames S) (tableNamed x)) (length S) ≡ has (tableNames S) (tableNamed x)
+      found = ap (ltb (position (tableNames S) (tableNamed x))) (sym (length-map S (λ (t : Schema). t .name))) ∙ has-ltb (tableNames S) (tableNamed x)
+
+      go : (c : Bool) → has (tableNames S) (tableNamed x) ≡ c
+          → cond c (formOn s ls ps e (columnsOf S (tableNamed x)) (position (tableNames S) (tableNamed x)) queries updates) (refusedBy 6) ≡ decided P S x
+      go true k = form-compiles x b E w h k
+      go false k = unknown-table x b k
+
+  -- a TABLE
+  of-table : (x : Sentence) → e .form ≡ 0 → Entered s ls ps e x → pastLimit x ≡ false → tableOn s ls e S cells ≡ decided P S x
+  of-table (table t cs z) h E w = table-compiles t cs z E w
+  of-table (select cs t q) h E w = absurd (omega (arith, E .form))
+  of-table (insert t vs) h E w = absurd (omega (arith, E .form))
+  of-table (update t ss q) h E w = absurd (omega (arith, E .form))
+  of-table (delete t q) h E w = absurd (omega (arith, E .form))
+
+no-table : (s ls ps : List ℕ) (e : Entry) (x : Sentence) → Entered s ls ps e x → (e .form ≡ 0 → ⊥) → isTable x ≡ false
+no-table s ls ps e (table t cs z) E h = absurd (h (E .form))
+no-table s ls ps e (select cs t q) E h = refl
+no-table s ls ps e (insert t vs) E h = refl
+no-table s ls ps e (update t ss q) E h = refl
+no-table s ls ps e (delete t q) E h = refl
+
+-- ---- the text
+
+-- a condition that holds, and one that does not
+first-is : (n : ℕ) (b : Bool) (k : ℕ) (done : Statement) → b ≡ true → refusedBy (suc n) ≡ settled (orElse b (suc n) k) done
+first-is n b k done h = ap (λ (c : Bool). settled (orElse c (suc n) k) done) (sym h)
+
+passed : (n : ℕ) (b : Bool) (k : ℕ) (done : Statement) → b ≡ false → settled k done ≡ settled (orElse b n k) done
+passed n b k done h = ap (λ (c : Bool). settled (orElse c n k) done) (sym h)
+
+module _ (s : List ℕ) (tables : List Table) (used queries updates cells : ℕ) where
+  abbrev goal : Statement
+  goal = compiledOf s tables used queries updates cells
+
+  -- the same for any reading of it
+  abbrev compiledBy : Option Sentence → Statement
+  compiledBy o =
+      let p = store tables used queries updates cells in
+      settled (lowestOf (drop 1 (addConditions (p .lengths) p s o))) (structOfText (schemas p) o)
+
+  by-reading : compiledBy (sentence s) ≡ goal
+  unfolding compiledOf
+  by-reading = refl
+
+  -- refusal 3
+  pub compiled-long : (r : Statement) → 256 < length s → r ≡ refusedBy 3 → r ≡ goal
+  compiled-long r h q = q ∙ first-is 2 (tooLong s) _ _ (lt-ltb 256 (length s) h) ∙ by-reading
+
+module _ (s ls ps : List ℕ) (e : Entry) (tables : List Table) (used queries updates cells : ℕ) where
+  module _ (short : length s ≤ 256) (N : Noted s ls ps e (sentence s)) where
+    fits-text : tooLong s ≡ false
+    fits-text = le-ltb 256 (length s) short
+
+    -- refusal 4
+    pub compiled-none : (r : Statement) → e .c .ok ≡ false → r ≡ refusedBy 4 → r ≡ goal s tables used queries updates cells
+    compiled-none r h q = q ∙ go (sentence s) N ∙ by-reading s tables used queries updates cells
+      where
+        go : (o : Option Sentence) → Noted s ls ps e o → refusedBy 4 ≡ compiledBy s tables used queries updates cells o
+        go none M = passed 3 (tooLong s) _ _ fits-text
+        go (some x) M = clash (M .ok) h
+
+    module _ (ok : e .c .ok ≡ true) where
+      -- refusal 5
+      pub compiled-over : (r : Statement) → overOn e ≡ true → r ≡ refusedBy 5 → r ≡ goal s tables used queries updates cells
+      compiled-over r h q = q ∙ go (sentence s) N ∙ by-reading s tables used queries updates cells
+        where
+          go : (o : Option Sentence) → Noted s ls ps e o → refusedBy 5 ≡ compiledBy s tables used queries updates cells o
+          go none M = clash ok M
+          go (some x) M = first-is 4 (pastLimit x) _ _ (M .past ∙ h) ∙ passed 3 (tooLong s) _ _ fits-text
+
+      module _ (within : overOn e ≡ false) where
+        pub compiled-fits : Fits s ps e
+        compiled-fits = go (sentence s) N
+          where
+            go : (o : Option Sentence) → Noted s ls ps e o → Fits s ps e
+            go none M = clash ok M
+            go (some x) M = fits-read s ls ps e x M (M .past ∙ within) within
+
+        -- a sentence within the limits
+        decided-is : (x : Sentence) → pastLimit x ≡ false
+            → decided (store tables used queries updates cells) (there tables used queries updates cells) x ≡ compiledBy s tables used queries updates cells (some x)
+        decided-is x w =
+            ap (λ (ts : List Schema). decided (store tables used queries updates cells) ts x) (sym (schemas-are tables used queries updates cells))
+            ∙ passed 5 (pastLimit x) _ _ w
+            ∙ passed 3 (tooLong s) _ _ fits-text
+
+        pub compiled-table : (r : Statement) → e .form ≡ 0 → r ≡ tableOn s ls e (schemasOf tables used) cells → r ≡ goal s tables used queries updates cells
+        compiled-table r h q = q ∙ go (sentence s) N ∙ by-reading s tables used queries updates cells
+          where
+            go : (o : Option Sentence) → Noted s ls ps e o → tableOn s ls e (schemasOf tables used) cells ≡ compiledBy s tables used queries updates cells o
+            go none M = clash ok M
+            go (some x) M =
+                let w : pastLimit x ≡ false = M .past ∙ within in
+                of-table s ls ps e tables used queries updates cells (compiled-fits .listed) x h M w ∙ decided-is x w
+
+        pub compiled-beside : (r : Statement) → (e .form ≡ 0 → ⊥) → r ≡ besideOn s ls ps e (schemasOf tables used) queries updates → r ≡ goal s tables used queries updates cells
+        compiled-beside r h q = q ∙ go (sentence s) N ∙ by-reading s tables used queries updates cells
+          where
+            go : (o : Option Sentence) → Noted s ls ps e o → besideOn s ls ps e (schemasOf tables used) queries updates ≡ compiledBy s tables used queries updates cells o
+            go none M = clash ok M
+            go (some x) M =
+                let w : pastLimit x ≡ false = M .past ∙ within in
+                beside-compiles s ls ps e tables used queries updates cells (compiled-fits .listed) x (no-table s ls ps e x M h) M w (compiled-fits .nodes) ∙ decided-is x w
