@@ -113,7 +113,7 @@ module _ (s ls ps : List ℕ) (e : Entry) (columns : List (List ℕ)) (i : ℕ) 
       let p : take (e .listed) at ≡ placesOf columns (listedOn s ls e) = places-first s ls e columns names en at ea in
       let m : number ≡ lowestBy (unknownOn columns (placesOf columns (listedOn s ls e)) (conditionOn s ps e columns 0)) false false (leb 16 queries) =
       em ∙ ap (λ (b : Bool). lowestBy (not b) false false (leb 16 queries)) (ap₂ (λ (k : ℕ) (x : List ℕ). placesBelow k x && conditionBelow k c) ew p
-        ∙ ap (λ (x : Condition). placesBelow (length columns) (placesOf columns (listedOn s ls e)) && conditionBelow (length columns) x) ec) in
+      ∙ ap (λ (x : Condition). placesBelow (length columns) (placesOf columns (listedOn s ls e)) && conditionBelow (length columns) x) ec) in
       er ∙ λ j. settled (m j) (asked (record { table = i; selected = q j; count = e .listed; parameters = e .c .marks; condition = ec j }))
 
   pub update-made : (updates : ℕ) (names : List Name) (at : List ℕ) (sets : Settings) (settings : List Setting) (c : Condition) (w : ℕ) (twice : Bool) (number : ℕ) (r : Statement)
@@ -131,9 +131,9 @@ module _ (s ls ps : List ℕ) (e : Entry) (columns : List (List ℕ)) (i : ℕ) 
       let d : c ≡ conditionOn s ps e columns (setsOn s ls e columns .marks) = ec ∙ ap (λ (y : Settings). conditionOn s ps e columns (y .marks)) x in
       let t : twice ≡ repeats sameName (listedOn s ls e) = et ∙ ap (repeats sameName) (names-are s ls e columns names en) in
       let m : number
-          ≡ lowestBy (unknownOn columns (placesOf columns (listedOn s ls e)) (conditionOn s ps e columns (setsOn s ls e columns .marks))) (repeats sameName (listedOn s ls e)) false (leb 16 updates) =
+      ≡ lowestBy (unknownOn columns (placesOf columns (listedOn s ls e)) (conditionOn s ps e columns (setsOn s ls e columns .marks))) (repeats sameName (listedOn s ls e)) false (leb 16 updates) =
       em ∙ ap₂ (λ (b u : Bool). lowestBy (not b) u false (leb 16 updates)) (ap₂ (λ (k : ℕ) (y : List ℕ). placesBelow k y && conditionBelow k c) ew p
-        ∙ ap (λ (y : Condition). placesBelow (length columns) (placesOf columns (listedOn s ls e)) && conditionBelow (length columns) y) d) t in
+      ∙ ap (λ (y : Condition). placesBelow (length columns) (placesOf columns (listedOn s ls e)) && conditionBelow (length columns) y) d) t in
       er ∙ λ j. settled (m j) (changing (record { form = 1; table = i; settings = q j; count = e .listed; parameters = e .c .marks; condition = d j }))
 
 module _ (s ls : List ℕ) (e : Entry) (columns : List (List ℕ)) (i : ℕ) where

@@ -66,7 +66,7 @@ module _ (s : List ℕ) where
       ap (λ (k : ℕ). nodesOn s k (drop (3 * i) ps)) e
       ∙ ap₂ (λ (x : Node Term) (xs : List ℕ). x ∷ nodesOn s (n - (i + 1)) xs)
       (ap (λ (k : ℕ). nodeOn s k (getD (drop (3 * i) ps) 1 0) (getD (drop (3 * i) ps) 2 0)) (at 0 ∙ ap (λ (k : ℕ). getD ps k 0) z)
-        ∙ ap₂ (nodeOn s (getD ps (3 * i) 0)) (at 1) (at 2))
+      ∙ ap₂ (nodeOn s (getD ps (3 * i) 0)) (at 1) (at 2))
       (drop-drop 3 (3 * i) ps ∙ ap (λ (k : ℕ). drop k ps) t)
 
   pub nodes-none : (n i : ℕ) (ps : List ℕ) → n ≤ i → nodesLeft n i ps ≡ []

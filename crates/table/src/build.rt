@@ -187,7 +187,10 @@ fn name_from(text: &[u8], start: usize, end: usize) -> Name
         bytes[i] = text[start + i];
         i += 1;
     }
-    Name { bytes, len: n as u8 }
+    Name {
+        bytes,
+        len: n as u8,
+    }
 }
 
 fn no_name() -> Name
@@ -340,7 +343,15 @@ fn mark_of(side: Operand) -> u8
 }
 
 // A comparison, by its number and the places of its sides.
-fn comparison_at(text: &[u8], op: u16, left: u16, right: u16, columns: [Name; 8], count: u8, marks: u8) -> Comparison
+fn comparison_at(
+    text: &[u8],
+    op: u16,
+    left: u16,
+    right: u16,
+    columns: [Name; 8],
+    count: u8,
+    marks: u8,
+) -> Comparison
     requires { ⌜ (op < 6) × (marks < 128) ⌝ }
     ensures { λ r. ⌜ r ≡ comparisonStruct (comparisonOf (namesOf columns count) marks (renamed shortTerm (comparisonOn (now (text .entry)) op left right))) ⌝ }
 {
@@ -396,7 +407,14 @@ fn steps_at(places: [u16; 45], nodes: usize) -> [u8; 15]
 }
 
 // The condition of the nodes that are noted, with columns of these names, where so many question marks stand before it.
-fn condition_at(text: &[u8], places: [u16; 45], nodes: usize, columns: [Name; 8], count: u8, marks: u8) -> Condition
+fn condition_at(
+    text: &[u8],
+    places: [u16; 45],
+    nodes: usize,
+    columns: [Name; 8],
+    count: u8,
+    marks: u8,
+) -> Condition
     requires { ⌜ (nodes ≤ 15) × (marks ≤ 8) × (length (leaves (nodesOn (now text) nodes places)) ≤ 8) ⌝ }
     ensures { λ r. ⌜ r ≡ conditionStruct (resolveNodes (namesOf columns count) marks (shortNodes (nodesOn (now (text .entry)) nodes places))) ⌝ }
 {
@@ -407,7 +425,15 @@ fn condition_at(text: &[u8], places: [u16; 45], nodes: usize, columns: [Name; 8]
     while i < nodes {
         let op = places[3 * i];
         if op < 6 {
-            let c = comparison_at(text, op, places[3 * i + 1], places[3 * i + 2], columns, count, m);
+            let c = comparison_at(
+                text,
+                op,
+                places[3 * i + 1],
+                places[3 * i + 2],
+                columns,
+                count,
+                m,
+            );
             comparisons[found] = c;
             found += 1;
             m += marks_of(c);
@@ -475,7 +501,14 @@ fn lowest(unknown: bool, taken: bool, miscounted: bool, full: bool) -> u8
 }
 
 // The refusal of a statement that names columns: the first n of `at` and those of its condition.
-fn refusal_of(at: [u8; 8], n: usize, condition: Condition, width: usize, taken: bool, full: bool) -> u8
+fn refusal_of(
+    at: [u8; 8],
+    n: usize,
+    condition: Condition,
+    width: usize,
+    taken: bool,
+    full: bool,
+) -> u8
     requires { ⌜ (n ≤ 8) × (condition .count ≤ 8) ⌝ }
     ensures { λ r. ⌜ r ≡ lowestBy (not (placesBelow width (take n at) && conditionBelow width condition)) taken false full ⌝ }
 {
@@ -620,7 +653,14 @@ fn is_full(tables: [Table; 8], used: u8, cells: u32, size: u32) -> bool
     (Table::TABLES <= table_count(tables, used)) | (left < size)
 }
 
-pub fn table(text: &[u8], list: [u16; 16], e: Entry, tables: [Table; 8], used: u8, cells: u32) -> Statement
+pub fn table(
+    text: &[u8],
+    list: [u16; 16],
+    e: Entry,
+    tables: [Table; 8],
+    used: u8,
+    cells: u32,
+) -> Statement
     requires { ⌜ e .listed ≤ 8 ⌝ }
     ensures { λ r. ⌜ r ≡ tableOn (now (text .entry)) list e (schemasOf tables used) cells ⌝ }
 {
@@ -640,7 +680,16 @@ pub fn table(text: &[u8], list: [u16; 16], e: Entry, tables: [Table; 8], used: u
     created(lowest(false, taken, false, full), t)
 }
 
-pub fn select(text: &[u8], list: [u16; 16], places: [u16; 45], e: Entry, columns: [Name; 8], count: u8, table: u8, queries: u8) -> Statement
+pub fn select(
+    text: &[u8],
+    list: [u16; 16],
+    places: [u16; 45],
+    e: Entry,
+    columns: [Name; 8],
+    count: u8,
+    table: u8,
+    queries: u8,
+) -> Statement
     requires { ⌜ Fits (now text) places e ⌝ }
     ensures { λ r. ⌜ r ≡ selectOn (now (text .entry)) list places e (namesOf columns count) table queries ⌝ }
 {
@@ -648,7 +697,14 @@ pub fn select(text: &[u8], list: [u16; 16], places: [u16; 45], e: Entry, columns
     let names = names_at(text, list, n);
     let selected = positions(names, n, columns, count);
     let condition = condition_at(text, places, e.c.nodes as usize, columns, count, 0);
-    let number = refusal_of(selected, n, condition, width(columns, count), false, 16 <= queries);
+    let number = refusal_of(
+        selected,
+        n,
+        condition,
+        width(columns, count),
+        false,
+        16 <= queries,
+    );
     let q = Query {
         table,
         selected,
@@ -661,7 +717,15 @@ pub fn select(text: &[u8], list: [u16; 16], places: [u16; 45], e: Entry, columns
 
 const PLACES: [u8; 8] = [0, 1, 2, 3, 4, 5, 6, 7];
 
-pub fn insert(text: &[u8], list: [u16; 16], e: Entry, columns: [Name; 8], count: u8, table: u8, updates: u8) -> Statement
+pub fn insert(
+    text: &[u8],
+    list: [u16; 16],
+    e: Entry,
+    columns: [Name; 8],
+    count: u8,
+    table: u8,
+    updates: u8,
+) -> Statement
     requires { ⌜ (e .listed ≤ 8) × (e .c .marks ≤ 8) ⌝ }
     ensures { λ r. ⌜ r ≡ insertOn (now (text .entry)) list e (namesOf columns count) table updates ⌝ }
 {
@@ -680,7 +744,16 @@ pub fn insert(text: &[u8], list: [u16; 16], e: Entry, columns: [Name; 8], count:
     changing(number, u)
 }
 
-pub fn update(text: &[u8], list: [u16; 16], places: [u16; 45], e: Entry, columns: [Name; 8], count: u8, table: u8, updates: u8) -> Statement
+pub fn update(
+    text: &[u8],
+    list: [u16; 16],
+    places: [u16; 45],
+    e: Entry,
+    columns: [Name; 8],
+    count: u8,
+    table: u8,
+    updates: u8,
+) -> Statement
     requires { ⌜ Fits (now text) places e ⌝ }
     ensures { λ r. ⌜ r ≡ updateOn (now (text .entry)) list places e (namesOf columns count) table updates ⌝ }
 {
@@ -690,7 +763,14 @@ pub fn update(text: &[u8], list: [u16; 16], places: [u16; 45], e: Entry, columns
     let s = settings_at(text, list, n, at);
     let settings = s.all;
     let condition = condition_at(text, places, e.c.nodes as usize, columns, count, s.marks);
-    let number = refusal_of(at, n, condition, width(columns, count), is_repeated(names, n), 16 <= updates);
+    let number = refusal_of(
+        at,
+        n,
+        condition,
+        width(columns, count),
+        is_repeated(names, n),
+        16 <= updates,
+    );
     let u = Update {
         form: Update::UPDATE,
         table,
@@ -702,12 +782,27 @@ pub fn update(text: &[u8], list: [u16; 16], places: [u16; 45], e: Entry, columns
     changing(number, u)
 }
 
-pub fn delete(text: &[u8], places: [u16; 45], e: Entry, columns: [Name; 8], count: u8, table: u8, updates: u8) -> Statement
+pub fn delete(
+    text: &[u8],
+    places: [u16; 45],
+    e: Entry,
+    columns: [Name; 8],
+    count: u8,
+    table: u8,
+    updates: u8,
+) -> Statement
     requires { ⌜ Fits (now text) places e ⌝ }
     ensures { λ r. ⌜ r ≡ deleteOn (now (text .entry)) places e (namesOf columns count) table updates ⌝ }
 {
     let condition = condition_at(text, places, e.c.nodes as usize, columns, count, 0);
-    let number = refusal_of(PLACES, 0, condition, width(columns, count), false, 16 <= updates);
+    let number = refusal_of(
+        PLACES,
+        0,
+        condition,
+        width(columns, count),
+        false,
+        16 <= updates,
+    );
     let u = Update {
         form: Update::DELETE,
         table,
@@ -729,7 +824,17 @@ pub fn is_over(e: Entry) -> bool
 }
 
 // A question or an update of a table with these columns.
-fn form(text: &[u8], list: [u16; 16], places: [u16; 45], e: Entry, columns: [Name; 8], count: u8, table: u8, queries: u8, updates: u8) -> Statement
+fn form(
+    text: &[u8],
+    list: [u16; 16],
+    places: [u16; 45],
+    e: Entry,
+    columns: [Name; 8],
+    count: u8,
+    table: u8,
+    queries: u8,
+    updates: u8,
+) -> Statement
     requires { ⌜ Fits (now text) places e ⌝ }
     ensures { λ r. ⌜ r ≡ formOn (now (text .entry)) list places e (namesOf columns count) table queries updates ⌝ }
 {
@@ -746,7 +851,16 @@ fn form(text: &[u8], list: [u16; 16], places: [u16; 45], e: Entry, columns: [Nam
 }
 
 // A question or an update of one of the tables.
-pub fn beside(text: &[u8], list: [u16; 16], places: [u16; 45], e: Entry, tables: [Table; 8], used: u8, queries: u8, updates: u8) -> Statement
+pub fn beside(
+    text: &[u8],
+    list: [u16; 16],
+    places: [u16; 45],
+    e: Entry,
+    tables: [Table; 8],
+    used: u8,
+    queries: u8,
+    updates: u8,
+) -> Statement
     requires { ⌜ Fits (now text) places e ⌝ }
     ensures { λ r. ⌜ r ≡ besideOn (now (text .entry)) list places e (schemasOf tables used) queries updates ⌝ }
 {

@@ -2,6 +2,7 @@
 mod conditions; // the readers of OR, AND and single conditions
 mod sentences; // the five forms: where each token of a sentence stands
 mod build; // names looked up, statements put together
+
 ghost use mathlib.Core.Path.{_≡_};
 ghost use Rattle.table.specs.Compiled.{compiledOf};
 
@@ -26,7 +27,9 @@ pub struct Table {
 
 impl Table {
     pub const TABLES: usize = 8;
+
     pub const COLUMNS: usize = 8;
+
     pub const ROWS: u16 = 512;
 }
 
@@ -54,7 +57,9 @@ pub struct Condition {
 
 impl Condition {
     pub const COMPARISONS: usize = 8;
+
     pub const STEPS: usize = 15;
+
     pub const DEPTH: u16 = 8;
 }
 
@@ -69,6 +74,7 @@ pub struct Query {
 
 impl Query {
     pub const QUERIES: usize = 16;
+
     pub const SELECTED: usize = 8;
 }
 
@@ -96,9 +102,13 @@ pub struct Update {
 
 impl Update {
     pub const UPDATES: usize = 16;
+
     pub const SETTINGS: usize = 8;
+
     pub const INSERT: u8 = 0;
+
     pub const UPDATE: u8 = 1;
+
     pub const DELETE: u8 = 2;
 }
 
@@ -113,13 +123,24 @@ pub struct Statement {
 
 impl Statement {
     pub const TEXT: usize = 256;
+
     pub const MARKS: u16 = 8;
+
     pub const TABLE: u8 = 1;
+
     pub const QUERY: u8 = 2;
+
     pub const UPDATE: u8 = 3;
 
     // What a text says beside the first `used` tables, where there are so many questions and updates already, and so many cells.
-    pub fn compile(text: &[u8], tables: [Table; 8], used: u8, queries: u8, updates: u8, cells: u32) -> Statement
+    pub fn compile(
+        text: &[u8],
+        tables: [Table; 8],
+        used: u8,
+        queries: u8,
+        updates: u8,
+        cells: u32,
+    ) -> Statement
         ensures { λ r. ⌜ r ≡ compiledOf (now (text .entry)) tables used queries updates cells ⌝ }
     {
         if Statement::TEXT < text.len() {

@@ -10,7 +10,7 @@ refused-requires : tie.Need-refused-requires
 refused-requires c κs = search needs
 
 returns : tie.Need-returns
-returns c = 
+returns c =
     let a = c .before .before .before .args in
     compiled-long (a .text .now) (a .tables) (a .used) (a .queries) (a .updates) (a .cells) _ (c .before .if1 .taken) (c .refused .ensures)
 
@@ -21,7 +21,7 @@ refused-requires-2 : tie.Need-refused-requires-2
 refused-requires-2 c κs = search needs
 
 returns-2 : tie.Need-returns-2
-returns-2 c = 
+returns-2 c =
     let d = c .before .before .before in
     let rs = d .read-sentence in
     let a = d .before .before .before .before .before .args in
@@ -35,7 +35,7 @@ refused-requires-3 : tie.Need-refused-requires-3
 refused-requires-3 c κs = search needs
 
 returns-3 : tie.Need-returns-3
-returns-3 c = 
+returns-3 c =
     let d = c .before .before .before .before .before in
     let rs = d .read-sentence in
     let a = d .before .before .before .before .before .args in
@@ -43,7 +43,7 @@ returns-3 c =
     compiled-over s (rs .last .1 .0) (rs .last .1 .1 .0) (rs .result) (a .tables) (a .used) (a .queries) (a .updates) (a .cells) (d .before .before .before .if1 .left) (rs .ensures) (not-false (rs .result .c .ok) (c .before .before .before .if2 .left)) _ (sym (c .before .before .is-over .ensures) ∙ c .before .if3 .taken) (c .refused3 .ensures)
 
 table-requires : tie.Need-table-requires
-table-requires c κs = 
+table-requires c κs =
     let d = c .before .before .before .before .before .before in
     let rs = d .read-sentence in
     let a = d .before .before .before .before .before .args in
@@ -51,7 +51,7 @@ table-requires c κs =
     compiled-fits s (rs .last .1 .0) (rs .last .1 .1 .0) (rs .result) (a .tables) (a .used) (a .queries) (a .updates) (a .cells) (d .before .before .before .if1 .left) (rs .ensures) (not-false (rs .result .c .ok) (c .before .before .before .before .if2 .left)) (sym (c .before .before .before .is-over .ensures) ∙ c .before .before .if3 .left) .listed
 
 returns-4 : tie.Need-returns-4
-returns-4 c = 
+returns-4 c =
     let d = c .before .before .before .before .before .before .before in
     let rs = d .read-sentence in
     let a = d .before .before .before .before .before .args in
@@ -59,7 +59,7 @@ returns-4 c =
     compiled-table s (rs .last .1 .0) (rs .last .1 .1 .0) (rs .result) (a .tables) (a .used) (a .queries) (a .updates) (a .cells) (d .before .before .before .if1 .left) (rs .ensures) (not-false (rs .result .c .ok) (c .before .before .before .before .before .if2 .left)) (sym (c .before .before .before .before .is-over .ensures) ∙ c .before .before .before .if3 .left) _ (c .before .if4 .taken) (c .table .ensures)
 
 beside-requires : tie.Need-beside-requires
-beside-requires c κs = 
+beside-requires c κs =
     let d = c .before .before .before .before .before .before in
     let rs = d .read-sentence in
     let a = d .before .before .before .before .before .args in
@@ -67,7 +67,7 @@ beside-requires c κs =
     compiled-fits s (rs .last .1 .0) (rs .last .1 .1 .0) (rs .result) (a .tables) (a .used) (a .queries) (a .updates) (a .cells) (d .before .before .before .if1 .left) (rs .ensures) (not-false (rs .result .c .ok) (c .before .before .before .before .if2 .left)) (sym (c .before .before .before .is-over .ensures) ∙ c .before .before .if3 .left)
 
 returns-5 : tie.Need-returns-5
-returns-5 c = 
+returns-5 c =
     let d = c .before .before .before .before .before .before .before in
     let rs = d .read-sentence in
     let a = d .before .before .before .before .before .args in

@@ -17,14 +17,14 @@ cast-result-2 : tie.Need-cast-result-2
 cast-result-2 c = search needs
 
 mul-result : tie.Need-mul-result
-mul-result c = 
+mul-result c =
     let n = c .before .width in
     let t = c .before .before .before .args .t in
     let k : t .capacity ≤ 65535 = search needs in
     record { fits = omega (arith, area-small (n .result) (t .capacity) (n .ensures .1) k) }
 
 returns : tie.Need-returns
-returns c = 
+returns c =
     let n = c .before .width in
     let t = c .before .before .before .args .t in
     let k : t .capacity ≤ 65535 = search needs in

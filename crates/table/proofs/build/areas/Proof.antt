@@ -44,13 +44,13 @@ loop-less : tie.Need-loop-less Inv-loop μ-loop
 loop-less c = search needs
 
 loop-again : tie.Need-loop-again Inv-loop μ-loop
-loop-again c = 
+loop-again c =
     let l = c .before .before .before .loop in
     let v = l .inv in
     (v .0, v .1, summed-more _ _ (omega arith) (l .sum) (l .i) (c .area .result) _ (c .before .before .loop-test .taken) (c .area .ensures .0) (c .area .ensures .1) (v .2))
 
 returns : tie.Need-returns Inv-loop μ-loop
-returns c = 
+returns c =
     let l = c .before .loop in
     let v = l .inv in
     summed-end _ _ (l .sum) (l .i) (c .loop-test .left) (v .2)

@@ -23,7 +23,7 @@ refused-requires : tie.Need-refused-requires
 refused-requires c κs = search needs
 
 returns : tie.Need-returns
-returns c = 
+returns c =
     let d = c .before .before in
     let a = d .before .before .before .before .before .args in
     beside-none (a .text .now) (a .list) (a .places) (a .e) (a .t5) (a .used) (a .queries) (a .updates) _ _ _
@@ -42,7 +42,7 @@ form-requires : tie.Need-form-requires
 form-requires c κs = search needs
 
 returns-2 : tie.Need-returns-2
-returns-2 c = 
+returns-2 c =
     let d = c .before .before .before .before in
     let a = d .before .before .before .before .before .args in
     beside-some (a .text .now) (a .list) (a .places) (a .e) (a .t5) (a .used) (a .queries) (a .updates) _ _ _

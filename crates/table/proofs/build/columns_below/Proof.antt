@@ -34,7 +34,7 @@ loop-less : tie.Need-loop-less Inv-loop μ-loop
 loop-less c = search needs
 
 loop-again : tie.Need-loop-again Inv-loop μ-loop
-loop-again c = 
+loop-again c =
     let l = c .before .before .before .loop in
     (l .inv .0, rw (c .sides-below .ensures) (tested-more _ _ _ (omega arith) _ _ _ (c .before .before .loop-test .taken) (l .inv .1)))
 

@@ -24,7 +24,7 @@ cast-t11 : tie.Need-cast-t11
 cast-t11 c = search needs
 
 returns : tie.Need-returns
-returns c = 
+returns c =
     let a = c .before .before .before .before .args in
     comparison-made (a .text .now) (namesOf (a .columns) (a .count)) (a .op) (a .left) (a .right) (a .marks) _ _ _ (c .before .before .before .before .pre .0)
     (c .before .before .operand-at .ensures) (ap (λ (k : ℕ). a .marks + k) (c .before .mark-of .ensures)) (c .operand-at2 .ensures)

@@ -63,7 +63,7 @@ mul-comparisons : tie.Need-mul-comparisons Inv-loop μ-loop
 mul-comparisons c = search needs
 
 array-set-from-comparisons : tie.Need-array-set-from-comparisons Inv-loop μ-loop
-array-set-from-comparisons c = 
+array-set-from-comparisons c =
     let d = c .before .before .before in
     omega (arith, resolving-room _ _ _ _ _ _ _ _ _ (d .loop .inv) (c .before .before .loop-test .taken) (c .before .if1 .taken), d .before .before .before .pre .2)
 
@@ -74,7 +74,7 @@ marks-of-requires : tie.Need-marks-of-requires Inv-loop μ-loop
 marks-of-requires c κs = search needs
 
 add-m : tie.Need-add-m Inv-loop μ-loop
-add-m c = 
+add-m c =
     let d = c .before .before .before .before in
     let x = c .before .comparison-at .result in
     record { fits = omega (arith, c .marks-of .ensures, mark-few (x .left), mark-few (x .right), d .loop .inv .few, c .before .before .before .loop-test .taken, d .before .before .before .pre .0, d .before .before .before .pre .1) }
@@ -86,7 +86,7 @@ loop-less : tie.Need-loop-less Inv-loop μ-loop
 loop-less c = search needs
 
 loop-again : tie.Need-loop-again Inv-loop μ-loop
-loop-again c = 
+loop-again c =
     let t = c .before .loop-test .taken in
     let v = c .before .before .loop .inv in
     ⊎-elim

@@ -27,7 +27,7 @@ changing-requires : tie.Need-changing-requires
 changing-requires c κs = search needs
 
 returns : tie.Need-returns
-returns c = 
+returns c =
     let d = c .before .before .before in
     delete-made _ _ _ _ _ _ _ _ _ _ _ (d .before .before .condition-at .ensures) (c .before .before .no-settings .ensures) (d .before .width .ensures .0)
     (d .refusal-of .ensures) (c .changing .ensures)

@@ -37,7 +37,7 @@ cast-result : tie.Need-cast-result Inv-loop μ-loop
 cast-result c = search needs
 
 returns : tie.Need-returns Inv-loop μ-loop
-returns c = 
+returns c =
     let v = c .before .before .before .before .loop .inv in
     let a = c .before .before .before .before .before .before .args in
     passed-stop _ _ _ _ (omega arith) _ _ (v .2) (c .before .before .before .loop-test .taken) (sym (c .before .same-name .ensures) ∙ c .if1 .taken)
@@ -50,7 +50,7 @@ loop-less : tie.Need-loop-less Inv-loop μ-loop
 loop-less c = search needs
 
 loop-again : tie.Need-loop-again Inv-loop μ-loop
-loop-again c = 
+loop-again c =
     let v = c .before .before .before .before .loop .inv in
     (v .0, v .1, passed-more _ _ _ _ (omega arith) _ _ (v .2) (c .before .before .before .loop-test .taken) (sym (c .before .same-name .ensures) ∙ c .if1 .left))
 
@@ -58,7 +58,7 @@ cast-result-2 : tie.Need-cast-result-2 Inv-loop μ-loop
 cast-result-2 c = search needs
 
 returns-2 : tie.Need-returns-2 Inv-loop μ-loop
-returns-2 c = 
+returns-2 c =
     let v = c .before .loop .inv in
     let a = c .before .before .before .args in
     passed-end _ _ _ _ _ (v .2) (c .loop-test .left)

@@ -9,7 +9,7 @@ select-requires : tie.Need-select-requires
 select-requires c κs = search needs
 
 returns : tie.Need-returns
-returns c = 
+returns c =
     let a = c .before .before .before .before .args in
     form-select (a .text .now) (a .list) (a .places) (a .e) (namesOf (a .columns) (a .count)) (a .table) (a .queries) (a .updates) _ (c .select .ensures) (c .before .if1 .taken)
 
@@ -17,7 +17,7 @@ insert-requires : tie.Need-insert-requires
 insert-requires c κs = search needs
 
 returns-2 : tie.Need-returns-2
-returns-2 c = 
+returns-2 c =
     let a = c .before .before .before .before .before .before .args in
     form-insert (a .text .now) (a .list) (a .places) (a .e) (namesOf (a .columns) (a .count)) (a .table) (a .queries) (a .updates) _ (c .insert .ensures) (c .before .before .before .if1 .left) (c .before .if2 .taken)
 
@@ -25,7 +25,7 @@ update-requires : tie.Need-update-requires
 update-requires c κs = search needs
 
 returns-3 : tie.Need-returns-3
-returns-3 c = 
+returns-3 c =
     let a = c .before .before .before .before .before .before .before .before .args in
     form-update (a .text .now) (a .list) (a .places) (a .e) (namesOf (a .columns) (a .count)) (a .table) (a .queries) (a .updates) _ (c .update .ensures) (c .before .before .before .before .before .if1 .left) (c .before .before .before .if2 .left) (c .before .if3 .taken)
 
@@ -33,7 +33,7 @@ delete-requires : tie.Need-delete-requires
 delete-requires c κs = search needs
 
 returns-4 : tie.Need-returns-4
-returns-4 c = 
+returns-4 c =
     let a = c .before .before .before .before .before .before .before .before .args in
     form-delete (a .text .now) (a .list) (a .places) (a .e) (namesOf (a .columns) (a .count)) (a .table) (a .queries) (a .updates) _ (c .delete .ensures) (c .before .before .before .before .before .if1 .left) (c .before .before .before .if2 .left) (c .before .if3 .left)
 

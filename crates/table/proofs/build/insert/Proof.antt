@@ -31,7 +31,7 @@ changing-requires : tie.Need-changing-requires
 changing-requires c κs = search needs
 
 returns : tie.Need-returns
-returns c = 
+returns c =
     let d = c .before .before .before .before in
     insert-made _ _ _ _ _ _ _ _ _ _ _ _ (d .before .before .before .settings-at .ensures) refl (c .before .no-condition .ensures) (d .before .width .ensures .0)
     (d .lowest .ensures) (c .changing .ensures)

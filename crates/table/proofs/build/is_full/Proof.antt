@@ -19,7 +19,7 @@ table-count-requires : tie.Need-table-count-requires
 table-count-requires c κs = search needs
 
 returns : tie.Need-returns
-returns c = 
+returns c =
     let d = c .before .before in
     let a = d .before .args in
     let l : c .before .if1 .left ≡ a .cells - d .areas .result = ⊎-elim (λ w. omega (arith, w .0 .taken, w .1)) (λ w. omega (arith, w .0 .left, w .1)) (c .before .if1 .came) in

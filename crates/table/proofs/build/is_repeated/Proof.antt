@@ -15,7 +15,7 @@ abbrev μ-loop : tie.MeasureT-loop
 μ-loop n names found₀ i₀ found i = n - i
 
 loop-holds : tie.Need-loop-holds Inv-loop μ-loop
-loop-holds c = 
+loop-holds c =
     let e : length (c .args .t1) ≡ 8 = search needs in
     (e, twice-start _ _ (omega arith))
 
@@ -41,12 +41,12 @@ loop-less : tie.Need-loop-less Inv-loop μ-loop
 loop-less c = search needs
 
 loop-again : tie.Need-loop-again Inv-loop μ-loop
-loop-again c = 
+loop-again c =
     let l = c .before .before .before .loop in
     (l .inv .0, twice-more _ _ (omega arith) (l .found) (l .i) (c .find .result) _ (c .before .before .loop-test .taken) (c .find .ensures) (l .inv .1))
 
 returns : tie.Need-returns Inv-loop μ-loop
-returns c = 
+returns c =
     let l = c .before .loop in
     twice-end _ _ (omega arith) (l .found) (l .i) (c .loop-test .left) (l .inv .1)
 

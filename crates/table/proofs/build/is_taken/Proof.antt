@@ -19,7 +19,7 @@ is-repeated-requires : tie.Need-is-repeated-requires
 is-repeated-requires c κs = search needs
 
 returns : tie.Need-returns
-returns c = 
+returns c =
     let a = c .before .before .before .args in
     taken-made (schemasOf (a .tables) (a .used)) (nameOfStruct (a .name)) (namesOf (a .columns) (a .n)) _ _ _
     (c .before .before .find-table .ensures) (c .before .table-count .ensures .0) (c .is-repeated .ensures)

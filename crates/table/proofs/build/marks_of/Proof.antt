@@ -15,7 +15,7 @@ mark-of-requires-2 : tie.Need-mark-of-requires-2
 mark-of-requires-2 c κs = search needs
 
 add-result : tie.Need-add-result
-add-result c = 
+add-result c =
     let a = c .before .before .args .c in
     record { fits = omega (arith, c .before .mark-of .ensures, c .mark-of2 .ensures, mark-few (a .left), mark-few (a .right)) }
 

@@ -23,7 +23,7 @@ least-requires : tie.Need-least-requires Inv-loop μ-loop
 least-requires c κs = search needs
 
 loop-holds : tie.Need-loop-holds Inv-loop μ-loop
-loop-holds c = 
+loop-holds c =
     let a = c .before .before .args in
     let n = c .least in
     let l = part-length (a .text .now) (a .start) (n .result) (a .end - a .start) (n .ensures) (omega arith) in
@@ -45,7 +45,7 @@ loop-less : tie.Need-loop-less Inv-loop μ-loop
 loop-less c = search needs
 
 loop-again : tie.Need-loop-again Inv-loop μ-loop
-loop-again c = 
+loop-again c =
     let a = c .before .before .before .before .before .args in
     let l = c .before .before .loop in
     let t = c .before .loop-test .taken in
@@ -55,7 +55,7 @@ cast-t15 : tie.Need-cast-t15 Inv-loop μ-loop
 cast-t15 c = search needs
 
 returns : tie.Need-returns Inv-loop μ-loop
-returns c = 
+returns c =
     let a = c .before .before .before .before .args in
     let l = c .before .loop in
     let n = c .before .before .least in

@@ -27,7 +27,7 @@ no-names-requires : tie.Need-no-names-requires Inv-loop μ-loop
 no-names-requires c κs = search needs
 
 loop-holds : tie.Need-loop-holds Inv-loop μ-loop
-loop-holds c = 
+loop-holds c =
     let a = c .before .before .args in
     let l = ap length (items-all (named (a .text .now)) (a .n) (a .t2)) ∙ length-items (named (a .text .now)) (a .n) (a .t2) in
     (omega arith, fills-start 8 noName _ _ (c .no-names .ensures) (omega (arith, l)))
@@ -60,7 +60,7 @@ loop-less : tie.Need-loop-less Inv-loop μ-loop
 loop-less c = search needs
 
 loop-again : tie.Need-loop-again Inv-loop μ-loop
-loop-again c = 
+loop-again c =
     let a = c .before .before .before .before .before .args in
     let l = c .before .before .loop in
     let t = c .before .loop-test .taken in
@@ -69,7 +69,7 @@ loop-again c =
     (omega (arith, t), fills-more _ _ _ _ _ _ (items-cons (named s) (a .n) (l .i) (a .t2) t ∙ ap (λ (x : Name). x ∷ left) (sym (c .name-at .ensures))) (l .inv .1))
 
 returns : tie.Need-returns Inv-loop μ-loop
-returns c = 
+returns c =
     let a = c .before .before .before .before .args in
     let l = c .before .loop in
     let s = a .text .now in

@@ -20,7 +20,7 @@ find-requires : tie.Need-find-requires
 find-requires c κs = search needs
 
 returns : tie.Need-returns
-returns c = 
+returns c =
     let d = c .before .before in
     let a = d .before .before .before .before .args in
     ap Column (c .find .ensures ∙ ap (λ x. position (namesOf (a .columns) (a .count)) (nameOfStruct x)) (c .before .name-from .ensures) ∙ ap (position (namesOf (a .columns) (a .count))) (name-back _))
@@ -30,7 +30,7 @@ is-constant-requires : tie.Need-is-constant-requires
 is-constant-requires c κs = search needs
 
 returns-2 : tie.Need-returns-2
-returns-2 c = 
+returns-2 c =
     let d = c .before .before in
     let n = d .before .before .before .next in
     let t = n .result in
@@ -39,7 +39,7 @@ returns-2 c =
     ap Constant e ∙ operand-constant _ _ t (n .ensures) (namesOf (a .columns) (a .count)) (a .marks) (d .before .if1 .left) (sym (d .is-constant .ensures) ∙ c .before .if2 .taken)
 
 returns-3 : tie.Need-returns-3
-returns-3 c = 
+returns-3 c =
     let d = c .before in
     let n = d .before .before .before .next in
     let a = d .before .before .before .before .before .args in

@@ -24,7 +24,7 @@ abbrev μ-loop : tie.MeasureT-loop
 μ-loop n columns count names places₀ i₀ places i = n - i
 
 loop-holds : tie.Need-loop-holds Inv-loop μ-loop
-loop-holds c = 
+loop-holds c =
     let a = c .args in
     let e : length (a .t1) ≡ 8 = search needs in
     (omega arith, e, fills-start 8 0 _ _ refl (omega (arith, length-first (looked (a .columns) (a .count)) (a .n) (a .t1) (omega arith))))
@@ -48,14 +48,14 @@ loop-less : tie.Need-loop-less Inv-loop μ-loop
 loop-less c = search needs
 
 loop-again : tie.Need-loop-again Inv-loop μ-loop
-loop-again c = 
+loop-again c =
     let l = c .before .before .before .loop in
     let a = c .before .before .before .before .args in
     let t = c .before .before .loop-test .taken in
     (omega (arith, t), l .inv .1, fills-more _ _ _ _ _ _ (map-rest (looked (a .columns) (a .count)) _ _ _ _ _ (omega arith) t (c .find .ensures)) (l .inv .2))
 
 returns : tie.Need-returns Inv-loop μ-loop
-returns c = 
+returns c =
     let l = c .before .loop in
     let a = c .before .before .args in
     fills-end _ _ _ _ (map-none (looked (a .columns) (a .count)) _ _ _ (c .loop-test .left)) (l .inv .2)

@@ -15,7 +15,7 @@ rows-in-requires : tie.Need-rows-in-requires
 rows-in-requires c κs = search needs
 
 returns : tie.Need-returns
-returns c = 
+returns c =
     let t = c .before .before .next .result in
     let e : toZ w32 (ofZ w32 (t .value)) ≡ t .value = search needs in
     c .rows-in .ensures ∙ ap rowsIn e ∙ rows-there _ _ t (c .before .before .next .ensures)

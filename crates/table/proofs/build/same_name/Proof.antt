@@ -18,7 +18,7 @@ least-requires-2 : tie.Need-least-requires-2
 least-requires-2 c κs = search needs
 
 returns : tie.Need-returns
-returns c = 
+returns c =
     let a = c .before .before .before .before .before .args in
     names-unlike (a .a) (a .b) (search needs) (search needs) _ _ (c .before .before .before .least .ensures) (c .before .least2 .ensures) (c .if1 .taken)
 
@@ -26,7 +26,7 @@ same-bytes-requires : tie.Need-same-bytes-requires
 same-bytes-requires c κs = search needs
 
 returns-2 : tie.Need-returns-2
-returns-2 c = 
+returns-2 c =
     let d = c .before .before .before in
     let a = d .before .before .before .before .before .args in
     c .same-bytes .ensures

@@ -35,7 +35,7 @@ asked-requires : tie.Need-asked-requires
 asked-requires c κs = search needs
 
 returns : tie.Need-returns
-returns c = 
+returns c =
     let d = c .before .before .before in
     select-made _ _ _ _ _ _ _ _ _ _ _ _ _ (d .before .before .before .before .before .names-at .ensures) (d .before .before .before .before .positions .ensures) (d .before .before .condition-at .ensures) (d .before .width .ensures .0)
     (d .refusal-of .ensures) (c .asked .ensures)

@@ -24,7 +24,7 @@ abbrev μ-loop : tie.MeasureT-loop
 μ-loop nodes places steps₀ i₀ steps i = nodes - i
 
 loop-holds : tie.Need-loop-holds Inv-loop μ-loop
-loop-holds c = 
+loop-holds c =
     let a = c .args in
     let l = length-map (nodesLeft [] (a .nodes) 0 (a .t1)) stepOf ∙ ap length (nodes-all [] (a .nodes) (a .t1)) ∙ length-nodes [] (a .nodes) (a .t1) in
     (omega arith, fills-start 15 0 _ _ refl (omega (arith, l)))
@@ -51,7 +51,7 @@ loop-less : tie.Need-loop-less Inv-loop μ-loop
 loop-less c = search needs
 
 loop-again : tie.Need-loop-again Inv-loop μ-loop
-loop-again c = 
+loop-again c =
     let a = c .before .before .before .args in
     let l = c .before .before .loop in
     let t = c .before .loop-test .taken in
@@ -60,7 +60,7 @@ loop-again c =
     (omega (arith, t), fills-more _ _ _ _ _ _ q (l .inv .1))
 
 returns : tie.Need-returns Inv-loop μ-loop
-returns c = 
+returns c =
     let a = c .before .before .args in
     let l = c .before .loop in
     λ s.

@@ -36,7 +36,7 @@ cast-is-full-2 : tie.Need-cast-is-full-2
 cast-is-full-2 c = search needs
 
 mul-is-full : tie.Need-mul-is-full
-mul-is-full c = 
+mul-is-full c =
     let e = c .before .before .before .before .before .before .before .before .before .args .e in
     let k : c .before .before .rows-at .result ≤ 65535 = search needs in
     record { fits = omega (arith, area-small (e .listed) (c .before .before .rows-at .result) (c .before .before .before .before .before .before .before .before .before .pre) k) }
@@ -54,7 +54,7 @@ created-requires : tie.Need-created-requires
 created-requires c κs = search needs
 
 returns : tie.Need-returns
-returns c = 
+returns c =
     let d = c .before .before .before in
     let g = d .before .before .before in
     table-made _ _ _ _ _ _ _ _ _ _ _ _ _ (g .before .before .before .name-at .ensures) (g .before .before .names-at .ensures) (g .rows-at .ensures)

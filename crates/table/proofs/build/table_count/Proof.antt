@@ -11,7 +11,7 @@ least-requires : tie.Need-least-requires
 least-requires c κs = search needs
 
 returns : tie.Need-returns
-returns c = 
+returns c =
     let a = c .before .args in
     let e : length (a .tables) ≡ 8 = search needs in
     (omega (arith, c .least .ensures, length-map (take (a .used) (a .tables)) schemaOf, length-take (a .used) (a .tables)), omega (arith, c .least .ensures), c .least .ensures)

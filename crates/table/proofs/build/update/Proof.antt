@@ -25,7 +25,7 @@ cast-condition-at : tie.Need-cast-condition-at
 cast-condition-at c = search needs
 
 condition-at-requires : tie.Need-condition-at-requires
-condition-at-requires c κs = 
+condition-at-requires c κs =
     let d = c .before .before .before .before .before .before .before in
     let f = d .pre in
     let a = d .args in
@@ -51,7 +51,7 @@ changing-requires : tie.Need-changing-requires
 changing-requires c κs = search needs
 
 returns : tie.Need-returns
-returns c = 
+returns c =
     let d = c .before .before .before in
     let g = d .before .before .before .before .before .before in
     update-made _ _ _ _ _ _ _ _ _ _ _ _ _ _ _ _ (g .before .before .names-at .ensures) (g .before .positions .ensures) (g .settings-at .ensures) refl

@@ -15,14 +15,14 @@ is-constant-requires : tie.Need-is-constant-requires
 is-constant-requires c κs = search needs
 
 returns : tie.Need-returns
-returns c = 
+returns c =
     let d = c .before .before in
     let t = d .before .next .result in
     let e : toZ w32 (ofZ w32 (t .value)) ≡ t .value = search needs in
     ap Constant e ∙ value-constant _ _ t (d .before .next .ensures) _ (sym (d .is-constant .ensures) ∙ c .before .if1 .taken)
 
 returns-2 : tie.Need-returns-2
-returns-2 c = 
+returns-2 c =
     let d = c .before in
     value-mark _ _ (d .before .next .result) (d .before .next .ensures) _ (sym (d .is-constant .ensures) ∙ c .if1 .left)
 

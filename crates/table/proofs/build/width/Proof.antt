@@ -11,7 +11,7 @@ least-requires : tie.Need-least-requires
 least-requires c κs = search needs
 
 returns : tie.Need-returns
-returns c = 
+returns c =
     let a = c .before .args in
     let e : length (a .names) ≡ 8 = search needs in
     (omega (arith, c .least .ensures, length-map (take (a .count) (a .names)) nameOfStruct, length-take (a .count) (a .names)), omega (arith, c .least .ensures))
