@@ -1,3 +1,14 @@
+pub mod Nodes
+pub mod Operands
+pub mod Steps
+pub mod Comparisons
+pub mod Readers
+pub mod SentenceLimits
+pub mod SentenceReaders
+pub mod SentenceTokens
+pub mod SentenceLists
+pub mod SentenceForms
+pub mod SentenceTexts
 pub mod Walks
 pub mod Found
 pub mod Standing

@@ -1,4 +1,5 @@
 pub mod Places
+pub mod Reading
 pub mod Sentences
 pub mod Catalog
 pub mod Compiled
