@@ -17,3 +17,15 @@ pub mod SentenceTokens
 pub mod SentenceLists
 pub mod SentenceForms
 pub mod SentenceTexts
+pub mod Walks
+pub mod Found
+pub mod Standing
+pub mod Parts
+pub mod Values
+pub mod Left
+pub mod Sets
+pub mod Resolving
+pub mod Assembled
+pub mod Limited
+pub mod Known
+pub mod Compiles

@@ -3,3 +3,6 @@ pub mod Reading
 pub mod Catalog
 pub mod Sound
 pub mod Sentences
+pub mod Catalog
+pub mod Compiled
+pub mod Built

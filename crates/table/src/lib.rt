@@ -3,6 +3,9 @@ mod conditions; // the readers of OR, AND and single conditions
 mod sentences; // the five forms: where each token of a sentence stands
 mod build; // names looked up, statements put together
 
+ghost use mathlib.Core.Path.{_≡_};
+ghost use Rattle.table.specs.Compiled.{compiledOf};
+
 // A name: its first `len` bytes.
 pub struct Name {
     pub bytes: [u8; Name::BYTES],
@@ -107,4 +110,54 @@ impl Update {
     pub const UPDATE: u8 = 1;
 
     pub const DELETE: u8 = 2;
+}
+
+// What a text compiles to: the number of its refusal (then everything else is empty), or 0, the kind and the thing itself.
+pub struct Statement {
+    pub refusal: u8,
+    pub kind: u8,
+    pub table: Table,
+    pub query: Query,
+    pub update: Update,
+}
+
+impl Statement {
+    pub const TEXT: usize = 256;
+
+    pub const MARKS: u16 = 8;
+
+    pub const TABLE: u8 = 1;
+
+    pub const QUERY: u8 = 2;
+
+    pub const UPDATE: u8 = 3;
+
+    // What a text says beside the first `used` tables, where there are so many questions and updates already, and so many cells.
+    pub fn compile(
+        text: &[u8],
+        tables: [Table; 8],
+        used: u8,
+        queries: u8,
+        updates: u8,
+        cells: u32,
+    ) -> Statement
+        ensures { λ r. ⌜ r ≡ compiledOf (now (text .entry)) tables used queries updates cells ⌝ }
+    {
+        if Statement::TEXT < text.len() {
+            return build::refused(3);
+        }
+        let mut list = [0u16; 16];
+        let mut places = [0u16; 45];
+        let e = sentences::read_sentence(text, &mut list, &mut places);
+        if !e.c.ok {
+            return build::refused(4);
+        }
+        if build::is_over(e) {
+            return build::refused(5);
+        }
+        if e.form == 0 {
+            return build::table(text, list, e, tables, used, cells);
+        }
+        build::beside(text, list, places, e, tables, used, queries, updates)
+    }
 }
