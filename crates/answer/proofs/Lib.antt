@@ -2,3 +2,4 @@
 pub mod Signed
 pub mod Records
 pub mod Buffers
+pub mod Laws

@@ -33,7 +33,11 @@ impl Answer {
 fn byte_at(bytes: &[u8], i: usize) -> usize
     ensures { λ r. ⌜ (r ≡ getD (now (bytes .entry)) i 0) × (r ≤ 255) ⌝ }
 {
-    if i < bytes.len() { bytes[i] as usize } else { 0 }
+    if i < bytes.len() {
+        bytes[i] as usize
+    } else {
+        0
+    }
 }
 
 // The length that a record says it has: of what follows its first four bytes.

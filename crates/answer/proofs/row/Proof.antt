@@ -43,7 +43,7 @@ part-result-start : tie.Need-part-result-start
 part-result-start c = search needs
 
 part-result-end : tie.Need-part-result-end
-part-result-end c = fits c
+part-result-end c = omega (arith, fits c)
 
 returns : tie.Need-returns
 returns c =
