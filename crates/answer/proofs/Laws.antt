@@ -1,7 +1,7 @@
 -- Laws for callers: a record is its head and the numbers of its rows, written one after another, and a buffer that holds a record shows its rows.
 -- Assumes nothing.
 use mathlib.Core.Path.{_≡_, sym, ap, _∙_}
-use mathlib.Core.List.{List, [], _∷_, _++_}
+use mathlib.Core.List.{List, _∷_, _++_}
 use Prim.Native.Nat.{ℕ, _+_, _*_, _≤_}
 use native.Mathlib.Nat.{mul-comm}
 use native.Mathlib.Omega.{arith}

@@ -1,7 +1,7 @@
 -- Answer records in code: the head of a record, its length, bytes put into a buffer if they fit, and the place of a part of a slice.
 -- Assumes nothing: these are definitions.
 use mathlib.Core.Bool.{cond}
-use mathlib.Core.List.{List, [], _∷_, _++_}
+use mathlib.Core.List.{List, _∷_, _++_}
 use Prim.Native.Nat.{ℕ, _+_, _*_}
 use denote.Ref.{RefT, ptr}
 use lib.Dec.{leb}

@@ -1,15 +1,15 @@
 // Answer records: a row shown as a part of the record, and the bytes of a record written to a lent buffer.
+// A record is four bytes, the length of what follows; a version byte; a byte, columns; two bytes, rows; then four bytes a value. All big-endian.
 ghost use denote.Ref.{ptr};
 ghost use mathlib.Core.Path.{_≡_};
-ghost use mathlib.Core.Bool.{cond};
 ghost use mathlib.Core.List.{[], _∷_};
-ghost use Prim.Native.Nat.{_+_, _*_, _≤_};
+ghost use Prim.Native.Nat.{_+_, _≤_};
 ghost use lib.Dec.{leb};
-ghost use lib.ListN.{length, getD};
-ghost use Rattle.meaning.specs.Record.{bitsOf, bytes4, fourAt, columnsIn, rowCount, rowBytes, isRecord, hasRow, rowRefusal, rowStart, rowPart};
+ghost use lib.ListN.{getD};
+ghost use Rattle.meaning.specs.Record.{bitsOf, bytes4, fourAt, rowCount, rowBytes, isRecord, hasRow, rowRefusal, rowStart, rowPart};
 ghost use Rattle.answer.specs.Answer.{recordLength, header, put, past};
 
-// What a record is bound to.
+// The form of a record, and its limits.
 pub struct Answer {}
 
 impl Answer {

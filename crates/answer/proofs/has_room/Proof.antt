@@ -1,6 +1,4 @@
 -- `answer::has_room` meets its contract: the sum is not worked out, so that it cannot wrap. Assumes nothing.
-use mathlib.Core.Path.{sym}
-use native.Mathlib.Omega.{arith}
 use Rattle.answer.proofs.Buffers.{room-moved, no-room}
 use Rattle.answer.proofs.has_room.Statement.{statement}
 use Rattle.answer.proofs.has_room.Tie as tie
