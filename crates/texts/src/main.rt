@@ -1,14 +1,14 @@
 // Compiles statement texts, a line of standard input each, beside the tables that the lines before it made, and prints what each comes to. A line that is
 // just an exclamation mark empties the store. There are 5,000 cells.
-use table::Comparison;
-use table::Condition;
-use table::Name;
-use table::Operand;
-use table::Query;
-use table::Statement;
-use table::Table;
-use table::Update;
-use table::Value;
+use statement::Comparison;
+use statement::Condition;
+use statement::Name;
+use statement::Operand;
+use statement::Query;
+use statement::Statement;
+use statement::Table;
+use statement::Update;
+use statement::Value;
 
 const OUT: i32 = 1;
 

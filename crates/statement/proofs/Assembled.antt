@@ -1,0 +1,228 @@
+-- Statements put together of their parts: what the functions of the five forms make, from what those that they call make. Assumes nothing.
+use mathlib.Core.Path.{_≡_, refl, sym, ap, ap₂, _∙_}
+use mathlib.Core.Bool.{Bool, true, false, not, _&&_, _||_}
+use mathlib.Core.List.{List, [], _∷_, _++_, map}
+use Prim.Native.Nat.{ℕ, zero, suc, _+_, _-_, _*_, _≤_, _<_, min}
+use native.Mathlib.Nat.{le-of-suc-le-suc, not-suc-le-zero}
+use native.Mathlib.Omega.{arith}
+use borrow.Author.Tests.{lt-ltb, le-ltb, eq-eqb, ne-eqb}
+use lib.Dec.{eqb, ltb, leb}
+use lib.ListN.{length, getD, take, replicate, length-take, length-map}
+use lib.Seq.{take-at, getD-take}
+use Rattle.lists.specs.Lists.{repeats, from}
+use Rattle.meaning.specs.Postfix.{Node, leaves}
+use Rattle.meaning.specs.Grammar.{Given, Term}
+use Rattle.meaning.specs.Limits.{markIn, markCount}
+use Rattle.meaning.specs.Names.{Schema, noSchema, sameName, has, position, tableNames}
+use Rattle.meaning.specs.Cells.{areasSize}
+use Rattle.meaning.specs.Resolve.{resolveNodes}
+use Rattle.statement.specs.declared.Name.{Name}
+use Rattle.statement.specs.declared.Table.{Table}
+use Rattle.statement.specs.declared.Condition.{Condition}
+use Rattle.statement.specs.declared.Setting.{Setting}
+use Rattle.statement.specs.declared.Query.{Query}
+use Rattle.statement.specs.declared.Update.{Update}
+use Rattle.statement.specs.declared.Statement.{Statement}
+use Rattle.statement.specs.declared.sentences.Entry.{Entry}
+use Rattle.statement.specs.declared.build.Settings.{Settings}
+use Rattle.statement.specs.Places.{nameOn, givenOn, nodesOn}
+use Rattle.statement.specs.Sentences.{namesOn, givensOn}
+use Rattle.statement.specs.Catalog.{nameOfStruct, namesOf, schemaOf, schemasOf}
+use Rattle.statement.specs.Compiled.{padded, nameStruct, noName, tableStruct, noSetting, conditionStruct, created, asked, changing, refusedBy, settled}
+use Rattle.statement.specs.Built.{lowestBy, placesOf, shortName, shortNames, shortNodes, rowsOn, settingsOn, conditionBelow, placesBelow, Fits, listedOn, conditionOn, unknownOn, schemaOn, tableOn, selectOn, insertOn, setsOn, updateOn, deleteOn, formOn, numberOn, besideOn}
+use Rattle.statement.proofs.Walks.{map-map}
+use Rattle.statement.proofs.Left.{length-items}
+use Rattle.statement.proofs.Values.{name-back}
+use Rattle.statement.proofs.Parts.{mark-one}
+use Rattle.statement.proofs.Resolving.{resolve-count}
+use Rattle.statement.proofs.Found.{has-ltb}
+
+-- ---- arrays read back
+
+pub take-padded : {A : Type 0} (n : ℕ) (d : A) (xs : List A) (k : ℕ) → length xs ≡ k → take k (padded n d xs) ≡ xs
+take-padded n d xs k e = take-at xs (replicate (n - length xs) d) k e
+
+names-back : (xs : List (List ℕ)) → map nameOfStruct (map nameStruct xs) ≡ xs
+names-back [] = refl
+names-back (x ∷ xs) = ap₂ _∷_ (name-back x) (names-back xs)
+
+names-of : (xs : List (List ℕ)) (n : ℕ) → length xs ≡ n → namesOf (padded 8 noName (map nameStruct xs)) n ≡ xs
+names-of xs n e = ap (map nameOfStruct) (take-padded 8 noName (map nameStruct xs) n (length-map xs nameStruct ∙ e)) ∙ names-back xs
+
+-- no more marks than values
+pub marks-few : (vs : List Given) → markCount vs ≤ length vs
+marks-few [] = omega arith
+marks-few (v ∷ vs) = omega (arith, mark-one v, marks-few vs)
+
+-- ---- the list of a sentence
+
+module _ (s ls : List ℕ) (e : Entry) where
+  pub listed-count : length (listedOn s ls e) ≡ e .listed
+  listed-count = length-map (namesOn s (e .listed) ls) shortName ∙ length-items (λ a b. nameOn s a) (e .listed) ls
+
+  pub sets-few : e .listed ≤ 8 → (cs : List ℕ) → settingsOn cs (givensOn s (e .listed) ls) .marks ≤ 8
+  sets-few h cs = omega (arith, marks-few (givensOn s (e .listed) ls), length-items (λ a b. givenOn s b) (e .listed) ls)
+
+  module _ (columns : List (List ℕ)) (names : List Name) (en : names ≡ padded 8 noName (map nameStruct (listedOn s ls e))) where
+    pub names-are : namesOf names (e .listed) ≡ listedOn s ls e
+    names-are = ap (λ (x : List Name). namesOf x (e .listed)) en ∙ names-of (listedOn s ls e) (e .listed) listed-count
+
+    module _ (at : List ℕ) (ea : at ≡ padded 8 0 (placesOf columns (namesOf names (e .listed)))) where
+      pub places-are : at ≡ padded 8 0 (placesOf columns (listedOn s ls e))
+      places-are = ea ∙ ap (λ (x : List (List ℕ)). padded 8 0 (placesOf columns x)) names-are
+
+      pub places-first : take (e .listed) at ≡ placesOf columns (listedOn s ls e)
+      places-first =
+          ap (take (e .listed)) places-are
+          ∙ take-padded 8 0 (placesOf columns (listedOn s ls e)) (e .listed) (length-map (listedOn s ls e) (position columns) ∙ listed-count)
+
+-- the number of comparisons of a condition that was noted
+pub condition-few : (s ps : List ℕ) (e : Entry) (columns : List (List ℕ)) (m : ℕ) → Fits s ps e → (c : Condition) → c ≡ conditionOn s ps e columns m → c .count ≤ 8
+condition-few s ps e columns m f c q = omega (arith, ap (λ (x : Condition). x .count) q, resolve-count columns m (nodesOn s (e .c .nodes) ps), f .comparisons)
+
+-- ---- refusals
+
+pub settled-none : (number : ℕ) (done : Statement) → number ≡ 0 → done ≡ settled number done
+settled-none number done e = ap (λ (n : ℕ). settled n done) (sym e)
+
+pub settled-some : (number : ℕ) (done : Statement) → (number ≡ 0 → ⊥) → refusedBy number ≡ settled number done
+settled-some zero done h = absurd (h refl)
+settled-some (suc n) done h = refl
+
+pub taken-made : (ts : List Schema) (name : List ℕ) (columns : List (List ℕ)) (i n : ℕ) (twice : Bool) → i ≡ position (tableNames ts) name → n ≡ length ts → twice ≡ repeats sameName columns
+    → (ltb i n || twice) ≡ (has (tableNames ts) name || repeats sameName columns)
+taken-made ts name columns i n twice ei en et =
+    ap₂ _||_ (ap₂ ltb ei (en ∙ sym (length-map ts (λ (t : Schema). t .name))) ∙ has-ltb (tableNames ts) name) et
+
+pub full-made : (ts : List Schema) (cells taken left n size : ℕ) → taken ≡ areasSize ts → left ≡ cells - taken → n ≡ length ts
+    → (leb 8 n || ltb left size) ≡ (leb 8 (length ts) || ltb (cells - areasSize ts) size)
+full-made ts cells taken left n size et el en = ap₂ (λ (k m : ℕ). leb 8 k || ltb m size) en (el ∙ ap (λ (k : ℕ). cells - k) et)
+
+-- ---- the five forms
+
+module _ (s ls ps : List ℕ) (e : Entry) (columns : List (List ℕ)) (i : ℕ) where
+  pub select-made : (queries : ℕ) (names : List Name) (at : List ℕ) (c : Condition) (w number : ℕ) (r : Statement)
+      → names ≡ padded 8 noName (map nameStruct (listedOn s ls e)) → at ≡ padded 8 0 (placesOf columns (namesOf names (e .listed)))
+      → c ≡ conditionOn s ps e columns 0 → w ≡ length columns
+      → number ≡ lowestBy (not (placesBelow w (take (e .listed) at) && conditionBelow w c)) false false (leb 16 queries)
+      → r ≡ settled number (asked (record { table = i; selected = at; count = e .listed; parameters = e .c .marks; condition = c }))
+      → r ≡ selectOn s ls ps e columns i queries
+  unfolding selectOn
+  select-made queries names at c w number r en ea ec ew em er =
+      let q : at ≡ padded 8 0 (placesOf columns (listedOn s ls e)) = places-are s ls e columns names en at ea in
+      let p : take (e .listed) at ≡ placesOf columns (listedOn s ls e) = places-first s ls e columns names en at ea in
+      let m : number ≡ lowestBy (unknownOn columns (placesOf columns (listedOn s ls e)) (conditionOn s ps e columns 0)) false false (leb 16 queries) =
+      em ∙ ap (λ (b : Bool). lowestBy (not b) false false (leb 16 queries)) (ap₂ (λ (k : ℕ) (x : List ℕ). placesBelow k x && conditionBelow k c) ew p
+      ∙ ap (λ (x : Condition). placesBelow (length columns) (placesOf columns (listedOn s ls e)) && conditionBelow (length columns) x) ec) in
+      er ∙ λ j. settled (m j) (asked (record { table = i; selected = q j; count = e .listed; parameters = e .c .marks; condition = ec j }))
+
+  pub update-made : (updates : ℕ) (names : List Name) (at : List ℕ) (sets : Settings) (settings : List Setting) (c : Condition) (w : ℕ) (twice : Bool) (number : ℕ) (r : Statement)
+      → names ≡ padded 8 noName (map nameStruct (listedOn s ls e)) → at ≡ padded 8 0 (placesOf columns (namesOf names (e .listed)))
+      → sets ≡ settingsOn (take (e .listed) at) (givensOn s (e .listed) ls) → settings ≡ sets .all
+      → c ≡ conditionOn s ps e columns (sets .marks) → w ≡ length columns → twice ≡ repeats sameName (namesOf names (e .listed))
+      → number ≡ lowestBy (not (placesBelow w (take (e .listed) at) && conditionBelow w c)) twice false (leb 16 updates)
+      → r ≡ settled number (changing (record { form = 1; table = i; settings = settings; count = e .listed; parameters = e .c .marks; condition = c }))
+      → r ≡ updateOn s ls ps e columns i updates
+  unfolding updateOn
+  update-made updates names at sets settings c w twice number r en ea es el ec ew et em er =
+      let p : take (e .listed) at ≡ placesOf columns (listedOn s ls e) = places-first s ls e columns names en at ea in
+      let x : sets ≡ setsOn s ls e columns = es ∙ ap (λ (y : List ℕ). settingsOn y (givensOn s (e .listed) ls)) p in
+      let q : settings ≡ setsOn s ls e columns .all = el ∙ ap (λ (y : Settings). y .all) x in
+      let d : c ≡ conditionOn s ps e columns (setsOn s ls e columns .marks) = ec ∙ ap (λ (y : Settings). conditionOn s ps e columns (y .marks)) x in
+      let t : twice ≡ repeats sameName (listedOn s ls e) = et ∙ ap (repeats sameName) (names-are s ls e columns names en) in
+      let m : number
+      ≡ lowestBy (unknownOn columns (placesOf columns (listedOn s ls e)) (conditionOn s ps e columns (setsOn s ls e columns .marks))) (repeats sameName (listedOn s ls e)) false (leb 16 updates) =
+      em ∙ ap₂ (λ (b u : Bool). lowestBy (not b) u false (leb 16 updates)) (ap₂ (λ (k : ℕ) (y : List ℕ). placesBelow k y && conditionBelow k c) ew p
+      ∙ ap (λ (y : Condition). placesBelow (length columns) (placesOf columns (listedOn s ls e)) && conditionBelow (length columns) y) d) t in
+      er ∙ λ j. settled (m j) (changing (record { form = 1; table = i; settings = q j; count = e .listed; parameters = e .c .marks; condition = d j }))
+
+module _ (s ls : List ℕ) (e : Entry) (columns : List (List ℕ)) (i : ℕ) where
+  pub insert-made : (updates : ℕ) (sets : Settings) (settings : List Setting) (c : Condition) (w number : ℕ) (r : Statement)
+      → sets ≡ settingsOn (take (e .listed) (from 0 8)) (givensOn s (e .listed) ls) → settings ≡ sets .all → c ≡ conditionStruct [] → w ≡ length columns
+      → number ≡ lowestBy false false (not (eqb (e .listed) w)) (leb 16 updates)
+      → r ≡ settled number (changing (record { form = 0; table = i; settings = settings; count = e .listed; parameters = e .c .marks; condition = c }))
+      → r ≡ insertOn s ls e columns i updates
+  unfolding insertOn
+  insert-made updates sets settings c w number r es ea ec ew em er =
+      let q : settings ≡ settingsOn (take (e .listed) (from 0 8)) (givensOn s (e .listed) ls) .all = ea ∙ ap (λ (x : Settings). x .all) es in
+      let m : number ≡ lowestBy false false (not (eqb (e .listed) (length columns))) (leb 16 updates) =
+      em ∙ ap (λ (k : ℕ). lowestBy false false (not (eqb (e .listed) k)) (leb 16 updates)) ew in
+      er ∙ λ j. settled (m j) (changing (record { form = 0; table = i; settings = q j; count = e .listed; parameters = e .c .marks; condition = ec j }))
+
+module _ (s ps : List ℕ) (e : Entry) (columns : List (List ℕ)) (i : ℕ) where
+  pub delete-made : (updates : ℕ) (c : Condition) (settings : List Setting) (w number : ℕ) (r : Statement)
+      → c ≡ conditionOn s ps e columns 0 → settings ≡ replicate 8 noSetting → w ≡ length columns
+      → number ≡ lowestBy (not (placesBelow w [] && conditionBelow w c)) false false (leb 16 updates)
+      → r ≡ settled number (changing (record { form = 2; table = i; settings = settings; count = 0; parameters = e .c .marks; condition = c }))
+      → r ≡ deleteOn s ps e columns i updates
+  unfolding deleteOn
+  delete-made updates c settings w number r ec es ew em er =
+      let m : number ≡ lowestBy (unknownOn columns [] (conditionOn s ps e columns 0)) false false (leb 16 updates) =
+      em ∙ ap₂ (λ (k : ℕ) (x : Condition). lowestBy (not (placesBelow k [] && conditionBelow k x)) false false (leb 16 updates)) ew ec in
+      er ∙ λ j. settled (m j) (changing (record { form = 2; table = i; settings = es j; count = 0; parameters = e .c .marks; condition = ec j }))
+
+module _ (s ls : List ℕ) (e : Entry) (ts : List Schema) (cells : ℕ) where
+  pub table-made : (name : Name) (columns : List Name) (capacity : ℕ) (taken full : Bool) (size number : ℕ) (r : Statement)
+      → name ≡ nameStruct (shortName (nameOn s (e .table))) → columns ≡ padded 8 noName (map nameStruct (listedOn s ls e)) → capacity ≡ rowsOn s (e .rows)
+      → taken ≡ (has (tableNames ts) (nameOfStruct name) || repeats sameName (namesOf columns (e .listed)))
+      → size ≡ e .listed * capacity → full ≡ (leb 8 (length ts) || ltb (cells - areasSize ts) size)
+      → number ≡ lowestBy false taken false full
+      → r ≡ settled number (created (record { name = name; columns = columns; count = e .listed; capacity = capacity; rows = 0 }))
+      → r ≡ tableOn s ls e ts cells
+  unfolding tableOn
+  table-made name columns capacity taken full size number r ea ec ek et ez ef em er =
+      let n : nameOfStruct name ≡ shortName (nameOn s (e .table)) = ap nameOfStruct ea ∙ name-back (shortName (nameOn s (e .table))) in
+      let t : taken ≡ (has (tableNames ts) (shortName (nameOn s (e .table))) || repeats sameName (listedOn s ls e)) =
+      et ∙ ap₂ (λ (x : List ℕ) (xs : List (List ℕ)). has (tableNames ts) x || repeats sameName xs) n (names-are s ls e [] columns ec) in
+      let f : full ≡ (leb 8 (length ts) || ltb (cells - areasSize ts) (e .listed * rowsOn s (e .rows))) =
+      ef ∙ ap (λ (k : ℕ). leb 8 (length ts) || ltb (cells - areasSize ts) k) (ez ∙ ap (λ (k : ℕ). e .listed * k) ek) in
+      let c : e .listed ≡ length (listedOn s ls e) = sym (listed-count s ls e) in
+      er ∙ λ j. settled ((em ∙ ap₂ (λ (x y : Bool). lowestBy false x false y) t f) j)
+      (created (record { name = ea j; columns = ec j; count = c j; capacity = ek j; rows = 0 }))
+
+-- ---- by the form
+
+module _ (s ls ps : List ℕ) (e : Entry) (columns : List (List ℕ)) (i queries updates : ℕ) where
+  pub form-select : (r : Statement) → r ≡ selectOn s ls ps e columns i queries → e .form ≡ 1 → r ≡ formOn s ls ps e columns i queries updates
+  form-select r h k = rw (eq-eqb (e .form) 1 k) h
+
+  pub form-insert : (r : Statement) → r ≡ insertOn s ls e columns i updates → (e .form ≡ 1 → ⊥) → e .form ≡ 2 → r ≡ formOn s ls ps e columns i queries updates
+  form-insert r h a k = rw (ne-eqb (e .form) 1 a, eq-eqb (e .form) 2 k) h
+
+  pub form-update : (r : Statement) → r ≡ updateOn s ls ps e columns i updates → (e .form ≡ 1 → ⊥) → (e .form ≡ 2 → ⊥) → e .form ≡ 3 → r ≡ formOn s ls ps e columns i queries updates
+  form-update r h a b k = rw (ne-eqb (e .form) 1 a, ne-eqb (e .form) 2 b, eq-eqb (e .form) 3 k) h
+
+  pub form-delete : (r : Statement) → r ≡ deleteOn s ps e columns i updates → (e .form ≡ 1 → ⊥) → (e .form ≡ 2 → ⊥) → (e .form ≡ 3 → ⊥) → r ≡ formOn s ls ps e columns i queries updates
+  form-delete r h a b k = rw (ne-eqb (e .form) 1 a, ne-eqb (e .form) 2 b, ne-eqb (e .form) 3 k) h
+
+-- ---- the table of a sentence
+
+getD-inside : {A B : Type 0} (f : A → B) (l : List A) (i : ℕ) (d : A) (x : B) → i < length l → getD (map f l) i x ≡ f (getD l i d)
+getD-inside f [] i d x h = absurd (not-suc-le-zero h)
+getD-inside f (a ∷ l) zero d x h = refl
+getD-inside f (a ∷ l) (suc i) d x h = getD-inside f l i d x (le-of-suc-le-suc h)
+
+schema-at : (tables : List Table) (used i : ℕ) (d : Table) → i < length (schemasOf tables used) → getD (schemasOf tables used) i noSchema ≡ schemaOf (getD tables i d)
+schema-at tables used i d h =
+    let l : length (schemasOf tables used) ≡ min used (length tables) = length-map (take used tables) schemaOf ∙ length-take used tables in
+    getD-inside schemaOf (take used tables) i d noSchema (omega (arith, length-map (take used tables) schemaOf))
+    ∙ ap schemaOf (getD-take used tables i d (omega arith))
+
+module _ (s ls ps : List ℕ) (e : Entry) (tables : List Table) (used queries updates : ℕ) (name : Name) (i n : ℕ)
+    (en : name ≡ nameStruct (shortName (nameOn s (e .table)))) (ei : i ≡ position (tableNames (schemasOf tables used)) (nameOfStruct name)) (el : n ≡ length (schemasOf tables used)) where
+  number-is : i ≡ numberOn s e (schemasOf tables used)
+  number-is = ei ∙ ap (position (tableNames (schemasOf tables used))) (ap nameOfStruct en ∙ name-back (shortName (nameOn s (e .table))))
+
+  pub beside-none : (r : Statement) → n ≤ i → r ≡ refusedBy 6 → r ≡ besideOn s ls ps e (schemasOf tables used) queries updates
+  beside-none r h q =
+      let k : length (schemasOf tables used) ≤ numberOn s e (schemasOf tables used) = omega (arith, number-is) in
+      rw (le-ltb (numberOn s e (schemasOf tables used)) (length (schemasOf tables used)) k) q
+
+  pub beside-some : (r : Statement) (d : Table) → i < n → r ≡ formOn s ls ps e (namesOf (getD tables i d .columns) (getD tables i d .count)) i queries updates
+      → r ≡ besideOn s ls ps e (schemasOf tables used) queries updates
+  beside-some r d h q =
+      let j : ℕ = numberOn s e (schemasOf tables used) in
+      let k : j < length (schemasOf tables used) = omega (arith, number-is) in
+      let c : namesOf (getD tables i d .columns) (getD tables i d .count) ≡ getD (schemasOf tables used) j noSchema .columns =
+      ap (λ (m : ℕ). namesOf (getD tables m d .columns) (getD tables m d .count)) number-is ∙ ap (λ (t : Schema). t .columns) (sym (schema-at tables used j d k)) in
+      rw (lt-ltb j (length (schemasOf tables used)) k) (q ∙ ap₂ (λ (x : List (List ℕ)) (m : ℕ). formOn s ls ps e x m queries updates) c number-is)

@@ -1,0 +1,341 @@
+-- What is made of a sentence as it was read is what its text compiles to. Assumes nothing.
+use mathlib.Core.Path.{_≡_, refl, sym, ap, ap₂, _∙_}
+use mathlib.Core.Bool.{Bool, true, false, not, _&&_, _||_, cond}
+use mathlib.Core.Option.{Option, none, some}
+use mathlib.Core.List.{List, [], _∷_, _++_, map}
+use Prim.Native.Nat.{ℕ, zero, suc, _+_, _-_, _*_, _≤_, _<_}
+use native.Mathlib.Omega.{arith}
+use borrow.Author.Tests.{lt-ltb, le-ltb, ltb-false, eq-eqb, ne-eqb}
+use lib.Dec.{eqb, ltb, leb}
+use lib.IntN.{ℤ, natAbs}
+use lib.ListN.{length, getD, take, drop, length-map, length-replicate}
+use Rattle.lists.specs.Lists.{any, repeats, from}
+use Rattle.lists.proofs.Bools.{or-left, or-right, clash}
+use Rattle.meaning.specs.Condition.{Where, always, sides, operandsIn, comparisonsIn}
+use Rattle.meaning.specs.Postfix.{Node, nodesIn, leaves}
+use Rattle.meaning.specs.Tokens as T
+use Rattle.meaning.specs.Tokens.{Name}
+use Rattle.meaning.specs.Grammar.{Given, Term, Listed, items, Sentence, table, select, insert, update, delete, sentence}
+use Rattle.meaning.specs.Limits.{tooLong, tableNamed, listColumns, listGivens, whereOf, termColumns, termGivens, outside32, givens, markCount, pastLimit}
+use Rattle.meaning.specs.Names.{Schema, noSchema, sameName, has, position, tableNames, columnsOf, missing, isTable, unknown, taken, miscounted}
+use Rattle.meaning.specs.Statement.{settings, settingMarks, numberedAll, resolvedWhere, statementOf}
+use Rattle.meaning.specs.Cells.{areasSize}
+use Rattle.meaning.specs.Plain.{Plain, noQuery, noUpdate, schemas, noPlace, addConditions, orElse, lowestOf}
+use Rattle.meaning.specs.Resolve.{resolveNodes}
+use Rattle.meaning.proofs.Postfix.{sides-in, leaves-in, few-nodes}
+use Rattle.meaning.proofs.Resolve.{resolve-where}
+use Rattle.token.specs.Tokens.{valueOf}
+use Rattle.statement.specs.declared.Table.{Table}
+use Rattle.statement.specs.declared.Condition.{Condition}
+use Rattle.statement.specs.declared.Statement.{Statement}
+use Rattle.statement.specs.declared.sentences.Entry.{Entry}
+use Rattle.statement.specs.declared.build.Settings.{Settings}
+use Rattle.statement.specs.Places.{tokenOn, nameOn, nodesOn}
+use Rattle.statement.specs.Sentences.{namesOn, givensOn, Entered, Noted}
+use Rattle.statement.specs.Catalog.{schemaOf, schemasOf, rowless, catalog}
+use Rattle.statement.specs.Compiled.{padded, tableStruct, noSetting, conditionStruct, queryStruct, settingStruct, placedFrom, updateStruct, created, asked, changing, refusedBy, structOf, structOfText, settled, compiledOf}
+use Rattle.statement.specs.Built.{lowestBy, placesOf, shortName, shortNames, shortGiven, shortNodes, rowsIn, rowsOn, settingsFrom, settingsOn, Fits, listedOn, conditionOn, unknownOn, schemaOn, tableOn, selectOn, insertOn, setsOn, updateOn, deleteOn, overOn, formOn, numberOn, besideOn}
+use Rattle.statement.proofs.Found.{has-ltb}
+use Rattle.statement.proofs.Assembled.{form-select, form-insert, form-update, form-delete}
+use Rattle.statement.proofs.Limited.{inside-rows, short-table, short-listed, short-tested, within-listed, within-tested, whole-name, whole-names, whole-givens, whole-nodes, whole-rows}
+use Rattle.statement.proofs.Known.{lacks, unknown-is, settings-are, settings-count, placed-are, placed-count}
+
+-- ---- the catalog
+
+module _ (tables : List Table) (used queries updates cells : ℕ) where
+  abbrev store : Plain
+  store = catalog tables used queries updates cells
+
+  abbrev there : List Schema
+  there = schemasOf tables used
+
+  rows-less : (ts : List Schema) → map (λ t. t .schema) (map rowless ts) ≡ ts
+  rows-less [] = refl
+  rows-less (t ∷ ts) = ap (λ (xs : List Schema). t ∷ xs) (rows-less ts)
+
+  schemas-are : schemas store ≡ there
+  schemas-are = rows-less there
+
+-- ---- a sentence that was read, within the limits
+
+module _ (s ls ps : List ℕ) (e : Entry) (x : Sentence) (E : Entered s ls ps e x) (w : pastLimit x ≡ false) where
+  module _ (h : overOn e ≡ false) where
+    listed-few : e .listed ≤ 8
+    listed-few = ltb-false 8 (e .listed) (or-left (ltb 8 (e .listed)) _ (or-right (e .c .over) _ h))
+
+    marked : (ltb 8 (e .c .marks) || ltb 15 (e .c .nodes)) ≡ false
+    marked = or-right (ltb 8 (e .listed)) _ (or-right (e .c .over) _ h)
+
+    nodes-few : e .c .nodes ≤ 15
+    nodes-few = ltb-false 15 (e .c .nodes) (or-right (ltb 8 (e .c .marks)) _ marked)
+
+    pub fits-read : Fits s ps e
+    fits-read = record {
+      listed = listed-few;
+      marks = ltb-false 8 (e .c .marks) (or-left (ltb 8 (e .c .marks)) _ marked);
+      nodes = nodes-few;
+      comparisons =
+          let k : length (nodesIn (whereOf x)) ≤ 15 = omega (arith, E .nodes-are, nodes-few) in
+          omega (arith, ap (λ (ns : List (Node Term)). length (leaves ns)) (E .noted nodes-few), leaves-in (whereOf x), few-nodes (whereOf x) .0 k);
+    }
+
+  -- what was noted, kept whole
+  table-kept : shortName (nameOn s (e .table)) ≡ tableNamed x
+  table-kept = ap shortName (E .table) ∙ whole-name (tableNamed x) (short-table x w)
+
+  nodes-kept : e .c .nodes ≤ 15 → shortNodes (nodesOn s (e .c .nodes) ps) ≡ nodesIn (whereOf x)
+  nodes-kept h =
+      ap shortNodes (E .noted h)
+      ∙ whole-nodes (nodesIn (whereOf x))
+      (ap (λ (os : List Term). any (λ (n : Name). ltb 12 (length n)) (termColumns os)) (sides-in (whereOf x)) ∙ short-tested x w)
+      (ap (λ (os : List Term). any outside32 (termGivens os)) (sides-in (whereOf x)) ∙ within-tested x w)
+
+  condition-kept : e .c .nodes ≤ 15 → (columns : List Name) (m : ℕ) → conditionOn s ps e columns m ≡ conditionStruct (resolveNodes columns m (nodesIn (whereOf x)))
+  condition-kept h columns m = ap (λ (ns : List (Node Term)). conditionStruct (resolveNodes columns m ns)) (nodes-kept h)
+
+  -- its columns are unknown exactly if one is missing
+  unknown-kept : e .c .nodes ≤ 15 → (columns names : List Name) (m : ℕ)
+      → unknownOn columns (placesOf columns names) (conditionOn s ps e columns m) ≡ lacks columns (names ++ termColumns (operandsIn (whereOf x)))
+  unknown-kept h columns names m =
+      ap (unknownOn columns (placesOf columns names)) (condition-kept h columns m)
+      ∙ unknown-is columns names m (nodesIn (whereOf x))
+      ∙ ap (λ (os : List Term). lacks columns (names ++ termColumns os)) (sides-in (whereOf x))
+
+where-kept : (columns : List Name) (m : ℕ) (q : Where Term) → conditionStruct (resolveNodes columns m (nodesIn q)) ≡ conditionStruct (nodesIn (resolvedWhere columns m q))
+where-kept columns m q = ap conditionStruct (sym (resolve-where columns m q))
+
+-- ---- the five forms
+
+-- what a sentence gives beside tables: a refusal from 6 to 9, or its statement
+abbrev decided : Plain → List Schema → Sentence → Statement
+decided p ts x = settled (lowestBy (unknown ts x) (taken ts x) (miscounted ts x) (noPlace p x)) (structOf (statementOf ts x))
+
+module _ (s ls ps : List ℕ) (e : Entry) (tables : List Table) (used queries updates cells : ℕ) (few : e .listed ≤ 8) where
+  abbrev P : Plain
+  P = store tables used queries updates cells
+
+  abbrev S : List Schema
+  S = there tables used queries updates cells
+
+  table-compiles : (t : Name) (cs : Listed Name) (z : ℤ) → Entered s ls ps e (table t cs z) → pastLimit (table t cs z) ≡ false → tableOn s ls e S cells ≡ decided P S (table t cs z)
+  unfolding tableOn unknown taken miscounted noPlace statementOf structOf
+  table-compiles t cs z E w =
+      let x = table t cs z in
+      let n : shortName (nameOn s (e .table)) ≡ t = table-kept s ls ps e x E w in
+      let l : listedOn s ls e ≡ items cs = ap shortNames (E .names few) ∙ whole-names (items cs) (short-listed x w) in
+      let r : rowsOn s (e .rows) ≡ natAbs z = ap (λ (k : T.Token). rowsIn (valueOf k)) (E .rows) ∙ whole-rows z (inside-rows x w) in
+      let q : S ≡ schemas P = sym (schemas-are tables used queries updates cells) in
+      let k : length S ≡ length (P .tables) = sym (length-map S rowless) in
+      λ j. settled
+      (lowestBy false (has (tableNames S) (n j) || repeats sameName (l j)) false (leb 8 (k j) || ltb (cells - areasSize (q j)) (E .listed-are j * r j)))
+      (created (tableStruct (record { name = n j; columns = l j; capacity = r j })))
+
+  -- ---- of a table that is there
+
+  module _ (t : Name) (known : has (tableNames S) t ≡ true) (nodes : e .c .nodes ≤ 15) where
+    abbrev C : List Name
+    C = columnsOf S t
+
+    abbrev i : ℕ
+    i = position (tableNames S) t
+
+    missing-is : (cs : List Name) → lacks C cs ≡ missing S t cs
+    missing-is cs = ap (λ (b : Bool). not b || lacks C cs) (sym known)
+
+    asks-few : leb 16 queries ≡ leb 16 (length (P .queries))
+    asks-few = ap (leb 16) (sym (length-replicate queries noQuery))
+
+    changes-few : leb 16 updates ≡ leb 16 (length (P .updates))
+    changes-few = ap (leb 16) (sym (length-replicate updates noUpdate))
+
+    select-compiles : (cs : Listed Name) (q : Where Term) → Entered s ls ps e (select cs t q) → pastLimit (select cs t q) ≡ false
+        → selectOn s ls ps e C i queries ≡ decided P S (select cs t q)
+    unfolding selectOn unknown taken miscounted noPlace statementOf structOf
+    select-compiles cs q E w =
+        let x = select cs t q in
+        let l : listedOn s ls e ≡ items cs = ap shortNames (E .names few) ∙ whole-names (items cs) (short-listed x w) in
+        let u : unknownOn C (placesOf C (listedOn s ls e)) (conditionOn s ps e C 0) ≡ missing S t (items cs ++ termColumns (operandsIn q)) =
+        unknown-kept s ls ps e x E w nodes C (listedOn s ls e) 0
+        ∙ ap (λ (ns : List Name). lacks C (ns ++ termColumns (operandsIn q))) l
+        ∙ missing-is (items cs ++ termColumns (operandsIn q)) in
+        let c : e .listed ≡ length (map (position C) (items cs)) = E .listed-are ∙ sym (length-map (items cs) (position C)) in
+        let d : conditionOn s ps e C 0 ≡ conditionStruct (nodesIn (resolvedWhere C 0 q)) = condition-kept s ls ps e x E w nodes C 0 ∙ where-kept C 0 q in
+        λ j. settled (lowestBy (u j) false false (asks-few j))
+        (asked (record { table = i; selected = padded 8 0 (placesOf C (l j)); count = c j; parameters = E .marks-are j; condition = d j }))
+
+    insert-compiles : (vs : Listed Given) → Entered s ls ps e (insert t vs) → pastLimit (insert t vs) ≡ false → insertOn s ls e C i updates ≡ decided P S (insert t vs)
+    unfolding insertOn unknown taken miscounted noPlace statementOf structOf
+    insert-compiles vs E w =
+        let x = insert t vs in
+        let g : map shortGiven (givensOn s (e .listed) ls) ≡ items vs = ap (map shortGiven) (E .givens few) ∙ whole-givens (items vs) (within-listed x w) in
+        let n : length (items vs) ≤ 8 = omega (arith, E .listed-are, few) in
+        let a : settingsFrom 0 (take (e .listed) (from 0 8)) (map shortGiven (givensOn s (e .listed) ls)) ≡ map settingStruct (placedFrom 0 (numberedAll 0 (items vs))) =
+        ap₂ (λ (k : ℕ) (v : List Given). settingsFrom 0 (take k (from 0 8)) v) (E .listed-are) g ∙ placed-are 0 0 8 (items vs) n in
+        let u : false ≡ missing S t [] = missing-is [] in
+        let c : e .listed ≡ length (placedFrom 0 (numberedAll 0 (items vs))) = E .listed-are ∙ sym (placed-count 0 0 (items vs)) in
+        λ j. settled (lowestBy (u j) false (not (eqb (E .listed-are j) (length C))) (changes-few j))
+        (changing (record { form = 0; table = i; settings = padded 8 noSetting (a j); count = c j; parameters = E .marks-are j; condition = conditionStruct [] }))
+
+    update-compiles : (ss : Listed (Name × Given)) (q : Where Term) → Entered s ls ps e (update t ss q) → pastLimit (update t ss q) ≡ false
+        → updateOn s ls ps e C i updates ≡ decided P S (update t ss q)
+    unfolding updateOn unknown taken miscounted noPlace statementOf structOf
+    update-compiles ss q E w =
+        let x = update t ss q in
+        let names = map (λ (p : Name × Given). p .0) (items ss) in
+        let values = map (λ (p : Name × Given). p .1) (items ss) in
+        let l : listedOn s ls e ≡ names = ap shortNames (E .names few) ∙ whole-names names (short-listed x w) in
+        let g : map shortGiven (givensOn s (e .listed) ls) ≡ values = ap (map shortGiven) (E .givens few) ∙ whole-givens values (within-listed x w) in
+        let m : setsOn s ls e C .marks ≡ settingMarks (items ss) = ap markCount (E .givens few) in
+        let a : settingsFrom 0 (placesOf C (listedOn s ls e)) (map shortGiven (givensOn s (e .listed) ls)) ≡ map settingStruct (settings C 0 (items ss)) =
+        ap₂ (λ (ns : List Name) (v : List Given). settingsFrom 0 (placesOf C ns) v) l g ∙ settings-are C 0 (items ss) in
+        let u : unknownOn C (placesOf C (listedOn s ls e)) (conditionOn s ps e C (setsOn s ls e C .marks)) ≡ missing S t (names ++ termColumns (operandsIn q)) =
+        unknown-kept s ls ps e x E w nodes C (listedOn s ls e) (setsOn s ls e C .marks)
+        ∙ ap (λ (ns : List Name). lacks C (ns ++ termColumns (operandsIn q))) l
+        ∙ missing-is (names ++ termColumns (operandsIn q)) in
+        let c : e .listed ≡ length (settings C 0 (items ss)) = E .listed-are ∙ sym (settings-count C 0 (items ss)) in
+        let d : conditionOn s ps e C (setsOn s ls e C .marks) ≡ conditionStruct (nodesIn (resolvedWhere C (settingMarks (items ss)) q)) =
+        condition-kept s ls ps e x E w nodes C (setsOn s ls e C .marks) ∙ ap (λ (k : ℕ). conditionStruct (resolveNodes C k (nodesIn q))) m ∙ where-kept C (settingMarks (items ss)) q in
+        λ j. settled (lowestBy (u j) (repeats sameName (l j)) false (changes-few j))
+        (changing (record { form = 1; table = i; settings = padded 8 noSetting (a j); count = c j; parameters = E .marks-are j; condition = d j }))
+
+    delete-compiles : (q : Where Term) → Entered s ls ps e (delete t q) → pastLimit (delete t q) ≡ false → deleteOn s ps e C i updates ≡ decided P S (delete t q)
+    unfolding deleteOn unknown taken miscounted noPlace statementOf structOf
+    delete-compiles q E w =
+        let x = delete t q in
+        let u : unknownOn C [] (conditionOn s ps e C 0) ≡ missing S t (termColumns (operandsIn q)) =
+        unknown-kept s ls ps e x E w nodes C [] 0 ∙ missing-is (termColumns (operandsIn q)) in
+        let d : conditionOn s ps e C 0 ≡ conditionStruct (nodesIn (resolvedWhere C 0 q)) = condition-kept s ls ps e x E w nodes C 0 ∙ where-kept C 0 q in
+        λ j. settled (lowestBy (u j) false false (changes-few j))
+        (changing (record { form = 2; table = i; settings = padded 8 noSetting []; count = 0; parameters = E .marks-are j; condition = d j }))
+
+  -- by its form
+  form-compiles : (x : Sentence) → isTable x ≡ false → Entered s ls ps e x → pastLimit x ≡ false → e .c .nodes ≤ 15 → has (tableNames S) (tableNamed x) ≡ true
+      → formOn s ls ps e (columnsOf S (tableNamed x)) (position (tableNames S) (tableNamed x)) queries updates ≡ decided P S x
+  form-compiles (table t cs z) b E w h k = clash refl b
+  form-compiles (select cs t q) b E w h k = sym (form-select s ls ps e (columnsOf S t) (position (tableNames S) t) queries updates _ refl (E .form)) ∙ select-compiles t k h cs q E w
+  form-compiles (insert t vs) b E w h k =
+      sym (form-insert s ls ps e (columnsOf S t) (position (tableNames S) t) queries updates _ refl (λ l. omega (arith, E .form)) (E .form))
+      ∙ insert-compiles t k h vs E w
+  form-compiles (update t ss q) b E w h k =
+      sym (form-update s ls ps e (columnsOf S t) (position (tableNames S) t) queries updates _ refl (λ l. omega (arith, E .form)) (λ l. omega (arith, E .form)) (E .form))
+      ∙ update-compiles t k h ss q E w
+  form-compiles (delete t q) b E w h k =
+      sym (form-delete s ls ps e (columnsOf S t) (position (tableNames S) t) queries updates _ refl (λ l. omega (arith, E .form)) (λ l. omega (arith, E .form)) (λ l. omega (arith, E .form)))
+      ∙ delete-compiles t k h q E w
+
+  -- a table that is not there
+  unknown-table : (x : Sentence) → isTable x ≡ false → has (tableNames S) (tableNamed x) ≡ false → refusedBy 6 ≡ decided P S x
+  unfolding unknown
+  unknown-table x b k = rw (b, k)
+
+  beside-compiles : (x : Sentence) → isTable x ≡ false → Entered s ls ps e x → pastLimit x ≡ false → e .c .nodes ≤ 15 → besideOn s ls ps e S queries updates ≡ decided P S x
+  beside-compiles x b E w h =
+      ap (λ (n : Name). cond (ltb (position (tableNames S) n) (length S)) (formOn s ls ps e (columnsOf S n) (position (tableNames S) n) queries updates) (refusedBy 6)) (table-kept s ls ps e x E w)
+      ∙ ap (λ (c : Bool). cond c (formOn s ls ps e (columnsOf S (tableNamed x)) (position (tableNames S) (tableNamed x)) queries updates) (refusedBy 6)) found
+      ∙ go (has (tableNames S) (tableNamed x)) refl
+    where
+      found : ltb (position (tableNames S) (tableNamed x)) (length S) ≡ has (tableNames S) (tableNamed x)
+      found = ap (ltb (position (tableNames S) (tableNamed x))) (sym (length-map S (λ (t : Schema). t .name))) ∙ has-ltb (tableNames S) (tableNamed x)
+
+      go : (c : Bool) → has (tableNames S) (tableNamed x) ≡ c
+          → cond c (formOn s ls ps e (columnsOf S (tableNamed x)) (position (tableNames S) (tableNamed x)) queries updates) (refusedBy 6) ≡ decided P S x
+      go true k = form-compiles x b E w h k
+      go false k = unknown-table x b k
+
+  -- a TABLE
+  of-table : (x : Sentence) → e .form ≡ 0 → Entered s ls ps e x → pastLimit x ≡ false → tableOn s ls e S cells ≡ decided P S x
+  of-table (table t cs z) h E w = table-compiles t cs z E w
+  of-table (select cs t q) h E w = absurd (omega (arith, E .form))
+  of-table (insert t vs) h E w = absurd (omega (arith, E .form))
+  of-table (update t ss q) h E w = absurd (omega (arith, E .form))
+  of-table (delete t q) h E w = absurd (omega (arith, E .form))
+
+no-table : (s ls ps : List ℕ) (e : Entry) (x : Sentence) → Entered s ls ps e x → (e .form ≡ 0 → ⊥) → isTable x ≡ false
+no-table s ls ps e (table t cs z) E h = absurd (h (E .form))
+no-table s ls ps e (select cs t q) E h = refl
+no-table s ls ps e (insert t vs) E h = refl
+no-table s ls ps e (update t ss q) E h = refl
+no-table s ls ps e (delete t q) E h = refl
+
+-- ---- the text
+
+-- a condition that holds, and one that does not
+first-is : (n : ℕ) (b : Bool) (k : ℕ) (done : Statement) → b ≡ true → refusedBy (suc n) ≡ settled (orElse b (suc n) k) done
+first-is n b k done h = ap (λ (c : Bool). settled (orElse c (suc n) k) done) (sym h)
+
+passed : (n : ℕ) (b : Bool) (k : ℕ) (done : Statement) → b ≡ false → settled k done ≡ settled (orElse b n k) done
+passed n b k done h = ap (λ (c : Bool). settled (orElse c n k) done) (sym h)
+
+module _ (s : List ℕ) (tables : List Table) (used queries updates cells : ℕ) where
+  abbrev goal : Statement
+  goal = compiledOf s tables used queries updates cells
+
+  -- the same for any reading of it
+  abbrev compiledBy : Option Sentence → Statement
+  compiledBy o =
+      let p = store tables used queries updates cells in
+      settled (lowestOf (drop 1 (addConditions (p .lengths) p s o))) (structOfText (schemas p) o)
+
+  by-reading : compiledBy (sentence s) ≡ goal
+  unfolding compiledOf
+  by-reading = refl
+
+  -- refusal 3
+  pub compiled-long : (r : Statement) → 256 < length s → r ≡ refusedBy 3 → r ≡ goal
+  compiled-long r h q = q ∙ first-is 2 (tooLong s) _ _ (lt-ltb 256 (length s) h) ∙ by-reading
+
+module _ (s ls ps : List ℕ) (e : Entry) (tables : List Table) (used queries updates cells : ℕ) where
+  module _ (short : length s ≤ 256) (N : Noted s ls ps e (sentence s)) where
+    fits-text : tooLong s ≡ false
+    fits-text = le-ltb 256 (length s) short
+
+    -- refusal 4
+    pub compiled-none : (r : Statement) → e .c .ok ≡ false → r ≡ refusedBy 4 → r ≡ goal s tables used queries updates cells
+    compiled-none r h q = q ∙ go (sentence s) N ∙ by-reading s tables used queries updates cells
+      where
+        go : (o : Option Sentence) → Noted s ls ps e o → refusedBy 4 ≡ compiledBy s tables used queries updates cells o
+        go none M = passed 3 (tooLong s) _ _ fits-text
+        go (some x) M = clash (M .ok) h
+
+    module _ (ok : e .c .ok ≡ true) where
+      -- refusal 5
+      pub compiled-over : (r : Statement) → overOn e ≡ true → r ≡ refusedBy 5 → r ≡ goal s tables used queries updates cells
+      compiled-over r h q = q ∙ go (sentence s) N ∙ by-reading s tables used queries updates cells
+        where
+          go : (o : Option Sentence) → Noted s ls ps e o → refusedBy 5 ≡ compiledBy s tables used queries updates cells o
+          go none M = clash ok M
+          go (some x) M = first-is 4 (pastLimit x) _ _ (M .past ∙ h) ∙ passed 3 (tooLong s) _ _ fits-text
+
+      module _ (within : overOn e ≡ false) where
+        pub compiled-fits : Fits s ps e
+        compiled-fits = go (sentence s) N
+          where
+            go : (o : Option Sentence) → Noted s ls ps e o → Fits s ps e
+            go none M = clash ok M
+            go (some x) M = fits-read s ls ps e x M (M .past ∙ within) within
+
+        -- a sentence within the limits
+        decided-is : (x : Sentence) → pastLimit x ≡ false
+            → decided (store tables used queries updates cells) (there tables used queries updates cells) x ≡ compiledBy s tables used queries updates cells (some x)
+        decided-is x w =
+            ap (λ (ts : List Schema). decided (store tables used queries updates cells) ts x) (sym (schemas-are tables used queries updates cells))
+            ∙ passed 5 (pastLimit x) _ _ w
+            ∙ passed 3 (tooLong s) _ _ fits-text
+
+        pub compiled-table : (r : Statement) → e .form ≡ 0 → r ≡ tableOn s ls e (schemasOf tables used) cells → r ≡ goal s tables used queries updates cells
+        compiled-table r h q = q ∙ go (sentence s) N ∙ by-reading s tables used queries updates cells
+          where
+            go : (o : Option Sentence) → Noted s ls ps e o → tableOn s ls e (schemasOf tables used) cells ≡ compiledBy s tables used queries updates cells o
+            go none M = clash ok M
+            go (some x) M =
+                let w : pastLimit x ≡ false = M .past ∙ within in
+                of-table s ls ps e tables used queries updates cells (compiled-fits .listed) x h M w ∙ decided-is x w
+
+        pub compiled-beside : (r : Statement) → (e .form ≡ 0 → ⊥) → r ≡ besideOn s ls ps e (schemasOf tables used) queries updates → r ≡ goal s tables used queries updates cells
+        compiled-beside r h q = q ∙ go (sentence s) N ∙ by-reading s tables used queries updates cells
+          where
+            go : (o : Option Sentence) → Noted s ls ps e o → besideOn s ls ps e (schemasOf tables used) queries updates ≡ compiledBy s tables used queries updates cells o
+            go none M = clash ok M
+            go (some x) M =
+                let w : pastLimit x ≡ false = M .past ∙ within in
+                beside-compiles s ls ps e tables used queries updates cells (compiled-fits .listed) x (no-table s ls ps e x M h) M w (compiled-fits .nodes) ∙ decided-is x w

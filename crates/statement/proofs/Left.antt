@@ -1,0 +1,73 @@
+-- Noted places walked through: what is left of the items of a list and of the nodes of a condition. Assumes nothing.
+use mathlib.Core.Path.{_≡_, refl, sym, ap, ap₂, _∙_}
+use mathlib.Core.List.{List, [], _∷_, map}
+use Prim.Native.Nat.{ℕ, zero, suc, _+_, _-_, _*_, _≤_, _<_}
+use native.Mathlib.Omega.{arith}
+use lib.ListN.{length, getD, drop}
+use lib.Seq.{drop-drop, getD-drop}
+use Rattle.meaning.specs.Postfix.{Node}
+use Rattle.meaning.specs.Grammar.{Term}
+use Rattle.statement.specs.Places.{nodeOn, nodesOn}
+use Rattle.statement.specs.Sentences.{itemsOn}
+
+-- ---- items
+
+module _ {A : Type 0} (f : ℕ → ℕ → A) where
+  pub length-items : (n : ℕ) (ls : List ℕ) → length (itemsOn f n ls) ≡ n
+  length-items zero ls = refl
+  length-items (suc n) ls = ap suc (length-items n (drop 2 ls))
+
+  -- those from the i-th on
+  abbrev pub itemsLeft : ℕ → ℕ → List ℕ → List A
+  itemsLeft n i ls = itemsOn f (n - i) (drop (2 * i) ls)
+
+  pub items-all : (n : ℕ) (ls : List ℕ) → itemsLeft n 0 ls ≡ itemsOn f n ls
+  items-all n ls = let e : n - 0 ≡ n = omega arith in rw e
+
+  pub items-cons : (n i : ℕ) (ls : List ℕ) → i < n → itemsLeft n i ls ≡ f (getD ls (2 * i) 0) (getD ls (2 * i + 1) 0) ∷ itemsLeft n (i + 1) ls
+  items-cons n i ls h =
+      let e : n - i ≡ suc (n - (i + 1)) = omega arith in
+      let z : 2 * i + 0 ≡ 2 * i = omega arith in
+      let t : 2 * i + 2 ≡ 2 * (i + 1) = omega arith in
+      ap (λ (k : ℕ). itemsOn f k (drop (2 * i) ls)) e
+      ∙ ap₂ (λ (x : A) (xs : List ℕ). x ∷ itemsOn f (n - (i + 1)) xs)
+      (ap₂ f (getD-drop (2 * i) ls 0 0 ∙ ap (λ (k : ℕ). getD ls k 0) z) (getD-drop (2 * i) ls 1 0))
+      (drop-drop 2 (2 * i) ls ∙ ap (λ (k : ℕ). drop k ls) t)
+
+  pub items-none : (n i : ℕ) (ls : List ℕ) → n ≤ i → itemsLeft n i ls ≡ []
+  items-none n i ls h = let e : n - i ≡ 0 = omega arith in rw e
+
+pub map-items : {A B : Type 0} (g : A → B) (f : ℕ → ℕ → A) (n : ℕ) (ls : List ℕ) → map g (itemsOn f n ls) ≡ itemsOn (λ a b. g (f a b)) n ls
+map-items g f zero ls = refl
+map-items g f (suc n) ls = ap (λ xs. g (f (getD ls 0 0) (getD ls 1 0)) ∷ xs) (map-items g f n (drop 2 ls))
+
+-- ---- nodes
+
+module _ (s : List ℕ) where
+  pub length-nodes : (n : ℕ) (ps : List ℕ) → length (nodesOn s n ps) ≡ n
+  length-nodes zero ps = refl
+  length-nodes (suc n) ps = ap suc (length-nodes n (drop 3 ps))
+
+  abbrev pub nodesLeft : ℕ → ℕ → List ℕ → List (Node Term)
+  nodesLeft n i ps = nodesOn s (n - i) (drop (3 * i) ps)
+
+  pub nodes-all : (n : ℕ) (ps : List ℕ) → nodesLeft n 0 ps ≡ nodesOn s n ps
+  nodes-all n ps = let e : n - 0 ≡ n = omega arith in rw e
+
+  abbrev pub nodeHere : ℕ → List ℕ → Node Term
+  nodeHere i ps = nodeOn s (getD ps (3 * i) 0) (getD ps (3 * i + 1) 0) (getD ps (3 * i + 2) 0)
+
+  pub nodes-cons : (n i : ℕ) (ps : List ℕ) → i < n → nodesLeft n i ps ≡ nodeHere i ps ∷ nodesLeft n (i + 1) ps
+  nodes-cons n i ps h =
+      let e : n - i ≡ suc (n - (i + 1)) = omega arith in
+      let z : 3 * i + 0 ≡ 3 * i = omega arith in
+      let t : 3 * i + 3 ≡ 3 * (i + 1) = omega arith in
+      let at : (k : ℕ) → getD (drop (3 * i) ps) k 0 ≡ getD ps (3 * i + k) 0 = λ k. getD-drop (3 * i) ps k 0 in
+      ap (λ (k : ℕ). nodesOn s k (drop (3 * i) ps)) e
+      ∙ ap₂ (λ (x : Node Term) (xs : List ℕ). x ∷ nodesOn s (n - (i + 1)) xs)
+      (ap (λ (k : ℕ). nodeOn s k (getD (drop (3 * i) ps) 1 0) (getD (drop (3 * i) ps) 2 0)) (at 0 ∙ ap (λ (k : ℕ). getD ps k 0) z)
+      ∙ ap₂ (nodeOn s (getD ps (3 * i) 0)) (at 1) (at 2))
+      (drop-drop 3 (3 * i) ps ∙ ap (λ (k : ℕ). drop k ps) t)
+
+  pub nodes-none : (n i : ℕ) (ps : List ℕ) → n ≤ i → nodesLeft n i ps ≡ []
+  nodes-none n i ps h = let e : n - i ≡ 0 = omega arith in rw e

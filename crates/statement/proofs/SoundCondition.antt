@@ -1,0 +1,149 @@
+-- A stored condition passes the test exactly if it is that of a WHERE over the table's columns; and what it then means. Assumes nothing.
+use mathlib.Core.Path.{_≡_, sym, ap, _∙_, subst}
+use mathlib.Core.Bool.{true, false, not}
+use mathlib.Core.List.{List, map}
+use Prim.Native.Nat.{ℕ, _*_, _-_, _≤_}
+use native.Mathlib.Omega.{arith}
+use borrow.Author.Tests.{leb-true, le-leb}
+use lib.Dec.{leb, ltb}
+use lib.IntN.{ℤ}
+use lib.ListN.{length}
+use lib.Seq.{length-take-le}
+use Rattle.lists.specs.Lists.{All, any, all, repeats}
+use Rattle.lists.proofs.Bools.{and-left, and-right, and-both}
+use Rattle.lists.proofs.Lists.{All-take, All-map, any-none}
+use Rattle.meaning.specs.Condition as C
+use Rattle.meaning.specs.Condition.{Where, sides, comparisonsIn, operandsIn, depthIn, evalWhere, clausesOf}
+use Rattle.meaning.specs.Postfix.{Node, nodesIn, leaves, isPostfix, truthOf, clausesOfNodes}
+use Rattle.meaning.specs.Resolve.{operandConstants, parameterCount, numberedFrom, columnsBelow}
+use Rattle.meaning.specs.Tokens.{Name}
+use Rattle.meaning.specs.Grammar.{Term}
+use Rattle.meaning.specs.Limits.{most-comparisons, termGivens, termColumns, markCount, isWithin32, outside32}
+use Rattle.meaning.specs.Names.{sameName, has}
+use Rattle.meaning.specs.Statement as M
+use Rattle.meaning.specs.Statement.{resolvedWhere}
+use Rattle.meaning.proofs.Postfix.{sides-in, leaves-in, truth-postfix, clauses-postfix}
+use Rattle.meaning.proofs.Resolve.{Source, where-source, where-passes, outside-constants, resolve-where, resolve-marks, resolve-leaves}
+use Rattle.statement.specs.Sound.{comparisonRead, usedComparisons, usedSteps, conditionNodes, soundCondition, conditionMarks, operatorNumber, stepOf, AgreesCondition, ConditionFits}
+use Rattle.statement.specs.declared.Comparison.{Comparison}
+use Rattle.statement.specs.declared.Condition.{Condition}
+use Rattle.statement.proofs.Stored.{all-map, steps-below, operators-below, read-length, read-steps, read-leaves, read-operators, read-constants, where-count}
+
+-- ---- what a condition that agrees with a WHERE means
+
+module _ (c : Condition) (w : Where M.Operand) (A : AgreesCondition c w) where
+  -- it is true exactly where the WHERE is
+  pub agrees-truth : (v : M.Operand → ℤ) → truthOf v (conditionNodes c) ≡ evalWhere v w
+  agrees-truth v = ap (truthOf v) (A .nodes-are) ∙ truth-postfix v w
+
+  -- and has its clauses, in their order
+  pub agrees-clauses : clausesOfNodes (conditionNodes c) ≡ clausesOf w
+  agrees-clauses = ap clausesOfNodes (A .nodes-are) ∙ clauses-postfix w
+
+-- ---- the test and its parts
+
+pub record Parts (columns m : ℕ) (c : Condition) : Type 0 where
+  pub few : c .count ≤ most-comparisons
+  pub steps : all (λ (s : ℕ). ltb s 3) (usedSteps c) ≡ true
+  pub operators : all (λ (k : Comparison). ltb (k .op) 6) (usedComparisons c) ≡ true
+  pub postfix : isPostfix (conditionNodes c) ≡ true
+  pub below : columnsBelow columns (conditionNodes c) ≡ true
+  pub numbered : numberedFrom m (conditionNodes c) ≡ true
+
+module _ (columns m : ℕ) (c : Condition) where
+  pub condition-parts : soundCondition columns m c ≡ true → Parts columns m c
+  unfolding soundCondition
+  condition-parts h₀ =
+      let h₁ = and-right (leb (c .count) most-comparisons) _ h₀ in
+      let h₂ = and-right (all (λ (s : ℕ). ltb s 3) (usedSteps c)) _ h₁ in
+      let h₃ = and-right (all (λ (k : Comparison). ltb (k .op) 6) (usedComparisons c)) _ h₂ in
+      let h₄ = and-right (isPostfix (conditionNodes c)) _ h₃ in
+      record {
+        few = leb-true (c .count) most-comparisons (and-left (leb (c .count) most-comparisons) _ h₀);
+        steps = and-left (all (λ (s : ℕ). ltb s 3) (usedSteps c)) _ h₁;
+        operators = and-left (all (λ (k : Comparison). ltb (k .op) 6) (usedComparisons c)) _ h₂;
+        postfix = and-left (isPostfix (conditionNodes c)) _ h₃;
+        below = and-left (columnsBelow columns (conditionNodes c)) _ h₄;
+        numbered = and-right (columnsBelow columns (conditionNodes c)) _ h₄;
+      }
+
+  pub parts-condition : Parts columns m c → soundCondition columns m c ≡ true
+  unfolding soundCondition
+  parts-condition P =
+      and-both (leb (c .count) most-comparisons) _ (le-leb (c .count) most-comparisons (P .few))
+      (and-both _ _ (P .steps) (and-both _ _ (P .operators) (and-both _ _ (P .postfix) (and-both _ _ (P .below) (P .numbered)))))
+
+-- ---- a WHERE of which the condition comes
+
+pub record Sourced (columns : List Name) (m : ℕ) (c : Condition) : Type 0 where
+  pub source : Where Term
+  pub agrees : AgreesCondition c (resolvedWhere columns m source)
+  pub known : any (λ (n : Name). not (has columns n)) (termColumns (operandsIn source)) ≡ false
+  pub marks : markCount (termGivens (operandsIn source)) ≡ conditionMarks c
+  pub few : length (comparisonsIn source) ≤ most-comparisons
+  pub shallow : depthIn source ≤ 8
+  pub small : any outside32 (termGivens (operandsIn source)) ≡ false
+
+-- a condition that passes has one
+pub condition-source : (columns : List Name) → repeats sameName columns ≡ false → (m : ℕ) (c : Condition) → ConditionFits c
+    → soundCondition (length columns) m c ≡ true → Sourced columns m c
+unfolding conditionNodes
+condition-source columns different m c F h =
+    let P : Parts (length columns) m c = condition-parts (length columns) m c h in
+    let few : c .count ≤ most-comparisons = P .few in
+    let ns : List (Node M.Operand) = conditionNodes c in
+    let S : Source columns m ns = where-source columns different m ns (P .postfix) (P .below) (P .numbered) in
+    let w : Where M.Operand = resolvedWhere columns m (S .source) in
+    let e : nodesIn w ≡ ns = S .resolves in
+    let steps : length (usedSteps c) ≡ 2 * c .count - 1 = length-take-le (2 * c .count - 1) (c .steps) (omega (arith, F .fifteen)) in
+    let used : length (usedComparisons c) ≡ c .count = length-take-le (c .count) (c .comparisons) (omega (arith, F .eight)) in
+    let all-nodes : length (nodesIn w) ≡ length (usedSteps c) = ap length e ∙ read-length (usedSteps c) (usedComparisons c) in
+    let many : c .count ≡ length (comparisonsIn w) = omega (arith, where-count w) in
+    let leaves-many : length (leaves ns) ≡ length (comparisonsIn w) = ap (λ ms. length (leaves ms)) (sym e) ∙ leaves-in w in
+    let each : leaves ns ≡ map comparisonRead (usedComparisons c) = read-leaves (usedSteps c) (usedComparisons c) (leaves-many ∙ sym many ∙ sym used) in
+    let fit : All (λ z. isWithin32 z ≡ true) (operandConstants (sides (leaves ns))) =
+    subst (λ cs. All (λ z. isWithin32 z ≡ true) (operandConstants (sides cs))) (sym each) (read-constants (All-take (c .count) (F .constants))) in
+    record {
+      source = S .source;
+      agrees = record {
+        count-is = many;
+        steps-are = read-steps (usedSteps c) (usedComparisons c) (P .steps) ∙ ap (map stepOf) (sym e);
+        operators-are = read-operators (usedComparisons c) (P .operators)
+            ∙ ap (map (λ (k : C.Comparison M.Operand). operatorNumber (k .op))) (sym each ∙ ap leaves (sym e));
+        nodes-are = sym e;
+      };
+      known = S .known;
+      marks = S .marks;
+      few = omega (arith, S .size);
+      shallow = S .shallow (omega arith);
+      small = outside-constants (operandsIn (S .source))
+          ∙ ap (any (λ (z : ℤ). not (isWithin32 z))) (S .constants)
+          ∙ any-none (λ (z : ℤ). not (isWithin32 z)) (All-map (λ z k. ap not k) fit);
+    }
+
+module _ (columns : List Name) (m : ℕ) (w : Where Term) (c : Condition) (A : AgreesCondition c (resolvedWhere columns m w)) where
+  -- its question marks are those of the WHERE
+  pub source-marks : conditionMarks c ≡ markCount (termGivens (operandsIn w))
+  source-marks =
+      ap (λ ns. parameterCount (sides (leaves ns))) (A .nodes-are ∙ resolve-where columns m w)
+      ∙ resolve-marks columns m (nodesIn w) ∙ ap (λ os. markCount (termGivens os)) (sides-in w)
+
+  -- and one that comes of a WHERE of known columns and few comparisons passes
+  pub source-condition : any (λ (n : Name). not (has columns n)) (termColumns (operandsIn w)) ≡ false → length (comparisonsIn w) ≤ most-comparisons
+      → soundCondition (length columns) m c ≡ true
+  source-condition known few =
+      let r : Where M.Operand = resolvedWhere columns m w in
+      let passes : (isPostfix (nodesIn r) ≡ true) × (columnsBelow (length columns) (nodesIn r) ≡ true) × (numberedFrom m (nodesIn r) ≡ true) =
+      where-passes columns m w known in
+      let e : nodesIn r ≡ conditionNodes c = sym (A .nodes-are) in
+      let many : length (comparisonsIn r) ≡ length (comparisonsIn w) =
+      sym (leaves-in r) ∙ ap (λ ns. length (leaves ns)) (resolve-where columns m w) ∙ resolve-leaves columns m (nodesIn w) ∙ leaves-in w in
+      parts-condition (length columns) m c (record {
+        few = omega (arith, A .count-is);
+        steps = ap (all (λ (s : ℕ). ltb s 3)) (A .steps-are) ∙ steps-below (nodesIn r);
+        operators = sym (all-map (λ (k : Comparison). k .op) (λ (k : ℕ). ltb k 6) (usedComparisons c))
+            ∙ ap (all (λ (k : ℕ). ltb k 6)) (A .operators-are) ∙ operators-below (leaves (nodesIn r));
+        postfix = ap isPostfix (sym e) ∙ passes .0;
+        below = ap (columnsBelow (length columns)) (sym e) ∙ passes .1;
+        numbered = ap (numberedFrom m) (sym e) ∙ passes .2;
+      })

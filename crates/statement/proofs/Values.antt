@@ -1,0 +1,112 @@
+-- Values, operands and names as they are made of the token at a place. Assumes nothing.
+use mathlib.Core.Path.{_≡_, refl, sym, ap, ap₂, _∙_, subst}
+use mathlib.Core.Logic.{_≢_}
+use mathlib.Core.Bool.{Bool, true, false}
+use mathlib.Core.Option.{Option, none, some}
+use mathlib.Core.List.{List, [], _∷_, map}
+use Prim.Native.Nat.{ℕ, suc, _+_, _-_, _*_, _≤_, _<_, min}
+use native.Mathlib.Decide.{decLe}
+use native.Mathlib.Omega.{arith}
+use lib.ListN.{length, getD, replicate, take, drop, length-take, length-drop}
+use lib.Seq.{take-append-seam, take-take, take-all, drop-drop, getD-drop}
+use Rattle.meaning.specs.Grammar as G
+use Rattle.meaning.specs.Grammar.{Given, Term, nameOf}
+use Rattle.meaning.specs.Names.{position}
+use Rattle.meaning.specs.Statement.{numbered, operandOf}
+use Rattle.token.specs.declared.Token.{Token}
+use Rattle.token.specs.Tokens.{tokenAt}
+use Rattle.token.proofs.Laws.{start-next, next-inside}
+use Rattle.statement.specs.declared.Operand.the-variants.{Column, Constant, Parameter}
+use Rattle.statement.specs.declared.Value.the-variants.{Constant as ConstantValue, Parameter as ParameterValue}
+use Rattle.statement.specs.Places.{tokenOn, nameOn, givenOn, termOn, orEmpty, orGiven}
+use Rattle.statement.specs.Catalog.{nameOfStruct}
+use Rattle.statement.specs.Compiled.{padded, nameStruct, noName, valueStruct, operandStruct}
+use Rattle.statement.specs.Built.{shortName, shortGiven, shortTerm, isConstant, rowsIn, rowsOn}
+use Rattle.statement.proofs.Walks.{rest, rest-cons}
+use Rattle.statement.proofs.Standing.{named-there, unnamed-there, given-there, mark-there, value-there}
+
+module _ (s : List ℕ) (p : ℕ) (r : Token) (e : r ≡ tokenAt s p) where
+  -- ---- a name
+
+  abbrev bytes : Token → List ℕ
+  bytes t = take (t .next - t .start) (drop (t .start) s)
+
+  pub token-order : (r .start ≤ r .next) × (r .next ≤ length s)
+  token-order = rw e (start-next s p, next-inside s p)
+
+  is-name : r .kind ≡ 2 → nameOf (tokenOn s p) ≡ some (bytes r)
+  is-name h = named-there s p (sym (ap (λ (t : Token). t .kind) e) ∙ h) ∙ ap (λ (t : Token). some (bytes t)) (sym e)
+
+  no-name : r .kind ≢ 2 → nameOf (tokenOn s p) ≡ none
+  no-name h = unnamed-there s p (λ k. h (ap (λ (t : Token). t .kind) e ∙ k))
+
+  pub name-there : r .kind ≡ 2 → nameStruct (shortName (bytes r)) ≡ nameStruct (shortName (nameOn s p))
+  name-there h = ap (λ (o : Option (List ℕ)). nameStruct (shortName (orEmpty o))) (sym (is-name h))
+
+  pub nothing-there : r .kind ≢ 2 → noName ≡ nameStruct (shortName (nameOn s p))
+  nothing-there h = ap (λ (o : Option (List ℕ)). nameStruct (shortName (orEmpty o))) (sym (no-name h))
+
+  -- ---- a value
+
+  given-is : isConstant (r .kind) ≡ true → shortGiven (givenOn s p) ≡ G.constant (r .value)
+  given-is h = given-there s p (sym (ap (λ (t : Token). isConstant (t .kind)) e) ∙ h) ∙ ap (λ (t : Token). G.constant (t .value)) (sym e)
+
+  mark-is : isConstant (r .kind) ≡ false → shortGiven (givenOn s p) ≡ G.mark
+  mark-is h = ap shortGiven (mark-there s p (sym (ap (λ (t : Token). isConstant (t .kind)) e) ∙ h))
+
+  pub value-constant : (m : ℕ) → isConstant (r .kind) ≡ true → ConstantValue (r .value) ≡ valueStruct (numbered m (shortGiven (givenOn s p)))
+  value-constant m h = ap (λ (v : Given). valueStruct (numbered m v)) (sym (given-is h))
+
+  pub value-mark : (m : ℕ) → isConstant (r .kind) ≡ false → ParameterValue m ≡ valueStruct (numbered m (shortGiven (givenOn s p)))
+  value-mark m h = ap (λ (v : Given). valueStruct (numbered m v)) (sym (mark-is h))
+
+  pub rows-there : rowsIn (r .value) ≡ rowsOn s p
+  rows-there = ap rowsIn (ap (λ (t : Token). t .value) e ∙ value-there s p)
+
+  -- ---- an operand
+
+  module _ (columns : List (List ℕ)) (m : ℕ) where
+    side : Option (List ℕ) → Term
+    side o = shortTerm (orGiven (givenOn s p) o)
+
+    pub operand-column : r .kind ≡ 2 → Column (position columns (shortName (bytes r))) ≡ operandStruct (operandOf columns m (shortTerm (termOn s p)))
+    unfolding side
+    operand-column h = ap (λ (o : Option (List ℕ)). operandStruct (operandOf columns m (side o))) (sym (is-name h))
+
+    side-given : r .kind ≢ 2 → shortTerm (termOn s p) ≡ G.given (shortGiven (givenOn s p))
+    unfolding side
+    side-given h = ap side (no-name h)
+
+    pub operand-constant : r .kind ≢ 2 → isConstant (r .kind) ≡ true → Constant (r .value) ≡ operandStruct (operandOf columns m (shortTerm (termOn s p)))
+    operand-constant h k = ap (λ (t : Term). operandStruct (operandOf columns m t)) (sym (side-given h ∙ ap G.given (given-is k)))
+
+    pub operand-mark : r .kind ≢ 2 → isConstant (r .kind) ≡ false → Parameter m ≡ operandStruct (operandOf columns m (shortTerm (termOn s p)))
+    operand-mark h k = ap (λ (t : Term). operandStruct (operandOf columns m t)) (sym (side-given h ∙ ap G.given (mark-is k)))
+
+-- ---- the bytes of a name, at most twelve
+
+pub part-length : (s : List ℕ) (start n k : ℕ) → n ≡ min k 12 → start + k ≤ length s → length (take n (drop start s)) ≡ n
+part-length s start n k e h = length-take n (drop start s) ∙ omega (arith, length-drop start s)
+
+pub take-short : (k n : ℕ) (l : List ℕ) → n ≡ min k 12 → take n l ≡ shortName (take k l)
+take-short k n l e = go (decLe k 12)
+  where
+    go : Dec (k ≤ 12) → take n l ≡ shortName (take k l)
+    go (yes h) =
+        let q : n ≡ k = omega arith in
+        rw q (sym (take-all 12 (take k l) (omega (arith, length-take k l))))
+    go (no h) =
+        let q : n ≡ 12 = omega arith in
+        rw q (sym (take-take 12 k l (omega arith)))
+
+pub rest-byte : (s : List ℕ) (start n i : ℕ) → start + n ≤ length s → i < n → rest n i (drop start s) ≡ getD s (start + i) 0 ∷ rest n (i + 1) (drop start s)
+rest-byte s start n i h k =
+    rest-cons n i (drop start s) 0 (omega (arith, length-drop start s)) k
+    ∙ ap (λ (b : ℕ). b ∷ rest n (i + 1) (drop start s)) (getD-drop start s i 0)
+
+pub name-of : (bytes : List ℕ) (n : ℕ) (x : List ℕ) → bytes ≡ padded 12 0 x → n ≡ length x → record { bytes = bytes; len = n } ≡ nameStruct x
+name-of bytes n x e h i = record { bytes = e i; len = h i }
+
+-- a name's struct read back
+pub name-back : (x : List ℕ) → nameOfStruct (nameStruct x) ≡ x
+name-back x = take-append-seam x (replicate (12 - length x) 0)

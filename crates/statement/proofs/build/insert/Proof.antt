@@ -1,0 +1,51 @@
+-- `insert` meets its contract. Assumes nothing.
+use borrow.Author.Needs.{needs}
+use mathlib.Core.Path.{refl}
+use mathlib.Core.List.{[]}
+use Rattle.statement.proofs.Assembled.{insert-made}
+use Rattle.statement.proofs.build.insert.Statement.{statement}
+use Rattle.statement.proofs.build.insert.Tie as tie
+
+cast-n : tie.Need-cast-n
+cast-n c = search needs
+
+settings-at-requires : tie.Need-settings-at-requires
+settings-at-requires c κs = search needs
+
+width-requires : tie.Need-width-requires
+width-requires c κs = search needs
+
+lowest-requires : tie.Need-lowest-requires
+lowest-requires c κs = search needs
+
+cast-t17 : tie.Need-cast-t17
+cast-t17 c = search needs
+
+cast-t18 : tie.Need-cast-t18
+cast-t18 c = search needs
+
+no-condition-requires : tie.Need-no-condition-requires
+no-condition-requires c κs = search needs
+
+changing-requires : tie.Need-changing-requires
+changing-requires c κs = search needs
+
+returns : tie.Need-returns
+returns c =
+    let d = c .before .before .before .before in
+    insert-made _ _ _ _ _ _ _ _ _ _ _ _ (d .before .before .before .settings-at .ensures) refl (c .before .no-condition .ensures) (d .before .width .ensures .0)
+    (d .lowest .ensures) (c .changing .ensures)
+
+pub insert-spec : {M : Type 1} → statement M
+insert-spec =
+    tie.close
+    (tie.spec
+    cast-n
+    settings-at-requires
+    width-requires
+    lowest-requires
+    cast-t17
+    cast-t18
+    no-condition-requires
+    changing-requires
+    returns)

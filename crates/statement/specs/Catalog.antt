@@ -1,0 +1,36 @@
+-- The tables that there are, as the plain store has them: what a text is read beside. Assumes nothing: these are definitions.
+use mathlib.Core.List.{List, [], map}
+use Prim.Native.Nat.{ℕ}
+use lib.ListN.{take, replicate}
+use Rattle.meaning.specs.Names.{Schema}
+use Rattle.meaning.specs.Plain as P
+use Rattle.meaning.specs.Plain.{Plain, noQuery, noUpdate}
+use Rattle.statement.specs.declared.Name.{Name}
+use Rattle.statement.specs.declared.Table.{Table}
+
+-- a name is its first `len` bytes
+abbrev pub nameOfStruct : Name → List ℕ
+nameOfStruct n = take (n .len) (n .bytes)
+
+abbrev pub namesOf : List Name → ℕ → List (List ℕ)
+namesOf names count = map nameOfStruct (take count names)
+
+-- what a table's TABLE text says
+abbrev pub schemaOf : Table → Schema
+schemaOf t = record { name = nameOfStruct (t .name); columns = namesOf (t .columns) (t .count); capacity = t .capacity }
+
+abbrev pub schemasOf : List Table → ℕ → List Schema
+schemasOf tables used = map schemaOf (take used tables)
+
+abbrev pub rowless : Schema → P.Table
+rowless t = record { schema = t; rows = [] }
+
+-- a plain store with the first `used` tables, so many questions and updates, and cells of that length. A text is compiled by the tables' TABLE texts and these
+-- numbers alone.
+abbrev pub catalog : List Table → ℕ → ℕ → ℕ → ℕ → Plain
+catalog tables used queries updates cells = record {
+  lengths = record { cells = cells; memory = 0 };
+  tables = map rowless (schemasOf tables used);
+  queries = replicate queries noQuery;
+  updates = replicate updates noUpdate;
+}

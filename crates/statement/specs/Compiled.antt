@@ -1,0 +1,181 @@
+-- What a text compiles to: the statement of its sentence, in the types of the code, or the number of its refusal. Assumes nothing: these are definitions.
+use mathlib.Core.Bool.{Bool}
+use mathlib.Core.Option.{Option, none, some}
+use mathlib.Core.List.{List, [], _∷_, _++_, map}
+use Prim.Native.Nat.{ℕ, zero, suc, _-_}
+use lib.IntN.{pos}
+use lib.ListN.{length, drop, replicate}
+use Rattle.meaning.specs.Condition as C
+use Rattle.meaning.specs.Condition.{Where, always}
+use Rattle.meaning.specs.Postfix.{Node, leaf, allOf, anyOf, nodesIn, leaves}
+use Rattle.meaning.specs.Grammar.{Sentence, sentence}
+use Rattle.meaning.specs.Names.{Schema}
+use Rattle.meaning.specs.Statement as S
+use Rattle.meaning.specs.Statement.{statementOf}
+use Rattle.meaning.specs.Plain.{Plain, schemas, addConditions, lowestOf}
+use Rattle.token.specs.Tokens.{operatorNumber}
+use Rattle.statement.specs.Catalog.{catalog}
+use Rattle.statement.specs.declared.Name.{Name}
+use Rattle.statement.specs.declared.Table.{Table}
+use Rattle.statement.specs.declared.Operand.{Operand}
+use Rattle.statement.specs.declared.Operand.the-variants.{Column, Constant, Parameter}
+use Rattle.statement.specs.declared.Comparison.{Comparison}
+use Rattle.statement.specs.declared.Condition.{Condition}
+use Rattle.statement.specs.declared.Query.{Query}
+use Rattle.statement.specs.declared.Value.{Value}
+use Rattle.statement.specs.declared.Value.the-variants.{Constant as ConstantValue, Parameter as ParameterValue}
+use Rattle.statement.specs.declared.Setting.{Setting}
+use Rattle.statement.specs.declared.Update.{Update}
+use Rattle.statement.specs.declared.Statement.{Statement}
+
+-- a list in an array of n places: d stands behind it
+abbrev pub padded : {A : Type 0} → ℕ → A → List A → List A
+padded n d xs = xs ++ replicate (n - length xs) d
+
+-- ---- tables
+
+abbrev pub nameStruct : List ℕ → Name
+nameStruct n = record { bytes = padded 12 0 n; len = length n }
+
+abbrev pub noName : Name
+noName = nameStruct []
+
+abbrev pub tableStruct : Schema → Table
+tableStruct t = record {
+  name = nameStruct (t .name);
+  columns = padded 8 noName (map nameStruct (t .columns));
+  count = length (t .columns);
+  capacity = t .capacity;
+  rows = 0;
+}
+
+abbrev pub noTable : Table
+noTable = tableStruct (record { name = []; columns = []; capacity = 0 })
+
+-- ---- conditions
+
+-- question marks are counted from 0
+abbrev pub markPlace : ℕ → ℕ
+markPlace zero = zero
+markPlace (suc k) = k
+
+abbrev pub valueStruct : S.Value → Value
+valueStruct (S.constant z) = ConstantValue z
+valueStruct (S.parameter k) = ParameterValue (markPlace k)
+
+abbrev pub operandStruct : S.Operand → Operand
+operandStruct (S.column i) = Column i
+operandStruct (S.value (S.constant z)) = Constant z
+operandStruct (S.value (S.parameter k)) = Parameter (markPlace k)
+
+abbrev pub comparisonStruct : C.Comparison S.Operand → Comparison
+comparisonStruct c = record { left = operandStruct (c .left); op = operatorNumber (c .op); right = operandStruct (c .right) }
+
+abbrev pub noComparison : Comparison
+noComparison = record { left = Constant (pos 0); op = 0; right = Constant (pos 0) }
+
+abbrev pub stepOf : {A : Type 0} → Node A → ℕ
+stepOf (leaf c) = 0
+stepOf allOf = 1
+stepOf anyOf = 2
+
+abbrev pub conditionStruct : List (Node S.Operand) → Condition
+conditionStruct ns = record {
+  comparisons = padded 8 noComparison (map comparisonStruct (leaves ns));
+  steps = padded 15 0 (map stepOf ns);
+  count = length (leaves ns);
+}
+
+-- ---- questions
+
+abbrev pub queryStruct : S.Query → Query
+queryStruct q = record {
+  table = q .table;
+  selected = padded 8 0 (q .selected);
+  count = length (q .selected);
+  parameters = q .parameters;
+  condition = conditionStruct (nodesIn (q .condition));
+}
+
+abbrev pub noQuery : Query
+noQuery = queryStruct (record { table = 0; selected = []; condition = always; parameters = 0 })
+
+-- ---- updates
+
+abbrev pub settingStruct : ℕ × S.Value → Setting
+settingStruct s = record { column = s .0; value = valueStruct (s .1) }
+
+abbrev pub noSetting : Setting
+noSetting = record { column = 0; value = ConstantValue (pos 0) }
+
+-- the values of an INSERT, each with its place
+abbrev pub placedFrom : ℕ → List S.Value → List (ℕ × S.Value)
+placedFrom i [] = []
+placedFrom i (v ∷ vs) = (i, v) ∷ placedFrom (suc i) vs
+
+abbrev pub formOfChange : S.Change → ℕ
+formOfChange (S.insert vs) = 0
+formOfChange (S.update ss w) = 1
+formOfChange (S.delete w) = 2
+
+abbrev pub settingsOfChange : S.Change → List (ℕ × S.Value)
+settingsOfChange (S.insert vs) = placedFrom 0 vs
+settingsOfChange (S.update ss w) = ss
+settingsOfChange (S.delete w) = []
+
+abbrev pub whereOfChange : S.Change → Where S.Operand
+whereOfChange (S.insert vs) = always
+whereOfChange (S.update ss w) = w
+whereOfChange (S.delete w) = w
+
+abbrev pub updateStruct : S.Update → Update
+updateStruct u = record {
+  form = formOfChange (u .change);
+  table = u .table;
+  settings = padded 8 noSetting (map settingStruct (settingsOfChange (u .change)));
+  count = length (settingsOfChange (u .change));
+  parameters = u .parameters;
+  condition = conditionStruct (nodesIn (whereOfChange (u .change)));
+}
+
+abbrev pub noUpdate : Update
+noUpdate = updateStruct (record { table = 0; change = S.insert []; parameters = 0 })
+
+-- ---- statements: 1 a table, 2 a question, 3 an update
+
+abbrev pub created : Table → Statement
+created t = record { refusal = 0; kind = 1; table = t; query = noQuery; update = noUpdate }
+
+abbrev pub asked : Query → Statement
+asked q = record { refusal = 0; kind = 2; table = noTable; query = q; update = noUpdate }
+
+abbrev pub changing : Update → Statement
+changing u = record { refusal = 0; kind = 3; table = noTable; query = noQuery; update = u }
+
+abbrev pub refusedBy : ℕ → Statement
+refusedBy n = record { refusal = n; kind = 0; table = noTable; query = noQuery; update = noUpdate }
+
+unfoldable pub structOf : S.Statement → Statement
+structOf (S.creates t) = created (tableStruct t)
+structOf (S.asks q) = asked (queryStruct q)
+structOf (S.changes u) = changing (updateStruct u)
+
+-- ---- texts
+
+-- all conditions of an added text but the first, which is about the lengths lent
+abbrev pub textConditions : Plain → List ℕ → List (ℕ × Bool)
+textConditions p text = drop 1 (addConditions (p .lengths) p text (sentence text))
+
+abbrev pub structOfText : List Schema → Option Sentence → Statement
+structOfText ts none = refusedBy 0
+structOfText ts (some s) = structOf (statementOf ts s)
+
+-- the statement, or the number of the refusal if there is one
+abbrev pub settled : ℕ → Statement → Statement
+settled zero done = done
+settled (suc n) done = refusedBy (suc n)
+
+unfoldable pub compiledOf : List ℕ → List Table → ℕ → ℕ → ℕ → ℕ → Statement
+compiledOf text tables used queries updates cells =
+    let p : Plain = catalog tables used queries updates cells in
+    settled (lowestOf (textConditions p text)) (structOfText (schemas p) (sentence text))

@@ -1,0 +1,262 @@
+-- What the readers of the five forms have found, as against what the grammar's readers find: their contracts. A reader takes a cursor that may have
+-- failed already, and then fails too, so that a form is read by a row of calls. Assumes nothing: these are definitions.
+use mathlib.Core.Path.{_≡_}
+use mathlib.Core.Bool.{Bool, true, false, not, _&&_, _||_, cond}
+use mathlib.Core.Option.{Option, none, some}
+use mathlib.Core.List.{List, [], _∷_, _++_, map}
+use Prim.Native.Nat.{ℕ, zero, suc, _+_, _-_, _*_, _≤_, _<_}
+use lib.Dec.{leb, ltb, eqb}
+use lib.IntN.{ℤ, pos}
+use lib.ListN.{length, drop, getD, set}
+use lib.Signed.{leZ, ltZ}
+use Rattle.lists.specs.Lists.{any}
+use Rattle.meaning.specs.Condition.{Where, always, under, operandsIn}
+use Rattle.meaning.specs.Postfix.{nodesIn}
+use Rattle.meaning.specs.Tokens as T
+use Rattle.meaning.specs.Tokens.{Name, Token, tokens}
+use Rattle.meaning.specs.Grammar.{Given, Term, items, Sentence, table, select, insert, update, delete, Reader, expect, constantOf, aToken, aName, aGiven, aSetting, aList, aWhere, aDelete, aSentence}
+use Rattle.meaning.specs.Limits.{most-name, most-rows, most-items, tableNamed, whereOf, termGivens, markCount, givens, outside32, pastLimit}
+use Rattle.token.specs.Tokens.{kindOf}
+use Rattle.statement.specs.Places.{tokenOn, nameOn, givenOn, nodesOn}
+use Rattle.statement.specs.Reading.{Stands, conditionPast}
+use Rattle.statement.specs.declared.conditions.Cursor.{Cursor}
+use Rattle.statement.specs.declared.sentences.Placed.{Placed}
+use Rattle.statement.specs.declared.sentences.Listing.{Listing}
+use Rattle.statement.specs.declared.sentences.Entry.{Entry}
+
+-- ---- what is noted of a list: two numbers an item, the place of its name and that of its value
+
+abbrev pub itemsOn : {A : Type 0} → (ℕ → ℕ → A) → ℕ → List ℕ → List A
+itemsOn f zero xs = []
+itemsOn f (suc n) xs = f (getD xs 0 0) (getD xs 1 0) ∷ itemsOn f n (drop 2 xs)
+
+abbrev pub namesOn : List ℕ → ℕ → List ℕ → List Name
+namesOn s = itemsOn (λ a b. nameOn s a)
+
+abbrev pub givensOn : List ℕ → ℕ → List ℕ → List Given
+givensOn s = itemsOn (λ a b. givenOn s b)
+
+-- ---- a reader in the code beside one of the grammar
+
+-- what a reader asks of the cursor that it is given
+pub record Ready (s : List ℕ) (c : Cursor) : Type 0 where
+  pub short : length s ≤ 256
+  pub stands : c .ok ≡ true → Stands s c
+
+-- r stands before the tokens `more`
+pub record Before (s : List ℕ) (r : Cursor) (more : List Token) : Type 0 where
+  pub ok : r .ok ≡ true
+  pub stands : Stands s r
+  pub left : tokens (drop (r .at) s) ≡ more
+
+-- r is where the grammar's reader ends, and Q holds of what it finds
+abbrev pub Takes : {A : Type 0} → List ℕ → Cursor → (A → Type 0) → Option (A × List Token) → Type 0
+Takes s r Q none = r .ok ≡ false
+Takes s r Q (some x) = Before s r (x .1) × Q (x .0)
+
+-- a reader was given c and gave r: it fails where c had failed, and else takes what the grammar's reader finds from there on
+pub record After {A : Type 0} (s : List ℕ) (reader : Reader A) (Q : A → Type 0) (c r : Cursor) : Type 0 where
+  pub fails : c .ok ≡ false → r .ok ≡ false
+  pub takes : c .ok ≡ true → Takes s r Q (reader (tokens (drop (c .at) s)))
+
+-- from c to r: whether a limit was passed, and how many question marks there were; no node is counted
+pub record Counts (c r : Cursor) (past : Bool) (marks : ℕ) : Type 0 where
+  pub moved : c .at < r .at
+  pub over : r .over ≡ (c .over || past)
+  pub marks-are : r .marks ≡ c .marks + marks
+  pub nodes-are : r .nodes ≡ c .nodes
+
+-- ---- tokens
+
+-- the token t
+abbrev pub ExpectsToken : List ℕ → Token → Cursor → Cursor → Type 0
+ExpectsToken s t c r = After s (expect t) (λ u. Counts c r false 0) c r
+
+-- the token that the kind k tells
+abbrev pub Expects : List ℕ → ℕ → Cursor → Cursor → Type 0
+Expects s k c r = (t : Token) → kindOf t ≡ k → ExpectsToken s t c r
+
+abbrev pub isLongName : Name → Bool
+isLongName n = ltb most-name (length n)
+
+abbrev pub Names : List ℕ → Cursor → Placed → Type 0
+Names s c r = After s aName (λ n. Counts c (r .c) (isLongName n) 0 × (nameOn s (r .place) ≡ n)) c (r .c)
+
+abbrev pub Gives : List ℕ → Cursor → Placed → Type 0
+Gives s c r = After s aGiven (λ v. Counts c (r .c) (outside32 v) (markCount (v ∷ [])) × (givenOn s (r .place) ≡ v)) c (r .c)
+
+-- ROWS is 1 to 512
+abbrev pub outsideRows : ℤ → Bool
+outsideRows z = not (leZ (pos 1) z && leZ z (pos most-rows))
+
+abbrev pub CountsRows : List ℕ → Cursor → Placed → Type 0
+CountsRows s c r = After s (aToken constantOf) (λ z. Counts c (r .c) (outsideRows z) 0 × (tokenOn s (r .place) ≡ T.constant z)) c (r .c)
+
+abbrev pub isBetween : ℕ → ℕ → ℕ → Bool
+isBetween k low high = leb low k && leb k high
+
+-- by the numbers of its token
+abbrev pub isRowsPast : ℕ → ℤ → Bool
+isRowsPast k z = eqb k 4 || (ltZ z (pos 1) || ltZ (pos most-rows) z)
+
+-- ---- lists: of names, of values, of settings
+
+pub data Kind : Type 0 where
+  names values settings : Kind
+
+abbrev pub Content : Kind → Type 0
+Content names = Name
+Content values = Given
+Content settings = Name × Given
+
+abbrev pub itemReader : (k : Kind) → Reader (Content k)
+itemReader names = aName
+itemReader values = aGiven
+itemReader settings = aSetting
+
+abbrev pub itemOn : (k : Kind) → List ℕ → ℕ → ℕ → Content k
+itemOn names s a b = nameOn s a
+itemOn values s a b = givenOn s b
+itemOn settings s a b = (nameOn s a, givenOn s b)
+
+-- the columns and the values of some items
+abbrev pub columnsIn : (k : Kind) → List (Content k) → List Name
+columnsIn names xs = xs
+columnsIn values xs = []
+columnsIn settings xs = map (λ (x : Name × Given). x .0) xs
+
+abbrev pub valuesIn : (k : Kind) → List (Content k) → List Given
+valuesIn names xs = []
+valuesIn values xs = xs
+valuesIn settings xs = map (λ (x : Name × Given). x .1) xs
+
+abbrev pub listPast : List Name → List Given → Bool
+listPast cs vs = any isLongName cs || any outside32 vs
+
+-- the kinds by their numbers
+abbrev pub kindAt : ℕ → Kind
+kindAt n = cond (eqb n 0) names (cond (eqb n 1) values settings)
+
+-- an item at the end, by the places of its name and its value: noted if it is one of the first eight, for which there is room
+pub record PutsItem (xs : List ℕ) (n a b : ℕ) (ys : List ℕ) : Type 0 where
+  pub size : length xs ≡ 2 * most-items
+  pub noted : n < most-items → ys ≡ set (set xs (2 * n) a) (2 * n + 1) b
+
+-- what a list asks that is read on after l items
+pub record Within (s : List ℕ) (c : Cursor) (l : ℕ) : Type 0 where
+  pub ready : Ready s c
+  pub small : l ≤ 256
+  pub few : c .ok ≡ true → l ≤ c .at
+
+-- the items `found` were read from c on, up to r, after l others: counted, and noted if there was room
+pub record Holds (k : Kind) (s xs : List ℕ) (c : Cursor) (l : ℕ) (ys : List ℕ) (r : Listing) (found : List (Content k)) : Type 0 where
+  pub counts : Counts c (r .c) (listPast (columnsIn k found) (valuesIn k found)) (markCount (valuesIn k found))
+  pub listed-are : r .listed ≡ l + length found
+  pub noted : r .listed ≤ most-items → itemsOn (itemOn k s) (r .listed) ys ≡ itemsOn (itemOn k s) l xs ++ found
+
+abbrev pub ReadsItem : Kind → List ℕ → List ℕ → Cursor → ℕ → List ℕ → Listing → Type 0
+ReadsItem k s xs c l ys r = After s (itemReader k) (λ x. Holds k s xs c l ys r (x ∷ [])) c (r .c)
+
+abbrev pub ReadsList : Kind → List ℕ → List ℕ → Cursor → ℕ → List ℕ → Listing → Type 0
+ReadsList k s xs c l ys r = (n : ℕ) → length s - c .at < n → After s (aList (itemReader k) n) (λ x. Holds k s xs c l ys r (items x)) c (r .c)
+
+-- ---- WHERE
+
+abbrev pub wherePast : Where Term → Bool
+wherePast always = false
+wherePast (under t) = conditionPast 0 t
+
+pub record Filters (s : List ℕ) (c : Cursor) (xs : List ℕ) (r : Cursor) (ys : List ℕ) (w : Where Term) : Type 0 where
+  pub over : r .over ≡ (c .over || wherePast w)
+  pub marks-are : r .marks ≡ c .marks + markCount (termGivens (operandsIn w))
+  pub nodes-are : r .nodes ≡ c .nodes + length (nodesIn w)
+  pub noted : r .nodes ≤ 15 → nodesOn s (r .nodes) ys ≡ nodesOn s (c .nodes) xs ++ nodesIn w
+
+-- calls enough for the text s
+abbrev pub calls : List ℕ → ℕ
+calls s = 3 * length s + 3
+
+abbrev pub ReadsWhere : List ℕ → Cursor → List ℕ → Cursor → List ℕ → Type 0
+ReadsWhere s c xs r ys = (n : ℕ) → calls s ≤ n → After s (aWhere n) (Filters s c xs r ys) c r
+
+-- ---- sentences
+
+-- the numbers of the forms
+abbrev pub formOf : Sentence → ℕ
+formOf (table t cs z) = 0
+formOf (select cs t w) = 1
+formOf (insert t vs) = 2
+formOf (update t ss w) = 3
+formOf (delete t w) = 4
+
+-- how many items the list has
+abbrev pub listLength : Sentence → ℕ
+listLength (table t cs z) = length (items cs)
+listLength (select cs t w) = length (items cs)
+listLength (insert t vs) = length (items vs)
+listLength (update t ss w) = length (items ss)
+listLength (delete t w) = 0
+
+-- a TABLE's ROWS stands at p
+abbrev pub RowsAt : List ℕ → ℕ → Sentence → Type 0
+RowsAt s p (table t cs z) = tokenOn s p ≡ T.constant z
+RowsAt s p (select cs t w) = Unit {0}
+RowsAt s p (insert t vs) = Unit {0}
+RowsAt s p (update t ss w) = Unit {0}
+RowsAt s p (delete t w) = Unit {0}
+
+-- the first n items that are noted name the columns of the list, in the forms that name columns
+abbrev pub NamesAt : List ℕ → ℕ → List ℕ → Sentence → Type 0
+NamesAt s n ls (table t cs z) = n ≤ most-items → namesOn s n ls ≡ items cs
+NamesAt s n ls (select cs t w) = n ≤ most-items → namesOn s n ls ≡ items cs
+NamesAt s n ls (insert t vs) = Unit {0}
+NamesAt s n ls (update t ss w) = n ≤ most-items → namesOn s n ls ≡ map (λ (x : Name × Given). x .0) (items ss)
+NamesAt s n ls (delete t w) = Unit {0}
+
+-- they give the values of the list, in the forms that give values
+abbrev pub GivensAt : List ℕ → ℕ → List ℕ → Sentence → Type 0
+GivensAt s n ls (table t cs z) = Unit {0}
+GivensAt s n ls (select cs t w) = Unit {0}
+GivensAt s n ls (insert t vs) = n ≤ most-items → givensOn s n ls ≡ items vs
+GivensAt s n ls (update t ss w) = n ≤ most-items → givensOn s n ls ≡ map (λ (x : Name × Given). x .1) (items ss)
+GivensAt s n ls (delete t w) = Unit {0}
+
+-- the sentence x was read: counted, and noted in the arrays ls and ps where there was room
+pub record Entered (s ls ps : List ℕ) (r : Entry) (x : Sentence) : Type 0 where
+  pub ok : r .c .ok ≡ true
+  pub form : r .form ≡ formOf x
+  pub past : pastLimit x ≡ (r .c .over || (ltb 8 (r .listed) || (ltb 8 (r .c .marks) || ltb 15 (r .c .nodes))))
+  pub table : nameOn s (r .table) ≡ tableNamed x
+  pub rows : RowsAt s (r .rows) x
+  pub listed-are : r .listed ≡ listLength x
+  pub marks-are : r .c .marks ≡ markCount (givens x)
+  pub nodes-are : r .c .nodes ≡ length (nodesIn (whereOf x))
+  pub noted : r .c .nodes ≤ 15 → nodesOn s (r .c .nodes) ps ≡ nodesIn (whereOf x)
+  pub names : NamesAt s (r .listed) ls x
+  pub givens : GivensAt s (r .listed) ls x
+
+-- r is what the text says, if it is a sentence
+abbrev pub Noted : List ℕ → List ℕ → List ℕ → Entry → Option Sentence → Type 0
+Noted s ls ps r none = r .c .ok ≡ false
+Noted s ls ps r (some x) = Entered s ls ps r x
+
+-- what a form asks, after its first word: nothing was counted yet
+pub record Starts (s : List ℕ) (c : Cursor) : Type 0 where
+  pub ok : c .ok ≡ true
+  pub stands : Stands s c
+  pub over : c .over ≡ false
+  pub nodes : c .nodes ≡ 0
+  pub marks : c .marks ≡ 0
+
+abbrev pub ReadsForm : (ℕ → Reader Sentence) → List ℕ → Cursor → List ℕ → List ℕ → Entry → Type 0
+ReadsForm reader s c ls ps r = (n : ℕ) → calls s ≤ n → Takes s (r .c) (Entered s ls ps r) (reader n (tokens (drop (c .at) s)))
+
+-- TABLE and INSERT note no condition, and DELETE no list: what stands in the other array does not matter
+abbrev pub Lists : (ℕ → Reader Sentence) → List ℕ → Cursor → List ℕ → Entry → Type 0
+Lists reader s c ls r = (ps : List ℕ) → ReadsForm reader s c ls ps r
+
+abbrev pub Deletes : List ℕ → Cursor → List ℕ → Entry → Type 0
+Deletes s c ps r = (ls : List ℕ) → ReadsForm aDelete s c ls ps r
+
+abbrev pub ReadsAny : List ℕ → List ℕ → List ℕ → Entry → Type 0
+ReadsAny s ls ps r = (n : ℕ) → calls s ≤ n → Takes s (r .c) (Entered s ls ps r) (aSentence n (tokens s))

@@ -1,0 +1,305 @@
+-- What a stored table or statement may be: document 01, "The store and its calls" ("its tables and statements are such as refusals 4 to 8 let pass beside the
+-- rest"). How its used entries are read, the tests of it, and what it is to be the compiled form of a sentence: proofs/SoundQuery, SoundUpdate and SoundTable
+-- show that the tests hold of those forms alone. Entries past the counts do not matter. Assumes nothing: these are definitions.
+use mathlib.Core.Path.{_≡_}
+use mathlib.Core.Bool.{Bool, true, false, not, _&&_}
+use mathlib.Core.List.{List, [], _∷_, _++_, map}
+use Prim.Native.Nat.{ℕ, zero, suc, _+_, _*_, _-_, _≤_}
+use lib.Dec.{eqb, leb, ltb}
+use lib.IntN.{pos}
+use lib.ListN.{length, getD, take}
+use Rattle.lists.specs.Lists.{All, all, repeats, from}
+use Rattle.lists.specs.Tests.{eqList}
+use Rattle.meaning.specs.Operator.{Operator, eq, ne, lt, le, gt, ge}
+use Rattle.meaning.specs.Condition as C
+use Rattle.meaning.specs.Condition.{Where, always, sides, comparisonsIn}
+use Rattle.meaning.specs.Postfix.{Node, leaf, allOf, anyOf, nodesIn, leaves, isPostfix}
+use Rattle.meaning.specs.Resolve.{parameterCount, numberedOn, numberedFrom, columnsBelow}
+use Rattle.meaning.specs.Tokens.{isName}
+use Rattle.meaning.specs.Grammar.{Sentence}
+use Rattle.meaning.specs.Limits.{most-items, most-rows, most-marks, most-comparisons, most-name, tableNamed, columnsNamed, isWithin32, pastLimit}
+use Rattle.meaning.specs.Names.{Schema, noSchema, sameName, has, tableNames, unknown, taken, miscounted}
+use Rattle.meaning.specs.Statement as M
+use Rattle.meaning.specs.Statement.{column, value, constant, parameter, insert, delete, update, creates, asks, changes, statementOf}
+use Rattle.statement.specs.Places.{operatorAt}
+use Rattle.statement.specs.Catalog.{nameOfStruct, schemaOf}
+use Rattle.statement.specs.declared.Name.{Name}
+use Rattle.statement.specs.declared.Table.{Table}
+use Rattle.statement.specs.declared.Operand.{Operand}
+use Rattle.statement.specs.declared.Operand.the-variants.{Column, Constant, Parameter}
+use Rattle.statement.specs.declared.Comparison.{Comparison}
+use Rattle.statement.specs.declared.Condition.{Condition}
+use Rattle.statement.specs.declared.Query.{Query}
+use Rattle.statement.specs.declared.Value.{Value}
+use Rattle.statement.specs.declared.Value.the-variants as Given
+use Rattle.statement.specs.declared.Setting.{Setting}
+use Rattle.statement.specs.declared.Update.{Update}
+
+-- ---- reading the used entries
+
+abbrev pub usedColumns : Table → List Name
+usedColumns t = take (t .count) (t .columns)
+
+-- parameters are counted from 0; document 01 numbers question marks from 1
+abbrev pub valueRead : Value → M.Value
+valueRead (Given.Constant z) = constant z
+valueRead (Given.Parameter k) = parameter (suc k)
+
+abbrev pub operandRead : Operand → M.Operand
+operandRead (Column i) = column i
+operandRead (Constant z) = value (constant z)
+operandRead (Parameter k) = value (parameter (suc k))
+
+abbrev pub comparisonRead : Comparison → C.Comparison M.Operand
+comparisonRead c = record { left = operandRead (c .left); op = operatorAt (c .op); right = operandRead (c .right) }
+
+abbrev pub noComparison : C.Comparison M.Operand
+noComparison = record { left = value (constant (pos 0)); op = eq; right = value (constant (pos 0)) }
+
+-- steps and the comparisons that they take: 0 the next comparison, 1 AND, 2 OR
+abbrev pub nodesRead : List ℕ → List Comparison → List (Node M.Operand)
+nodesRead [] cs = []
+nodesRead (zero ∷ ss) [] = leaf noComparison ∷ nodesRead ss []
+nodesRead (zero ∷ ss) (c ∷ cs) = leaf (comparisonRead c) ∷ nodesRead ss cs
+nodesRead (suc zero ∷ ss) cs = allOf ∷ nodesRead ss cs
+nodesRead (suc (suc k) ∷ ss) cs = anyOf ∷ nodesRead ss cs
+
+-- the first `count` comparisons, and 2 * count - 1 steps, none for no comparison
+abbrev pub usedComparisons : Condition → List Comparison
+usedComparisons c = take (c .count) (c .comparisons)
+
+abbrev pub usedSteps : Condition → List ℕ
+usedSteps c = take (2 * c .count - 1) (c .steps)
+
+unfoldable pub conditionNodes : Condition → List (Node M.Operand)
+conditionNodes c = nodesRead (usedSteps c) (usedComparisons c)
+
+abbrev pub usedSettings : Update → List Setting
+usedSettings u = take (u .count) (u .settings)
+
+abbrev pub settingRead : Setting → ℕ × M.Value
+settingRead s = (s .column, valueRead (s .value))
+
+abbrev pub settingsRead : Update → List (ℕ × M.Value)
+settingsRead u = map settingRead (usedSettings u)
+
+-- the columns set, and what VALUES or SET give, as operands
+abbrev pub settingColumns : Update → List ℕ
+settingColumns u = map (λ (s : ℕ × M.Value). s .0) (settingsRead u)
+
+abbrev pub settingValues : Update → List M.Value
+settingValues u = map (λ (s : ℕ × M.Value). s .1) (settingsRead u)
+
+abbrev pub settingOperands : Update → List M.Operand
+settingOperands u = map value (settingValues u)
+
+-- ---- tests
+
+-- 1 to 12 bytes that are a name
+abbrev pub soundName : Name → Bool
+soundName n = leb (n .len) most-name && isName (nameOfStruct n)
+
+-- a table beside others: refusals 5 and 7
+unfoldable pub soundTable : List Schema → Table → Bool
+soundTable others t =
+    leb 1 (t .count)
+    && (leb (t .count) most-items
+    && (soundName (t .name)
+    && (all soundName (usedColumns t)
+    && (not (repeats sameName (map nameOfStruct (usedColumns t)))
+    && (not (has (tableNames others) (nameOfStruct (t .name)))
+    && (leb 1 (t .capacity) && leb (t .capacity) most-rows))))))
+
+-- tables, each beside those before it: then each is sound beside all others (proofs/SoundTables)
+abbrev pub soundTables : List Schema → List Table → Bool
+soundTables before [] = true
+soundTables before (t ∷ ts) = soundTable before t && soundTables (before ++ (schemaOf t ∷ [])) ts
+
+-- a condition over a table of so many columns, where m question marks stand before
+unfoldable pub soundCondition : ℕ → ℕ → Condition → Bool
+soundCondition columns m c =
+    leb (c .count) most-comparisons
+    && (all (λ (s : ℕ). ltb s 3) (usedSteps c)
+    && (all (λ (k : Comparison). ltb (k .op) 6) (usedComparisons c)
+    && (isPostfix (conditionNodes c)
+    && (columnsBelow columns (conditionNodes c) && numberedFrom m (conditionNodes c)))))
+
+-- its question marks
+abbrev pub conditionMarks : Condition → ℕ
+conditionMarks c = parameterCount (sides (leaves (conditionNodes c)))
+
+abbrev pub columnsAt : List Schema → ℕ → ℕ
+columnsAt ts i = length (getD ts i noSchema .columns)
+
+-- a question beside the tables that there are
+unfoldable pub soundQuery : List Schema → Query → Bool
+soundQuery ts q =
+    ltb (q .table) (length ts)
+    && (leb 1 (q .count)
+    && (leb (q .count) most-items
+    && (all (λ (i : ℕ). ltb i (columnsAt ts (q .table))) (take (q .count) (q .selected))
+    && (soundCondition (columnsAt ts (q .table)) 0 (q .condition)
+    && (eqb (q .parameters) (conditionMarks (q .condition)) && leb (q .parameters) most-marks)))))
+
+-- the settings of an INSERT, an UPDATE or a DELETE of a table of so many columns
+abbrev pub soundForm : ℕ → ℕ → Update → Bool
+soundForm zero columns u =
+    eqb (u .count) columns && (eqList eqb (settingColumns u) (from 0 (u .count)) && eqb (u .condition .count) 0)
+soundForm (suc zero) columns u =
+    leb 1 (u .count)
+    && (leb (u .count) most-items && (all (λ (i : ℕ). ltb i columns) (settingColumns u) && not (repeats eqb (settingColumns u))))
+soundForm (suc (suc zero)) columns u = eqb (u .count) 0
+soundForm (suc (suc (suc k))) columns u = false
+
+-- an update beside the tables that there are: question marks of VALUES or SET stand before those of the condition
+unfoldable pub soundUpdate : List Schema → Update → Bool
+soundUpdate ts u =
+    ltb (u .table) (length ts)
+    && (soundForm (u .form) (columnsAt ts (u .table)) u
+    && (numberedOn 0 (settingOperands u)
+    && (soundCondition (columnsAt ts (u .table)) (parameterCount (settingOperands u)) (u .condition)
+    && (eqb (u .parameters) (parameterCount (settingOperands u) + conditionMarks (u .condition)) && leb (u .parameters) most-marks))))
+
+-- ---- the compiled form of a sentence
+
+-- a sentence that refusals 4 to 8 let pass beside the tables; of 4, that its names are names
+pub record Passes (ts : List Schema) (s : Sentence) : Type 0 where
+  pub named : all isName (tableNamed s ∷ columnsNamed s) ≡ true
+  pub within : pastLimit s ≡ false
+  pub known : unknown ts s ≡ false
+  pub fresh : taken ts s ≡ false
+  pub counted : miscounted ts s ≡ false
+
+abbrev pub operatorNumber : Operator → ℕ
+operatorNumber eq = 0
+operatorNumber ne = 1
+operatorNumber lt = 2
+operatorNumber le = 3
+operatorNumber gt = 4
+operatorNumber ge = 5
+
+abbrev pub stepOf : {O : Type 0} → Node O → ℕ
+stepOf (leaf c) = 0
+stepOf allOf = 1
+stepOf anyOf = 2
+
+-- the stored condition is that WHERE in every used entry
+pub record AgreesCondition (c : Condition) (w : Where M.Operand) : Type 0 where
+  pub count-is : c .count ≡ length (comparisonsIn w)
+  pub steps-are : usedSteps c ≡ map stepOf (nodesIn w)
+  pub operators-are : map (λ (k : Comparison). k .op) (usedComparisons c) ≡ map (λ (k : C.Comparison M.Operand). operatorNumber (k .op)) (leaves (nodesIn w))
+  pub nodes-are : conditionNodes c ≡ nodesIn w
+
+pub record AgreesQuery (q : Query) (r : M.Query) : Type 0 where
+  pub table-is : q .table ≡ r .table
+  pub count-is : q .count ≡ length (r .selected)
+  pub selected-are : take (q .count) (q .selected) ≡ r .selected
+  pub parameters-are : q .parameters ≡ r .parameters
+  pub condition-is : AgreesCondition (q .condition) (r .condition)
+
+-- what a change sets, each value of an INSERT at its own place; its WHERE; its form's number
+abbrev pub placedFrom : ℕ → List M.Value → List (ℕ × M.Value)
+placedFrom i [] = []
+placedFrom i (v ∷ vs) = (i, v) ∷ placedFrom (suc i) vs
+
+abbrev pub settingsOfChange : M.Change → List (ℕ × M.Value)
+settingsOfChange (insert vs) = placedFrom 0 vs
+settingsOfChange (delete w) = []
+settingsOfChange (update ss w) = ss
+
+abbrev pub whereOfChange : M.Change → Where M.Operand
+whereOfChange (insert vs) = always
+whereOfChange (delete w) = w
+whereOfChange (update ss w) = w
+
+abbrev pub formOfChange : M.Change → ℕ
+formOfChange (insert vs) = 0
+formOfChange (update ss w) = 1
+formOfChange (delete w) = 2
+
+pub record AgreesUpdate (u : Update) (r : M.Update) : Type 0 where
+  pub form-is : u .form ≡ formOfChange (r .change)
+  pub table-is : u .table ≡ r .table
+  pub count-is : u .count ≡ length (settingsOfChange (r .change))
+  pub settings-are : settingsRead u ≡ settingsOfChange (r .change)
+  pub parameters-are : u .parameters ≡ r .parameters
+  pub condition-is : AgreesCondition (u .condition) (whereOfChange (r .change))
+
+pub record AgreesTable (t : Table) (r : Schema) : Type 0 where
+  pub name-length : t .name .len ≡ length (r .name)
+  pub name-is : nameOfStruct (t .name) ≡ r .name
+  pub count-is : t .count ≡ length (r .columns)
+  pub column-lengths : map (λ (n : Name). n .len) (usedColumns t) ≡ map length (r .columns)
+  pub columns-are : map nameOfStruct (usedColumns t) ≡ r .columns
+  pub capacity-is : t .capacity ≡ r .capacity
+
+-- a sentence that passes, and its statement, of which the struct is the compiled form
+pub record FromQuery (ts : List Schema) (q : Query) : Type 0 where
+  pub sentence : Sentence
+  pub passes : Passes ts sentence
+  pub statement : M.Query
+  pub says : statementOf ts sentence ≡ asks statement
+  pub agrees : AgreesQuery q statement
+
+pub record FromUpdate (ts : List Schema) (u : Update) : Type 0 where
+  pub sentence : Sentence
+  pub passes : Passes ts sentence
+  pub statement : M.Update
+  pub says : statementOf ts sentence ≡ changes statement
+  pub agrees : AgreesUpdate u statement
+
+pub record FromTable (others : List Schema) (t : Table) : Type 0 where
+  pub sentence : Sentence
+  pub passes : Passes others sentence
+  pub schema : Schema
+  pub says : statementOf others sentence ≡ creates schema
+  pub agrees : AgreesTable t schema
+
+-- ---- what is given besides
+
+-- the tables that there are: different names, and each within the limits
+pub record TableFits (t : Schema) : Type 0 where
+  pub some-columns : 1 ≤ length (t .columns)
+  pub few-columns : length (t .columns) ≤ most-items
+  pub different : repeats sameName (t .columns) ≡ false
+  pub names : All (λ n. isName n ≡ true) (t .name ∷ t .columns)
+  pub short : All (λ n. length n ≤ most-name) (t .name ∷ t .columns)
+
+pub record TablesFit (ts : List Schema) : Type 0 where
+  pub different : repeats sameName (tableNames ts) ≡ false
+  pub each : All TableFits ts
+
+-- what the structs' types give: lengths of arrays, and 32 bits of constants
+abbrev pub ValueFits : Value → Type 0
+ValueFits (Given.Constant z) = isWithin32 z ≡ true
+ValueFits (Given.Parameter k) = Unit {0}
+
+abbrev pub OperandFits : Operand → Type 0
+OperandFits (Column i) = Unit {0}
+OperandFits (Constant z) = isWithin32 z ≡ true
+OperandFits (Parameter k) = Unit {0}
+
+abbrev pub ComparisonFits : Comparison → Type 0
+ComparisonFits c = OperandFits (c .left) × OperandFits (c .right)
+
+pub record ConditionFits (c : Condition) : Type 0 where
+  pub eight : length (c .comparisons) ≡ 8
+  pub fifteen : length (c .steps) ≡ 15
+  pub constants : All ComparisonFits (c .comparisons)
+
+pub record QueryFits (q : Query) : Type 0 where
+  pub eight : length (q .selected) ≡ 8
+  pub condition-fits : ConditionFits (q .condition)
+
+pub record UpdateFits (u : Update) : Type 0 where
+  pub eight : length (u .settings) ≡ 8
+  pub constants : All (λ (s : Setting). ValueFits (s .value)) (u .settings)
+  pub condition-fits : ConditionFits (u .condition)
+
+abbrev pub NameFits : Name → Type 0
+NameFits n = length (n .bytes) ≡ 12
+
+pub record TableStructFits (t : Table) : Type 0 where
+  pub eight : length (t .columns) ≡ 8
+  pub name-fits : NameFits (t .name)
+  pub columns-fit : All NameFits (t .columns)

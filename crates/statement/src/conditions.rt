@@ -1,0 +1,227 @@
+// Conditions: the readers of OR, AND and single conditions call each other in a cycle, and the text that remains gets shorter. They note each comparison and
+// each AND and OR in an array that is lent down the cycle, in postfix order with NOT pushed to the comparisons; what goes in and out by value is a cursor.
+use super::Condition;
+use super::Name;
+use token::Token;
+ghost use mathlib.Core.Path.{_≡_};
+ghost use mathlib.Core.Bool.{true, cond};
+ghost use Prim.Native.Nat.{_-_, _≤_, _<_};
+ghost use lib.ListN.{length, drop};
+ghost use Rattle.meaning.specs.Condition.{atom, conjunction, disjunction};
+ghost use Rattle.meaning.specs.Grammar.{aComparison};
+ghost use Rattle.meaning.specs.Tokens.{tokens};
+ghost use Rattle.token.specs.Tokens.{tokenAt};
+ghost use Rattle.statement.specs.Reading.{past, isOperand, isComparison, oppositeOf, withSides, PutsNode, Stands, Meets, Reads, Closes};
+
+// Where a reader stands in a text, and what it has counted: nodes of the condition, question marks. `over` says that a limit was passed by a name, a constant or
+// the depth; a reader that failed is not `ok`.
+pub struct Cursor {
+    pub ok: bool,
+    pub over: bool,
+    pub nodes: u16,
+    pub marks: u16,
+    pub at: u16,
+}
+
+// ---- tokens
+
+// How many bytes a token has.
+fn span(start: usize, next: usize) -> usize
+    ensures { λ r. ⌜ r ≡ next - start ⌝ }
+{
+    if start <= next { next - start } else { 0 }
+}
+
+// A name of more than 12 bytes, or a constant outside 32 bits.
+pub fn is_past(t: Token) -> bool
+    ensures { λ r. ⌜ r ≡ past t ⌝ }
+{
+    (t.kind == Token::BIG) | ((t.kind == Token::NAME) & (Name::BYTES < span(t.start, t.next)))
+}
+
+// Whether a token is a name, a constant or a question mark.
+fn is_operand(kind: u8) -> bool
+    ensures { λ r. ⌜ r ≡ isOperand kind ⌝ }
+{
+    (Token::NAME <= kind) & (kind <= Token::MARK)
+}
+
+// Whether a token is one of the six operators.
+fn is_comparison(kind: u8) -> bool
+    ensures { λ r. ⌜ r ≡ isComparison kind ⌝ }
+{
+    (Token::EQ <= kind) & (kind <= Token::GE)
+}
+
+const OPPOSITES: [u8; 6] = [1, 0, 5, 4, 3, 2];
+
+// The comparison that holds exactly where the other does not.
+fn opposite(op: u8) -> u8
+    ensures { λ r. ⌜ r ≡ oppositeOf op ⌝ }
+{
+    if op < 6 { OPPOSITES[op as usize] } else { op }
+}
+
+// ---- nodes
+
+// How many numbers there is room for: three a node, and 15 nodes. Only of an array by value is the length known to a proof; the compiled code copies nothing.
+fn room(places: [u16; 45]) -> usize
+    ensures { λ r. ⌜ (r ≡ 45) × (length places ≡ 45) ⌝ }
+{
+    places.len()
+}
+
+// A node at the end: a comparison (0 to 5) with the places of its sides, AND (6) or OR (7). Past the 15th none is noted, but it is counted.
+fn put(places: &mut [u16; 45], c: Cursor, node: u16, left: u16, right: u16) -> Cursor
+    requires { ⌜ c .nodes < 256 ⌝ }
+    ensures { λ r. ⌜ PutsNode (now (places .entry)) c node left right (now (places .exit)) r ⌝ }
+{
+    let mut d = c;
+    d.nodes = c.nodes + 1;
+    let i = 3 * (c.nodes as usize);
+    if i + 2 < room(*places) {
+        places[i] = node;
+        places[i + 1] = left;
+        places[i + 2] = right;
+        return d;
+    }
+    d
+}
+
+// x or y, by a test.
+fn either(test: bool, x: u16, y: u16) -> u16
+    ensures { λ r. ⌜ r ≡ cond test x y ⌝ }
+{
+    if test { x } else { y }
+}
+
+// The comparison `op` of two tokens.
+fn put_comparison(
+    places: &mut [u16; 45],
+    c: Cursor,
+    positive: bool,
+    depth: u16,
+    a: Token,
+    op: u8,
+    b: Token,
+) -> Cursor
+    requires { ⌜ (c .nodes < 256) × (c .marks ≤ 256) × (a .start ≤ 256) × (b .start ≤ 256) × (b .next ≤ 256) ⌝ }
+    ensures { λ r. ⌜ PutsNode (now (places .entry)) (withSides depth a b c) (cond positive op (oppositeOf op)) (a .start) (b .start) (now (places .exit)) r ⌝ }
+{
+    let mut d = c;
+    d.ok = true;
+    d.over = c.over | ((Condition::DEPTH < depth) | (is_past(a) | is_past(b)));
+    d.marks = c.marks + (either(a.kind == Token::MARK, 1, 0) + either(b.kind == Token::MARK, 1, 0));
+    d.at = b.next as u16;
+    let node = either(positive, op as u16, opposite(op) as u16);
+    put(places, d, node, a.start as u16, b.start as u16)
+}
+
+// ---- the readers
+
+// A condition of ORs. Under an odd number of NOTs it is not `positive`.
+pub fn read_or(text: &[u8], places: &mut [u16; 45], c: Cursor, positive: bool, depth: u16) -> Cursor
+    requires { ⌜ (Stands (now text) c) × (depth ≤ c .at) ⌝ }
+    ensures { λ r. ⌜ Reads disjunction (now (text .entry)) positive depth c (now (places .entry)) r (now (places .exit)) ⌝ }
+{
+    let mut p = read_and(text, places, c, positive, depth);
+    if !p.ok {
+        return p;
+    }
+    let t = token::next(text, p.at as usize);
+    if t.kind != Token::OR {
+        return p;
+    }
+    p.at = t.next as u16;
+    p = read_or(text, places, p, positive, depth);
+    if !p.ok {
+        return p;
+    }
+    put(places, p, either(positive, 7, 6), 0, 0)
+}
+
+// A condition of ANDs.
+fn read_and(text: &[u8], places: &mut [u16; 45], c: Cursor, positive: bool, depth: u16) -> Cursor
+    requires { ⌜ (Stands (now text) c) × (depth ≤ c .at) ⌝ }
+    ensures { λ r. ⌜ Reads conjunction (now (text .entry)) positive depth c (now (places .entry)) r (now (places .exit)) ⌝ }
+{
+    let mut p = read_one(text, places, c, positive, depth);
+    if !p.ok {
+        return p;
+    }
+    let t = token::next(text, p.at as usize);
+    if t.kind != Token::AND {
+        return p;
+    }
+    p.at = t.next as u16;
+    p = read_and(text, places, p, positive, depth);
+    if !p.ok {
+        return p;
+    }
+    put(places, p, either(positive, 6, 7), 0, 0)
+}
+
+// A condition in parentheses, whose inside is read: the closing one.
+fn closed(text: &[u8], c: Cursor) -> Cursor
+    requires { ⌜ (c .ok ≡ true → Stands (now text) c) ⌝ }
+    ensures { λ r. ⌜ Closes (now (text .entry)) c r ⌝ }
+{
+    let mut d = c;
+    if !c.ok {
+        return d;
+    }
+    let t = token::next(text, c.at as usize);
+    if t.kind != Token::CLOSE {
+        d.ok = false;
+        return d;
+    }
+    d.at = t.next as u16;
+    d
+}
+
+// A single condition: NOT and a single one, a condition in parentheses, or a comparison.
+fn read_one(text: &[u8], places: &mut [u16; 45], c: Cursor, positive: bool, depth: u16) -> Cursor
+    requires { ⌜ (Stands (now text) c) × (depth ≤ c .at) ⌝ }
+    ensures { λ r. ⌜ Reads atom (now (text .entry)) positive depth c (now (places .entry)) r (now (places .exit)) ⌝ }
+{
+    let t = token::next(text, c.at as usize);
+    let mut here = c;
+    if t.kind == Token::NOT {
+        here.at = t.next as u16;
+        return read_one(text, places, here, !positive, depth + 1);
+    }
+    if t.kind == Token::OPEN {
+        here.at = t.next as u16;
+        return closed(text, read_or(text, places, here, positive, depth + 1));
+    }
+    read_comparison(text, places, c, positive, depth, t)
+}
+
+// A comparison, whose first token is read.
+fn read_comparison(
+    text: &[u8],
+    places: &mut [u16; 45],
+    c: Cursor,
+    positive: bool,
+    depth: u16,
+    first: Token,
+) -> Cursor
+    requires { ⌜ (Stands (now text) c) × (first ≡ tokenAt (now text) (c .at)) ⌝ }
+    ensures { λ r. ⌜ Meets (now (text .entry)) positive depth c (now (places .entry)) r (now (places .exit)) (aComparison (tokens (drop (c .at) (now (text .entry))))) ⌝ }
+{
+    let mut d = c;
+    d.ok = false;
+    if !is_operand(first.kind) {
+        return d;
+    }
+    let mut t = token::next(text, first.next);
+    let op = t.kind;
+    if !is_comparison(op) {
+        return d;
+    }
+    t = token::next(text, t.next);
+    if !is_operand(t.kind) {
+        return d;
+    }
+    put_comparison(places, c, positive, depth, first, op - Token::EQ, t)
+}

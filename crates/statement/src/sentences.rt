@@ -1,0 +1,401 @@
+// Sentences: each of the five forms is a row of calls. A reader takes a cursor that may have failed, and then fails too. What is read is noted as places of the
+// text: of the items of the list in one lent array, two numbers an item, and of the condition in another; names are not looked up here.
+use super::Table;
+use super::conditions;
+use super::conditions::Cursor;
+use token::Token;
+ghost use mathlib.Core.Path.{_≡_};
+ghost use Prim.Native.Nat.{_+_, _≤_, _<_};
+ghost use lib.ListN.{length};
+ghost use Rattle.meaning.specs.Grammar.{sentence, aTable, aSelect, anInsert, anUpdate};
+ghost use Rattle.statement.specs.Reading.{marksAt};
+ghost use Rattle.statement.specs.Sentences.{Ready, Expects, Names, Gives, CountsRows, isBetween, isRowsPast, PutsItem, kindAt, Within, ReadsItem, ReadsList, ReadsWhere, Starts, ReadsForm, Lists, Deletes, ReadsAny, Noted};
+
+// A cursor behind a token, and where the token starts.
+pub struct Placed {
+    pub c: Cursor,
+    pub place: u16,
+}
+
+// A cursor, and how many items of the list are read.
+pub struct Listing {
+    pub c: Cursor,
+    pub listed: u16,
+}
+
+// A sentence as it is read: where the reader stands, its form, the place of its table's name, that of the constant of ROWS, and how many items its list has.
+pub struct Entry {
+    pub c: Cursor,
+    pub form: u8,
+    pub table: u16,
+    pub rows: u16,
+    pub listed: u16,
+}
+
+impl Entry {
+    pub const TABLE: u8 = 0;
+
+    pub const SELECT: u8 = 1;
+
+    pub const INSERT: u8 = 2;
+
+    pub const UPDATE: u8 = 3;
+
+    pub const DELETE: u8 = 4;
+}
+
+// What a list holds.
+const NAMES: u8 = 0;
+
+const VALUES: u8 = 1;
+
+const SETTINGS: u8 = 2;
+
+// ---- tokens
+
+// A token that its kind tells.
+fn expect(text: &[u8], c: Cursor, kind: u8) -> Cursor
+    requires { ⌜ (Ready (now text) c) × (5 ≤ kind) ⌝ }
+    ensures { λ r. ⌜ Expects (now (text .entry)) kind c r ⌝ }
+{
+    let mut p = c;
+    if !p.ok {
+        return p;
+    }
+    let t = token::next(text, p.at as usize);
+    if t.kind != kind {
+        p.ok = false;
+        return p;
+    }
+    p.at = t.next as u16;
+    p
+}
+
+// A name.
+fn read_name(text: &[u8], c: Cursor) -> Placed
+    requires { ⌜ Ready (now text) c ⌝ }
+    ensures { λ r. ⌜ Names (now (text .entry)) c r ⌝ }
+{
+    let mut p = c;
+    if !p.ok {
+        return Placed { c: p, place: 0 };
+    }
+    let t = token::next(text, p.at as usize);
+    if t.kind != Token::NAME {
+        p.ok = false;
+        return Placed { c: p, place: 0 };
+    }
+    p.at = t.next as u16;
+    p.over = p.over | conditions::is_past(t);
+    Placed {
+        c: p,
+        place: t.start as u16,
+    }
+}
+
+// How many question marks a token is.
+fn marks_of(kind: u8) -> u16
+    ensures { λ r. ⌜ r ≡ marksAt kind ⌝ }
+{
+    if kind == Token::MARK { 1 } else { 0 }
+}
+
+fn is_between(kind: u8, low: u8, high: u8) -> bool
+    ensures { λ r. ⌜ r ≡ isBetween kind low high ⌝ }
+{
+    (low <= kind) & (kind <= high)
+}
+
+// A constant or a question mark.
+fn read_value(text: &[u8], c: Cursor) -> Placed
+    requires { ⌜ Ready (now text) c ⌝ }
+    ensures { λ r. ⌜ Gives (now (text .entry)) c r ⌝ }
+{
+    let mut p = c;
+    if !p.ok {
+        return Placed { c: p, place: 0 };
+    }
+    let t = token::next(text, p.at as usize);
+    if !is_between(t.kind, Token::CONSTANT, Token::MARK) {
+        p.ok = false;
+        return Placed { c: p, place: 0 };
+    }
+    p.at = t.next as u16;
+    p.over = p.over | conditions::is_past(t);
+    p.marks = p.marks + marks_of(t.kind);
+    Placed {
+        c: p,
+        place: t.start as u16,
+    }
+}
+
+// Whether the constant of ROWS is outside 1 to 512.
+fn is_rows_past(t: Token) -> bool
+    ensures { λ r. ⌜ r ≡ isRowsPast (t .kind) (t .value) ⌝ }
+{
+    (t.kind == Token::BIG) | ((t.value < 1) | ((Table::ROWS as i32) < t.value))
+}
+
+// The constant of ROWS.
+fn read_rows(text: &[u8], c: Cursor) -> Placed
+    requires { ⌜ Ready (now text) c ⌝ }
+    ensures { λ r. ⌜ CountsRows (now (text .entry)) c r ⌝ }
+{
+    let mut p = c;
+    if !p.ok {
+        return Placed { c: p, place: 0 };
+    }
+    let t = token::next(text, p.at as usize);
+    if !is_between(t.kind, Token::CONSTANT, Token::BIG) {
+        p.ok = false;
+        return Placed { c: p, place: 0 };
+    }
+    p.at = t.next as u16;
+    p.over = p.over | is_rows_past(t);
+    Placed {
+        c: p,
+        place: t.start as u16,
+    }
+}
+
+// ---- lists
+
+// How many numbers there is room for: two an item, and 8 items.
+fn room(list: [u16; 16]) -> usize
+    ensures { λ r. ⌜ (r ≡ 16) × (length list ≡ 16) ⌝ }
+{
+    list.len()
+}
+
+// An item at the end of the list, by the places of its name and its value. Past the eighth none is noted, but it is counted.
+fn put_item(list: &mut [u16; 16], listed: u16, name: u16, value: u16) -> u16
+    requires { ⌜ listed ≤ 256 ⌝ }
+    ensures { λ r. ⌜ (r ≡ listed + 1) × PutsItem (now (list .entry)) listed name value (now (list .exit)) ⌝ }
+{
+    let more = listed + 1;
+    let i = 2 * (listed as usize);
+    if i + 1 < room(*list) {
+        list[i] = name;
+        list[i + 1] = value;
+        return more;
+    }
+    more
+}
+
+// An item: a name, a value, or a setting.
+fn read_item(text: &[u8], list: &mut [u16; 16], c: Cursor, listed: u16, kind: u8) -> Listing
+    requires { ⌜ Within (now text) c listed ⌝ }
+    ensures { λ r. ⌜ ReadsItem (kindAt kind) (now (text .entry)) (now (list .entry)) c listed (now (list .exit)) r ⌝ }
+{
+    if kind == NAMES {
+        let n = read_name(text, c);
+        let d = n.c;
+        return Listing {
+            c: d,
+            listed: put_item(list, listed, n.place, 0),
+        };
+    }
+    if kind == VALUES {
+        let v = read_value(text, c);
+        let d = v.c;
+        return Listing {
+            c: d,
+            listed: put_item(list, listed, 0, v.place),
+        };
+    }
+    let n = read_name(text, c);
+    let v = read_value(text, expect(text, n.c, Token::EQ));
+    let d = v.c;
+    Listing {
+        c: d,
+        listed: put_item(list, listed, n.place, v.place),
+    }
+}
+
+// Items, parted by commas. The text that is left gets shorter.
+fn read_list(text: &[u8], list: &mut [u16; 16], c: Cursor, listed: u16, kind: u8) -> Listing
+    requires { ⌜ Within (now text) c listed ⌝ }
+    ensures { λ r. ⌜ ReadsList (kindAt kind) (now (text .entry)) (now (list .entry)) c listed (now (list .exit)) r ⌝ }
+{
+    let one = read_item(text, list, c, listed, kind);
+    let mut p = one.c;
+    if !p.ok {
+        return one;
+    }
+    let t = token::next(text, p.at as usize);
+    if t.kind != Token::COMMA {
+        return one;
+    }
+    p.at = t.next as u16;
+    read_list(text, list, p, one.listed, kind)
+}
+
+// ---- WHERE
+
+// An optional WHERE.
+fn read_where(text: &[u8], places: &mut [u16; 45], c: Cursor) -> Cursor
+    requires { ⌜ Ready (now text) c ⌝ }
+    ensures { λ r. ⌜ ReadsWhere (now (text .entry)) c (now (places .entry)) r (now (places .exit)) ⌝ }
+{
+    let mut p = c;
+    if !p.ok {
+        return p;
+    }
+    let t = token::next(text, p.at as usize);
+    if t.kind != Token::WHERE {
+        return p;
+    }
+    p.at = t.next as u16;
+    p = conditions::read_or(text, places, p, true, 0);
+    p
+}
+
+// ---- the five forms, after their first word
+
+// TABLE name ( names ) ROWS constant
+fn read_table(text: &[u8], list: &mut [u16; 16], c: Cursor) -> Entry
+    requires { ⌜ Starts (now text) c ⌝ }
+    ensures { λ r. ⌜ Lists aTable (now (text .entry)) c (now (list .exit)) r ⌝ }
+{
+    let t = read_name(text, c);
+    let l = read_list(text, list, expect(text, t.c, Token::OPEN), 0, NAMES);
+    let r = read_rows(
+        text,
+        expect(text, expect(text, l.c, Token::CLOSE), Token::ROWS),
+    );
+    let d = r.c;
+    Entry {
+        c: d,
+        form: Entry::TABLE,
+        table: t.place,
+        rows: r.place,
+        listed: l.listed,
+    }
+}
+
+// SELECT names FROM name [WHERE condition]
+fn read_select(text: &[u8], list: &mut [u16; 16], places: &mut [u16; 45], c: Cursor) -> Entry
+    requires { ⌜ Starts (now text) c ⌝ }
+    ensures { λ r. ⌜ ReadsForm aSelect (now (text .entry)) c (now (list .exit)) (now (places .exit)) r ⌝ }
+{
+    let l = read_list(text, list, c, 0, NAMES);
+    let t = read_name(text, expect(text, l.c, Token::FROM));
+    Entry {
+        c: read_where(text, places, t.c),
+        form: Entry::SELECT,
+        table: t.place,
+        rows: 0,
+        listed: l.listed,
+    }
+}
+
+// INSERT INTO name VALUES ( values )
+fn read_insert(text: &[u8], list: &mut [u16; 16], c: Cursor) -> Entry
+    requires { ⌜ Starts (now text) c ⌝ }
+    ensures { λ r. ⌜ Lists anInsert (now (text .entry)) c (now (list .exit)) r ⌝ }
+{
+    let t = read_name(text, expect(text, c, Token::INTO));
+    let l = read_list(
+        text,
+        list,
+        expect(text, expect(text, t.c, Token::VALUES), Token::OPEN),
+        0,
+        VALUES,
+    );
+    Entry {
+        c: expect(text, l.c, Token::CLOSE),
+        form: Entry::INSERT,
+        table: t.place,
+        rows: 0,
+        listed: l.listed,
+    }
+}
+
+// UPDATE name SET settings [WHERE condition]
+fn read_update(text: &[u8], list: &mut [u16; 16], places: &mut [u16; 45], c: Cursor) -> Entry
+    requires { ⌜ Starts (now text) c ⌝ }
+    ensures { λ r. ⌜ ReadsForm anUpdate (now (text .entry)) c (now (list .exit)) (now (places .exit)) r ⌝ }
+{
+    let t = read_name(text, c);
+    let l = read_list(text, list, expect(text, t.c, Token::SET), 0, SETTINGS);
+    Entry {
+        c: read_where(text, places, l.c),
+        form: Entry::UPDATE,
+        table: t.place,
+        rows: 0,
+        listed: l.listed,
+    }
+}
+
+// DELETE FROM name [WHERE condition]
+fn read_delete(text: &[u8], places: &mut [u16; 45], c: Cursor) -> Entry
+    requires { ⌜ Starts (now text) c ⌝ }
+    ensures { λ r. ⌜ Deletes (now (text .entry)) c (now (places .exit)) r ⌝ }
+{
+    let t = read_name(text, expect(text, c, Token::FROM));
+    Entry {
+        c: read_where(text, places, t.c),
+        form: Entry::DELETE,
+        table: t.place,
+        rows: 0,
+        listed: 0,
+    }
+}
+
+// ---- sentences
+
+// A sentence from the start of the text: its first token tells its form.
+fn read_form(text: &[u8], list: &mut [u16; 16], places: &mut [u16; 45]) -> Entry
+    requires { ⌜ length (now text) ≤ 256 ⌝ }
+    ensures { λ r. ⌜ ReadsAny (now (text .entry)) (now (list .exit)) (now (places .exit)) r ⌝ }
+{
+    let t = token::next(text, 0);
+    let mut c = Cursor {
+        ok: true,
+        over: false,
+        nodes: 0,
+        marks: 0,
+        at: t.next as u16,
+    };
+    if t.kind == Token::TABLE {
+        return read_table(text, list, c);
+    }
+    if t.kind == Token::SELECT {
+        return read_select(text, list, places, c);
+    }
+    if t.kind == Token::INSERT {
+        return read_insert(text, list, c);
+    }
+    if t.kind == Token::UPDATE {
+        return read_update(text, list, places, c);
+    }
+    if t.kind == Token::DELETE {
+        return read_delete(text, places, c);
+    }
+    c.ok = false;
+    Entry {
+        c,
+        form: 0,
+        table: 0,
+        rows: 0,
+        listed: 0,
+    }
+}
+
+// A sentence, from the start of the text to its end.
+pub fn read_sentence(text: &[u8], list: &mut [u16; 16], places: &mut [u16; 45]) -> Entry
+    requires { ⌜ length (now text) ≤ 256 ⌝ }
+    ensures { λ r. ⌜ Noted (now (text .entry)) (now (list .exit)) (now (places .exit)) r (sentence (now (text .entry))) ⌝ }
+{
+    let mut e = read_form(text, list, places);
+    let mut c = e.c;
+    if !c.ok {
+        return e;
+    }
+    let t = token::next(text, c.at as usize);
+    if t.kind != Token::END {
+        c.ok = false;
+        e.c = c;
+    }
+    e
+}
