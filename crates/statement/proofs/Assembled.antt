@@ -1,8 +1,8 @@
 -- Statements put together of their parts: what the functions of the five forms make, from what those that they call make. Assumes nothing.
 use mathlib.Core.Path.{_≡_, refl, sym, ap, ap₂, _∙_}
-use mathlib.Core.Bool.{Bool, true, false, not, _&&_, _||_}
-use mathlib.Core.List.{List, [], _∷_, _++_, map}
-use Prim.Native.Nat.{ℕ, zero, suc, _+_, _-_, _*_, _≤_, _<_, min}
+use mathlib.Core.Bool.{Bool, false, not, _&&_, _||_}
+use mathlib.Core.List.{List, [], _∷_, map}
+use Prim.Native.Nat.{ℕ, zero, suc, _-_, _*_, _≤_, _<_, min}
 use native.Mathlib.Nat.{le-of-suc-le-suc, not-suc-le-zero}
 use native.Mathlib.Omega.{arith}
 use borrow.Author.Tests.{lt-ltb, le-ltb, eq-eqb, ne-eqb}
@@ -10,27 +10,22 @@ use lib.Dec.{eqb, ltb, leb}
 use lib.ListN.{length, getD, take, replicate, length-take, length-map}
 use lib.Seq.{take-at, getD-take}
 use Rattle.lists.specs.Lists.{repeats, from}
-use Rattle.meaning.specs.Postfix.{Node, leaves}
-use Rattle.meaning.specs.Grammar.{Given, Term}
-use Rattle.meaning.specs.Limits.{markIn, markCount}
+use Rattle.meaning.specs.Grammar.{Given}
+use Rattle.meaning.specs.Limits.{markCount}
 use Rattle.meaning.specs.Names.{Schema, noSchema, sameName, has, position, tableNames}
 use Rattle.meaning.specs.Cells.{areasSize}
-use Rattle.meaning.specs.Resolve.{resolveNodes}
 use Rattle.statement.specs.declared.Name.{Name}
 use Rattle.statement.specs.declared.Table.{Table}
 use Rattle.statement.specs.declared.Condition.{Condition}
 use Rattle.statement.specs.declared.Setting.{Setting}
-use Rattle.statement.specs.declared.Query.{Query}
-use Rattle.statement.specs.declared.Update.{Update}
 use Rattle.statement.specs.declared.Statement.{Statement}
 use Rattle.statement.specs.declared.sentences.Entry.{Entry}
 use Rattle.statement.specs.declared.build.Settings.{Settings}
 use Rattle.statement.specs.Places.{nameOn, givenOn, nodesOn}
 use Rattle.statement.specs.Sentences.{namesOn, givensOn}
 use Rattle.statement.specs.Catalog.{nameOfStruct, namesOf, schemaOf, schemasOf}
-use Rattle.statement.specs.Compiled.{padded, nameStruct, noName, tableStruct, noSetting, conditionStruct, created, asked, changing, refusedBy, settled}
-use Rattle.statement.specs.Built.{lowestBy, placesOf, shortName, shortNames, shortNodes, rowsOn, settingsOn, conditionBelow, placesBelow, Fits, listedOn, conditionOn, unknownOn, schemaOn, tableOn, selectOn, insertOn, setsOn, updateOn, deleteOn, formOn, numberOn, besideOn}
-use Rattle.statement.proofs.Walks.{map-map}
+use Rattle.statement.specs.Compiled.{padded, nameStruct, noName, noSetting, conditionStruct, created, asked, changing, refusedBy, settled}
+use Rattle.statement.specs.Built.{lowestBy, placesOf, shortName, rowsOn, settingsOn, conditionBelow, placesBelow, Fits, listedOn, conditionOn, unknownOn, tableOn, selectOn, insertOn, setsOn, updateOn, deleteOn, formOn, numberOn, besideOn}
 use Rattle.statement.proofs.Left.{length-items}
 use Rattle.statement.proofs.Values.{name-back}
 use Rattle.statement.proofs.Parts.{mark-one}

@@ -3,16 +3,17 @@ use mathlib.Core.Path.{_≡_, refl, sym, ap, ap₂, subst, _∙_}
 use mathlib.Core.Bool.{Bool, true, false, cond, _||_}
 use mathlib.Core.Option.{none, some}
 use mathlib.Core.List.{List, [], _∷_, _++_}
-use Prim.Native.Nat.{ℕ, _+_, _-_, _≤_, _<_}
+use Prim.Native.Nat.{ℕ, suc, _+_, _-_, _≤_, _<_}
 use native.Mathlib.Omega.{arith}
 use borrow.Author.Tests.{lt-ltb}
 use lib.Dec.{ltb}
 use lib.ListN.{length, drop}
 use Rattle.lists.proofs.Bools.{clash}
 use Rattle.meaning.specs.Operator.{Operator, opposite}
-use Rattle.meaning.specs.Condition.{compare}
-use Rattle.meaning.specs.Postfix.{leaf, signed}
-use Rattle.meaning.specs.Tokens.{tokens}
+use Rattle.meaning.specs.Condition.{Comparison, compare}
+use Rattle.meaning.specs.Postfix.{Node, leaf, signed}
+use Rattle.meaning.specs.Tokens as T
+use Rattle.meaning.specs.Tokens.{tokens, operator}
 use Rattle.meaning.specs.Grammar.{constant, mark, Term, column, given, aToken, aTerm, operatorOf, aComparison}
 use Rattle.meaning.specs.Limits.{most-depth, markCount, termGivens}
 use Rattle.meaning.proofs.Readers.{aToken-some, aToken-none, then-some, then-none}
@@ -21,7 +22,7 @@ use Rattle.token.specs.Tokens.{kindOf, operatorNumber, tokenAt}
 use Rattle.statement.specs.Places.{termOn, nodeOn, nodesOn, operatorAt}
 use Rattle.statement.specs.Reading.{tokenPast, past, isOperand, isComparison, marksAt, oppositeOf, termPast, withSides, withNode, PutsNode, Stands, Found, Meets}
 use Rattle.statement.specs.declared.conditions.Cursor.{Cursor}
-use Rattle.statement.proofs.Operands.{append-marks, termOf, term-reader, term-none, is-term, operator-back, operator-few, opposite-is, opposite-few, no-operator, is-operator}
+use Rattle.statement.proofs.Operands.{append-marks, termOf, term-reader, term-none, IsTerm, is-term, operator-back, operator-few, opposite-is, opposite-few, no-operator, is-operator}
 use Rattle.statement.proofs.Steps.{Look, ended, seen, look, stands-there, name-length}
 
 -- ---- an operand

@@ -1,23 +1,23 @@
 -- What is made of a sentence as it was read is what its text compiles to. Assumes nothing.
 use mathlib.Core.Path.{_≡_, refl, sym, ap, ap₂, _∙_}
-use mathlib.Core.Bool.{Bool, true, false, not, _&&_, _||_, cond}
+use mathlib.Core.Bool.{Bool, true, false, not, _||_, cond}
 use mathlib.Core.Option.{Option, none, some}
 use mathlib.Core.List.{List, [], _∷_, _++_, map}
-use Prim.Native.Nat.{ℕ, zero, suc, _+_, _-_, _*_, _≤_, _<_}
+use Prim.Native.Nat.{ℕ, suc, _-_, _*_, _≤_, _<_}
 use native.Mathlib.Omega.{arith}
-use borrow.Author.Tests.{lt-ltb, le-ltb, ltb-false, eq-eqb, ne-eqb}
+use borrow.Author.Tests.{lt-ltb, le-ltb, ltb-false}
 use lib.Dec.{eqb, ltb, leb}
 use lib.IntN.{ℤ, natAbs}
-use lib.ListN.{length, getD, take, drop, length-map, length-replicate}
+use lib.ListN.{length, take, drop, length-map, length-replicate}
 use Rattle.lists.specs.Lists.{any, repeats, from}
 use Rattle.lists.proofs.Bools.{or-left, or-right, clash}
-use Rattle.meaning.specs.Condition.{Where, always, sides, operandsIn, comparisonsIn}
+use Rattle.meaning.specs.Condition.{Where, operandsIn}
 use Rattle.meaning.specs.Postfix.{Node, nodesIn, leaves}
 use Rattle.meaning.specs.Tokens as T
 use Rattle.meaning.specs.Tokens.{Name}
 use Rattle.meaning.specs.Grammar.{Given, Term, Listed, items, Sentence, table, select, insert, update, delete, sentence}
-use Rattle.meaning.specs.Limits.{tooLong, tableNamed, listColumns, listGivens, whereOf, termColumns, termGivens, outside32, givens, markCount, pastLimit}
-use Rattle.meaning.specs.Names.{Schema, noSchema, sameName, has, position, tableNames, columnsOf, missing, isTable, unknown, taken, miscounted}
+use Rattle.meaning.specs.Limits.{tooLong, tableNamed, whereOf, termColumns, termGivens, outside32, givens, markCount, pastLimit}
+use Rattle.meaning.specs.Names.{Schema, sameName, has, position, tableNames, columnsOf, missing, isTable, unknown, taken, miscounted}
 use Rattle.meaning.specs.Statement.{settings, settingMarks, numberedAll, resolvedWhere, statementOf}
 use Rattle.meaning.specs.Cells.{areasSize}
 use Rattle.meaning.specs.Plain.{Plain, noQuery, noUpdate, schemas, noPlace, addConditions, orElse, lowestOf}
@@ -26,15 +26,13 @@ use Rattle.meaning.proofs.Postfix.{sides-in, leaves-in, few-nodes}
 use Rattle.meaning.proofs.Resolve.{resolve-where}
 use Rattle.token.specs.Tokens.{valueOf}
 use Rattle.statement.specs.declared.Table.{Table}
-use Rattle.statement.specs.declared.Condition.{Condition}
 use Rattle.statement.specs.declared.Statement.{Statement}
 use Rattle.statement.specs.declared.sentences.Entry.{Entry}
-use Rattle.statement.specs.declared.build.Settings.{Settings}
-use Rattle.statement.specs.Places.{tokenOn, nameOn, nodesOn}
-use Rattle.statement.specs.Sentences.{namesOn, givensOn, Entered, Noted}
-use Rattle.statement.specs.Catalog.{schemaOf, schemasOf, rowless, catalog}
-use Rattle.statement.specs.Compiled.{padded, tableStruct, noSetting, conditionStruct, queryStruct, settingStruct, placedFrom, updateStruct, created, asked, changing, refusedBy, structOf, structOfText, settled, compiledOf}
-use Rattle.statement.specs.Built.{lowestBy, placesOf, shortName, shortNames, shortGiven, shortNodes, rowsIn, rowsOn, settingsFrom, settingsOn, Fits, listedOn, conditionOn, unknownOn, schemaOn, tableOn, selectOn, insertOn, setsOn, updateOn, deleteOn, overOn, formOn, numberOn, besideOn}
+use Rattle.statement.specs.Places.{nameOn, nodesOn}
+use Rattle.statement.specs.Sentences.{givensOn, Entered, Noted}
+use Rattle.statement.specs.Catalog.{schemasOf, rowless, catalog}
+use Rattle.statement.specs.Compiled.{padded, tableStruct, noSetting, conditionStruct, settingStruct, placedFrom, created, asked, changing, refusedBy, structOf, structOfText, settled, compiledOf}
+use Rattle.statement.specs.Built.{lowestBy, placesOf, shortName, shortNames, shortGiven, shortNodes, rowsIn, rowsOn, settingsFrom, Fits, listedOn, conditionOn, unknownOn, tableOn, selectOn, insertOn, setsOn, updateOn, deleteOn, overOn, formOn, besideOn}
 use Rattle.statement.proofs.Found.{has-ltb}
 use Rattle.statement.proofs.Assembled.{form-select, form-insert, form-update, form-delete}
 use Rattle.statement.proofs.Limited.{inside-rows, short-table, short-listed, short-tested, within-listed, within-tested, whole-name, whole-names, whole-givens, whole-nodes, whole-rows}

@@ -1,25 +1,25 @@
 -- Names looked up: where a name stands, whether it stands there, whether one stands twice; and the areas of tables. Assumes nothing.
 use mathlib.Core.Path.{_≡_, refl, sym, ap, ap₂, _∙_, subst}
-use mathlib.Core.Bool.{Bool, true, false, not, _&&_, _||_, cond}
+use mathlib.Core.Bool.{Bool, true, false, _&&_, _||_, cond}
 use mathlib.Core.List.{List, [], _∷_, _++_, map}
-use Prim.Native.Nat.{ℕ, zero, suc, _+_, _*_, _≤_, _<_, min}
+use Prim.Native.Nat.{ℕ, suc, _+_, _*_, _≤_, _<_, min}
 use native.Mathlib.Nat.{mul-le-mul}
 use native.Mathlib.Numerals.{add-one}
 use native.Mathlib.Omega.{arith}
 use borrow.Author.Tests.{lt-ltb}
-use lib.Dec.{T, eqb, eqb-refl, ltb, leb·suc-suc, leb·suc-zero}
+use lib.Dec.{eqb, eqb-refl, ltb, leb·suc-suc, leb·suc-zero}
 use lib.ListN.{length, getD, take, length-take, length-map}
 use lib.Seq.{take-suc}
 use Rattle.lists.specs.Lists.{any, repeats}
 use Rattle.lists.specs.Tests.{eqList, eqList-refl}
 use Rattle.lists.proofs.Bools.{T→true}
 use Rattle.lists.proofs.Lists.{any-append, map-append}
-use Rattle.meaning.specs.Names.{Schema, sameName, has, position, tableNames}
+use Rattle.meaning.specs.Names.{sameName, has, position, tableNames}
 use Rattle.meaning.specs.Cells.{areaSize, areasSize}
 use Rattle.meaning.proofs.Names.{same-is}
 use Rattle.statement.specs.declared.Name.{Name}
 use Rattle.statement.specs.declared.Table.{Table}
-use Rattle.statement.specs.Catalog.{nameOfStruct, namesOf, schemaOf, schemasOf}
+use Rattle.statement.specs.Catalog.{nameOfStruct, namesOf, schemaOf}
 use Rattle.statement.proofs.Walks.{take-min, rest, rest-cons, rest-none}
 
 -- two tests that imply each other

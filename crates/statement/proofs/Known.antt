@@ -1,11 +1,9 @@
 -- Names that are looked up are known exactly if their places are below the number of names; settings as they are read and as a statement has them. Assumes nothing.
 use mathlib.Core.Path.{_≡_, refl, sym, ap, ap₂, _∙_}
-use mathlib.Core.Bool.{Bool, true, false, not, _&&_, _||_, cond, or-false}
+use mathlib.Core.Bool.{Bool, not, _&&_, _||_, or-false}
 use mathlib.Core.List.{List, [], _∷_, _++_, map}
-use Prim.Native.Nat.{ℕ, zero, suc, _+_, _-_, _≤_, _<_}
+use Prim.Native.Nat.{ℕ, zero, suc, _+_, _≤_}
 use native.Mathlib.Nat.{le-of-suc-le-suc, not-suc-le-zero}
-use native.Mathlib.Omega.{arith}
-use lib.Dec.{ltb}
 use lib.ListN.{length, take, length-map}
 use Rattle.lists.specs.Lists.{any, all, from}
 use Rattle.lists.proofs.Bools.{not-not, not-or, or-assoc}
@@ -16,9 +14,9 @@ use Rattle.meaning.specs.Postfix.{Node, leaf, allOf, anyOf, leaves}
 use Rattle.meaning.specs.Tokens.{Name}
 use Rattle.meaning.specs.Grammar as G
 use Rattle.meaning.specs.Grammar.{Given, Term}
-use Rattle.meaning.specs.Limits.{markIn, markCount, termColumns}
+use Rattle.meaning.specs.Limits.{markIn, termColumns}
 use Rattle.meaning.specs.Names.{has, position}
-use Rattle.meaning.specs.Statement.{Operand, Value, numbered, numberedAll, settings, operandOf, comparisonOf, markInTerm}
+use Rattle.meaning.specs.Statement.{numbered, numberedAll, settings, operandOf, comparisonOf, markInTerm}
 use Rattle.meaning.specs.Resolve.{marksPast, resolveNodes}
 use Rattle.statement.specs.declared.Setting.{Setting}
 use Rattle.statement.specs.declared.Comparison.{Comparison}

@@ -2,24 +2,24 @@
 use mathlib.Core.Path.{_≡_, refl, sym, ap, ap₂, _∙_}
 use mathlib.Core.Bool.{Bool, true, false, not, _&&_, _||_, cond}
 use mathlib.Core.List.{List, [], _∷_, _++_, map}
-use Prim.Native.Nat.{ℕ, suc, _≤_, _<_}
+use Prim.Native.Nat.{_≤_}
 use native.Mathlib.Omega.{arith}
-use borrow.Author.Tests.{leb-true, leb-false, ltb-false, le-ltb, le-leb}
+use borrow.Author.Tests.{leb-true, ltb-false, le-ltb, le-leb}
 use lib.Dec.{ltb, leb}
-use lib.IntN.{ℤ, pos, negsuc, negℤ, natAbs}
-use lib.Signed.{leZ, ltZ}
-use lib.ListN.{length, take}
+use lib.IntN.{ℤ, pos, negsuc, natAbs}
+use lib.Signed.{leZ}
+use lib.ListN.{length}
 use lib.Seq.{take-all}
 use Rattle.lists.specs.Lists.{any}
-use Rattle.lists.proofs.Bools.{or-left, or-right, not-false, clash, and-left, and-right, leZ-not, not-not, or-assoc}
+use Rattle.lists.proofs.Bools.{or-left, or-right, not-false, clash, and-left, and-right, or-assoc}
 use Rattle.lists.proofs.Lists.{any-append}
 use Rattle.meaning.specs.Condition as C
-use Rattle.meaning.specs.Condition.{renamed, sides, operandsIn}
+use Rattle.meaning.specs.Condition.{sides, operandsIn}
 use Rattle.meaning.specs.Postfix.{Node, leaf, allOf, anyOf, leaves}
 use Rattle.meaning.specs.Tokens.{Name}
 use Rattle.meaning.specs.Grammar.{Given, constant, mark, Term, column, given, Sentence}
 use Rattle.meaning.specs.Limits.{tableNamed, listColumns, listGivens, whereOf, termColumns, termGivens, isWithin32, outside32, manyItems, rowsOutside, manyMarks, manyComparisons, deep, longName, bigConstant, pastLimit}
-use Rattle.statement.specs.Built.{shortName, shortNames, shortGiven, shortTerm, shortNode, shortNodes, rowsIn}
+use Rattle.statement.specs.Built.{shortName, shortNames, shortGiven, shortTerm, shortNodes, rowsIn}
 
 abbrev isLong : Name → Bool
 isLong n = ltb 12 (length n)

@@ -1,12 +1,12 @@
 -- What `put` and `put_comparison` leave: the nodes that were noted, and one more. Assumes nothing.
-use mathlib.Core.Path.{_≡_, refl, ap, subst, transport, _∙_}
+use mathlib.Core.Path.{_≡_, refl, sym, ap, subst, transport, _∙_}
 use mathlib.Core.Bool.{Bool, true, false, cond, _||_}
 use mathlib.Core.List.{List, [], _∷_, _++_}
-use Prim.Native.Nat.{ℕ, zero, suc, _+_, _*_, _≤_}
+use Prim.Native.Nat.{ℕ, zero, suc, _+_, _*_, _≤_, _<_}
 use native.Mathlib.Numerals.{add-one, add-two}
 use native.Mathlib.Omega.{arith}
 use lib.Dec.{ltb}
-use lib.ListN.{length, set}
+use lib.ListN.{length, set, drop}
 use Rattle.meaning.specs.Limits.{most-depth}
 use Rattle.token.specs.declared.Token.{Token}
 use Rattle.statement.specs.Places.{nodeOn, nodesOn}

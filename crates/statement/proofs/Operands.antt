@@ -1,21 +1,22 @@
 -- Operands and operators, by the kind of their tokens. Assumes nothing.
-use mathlib.Core.Path.{_≡_, refl, ap, _∙_}
-use mathlib.Core.Bool.{Bool, true, false, not, cond, _&&_}
+use mathlib.Core.Path.{_≡_, refl, sym, ap, subst, _∙_}
+use mathlib.Core.Bool.{Bool, true, false, not, cond, _&&_, _||_}
 use mathlib.Core.Option.{Option, none, some}
 use mathlib.Core.List.{List, [], _∷_, _++_}
 use Prim.Native.Nat.{ℕ, zero, suc, _+_, _-_, _≤_, _<_}
 use native.Mathlib.Omega.{arith}
 use lib.ListN.{length}
-use lib.Dec.{leb, ltb}
-use borrow.Author.Tests.{leb-true, lt-leb, le-leb}
+use lib.Dec.{leb, eqb, ltb}
+use borrow.Author.Tests.{leb-true, lt-leb, le-leb, le-ltb}
 use Rattle.lists.proofs.Bools.{and-left, and-right, and-both, clash}
 use Rattle.meaning.specs.Operator.{Operator, eq, ne, lt, le, gt, ge, opposite}
-use Rattle.meaning.specs.Condition.{Comparison, sides}
+use Rattle.meaning.specs.Condition.{Comparison, comparisons, sides}
 use Rattle.meaning.specs.Tokens as T
 use Rattle.meaning.specs.Tokens.{Token, keyword, name, operator, comma, lparen, rparen, other}
-use Rattle.meaning.specs.Grammar.{constant, mark, Term, column, given, aToken, aTerm, operatorOf}
-use Rattle.meaning.specs.Limits.{isWithin32, markCount, termGivens}
-use Rattle.token.specs.Tokens.{kindOf, operatorNumber}
+use Rattle.meaning.specs.Grammar.{Given, constant, mark, Term, column, given, aToken, aTerm, nameOf, operatorOf}
+use Rattle.meaning.specs.Limits.{isWithin32, markIn, markCount, termGivens}
+use Rattle.meaning.proofs.Readers.{aToken-some, aToken-none}
+use Rattle.token.specs.Tokens.{kindOf, operatorNumber, keywordNumber}
 use Rattle.statement.specs.Places.{tokenOn, termOn, operatorAt}
 use Rattle.statement.specs.Reading.{tokenPast, isOperand, isComparison, marksAt, oppositeOf, termPast}
 

@@ -2,11 +2,11 @@
 use mathlib.Core.Path.{_≡_, refl, sym, ap, ap₂, _∙_}
 use mathlib.Core.Bool.{Bool, true, false, cond}
 use mathlib.Core.List.{List, [], _∷_, map}
-use Prim.Native.Nat.{ℕ, zero, suc, _+_, _-_, _*_, _≤_, _<_}
+use Prim.Native.Nat.{ℕ, suc, _+_, _*_, _≤_, _<_}
 use native.Mathlib.Omega.{arith}
 use borrow.Author.Tests.{lt-ltb, le-ltb}
-use lib.Dec.{ltb, eqb}
-use lib.ListN.{length, getD, take, drop, set, replicate, length-map}
+use lib.Dec.{eqb}
+use lib.ListN.{length, getD, set, replicate, length-map}
 use Rattle.meaning.specs.Condition as C
 use Rattle.meaning.specs.Condition.{renamed}
 use Rattle.meaning.specs.Postfix.{Node, leaf, allOf, anyOf, leaves}
@@ -14,10 +14,9 @@ use Rattle.meaning.specs.Grammar.{Term}
 use Rattle.meaning.specs.Statement.{markInTerm, comparisonOf}
 use Rattle.meaning.specs.Resolve.{marksPast, resolveNodes}
 use Rattle.statement.specs.declared.Comparison.{Comparison}
-use Rattle.statement.specs.declared.Condition.{Condition}
 use Rattle.statement.specs.Places.{nodeOn, nodesOn}
 use Rattle.statement.specs.Compiled.{padded, comparisonStruct, noComparison, stepOf, conditionStruct}
-use Rattle.statement.specs.Built.{shortTerm, shortNode, shortNodes, markInSide, comparisonOn}
+use Rattle.statement.specs.Built.{shortTerm, shortNodes, markInSide, comparisonOn}
 use Rattle.statement.proofs.Walks.{Fills, fills-start, fills-more, fills-end}
 use Rattle.statement.proofs.Left.{nodesLeft, nodes-all, nodeHere, nodes-cons, nodes-none}
 use Rattle.statement.proofs.Parts.{mark-side, mark-few}

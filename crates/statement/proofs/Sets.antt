@@ -2,7 +2,7 @@
 use mathlib.Core.Path.{_≡_, refl, sym, ap, ap₂, _∙_}
 use mathlib.Core.Bool.{Bool, true, false, cond}
 use mathlib.Core.List.{List, [], _∷_, map}
-use Prim.Native.Nat.{ℕ, zero, suc, _+_, _-_, _*_, _≤_, _<_, zero-le, suc-le-suc}
+use Prim.Native.Nat.{ℕ, zero, suc, _+_, _*_, _≤_, _<_, zero-le, suc-le-suc}
 use native.Mathlib.Omega.{arith}
 use lib.Dec.{ltb, eqb}
 use lib.ListN.{length, getD, take, drop, set, replicate, length-take}
@@ -14,7 +14,7 @@ use Rattle.meaning.specs.Statement.{numbered}
 use Rattle.statement.specs.declared.Value.{Value}
 use Rattle.statement.specs.declared.Setting.{Setting}
 use Rattle.statement.specs.Places.{givenOn, nodeOn, nodesOn}
-use Rattle.statement.specs.Sentences.{itemsOn, givensOn}
+use Rattle.statement.specs.Sentences.{givensOn}
 use Rattle.statement.specs.Compiled.{padded, valueStruct, noSetting, stepOf}
 use Rattle.statement.specs.Built.{shortGiven, markInValue, settingsFrom, settingsOn, comparisonOn, stepIn}
 use Rattle.statement.proofs.Walks.{rest, rest-cons, rest-none, Fills, fills-start, fills-more, fills-end}

@@ -3,19 +3,18 @@ use mathlib.Core.Path.{_≡_, refl, sym, ap, _∙_}
 use mathlib.Core.Logic.{_≢_}
 use mathlib.Core.Bool.{Bool, true, false, _||_, cond}
 use mathlib.Core.Option.{Option, none, some}
-use mathlib.Core.List.{List, [], _∷_}
+use mathlib.Core.List.{List, _∷_}
 use Prim.Native.Nat.{ℕ, _+_, _-_, _≤_}
 use native.Mathlib.Omega.{arith}
 use native.Mathlib.Decide.{ℕ-discrete}
 use borrow.Author.Tests.{ne-eqb}
 use lib.Dec.{eqb}
-use lib.IntN.{pos}
-use lib.ListN.{length, take, drop}
+use lib.ListN.{take, drop}
 use Rattle.lists.proofs.Bools.{clash}
 use Rattle.meaning.specs.Tokens as M
 use Rattle.meaning.specs.Tokens.{keyword, name, operator, mark, comma, lparen, rparen, other, firstToken, tokens}
 use Rattle.meaning.specs.Grammar as G
-use Rattle.meaning.specs.Grammar.{Given, nameOf, constantOf}
+use Rattle.meaning.specs.Grammar.{nameOf, constantOf}
 use Rattle.meaning.specs.Limits.{isWithin32}
 use Rattle.meaning.proofs.Stream.{tokens-some}
 use Rattle.token.specs.declared.Token.{Token}
@@ -23,7 +22,7 @@ use Rattle.token.specs.Tokens.{kindOf, valueOf, tokenOf, tokenAt, operatorNumbe
 use Rattle.token.proofs.Cases.{none-is, some-is}
 use Rattle.token.proofs.TokenKinds.{kind-some}
 use Rattle.token.proofs.Laws.{token-some}
-use Rattle.statement.specs.Places.{first, tokenOn, nameOn, givenOn, orMark, orEmpty}
+use Rattle.statement.specs.Places.{first, tokenOn, givenOn, orMark}
 use Rattle.statement.specs.Built.{shortGiven, isConstant}
 
 -- ---- kinds

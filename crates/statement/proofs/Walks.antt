@@ -1,7 +1,7 @@
 -- Loops over the first n members of a list, in which the invariant says what is left: members compared, looked up, tested, and written into an array.
 -- Assumes nothing.
-use mathlib.Core.Path.{_≡_, refl, sym, ap, ap₂, _∙_, subst}
-use mathlib.Core.Bool.{Bool, true, false, _&&_, _||_, cond, and-true}
+use mathlib.Core.Path.{_≡_, refl, sym, ap, ap₂, _∙_}
+use mathlib.Core.Bool.{Bool, true, false, _&&_, cond, and-true}
 use mathlib.Core.List.{List, [], _∷_, _++_, map}
 use Prim.Native.Nat.{ℕ, zero, suc, _+_, _-_, _≤_, _<_, min}
 use native.Mathlib.Nat.{le-of-suc-le-suc, not-suc-le-zero}
@@ -12,10 +12,10 @@ use borrow.Author.Tests.{eq-eqb, ne-eqb}
 use lib.Dec.{eqb}
 use lib.ListN.{length, getD, take, drop, set, replicate, length-take, length-set, length-replicate, length-map}
 use lib.Seq.{take-all, drop-cons, drop-nil, getD-take, sets, sets-eq}
-use Rattle.lists.specs.Lists.{any, all, repeats}
+use Rattle.lists.specs.Lists.{all}
 use Rattle.lists.specs.Tests.{eqList}
 use Rattle.lists.proofs.Bools.{and-assoc}
-use Rattle.meaning.specs.Names.{sameName, has, position}
+use Rattle.meaning.specs.Names.{sameName, position}
 use Rattle.statement.specs.Compiled.{padded}
 
 module _ {A : Type 0} where

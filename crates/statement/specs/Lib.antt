@@ -5,3 +5,4 @@ pub mod Catalog
 pub mod Compiled
 pub mod Built
 pub mod Sound
+pub mod Examples

@@ -12,8 +12,8 @@ use super::Value;
 use super::sentences::Entry;
 use token::Token;
 ghost use mathlib.Core.Path.{_≡_};
-ghost use mathlib.Core.Bool.{Bool, true, false, not, _&&_, _||_};
-ghost use mathlib.Core.List.{List, [], _∷_, map};
+ghost use mathlib.Core.Bool.{true, false, not, _&&_, _||_};
+ghost use mathlib.Core.List.{[], map};
 ghost use Prim.Native.Nat.{ℕ, _+_, _-_, _*_, _≤_, _<_, min};
 ghost use lib.Dec.{eqb, ltb, leb};
 ghost use lib.ListN.{length, take, drop, replicate};
@@ -25,10 +25,10 @@ ghost use Rattle.meaning.specs.Names.{sameName, has, position, tableNames};
 ghost use Rattle.meaning.specs.Statement.{numbered, operandOf, comparisonOf};
 ghost use Rattle.meaning.specs.Resolve.{resolveNodes};
 ghost use Rattle.meaning.specs.Cells.{areaSize, areasSize};
-ghost use Rattle.statement.specs.Places.{tokenOn, nameOn, givenOn, termOn, nodesOn};
+ghost use Rattle.statement.specs.Places.{nameOn, givenOn, termOn, nodesOn};
 ghost use Rattle.statement.specs.Sentences.{namesOn, givensOn};
 ghost use Rattle.statement.specs.Catalog.{nameOfStruct, namesOf, schemaOf, schemasOf};
-ghost use Rattle.statement.specs.Compiled.{padded, nameStruct, noName, valueStruct, operandStruct, comparisonStruct, noComparison, stepOf, conditionStruct, noSetting, noTable, noQuery, noUpdate, created as createdAs, asked as askedAs, changing as changingAs, refusedBy, settled};
+ghost use Rattle.statement.specs.Compiled.{padded, nameStruct, noName, valueStruct, operandStruct, comparisonStruct, noComparison, conditionStruct, noSetting, noTable, noQuery, noUpdate, created as createdAs, asked as askedAs, changing as changingAs, refusedBy, settled};
 ghost use Rattle.statement.specs.Built.{lowestBy, placesOf, shortName, shortNames, shortGiven, shortTerm, shortNodes, isConstant, rowsIn, rowsOn, markInValue, markInSide, comparisonOn, stepIn, settingsOn, operandBelow, sidesBelow, StepsAre, placesBelow, conditionBelow, Fits, tableOn, selectOn, insertOn, updateOn, deleteOn, overOn, formOn, besideOn};
 
 fn least(a: usize, b: usize) -> usize
@@ -39,7 +39,7 @@ fn least(a: usize, b: usize) -> usize
 
 // ---- names
 
-fn same_bytes(x: [u8; 12], y: [u8; 12], n: usize) -> bool
+fn same_bytes(x: [u8; Name::BYTES], y: [u8; Name::BYTES], n: usize) -> bool
     requires { ⌜ n ≤ 12 ⌝ }
     ensures { λ r. ⌜ r ≡ eqList eqb (take n x) (take n y) ⌝ }
 {
@@ -66,7 +66,7 @@ fn same_name(a: Name, b: Name) -> bool
 }
 
 // The first place of a name among the first `count` names, or how many those are.
-fn find(name: Name, names: [Name; 8], count: u8) -> u8
+fn find(name: Name, names: [Name; Table::COLUMNS], count: u8) -> u8
     ensures { λ r. ⌜ r ≡ position (namesOf names count) (nameOfStruct name) ⌝ }
 {
     let n = least(count as usize, Table::COLUMNS);
@@ -82,7 +82,7 @@ fn find(name: Name, names: [Name; 8], count: u8) -> u8
 }
 
 // The number of the table of that name, or how many tables there are.
-fn find_table(name: Name, tables: [Table; 8], used: u8) -> u8
+fn find_table(name: Name, tables: [Table; Table::TABLES], used: u8) -> u8
     ensures { λ r. ⌜ r ≡ position (tableNames (schemasOf tables used)) (nameOfStruct name) ⌝ }
 {
     let n = least(used as usize, Table::TABLES);
@@ -99,11 +99,16 @@ fn find_table(name: Name, tables: [Table; 8], used: u8) -> u8
 }
 
 // The places of the first n names among columns.
-fn positions(names: [Name; 8], n: usize, columns: [Name; 8], count: u8) -> [u8; 8]
+fn positions(
+    names: [Name; Table::COLUMNS],
+    n: usize,
+    columns: [Name; Table::COLUMNS],
+    count: u8,
+) -> [u8; Table::COLUMNS]
     requires { ⌜ n ≤ 8 ⌝ }
     ensures { λ r. ⌜ r ≡ padded 8 0 (placesOf (namesOf columns count) (namesOf names n)) ⌝ }
 {
-    let mut places = [0u8; 8];
+    let mut places = [0u8; Table::COLUMNS];
     let mut i = 0;
     while i < n {
         let x = names[i];
@@ -114,7 +119,7 @@ fn positions(names: [Name; 8], n: usize, columns: [Name; 8], count: u8) -> [u8; 
 }
 
 // Whether one of the first n names stands among them twice.
-fn is_repeated(names: [Name; 8], n: usize) -> bool
+fn is_repeated(names: [Name; Table::COLUMNS], n: usize) -> bool
     requires { ⌜ n ≤ 8 ⌝ }
     ensures { λ r. ⌜ r ≡ repeats sameName (namesOf names n) ⌝ }
 {
@@ -129,7 +134,7 @@ fn is_repeated(names: [Name; 8], n: usize) -> bool
 }
 
 // Whether the first n places are all below `limit`.
-fn are_below(places: [u8; 8], n: usize, limit: usize) -> bool
+fn are_below(places: [u8; Table::COLUMNS], n: usize, limit: usize) -> bool
     requires { ⌜ n ≤ 8 ⌝ }
     ensures { λ r. ⌜ r ≡ all (λ (i : ℕ). ltb i limit) (take n places) ⌝ }
 {
@@ -144,7 +149,7 @@ fn are_below(places: [u8; 8], n: usize, limit: usize) -> bool
 }
 
 // How many names the first `count` are.
-fn width(names: [Name; 8], count: u8) -> usize
+fn width(names: [Name; Table::COLUMNS], count: u8) -> usize
     ensures { λ r. ⌜ (r ≡ length (namesOf names count)) × (r ≤ 8) ⌝ }
 {
     least(count as usize, Table::COLUMNS)
@@ -159,7 +164,7 @@ fn area(t: Table) -> u32
 }
 
 // The cells of the areas of all tables.
-fn areas(tables: [Table; 8], used: u8) -> u32
+fn areas(tables: [Table; Table::TABLES], used: u8) -> u32
     ensures { λ r. ⌜ r ≡ areasSize (schemasOf tables used) ⌝ }
 {
     let n = least(used as usize, Table::TABLES);
@@ -181,7 +186,7 @@ fn name_from(text: &[u8], start: usize, end: usize) -> Name
     ensures { λ r. ⌜ r ≡ nameStruct (shortName (take (end - start) (drop start (now (text .entry))))) ⌝ }
 {
     let n = least(end - start, Name::BYTES);
-    let mut bytes = [0u8; 12];
+    let mut bytes = [0u8; Name::BYTES];
     let mut i = 0;
     while i < n {
         bytes[i] = text[start + i];
@@ -197,7 +202,7 @@ fn no_name() -> Name
     ensures { λ r. ⌜ r ≡ noName ⌝ }
 {
     Name {
-        bytes: [0u8; 12],
+        bytes: [0u8; Name::BYTES],
         len: 0,
     }
 }
@@ -230,7 +235,13 @@ fn value_at(text: &[u8], place: usize, marks: u8) -> Value
 }
 
 // A side of a comparison.
-fn operand_at(text: &[u8], place: usize, columns: [Name; 8], count: u8, marks: u8) -> Operand
+fn operand_at(
+    text: &[u8],
+    place: usize,
+    columns: [Name; Table::COLUMNS],
+    count: u8,
+    marks: u8,
+) -> Operand
     ensures { λ r. ⌜ r ≡ operandStruct (operandOf (namesOf columns count) marks (shortTerm (termOn (now (text .entry)) place))) ⌝ }
 {
     let t = token::next(text, place);
@@ -250,7 +261,7 @@ fn rows_in(z: i32) -> u16
     if z < 1 {
         return 0;
     }
-    if 512 < z {
+    if (Table::ROWS as i32) < z {
         return 0;
     }
     z as u16
@@ -263,14 +274,14 @@ fn rows_at(text: &[u8], place: usize) -> u16
     rows_in(t.value)
 }
 
-fn no_names() -> [Name; 8]
+fn no_names() -> [Name; Table::COLUMNS]
     ensures { λ r. ⌜ r ≡ replicate 8 noName ⌝ }
 {
-    [no_name(); 8]
+    [no_name(); Table::COLUMNS]
 }
 
 // The names of the first n items of a list.
-fn names_at(text: &[u8], list: [u16; 16], n: usize) -> [Name; 8]
+fn names_at(text: &[u8], list: [u16; 16], n: usize) -> [Name; Table::COLUMNS]
     requires { ⌜ n ≤ 8 ⌝ }
     ensures { λ r. ⌜ r ≡ padded 8 noName (map nameStruct (shortNames (namesOn (now (text .entry)) n list))) ⌝ }
 {
@@ -297,22 +308,22 @@ fn mark_in(v: Value) -> u8
 
 // Settings, and how many question marks they have.
 pub struct Settings {
-    pub all: [Setting; 8],
+    pub all: [Setting; Update::SETTINGS],
     pub marks: u8,
 }
 
-fn no_settings() -> [Setting; 8]
+fn no_settings() -> [Setting; Update::SETTINGS]
     ensures { λ r. ⌜ r ≡ replicate 8 noSetting ⌝ }
 {
     let none = Setting {
         column: 0,
         value: Value::Constant(0),
     };
-    [none; 8]
+    [none; Update::SETTINGS]
 }
 
 // The values of the first n items of a list, for these columns.
-fn settings_at(text: &[u8], list: [u16; 16], n: usize, columns: [u8; 8]) -> Settings
+fn settings_at(text: &[u8], list: [u16; 16], n: usize, columns: [u8; Table::COLUMNS]) -> Settings
     requires { ⌜ n ≤ 8 ⌝ }
     ensures { λ r. ⌜ r ≡ settingsOn (take n columns) (givensOn (now (text .entry)) n list) ⌝ }
 {
@@ -348,7 +359,7 @@ fn comparison_at(
     op: u16,
     left: u16,
     right: u16,
-    columns: [Name; 8],
+    columns: [Name; Table::COLUMNS],
     count: u8,
     marks: u8,
 ) -> Comparison
@@ -372,7 +383,7 @@ fn marks_of(c: Comparison) -> u8
     mark_of(a) + mark_of(b)
 }
 
-fn no_comparisons() -> [Comparison; 8]
+fn no_comparisons() -> [Comparison; Condition::COMPARISONS]
     ensures { λ r. ⌜ r ≡ replicate 8 noComparison ⌝ }
 {
     let none = Comparison {
@@ -380,7 +391,7 @@ fn no_comparisons() -> [Comparison; 8]
         op: 0,
         right: Operand::Constant(0),
     };
-    [none; 8]
+    [none; Condition::COMPARISONS]
 }
 
 fn step_in(node: u16) -> u8
@@ -392,11 +403,11 @@ fn step_in(node: u16) -> u8
     if node == 6 { 1 } else { 2 }
 }
 
-fn steps_at(places: [u16; 45], nodes: usize) -> [u8; 15]
+fn steps_at(places: [u16; 45], nodes: usize) -> [u8; Condition::STEPS]
     requires { ⌜ nodes ≤ 15 ⌝ }
     ensures { λ r. ⌜ StepsAre nodes places r ⌝ }
 {
-    let mut steps = [0u8; 15];
+    let mut steps = [0u8; Condition::STEPS];
     let mut i = 0;
     while i < nodes {
         let k = places[3 * i];
@@ -411,7 +422,7 @@ fn condition_at(
     text: &[u8],
     places: [u16; 45],
     nodes: usize,
-    columns: [Name; 8],
+    columns: [Name; Table::COLUMNS],
     count: u8,
     marks: u8,
 ) -> Condition
@@ -467,7 +478,7 @@ fn sides_below(c: Comparison, limit: usize) -> bool
 }
 
 // Whether all columns of a condition are below `limit`.
-fn columns_below(comparisons: [Comparison; 8], count: u8, limit: usize) -> bool
+fn columns_below(comparisons: [Comparison; Condition::COMPARISONS], count: u8, limit: usize) -> bool
     requires { ⌜ count ≤ 8 ⌝ }
     ensures { λ r. ⌜ r ≡ all (sidesBelow limit) (take count comparisons) ⌝ }
 {
@@ -502,7 +513,7 @@ fn lowest(unknown: bool, taken: bool, miscounted: bool, full: bool) -> u8
 
 // The refusal of a statement that names columns: the first n of `at` and those of its condition.
 fn refusal_of(
-    at: [u8; 8],
+    at: [u8; Table::COLUMNS],
     n: usize,
     condition: Condition,
     width: usize,
@@ -524,7 +535,7 @@ fn no_condition() -> Condition
 {
     Condition {
         comparisons: no_comparisons(),
-        steps: [0u8; 15],
+        steps: [0u8; Condition::STEPS],
         count: 0,
     }
 }
@@ -546,7 +557,7 @@ fn no_query() -> Query
 {
     Query {
         table: 0,
-        selected: [0u8; 8],
+        selected: [0u8; Table::COLUMNS],
         count: 0,
         parameters: 0,
         condition: no_condition(),
@@ -629,7 +640,13 @@ fn changing(number: u8, u: Update) -> Statement
 // ---- the five forms
 
 // Whether a table of that name is there, or a column twice.
-fn is_taken(name: Name, columns: [Name; 8], n: usize, tables: [Table; 8], used: u8) -> bool
+fn is_taken(
+    name: Name,
+    columns: [Name; Table::COLUMNS],
+    n: usize,
+    tables: [Table; Table::TABLES],
+    used: u8,
+) -> bool
     requires { ⌜ n ≤ 8 ⌝ }
     ensures { λ r. ⌜ r ≡ (has (tableNames (schemasOf tables used)) (nameOfStruct name) || repeats sameName (namesOf columns n)) ⌝ }
 {
@@ -638,14 +655,14 @@ fn is_taken(name: Name, columns: [Name; 8], n: usize, tables: [Table; 8], used: 
 }
 
 // How many tables there are.
-fn table_count(tables: [Table; 8], used: u8) -> usize
+fn table_count(tables: [Table; Table::TABLES], used: u8) -> usize
     ensures { λ r. ⌜ (r ≡ length (schemasOf tables used)) × (r ≤ 8) × (r ≡ min used 8) ⌝ }
 {
     least(used as usize, Table::TABLES)
 }
 
 // Whether there is no place for a table of that size.
-fn is_full(tables: [Table; 8], used: u8, cells: u32, size: u32) -> bool
+fn is_full(tables: [Table; Table::TABLES], used: u8, cells: u32, size: u32) -> bool
     ensures { λ r. ⌜ r ≡ (leb 8 (length (schemasOf tables used)) || ltb (cells - areasSize (schemasOf tables used)) size) ⌝ }
 {
     let taken = areas(tables, used);
@@ -653,11 +670,12 @@ fn is_full(tables: [Table; 8], used: u8, cells: u32, size: u32) -> bool
     (Table::TABLES <= table_count(tables, used)) | (left < size)
 }
 
+// TABLE: a new table.
 pub fn table(
     text: &[u8],
     list: [u16; 16],
     e: Entry,
-    tables: [Table; 8],
+    tables: [Table; Table::TABLES],
     used: u8,
     cells: u32,
 ) -> Statement
@@ -665,6 +683,7 @@ pub fn table(
     ensures { λ r. ⌜ r ≡ tableOn (now (text .entry)) list e (schemasOf tables used) cells ⌝ }
 {
     let n = e.listed as usize;
+    let listed = e.listed as u8;
     let name = name_at(text, e.table as usize);
     let columns = names_at(text, list, n);
     let capacity = rows_at(text, e.rows as usize);
@@ -673,19 +692,20 @@ pub fn table(
     let t = Table {
         name,
         columns,
-        count: e.listed as u8,
+        count: listed,
         capacity,
         rows: 0,
     };
     created(lowest(false, taken, false, full), t)
 }
 
+// SELECT from the table of that number, which has these columns.
 pub fn select(
     text: &[u8],
     list: [u16; 16],
     places: [u16; 45],
     e: Entry,
-    columns: [Name; 8],
+    columns: [Name; Table::COLUMNS],
     count: u8,
     table: u8,
     queries: u8,
@@ -694,34 +714,33 @@ pub fn select(
     ensures { λ r. ⌜ r ≡ selectOn (now (text .entry)) list places e (namesOf columns count) table queries ⌝ }
 {
     let n = e.listed as usize;
+    let listed = e.listed as u8;
+    let parameters = e.c.marks as u8;
     let names = names_at(text, list, n);
     let selected = positions(names, n, columns, count);
     let condition = condition_at(text, places, e.c.nodes as usize, columns, count, 0);
-    let number = refusal_of(
-        selected,
-        n,
-        condition,
-        width(columns, count),
-        false,
-        16 <= queries,
-    );
+    let full = Query::QUERIES <= (queries as usize);
+    let w = width(columns, count);
+    let number = refusal_of(selected, n, condition, w, false, full);
     let q = Query {
         table,
         selected,
-        count: e.listed as u8,
-        parameters: e.c.marks as u8,
+        count: listed,
+        parameters,
         condition,
     };
     asked(number, q)
 }
 
-const PLACES: [u8; 8] = [0, 1, 2, 3, 4, 5, 6, 7];
+// An INSERT's values stand in the order of the columns.
+const PLACES: [u8; Table::COLUMNS] = [0, 1, 2, 3, 4, 5, 6, 7];
 
+// INSERT, UPDATE and DELETE of that table.
 pub fn insert(
     text: &[u8],
     list: [u16; 16],
     e: Entry,
-    columns: [Name; 8],
+    columns: [Name; Table::COLUMNS],
     count: u8,
     table: u8,
     updates: u8,
@@ -730,15 +749,18 @@ pub fn insert(
     ensures { λ r. ⌜ r ≡ insertOn (now (text .entry)) list e (namesOf columns count) table updates ⌝ }
 {
     let n = e.listed as usize;
+    let listed = e.listed as u8;
+    let parameters = e.c.marks as u8;
     let s = settings_at(text, list, n, PLACES);
     let settings = s.all;
-    let number = lowest(false, false, n != width(columns, count), 16 <= updates);
+    let full = Update::UPDATES <= (updates as usize);
+    let number = lowest(false, false, n != width(columns, count), full);
     let u = Update {
         form: Update::INSERT,
         table,
         settings,
-        count: e.listed as u8,
-        parameters: e.c.marks as u8,
+        count: listed,
+        parameters,
         condition: no_condition(),
     };
     changing(number, u)
@@ -749,7 +771,7 @@ pub fn update(
     list: [u16; 16],
     places: [u16; 45],
     e: Entry,
-    columns: [Name; 8],
+    columns: [Name; Table::COLUMNS],
     count: u8,
     table: u8,
     updates: u8,
@@ -758,25 +780,22 @@ pub fn update(
     ensures { λ r. ⌜ r ≡ updateOn (now (text .entry)) list places e (namesOf columns count) table updates ⌝ }
 {
     let n = e.listed as usize;
+    let listed = e.listed as u8;
+    let parameters = e.c.marks as u8;
     let names = names_at(text, list, n);
     let at = positions(names, n, columns, count);
     let s = settings_at(text, list, n, at);
     let settings = s.all;
     let condition = condition_at(text, places, e.c.nodes as usize, columns, count, s.marks);
-    let number = refusal_of(
-        at,
-        n,
-        condition,
-        width(columns, count),
-        is_repeated(names, n),
-        16 <= updates,
-    );
+    let full = Update::UPDATES <= (updates as usize);
+    let w = width(columns, count);
+    let number = refusal_of(at, n, condition, w, is_repeated(names, n), full);
     let u = Update {
         form: Update::UPDATE,
         table,
         settings,
-        count: e.listed as u8,
-        parameters: e.c.marks as u8,
+        count: listed,
+        parameters,
         condition,
     };
     changing(number, u)
@@ -786,7 +805,7 @@ pub fn delete(
     text: &[u8],
     places: [u16; 45],
     e: Entry,
-    columns: [Name; 8],
+    columns: [Name; Table::COLUMNS],
     count: u8,
     table: u8,
     updates: u8,
@@ -794,21 +813,17 @@ pub fn delete(
     requires { ⌜ Fits (now text) places e ⌝ }
     ensures { λ r. ⌜ r ≡ deleteOn (now (text .entry)) places e (namesOf columns count) table updates ⌝ }
 {
+    let parameters = e.c.marks as u8;
     let condition = condition_at(text, places, e.c.nodes as usize, columns, count, 0);
-    let number = refusal_of(
-        PLACES,
-        0,
-        condition,
-        width(columns, count),
-        false,
-        16 <= updates,
-    );
+    let full = Update::UPDATES <= (updates as usize);
+    let w = width(columns, count);
+    let number = refusal_of(PLACES, 0, condition, w, false, full);
     let u = Update {
         form: Update::DELETE,
         table,
         settings: no_settings(),
         count: 0,
-        parameters: e.c.marks as u8,
+        parameters,
         condition,
     };
     changing(number, u)
@@ -820,7 +835,9 @@ pub fn delete(
 pub fn is_over(e: Entry) -> bool
     ensures { λ r. ⌜ r ≡ overOn e ⌝ }
 {
-    e.c.over | ((8 < e.listed) | ((Statement::MARKS < e.c.marks) | (15 < e.c.nodes)))
+    e.c.over
+        | ((Table::COLUMNS < (e.listed as usize))
+            | ((Statement::MARKS < e.c.marks) | (Condition::STEPS < (e.c.nodes as usize))))
 }
 
 // A question or an update of a table with these columns.
@@ -829,7 +846,7 @@ fn form(
     list: [u16; 16],
     places: [u16; 45],
     e: Entry,
-    columns: [Name; 8],
+    columns: [Name; Table::COLUMNS],
     count: u8,
     table: u8,
     queries: u8,
@@ -856,7 +873,7 @@ pub fn beside(
     list: [u16; 16],
     places: [u16; 45],
     e: Entry,
-    tables: [Table; 8],
+    tables: [Table; Table::TABLES],
     used: u8,
     queries: u8,
     updates: u8,

@@ -64,7 +64,7 @@ fn opposite(op: u8) -> u8
 
 // ---- nodes
 
-// How many numbers there is room for: three a node, and 15 nodes. Only of an array by value is the length known to a proof; the compiled code copies nothing.
+// How many numbers there is room for: three a node, and 15 nodes.
 fn room(places: [u16; 45]) -> usize
     ensures { λ r. ⌜ (r ≡ 45) × (length places ≡ 45) ⌝ }
 {
@@ -88,7 +88,6 @@ fn put(places: &mut [u16; 45], c: Cursor, node: u16, left: u16, right: u16) -> C
     d
 }
 
-// x or y, by a test.
 fn either(test: bool, x: u16, y: u16) -> u16
     ensures { λ r. ⌜ r ≡ cond test x y ⌝ }
 {

@@ -1,6 +1,5 @@
 -- `are_below` meets its contract. The invariant: the places left tell. Assumes nothing.
 use Prim.Native.Nat.{ℕ, _-_}
-use native.Mathlib.Omega.{arith}
 use lib.Dec.{ltb}
 use borrow.Author.Needs.{needs}
 use Rattle.statement.proofs.Walks.{Tested, tested-start, tested-more, tested-end}

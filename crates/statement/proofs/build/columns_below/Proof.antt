@@ -1,7 +1,7 @@
 -- `columns_below` meets its contract. The invariant: the comparisons left tell. Assumes nothing.
 use borrow.Author.Needs.{needs}
 use mathlib.Core.Path.{_≡_}
-use Prim.Native.Nat.{ℕ, _+_, _-_}
+use Prim.Native.Nat.{_-_}
 use native.Mathlib.Omega.{arith}
 use lib.ListN.{length}
 use Rattle.statement.specs.Built.{sidesBelow}

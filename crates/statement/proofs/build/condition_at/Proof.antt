@@ -1,10 +1,8 @@
 -- `condition_at` meets its contract. The invariant: the nodes left are still to be resolved. Assumes nothing.
 use borrow.Author.Needs.{needs}
-use mathlib.Core.Path.{_≡_}
 use mathlib.Core.Logic.{⊎-elim}
-use Prim.Native.Nat.{ℕ, _+_, _-_, _≤_}
+use Prim.Native.Nat.{_-_}
 use native.Mathlib.Omega.{arith}
-use lib.ListN.{length}
 use Rattle.statement.specs.Catalog.{namesOf}
 use Rattle.statement.proofs.Parts.{mark-few}
 use Rattle.statement.proofs.Resolving.{Resolving, resolving-start, resolving-room, resolving-more, resolving-pass, resolving-end}

@@ -1,13 +1,18 @@
 -- `insert` meets its contract. Assumes nothing.
 use borrow.Author.Needs.{needs}
 use mathlib.Core.Path.{refl}
-use mathlib.Core.List.{[]}
 use Rattle.statement.proofs.Assembled.{insert-made}
 use Rattle.statement.proofs.build.insert.Statement.{statement}
 use Rattle.statement.proofs.build.insert.Tie as tie
 
 cast-n : tie.Need-cast-n
 cast-n c = search needs
+
+cast-listed : tie.Need-cast-listed
+cast-listed c = search needs
+
+cast-parameters : tie.Need-cast-parameters
+cast-parameters c = search needs
 
 settings-at-requires : tie.Need-settings-at-requires
 settings-at-requires c κs = search needs
@@ -18,12 +23,6 @@ width-requires c κs = search needs
 lowest-requires : tie.Need-lowest-requires
 lowest-requires c κs = search needs
 
-cast-t17 : tie.Need-cast-t17
-cast-t17 c = search needs
-
-cast-t18 : tie.Need-cast-t18
-cast-t18 c = search needs
-
 no-condition-requires : tie.Need-no-condition-requires
 no-condition-requires c κs = search needs
 
@@ -32,7 +31,7 @@ changing-requires c κs = search needs
 
 returns : tie.Need-returns
 returns c =
-    let d = c .before .before .before .before in
+    let d = c .before .before in
     insert-made _ _ _ _ _ _ _ _ _ _ _ _ (d .before .before .before .settings-at .ensures) refl (c .before .no-condition .ensures) (d .before .width .ensures .0)
     (d .lowest .ensures) (c .changing .ensures)
 
@@ -41,11 +40,11 @@ insert-spec =
     tie.close
     (tie.spec
     cast-n
+    cast-listed
+    cast-parameters
     settings-at-requires
     width-requires
     lowest-requires
-    cast-t17
-    cast-t18
     no-condition-requires
     changing-requires
     returns)

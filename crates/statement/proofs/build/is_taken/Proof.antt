@@ -1,6 +1,5 @@
 -- `is_taken` meets its contract. Assumes nothing.
 use borrow.Author.Needs.{needs}
-use Rattle.meaning.specs.Names.{tableNames}
 use Rattle.statement.specs.Catalog.{nameOfStruct, namesOf, schemasOf}
 use Rattle.statement.proofs.Assembled.{taken-made}
 use Rattle.statement.proofs.build.is_taken.Statement.{statement}

@@ -1,9 +1,6 @@
 -- `marks_of` meets its contract. Assumes nothing.
 use borrow.Author.Needs.{needs}
 use native.Mathlib.Omega.{arith}
-use Prim.Native.Nat.{ℕ, _≤_}
-use Rattle.statement.specs.declared.Operand.{Operand}
-use Rattle.statement.specs.Built.{markInSide}
 use Rattle.statement.proofs.Parts.{mark-few}
 use Rattle.statement.proofs.build.marks_of.Statement.{statement}
 use Rattle.statement.proofs.build.marks_of.Tie as tie

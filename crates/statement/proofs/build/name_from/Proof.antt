@@ -1,9 +1,9 @@
 -- `name_from` meets its contract. The invariant: the bytes left are still to be copied. Assumes nothing.
 use borrow.Author.Needs.{needs}
 use mathlib.Core.Path.{_≡_, refl, sym, ap, _∙_}
-use Prim.Native.Nat.{_-_, _+_, _≤_, min}
+use Prim.Native.Nat.{_-_, _≤_, min}
 use native.Mathlib.Omega.{arith}
-use lib.ListN.{length, take, drop}
+use lib.ListN.{take, drop}
 use Rattle.statement.specs.Compiled.{padded, nameStruct}
 use Rattle.statement.proofs.Walks.{rest, rest-none, Fills, fills-start, fills-more, fills-end}
 use Rattle.statement.proofs.Values.{part-length, take-short, rest-byte, name-of}

@@ -10,6 +10,9 @@ use Rattle.statement.proofs.build.rows_in.Tie as tie
 returns : tie.Need-returns
 returns c = rows-low _ _ (toZ-ofZ (c .before .fits .z)) (c .if1 .taken)
 
+cast-if2 : tie.Need-cast-if2
+cast-if2 c = search needs
+
 returns-2 : tie.Need-returns-2
 returns-2 c = rows-high _ _ (toZ-ofZ (c .before .before .fits .z)) (c .before .if1 .left) (c .if2 .taken)
 
@@ -20,4 +23,4 @@ returns-3 : tie.Need-returns-3
 returns-3 c = rows-inside _ _ (toZ-ofZ (c .before .before .fits .z)) (c .before .if1 .left) (c .if2 .left)
 
 pub rows-in-spec : {M : Type 1} → statement M
-rows-in-spec = tie.close (tie.spec returns returns-2 cast-result returns-3)
+rows-in-spec = tie.close (tie.spec returns cast-if2 returns-2 cast-result returns-3)

@@ -7,6 +7,12 @@ use Rattle.statement.proofs.build.select.Tie as tie
 cast-n : tie.Need-cast-n
 cast-n c = search needs
 
+cast-listed : tie.Need-cast-listed
+cast-listed c = search needs
+
+cast-parameters : tie.Need-cast-parameters
+cast-parameters c = search needs
+
 names-at-requires : tie.Need-names-at-requires
 names-at-requires c κs = search needs
 
@@ -23,20 +29,14 @@ width-requires : tie.Need-width-requires
 width-requires c κs = search needs
 
 refusal-of-requires : tie.Need-refusal-of-requires
-refusal-of-requires c κs = (c .before .before .before .before .before .before .before .pre .listed, condition-few _ _ _ _ _ (c .before .before .before .before .before .before .before .pre) _ (c .before .condition-at .ensures))
-
-cast-t17 : tie.Need-cast-t17
-cast-t17 c = search needs
-
-cast-t18 : tie.Need-cast-t18
-cast-t18 c = search needs
+refusal-of-requires c κs = (c .before .before .before .before .before .before .before .before .before .pre .listed, condition-few _ _ _ _ _ (c .before .before .before .before .before .before .before .before .before .pre) _ (c .before .condition-at .ensures))
 
 asked-requires : tie.Need-asked-requires
 asked-requires c κs = search needs
 
 returns : tie.Need-returns
 returns c =
-    let d = c .before .before .before in
+    let d = c .before in
     select-made _ _ _ _ _ _ _ _ _ _ _ _ _ (d .before .before .before .before .before .names-at .ensures) (d .before .before .before .before .positions .ensures) (d .before .before .condition-at .ensures) (d .before .width .ensures .0)
     (d .refusal-of .ensures) (c .asked .ensures)
 
@@ -45,13 +45,13 @@ select-spec =
     tie.close
     (tie.spec
     cast-n
+    cast-listed
+    cast-parameters
     names-at-requires
     positions-requires
     cast-condition-at
     condition-at-requires
     width-requires
     refusal-of-requires
-    cast-t17
-    cast-t18
     asked-requires
     returns)

@@ -1,7 +1,7 @@
 -- `settings_at` meets its contract. The invariant: the settings left are still to be read. Assumes nothing.
 use borrow.Author.Needs.{needs}
 use mathlib.Core.Path.{_≡_}
-use Prim.Native.Nat.{ℕ, _-_, _≤_}
+use Prim.Native.Nat.{_-_}
 use native.Mathlib.Omega.{arith}
 use lib.ListN.{length}
 use Rattle.statement.proofs.Parts.{mark-value-few}

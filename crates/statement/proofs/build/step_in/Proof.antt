@@ -1,5 +1,4 @@
 -- `step_in` meets its contract. Assumes nothing.
-use borrow.Author.Needs.{needs}
 use borrow.Author.Tests.{lt-ltb, le-ltb, eq-eqb, ne-eqb}
 use Rattle.statement.proofs.build.step_in.Statement.{statement}
 use Rattle.statement.proofs.build.step_in.Tie as tie

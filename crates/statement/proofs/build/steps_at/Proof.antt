@@ -1,11 +1,10 @@
 -- `steps_at` meets its contract. The invariant: the steps left are still to be noted. Assumes nothing.
 use borrow.Author.Needs.{needs}
-use mathlib.Core.Path.{_≡_, refl, sym, ap, _∙_}
+use mathlib.Core.Path.{refl, sym, ap, _∙_}
 use mathlib.Core.List.{List, [], _∷_, map}
 use Prim.Native.Nat.{ℕ, _+_, _-_, _*_, _≤_}
 use native.Mathlib.Omega.{arith}
 use lib.ListN.{length, getD, length-map}
-use Rattle.statement.specs.Places.{nodesOn}
 use Rattle.statement.specs.Compiled.{padded, stepOf}
 use Rattle.statement.proofs.Walks.{Fills, fills-start, fills-more, fills-end}
 use Rattle.statement.proofs.Left.{nodesLeft, length-nodes, nodes-all, nodes-cons, nodes-none}

@@ -1,6 +1,6 @@
 -- `table` meets its contract. Assumes nothing.
 use borrow.Author.Needs.{needs}
-use Prim.Native.Nat.{_≤_, _*_}
+use Prim.Native.Nat.{_≤_}
 use mathlib.Core.Path.{refl}
 use native.Mathlib.Omega.{arith}
 use Rattle.statement.proofs.Found.{area-small}
@@ -10,6 +10,9 @@ use Rattle.statement.proofs.build.table.Tie as tie
 
 cast-n : tie.Need-cast-n
 cast-n c = search needs
+
+cast-listed : tie.Need-cast-listed
+cast-listed c = search needs
 
 cast-name-at : tie.Need-cast-name-at
 cast-name-at c = search needs
@@ -37,15 +40,12 @@ cast-is-full-2 c = search needs
 
 mul-is-full : tie.Need-mul-is-full
 mul-is-full c =
-    let e = c .before .before .before .before .before .before .before .before .before .args .e in
+    let e = c .before .before .before .before .before .before .before .before .before .before .args .e in
     let k : c .before .before .rows-at .result ≤ 65535 = search needs in
-    record { fits = omega (arith, area-small (e .listed) (c .before .before .rows-at .result) (c .before .before .before .before .before .before .before .before .before .pre) k) }
+    record { fits = omega (arith, area-small (e .listed) (c .before .before .rows-at .result) (c .before .before .before .before .before .before .before .before .before .before .pre) k) }
 
 is-full-requires : tie.Need-is-full-requires
 is-full-requires c κs = search needs
-
-cast-created : tie.Need-cast-created
-cast-created c = search needs
 
 lowest-requires : tie.Need-lowest-requires
 lowest-requires c κs = search needs
@@ -55,7 +55,7 @@ created-requires c κs = search needs
 
 returns : tie.Need-returns
 returns c =
-    let d = c .before .before .before in
+    let d = c .before .before in
     let g = d .before .before .before in
     table-made _ _ _ _ _ _ _ _ _ _ _ _ _ (g .before .before .before .name-at .ensures) (g .before .before .names-at .ensures) (g .rows-at .ensures)
     (d .before .before .is-taken .ensures) refl (d .is-full .ensures) (c .before .lowest .ensures) (c .created .ensures)
@@ -65,6 +65,7 @@ table-spec =
     tie.close
     (tie.spec
     cast-n
+    cast-listed
     cast-name-at
     name-at-requires
     names-at-requires
@@ -75,7 +76,6 @@ table-spec =
     cast-is-full-2
     mul-is-full
     is-full-requires
-    cast-created
     lowest-requires
     created-requires
     returns)

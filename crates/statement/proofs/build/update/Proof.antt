@@ -1,7 +1,6 @@
 -- `update` meets its contract. Assumes nothing.
 use borrow.Author.Needs.{needs}
-use mathlib.Core.Path.{_≡_, refl, ap}
-use Prim.Native.Nat.{_≤_}
+use mathlib.Core.Path.{refl, ap}
 use native.Mathlib.Omega.{arith}
 use lib.ListN.{take}
 use Rattle.statement.specs.declared.build.Settings.{Settings}
@@ -11,6 +10,12 @@ use Rattle.statement.proofs.build.update.Tie as tie
 
 cast-n : tie.Need-cast-n
 cast-n c = search needs
+
+cast-listed : tie.Need-cast-listed
+cast-listed c = search needs
+
+cast-parameters : tie.Need-cast-parameters
+cast-parameters c = search needs
 
 names-at-requires : tie.Need-names-at-requires
 names-at-requires c κs = search needs
@@ -26,7 +31,7 @@ cast-condition-at c = search needs
 
 condition-at-requires : tie.Need-condition-at-requires
 condition-at-requires c κs =
-    let d = c .before .before .before .before .before .before .before in
+    let d = c .before .before .before .before .before .before .before .before .before in
     let f = d .pre in
     let a = d .args in
     let m = sets-few (a .text .now) (a .list) (a .e) (f .listed) (take (a .e .listed) (c .before .before .before .positions .result)) in
@@ -36,23 +41,17 @@ width-requires : tie.Need-width-requires
 width-requires c κs = search needs
 
 is-repeated-requires : tie.Need-is-repeated-requires
-is-repeated-requires c κs = search needs
+is-repeated-requires c κs = c .before .before .before .before .before .before .before .before .before .before .before .pre .listed
 
 refusal-of-requires : tie.Need-refusal-of-requires
-refusal-of-requires c κs = (c .before .before .before .before .before .before .before .before .before .before .pre .listed, condition-few _ _ _ _ _ (c .before .before .before .before .before .before .before .before .before .before .pre) _ (c .before .before .condition-at .ensures))
-
-cast-t20 : tie.Need-cast-t20
-cast-t20 c = record { fits = omega (arith, c .before .before .before .before .before .before .before .before .before .before .before .before .pre .listed) }
-
-cast-t21 : tie.Need-cast-t21
-cast-t21 c = record { fits = omega (arith, c .before .before .before .before .before .before .before .before .before .before .before .before .before .pre .marks) }
+refusal-of-requires c κs = (c .before .before .before .before .before .before .before .before .before .before .before .before .pre .listed, condition-few _ _ _ _ _ (c .before .before .before .before .before .before .before .before .before .before .before .before .pre) _ (c .before .before .condition-at .ensures))
 
 changing-requires : tie.Need-changing-requires
 changing-requires c κs = search needs
 
 returns : tie.Need-returns
 returns c =
-    let d = c .before .before .before in
+    let d = c .before in
     let g = d .before .before .before .before .before .before in
     update-made _ _ _ _ _ _ _ _ _ _ _ _ _ _ _ _ (g .before .before .names-at .ensures) (g .before .positions .ensures) (g .settings-at .ensures) refl
     (d .before .before .before .condition-at .ensures) (d .before .before .width .ensures .0) (d .before .is-repeated .ensures) (d .refusal-of .ensures) (c .changing .ensures)
@@ -62,6 +61,8 @@ update-spec =
     tie.close
     (tie.spec
     cast-n
+    cast-listed
+    cast-parameters
     names-at-requires
     positions-requires
     settings-at-requires
@@ -70,7 +71,5 @@ update-spec =
     width-requires
     is-repeated-requires
     refusal-of-requires
-    cast-t20
-    cast-t21
     changing-requires
     returns)

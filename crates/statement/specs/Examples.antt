@@ -1,0 +1,90 @@
+-- Texts beside a table t of the columns a and b with 3 rows, which takes all cells, and what they compile to. Assumes nothing: each holds by computing.
+use mathlib.Core.Path.{_≡_, refl}
+use mathlib.Core.List.{List, [], _∷_}
+use Prim.Native.Nat.{ℕ}
+use Prim.Native.String.{String}
+use lib.IntN.{pos}
+use Rattle.lists.specs.Lists.{bytes}
+use Rattle.meaning.specs.Tokens.{isNameByte, isWordByte, decimal, isName, word, negative, tokenFrom, firstToken, scan, tokens}
+use Rattle.meaning.specs.Grammar.{aCondition, aSentence, read}
+use Rattle.meaning.specs.Limits.{pastLimit}
+use Rattle.meaning.specs.Names.{unknown, taken, miscounted}
+use Rattle.meaning.specs.Statement.{statementOf}
+use Rattle.meaning.specs.Plain.{otherLengths, noPlace}
+use Rattle.statement.specs.Compiled.{padded, tableStruct, noComparison, noSetting, asked, changing, refusedBy, structOf, compiledOf}
+use Rattle.statement.specs.declared.Operand.the-variants.{Column, Constant, Parameter}
+use Rattle.statement.specs.declared.Value.the-variants.{Constant as ConstantValue, Parameter as ParameterValue}
+use Rattle.statement.specs.declared.Table.{Table}
+use Rattle.statement.specs.declared.Statement.{Statement}
+
+-- what the computations open
+computing : Unit {0}
+unfolding isNameByte isWordByte decimal isName word negative tokenFrom firstToken scan tokens aCondition aSentence read pastLimit unknown taken miscounted statementOf otherLengths noPlace structOf compiledOf
+computing = tt
+
+abbrev t : Table
+t = tableStruct (record { name = bytes "t"; columns = bytes "a" ∷ bytes "b" ∷ []; capacity = 3 })
+
+abbrev compiled : String → Statement
+compiled text = compiledOf (bytes text) (t ∷ []) 1 0 0 6
+
+-- NOT goes down to the comparisons, and AND becomes OR
+select-b :
+    compiled "SELECT b FROM t WHERE NOT (a = 1 AND b < ?)"
+    ≡ asked (record {
+      table = 0;
+      selected = padded 8 0 (1 ∷ []);
+      count = 1;
+      parameters = 1;
+      condition = record {
+        comparisons = padded 8 noComparison
+            (record { left = Column 0; op = 1; right = Constant (pos 1) } ∷ record { left = Column 1; op = 5; right = Parameter 0 } ∷ []);
+        steps = padded 15 0 (0 ∷ 0 ∷ 2 ∷ []);
+        count = 2;
+      };
+    })
+unfolding computing
+select-b = refl
+
+-- the marks of SET come before those of WHERE
+update-b-a :
+    compiled "UPDATE t SET b = ?, a = 5 WHERE ? = a"
+    ≡ changing (record {
+      form = 1;
+      table = 0;
+      settings = padded 8 noSetting (record { column = 1; value = ParameterValue 0 } ∷ record { column = 0; value = ConstantValue (pos 5) } ∷ []);
+      count = 2;
+      parameters = 2;
+      condition = record {
+        comparisons = padded 8 noComparison (record { left = Parameter 1; op = 0; right = Column 0 } ∷ []);
+        steps = padded 15 0 (0 ∷ []);
+        count = 1;
+      };
+    })
+unfolding computing
+update-b-a = refl
+
+-- no sentence; past a limit; an unknown column; a taken name; too few values; no cells left
+refused-4 : compiled "SELECT FROM t" ≡ refusedBy 4
+unfolding computing
+refused-4 = refl
+
+refused-5 : compiled "DELETE FROM a_name_too_long" ≡ refusedBy 5
+unfolding computing
+refused-5 = refl
+
+refused-6 : compiled "DELETE FROM t WHERE c = 1" ≡ refusedBy 6
+unfolding computing
+refused-6 = refl
+
+refused-7 : compiled "TABLE t (a) ROWS 1" ≡ refusedBy 7
+unfolding computing
+refused-7 = refl
+
+refused-8 : compiled "INSERT INTO t VALUES (1)" ≡ refusedBy 8
+unfolding computing
+refused-8 = refl
+
+refused-9 : compiled "TABLE u (a) ROWS 1" ≡ refusedBy 9
+unfolding computing
+refused-9 = refl
