@@ -135,7 +135,7 @@ impl Statement {
     // What a text says beside the first `used` tables, where there are so many questions and updates already, and so many cells.
     pub fn compile(
         text: &[u8],
-        tables: [Table; 8],
+        tables: [Table; Table::TABLES],
         used: u8,
         queries: u8,
         updates: u8,
@@ -155,7 +155,7 @@ impl Statement {
         if build::is_over(e) {
             return build::refused(5);
         }
-        if e.form == 0 {
+        if e.form == sentences::Entry::TABLE {
             return build::table(text, list, e, tables, used, cells);
         }
         build::beside(text, list, places, e, tables, used, queries, updates)
