@@ -24,7 +24,9 @@ use Rattle.meaning.specs.Statement as M
 use Rattle.meaning.specs.Statement.{resolvedWhere}
 use Rattle.meaning.proofs.Postfix.{sides-in, leaves-in, truth-postfix, clauses-postfix}
 use Rattle.meaning.proofs.Resolve.{Source, where-source, where-passes, outside-constants, resolve-where, resolve-marks, resolve-leaves}
-use Rattle.statement.specs.Sound.{comparisonRead, usedComparisons, usedSteps, conditionNodes, soundCondition, conditionMarks, operatorNumber, stepOf, AgreesCondition, ConditionFits}
+use Rattle.statement.specs.Sound.{comparisonRead, usedComparisons, usedSteps, conditionNodes, soundCondition, conditionMarks, AgreesCondition, ConditionFits}
+use Rattle.statement.specs.Compiled.{stepOf}
+use Rattle.token.specs.Tokens.{operatorNumber}
 use Rattle.statement.specs.declared.Comparison.{Comparison}
 use Rattle.statement.specs.declared.Condition.{Condition}
 use Rattle.statement.proofs.Stored.{all-map, steps-below, operators-below, read-length, read-steps, read-leaves, read-operators, read-constants, where-count}

@@ -20,7 +20,8 @@ use Rattle.meaning.specs.Statement as M
 use Rattle.meaning.specs.Statement.{value, constant, parameter, numberedAll, settings}
 use Rattle.meaning.proofs.Names.{same-is, position-is}
 use Rattle.meaning.proofs.Resolve.{same-name, position-at}
-use Rattle.statement.specs.Sound.{valueRead, settingRead, placedFrom, ValueFits}
+use Rattle.statement.specs.Sound.{valueRead, settingRead, ValueFits}
+use Rattle.statement.specs.Compiled.{placedFrom}
 use Rattle.statement.specs.declared.Value.{Value}
 use Rattle.statement.specs.declared.Value.the-variants as Stored
 use Rattle.statement.specs.declared.Setting.{Setting}

@@ -25,7 +25,8 @@ use Rattle.meaning.specs.Statement as M
 use Rattle.meaning.specs.Statement.{Statement, creates, asks, changes, insert, delete, update, value, numberedAll, settings, settingMarks, resolvedWhere, statementOf}
 use Rattle.meaning.proofs.Names.{has-position}
 use Rattle.meaning.proofs.Resolved.{items-some, numbered-length}
-use Rattle.statement.specs.Sound.{conditionNodes, usedSettings, settingRead, settingsRead, settingColumns, settingValues, settingOperands, soundCondition, conditionMarks, columnsAt, soundForm, soundUpdate, Passes, placedFrom, AgreesCondition, AgreesUpdate, FromUpdate, TableFits, TablesFit, UpdateFits}
+use Rattle.statement.specs.Sound.{conditionNodes, usedSettings, settingRead, settingsRead, settingColumns, settingValues, settingOperands, soundCondition, conditionMarks, columnsAt, soundForm, soundUpdate, Passes, AgreesCondition, AgreesUpdate, FromUpdate, TableFits, TablesFit, UpdateFits}
+use Rattle.statement.specs.Compiled.{placedFrom}
 use Rattle.statement.specs.declared.Condition.{Condition}
 use Rattle.statement.specs.declared.Update.{Update}
 use Rattle.statement.proofs.Stored.{map-twice}

@@ -18,7 +18,9 @@ use Rattle.meaning.specs.Limits.{isWithin32}
 use Rattle.meaning.specs.Statement as M
 use Rattle.meaning.proofs.Postfix.{nodes-count}
 use Rattle.statement.specs.Places.{operatorAt}
-use Rattle.statement.specs.Sound.{operandRead, comparisonRead, nodesRead, operatorNumber, stepOf, OperandFits, ComparisonFits}
+use Rattle.statement.specs.Sound.{operandRead, comparisonRead, nodesRead, OperandFits, ComparisonFits}
+use Rattle.statement.specs.Compiled.{stepOf}
+use Rattle.token.specs.Tokens.{operatorNumber}
 use Rattle.statement.specs.declared.Operand.{Operand}
 use Rattle.statement.specs.declared.Operand.the-variants.{Column, Constant, Parameter}
 use Rattle.statement.specs.declared.Comparison.{Comparison}

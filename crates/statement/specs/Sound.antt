@@ -23,6 +23,8 @@ use Rattle.meaning.specs.Statement as M
 use Rattle.meaning.specs.Statement.{column, value, constant, parameter, insert, delete, update, creates, asks, changes, statementOf}
 use Rattle.statement.specs.Places.{operatorAt}
 use Rattle.statement.specs.Catalog.{nameOfStruct, schemaOf}
+use Rattle.statement.specs.Compiled.{stepOf, formOfChange, settingsOfChange, whereOfChange}
+use Rattle.token.specs.Tokens.{operatorNumber}
 use Rattle.statement.specs.declared.Name.{Name}
 use Rattle.statement.specs.declared.Table.{Table}
 use Rattle.statement.specs.declared.Operand.{Operand}
@@ -170,19 +172,6 @@ pub record Passes (ts : List Schema) (s : Sentence) : Type 0 where
   pub fresh : taken ts s ≡ false
   pub counted : miscounted ts s ≡ false
 
-abbrev pub operatorNumber : Operator → ℕ
-operatorNumber eq = 0
-operatorNumber ne = 1
-operatorNumber lt = 2
-operatorNumber le = 3
-operatorNumber gt = 4
-operatorNumber ge = 5
-
-abbrev pub stepOf : {O : Type 0} → Node O → ℕ
-stepOf (leaf c) = 0
-stepOf allOf = 1
-stepOf anyOf = 2
-
 -- the stored condition is that WHERE in every used entry
 pub record AgreesCondition (c : Condition) (w : Where M.Operand) : Type 0 where
   pub count-is : c .count ≡ length (comparisonsIn w)
@@ -196,26 +185,6 @@ pub record AgreesQuery (q : Query) (r : M.Query) : Type 0 where
   pub selected-are : take (q .count) (q .selected) ≡ r .selected
   pub parameters-are : q .parameters ≡ r .parameters
   pub condition-is : AgreesCondition (q .condition) (r .condition)
-
--- what a change sets, each value of an INSERT at its own place; its WHERE; its form's number
-abbrev pub placedFrom : ℕ → List M.Value → List (ℕ × M.Value)
-placedFrom i [] = []
-placedFrom i (v ∷ vs) = (i, v) ∷ placedFrom (suc i) vs
-
-abbrev pub settingsOfChange : M.Change → List (ℕ × M.Value)
-settingsOfChange (insert vs) = placedFrom 0 vs
-settingsOfChange (delete w) = []
-settingsOfChange (update ss w) = ss
-
-abbrev pub whereOfChange : M.Change → Where M.Operand
-whereOfChange (insert vs) = always
-whereOfChange (delete w) = w
-whereOfChange (update ss w) = w
-
-abbrev pub formOfChange : M.Change → ℕ
-formOfChange (insert vs) = 0
-formOfChange (update ss w) = 1
-formOfChange (delete w) = 2
 
 pub record AgreesUpdate (u : Update) (r : M.Update) : Type 0 where
   pub form-is : u .form ≡ formOfChange (r .change)

@@ -1,10 +1,13 @@
 // Compiles statement texts, a line of standard input each, beside the tables that the lines before it made, and prints what each comes to. A line that is
 // just an exclamation mark empties the store. There are 5,000 cells.
+ghost use Prim.Native.Nat.{_≤_};
+ghost use lib.ListN.{length};
 use statement::Comparison;
 use statement::Condition;
 use statement::Name;
 use statement::Operand;
 use statement::Query;
+use statement::Setting;
 use statement::Statement;
 use statement::Table;
 use statement::Update;
@@ -48,13 +51,23 @@ fn print_number(n: u64) {
     io::print_decimal(OUT, n);
 }
 
+fn print_byte(n: u8) {
+    print_number(n as u64);
+}
+
+// The sum of a signed number and 2 to the 31.
+fn raised(z: i32) -> u64 {
+    ((z as i64) + 2147483648) as u64
+}
+
 fn print_signed(z: i32) {
-    if z < 0 {
+    let n = raised(z);
+    if n < 2147483648 {
         print(b"-");
-        io::print_decimal(OUT, (-(z as i64)) as u64);
-        return;
+        io::print_decimal(OUT, 2147483648 - n);
+    } else {
+        io::print_decimal(OUT, n - 2147483648);
     }
-    io::print_decimal(OUT, z as u64);
 }
 
 fn print_parameter(k: u8) {
@@ -102,85 +115,104 @@ fn print_comparison(c: Comparison) {
     print_operand(right);
 }
 
-// The steps of a condition, each comparison at its place.
-fn print_steps(c: Condition) {
-    let comparisons = c.comparisons;
-    let steps = c.steps;
-    let mut next = 0;
-    let mut i = 0;
-    while i < 15 && i + 1 < 2 * (c.count as usize) {
-        let step = steps[i];
-        if step == 0 {
-            if next < 8 {
-                print_comparison(comparisons[next]);
-                next += 1;
-            }
-        } else if step == 1 {
-            print(b" and");
-        } else {
-            print(b" or");
+// The lesser of two counts.
+fn least(count: usize, most: usize) -> usize
+    ensures { λ r. ⌜ r ≤ most ⌝ }
+{
+    if count < most { count } else { most }
+}
+
+// Prints a step of a condition, `printed` of whose comparisons are printed; how many are afterwards.
+fn print_step(step: u8, comparisons: [Comparison; 8], printed: usize) -> usize {
+    if step == 0 {
+        if printed < 8 {
+            let c = comparisons[printed];
+            print_comparison(c);
+            return printed + 1;
         }
-        i += 1;
+        return printed;
+    }
+    if step == 1 {
+        print(b" and");
+    } else {
+        print(b" or");
+    }
+    printed
+}
+
+// The first `count` steps of a condition, each comparison at its place.
+fn print_steps(comparisons: [Comparison; 8], steps: [u8; 15], count: usize) {
+    let n = least(count, 15);
+    let mut printed = 0;
+    for i in 0..n {
+        printed = print_step(steps[i], comparisons, printed);
     }
 }
 
 fn print_condition(c: Condition) {
     if c.count != 0 {
         print(b" if");
-        print_steps(c);
+        let comparisons = c.comparisons;
+        let steps = c.steps;
+        print_steps(comparisons, steps, 2 * (c.count as usize) - 1);
     }
 }
 
 fn print_marks(n: u8) {
     print(b" marks");
-    print_number(n as u64);
+    print_byte(n);
+}
+
+fn print_selected(selected: [u8; 8], count: u8) {
+    let n = least(count as usize, 8);
+    for i in 0..n {
+        print_byte(selected[i]);
+    }
 }
 
 fn print_query(q: Query) {
     print(b" on");
-    print_number(q.table as u64);
+    print_byte(q.table);
     print(b" selects");
     let selected = q.selected;
-    let mut i = 0;
-    while i < 8 && i < (q.count as usize) {
-        print_number(selected[i] as u64);
-        i += 1;
-    }
+    print_selected(selected, q.count);
     print_marks(q.parameters);
     let condition = q.condition;
     print_condition(condition);
 }
 
-fn print_settings(u: Update, columns: bool) {
-    let settings = u.settings;
-    let mut i = 0;
-    while i < 8 && i < (u.count as usize) {
-        print(b" ");
-        let s = settings[i];
-        if columns {
-            print_column(s.column);
-            print(b"=");
-        }
-        let value = s.value;
-        print_value(value);
-        i += 1;
+fn print_setting(s: Setting, columns: bool) {
+    print(b" ");
+    if columns {
+        print_column(s.column);
+        print(b"=");
+    }
+    let value = s.value;
+    print_value(value);
+}
+
+fn print_settings(settings: [Setting; 8], count: u8, columns: bool) {
+    let n = least(count as usize, 8);
+    for i in 0..n {
+        print_setting(settings[i], columns);
     }
 }
 
 fn print_update(u: Update) {
+    let settings = u.settings;
     if u.form == Update::INSERT {
         print(b" insert");
-        print_number(u.table as u64);
+        print_byte(u.table);
         print(b" values");
-        print_settings(u, false);
+        print_settings(settings, u.count, false);
     } else if u.form == Update::UPDATE {
         print(b" update");
-        print_number(u.table as u64);
+        print_byte(u.table);
         print(b" sets");
-        print_settings(u, true);
+        print_settings(settings, u.count, true);
     } else {
         print(b" delete");
-        print_number(u.table as u64);
+        print_byte(u.table);
     }
     print_marks(u.parameters);
     let condition = u.condition;
@@ -189,7 +221,7 @@ fn print_update(u: Update) {
 
 fn print_table(t: Table) {
     print(b" columns");
-    print_number(t.count as u64);
+    print_byte(t.count);
     print(b" rows");
     print_number(t.capacity as u64);
 }
@@ -219,17 +251,17 @@ fn added(s: Store, st: Statement) -> Store {
 fn print_statement(s: Store, st: Statement) {
     if st.kind == 1 {
         print(b"table");
-        print_number(s.used as u64);
+        print_byte(s.used);
         let t = st.table;
         print_table(t);
     } else if st.kind == 2 {
         print(b"query");
-        print_number(s.queries as u64);
+        print_byte(s.queries);
         let q = st.query;
         print_query(q);
     } else {
         print(b"update");
-        print_number(s.updates as u64);
+        print_byte(s.updates);
         let u = st.update;
         print_update(u);
     }
@@ -245,7 +277,7 @@ fn run(s: Store, text: &[u8]) -> Store {
     let st = Statement::compile(text, tables, s.used, s.queries, s.updates, 5000);
     if st.refusal != 0 {
         print(b"refused");
-        print_number(st.refusal as u64);
+        print_byte(st.refusal);
         print(b"\n");
         return s;
     }
@@ -255,7 +287,10 @@ fn run(s: Store, text: &[u8]) -> Store {
 }
 
 // Where the line that starts at `at` ends.
-fn line_end(input: &[u8], at: usize) -> usize {
+fn line_end(input: &[u8], at: usize) -> usize
+    requires { ⌜ at ≤ length (now input) ⌝ }
+    ensures { λ r. ⌜ (at ≤ r) × (r ≤ length (now (input .entry))) ⌝ }
+{
     let mut i = at;
     while i < input.len() {
         if input[i] == b'\n' {
