@@ -1,0 +1,176 @@
+-- What a text compiles to is a stored form that the test lets pass. Assumes nothing.
+use mathlib.Core.Path.{_≡_, refl, sym, ap, ap₂, _∙_, subst}
+use mathlib.Core.List.{List, [], _∷_, map}
+use Prim.Native.Nat.{ℕ, zero, suc, _+_, _*_, _-_}
+use mathlib.Core.Bool.{true}
+use native.Mathlib.Omega.{arith}
+use borrow.Author.Tests.{eqb-true}
+use lib.ListN.{length, take, length-map}
+use Rattle.lists.proofs.Bools.{and-left, and-right}
+use Rattle.meaning.specs.Condition as C
+use Rattle.meaning.specs.Condition.{Where, always, sides}
+use Rattle.meaning.specs.Postfix.{Node, leaf, allOf, anyOf, nodesIn, leaves}
+use Rattle.meaning.specs.Resolve.{markInOperand, isNumbered, numberedOn, numberedFrom}
+use Rattle.meaning.specs.Tokens as T
+use Rattle.meaning.specs.Grammar as G
+use Rattle.meaning.specs.Grammar.{Given, mark, Term, items, Sentence}
+use Rattle.meaning.specs.Limits.{markIn}
+use Rattle.meaning.specs.Names.{Schema, position, columnsOf}
+use Rattle.meaning.specs.Statement as M
+use Rattle.meaning.specs.Statement.{column, value, constant, parameter, creates, asks, changes, numbered, numberedAll, settings, settingMarks, resolvedWhere, statementOf}
+use Rattle.meaning.proofs.Postfix.{leaves-in}
+use Rattle.meaning.proofs.Resolve.{resolve-where, resolve-numbered}
+use Rattle.statement.specs.Catalog.{nameOfStruct}
+use Rattle.statement.specs.Compiled.{padded, nameStruct, noName, tableStruct, valueStruct, operandStruct, comparisonStruct, noComparison, stepOf, conditionStruct, queryStruct, settingStruct, noSetting, placedFrom, updateStruct}
+use Rattle.statement.specs.Sound.{valueRead, operandRead, comparisonRead, nodesRead, conditionNodes, usedComparisons, usedSteps, usedColumns, settingRead, AgreesCondition, AgreesQuery, AgreesUpdate, AgreesTable}
+use Rattle.statement.specs.declared.Name.{Name}
+use Rattle.statement.specs.declared.Comparison.{Comparison}
+use Rattle.statement.proofs.Operands.{operator-back}
+use Rattle.statement.proofs.Stored.{map-twice, where-count}
+use Rattle.statement.proofs.Assembled.{take-padded}
+use Rattle.statement.proofs.Values.{name-back}
+
+-- ---- conditions: what is stored is read back, where the question marks are counted from 1
+
+operand-back : (m : ℕ) (o : M.Operand) → isNumbered m o ≡ true → operandRead (operandStruct o) ≡ o
+operand-back m (column i) h = refl
+operand-back m (value (constant z)) h = refl
+operand-back m (value (parameter zero)) h = let e : 0 ≡ suc m = eqb-true 0 (suc m) h in absurd (omega arith)
+operand-back m (value (parameter (suc k))) h = refl
+
+comparison-back : (m n : ℕ) (c : C.Comparison M.Operand) → isNumbered m (c .left) ≡ true → isNumbered n (c .right) ≡ true → comparisonRead (comparisonStruct c) ≡ c
+comparison-back m n c h k = λ i. record {
+  left = operand-back m (c .left) h i;
+  op = operator-back (c .op) i;
+  right = operand-back n (c .right) k i;
+}
+
+nodes-back : (m : ℕ) (ns : List (Node M.Operand)) → numberedFrom m ns ≡ true → nodesRead (map stepOf ns) (map comparisonStruct (leaves ns)) ≡ ns
+nodes-back m [] h = refl
+nodes-back m (leaf c ∷ ns) h =
+    let n : ℕ = m + markInOperand (c .left) in
+    let k : numberedOn n (c .right ∷ sides (leaves ns)) ≡ true = and-right (isNumbered m (c .left)) _ h in
+    ap₂ (λ d r. leaf d ∷ r) (comparison-back m n c (and-left (isNumbered m (c .left)) _ h) (and-left (isNumbered n (c .right)) _ k))
+    (nodes-back (n + markInOperand (c .right)) ns (and-right (isNumbered n (c .right)) _ k))
+nodes-back m (allOf ∷ ns) h = ap (λ r. allOf ∷ r) (nodes-back m ns h)
+nodes-back m (anyOf ∷ ns) h = ap (λ r. anyOf ∷ r) (nodes-back m ns h)
+
+module _ (w : Where M.Operand) where
+  abbrev kept : List (Node M.Operand)
+  kept = nodesIn w
+
+  comparisons-back : usedComparisons (conditionStruct kept) ≡ map comparisonStruct (leaves kept)
+  comparisons-back =
+      take-padded 8 noComparison (map comparisonStruct (leaves kept)) (length (leaves kept)) (length-map (leaves kept) comparisonStruct)
+
+  steps-back : usedSteps (conditionStruct kept) ≡ map stepOf kept
+  steps-back =
+      take-padded 15 0 (map stepOf kept) (2 * length (leaves kept) - 1)
+      (length-map kept stepOf ∙ where-count w ∙ ap (λ n. 2 * n - 1) (sym (leaves-in w)))
+
+  -- the stored form of a WHERE whose question marks are numbered is that WHERE
+  pub condition-agrees : (m : ℕ) → numberedFrom m (nodesIn w) ≡ true → AgreesCondition (conditionStruct (nodesIn w)) w
+  unfolding conditionNodes
+  condition-agrees m h = record {
+    count-is = leaves-in w;
+    steps-are = steps-back;
+    operators-are = ap (map (λ (k : Comparison). k .op)) comparisons-back ∙ map-twice comparisonStruct (λ (k : Comparison). k .op) (leaves kept);
+    nodes-are = ap₂ nodesRead steps-back comparisons-back ∙ nodes-back m kept h;
+  }
+
+-- a resolved WHERE is numbered
+pub resolved-agrees : (columns : List T.Name) (m : ℕ) (w : Where Term)
+    → AgreesCondition (conditionStruct (nodesIn (resolvedWhere columns m w))) (resolvedWhere columns m w)
+resolved-agrees columns m w =
+    condition-agrees (resolvedWhere columns m w) m (ap (numberedFrom m) (resolve-where columns m w) ∙ resolve-numbered columns m (nodesIn w))
+
+-- ---- settings
+
+value-back : (m : ℕ) (v : Given) → valueRead (valueStruct (numbered m v)) ≡ numbered m v
+value-back m (G.constant z) = refl
+value-back m mark = refl
+
+inserted-back : (i m : ℕ) (vs : List Given)
+    → map (λ (s : ℕ × M.Value). settingRead (settingStruct s)) (placedFrom i (numberedAll m vs)) ≡ placedFrom i (numberedAll m vs)
+inserted-back i m [] = refl
+inserted-back i m (v ∷ vs) = ap₂ (λ a r. (i, a) ∷ r) (value-back m v) (inserted-back (suc i) (m + markIn v) vs)
+
+set-back : (columns : List T.Name) (m : ℕ) (ss : List (T.Name × Given))
+    → map (λ (s : ℕ × M.Value). settingRead (settingStruct s)) (settings columns m ss) ≡ settings columns m ss
+set-back columns m [] = refl
+set-back columns m (s ∷ ss) = ap₂ (λ a r. (position columns (s .0), a) ∷ r) (value-back m (s .1)) (set-back columns (m + markIn (s .1)) ss)
+
+settings-back : (ss : List (ℕ × M.Value)) → map (λ (s : ℕ × M.Value). settingRead (settingStruct s)) ss ≡ ss
+    → map settingRead (take (length ss) (padded 8 noSetting (map settingStruct ss))) ≡ ss
+settings-back ss h =
+    ap (map settingRead) (take-padded 8 noSetting (map settingStruct ss) (length ss) (length-map ss settingStruct))
+    ∙ map-twice settingStruct settingRead ss ∙ h
+
+-- ---- the three kinds of statements
+
+abbrev AgreesStatement : M.Statement → Type 0
+AgreesStatement (creates t) = AgreesTable (tableStruct t) t
+AgreesStatement (asks q) = AgreesQuery (queryStruct q) q
+AgreesStatement (changes u) = AgreesUpdate (updateStruct u) u
+
+-- the stored form of a table is that table
+pub table-agrees : (t : Schema) → AgreesTable (tableStruct t) t
+table-agrees t =
+    let e : usedColumns (tableStruct t) ≡ map nameStruct (t .columns) =
+    take-padded 8 noName (map nameStruct (t .columns)) (length (t .columns)) (length-map (t .columns) nameStruct) in
+    record {
+      name-length = refl;
+      name-is = name-back (t .name);
+      count-is = refl;
+      column-lengths = ap (map (λ (n : Name). n .len)) e ∙ map-twice nameStruct (λ (n : Name). n .len) (t .columns);
+      columns-are = ap (map nameOfStruct) e ∙ map-twice nameStruct nameOfStruct (t .columns) ∙ names (t .columns);
+      capacity-is = refl;
+    }
+  where
+    names : (ns : List T.Name) → map (λ (n : T.Name). nameOfStruct (nameStruct n)) ns ≡ ns
+    names [] = refl
+    names (n ∷ ns) = ap₂ _∷_ (name-back n) (names ns)
+
+statement-agrees : (ts : List Schema) (s : Sentence) → AgreesStatement (statementOf ts s)
+unfolding statementOf
+statement-agrees ts (G.table t cs z) = table-agrees _
+statement-agrees ts (G.select cs t w) = record {
+  table-is = refl;
+  count-is = refl;
+  selected-are = take-padded 8 0 _ _ refl;
+  parameters-are = refl;
+  condition-is = resolved-agrees (columnsOf ts t) 0 w;
+}
+statement-agrees ts (G.insert t vs) = record {
+  form-is = refl;
+  table-is = refl;
+  count-is = refl;
+  settings-are = settings-back (placedFrom 0 (numberedAll 0 (items vs))) (inserted-back 0 0 (items vs));
+  parameters-are = refl;
+  condition-is = condition-agrees always 0 refl;
+}
+statement-agrees ts (G.update t ss w) = record {
+  form-is = refl;
+  table-is = refl;
+  count-is = refl;
+  settings-are = settings-back (settings (columnsOf ts t) 0 (items ss)) (set-back (columnsOf ts t) 0 (items ss));
+  parameters-are = refl;
+  condition-is = resolved-agrees (columnsOf ts t) (settingMarks (items ss)) w;
+}
+statement-agrees ts (G.delete t w) = record {
+  form-is = refl;
+  table-is = refl;
+  count-is = refl;
+  settings-are = refl;
+  parameters-are = refl;
+  condition-is = resolved-agrees (columnsOf ts t) 0 w;
+}
+
+module _ (ts : List Schema) (s : Sentence) where
+  -- the stored form of a sentence's question is that question
+  pub query-agrees : (q : M.Query) → statementOf ts s ≡ asks q → AgreesQuery (queryStruct q) q
+  query-agrees q e = subst AgreesStatement e (statement-agrees ts s)
+
+  -- and of its update that update
+  pub update-agrees : (u : M.Update) → statementOf ts s ≡ changes u → AgreesUpdate (updateStruct u) u
+  update-agrees u e = subst AgreesStatement e (statement-agrees ts s)
