@@ -29,5 +29,5 @@ pub mod Assembled
 pub mod Limited
 pub mod Known
 pub mod Compiles
-pub mod SoundCompiled
 pub mod Named
+pub mod SoundCompiled

@@ -1,34 +1,47 @@
 -- What a text compiles to is a stored form that the test lets pass. Assumes nothing.
 use mathlib.Core.Path.{_≡_, refl, sym, ap, ap₂, _∙_, subst}
+use mathlib.Core.Logic.{_⊎_, inl, inr}
+use mathlib.Core.Bool.{true, false}
+use mathlib.Core.Option.{Option, none, some}
 use mathlib.Core.List.{List, [], _∷_, map}
 use Prim.Native.Nat.{ℕ, zero, suc, _+_, _*_, _-_}
-use mathlib.Core.Bool.{true}
 use native.Mathlib.Omega.{arith}
 use borrow.Author.Tests.{eqb-true}
-use lib.ListN.{length, take, length-map}
-use Rattle.lists.proofs.Bools.{and-left, and-right}
+use lib.ListN.{length, take, drop, length-map}
+use Rattle.lists.specs.Lists.{All}
+use Rattle.lists.proofs.Bools.{and-left, and-right, clash}
+use Rattle.lists.proofs.Lists.{All-head, All-tail}
 use Rattle.meaning.specs.Condition as C
 use Rattle.meaning.specs.Condition.{Where, always, sides}
 use Rattle.meaning.specs.Postfix.{Node, leaf, allOf, anyOf, nodesIn, leaves}
 use Rattle.meaning.specs.Resolve.{markInOperand, isNumbered, numberedOn, numberedFrom}
 use Rattle.meaning.specs.Tokens as T
 use Rattle.meaning.specs.Grammar as G
-use Rattle.meaning.specs.Grammar.{Given, mark, Term, items, Sentence}
+use Rattle.meaning.specs.Grammar.{Given, mark, Term, items, Sentence, sentence}
 use Rattle.meaning.specs.Limits.{markIn}
 use Rattle.meaning.specs.Names.{Schema, position, columnsOf}
 use Rattle.meaning.specs.Statement as M
 use Rattle.meaning.specs.Statement.{column, value, constant, parameter, creates, asks, changes, numbered, numberedAll, settings, settingMarks, resolvedWhere, statementOf}
+use Rattle.meaning.specs.Plain as P
+use Rattle.meaning.specs.Plain.{Plain, schemas, addConditions, lowestOf}
+use Rattle.meaning.proofs.Accepted.{clear}
 use Rattle.meaning.proofs.Postfix.{leaves-in}
 use Rattle.meaning.proofs.Resolve.{resolve-where, resolve-numbered}
-use Rattle.statement.specs.Catalog.{nameOfStruct}
-use Rattle.statement.specs.Compiled.{padded, nameStruct, noName, tableStruct, valueStruct, operandStruct, comparisonStruct, noComparison, stepOf, conditionStruct, queryStruct, settingStruct, noSetting, placedFrom, updateStruct}
-use Rattle.statement.specs.Sound.{valueRead, operandRead, comparisonRead, nodesRead, conditionNodes, usedComparisons, usedSteps, usedColumns, settingRead, AgreesCondition, AgreesQuery, AgreesUpdate, AgreesTable}
+use Rattle.statement.specs.Catalog.{nameOfStruct, schemasOf, rowless, catalog}
+use Rattle.statement.specs.Compiled.{padded, nameStruct, noName, tableStruct, valueStruct, operandStruct, comparisonStruct, noComparison, stepOf, conditionStruct, queryStruct, settingStruct, noSetting, placedFrom, updateStruct, structOf, textConditions, structOfText, settled, compiledOf}
+use Rattle.statement.specs.Sound.{valueRead, operandRead, comparisonRead, nodesRead, conditionNodes, usedComparisons, usedSteps, usedColumns, settingRead, soundTable, soundQuery, soundUpdate, Passes, AgreesCondition, AgreesQuery, AgreesUpdate, AgreesTable}
 use Rattle.statement.specs.declared.Name.{Name}
+use Rattle.statement.specs.declared.Table.{Table}
 use Rattle.statement.specs.declared.Comparison.{Comparison}
+use Rattle.statement.specs.declared.Statement.{Statement}
 use Rattle.statement.proofs.Operands.{operator-back}
 use Rattle.statement.proofs.Stored.{map-twice, where-count}
 use Rattle.statement.proofs.Assembled.{take-padded}
 use Rattle.statement.proofs.Values.{name-back}
+use Rattle.statement.proofs.SoundTable.{source-table}
+use Rattle.statement.proofs.SoundQuery.{source-query}
+use Rattle.statement.proofs.SoundUpdate.{source-update}
+use Rattle.statement.proofs.Named.{sentence-named}
 
 -- ---- conditions: what is stored is read back, where the question marks are counted from 1
 
@@ -174,3 +187,76 @@ module _ (ts : List Schema) (s : Sentence) where
   -- and of its update that update
   pub update-agrees : (u : M.Update) → statementOf ts s ≡ changes u → AgreesUpdate (updateStruct u) u
   update-agrees u e = subst AgreesStatement e (statement-agrees ts s)
+
+-- ---- what a text compiles to
+
+-- a statement passes the test of its kind beside the tables: 1 a table, 2 a question, 3 an update
+pub record SoundStatement (ts : List Schema) (r : Statement) : Type 0 where
+  pub kind-is : (r .kind ≡ 1) ⊎ ((r .kind ≡ 2) ⊎ (r .kind ≡ 3))
+  pub table-sound : r .kind ≡ 1 → soundTable ts (r .table) ≡ true
+  pub query-sound : r .kind ≡ 2 → soundQuery ts (r .query) ≡ true
+  pub update-sound : r .kind ≡ 3 → soundUpdate ts (r .update) ≡ true
+
+-- the struct of a sentence that refusals 4 to 8 let pass
+pub struct-sound : (ts : List Schema) (s : Sentence) → Passes ts s → SoundStatement ts (structOf (statementOf ts s))
+unfolding structOf
+struct-sound ts s P = go (statementOf ts s) refl
+  where
+    go : (r : M.Statement) → statementOf ts s ≡ r → SoundStatement ts (structOf r)
+    go (creates t) e = record {
+      kind-is = inl refl;
+      table-sound = λ k. source-table ts (tableStruct t) (record { sentence = s; passes = P; schema = t; says = e; agrees = table-agrees t });
+      query-sound = λ k. absurd (omega arith);
+      update-sound = λ k. absurd (omega arith);
+    }
+    go (asks q) e = record {
+      kind-is = inr (inl refl);
+      table-sound = λ k. absurd (omega arith);
+      query-sound = λ k. source-query ts (queryStruct q) (record { sentence = s; passes = P; statement = q; says = e; agrees = query-agrees ts s q e });
+      update-sound = λ k. absurd (omega arith);
+    }
+    go (changes u) e = record {
+      kind-is = inr (inr refl);
+      table-sound = λ k. absurd (omega arith);
+      query-sound = λ k. absurd (omega arith);
+      update-sound = λ k. source-update ts (updateStruct u) (record { sentence = s; passes = P; statement = u; says = e; agrees = update-agrees ts s u e });
+    }
+
+-- a text is not refused only where no condition holds
+unrefused : (n : ℕ) (done : Statement) → settled n done .refusal ≡ 0 → n ≡ 0
+unrefused zero done h = refl
+unrefused (suc n) done h = h
+
+rowless-back : (ts : List Schema) → map (λ (t : P.Table). t .schema) (map rowless ts) ≡ ts
+rowless-back [] = refl
+rowless-back (t ∷ ts) = ap (λ r. t ∷ r) (rowless-back ts)
+
+module _ (text : List ℕ) (tables : List Table) (used queries updates cells : ℕ) where
+  abbrev store : Plain
+  store = catalog tables used queries updates cells
+
+  text-sound : (o : Option Sentence) → sentence text ≡ o → All (λ c. c .1 ≡ false) (drop 1 (addConditions (store .lengths) store text o))
+      → SoundStatement (schemas store) (structOfText (schemas store) o)
+  text-sound none e a = clash refl (All-head (All-tail a))
+  text-sound (some s) e a =
+      let a₅ = All-tail (All-tail a) in
+      let a₆ = All-tail a₅ in
+      let a₇ = All-tail a₆ in
+      struct-sound (schemas store) s (record {
+        named = sentence-named text s e;
+        within = All-head a₅;
+        known = All-head a₆;
+        fresh = All-head a₇;
+        counted = All-head (All-tail a₇);
+      })
+
+  -- what a text that is not refused compiles to passes the test
+  pub compiled-sound : compiledOf text tables used queries updates cells .refusal ≡ 0
+      → SoundStatement (schemasOf tables used) (compiledOf text tables used queries updates cells)
+  unfolding compiledOf
+  compiled-sound h =
+      let done : Statement = structOfText (schemas store) (sentence text) in
+      let clear-all : lowestOf (textConditions store text) ≡ 0 = unrefused (lowestOf (textConditions store text)) done h in
+      let s : SoundStatement (schemas store) done = text-sound (sentence text) refl (clear 2 (textConditions store text) refl .0 clear-all) in
+      let t : SoundStatement (schemasOf tables used) done = subst (λ ts. SoundStatement ts done) (rowless-back (schemasOf tables used)) s in
+      subst (λ n. SoundStatement (schemasOf tables used) (settled n done)) (sym clear-all) t
