@@ -51,7 +51,7 @@ module _ (tables : List Table) (used queries updates cells : ℕ) where
   rows-less [] = refl
   rows-less (t ∷ ts) = ap (λ (xs : List Schema). t ∷ xs) (rows-less ts)
 
-  schemas-are : schemas store ≡ there
+  pub schemas-are : schemas store ≡ there
   schemas-are = rows-less there
 
 -- ---- a sentence that was read, within the limits

@@ -34,6 +34,7 @@ use Rattle.statement.specs.declared.Name.{Name}
 use Rattle.statement.specs.declared.Table.{Table}
 use Rattle.statement.specs.declared.Comparison.{Comparison}
 use Rattle.statement.specs.declared.Statement.{Statement}
+use Rattle.statement.proofs.Compiles.{schemas-are}
 use Rattle.statement.proofs.Operands.{operator-back}
 use Rattle.statement.proofs.Stored.{map-twice, where-count}
 use Rattle.statement.proofs.Assembled.{take-padded}
@@ -227,10 +228,6 @@ unrefused : (n : ℕ) (done : Statement) → settled n done .refusal ≡ 0 → n
 unrefused zero done h = refl
 unrefused (suc n) done h = h
 
-rowless-back : (ts : List Schema) → map (λ (t : P.Table). t .schema) (map rowless ts) ≡ ts
-rowless-back [] = refl
-rowless-back (t ∷ ts) = ap (λ r. t ∷ r) (rowless-back ts)
-
 module _ (text : List ℕ) (tables : List Table) (used queries updates cells : ℕ) where
   abbrev store : Plain
   store = catalog tables used queries updates cells
@@ -258,5 +255,5 @@ module _ (text : List ℕ) (tables : List Table) (used queries updates cells : �
       let done : Statement = structOfText (schemas store) (sentence text) in
       let clear-all : lowestOf (textConditions store text) ≡ 0 = unrefused (lowestOf (textConditions store text)) done h in
       let s : SoundStatement (schemas store) done = text-sound (sentence text) refl (clear 2 (textConditions store text) refl .0 clear-all) in
-      let t : SoundStatement (schemasOf tables used) done = subst (λ ts. SoundStatement ts done) (rowless-back (schemasOf tables used)) s in
+      let t : SoundStatement (schemasOf tables used) done = subst (λ ts. SoundStatement ts done) (schemas-are tables used queries updates cells) s in
       subst (λ n. SoundStatement (schemasOf tables used) (settled n done)) (sym clear-all) t
