@@ -1,0 +1,13 @@
+pub mod Copied
+pub mod Assigning
+pub mod Work
+pub mod Updating
+pub mod Deleting
+pub mod Fitting
+pub mod Signs
+pub mod Stack
+pub mod Running
+pub mod ChangedMeans
+pub mod Selecting
+pub mod Answered
+pub mod Means
