@@ -44,7 +44,7 @@ fn value_of(value: Value, values: &[i32]) -> i32
 }
 
 // Writes a row behind the first n.
-fn insert_row(area: &mut [i32], columns: usize, n: u16, settings: [Setting; 8], values: &[i32])
+fn insert_row(area: &mut [i32], columns: usize, n: u16, settings: [Setting; Update::SETTINGS], values: &[i32])
     requires { ⌜ (columns ≤ 8) × (n * columns + columns ≤ length (now area)) ⌝ }
     ensures { λ _. ⌜ now (area .exit) ≡ stored (now (area .entry)) (n * columns) (rowsIn columns n (now (area .entry)) ++ (rowOf (take columns settings) (now (values .entry)) ∷ [])) ⌝ }
 {
@@ -62,7 +62,7 @@ fn insert_row(area: &mut [i32], columns: usize, n: u16, settings: [Setting; 8], 
 // ---- UPDATE
 
 // Sets columns of a row, in order; a column that the row does not have is passed over.
-fn assign(row: &mut [i32], settings: [Setting; 8], n: usize, values: &[i32])
+fn assign(row: &mut [i32], settings: [Setting; Update::SETTINGS], n: usize, values: &[i32])
     requires { ⌜ n ≤ 8 ⌝ }
     ensures { λ _. ⌜ now (row .exit) ≡ assigned (map settingRead (take n settings)) (now (values .entry)) (now (row .entry)) ⌝ }
 {
@@ -83,7 +83,7 @@ fn assign(row: &mut [i32], settings: [Setting; 8], n: usize, values: &[i32])
 fn update_row(
     row: &mut [i32],
     condition: Condition,
-    settings: [Setting; 8],
+    settings: [Setting; Update::SETTINGS],
     n: usize,
     values: &[i32],
 ) -> u16
@@ -104,7 +104,7 @@ fn update_rows(
     columns: usize,
     used: u16,
     condition: Condition,
-    settings: [Setting; 8],
+    settings: [Setting; Update::SETTINGS],
     n: usize,
     values: &[i32],
 ) -> u16
@@ -200,7 +200,7 @@ fn area_fits(table: Table, start: usize, cells: usize) -> bool
 fn form_fits(update: Update, table: Table) -> bool
     ensures { λ r. ⌜ r ≡ (leb (update .count) 8 && formFits (update .form) update table) ⌝ }
 {
-    if 8 < update.count {
+    if Update::SETTINGS < (update.count as usize) {
         return false;
     }
     if update.form == 0 {

@@ -20,7 +20,8 @@ ghost use Rattle.table.specs.Evaluated.{bit, nextHolds, joinedBits, step
 pub fn used(count: u8) -> usize
     ensures { λ r. ⌜ r ≡ min count 8 ⌝ }
 {
-    if count < 8 { count as usize } else { 8 }
+    let n = count as usize;
+    if n < Condition::COMPARISONS { n } else { Condition::COMPARISONS }
 }
 
 // n, or 0.
