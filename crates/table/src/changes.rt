@@ -44,7 +44,13 @@ fn value_of(value: Value, values: &[i32]) -> i32
 }
 
 // Writes a row behind the first n.
-fn insert_row(area: &mut [i32], columns: usize, n: u16, settings: [Setting; Update::SETTINGS], values: &[i32])
+fn insert_row(
+    area: &mut [i32],
+    columns: usize,
+    n: u16,
+    settings: [Setting; Update::SETTINGS],
+    values: &[i32],
+)
     requires { ⌜ (columns ≤ 8) × (n * columns + columns ≤ length (now area)) ⌝ }
     ensures { λ _. ⌜ now (area .exit) ≡ stored (now (area .entry)) (n * columns) (rowsIn columns n (now (area .entry)) ++ (rowOf (take columns settings) (now (values .entry)) ∷ [])) ⌝ }
 {

@@ -21,7 +21,11 @@ pub fn used(count: u8) -> usize
     ensures { λ r. ⌜ r ≡ min count 8 ⌝ }
 {
     let n = count as usize;
-    if n < Condition::COMPARISONS { n } else { Condition::COMPARISONS }
+    if n < Condition::COMPARISONS {
+        n
+    } else {
+        Condition::COMPARISONS
+    }
 }
 
 // n, or 0.
