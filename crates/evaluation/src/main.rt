@@ -19,10 +19,15 @@ const OUT: i32 = 1;
 
 const CELLS: usize = 8192;
 
+// The question marks of a statement, and the bytes of the longest record.
+const MARKS: usize = Statement::MARKS as usize;
+
+const RECORD: usize = 8 + 4 * (Query::SELECTED * (Table::ROWS as usize));
+
 struct Store {
-    tables: [Table; 8],
-    queries: [Query; 16],
-    updates: [Update; 16],
+    tables: [Table; Table::TABLES],
+    queries: [Query; Query::QUERIES],
+    updates: [Update; Update::UPDATES],
     used: u8,
     asked: u8,
     changed: u8,
@@ -32,12 +37,12 @@ struct Store {
 
 fn no_table() -> Table {
     let name = Name {
-        bytes: [0; 12],
+        bytes: [0; Name::BYTES],
         len: 0,
     };
     Table {
         name,
-        columns: [name; 8],
+        columns: [name; Table::COLUMNS],
         count: 0,
         capacity: 0,
         rows: 0,
@@ -51,8 +56,8 @@ fn no_condition() -> Condition {
         right: Operand::Constant(0),
     };
     Condition {
-        comparisons: [none; 8],
-        steps: [0; 15],
+        comparisons: [none; Condition::COMPARISONS],
+        steps: [0; Condition::STEPS],
         count: 0,
     }
 }
@@ -61,7 +66,7 @@ fn no_query() -> Query {
     let condition = no_condition();
     Query {
         table: 0,
-        selected: [0; 8],
+        selected: [0; Query::SELECTED],
         count: 0,
         parameters: 0,
         condition,
@@ -77,7 +82,7 @@ fn no_update() -> Update {
     Update {
         form: 0,
         table: 0,
-        settings: [none; 8],
+        settings: [none; Update::SETTINGS],
         count: 0,
         parameters: 0,
         condition,
@@ -89,9 +94,9 @@ fn empty() -> Store {
     let q = no_query();
     let u = no_update();
     Store {
-        tables: [t; 8],
-        queries: [q; 16],
-        updates: [u; 16],
+        tables: [t; Table::TABLES],
+        queries: [q; Query::QUERIES],
+        updates: [u; Update::UPDATES],
         used: 0,
         asked: 0,
         changed: 0,
@@ -239,8 +244,8 @@ fn area_end(start: usize, t: Table) -> usize {
 }
 
 // Where the area of table k starts.
-fn area_start(tables: [Table; 8], k: usize) -> usize {
-    let n = least(k, 8);
+fn area_start(tables: [Table; Table::TABLES], k: usize) -> usize {
+    let n = least(k, Table::TABLES);
     let mut start: usize = 0;
     for i in 0..n {
         start = area_end(start, tables[i]);
@@ -255,7 +260,7 @@ fn added(s: Store, st: Statement) -> Store {
     let mut next = s;
     if st.kind == Statement::TABLE {
         let i = s.used as usize;
-        if i < 8 {
+        if i < Table::TABLES {
             print_line(b"table", s.used as u64);
             let t = st.table;
             next.tables[i] = t;
@@ -263,7 +268,7 @@ fn added(s: Store, st: Statement) -> Store {
         }
     } else if st.kind == Statement::QUERY {
         let i = s.asked as usize;
-        if i < 16 {
+        if i < Query::QUERIES {
             print_line(b"query", s.asked as u64);
             let q = st.query;
             next.queries[i] = q;
@@ -271,7 +276,7 @@ fn added(s: Store, st: Statement) -> Store {
         }
     } else {
         let i = s.changed as usize;
-        if i < 16 {
+        if i < Update::UPDATES {
             print_line(b"update", s.changed as u64);
             let u = st.update;
             next.updates[i] = u;
@@ -291,9 +296,9 @@ fn add(s: Store, text: &[u8]) -> Store {
     added(s, st)
 }
 
-fn ask(tables: [Table; 8], q: Query, cells: &[i32], values: &[i32], out: &mut [u8]) {
+fn ask(tables: [Table; Table::TABLES], q: Query, cells: &[i32], values: &[i32], out: &mut [u8]) {
     let k = q.table as usize;
-    if k < 8 {
+    if k < Table::TABLES {
         let t = tables[k];
         let start = area_start(tables, k);
         table::select(q, t, start, cells, values, out);
@@ -302,10 +307,15 @@ fn ask(tables: [Table; 8], q: Query, cells: &[i32], values: &[i32], out: &mut [u
 }
 
 // The tables after an update.
-fn make(tables: [Table; 8], u: Update, cells: &mut [i32], values: &[i32]) -> [Table; 8] {
+fn make(
+    tables: [Table; Table::TABLES],
+    u: Update,
+    cells: &mut [i32],
+    values: &[i32],
+) -> [Table; Table::TABLES] {
     let mut next = tables;
     let k = u.table as usize;
-    if k < 8 {
+    if k < Table::TABLES {
         let mut t = tables[k];
         let start = area_start(tables, k);
         let c = table::change(u, t, start, cells, values);
@@ -317,7 +327,7 @@ fn make(tables: [Table; 8], u: Update, cells: &mut [i32], values: &[i32]) -> [Ta
 }
 
 fn ask_number(s: Store, n: usize, cells: &[i32], values: &[i32], out: &mut [u8]) {
-    if n < least(s.asked as usize, 16) {
+    if n < least(s.asked as usize, Query::QUERIES) {
         let tables = s.tables;
         let q = s.queries[n];
         ask(tables, q, cells, values, out);
@@ -326,7 +336,7 @@ fn ask_number(s: Store, n: usize, cells: &[i32], values: &[i32], out: &mut [u8])
 
 fn make_number(s: Store, n: usize, cells: &mut [i32], values: &[i32]) -> Store {
     let mut next = s;
-    if n < least(s.changed as usize, 16) {
+    if n < least(s.changed as usize, Update::UPDATES) {
         let tables = s.tables;
         let u = s.updates[n];
         let changed = make(tables, u, cells, values);
@@ -383,22 +393,22 @@ fn run_all(input: &[u8], cells: &mut [i32], values: &mut [i32], out: &mut [u8]) 
     }
 }
 
-fn no_cells() -> [i32; 8192]
+fn no_cells() -> [i32; CELLS]
     ensures { λ r. ⌜ 8192 ≡ length r ⌝ }
 {
-    [0; 8192]
+    [0; CELLS]
 }
 
-fn no_values() -> [i32; 8]
+fn no_values() -> [i32; MARKS]
     ensures { λ r. ⌜ 8 ≡ length r ⌝ }
 {
-    [0; 8]
+    [0; MARKS]
 }
 
-fn no_record() -> [u8; 16392]
+fn no_record() -> [u8; RECORD]
     ensures { λ r. ⌜ 16392 ≡ length r ⌝ }
 {
-    [0; 16392]
+    [0; RECORD]
 }
 
 fn main() {

@@ -9,6 +9,7 @@ use super::Statement;
 use super::Table;
 use super::Update;
 use super::Value;
+use super::conditions::Cursor;
 use super::sentences::Entry;
 use token::Token;
 ghost use mathlib.Core.Path.{_≡_};
@@ -281,7 +282,7 @@ fn no_names() -> [Name; Table::COLUMNS]
 }
 
 // The names of the first n items of a list.
-fn names_at(text: &[u8], list: [u16; 16], n: usize) -> [Name; Table::COLUMNS]
+fn names_at(text: &[u8], list: [u16; Entry::LIST], n: usize) -> [Name; Table::COLUMNS]
     requires { ⌜ n ≤ 8 ⌝ }
     ensures { λ r. ⌜ r ≡ padded 8 noName (map nameStruct (shortNames (namesOn (now (text .entry)) n list))) ⌝ }
 {
@@ -323,7 +324,12 @@ fn no_settings() -> [Setting; Update::SETTINGS]
 }
 
 // The values of the first n items of a list, for these columns.
-fn settings_at(text: &[u8], list: [u16; 16], n: usize, columns: [u8; Table::COLUMNS]) -> Settings
+fn settings_at(
+    text: &[u8],
+    list: [u16; Entry::LIST],
+    n: usize,
+    columns: [u8; Table::COLUMNS],
+) -> Settings
     requires { ⌜ n ≤ 8 ⌝ }
     ensures { λ r. ⌜ r ≡ settingsOn (take n columns) (givensOn (now (text .entry)) n list) ⌝ }
 {
@@ -403,7 +409,7 @@ fn step_in(node: u16) -> u8
     if node == 6 { 1 } else { 2 }
 }
 
-fn steps_at(places: [u16; 45], nodes: usize) -> [u8; Condition::STEPS]
+fn steps_at(places: [u16; Cursor::PLACES], nodes: usize) -> [u8; Condition::STEPS]
     requires { ⌜ nodes ≤ 15 ⌝ }
     ensures { λ r. ⌜ StepsAre nodes places r ⌝ }
 {
@@ -420,7 +426,7 @@ fn steps_at(places: [u16; 45], nodes: usize) -> [u8; Condition::STEPS]
 // The condition of the nodes that are noted, with columns of these names, where so many question marks stand before it.
 fn condition_at(
     text: &[u8],
-    places: [u16; 45],
+    places: [u16; Cursor::PLACES],
     nodes: usize,
     columns: [Name; Table::COLUMNS],
     count: u8,
@@ -673,7 +679,7 @@ fn is_full(tables: [Table; Table::TABLES], used: u8, cells: u32, size: u32) -> b
 // TABLE: a new table.
 pub fn table(
     text: &[u8],
-    list: [u16; 16],
+    list: [u16; Entry::LIST],
     e: Entry,
     tables: [Table; Table::TABLES],
     used: u8,
@@ -702,8 +708,8 @@ pub fn table(
 // SELECT from the table of that number, which has these columns.
 pub fn select(
     text: &[u8],
-    list: [u16; 16],
-    places: [u16; 45],
+    list: [u16; Entry::LIST],
+    places: [u16; Cursor::PLACES],
     e: Entry,
     columns: [Name; Table::COLUMNS],
     count: u8,
@@ -738,7 +744,7 @@ const PLACES: [u8; Table::COLUMNS] = [0, 1, 2, 3, 4, 5, 6, 7];
 // INSERT, UPDATE and DELETE of that table.
 pub fn insert(
     text: &[u8],
-    list: [u16; 16],
+    list: [u16; Entry::LIST],
     e: Entry,
     columns: [Name; Table::COLUMNS],
     count: u8,
@@ -768,8 +774,8 @@ pub fn insert(
 
 pub fn update(
     text: &[u8],
-    list: [u16; 16],
-    places: [u16; 45],
+    list: [u16; Entry::LIST],
+    places: [u16; Cursor::PLACES],
     e: Entry,
     columns: [Name; Table::COLUMNS],
     count: u8,
@@ -803,7 +809,7 @@ pub fn update(
 
 pub fn delete(
     text: &[u8],
-    places: [u16; 45],
+    places: [u16; Cursor::PLACES],
     e: Entry,
     columns: [Name; Table::COLUMNS],
     count: u8,
@@ -843,8 +849,8 @@ pub fn is_over(e: Entry) -> bool
 // A question or an update of a table with these columns.
 fn form(
     text: &[u8],
-    list: [u16; 16],
-    places: [u16; 45],
+    list: [u16; Entry::LIST],
+    places: [u16; Cursor::PLACES],
     e: Entry,
     columns: [Name; Table::COLUMNS],
     count: u8,
@@ -870,8 +876,8 @@ fn form(
 // A question or an update of one of the tables.
 pub fn beside(
     text: &[u8],
-    list: [u16; 16],
-    places: [u16; 45],
+    list: [u16; Entry::LIST],
+    places: [u16; Cursor::PLACES],
     e: Entry,
     tables: [Table; Table::TABLES],
     used: u8,

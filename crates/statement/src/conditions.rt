@@ -23,6 +23,11 @@ pub struct Cursor {
     pub at: u16,
 }
 
+impl Cursor {
+    // The numbers that are noted of a condition: three a node.
+    pub const PLACES: usize = 3 * Condition::STEPS;
+}
+
 // ---- tokens
 
 // How many bytes a token has.
@@ -32,7 +37,7 @@ fn span(start: usize, next: usize) -> usize
     if start <= next { next - start } else { 0 }
 }
 
-// A name of more than 12 bytes, or a constant outside 32 bits.
+// A name that is too long, or a constant outside 32 bits.
 pub fn is_past(t: Token) -> bool
     ensures { λ r. ⌜ r ≡ past t ⌝ }
 {
@@ -64,15 +69,15 @@ fn opposite(op: u8) -> u8
 
 // ---- nodes
 
-// How many numbers there is room for: three a node, and 15 nodes.
-fn room(places: [u16; 45]) -> usize
+// How many numbers there is room for.
+fn room(places: [u16; Cursor::PLACES]) -> usize
     ensures { λ r. ⌜ (r ≡ 45) × (length places ≡ 45) ⌝ }
 {
     places.len()
 }
 
-// A node at the end: a comparison (0 to 5) with the places of its sides, AND (6) or OR (7). Past the 15th none is noted, but it is counted.
-fn put(places: &mut [u16; 45], c: Cursor, node: u16, left: u16, right: u16) -> Cursor
+// A node at the end: a comparison (0 to 5) with the places of its sides, AND (6) or OR (7). Past the last place none is noted, but it is counted.
+fn put(places: &mut [u16; Cursor::PLACES], c: Cursor, node: u16, left: u16, right: u16) -> Cursor
     requires { ⌜ c .nodes < 256 ⌝ }
     ensures { λ r. ⌜ PutsNode (now (places .entry)) c node left right (now (places .exit)) r ⌝ }
 {
@@ -96,7 +101,7 @@ fn either(test: bool, x: u16, y: u16) -> u16
 
 // The comparison `op` of two tokens.
 fn put_comparison(
-    places: &mut [u16; 45],
+    places: &mut [u16; Cursor::PLACES],
     c: Cursor,
     positive: bool,
     depth: u16,
@@ -119,7 +124,13 @@ fn put_comparison(
 // ---- the readers
 
 // A condition of ORs. Under an odd number of NOTs it is not `positive`.
-pub fn read_or(text: &[u8], places: &mut [u16; 45], c: Cursor, positive: bool, depth: u16) -> Cursor
+pub fn read_or(
+    text: &[u8],
+    places: &mut [u16; Cursor::PLACES],
+    c: Cursor,
+    positive: bool,
+    depth: u16,
+) -> Cursor
     requires { ⌜ (Stands (now text) c) × (depth ≤ c .at) ⌝ }
     ensures { λ r. ⌜ Reads disjunction (now (text .entry)) positive depth c (now (places .entry)) r (now (places .exit)) ⌝ }
 {
@@ -140,7 +151,13 @@ pub fn read_or(text: &[u8], places: &mut [u16; 45], c: Cursor, positive: bool, d
 }
 
 // A condition of ANDs.
-fn read_and(text: &[u8], places: &mut [u16; 45], c: Cursor, positive: bool, depth: u16) -> Cursor
+fn read_and(
+    text: &[u8],
+    places: &mut [u16; Cursor::PLACES],
+    c: Cursor,
+    positive: bool,
+    depth: u16,
+) -> Cursor
     requires { ⌜ (Stands (now text) c) × (depth ≤ c .at) ⌝ }
     ensures { λ r. ⌜ Reads conjunction (now (text .entry)) positive depth c (now (places .entry)) r (now (places .exit)) ⌝ }
 {
@@ -179,7 +196,13 @@ fn closed(text: &[u8], c: Cursor) -> Cursor
 }
 
 // A single condition: NOT and a single one, a condition in parentheses, or a comparison.
-fn read_one(text: &[u8], places: &mut [u16; 45], c: Cursor, positive: bool, depth: u16) -> Cursor
+fn read_one(
+    text: &[u8],
+    places: &mut [u16; Cursor::PLACES],
+    c: Cursor,
+    positive: bool,
+    depth: u16,
+) -> Cursor
     requires { ⌜ (Stands (now text) c) × (depth ≤ c .at) ⌝ }
     ensures { λ r. ⌜ Reads atom (now (text .entry)) positive depth c (now (places .entry)) r (now (places .exit)) ⌝ }
 {
@@ -199,7 +222,7 @@ fn read_one(text: &[u8], places: &mut [u16; 45], c: Cursor, positive: bool, dept
 // A comparison, whose first token is read.
 fn read_comparison(
     text: &[u8],
-    places: &mut [u16; 45],
+    places: &mut [u16; Cursor::PLACES],
     c: Cursor,
     positive: bool,
     depth: u16,

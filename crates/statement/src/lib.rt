@@ -146,8 +146,8 @@ impl Statement {
         if Statement::TEXT < text.len() {
             return build::refused(3);
         }
-        let mut list = [0u16; 16];
-        let mut places = [0u16; 45];
+        let mut list = [0u16; sentences::Entry::LIST];
+        let mut places = [0u16; conditions::Cursor::PLACES];
         let e = sentences::read_sentence(text, &mut list, &mut places);
         if !e.c.ok {
             return build::refused(4);

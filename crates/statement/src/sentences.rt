@@ -33,6 +33,9 @@ pub struct Entry {
 }
 
 impl Entry {
+    // The numbers that are noted of a list: two an item.
+    pub const LIST: usize = 2 * Table::COLUMNS;
+
     pub const TABLE: u8 = 0;
 
     pub const SELECT: u8 = 1;
@@ -160,15 +163,15 @@ fn read_rows(text: &[u8], c: Cursor) -> Placed
 
 // ---- lists
 
-// How many numbers there is room for: two an item, and 8 items.
-fn room(list: [u16; 16]) -> usize
+// How many numbers there is room for.
+fn room(list: [u16; Entry::LIST]) -> usize
     ensures { λ r. ⌜ (r ≡ 16) × (length list ≡ 16) ⌝ }
 {
     list.len()
 }
 
 // An item at the end of the list, by the places of its name and its value. Past the eighth none is noted, but it is counted.
-fn put_item(list: &mut [u16; 16], listed: u16, name: u16, value: u16) -> u16
+fn put_item(list: &mut [u16; Entry::LIST], listed: u16, name: u16, value: u16) -> u16
     requires { ⌜ listed ≤ 256 ⌝ }
     ensures { λ r. ⌜ (r ≡ listed + 1) × PutsItem (now (list .entry)) listed name value (now (list .exit)) ⌝ }
 {
@@ -183,7 +186,13 @@ fn put_item(list: &mut [u16; 16], listed: u16, name: u16, value: u16) -> u16
 }
 
 // An item: a name, a value, or a setting.
-fn read_item(text: &[u8], list: &mut [u16; 16], c: Cursor, listed: u16, kind: u8) -> Listing
+fn read_item(
+    text: &[u8],
+    list: &mut [u16; Entry::LIST],
+    c: Cursor,
+    listed: u16,
+    kind: u8,
+) -> Listing
     requires { ⌜ Within (now text) c listed ⌝ }
     ensures { λ r. ⌜ ReadsItem (kindAt kind) (now (text .entry)) (now (list .entry)) c listed (now (list .exit)) r ⌝ }
 {
@@ -213,7 +222,13 @@ fn read_item(text: &[u8], list: &mut [u16; 16], c: Cursor, listed: u16, kind: u8
 }
 
 // Items, parted by commas. The text that is left gets shorter.
-fn read_list(text: &[u8], list: &mut [u16; 16], c: Cursor, listed: u16, kind: u8) -> Listing
+fn read_list(
+    text: &[u8],
+    list: &mut [u16; Entry::LIST],
+    c: Cursor,
+    listed: u16,
+    kind: u8,
+) -> Listing
     requires { ⌜ Within (now text) c listed ⌝ }
     ensures { λ r. ⌜ ReadsList (kindAt kind) (now (text .entry)) (now (list .entry)) c listed (now (list .exit)) r ⌝ }
 {
@@ -233,7 +248,7 @@ fn read_list(text: &[u8], list: &mut [u16; 16], c: Cursor, listed: u16, kind: u8
 // ---- WHERE
 
 // An optional WHERE.
-fn read_where(text: &[u8], places: &mut [u16; 45], c: Cursor) -> Cursor
+fn read_where(text: &[u8], places: &mut [u16; Cursor::PLACES], c: Cursor) -> Cursor
     requires { ⌜ Ready (now text) c ⌝ }
     ensures { λ r. ⌜ ReadsWhere (now (text .entry)) c (now (places .entry)) r (now (places .exit)) ⌝ }
 {
@@ -253,7 +268,7 @@ fn read_where(text: &[u8], places: &mut [u16; 45], c: Cursor) -> Cursor
 // ---- the five forms, after their first word
 
 // TABLE name ( names ) ROWS constant
-fn read_table(text: &[u8], list: &mut [u16; 16], c: Cursor) -> Entry
+fn read_table(text: &[u8], list: &mut [u16; Entry::LIST], c: Cursor) -> Entry
     requires { ⌜ Starts (now text) c ⌝ }
     ensures { λ r. ⌜ Lists aTable (now (text .entry)) c (now (list .exit)) r ⌝ }
 {
@@ -274,7 +289,12 @@ fn read_table(text: &[u8], list: &mut [u16; 16], c: Cursor) -> Entry
 }
 
 // SELECT names FROM name [WHERE condition]
-fn read_select(text: &[u8], list: &mut [u16; 16], places: &mut [u16; 45], c: Cursor) -> Entry
+fn read_select(
+    text: &[u8],
+    list: &mut [u16; Entry::LIST],
+    places: &mut [u16; Cursor::PLACES],
+    c: Cursor,
+) -> Entry
     requires { ⌜ Starts (now text) c ⌝ }
     ensures { λ r. ⌜ ReadsForm aSelect (now (text .entry)) c (now (list .exit)) (now (places .exit)) r ⌝ }
 {
@@ -290,7 +310,7 @@ fn read_select(text: &[u8], list: &mut [u16; 16], places: &mut [u16; 45], c: Cur
 }
 
 // INSERT INTO name VALUES ( values )
-fn read_insert(text: &[u8], list: &mut [u16; 16], c: Cursor) -> Entry
+fn read_insert(text: &[u8], list: &mut [u16; Entry::LIST], c: Cursor) -> Entry
     requires { ⌜ Starts (now text) c ⌝ }
     ensures { λ r. ⌜ Lists anInsert (now (text .entry)) c (now (list .exit)) r ⌝ }
 {
@@ -312,7 +332,12 @@ fn read_insert(text: &[u8], list: &mut [u16; 16], c: Cursor) -> Entry
 }
 
 // UPDATE name SET settings [WHERE condition]
-fn read_update(text: &[u8], list: &mut [u16; 16], places: &mut [u16; 45], c: Cursor) -> Entry
+fn read_update(
+    text: &[u8],
+    list: &mut [u16; Entry::LIST],
+    places: &mut [u16; Cursor::PLACES],
+    c: Cursor,
+) -> Entry
     requires { ⌜ Starts (now text) c ⌝ }
     ensures { λ r. ⌜ ReadsForm anUpdate (now (text .entry)) c (now (list .exit)) (now (places .exit)) r ⌝ }
 {
@@ -328,7 +353,7 @@ fn read_update(text: &[u8], list: &mut [u16; 16], places: &mut [u16; 45], c: Cur
 }
 
 // DELETE FROM name [WHERE condition]
-fn read_delete(text: &[u8], places: &mut [u16; 45], c: Cursor) -> Entry
+fn read_delete(text: &[u8], places: &mut [u16; Cursor::PLACES], c: Cursor) -> Entry
     requires { ⌜ Starts (now text) c ⌝ }
     ensures { λ r. ⌜ Deletes (now (text .entry)) c (now (places .exit)) r ⌝ }
 {
@@ -345,7 +370,11 @@ fn read_delete(text: &[u8], places: &mut [u16; 45], c: Cursor) -> Entry
 // ---- sentences
 
 // A sentence from the start of the text: its first token tells its form.
-fn read_form(text: &[u8], list: &mut [u16; 16], places: &mut [u16; 45]) -> Entry
+fn read_form(
+    text: &[u8],
+    list: &mut [u16; Entry::LIST],
+    places: &mut [u16; Cursor::PLACES],
+) -> Entry
     requires { ⌜ length (now text) ≤ 256 ⌝ }
     ensures { λ r. ⌜ ReadsAny (now (text .entry)) (now (list .exit)) (now (places .exit)) r ⌝ }
 {
@@ -383,7 +412,11 @@ fn read_form(text: &[u8], list: &mut [u16; 16], places: &mut [u16; 45]) -> Entry
 }
 
 // A sentence, from the start of the text to its end.
-pub fn read_sentence(text: &[u8], list: &mut [u16; 16], places: &mut [u16; 45]) -> Entry
+pub fn read_sentence(
+    text: &[u8],
+    list: &mut [u16; Entry::LIST],
+    places: &mut [u16; Cursor::PLACES],
+) -> Entry
     requires { ⌜ length (now text) ≤ 256 ⌝ }
     ensures { λ r. ⌜ Noted (now (text .entry)) (now (list .exit)) (now (places .exit)) r (sentence (now (text .entry))) ⌝ }
 {

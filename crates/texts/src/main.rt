@@ -15,8 +15,10 @@ use statement::Value;
 
 const OUT: i32 = 1;
 
+const CELLS: u32 = 5000;
+
 struct Store {
-    tables: [Table; 8],
+    tables: [Table; Table::TABLES],
     used: u8,
     queries: u8,
     updates: u8,
@@ -24,18 +26,18 @@ struct Store {
 
 fn empty() -> Store {
     let name = Name {
-        bytes: [0; 12],
+        bytes: [0; Name::BYTES],
         len: 0,
     };
     let none = Table {
         name,
-        columns: [name; 8],
+        columns: [name; Table::COLUMNS],
         count: 0,
         capacity: 0,
         rows: 0,
     };
     Store {
-        tables: [none; 8],
+        tables: [none; Table::TABLES],
         used: 0,
         queries: 0,
         updates: 0,
@@ -123,9 +125,13 @@ fn least(count: usize, most: usize) -> usize
 }
 
 // Prints a step of a condition, `printed` of whose comparisons are printed; how many are afterwards.
-fn print_step(step: u8, comparisons: [Comparison; 8], printed: usize) -> usize {
+fn print_step(
+    step: u8,
+    comparisons: [Comparison; Condition::COMPARISONS],
+    printed: usize,
+) -> usize {
     if step == 0 {
-        if printed < 8 {
+        if printed < Condition::COMPARISONS {
             let c = comparisons[printed];
             print_comparison(c);
             return printed + 1;
@@ -141,8 +147,12 @@ fn print_step(step: u8, comparisons: [Comparison; 8], printed: usize) -> usize {
 }
 
 // The first `count` steps of a condition, each comparison at its place.
-fn print_steps(comparisons: [Comparison; 8], steps: [u8; 15], count: usize) {
-    let n = least(count, 15);
+fn print_steps(
+    comparisons: [Comparison; Condition::COMPARISONS],
+    steps: [u8; Condition::STEPS],
+    count: usize,
+) {
+    let n = least(count, Condition::STEPS);
     let mut printed = 0;
     for i in 0..n {
         printed = print_step(steps[i], comparisons, printed);
@@ -163,8 +173,8 @@ fn print_marks(n: u8) {
     print_byte(n);
 }
 
-fn print_selected(selected: [u8; 8], count: u8) {
-    let n = least(count as usize, 8);
+fn print_selected(selected: [u8; Query::SELECTED], count: u8) {
+    let n = least(count as usize, Query::SELECTED);
     for i in 0..n {
         print_byte(selected[i]);
     }
@@ -191,8 +201,8 @@ fn print_setting(s: Setting, columns: bool) {
     print_value(value);
 }
 
-fn print_settings(settings: [Setting; 8], count: u8, columns: bool) {
-    let n = least(count as usize, 8);
+fn print_settings(settings: [Setting; Update::SETTINGS], count: u8, columns: bool) {
+    let n = least(count as usize, Update::SETTINGS);
     for i in 0..n {
         print_setting(settings[i], columns);
     }
@@ -229,19 +239,19 @@ fn print_table(t: Table) {
 // The store with what a statement adds.
 fn added(s: Store, st: Statement) -> Store {
     let mut next = s;
-    if st.kind == 1 {
+    if st.kind == Statement::TABLE {
         let used = s.used as usize;
-        if used < 8 {
+        if used < Table::TABLES {
             let t = st.table;
             next.tables[used] = t;
             next.used = s.used + 1;
         }
-    } else if st.kind == 2 {
-        if s.queries < 255 {
+    } else if st.kind == Statement::QUERY {
+        if (s.queries as usize) < Query::QUERIES {
             next.queries = s.queries + 1;
         }
-    } else if st.kind == 3 {
-        if s.updates < 255 {
+    } else if st.kind == Statement::UPDATE {
+        if (s.updates as usize) < Update::UPDATES {
             next.updates = s.updates + 1;
         }
     }
@@ -249,12 +259,12 @@ fn added(s: Store, st: Statement) -> Store {
 }
 
 fn print_statement(s: Store, st: Statement) {
-    if st.kind == 1 {
+    if st.kind == Statement::TABLE {
         print(b"table");
         print_byte(s.used);
         let t = st.table;
         print_table(t);
-    } else if st.kind == 2 {
+    } else if st.kind == Statement::QUERY {
         print(b"query");
         print_byte(s.queries);
         let q = st.query;
@@ -274,7 +284,7 @@ fn run(s: Store, text: &[u8]) -> Store {
         }
     }
     let tables = s.tables;
-    let st = Statement::compile(text, tables, s.used, s.queries, s.updates, 5000);
+    let st = Statement::compile(text, tables, s.used, s.queries, s.updates, CELLS);
     if st.refusal != 0 {
         print(b"refused");
         print_byte(st.refusal);
