@@ -16,16 +16,12 @@ ghost use Rattle.statement.specs.Places.{operatorAt};
 ghost use Rattle.statement.specs.Sound.{operandRead, comparisonRead};
 ghost use Rattle.table.specs.Evaluated.{bit, nextHolds, joinedBits, steppedBits, ifSo, meetsStored};
 
-// How many of the eight entries of an array a count says are in use.
-pub fn used(count: u8) -> usize
-    ensures { λ r. ⌜ r ≡ min count 8 ⌝ }
+// How many entries of an array of `most` a count says are in use.
+pub fn used(count: u8, most: usize) -> usize
+    ensures { λ r. ⌜ r ≡ min count most ⌝ }
 {
     let n = count as usize;
-    if n < Condition::COMPARISONS {
-        n
-    } else {
-        Condition::COMPARISONS
-    }
+    if n < most { n } else { most }
 }
 
 // n, or 0.
@@ -132,7 +128,7 @@ fn stepped(s: u32, step: u8, there: bool, c: Comparison, row: &[i32], values: &[
 pub fn holds(condition: Condition, row: &[i32], values: &[i32]) -> bool
     ensures { λ r. ⌜ r ≡ meetsStored condition (now (values .entry)) (now (row .entry)) ⌝ }
 {
-    let n = used(condition.count);
+    let n = used(condition.count, Condition::COMPARISONS);
     let mut s = 1;
     let mut next: usize = 0;
     let mut i: usize = 0;
