@@ -11,3 +11,4 @@ pub mod ChangedMeans
 pub mod Selecting
 pub mod Answered
 pub mod Means
+pub mod Demand

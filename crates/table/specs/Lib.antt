@@ -1,2 +1,3 @@
 pub mod Evaluated
 pub mod Changed
+pub mod Demand
