@@ -1,24 +1,27 @@
 -- The claims of specs/Demand, all proved.
 --     listed-rows     the rows that a stored question lists have its columns and 32 bits
 --     put-reads-back  a buffer into which their record was put shows them
+--     sound-askable   what the claims ask of a question holds in a sound state
 -- Assumes nothing.
 use mathlib.Core.Path.{_≡_, refl, sym, ap, _∙_, subst}
-use mathlib.Core.Bool.{Bool, true, false, cond}
-use mathlib.Core.List.{List, []}
+use mathlib.Core.Bool.{Bool, true, false, not, cond}
+use mathlib.Core.List.{List, [], map}
 use Prim.Native.Nat.{ℕ, zero, suc, _+_, _≤_}
 use native.Mathlib.Omega.{arith}
 use borrow.Author.Tests.{leb-true, le-leb}
-use lib.Dec.{leb}
+use lib.Dec.{leb, ltb}
 use lib.IntN.{ℤ, pos}
 use lib.ListN.{length, take, drop, length-map}
 use lib.Seq.{length-take-le}
-use Rattle.lists.specs.Lists.{All, nil, cons, keep}
+use Rattle.lists.specs.Lists.{All, nil, cons, keep, all, repeats}
+use Rattle.lists.proofs.Bools.{and-left, and-right}
 use Rattle.lists.proofs.Lists.{All-take, All-every, All-getD, All-keep, All-image}
 use Rattle.lists.proofs.Places.{length-keep}
 use Rattle.meaning.specs.Demand.{Is32, IsRow, ReadsBack}
 use Rattle.meaning.specs.Limits.{most-items, most-rows}
 use Rattle.meaning.specs.Meaning.{Row, cell, answer}
 use Rattle.meaning.specs.Cells.{rowsIn}
+use Rattle.meaning.specs.Names.{Schema, sameName, has, tableNames}
 use Rattle.meaning.proofs.Cells.{rows-length}
 use Rattle.meaning.proofs.Within32.{Row32}
 use Rattle.answer.specs.Answer.{put}
@@ -26,7 +29,9 @@ use Rattle.answer.proofs.Buffers.{put-fits}
 use Rattle.answer.proofs.Laws.{buffer-reads-back}
 use Rattle.statement.specs.declared.Query.{Query}
 use Rattle.statement.specs.declared.Table.{Table}
-use Rattle.table.specs.Demand.{leaves, SelectReadsBack, SelectMeans, RowsRead, Demands}
+use Rattle.statement.specs.Catalog.{nameOfStruct}
+use Rattle.statement.specs.Sound.{QueryFits, soundName, usedColumns, soundQuery, soundTable}
+use Rattle.table.specs.Demand.{leaves, Askable, SelectReadsBack, SelectMeans, RowsRead, Demands}
 use Rattle.table.specs.Evaluated.{meetsStored, rowCells, rowsUsed, selectedStored, answerStored, recordStored, selectedBy, selectedIn}
 use Rattle.table.proofs.Means.{answer-means}
 
@@ -106,6 +111,21 @@ pub select-means : SelectMeans
 select-means q q′ M t start cells vs out A e =
     subst (λ (k : ℕ). ReadsBack (leaves q t start cells vs out) k (answer q′ vs (rowsUsed t start cells))) (M .count-is)
     (subst (λ (rs : List Row). ReadsBack (leaves q t start cells vs out) (q .count) rs) (answer-means q q′ M vs (rowsUsed t start cells)) (select-reads-back q t start cells vs out A e))
+
+-- a sound question on a sound table is askable
+pub sound-askable : (q : Query) (t : Table) (ts others : List Schema) (cells : List ℤ) → QueryFits q → soundQuery ts q ≡ true → soundTable others t ≡ true → t .rows ≤ t .capacity
+    → All Is32 cells → Askable q t cells
+unfolding soundQuery soundTable
+sound-askable q t ts others cells Q s k h narrow =
+    let a = and-right (ltb (q .table) (length ts)) _ s in
+    let b = and-right (leb 1 (t .capacity)) (leb (t .capacity) most-rows) (and-right (not (has (tableNames others) (nameOfStruct (t .name)))) _ (and-right (not (repeats sameName (map nameOfStruct (usedColumns t)))) _ (and-right (all soundName (usedColumns t)) _ (and-right (soundName (t .name)) _ (and-right (leb (t .count) most-items) _ (and-right (leb 1 (t .count)) _ k)))))) in
+    record {
+      array = Q .eight;
+      some-selected = leb-true 1 (q .count) (and-left (leb 1 (q .count)) _ a);
+      few-selected = leb-true (q .count) most-items (and-left (leb (q .count) most-items) _ (and-right (leb 1 (q .count)) _ a));
+      few-rows = omega (arith, leb-true (t .capacity) most-rows b);
+      narrow = narrow;
+    }
 
 pub rows-read : RowsRead
 rows-read q t start cells vs out h e = taken out (rowsUsed t start cells) (recordStored q vs (rowsUsed t start cells)) e .1 ∙ used-all t start cells h
