@@ -11,6 +11,7 @@ use Rattle.lists.specs.Lists.{keep, count}
 use Rattle.meaning.specs.Statement as M
 use Rattle.meaning.specs.Meaning.{Row, newRow, assigned}
 use Rattle.meaning.specs.Cells.{rowsIn, areaOf, stored, withArea}
+use Rattle.meaning.specs.Limits.{most-items}
 use Rattle.statement.specs.declared.Setting.{Setting}
 use Rattle.statement.specs.declared.Table.{Table}
 use Rattle.statement.specs.declared.Update.{Update}
@@ -51,11 +52,11 @@ formFits zero u t = ltb (t .rows) (t .capacity) && eqb (u .count) (t .count)
 formFits (suc k) u t = true
 
 unfoldable pub fits : Update → Table → ℕ → List ℤ → Bool
-fits u t start cells = areaFits t start (length cells) && (leb (u .count) 8 && formFits (u .form) u t)
+fits u t start cells = areaFits t start (length cells) && (leb (u .count) most-items && formFits (u .form) u t)
 
 -- the same of an area of so many cells by itself
 pub record ChangeFits (form settings columns used size : ℕ) : Type 0 where
-  pub few : settings ≤ 8
+  pub few : settings ≤ most-items
   pub inside : used * columns ≤ size
   pub free : form ≡ 0 → used < 65535
   pub given : form ≡ 0 → settings ≡ columns

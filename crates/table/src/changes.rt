@@ -14,6 +14,7 @@ ghost use lib.IntN.{pos};
 ghost use lib.ListN.{length, take, drop, replicate};
 ghost use Rattle.lists.specs.Lists.{keep, count};
 ghost use Rattle.meaning.specs.Cells.{rowsIn, stored};
+ghost use Rattle.meaning.specs.Limits.{most-items};
 ghost use Rattle.meaning.specs.Meaning.{valueOf, assigned};
 ghost use Rattle.statement.specs.Sound.{valueRead, settingRead};
 ghost use Rattle.table.specs.Evaluated.{meetsStored};
@@ -51,7 +52,7 @@ fn insert_row(
     settings: [Setting; Update::SETTINGS],
     values: &[i32],
 )
-    requires { ⌜ (columns ≤ 8) × (n * columns + columns ≤ length (now area)) ⌝ }
+    requires { ⌜ (columns ≤ most-items) × (n * columns + columns ≤ length (now area)) ⌝ }
     ensures { λ _. ⌜ now (area .exit) ≡ stored (now (area .entry)) (n * columns) (rowsIn columns n (now (area .entry)) ++ (rowOf (take columns settings) (now (values .entry)) ∷ [])) ⌝ }
 {
     let start = (n as usize) * columns;
@@ -69,7 +70,7 @@ fn insert_row(
 
 // Sets columns of a row, in order; a column that the row does not have is passed over.
 fn assign(row: &mut [i32], settings: [Setting; Update::SETTINGS], n: usize, values: &[i32])
-    requires { ⌜ n ≤ 8 ⌝ }
+    requires { ⌜ n ≤ most-items ⌝ }
     ensures { λ _. ⌜ now (row .exit) ≡ assigned (map settingRead (take n settings)) (now (values .entry)) (now (row .entry)) ⌝ }
 {
     let mut i = 0;
@@ -93,7 +94,7 @@ fn update_row(
     n: usize,
     values: &[i32],
 ) -> u16
-    requires { ⌜ n ≤ 8 ⌝ }
+    requires { ⌜ n ≤ most-items ⌝ }
     ensures count { λ r. ⌜ r ≡ cond (meetsStored condition (now (values .entry)) (now (row .entry))) 1 0 ⌝ }
     ensures cells { λ _. ⌜ now (row .exit) ≡ settled (meetsStored condition (now (values .entry))) (assigned (map settingRead (take n settings)) (now (values .entry))) (now (row .entry)) ⌝ }
 {
@@ -114,7 +115,7 @@ fn update_rows(
     n: usize,
     values: &[i32],
 ) -> u16
-    requires { ⌜ (used * columns ≤ length (now area)) × (n ≤ 8) ⌝ }
+    requires { ⌜ (used * columns ≤ length (now area)) × (n ≤ most-items) ⌝ }
     ensures count { λ r. ⌜ r ≡ count (meetsStored condition (now (values .entry))) (rowsIn columns used (now (area .entry))) ⌝ }
     ensures cells { λ _. ⌜ now (area .exit) ≡ stored (now (area .entry)) (used * columns) (map (settled (meetsStored condition (now (values .entry))) (assigned (map settingRead (take n settings)) (now (values .entry)))) (rowsIn columns used (now (area .entry)))) ⌝ }
 {
@@ -204,7 +205,7 @@ fn area_fits(table: Table, start: usize, cells: usize) -> bool
 
 // Whether the settings are few enough, and an INSERT has a row free and a value for each column.
 fn form_fits(update: Update, table: Table) -> bool
-    ensures { λ r. ⌜ r ≡ (leb (update .count) 8 && formFits (update .form) update table) ⌝ }
+    ensures { λ r. ⌜ r ≡ (leb (update .count) most-items && formFits (update .form) update table) ⌝ }
 {
     if Update::SETTINGS < (update.count as usize) {
         return false;
