@@ -22,6 +22,7 @@ ghost use Rattle.lists.specs.Lists.{all, repeats};
 ghost use Rattle.lists.specs.Tests.{eqList};
 ghost use Rattle.meaning.specs.Condition.{renamed};
 ghost use Rattle.meaning.specs.Postfix.{leaves};
+ghost use Rattle.meaning.specs.Limits.{most-tables, most-items, most-marks, most-comparisons, most-name};
 ghost use Rattle.meaning.specs.Names.{sameName, has, position, tableNames};
 ghost use Rattle.meaning.specs.Statement.{numbered, operandOf, comparisonOf};
 ghost use Rattle.meaning.specs.Resolve.{resolveNodes};
@@ -41,7 +42,7 @@ fn least(a: usize, b: usize) -> usize
 // ---- names
 
 fn same_bytes(x: [u8; Name::BYTES], y: [u8; Name::BYTES], n: usize) -> bool
-    requires { ⌜ n ≤ 12 ⌝ }
+    requires { ⌜ n ≤ most-name ⌝ }
     ensures { λ r. ⌜ r ≡ eqList eqb (take n x) (take n y) ⌝ }
 {
     let mut i = 0;
@@ -106,8 +107,8 @@ fn positions(
     columns: [Name; Table::COLUMNS],
     count: u8,
 ) -> [u8; Table::COLUMNS]
-    requires { ⌜ n ≤ 8 ⌝ }
-    ensures { λ r. ⌜ r ≡ padded 8 0 (placesOf (namesOf columns count) (namesOf names n)) ⌝ }
+    requires { ⌜ n ≤ most-items ⌝ }
+    ensures { λ r. ⌜ r ≡ padded most-items 0 (placesOf (namesOf columns count) (namesOf names n)) ⌝ }
 {
     let mut places = [0u8; Table::COLUMNS];
     let mut i = 0;
@@ -121,7 +122,7 @@ fn positions(
 
 // Whether one of the first n names stands among them twice.
 fn is_repeated(names: [Name; Table::COLUMNS], n: usize) -> bool
-    requires { ⌜ n ≤ 8 ⌝ }
+    requires { ⌜ n ≤ most-items ⌝ }
     ensures { λ r. ⌜ r ≡ repeats sameName (namesOf names n) ⌝ }
 {
     let mut found = false;
@@ -136,7 +137,7 @@ fn is_repeated(names: [Name; Table::COLUMNS], n: usize) -> bool
 
 // Whether the first n places are all below `limit`.
 fn are_below(places: [u8; Table::COLUMNS], n: usize, limit: usize) -> bool
-    requires { ⌜ n ≤ 8 ⌝ }
+    requires { ⌜ n ≤ most-items ⌝ }
     ensures { λ r. ⌜ r ≡ all (λ (i : ℕ). ltb i limit) (take n places) ⌝ }
 {
     let mut ok = true;
@@ -151,7 +152,7 @@ fn are_below(places: [u8; Table::COLUMNS], n: usize, limit: usize) -> bool
 
 // How many names the first `count` are.
 fn width(names: [Name; Table::COLUMNS], count: u8) -> usize
-    ensures { λ r. ⌜ (r ≡ length (namesOf names count)) × (r ≤ 8) ⌝ }
+    ensures { λ r. ⌜ (r ≡ length (namesOf names count)) × (r ≤ most-items) ⌝ }
 {
     least(count as usize, Table::COLUMNS)
 }
@@ -276,15 +277,15 @@ fn rows_at(text: &[u8], place: usize) -> u16
 }
 
 fn no_names() -> [Name; Table::COLUMNS]
-    ensures { λ r. ⌜ r ≡ replicate 8 noName ⌝ }
+    ensures { λ r. ⌜ r ≡ replicate most-items noName ⌝ }
 {
     [no_name(); Table::COLUMNS]
 }
 
 // The names of the first n items of a list.
 fn names_at(text: &[u8], list: [u16; Entry::LIST], n: usize) -> [Name; Table::COLUMNS]
-    requires { ⌜ n ≤ 8 ⌝ }
-    ensures { λ r. ⌜ r ≡ padded 8 noName (map nameStruct (shortNames (namesOn (now (text .entry)) n list))) ⌝ }
+    requires { ⌜ n ≤ most-items ⌝ }
+    ensures { λ r. ⌜ r ≡ padded most-items noName (map nameStruct (shortNames (namesOn (now (text .entry)) n list))) ⌝ }
 {
     let mut names = no_names();
     let mut i = 0;
@@ -314,7 +315,7 @@ pub struct Settings {
 }
 
 fn no_settings() -> [Setting; Update::SETTINGS]
-    ensures { λ r. ⌜ r ≡ replicate 8 noSetting ⌝ }
+    ensures { λ r. ⌜ r ≡ replicate most-items noSetting ⌝ }
 {
     let none = Setting {
         column: 0,
@@ -330,7 +331,7 @@ fn settings_at(
     n: usize,
     columns: [u8; Table::COLUMNS],
 ) -> Settings
-    requires { ⌜ n ≤ 8 ⌝ }
+    requires { ⌜ n ≤ most-items ⌝ }
     ensures { λ r. ⌜ r ≡ settingsOn (take n columns) (givensOn (now (text .entry)) n list) ⌝ }
 {
     let mut all = no_settings();
@@ -390,7 +391,7 @@ fn marks_of(c: Comparison) -> u8
 }
 
 fn no_comparisons() -> [Comparison; Condition::COMPARISONS]
-    ensures { λ r. ⌜ r ≡ replicate 8 noComparison ⌝ }
+    ensures { λ r. ⌜ r ≡ replicate most-comparisons noComparison ⌝ }
 {
     let none = Comparison {
         left: Operand::Constant(0),
@@ -432,7 +433,7 @@ fn condition_at(
     count: u8,
     marks: u8,
 ) -> Condition
-    requires { ⌜ (nodes ≤ 15) × (marks ≤ 8) × (length (leaves (nodesOn (now text) nodes places)) ≤ 8) ⌝ }
+    requires { ⌜ (nodes ≤ 15) × (marks ≤ most-marks) × (length (leaves (nodesOn (now text) nodes places)) ≤ most-comparisons) ⌝ }
     ensures { λ r. ⌜ r ≡ conditionStruct (resolveNodes (namesOf columns count) marks (shortNodes (nodesOn (now (text .entry)) nodes places))) ⌝ }
 {
     let mut comparisons = no_comparisons();
@@ -485,7 +486,7 @@ fn sides_below(c: Comparison, limit: usize) -> bool
 
 // Whether all columns of a condition are below `limit`.
 fn columns_below(comparisons: [Comparison; Condition::COMPARISONS], count: u8, limit: usize) -> bool
-    requires { ⌜ count ≤ 8 ⌝ }
+    requires { ⌜ count ≤ most-comparisons ⌝ }
     ensures { λ r. ⌜ r ≡ all (sidesBelow limit) (take count comparisons) ⌝ }
 {
     let n = count as usize;
@@ -526,7 +527,7 @@ fn refusal_of(
     taken: bool,
     full: bool,
 ) -> u8
-    requires { ⌜ (n ≤ 8) × (condition .count ≤ 8) ⌝ }
+    requires { ⌜ (n ≤ most-items) × (condition .count ≤ most-comparisons) ⌝ }
     ensures { λ r. ⌜ r ≡ lowestBy (not (placesBelow width (take n at) && conditionBelow width condition)) taken false full ⌝ }
 {
     let comparisons = condition.comparisons;
@@ -653,7 +654,7 @@ fn is_taken(
     tables: [Table; Table::TABLES],
     used: u8,
 ) -> bool
-    requires { ⌜ n ≤ 8 ⌝ }
+    requires { ⌜ n ≤ most-items ⌝ }
     ensures { λ r. ⌜ r ≡ (has (tableNames (schemasOf tables used)) (nameOfStruct name) || repeats sameName (namesOf columns n)) ⌝ }
 {
     let there = (find_table(name, tables, used) as usize) < table_count(tables, used);
@@ -662,14 +663,14 @@ fn is_taken(
 
 // How many tables there are.
 fn table_count(tables: [Table; Table::TABLES], used: u8) -> usize
-    ensures { λ r. ⌜ (r ≡ length (schemasOf tables used)) × (r ≤ 8) × (r ≡ min used 8) ⌝ }
+    ensures { λ r. ⌜ (r ≡ length (schemasOf tables used)) × (r ≤ most-tables) × (r ≡ min used most-tables) ⌝ }
 {
     least(used as usize, Table::TABLES)
 }
 
 // Whether there is no place for a table of that size.
 fn is_full(tables: [Table; Table::TABLES], used: u8, cells: u32, size: u32) -> bool
-    ensures { λ r. ⌜ r ≡ (leb 8 (length (schemasOf tables used)) || ltb (cells - areasSize (schemasOf tables used)) size) ⌝ }
+    ensures { λ r. ⌜ r ≡ (leb most-tables (length (schemasOf tables used)) || ltb (cells - areasSize (schemasOf tables used)) size) ⌝ }
 {
     let taken = areas(tables, used);
     let left = if taken < cells { cells - taken } else { 0 };
@@ -685,7 +686,7 @@ pub fn table(
     used: u8,
     cells: u32,
 ) -> Statement
-    requires { ⌜ e .listed ≤ 8 ⌝ }
+    requires { ⌜ e .listed ≤ most-items ⌝ }
     ensures { λ r. ⌜ r ≡ tableOn (now (text .entry)) list e (schemasOf tables used) cells ⌝ }
 {
     let n = e.listed as usize;
@@ -751,7 +752,7 @@ pub fn insert(
     table: u8,
     updates: u8,
 ) -> Statement
-    requires { ⌜ (e .listed ≤ 8) × (e .c .marks ≤ 8) ⌝ }
+    requires { ⌜ (e .listed ≤ most-items) × (e .c .marks ≤ most-marks) ⌝ }
     ensures { λ r. ⌜ r ≡ insertOn (now (text .entry)) list e (namesOf columns count) table updates ⌝ }
 {
     let n = e.listed as usize;

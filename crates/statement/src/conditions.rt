@@ -8,6 +8,7 @@ ghost use mathlib.Core.Bool.{true, cond};
 ghost use Prim.Native.Nat.{_-_, _≤_, _<_};
 ghost use lib.ListN.{length, drop};
 ghost use Rattle.meaning.specs.Condition.{atom, conjunction, disjunction};
+ghost use Rattle.meaning.specs.Limits.{most-text};
 ghost use Rattle.meaning.specs.Grammar.{aComparison};
 ghost use Rattle.meaning.specs.Tokens.{tokens};
 ghost use Rattle.token.specs.Tokens.{tokenAt};
@@ -78,7 +79,7 @@ fn room(places: [u16; Cursor::PLACES]) -> usize
 
 // A node at the end: a comparison (0 to 5) with the places of its sides, AND (6) or OR (7). Past the last place none is noted, but it is counted.
 fn put(places: &mut [u16; Cursor::PLACES], c: Cursor, node: u16, left: u16, right: u16) -> Cursor
-    requires { ⌜ c .nodes < 256 ⌝ }
+    requires { ⌜ c .nodes < most-text ⌝ }
     ensures { λ r. ⌜ PutsNode (now (places .entry)) c node left right (now (places .exit)) r ⌝ }
 {
     let mut d = c;
@@ -109,7 +110,7 @@ fn put_comparison(
     op: u8,
     b: Token,
 ) -> Cursor
-    requires { ⌜ (c .nodes < 256) × (c .marks ≤ 256) × (a .start ≤ 256) × (b .start ≤ 256) × (b .next ≤ 256) ⌝ }
+    requires { ⌜ (c .nodes < most-text) × (c .marks ≤ most-text) × (a .start ≤ most-text) × (b .start ≤ most-text) × (b .next ≤ most-text) ⌝ }
     ensures { λ r. ⌜ PutsNode (now (places .entry)) (withSides depth a b c) (cond positive op (oppositeOf op)) (a .start) (b .start) (now (places .exit)) r ⌝ }
 {
     let mut d = c;

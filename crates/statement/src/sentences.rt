@@ -7,6 +7,7 @@ use token::Token;
 ghost use mathlib.Core.Path.{_≡_};
 ghost use Prim.Native.Nat.{_+_, _≤_, _<_};
 ghost use lib.ListN.{length};
+ghost use Rattle.meaning.specs.Limits.{most-text};
 ghost use Rattle.meaning.specs.Grammar.{sentence, aTable, aSelect, anInsert, anUpdate};
 ghost use Rattle.statement.specs.Reading.{marksAt};
 ghost use Rattle.statement.specs.Sentences.{Ready, Expects, Names, Gives, CountsRows, isBetween, isRowsPast, PutsItem, kindAt, Within, ReadsItem, ReadsList, ReadsWhere, Starts, ReadsForm, Lists, Deletes, ReadsAny, Noted};
@@ -172,7 +173,7 @@ fn room(list: [u16; Entry::LIST]) -> usize
 
 // An item at the end of the list, by the places of its name and its value. Past the eighth none is noted, but it is counted.
 fn put_item(list: &mut [u16; Entry::LIST], listed: u16, name: u16, value: u16) -> u16
-    requires { ⌜ listed ≤ 256 ⌝ }
+    requires { ⌜ listed ≤ most-text ⌝ }
     ensures { λ r. ⌜ (r ≡ listed + 1) × PutsItem (now (list .entry)) listed name value (now (list .exit)) ⌝ }
 {
     let more = listed + 1;
@@ -375,7 +376,7 @@ fn read_form(
     list: &mut [u16; Entry::LIST],
     places: &mut [u16; Cursor::PLACES],
 ) -> Entry
-    requires { ⌜ length (now text) ≤ 256 ⌝ }
+    requires { ⌜ length (now text) ≤ most-text ⌝ }
     ensures { λ r. ⌜ ReadsAny (now (text .entry)) (now (list .exit)) (now (places .exit)) r ⌝ }
 {
     let t = token::next(text, 0);
@@ -417,7 +418,7 @@ pub fn read_sentence(
     list: &mut [u16; Entry::LIST],
     places: &mut [u16; Cursor::PLACES],
 ) -> Entry
-    requires { ⌜ length (now text) ≤ 256 ⌝ }
+    requires { ⌜ length (now text) ≤ most-text ⌝ }
     ensures { λ r. ⌜ Noted (now (text .entry)) (now (list .exit)) (now (places .exit)) r (sentence (now (text .entry))) ⌝ }
 {
     let mut e = read_form(text, list, places);
