@@ -1,3 +1,4 @@
 pub mod Evaluated
 pub mod Changed
 pub mod Demand
+pub mod Examples
