@@ -210,7 +210,7 @@ slips =
     -- `<=` may have both sides in one class
     ∷ pair "SELECT level FROM stage WHERE site = ? AND level = site AND level <= site" "DELETE FROM stage WHERE site = 3" ((number (pos 3) ∷ []) ∷ [])
     -- AND pairs left outer
-    ∷ pair Q "DELETE FROM stage WHERE (site = ? OR site = ?) AND (site <> 4 OR site = ?)" ((mark 1 ∷ []) ∷ (mark 2 ∷ []) ∷ [])
+    ∷ pair "SELECT site FROM stage WHERE (site = ? OR level = 1) AND (level <> 2 OR site = 3)" "INSERT INTO stage VALUES (?, ?)" ((mark 1 ∷ []) ∷ (number (pos 3) ∷ []) ∷ (anything ∷ []) ∷ [])
     ∷ []
 
 caught-0 : Holds (row slips 0)
