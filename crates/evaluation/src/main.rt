@@ -19,7 +19,7 @@ const OUT: i32 = 1;
 
 const CELLS: usize = 8192;
 
-// The question marks of a statement, and the bytes of the longest record.
+// The question marks of a statement, and the bytes of the longest record: a head of eight, and four a value.
 const MARKS: usize = Statement::MARKS as usize;
 
 const RECORD: usize = 8 + 4 * (Query::SELECTED * (Table::ROWS as usize));
