@@ -1,0 +1,7 @@
+pub mod Apart
+pub mod Packed
+pub mod Tables
+pub mod Steps
+pub mod Comparisons
+pub mod Widths
+pub mod Settings
