@@ -25,13 +25,8 @@ use Rattle.statement.specs.declared.Condition.{Condition}
 use Rattle.statement.proofs.Walks.{rest, rest-cons, rest-none}
 use Rattle.statement.proofs.Stored.{read-length, read-leaves}
 use Rattle.soundness.specs.Parts.{stepsOn, sideFits, comparisonFits, comparisonMarks, comparisonsOn, conditionOn}
+use Rattle.soundness.proofs.Tests.{interchange}
 use Rattle.soundness.proofs.Steps.{steps-postfix}
-
-pub interchange : (a b c d : Bool) → ((a && b) && (c && d)) ≡ ((a && c) && (b && d))
-interchange true true c d = refl
-interchange true false true d = refl
-interchange true false false d = refl
-interchange false b c d = refl
 
 -- ---- sides
 

@@ -1,3 +1,4 @@
+pub mod Tests
 pub mod Apart
 pub mod Packed
 pub mod Tables

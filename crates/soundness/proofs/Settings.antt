@@ -25,8 +25,7 @@ use Rattle.statement.specs.declared.Update.{Update}
 use Rattle.statement.proofs.Walks.{rest, rest-cons, rest-none}
 use Rattle.soundness.specs.declared.statements.Numbered.{Numbered}
 use Rattle.soundness.specs.Parts.{ifSo, sameColumn, conditionOn, formFits, columnFits, valueFits, settingFits, settingsFit, settingMarks, settingsOn, updateOn}
-use Rattle.soundness.proofs.Comparisons.{interchange}
-use Rattle.soundness.proofs.Widths.{counted-no, counted-yes}
+use Rattle.soundness.proofs.Tests.{interchange, counted}
 
 -- ---- values
 
@@ -93,9 +92,16 @@ marks-are : (ss : List Setting) → settingMarks ss ≡ parameterCount (operands
 marks-are [] = refl
 marks-are (s ∷ ss) = ap₂ _+_ (value-mark (s .value)) (marks-are ss)
 
-pub marks-few : (ss : List Setting) → settingMarks ss ≤ length ss
+marks-few : (ss : List Setting) → settingMarks ss ≤ length ss
 marks-few [] = omega arith
 marks-few (s ∷ ss) = omega (arith, value-marks (s .value), marks-few ss)
+
+pub next-few : (n : ℕ) (ss : List Setting) → n ≤ 8 → settingMarks (take n ss) ≤ 8
+next-few n ss h = omega (arith, marks-few (take n ss), length-take n ss)
+
+pub if-few : (b : Bool) (n : ℕ) → n ≤ 8 → ifSo b n ≤ 8
+if-few true n h = h
+if-few false n h = omega arith
 
 repeats-columns : (ss : List Setting) → repeats sameColumn ss ≡ repeats eqb (columnsRead ss)
 repeats-columns [] = refl
@@ -147,7 +153,7 @@ module _ (columns : ℕ) (u : Update) where
       go : (a b c : Bool) → (a && c) ≡ false → (a && (b && c)) ≡ false
       go true b c e = ap (λ (t : Bool). b && t) e ∙ and-false b
       go false b c e = refl
-  form-no (suc zero) h = sym (counted-no (u .count) (all (λ (i : ℕ). ltb i columns) (settingColumns u) && not (repeats eqb (settingColumns u))) h)
+  form-no (suc zero) h = sym (counted (u .count) false (all (λ (i : ℕ). ltb i columns) (settingColumns u) && not (repeats eqb (settingColumns u))) h)
   form-no (suc (suc zero)) h = h
   form-no (suc (suc (suc k))) h = refl
 
@@ -166,7 +172,7 @@ module _ (columns : ℕ) (u : Update) where
         ∙ ap₂ (λ (s t : Bool). s && (eqList eqb (settingColumns u) (from 0 (u .count)) && t)) (sym a) (sym b)
     form-yes (suc zero) h =
         ap₂ (λ (s t : Bool). s && not t) (columns-below 1 columns 0 ss (λ e. omega arith)) (repeats-columns ss)
-        ∙ counted-yes (u .count) (all (λ (i : ℕ). ltb i columns) (settingColumns u) && not (repeats eqb (settingColumns u))) h
+        ∙ counted (u .count) true (all (λ (i : ℕ). ltb i columns) (settingColumns u) && not (repeats eqb (settingColumns u))) h
     form-yes (suc (suc zero)) h =
         ap (λ (n : ℕ). columnsFit 2 columns 0 (take n (u .settings)) && true) (eqb-true (u .count) 0 h) ∙ sym h
     form-yes (suc (suc (suc k))) h = clash h (form-none (suc (suc (suc k))) (omega arith))
@@ -178,7 +184,7 @@ module _ (columns : ℕ) (u : Update) where
     settings-few (suc (suc zero)) h = omega (arith, eqb-true (u .count) 0 h)
     settings-few (suc (suc (suc k))) h = clash h (form-none (suc (suc (suc k))) (omega arith))
 
-    pub update-yes : formed (u .form) ≡ true
+    update-yes : formed (u .form) ≡ true
         → ((settingsFit (u .form) columns 0 0 ss && distinct (u .form)) && conditionOn columns (settingMarks ss) (u .parameters) (u .condition)) ≡ updateOn columns u
     unfolding updateOn conditionOn
     update-yes h =
@@ -190,6 +196,16 @@ module _ (columns : ℕ) (u : Update) where
         ∙ sym (and-assoc (f && n) d (c (parameterCount (settingOperands u))))
         ∙ interchange f n d (c (parameterCount (settingOperands u)))
         ∙ ap (λ (t : Bool). t && (n && c (parameterCount (settingOperands u)))) (form-yes (u .form) h)
+
+    -- by what its parts tell
+    pub update-told : formed (u .form) ≡ true → (r : Numbered) (k : ℕ) (d b : Bool) → r ≡ settingsOn (u .form) columns ss → k ≡ ifSo (eqb (u .form) 1) (u .count)
+        → d ≡ not (repeats sameColumn (take k (u .settings))) → b ≡ conditionOn columns (r .next) (u .parameters) (u .condition)
+        → ((r .ok && d) && b) ≡ updateOn columns u
+    update-told h r k d b e f g i =
+        ap₂ (λ (x y : Bool). (x && y) && b) (ap (λ (n : Numbered). n .ok) e) (g ∙ ap (λ (n : ℕ). not (repeats sameColumn (take n (u .settings)))) f)
+        ∙ ap (λ (x : Bool). (settingsFit (u .form) columns 0 0 ss && distinct (u .form)) && x)
+        (i ∙ ap (λ (n : Numbered). conditionOn columns (n .next) (u .parameters) (u .condition)) e)
+        ∙ update-yes h
 
   pub update-no : formed (u .form) ≡ false → false ≡ updateOn columns u
   unfolding updateOn conditionOn

@@ -4,10 +4,11 @@ use mathlib.Core.Bool.{Bool, true, false, not, _&&_, _||_, and-true, and-comm}
 use mathlib.Core.List.{List, [], _∷_, _++_, map}
 use Prim.Native.Nat.{ℕ, _+_, _≤_, _<_}
 use native.Mathlib.Omega.{arith}
+use borrow.Author.Tests.{eqb-true, eqb-false}
 use lib.Dec.{eqb, leb}
 use lib.ListN.{length, getD, take, set, replicate}
 use Rattle.lists.specs.Lists.{All, nil, cons, any, all, repeats}
-use Rattle.lists.proofs.Bools.{and-left, not-or}
+use Rattle.lists.proofs.Bools.{and-left, not-and, not-or, not-true, not-false}
 use Rattle.lists.proofs.Lists.{all-true, any-append, map-append}
 use Rattle.meaning.specs.Limits.{most-items, most-rows}
 use Rattle.meaning.specs.Names.{Schema, sameName, has, tableNames}
@@ -20,7 +21,8 @@ use Rattle.statement.proofs.Walks.{rest, rest-cons, length-first, map-rest, map
 use Rattle.statement.proofs.Found.{same-sym}
 use Rattle.statement.proofs.Assembled.{take-padded}
 use Rattle.soundness.specs.Parts.{codeOf, columnsOn, tableOn}
-use Rattle.soundness.proofs.Packed.{code-same}
+use Rattle.soundness.proofs.Packed.{code-zero, code-some, code-same}
+use Rattle.soundness.proofs.Tests.{counted}
 
 -- ---- the loop: the members passed are sound, and their numbers are noted
 
@@ -85,6 +87,28 @@ tableCode t = codeOf (t .name)
 -- a table by itself
 abbrev pub single : Table → Bool
 single t = soundName (t .name) && tableOn t
+
+-- it is not, if its name has no number or the rest does not fit
+single-not : (t : Table) (k : ℕ) (b : Bool) → k ≡ tableCode t → b ≡ tableOn t → (eqb k 0 || not b) ≡ not (single t)
+single-not t k b e f = ap₂ (λ (x y : Bool). x || not y) (go (eqb k 0) refl) f ∙ not-and (soundName (t .name)) (tableOn t)
+  where
+    go : (z : Bool) → eqb k 0 ≡ z → z ≡ not (soundName (t .name))
+    go true h = sym (ap not (code-zero (t .name) (sym e ∙ eqb-true k 0 h)))
+    go false h = sym (ap not (code-some (t .name) (λ n. eqb-false k 0 h (e ∙ n))))
+
+pub single-no : (t : Table) (k : ℕ) (b : Bool) → k ≡ tableCode t → b ≡ tableOn t → (eqb k 0 || not b) ≡ true → single t ≡ false
+single-no t k b e f h = not-true (single t) (sym (single-not t k b e f) ∙ h)
+
+pub single-yes : (t : Table) (k : ℕ) (b : Bool) → k ≡ tableCode t → b ≡ tableOn t → (eqb k 0 || not b) ≡ false → single t ≡ true
+single-yes t k b e f h = not-false (single t) (sym (single-not t k b e f) ∙ h)
+
+pub table-no : (t : Table) → (leb 1 (t .count) && leb (t .count) 8) ≡ false → false ≡ tableOn t
+unfolding tableOn
+table-no t h = counted (t .count) false _ h
+
+pub table-yes : (t : Table) → (leb 1 (t .count) && leb (t .count) 8) ≡ true → (columnsOn (usedColumns t) && (leb 1 (t .capacity) && leb (t .capacity) most-rows)) ≡ tableOn t
+unfolding tableOn
+table-yes t h = counted (t .count) true _ h
 
 module _ (before : List Schema) where
   apart : (a b s l r h c : Bool) → (a && (b && (s && (l && (r && (h && c)))))) ≡ ((s && (a && (b && ((l && r) && c)))) && h)

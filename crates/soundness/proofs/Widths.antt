@@ -1,10 +1,9 @@
 -- How many columns the tables have; questions and updates by the number of columns of their table. Assumes nothing.
 use mathlib.Core.Path.{_≡_, refl, sym, ap, ap₂, _∙_}
-use mathlib.Core.Bool.{Bool, true, false, _&&_, _||_, and-assoc}
+use mathlib.Core.Bool.{Bool, true, false, _&&_}
 use mathlib.Core.List.{List, [], _∷_, _++_, map}
 use Prim.Native.Nat.{ℕ, zero, suc, _+_, _-_, _≤_, _<_, min}
 use native.Mathlib.Omega.{arith}
-use borrow.Author.Tests.{le-leb, lt-leb}
 use lib.Dec.{eqb, leb, ltb}
 use lib.ListN.{length, getD, take, set, replicate, length-map, length-take}
 use Rattle.lists.specs.Lists.{All, nil, cons, all}
@@ -20,6 +19,7 @@ use Rattle.statement.specs.declared.Query.{Query}
 use Rattle.statement.specs.declared.Update.{Update}
 use Rattle.statement.proofs.Walks.{take-min, rest, length-first, map-rest, map-none, Fills, fills-start, fills-more, fills-end}
 use Rattle.soundness.specs.Parts.{widthOf, Widths, conditionOn, queryOn, updateOn}
+use Rattle.soundness.proofs.Tests.{counted}
 
 -- ---- the loop: the widths left are to be written
 
@@ -64,40 +64,44 @@ getD-width [] i = refl
 getD-width (t ∷ ts) zero = refl
 getD-width (t ∷ ts) (suc i) = getD-width ts i
 
+-- a statement as the loop tests it
+abbrev pub queryAt : ℕ → List ℕ → Query → Bool
+queryAt there widths q = ltb (q .table) there && queryOn (getD widths (q .table) 0) q
+
+abbrev pub updateAt : ℕ → List ℕ → Update → Bool
+updateAt there widths u = ltb (u .table) there && updateOn (getD widths (u .table) 0) u
+
+pub width-small : (n : ℕ) (ts : List Table) (widths : List ℕ) → Widths n ts widths → (w i : ℕ) → w ≡ getD widths i 0 → w ≤ 8
+width-small n ts widths W w i h = let s : getD widths i 0 ≤ 8 = All-getD i 0 (omega arith) (W .1) in omega arith
+
 module _ (tables : List Table) (used there : ℕ) (eight : length tables ≡ 8) (e : there ≡ min used 8) (widths : List ℕ) (W : Widths there tables widths) where
   schemas : map schemaOf (take there tables) ≡ schemasOf tables used
   schemas = ap (map schemaOf) (ap (λ (k : ℕ). take k tables) e ∙ take-min used 8 tables eight)
 
-  pub width-is : (w i : ℕ) → w ≡ getD widths i 0 → w ≡ columnsAt (schemasOf tables used) i
-  width-is w i h =
-      h ∙ ap (λ (l : List ℕ). getD l i 0) (W .0) ∙ getD-padded (8 - length (map widthOf (take there tables))) (map widthOf (take there tables)) i
+  width-is : (i : ℕ) → getD widths i 0 ≡ columnsAt (schemasOf tables used) i
+  width-is i =
+      ap (λ (l : List ℕ). getD l i 0) (W .0) ∙ getD-padded (8 - length (map widthOf (take there tables))) (map widthOf (take there tables)) i
       ∙ getD-width (take there tables) i ∙ ap (λ (ts : List Schema). columnsAt ts i) schemas
 
-  pub width-small : (w i : ℕ) → w ≡ getD widths i 0 → w ≤ 8
-  width-small w i h = let s : getD widths i 0 ≤ 8 = All-getD i 0 (omega arith) (W .1) in omega arith
-
   -- how many tables there are
-  pub tables-many : length (schemasOf tables used) ≡ there
+  tables-many : length (schemasOf tables used) ≡ there
   tables-many = length-map (take used tables) schemaOf ∙ length-take used tables ∙ ap (min used) eight ∙ sym e
 
-  pub query-beside : (q : Query) (w : ℕ) (b : Bool) → w ≡ getD widths (q .table) 0 → b ≡ queryOn w q → (ltb (q .table) there && b) ≡ soundQuery (schemasOf tables used) q
+  query-beside : (q : Query) → queryAt there widths q ≡ soundQuery (schemasOf tables used) q
   unfolding soundQuery queryOn
-  query-beside q w b h f =
-      ap₂ (λ (n : ℕ) (x : Bool). ltb (q .table) n && x) (sym tables-many) (f ∙ ap (λ (k : ℕ). queryOn k q) (width-is w (q .table) h))
+  query-beside q = ap₂ (λ (n w : ℕ). ltb (q .table) n && queryOn w q) (sym tables-many) (width-is (q .table))
 
-  pub update-beside : (u : Update) (w : ℕ) (b : Bool) → w ≡ getD widths (u .table) 0 → b ≡ updateOn w u → (ltb (u .table) there && b) ≡ soundUpdate (schemasOf tables used) u
+  update-beside : (u : Update) → updateAt there widths u ≡ soundUpdate (schemasOf tables used) u
   unfolding soundUpdate updateOn
-  update-beside u w b h f =
-      ap₂ (λ (n : ℕ) (x : Bool). ltb (u .table) n && x) (sym tables-many) (f ∙ ap (λ (k : ℕ). updateOn k u) (width-is w (u .table) h))
+  update-beside u = ap₂ (λ (n w : ℕ). ltb (u .table) n && updateOn w u) (sym tables-many) (width-is (u .table))
+
+  pub queries-beside : (qs : List Query) → all (queryAt there widths) qs ≡ all (soundQuery (schemasOf tables used)) qs
+  queries-beside qs = ap (λ (p : Query → Bool). all p qs) (λ i q. query-beside q i)
+
+  pub updates-beside : (us : List Update) → all (updateAt there widths) us ≡ all (soundUpdate (schemasOf tables used)) us
+  updates-beside us = ap (λ (p : Update → Bool). all p us) (λ i u. update-beside u i)
 
 -- ---- a question
-
--- 1 to 8 of them
-pub counted-no : (n : ℕ) (b : Bool) → (leb 1 n && leb n 8) ≡ false → false ≡ (leb 1 n && (leb n 8 && b))
-counted-no n b h = ap (λ (t : Bool). t && b) (sym h) ∙ and-assoc (leb 1 n) (leb n 8) b
-
-pub counted-yes : (n : ℕ) (b : Bool) → (leb 1 n && leb n 8) ≡ true → b ≡ (leb 1 n && (leb n 8 && b))
-counted-yes n b h = ap (λ (t : Bool). t && b) (sym h) ∙ and-assoc (leb 1 n) (leb n 8) b
 
 module _ (columns : ℕ) (q : Query) where
   abbrev below : Bool
@@ -105,11 +109,11 @@ module _ (columns : ℕ) (q : Query) where
 
   pub query-no : (leb 1 (q .count) && leb (q .count) 8) ≡ false → false ≡ queryOn columns q
   unfolding queryOn
-  query-no h = counted-no (q .count) _ h
+  query-no h = counted (q .count) false _ h
 
   pub query-yes : (leb 1 (q .count) && leb (q .count) 8) ≡ true → (below && conditionOn columns 0 (q .parameters) (q .condition)) ≡ queryOn columns q
   unfolding queryOn conditionOn
   query-yes h =
       let e : 0 + conditionMarks (q .condition) ≡ conditionMarks (q .condition) = omega arith in
       ap (λ (k : ℕ). below && (soundCondition columns 0 (q .condition) && (eqb (q .parameters) k && leb (q .parameters) most-marks))) e
-      ∙ counted-yes (q .count) _ h
+      ∙ counted (q .count) true _ h

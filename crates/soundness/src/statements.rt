@@ -187,14 +187,14 @@ pub fn update_is_sound(u: Update, columns: u8) -> bool
     ensures { λ r. ⌜ r ≡ updateOn columns u ⌝ }
 {
     let condition = u.condition;
-    if !form_fits(u.form, u.count, columns, condition.count) {
-        return false;
+    if form_fits(u.form, u.count, columns, condition.count) {
+        let n = u.count as usize;
+        let settings = u.settings;
+        let s = settings_are_sound(settings, n, u.form, columns);
+        let set = if_so(u.form == Update::UPDATE, n);
+        return s.ok
+            & are_distinct(settings, set)
+            & conditions::is_sound(condition, columns, s.next, u.parameters);
     }
-    let n = u.count as usize;
-    let settings = u.settings;
-    let s = settings_are_sound(settings, n, u.form, columns);
-    let set = if_so(u.form == Update::UPDATE, n);
-    s.ok
-        & are_distinct(settings, set)
-        & conditions::is_sound(condition, columns, s.next, u.parameters)
+    false
 }
