@@ -1,0 +1,199 @@
+-- Comparisons by the number of the next parameter: the loop over them, and that with the steps they tell whether a condition is sound. Assumes nothing.
+use mathlib.Core.Path.{_≡_, refl, sym, ap, ap₂, _∙_}
+use mathlib.Core.Bool.{Bool, true, false, not, _&&_, and-false, and-true, and-comm}
+use mathlib.Core.List.{List, [], _∷_, map}
+use Prim.Native.Nat.{ℕ, zero, suc, _+_, _-_, _*_, _≤_, _<_}
+use native.Mathlib.Omega.{arith}
+use borrow.Author.Tests.{le-leb, lt-leb}
+use lib.Dec.{eqb, leb, ltb, eqb·suc-suc}
+use lib.ListN.{length, getD, take}
+use lib.Seq.{length-take-le}
+use Rattle.lists.specs.Lists.{all}
+use Rattle.lists.proofs.Bools.{and-assoc, and-left, and-right, clash}
+use Rattle.meaning.specs.Condition as C
+use Rattle.meaning.specs.Condition.{sides}
+use Rattle.meaning.specs.Postfix.{Node, leaf, allOf, anyOf, leaves, balancedOn, isPostfix}
+use Rattle.meaning.specs.Statement as M
+use Rattle.meaning.specs.Resolve.{markInOperand, parameterCount, isNumbered, numberedOn, numberedFrom, isBelow, columnsBelow}
+use Rattle.meaning.specs.Limits.{most-comparisons, most-marks}
+use Rattle.statement.specs.Built.{markInSide}
+use Rattle.statement.specs.Sound.{operandRead, comparisonRead, nodesRead, usedSteps, usedComparisons, conditionNodes, conditionMarks, soundCondition}
+use Rattle.statement.specs.declared.Operand.{Operand}
+use Rattle.statement.specs.declared.Operand.the-variants.{Column, Constant, Parameter}
+use Rattle.statement.specs.declared.Comparison.{Comparison}
+use Rattle.statement.specs.declared.Condition.{Condition}
+use Rattle.statement.proofs.Walks.{rest, rest-cons, rest-none}
+use Rattle.statement.proofs.Stored.{read-length, read-leaves}
+use Rattle.soundness.specs.Parts.{stepsOn, sideFits, comparisonFits, comparisonMarks, comparisonsOn, conditionOn}
+use Rattle.soundness.proofs.Tests.{interchange}
+use Rattle.soundness.proofs.Steps.{steps-postfix}
+
+-- ---- sides
+
+pub side-marks : (o : Operand) → markInSide o ≤ 1
+side-marks (Column i) = omega arith
+side-marks (Constant z) = omega arith
+side-marks (Parameter k) = omega arith
+
+side-mark : (o : Operand) → markInSide o ≡ markInOperand (operandRead o)
+side-mark (Column i) = refl
+side-mark (Constant z) = refl
+side-mark (Parameter k) = refl
+
+side-is : (columns m : ℕ) (o : Operand) → sideFits columns m o ≡ (isBelow columns (operandRead o) && isNumbered m (operandRead o))
+side-is columns m (Column i) = sym (and-true (ltb i columns))
+side-is columns m (Constant z) = refl
+side-is columns m (Parameter k) = sym (eqb·suc-suc k m)
+
+-- ---- the loop: the comparisons left tell
+
+module _ (columns m p n : ℕ) (cs : List Comparison) where
+  pub record Compared (ok : Bool) (next i : ℕ) : Type 0 where
+    pub within : i ≤ n
+    pub bound : next ≤ m + 2 * i
+    pub left : (ok && comparisonsOn columns next p (rest n i cs)) ≡ comparisonsOn columns m p (take n cs)
+
+  pub compared-start : Compared true m 0
+  compared-start = record { within = omega arith; bound = omega arith; left = refl }
+
+  module _ (ok : Bool) (next i : ℕ) (P : Compared ok next i) where
+    pub compared-more : n ≤ length cs → (d : Comparison) (b : Bool) (k : ℕ) → i < n → b ≡ comparisonFits columns next (getD cs i d) → k ≡ comparisonMarks (getD cs i d) → k ≤ 2
+        → Compared (ok && b) (next + k) (i + 1)
+    compared-more l d b k h e f s = record {
+      within = omega arith;
+      bound = omega (arith, P .bound);
+      left =
+          sym (and-assoc ok b (comparisonsOn columns (next + k) p (rest n (i + 1) cs)))
+          ∙ ap₂ (λ (t : Bool) (j : ℕ). ok && (t && comparisonsOn columns (next + j) p (rest n (i + 1) cs))) e f
+          ∙ ap (λ (ds : List Comparison). ok && comparisonsOn columns next p ds) (sym (rest-cons n i cs d l h))
+          ∙ P .left;
+    }
+
+    pub compared-end : n ≤ i → (ok && eqb p next) ≡ comparisonsOn columns m p (take n cs)
+    compared-end h = ap (λ (ds : List Comparison). ok && comparisonsOn columns next p ds) (sym (rest-none n i cs h)) ∙ P .left
+
+-- ---- comparisons as they are read
+
+abbrev operators : List Comparison → Bool
+operators cs = all (λ (k : Comparison). ltb (k .op) 6) cs
+
+abbrev operands : List Comparison → List M.Operand
+operands cs = sides (map comparisonRead cs)
+
+-- what is asked of them, one after another and each by itself
+abbrev asked : ℕ → ℕ → ℕ → List Comparison → Bool
+asked columns m p cs =
+    operators cs && (all (isBelow columns) (operands cs) && (numberedOn m (operands cs) && eqb p (m + parameterCount (operands cs))))
+
+module _ (columns : ℕ) where
+  fits-is : (m : ℕ) (c : Comparison)
+      → comparisonFits columns m c
+      ≡ (ltb (c .op) 6 && ((isBelow columns (operandRead (c .left)) && isBelow columns (operandRead (c .right)))
+      && (isNumbered m (operandRead (c .left)) && isNumbered (m + markInOperand (operandRead (c .left))) (operandRead (c .right)))))
+  fits-is m c =
+      let a = operandRead (c .left) in
+      let b = operandRead (c .right) in
+      let m′ = m + markInOperand a in
+      ap₂ (λ (x y : Bool). (ltb (c .op) 6 && x) && y) (side-is columns m (c .left))
+      (ap (λ (k : ℕ). sideFits columns (m + k) (c .right)) (side-mark (c .left)) ∙ side-is columns m′ (c .right))
+      ∙ sym (and-assoc (ltb (c .op) 6) (isBelow columns a && isNumbered m a) (isBelow columns b && isNumbered m′ b))
+      ∙ ap (λ (x : Bool). ltb (c .op) 6 && x) (interchange (isBelow columns a) (isNumbered m a) (isBelow columns b) (isNumbered m′ b))
+
+  grouped : (o w k o′ w′ k′ e : Bool) → ((o && (w && k)) && (o′ && (w′ && (k′ && e)))) ≡ ((o && o′) && ((w && w′) && ((k && k′) && e)))
+  grouped o w k o′ w′ k′ e =
+      interchange o (w && k) o′ (w′ && (k′ && e))
+      ∙ ap (λ (x : Bool). (o && o′) && x) (interchange w k w′ (k′ && e) ∙ ap (λ (x : Bool). (w && w′) && x) (and-assoc k k′ e))
+
+  comparisons-asked : (m p : ℕ) (cs : List Comparison) → comparisonsOn columns m p cs ≡ asked columns m p cs
+  comparisons-asked m p [] = let e : m ≡ m + 0 = omega arith in ap (eqb p) e
+  comparisons-asked m p (c ∷ cs) =
+      let a : M.Operand = operandRead (c .left) in
+      let b : M.Operand = operandRead (c .right) in
+      let m′ : ℕ = m + markInOperand a in
+      let m″ : ℕ = m′ + markInOperand b in
+      let os : List M.Operand = operands cs in
+      let e : m + comparisonMarks c ≡ m″ = omega (arith, side-mark (c .left), side-mark (c .right)) in
+      let f : m″ + parameterCount os ≡ m + (markInOperand a + (markInOperand b + parameterCount os)) = omega arith in
+      ap₂ _&&_ (fits-is m c) (ap (λ (k : ℕ). comparisonsOn columns k p cs) e ∙ comparisons-asked m″ p cs)
+      ∙ grouped (ltb (c .op) 6) (isBelow columns a && isBelow columns b) (isNumbered m a && isNumbered m′ b)
+      (operators cs) (all (isBelow columns) os) (numberedOn m″ os) (eqb p (m″ + parameterCount os))
+      ∙ ap (λ (x : Bool). (ltb (c .op) 6 && operators cs) && x)
+      (ap₂ _&&_ (sym (and-assoc (isBelow columns a) (isBelow columns b) (all (isBelow columns) os)))
+      (ap₂ _&&_ (sym (and-assoc (isNumbered m a) (isNumbered m′ b) (numberedOn m″ os))) (ap (eqb p) f)))
+
+-- ---- as many comparisons as the steps take
+
+balanced-leaves : {O : Type 0} (k : ℕ) (ns : List (Node O)) → balancedOn k ns ≡ true → 2 * length (leaves ns) + k ≡ length ns + 1
+balanced-leaves zero [] h = clash h refl
+balanced-leaves (suc zero) [] h = omega arith
+balanced-leaves (suc (suc k)) [] h = clash h refl
+balanced-leaves k (leaf c ∷ ns) h = omega (arith, balanced-leaves (suc k) ns h)
+balanced-leaves zero (allOf ∷ ns) h = clash h refl
+balanced-leaves (suc zero) (allOf ∷ ns) h = clash h refl
+balanced-leaves (suc (suc k)) (allOf ∷ ns) h = omega (arith, balanced-leaves (suc k) ns h)
+balanced-leaves zero (anyOf ∷ ns) h = clash h refl
+balanced-leaves (suc zero) (anyOf ∷ ns) h = clash h refl
+balanced-leaves (suc (suc k)) (anyOf ∷ ns) h = omega (arith, balanced-leaves (suc k) ns h)
+
+postfix-leaves : {O : Type 0} (n : ℕ) (ns : List (Node O)) → isPostfix ns ≡ true → length ns ≡ 2 * n - 1 → length (leaves ns) ≡ n
+postfix-leaves n [] h e = omega arith
+postfix-leaves n (x ∷ ns) h e = omega (arith, balanced-leaves 0 (x ∷ ns) h)
+
+-- ---- a condition
+
+-- the steps tell, and where they are sound what is said of the comparisons is said of the nodes
+told : (q k t o w u e w′ u′ e′ : Bool) → (t ≡ true → (w′ ≡ w) × (u′ ≡ u) × (e′ ≡ e))
+    → ((q && (k && t)) && (o && (w′ && (u′ && e′)))) ≡ ((k && (o && (t && (w && u)))) && (e && q))
+told q false t o w u e w′ u′ e′ f = ap (λ (x : Bool). x && (o && (w′ && (u′ && e′)))) (and-false q)
+told q true false o w u e w′ u′ e′ f = ap (λ (x : Bool). x && (o && (w′ && (u′ && e′)))) (and-false q) ∙ sym (ap (λ (x : Bool). x && (e && q)) (and-false o))
+told q true true o w u e w′ u′ e′ f =
+    ap₂ (λ (x y : Bool). (q && true) && (o && (x && y))) (f refl .0) (ap₂ _&&_ (f refl .1) (f refl .2)) ∙ turned o w u
+  where
+    turned : (o w u : Bool) → ((q && true) && (o && (w && (u && e)))) ≡ ((o && (w && u)) && (e && q))
+    turned true true true = ap (λ (x : Bool). x && e) (and-true q) ∙ and-comm q e
+    turned true true false = and-false (q && true)
+    turned true false u = and-false (q && true)
+    turned false w u = and-false (q && true)
+
+module _ (columns m p : ℕ) (c : Condition) where
+  abbrev ss : List ℕ
+  ss = usedSteps c
+
+  abbrev cs : List Comparison
+  cs = usedComparisons c
+
+  abbrev nodes : List (Node M.Operand)
+  nodes = conditionNodes c
+
+  -- what is asked of it but that its comparisons are few
+  abbrev others : Bool
+  others = all (λ (s : ℕ). ltb s 3) ss && (operators cs && (isPostfix nodes && (columnsBelow columns nodes && numberedFrom m nodes)))
+
+  pub condition-long : 8 < c .count → false ≡ conditionOn columns m p c
+  unfolding conditionOn soundCondition
+  condition-long h =
+      sym (ap (λ (b : Bool). (b && others) && (eqb p (m + conditionMarks c) && leb p most-marks)) (lt-leb (c .count) most-comparisons h))
+
+  module _ (few : c .count ≤ 8) (fifteen : length (c .steps) ≡ 15) (eight : length (c .comparisons) ≡ 8) where
+    leaves-are : isPostfix nodes ≡ true → leaves nodes ≡ map comparisonRead cs
+    unfolding conditionNodes
+    leaves-are h =
+        let steps : length ss ≡ 2 * c .count - 1 = length-take-le (2 * c .count - 1) (c .steps) (omega arith) in
+        let many : length cs ≡ c .count = length-take-le (c .count) (c .comparisons) (omega arith) in
+        read-leaves ss cs (postfix-leaves (c .count) nodes h (read-length ss cs ∙ steps) ∙ sym many)
+
+    steps-tell : stepsOn 0 ss ≡ (all (λ (s : ℕ). ltb s 3) ss && isPostfix nodes)
+    unfolding conditionNodes
+    steps-tell = steps-postfix ss cs
+
+    pub condition-short : ((leb p most-marks && stepsOn 0 ss) && comparisonsOn columns m p cs) ≡ conditionOn columns m p c
+    unfolding conditionOn soundCondition
+    condition-short =
+        ap₂ (λ (x y : Bool). (leb p most-marks && x) && y) steps-tell (comparisons-asked columns m p cs)
+        ∙ told (leb p most-marks) (all (λ (s : ℕ). ltb s 3) ss) (isPostfix nodes) (operators cs)
+        (columnsBelow columns nodes) (numberedFrom m nodes) (eqb p (m + conditionMarks c))
+        (all (isBelow columns) (operands cs)) (numberedOn m (operands cs)) (eqb p (m + parameterCount (operands cs)))
+        (λ h.
+        let e : sides (leaves nodes) ≡ operands cs = ap sides (leaves-are h) in
+        (ap (all (isBelow columns)) (sym e), ap (numberedOn m) (sym e), ap (λ (os : List M.Operand). eqb p (m + parameterCount os)) (sym e)))
+        ∙ ap (λ (b : Bool). (b && others) && (eqb p (m + conditionMarks c) && leb p most-marks)) (sym (le-leb (c .count) most-comparisons few))

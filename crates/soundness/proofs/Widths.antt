@@ -1,0 +1,119 @@
+-- How many columns the tables have; questions and updates by the number of columns of their table. Assumes nothing.
+use mathlib.Core.Path.{_≡_, refl, sym, ap, ap₂, _∙_}
+use mathlib.Core.Bool.{Bool, true, false, _&&_}
+use mathlib.Core.List.{List, [], _∷_, _++_, map}
+use Prim.Native.Nat.{ℕ, zero, suc, _+_, _-_, _≤_, _<_, min}
+use native.Mathlib.Omega.{arith}
+use lib.Dec.{eqb, leb, ltb}
+use lib.ListN.{length, getD, take, set, replicate, length-map, length-take}
+use Rattle.lists.specs.Lists.{All, nil, cons, all}
+use Rattle.lists.proofs.Lists.{All-getD}
+use Rattle.lists.proofs.Places.{All-set}
+use Rattle.meaning.specs.Limits.{most-items, most-marks}
+use Rattle.meaning.specs.Names.{Schema}
+use Rattle.statement.specs.Catalog.{schemaOf, schemasOf}
+use Rattle.statement.specs.Compiled.{padded}
+use Rattle.statement.specs.Sound.{soundCondition, conditionMarks, columnsAt, soundQuery, soundUpdate}
+use Rattle.statement.specs.declared.Table.{Table}
+use Rattle.statement.specs.declared.Query.{Query}
+use Rattle.statement.specs.declared.Update.{Update}
+use Rattle.statement.proofs.Walks.{take-min, rest, length-first, map-rest, map-none, Fills, fills-start, fills-more, fills-end}
+use Rattle.soundness.specs.Parts.{widthOf, Widths, conditionOn, queryOn, updateOn}
+use Rattle.soundness.proofs.Tests.{counted}
+
+-- ---- the loop: the widths left are to be written
+
+zeros : (n : ℕ) → All (λ w. w ≤ 8) (replicate n 0)
+zeros zero = nil
+zeros (suc n) = cons {x = 0} (omega arith) (zeros n)
+
+module _ (n : ℕ) (ts : List Table) where
+  pub record Measured (out : List ℕ) (i : ℕ) : Type 0 where
+    pub fills : Fills (padded 8 0 (map widthOf (take n ts))) out i (map widthOf (rest n i ts))
+    pub small : All (λ w. w ≤ 8) out
+
+  pub measured-start : n ≤ 8 → n ≤ length ts → Measured (replicate 8 0) 0
+  measured-start few l = record {
+    fills = fills-start 8 0 (map widthOf (take n ts)) (replicate 8 0) refl (omega (arith, length-first widthOf n ts l));
+    small = zeros 8;
+  }
+
+  pub measured-more : n ≤ length ts → (out : List ℕ) (i : ℕ) (d : Table) (w : ℕ) → i < n → w ≡ widthOf (getD ts i d) → w ≤ 8 → Measured out i → Measured (set out i w) (i + 1)
+  measured-more l out i d w k e s P = record {
+    fills = fills-more _ out i (map widthOf (rest n i ts)) w (map widthOf (rest n (i + 1) ts)) (map-rest widthOf n i ts d w l k e) (P .fills);
+    small = All-set i w s (P .small);
+  }
+
+  pub measured-end : (out : List ℕ) (i : ℕ) → n ≤ i → Measured out i → Widths n ts out
+  measured-end out i k P = (fills-end _ out i (map widthOf (rest n i ts)) (map-none widthOf n i ts k) (P .fills), P .small)
+
+-- ---- the width of a table
+
+getD-zeros : (n i : ℕ) → _≡_ {A = ℕ} (getD (replicate n 0) i 0) 0
+getD-zeros zero i = refl
+getD-zeros (suc n) zero = refl
+getD-zeros (suc n) (suc i) = getD-zeros n i
+
+getD-padded : (n : ℕ) (xs : List ℕ) (i : ℕ) → getD (xs ++ replicate n 0) i 0 ≡ getD xs i 0
+getD-padded n [] i = getD-zeros n i
+getD-padded n (x ∷ xs) zero = refl
+getD-padded n (x ∷ xs) (suc i) = getD-padded n xs i
+
+getD-width : (ts : List Table) (i : ℕ) → getD (map widthOf ts) i 0 ≡ columnsAt (map schemaOf ts) i
+getD-width [] i = refl
+getD-width (t ∷ ts) zero = refl
+getD-width (t ∷ ts) (suc i) = getD-width ts i
+
+-- a statement as the loop tests it
+abbrev pub queryAt : ℕ → List ℕ → Query → Bool
+queryAt there widths q = ltb (q .table) there && queryOn (getD widths (q .table) 0) q
+
+abbrev pub updateAt : ℕ → List ℕ → Update → Bool
+updateAt there widths u = ltb (u .table) there && updateOn (getD widths (u .table) 0) u
+
+pub width-small : (n : ℕ) (ts : List Table) (widths : List ℕ) → Widths n ts widths → (w i : ℕ) → w ≡ getD widths i 0 → w ≤ 8
+width-small n ts widths W w i h = let s : getD widths i 0 ≤ 8 = All-getD i 0 (omega arith) (W .1) in omega arith
+
+module _ (tables : List Table) (used there : ℕ) (eight : length tables ≡ 8) (e : there ≡ min used 8) (widths : List ℕ) (W : Widths there tables widths) where
+  schemas : map schemaOf (take there tables) ≡ schemasOf tables used
+  schemas = ap (map schemaOf) (ap (λ (k : ℕ). take k tables) e ∙ take-min used 8 tables eight)
+
+  width-is : (i : ℕ) → getD widths i 0 ≡ columnsAt (schemasOf tables used) i
+  width-is i =
+      ap (λ (l : List ℕ). getD l i 0) (W .0) ∙ getD-padded (8 - length (map widthOf (take there tables))) (map widthOf (take there tables)) i
+      ∙ getD-width (take there tables) i ∙ ap (λ (ts : List Schema). columnsAt ts i) schemas
+
+  -- how many tables there are
+  tables-many : length (schemasOf tables used) ≡ there
+  tables-many = length-map (take used tables) schemaOf ∙ length-take used tables ∙ ap (min used) eight ∙ sym e
+
+  query-beside : (q : Query) → queryAt there widths q ≡ soundQuery (schemasOf tables used) q
+  unfolding soundQuery queryOn
+  query-beside q = ap₂ (λ (n w : ℕ). ltb (q .table) n && queryOn w q) (sym tables-many) (width-is (q .table))
+
+  update-beside : (u : Update) → updateAt there widths u ≡ soundUpdate (schemasOf tables used) u
+  unfolding soundUpdate updateOn
+  update-beside u = ap₂ (λ (n w : ℕ). ltb (u .table) n && updateOn w u) (sym tables-many) (width-is (u .table))
+
+  pub queries-beside : (qs : List Query) → all (queryAt there widths) qs ≡ all (soundQuery (schemasOf tables used)) qs
+  queries-beside qs = ap (λ (p : Query → Bool). all p qs) (λ i q. query-beside q i)
+
+  pub updates-beside : (us : List Update) → all (updateAt there widths) us ≡ all (soundUpdate (schemasOf tables used)) us
+  updates-beside us = ap (λ (p : Update → Bool). all p us) (λ i u. update-beside u i)
+
+-- ---- a question
+
+module _ (columns : ℕ) (q : Query) where
+  abbrev below : Bool
+  below = all (λ (i : ℕ). ltb i columns) (take (q .count) (q .selected))
+
+  pub query-no : (leb 1 (q .count) && leb (q .count) 8) ≡ false → false ≡ queryOn columns q
+  unfolding queryOn
+  query-no h = counted (q .count) false _ h
+
+  pub query-yes : (leb 1 (q .count) && leb (q .count) 8) ≡ true → (below && conditionOn columns 0 (q .parameters) (q .condition)) ≡ queryOn columns q
+  unfolding queryOn conditionOn
+  query-yes h =
+      let e : 0 + conditionMarks (q .condition) ≡ conditionMarks (q .condition) = omega arith in
+      ap (λ (k : ℕ). below && (soundCondition columns 0 (q .condition) && (eqb (q .parameters) k && leb (q .parameters) most-marks))) e
+      ∙ counted (q .count) true _ h

@@ -1,0 +1,40 @@
+-- `is_sound` meets its contract. Assumes nothing.
+use borrow.Author.Needs.{needs}
+use mathlib.Core.Path.{_≡_, ap₂, _∙_}
+use mathlib.Core.Bool.{Bool, _&&_}
+use lib.Dec.{leb}
+use lib.ListN.{length, length-map}
+use Rattle.soundness.proofs.Comparisons.{condition-long, condition-short}
+use Rattle.soundness.proofs.conditions.is_sound.Statement.{statement}
+use Rattle.soundness.proofs.conditions.is_sound.Tie as tie
+
+-- the arrays' lengths
+fifteen : (c : tie.Start) → length (c .args .c .steps) ≡ 15
+fifteen c = search needs
+
+eight : (c : tie.Start) → length (c .args .c .comparisons) ≡ 8
+eight c = simp length-map at (c .good .0 .1 .1 .0 .1 .0 .1)
+
+cast-n : tie.Need-cast-n
+cast-n c = search needs
+
+returns : tie.Need-returns
+returns c = let a = c .before .before .args in condition-long (a .columns) (a .m) (a .parameters) (a .c) (c .if1 .taken)
+
+steps-are-sound-requires : tie.Need-steps-are-sound-requires
+steps-are-sound-requires c κs = search needs
+
+comparisons-are-sound-requires : tie.Need-comparisons-are-sound-requires
+comparisons-are-sound-requires c κs = search needs
+
+returns-2 : tie.Need-returns-2
+returns-2 c =
+    let s = c .before .before .before .before .before .before in
+    let a = s .args in
+    ap₂ (λ (x y : Bool). (leb (a .parameters) 8 && x) && y) (c .before .steps-are-sound .ensures) (c .comparisons-are-sound .ensures)
+    ∙ condition-short (a .columns) (a .m) (a .parameters) (a .c) (c .before .before .before .before .if1 .left) (fifteen s) (eight s)
+
+pub is-sound-spec : {M : Type 1} → statement M
+is-sound-spec =
+    tie.close
+    (tie.spec cast-n returns steps-are-sound-requires comparisons-are-sound-requires returns-2)

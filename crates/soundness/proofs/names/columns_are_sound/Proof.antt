@@ -1,0 +1,86 @@
+-- `columns_are_sound` meets its contract. The invariant: the names passed are sound, and their numbers are noted. Assumes nothing.
+use borrow.Author.Needs.{needs}
+use mathlib.Core.Path.{_≡_, refl, sym, ap, _∙_}
+use mathlib.Core.Bool.{not}
+use mathlib.Core.List.{List}
+use Prim.Native.Nat.{ℕ, _-_, _≤_}
+use native.Mathlib.Omega.{arith}
+use lib.Dec.{eqb}
+use lib.ListN.{length, take, length-set}
+use Rattle.lists.specs.Lists.{repeats}
+use Rattle.statement.specs.Sound.{soundName}
+use Rattle.soundness.specs.Parts.{codeOf}
+use Rattle.soundness.proofs.Packed.{code-zero, code-some}
+use Rattle.soundness.proofs.Tables.{Coded, coded-start, coded-more, coded-stop, coded-end, columns-no, columns-yes}
+use Rattle.soundness.proofs.names.columns_are_sound.Statement.{statement}
+use Rattle.soundness.proofs.names.columns_are_sound.Tie as tie
+
+abbrev Inv-loop : tie.InvT-loop
+Inv-loop n names codes₀ i₀ codes i = (n ≤ 8) × (length names ≡ 8) × (length codes ≡ 8) × Coded codeOf soundName n names codes i
+
+abbrev μ-loop : tie.MeasureT-loop
+μ-loop n names codes₀ i₀ codes i = n - i
+
+loop-holds : tie.Need-loop-holds Inv-loop μ-loop
+loop-holds c = let e : length (c .args .t1) ≡ 8 = search needs in (omega arith, e, refl, coded-start _ _ _ _ (omega arith) (omega arith))
+
+mul-x : tie.Need-mul-x Inv-loop μ-loop
+mul-x c = omega arith
+
+array-copy-out-x : tie.Need-array-copy-out-x Inv-loop μ-loop
+array-copy-out-x c = omega arith
+
+code-requires : tie.Need-code-requires Inv-loop μ-loop
+code-requires c κs = tt
+
+returns : tie.Need-returns Inv-loop μ-loop
+returns c =
+    let l = c .before .before .before .before .loop in
+    columns-no _ (coded-stop _ _ _ _ (omega arith) (l .codes) (l .i) _ (omega arith) (l .inv .3) (code-zero _ (sym (c .before .code .ensures) ∙ c .if1 .taken)))
+
+mul-codes : tie.Need-mul-codes Inv-loop μ-loop
+mul-codes c = omega arith
+
+array-write-codes : tie.Need-array-write-codes Inv-loop μ-loop
+array-write-codes c = omega arith
+
+add-i : tie.Need-add-i Inv-loop μ-loop
+add-i c = omega arith
+
+loop-less : tie.Need-loop-less Inv-loop μ-loop
+loop-less c = omega arith
+
+loop-again : tie.Need-loop-again Inv-loop μ-loop
+loop-again c =
+    let l = c .before .before .before .before .loop in
+    let v = l .inv in
+    (v .0, v .1, simp length-set (v .2), coded-more _ _ _ _ (omega arith) (l .codes) (l .i) _ (omega arith) (v .3) (c .before .code .result) (c .before .code .ensures) (code-some _ (λ e. c .if1 .left (c .before .code .ensures ∙ e))))
+
+are-distinct-requires : tie.Need-are-distinct-requires Inv-loop μ-loop
+are-distinct-requires c κs = omega arith
+
+returns-2 : tie.Need-returns-2 Inv-loop μ-loop
+returns-2 c =
+    let l = c .before .before .loop in
+    let a = c .before .before .before .args in
+    let e = coded-end _ _ _ _ (omega arith) (l .codes) (l .i) (c .before .loop-test .left) (l .inv .3) in
+    c .are-distinct .ensures ∙ ap (λ (xs : List ℕ). not (repeats eqb xs)) (e .1) ∙ columns-yes (take (a .n) (a .t1)) (e .0)
+
+pub columns-are-sound-spec : {M : Type 1} → statement M
+columns-are-sound-spec =
+    tie.close
+    (tie.spec
+    Inv-loop
+    μ-loop
+    loop-holds
+    mul-x
+    array-copy-out-x
+    code-requires
+    returns
+    mul-codes
+    array-write-codes
+    add-i
+    loop-less
+    loop-again
+    are-distinct-requires
+    returns-2)

@@ -1,0 +1,147 @@
+-- The parts of the tests, as the code takes them: steps by the depth of the stack, comparisons and settings by the number of the next parameter, statements by
+-- how many columns their table has. proofs/Steps, Comparisons and Statements show that together they are the tests of crate `statement`.
+-- Assumes nothing: these are definitions.
+use mathlib.Core.Path.{_≡_}
+use mathlib.Core.Bool.{Bool, true, not, _&&_, cond}
+use mathlib.Core.List.{List, [], _∷_, map}
+use Prim.Native.Nat.{ℕ, _+_, _-_, _*_, _≤_}
+use lib.Dec.{eqb, leb, ltb}
+use lib.ListN.{length, take}
+use Rattle.lists.specs.Lists.{All, all, repeats}
+use Rattle.meaning.specs.Tokens.{isDigit, isSmall, isNameByte}
+use Rattle.meaning.specs.Limits.{most-items, most-marks, most-rows}
+use Rattle.meaning.specs.Names.{sameName}
+use Rattle.meaning.specs.Resolve.{parameterCount, numberedOn}
+use Rattle.statement.specs.Built.{markInValue, markInSide}
+use Rattle.statement.specs.Catalog.{nameOfStruct, schemaOf}
+use Rattle.statement.specs.Compiled.{padded}
+use Rattle.statement.specs.Sound.{usedColumns, soundName, soundCondition, conditionMarks, soundForm, settingOperands}
+use Rattle.statement.specs.declared.Name.{Name}
+use Rattle.statement.specs.declared.Table.{Table}
+use Rattle.statement.specs.declared.Operand.{Operand}
+use Rattle.statement.specs.declared.Operand.the-variants.{Column, Constant, Parameter}
+use Rattle.statement.specs.declared.Comparison.{Comparison}
+use Rattle.statement.specs.declared.Condition.{Condition}
+use Rattle.statement.specs.declared.Query.{Query}
+use Rattle.statement.specs.declared.Value.{Value}
+use Rattle.statement.specs.declared.Value.the-variants as Given
+use Rattle.statement.specs.declared.Setting.{Setting}
+use Rattle.statement.specs.declared.Update.{Update}
+use Rattle.soundness.specs.declared.statements.Numbered.{Numbered}
+
+-- ---- names as numbers
+
+-- a digit of base 38 for each byte of a name, and 0 for other bytes
+abbrev pub digitOf : ℕ → ℕ
+digitOf b = cond (isSmall b) (b - 97 + 1) (cond (isDigit b) (b - 48 + 27) (cond (eqb b 95) 37 0))
+
+abbrev pub packed : List ℕ → ℕ
+packed [] = 0
+packed (b ∷ bs) = digitOf b + 38 * packed bs
+
+abbrev pub packedName : List ℕ → ℕ
+packedName bs = cond (all isNameByte bs) (packed bs) 0
+
+-- 0 for what is no name
+unfoldable pub codeOf : Name → ℕ
+codeOf n = cond (soundName n) (packed (nameOfStruct n)) 0
+
+-- ---- a table but for its name
+
+unfoldable pub columnsOn : List Name → Bool
+columnsOn ns = all soundName ns && not (repeats sameName (map nameOfStruct ns))
+
+unfoldable pub tableOn : Table → Bool
+tableOn t = leb 1 (t .count) && (leb (t .count) most-items && (columnsOn (usedColumns t) && (leb 1 (t .capacity) && leb (t .capacity) most-rows)))
+
+-- how many columns a table has; the first n of these tables, in an array of eight
+abbrev pub widthOf : Table → ℕ
+widthOf t = length (schemaOf t .columns)
+
+abbrev pub Widths : ℕ → List Table → List ℕ → Type 0
+Widths n tables r = (r ≡ padded 8 0 (map widthOf (take n tables))) × All (λ w. w ≤ 8) r
+
+-- ---- steps, where k values are on the stack
+
+-- 0 if the step does not fit
+abbrev pub depthAfter : ℕ → ℕ → ℕ
+depthAfter k s = cond (eqb s 0) (k + 1) (cond (ltb s 3 && leb 2 k) (k - 1) 0)
+
+-- each step fits, and at most one value is left
+abbrev pub stepsOn : ℕ → List ℕ → Bool
+stepsOn k [] = leb k 1
+stepsOn k (s ∷ ss) = not (eqb (depthAfter k s) 0) && stepsOn (depthAfter k s) ss
+
+-- ---- comparisons, where m parameters stand before
+
+abbrev pub sideFits : ℕ → ℕ → Operand → Bool
+sideFits columns m (Column i) = ltb i columns
+sideFits columns m (Constant z) = true
+sideFits columns m (Parameter k) = eqb k m
+
+abbrev pub comparisonFits : ℕ → ℕ → Comparison → Bool
+comparisonFits columns m c = (ltb (c .op) 6 && sideFits columns m (c .left)) && sideFits columns (m + markInSide (c .left)) (c .right)
+
+abbrev pub comparisonMarks : Comparison → ℕ
+comparisonMarks c = markInSide (c .left) + markInSide (c .right)
+
+-- each fits, and with their parameters there are p
+abbrev pub comparisonsOn : ℕ → ℕ → ℕ → List Comparison → Bool
+comparisonsOn columns m p [] = eqb p m
+comparisonsOn columns m p (c ∷ cs) = comparisonFits columns m c && comparisonsOn columns (m + comparisonMarks c) p cs
+
+-- a condition, and there are p parameters with its own
+unfoldable pub conditionOn : ℕ → ℕ → ℕ → Condition → Bool
+conditionOn columns m p c = soundCondition columns m c && (eqb p (m + conditionMarks c) && leb p most-marks)
+
+-- ---- a question of a table of so many columns
+
+unfoldable pub queryOn : ℕ → Query → Bool
+queryOn columns q =
+    leb 1 (q .count)
+    && (leb (q .count) most-items
+    && (all (λ (i : ℕ). ltb i columns) (take (q .count) (q .selected))
+    && (soundCondition columns 0 (q .condition) && (eqb (q .parameters) (conditionMarks (q .condition)) && leb (q .parameters) most-marks))))
+
+-- ---- an update of a table of so many columns
+
+abbrev pub ifSo : Bool → ℕ → ℕ
+ifSo b n = cond b n 0
+
+abbrev pub sameColumn : Setting → Setting → Bool
+sameColumn s t = eqb (s .column) (t .column)
+
+-- so many settings and comparisons: 0 INSERT, 1 UPDATE, 2 DELETE
+abbrev pub formFits : ℕ → ℕ → ℕ → ℕ → Bool
+formFits form count columns comparisons =
+    cond (eqb form 0) (eqb count columns && eqb comparisons 0) (cond (eqb form 1) (leb 1 count && leb count most-items) (eqb form 2 && eqb count 0))
+
+-- the column of the i-th setting: in an INSERT its own place
+abbrev pub columnFits : ℕ → ℕ → ℕ → ℕ → Bool
+columnFits form columns i c = cond (eqb form 0) (eqb c i) (ltb c columns)
+
+abbrev pub valueFits : ℕ → Value → Bool
+valueFits m (Given.Constant z) = true
+valueFits m (Given.Parameter k) = eqb k m
+
+abbrev pub settingFits : ℕ → ℕ → ℕ → ℕ → Setting → Bool
+settingFits form columns i m s = columnFits form columns i (s .column) && valueFits m (s .value)
+
+-- settings from the i-th on, where m parameters stand before
+abbrev pub settingsFit : ℕ → ℕ → ℕ → ℕ → List Setting → Bool
+settingsFit form columns i m [] = true
+settingsFit form columns i m (s ∷ ss) = settingFits form columns i m s && settingsFit form columns (i + 1) (m + markInValue (s .value)) ss
+
+abbrev pub settingMarks : List Setting → ℕ
+settingMarks [] = 0
+settingMarks (s ∷ ss) = markInValue (s .value) + settingMarks ss
+
+abbrev pub settingsOn : ℕ → ℕ → List Setting → Numbered
+settingsOn form columns ss = record { ok = settingsFit form columns 0 0 ss; next = settingMarks ss }
+
+unfoldable pub updateOn : ℕ → Update → Bool
+updateOn columns u =
+    soundForm (u .form) columns u
+    && (numberedOn 0 (settingOperands u)
+    && (soundCondition columns (parameterCount (settingOperands u)) (u .condition)
+    && (eqb (u .parameters) (parameterCount (settingOperands u) + conditionMarks (u .condition)) && leb (u .parameters) most-marks)))

@@ -1,0 +1,77 @@
+// The tests of stored tables and statements: whether each is such as a text compiles to. They run at every call of a store, so each entry is looked at once; of
+// the tables a statement's test needs only how many columns each has.
+mod conditions; // steps and comparisons
+mod names; // names, and tables by themselves
+mod statements; // questions and updates by themselves
+
+use table::Query;
+use table::Table;
+use table::Update;
+ghost use mathlib.Core.Path.{_≡_};
+ghost use Rattle.soundness.specs.Soundness.{tablesSound, queriesSound, updatesSound};
+
+// Whether the first `used` tables are sound beside each other.
+pub fn tables_are_sound(tables: [Table; Table::TABLES], used: u8) -> bool
+    ensures { λ r. ⌜ r ≡ tablesSound tables used ⌝ }
+{
+    let n = names::least(used as usize, Table::TABLES);
+    let mut codes = [0u64; Table::TABLES];
+    let mut i: usize = 0;
+    while i < n {
+        let t = tables[i];
+        let name = t.name;
+        let c = names::code(name);
+        if (c == 0) | !names::table_fits(t) {
+            return false;
+        }
+        codes[i] = c;
+        i += 1;
+    }
+    names::are_distinct(codes, n)
+}
+
+// Whether the first n questions are sound beside the first `used` tables.
+pub fn queries_are_sound(
+    tables: [Table; Table::TABLES],
+    used: u8,
+    queries: [Query; Query::QUERIES],
+    n: u8,
+) -> bool
+    ensures { λ r. ⌜ r ≡ queriesSound tables used queries n ⌝ }
+{
+    let there = names::least(used as usize, Table::TABLES);
+    let widths = statements::widths(tables, there);
+    let count = names::least(n as usize, Query::QUERIES);
+    let mut ok = true;
+    let mut i: usize = 0;
+    while i < count {
+        let q = queries[i];
+        let columns = statements::width_at(widths, q.table);
+        ok = ok & (((q.table as usize) < there) & statements::query_is_sound(q, columns));
+        i += 1;
+    }
+    ok
+}
+
+// Whether the first n updates are sound beside the first `used` tables.
+pub fn updates_are_sound(
+    tables: [Table; Table::TABLES],
+    used: u8,
+    updates: [Update; Update::UPDATES],
+    n: u8,
+) -> bool
+    ensures { λ r. ⌜ r ≡ updatesSound tables used updates n ⌝ }
+{
+    let there = names::least(used as usize, Table::TABLES);
+    let widths = statements::widths(tables, there);
+    let count = names::least(n as usize, Update::UPDATES);
+    let mut ok = true;
+    let mut i: usize = 0;
+    while i < count {
+        let u = updates[i];
+        let columns = statements::width_at(widths, u.table);
+        ok = ok & (((u.table as usize) < there) & statements::update_is_sound(u, columns));
+        i += 1;
+    }
+    ok
+}

@@ -1,0 +1,200 @@
+// Questions and updates, by how many columns their table has.
+use super::conditions;
+use table::Query;
+use table::Setting;
+use table::Table;
+use table::Update;
+use table::Value;
+ghost use mathlib.Core.Path.{_≡_};
+ghost use mathlib.Core.Bool.{not};
+ghost use Prim.Native.Nat.{ℕ, _≤_};
+ghost use lib.Dec.{ltb};
+ghost use lib.ListN.{getD, take};
+ghost use Rattle.lists.specs.Lists.{all, repeats};
+ghost use Rattle.statement.specs.Built.{markInValue};
+ghost use Rattle.soundness.specs.Parts.{widthOf, Widths, ifSo, sameColumn, queryOn, formFits, columnFits, valueFits, settingFits, settingsOn, updateOn};
+
+// ---- how many columns the tables have
+
+fn width(t: Table) -> u8
+    ensures { λ r. ⌜ (r ≡ widthOf t) × (r ≤ 8) ⌝ }
+{
+    if (t.count as usize) < Table::COLUMNS {
+        t.count
+    } else {
+        Table::COLUMNS as u8
+    }
+}
+
+// Of the first n tables; 0 past them.
+pub fn widths(tables: [Table; Table::TABLES], n: usize) -> [u8; Table::TABLES]
+    requires { ⌜ n ≤ 8 ⌝ }
+    ensures { λ r. ⌜ Widths n tables r ⌝ }
+{
+    let mut widths = [0u8; Table::TABLES];
+    let mut i = 0;
+    while i < n {
+        let t = tables[i];
+        widths[i] = width(t);
+        i += 1;
+    }
+    widths
+}
+
+// Of a table; 0 if it is not there.
+pub fn width_at(widths: [u8; Table::TABLES], table: u8) -> u8
+    ensures { λ r. ⌜ r ≡ getD widths table 0 ⌝ }
+{
+    let i = table as usize;
+    if i < Table::TABLES { widths[i] } else { 0 }
+}
+
+// ---- questions
+
+// Whether the first n are columns of the table.
+fn are_below(selected: [u8; Query::SELECTED], n: usize, columns: u8) -> bool
+    requires { ⌜ n ≤ 8 ⌝ }
+    ensures { λ r. ⌜ r ≡ all (λ (i : ℕ). ltb i columns) (take n selected) ⌝ }
+{
+    let mut ok = true;
+    let mut i = 0;
+    while i < n {
+        let x = selected[i];
+        ok = ok & (x < columns);
+        i += 1;
+    }
+    ok
+}
+
+// Whether a question is sound, where its table has so many columns.
+pub fn query_is_sound(q: Query, columns: u8) -> bool
+    ensures { λ r. ⌜ r ≡ queryOn columns q ⌝ }
+{
+    let n = q.count as usize;
+    if (1 <= n) & (n <= Query::SELECTED) {
+        let selected = q.selected;
+        let condition = q.condition;
+        return are_below(selected, n, columns)
+            & conditions::is_sound(condition, columns, 0, q.parameters);
+    }
+    false
+}
+
+// ---- updates
+
+// n, or 0.
+fn if_so(b: bool, n: usize) -> usize
+    ensures { λ r. ⌜ r ≡ ifSo b n ⌝ }
+{
+    if b { n } else { 0 }
+}
+
+// Whether an update of this form may have so many settings and comparisons.
+fn form_fits(form: u8, count: u8, columns: u8, comparisons: u8) -> bool
+    ensures { λ r. ⌜ r ≡ formFits form count columns comparisons ⌝ }
+{
+    if form == Update::INSERT {
+        return (count == columns) & (comparisons == 0);
+    }
+    if form == Update::UPDATE {
+        return (1 <= count) & ((count as usize) <= Update::SETTINGS);
+    }
+    (form == Update::DELETE) & (count == 0)
+}
+
+// Whether the i-th setting may set this column: in an INSERT its own place.
+fn column_fits(form: u8, columns: u8, i: usize, column: u8) -> bool
+    ensures { λ r. ⌜ r ≡ columnFits form columns i column ⌝ }
+{
+    if form == Update::INSERT {
+        return (column as usize) == i;
+    }
+    column < columns
+}
+
+// Whether a value is a constant or the parameter m.
+fn value_fits(v: Value, m: u8) -> bool
+    ensures { λ r. ⌜ r ≡ valueFits m v ⌝ }
+{
+    match v {
+        Value::Constant(_) => true,
+        Value::Parameter(k) => k == m,
+    }
+}
+
+fn marks_in(v: Value) -> u8
+    ensures { λ r. ⌜ (r ≡ markInValue v) × (r ≤ 1) ⌝ }
+{
+    match v {
+        Value::Constant(_) => 0,
+        Value::Parameter(_) => 1,
+    }
+}
+
+// Whether the settings looked at are sound, and the number of the next parameter.
+pub struct Numbered {
+    pub ok: bool,
+    pub next: u8,
+}
+
+// The first n settings.
+fn settings_are_sound(
+    settings: [Setting; Update::SETTINGS],
+    n: usize,
+    form: u8,
+    columns: u8,
+) -> Numbered
+    requires { ⌜ n ≤ 8 ⌝ }
+    ensures { λ r. ⌜ r ≡ settingsOn form columns (take n settings) ⌝ }
+{
+    let mut ok = true;
+    let mut next: u8 = 0;
+    let mut i = 0;
+    while i < n {
+        let s = settings[i];
+        let value = s.value;
+        ok = ok & (column_fits(form, columns, i, s.column) & value_fits(value, next));
+        next += marks_in(value);
+        i += 1;
+    }
+    Numbered { ok, next }
+}
+
+// Whether no two of the first n settings set the same column.
+fn are_distinct(settings: [Setting; Update::SETTINGS], n: usize) -> bool
+    requires { ⌜ n ≤ 8 ⌝ }
+    ensures { λ r. ⌜ r ≡ not (repeats sameColumn (take n settings)) ⌝ }
+{
+    let mut i = 0;
+    while i < n {
+        let x = settings[i];
+        let mut j = i + 1;
+        while j < n {
+            let y = settings[j];
+            if x.column == y.column {
+                return false;
+            }
+            j += 1;
+        }
+        i += 1;
+    }
+    true
+}
+
+// Whether an update is sound, where its table has so many columns.
+pub fn update_is_sound(u: Update, columns: u8) -> bool
+    requires { ⌜ columns ≤ 8 ⌝ }
+    ensures { λ r. ⌜ r ≡ updateOn columns u ⌝ }
+{
+    let condition = u.condition;
+    if form_fits(u.form, u.count, columns, condition.count) {
+        let n = u.count as usize;
+        let settings = u.settings;
+        let s = settings_are_sound(settings, n, u.form, columns);
+        let set = if_so(u.form == Update::UPDATE, n);
+        return s.ok
+            & are_distinct(settings, set)
+            & conditions::is_sound(condition, columns, s.next, u.parameters);
+    }
+    false
+}
