@@ -1,0 +1,2 @@
+pub mod OperandCodes
+pub mod Least
