@@ -1,2 +1,4 @@
 pub mod OperandCodes
 pub mod Least
+pub mod Clauses
+pub mod Laws
