@@ -1,19 +1,21 @@
--- What every operand of a stored query and a stored update has, every operand of their joint clauses has. Assumes nothing.
+-- What every operand of a stored query and a stored update has, every operand of their joint clauses has: so these fit, and the pattern of a clause can be told by its
+-- least codes. Assumes nothing.
 use mathlib.Core.Bool.{Bool, true, false, cond}
 use mathlib.Core.List.{List, [], _∷_, map}
-use mathlib.Core.Path.{_≡_, refl}
+use mathlib.Core.Path.{_≡_, refl, sym, ap, _∙_}
 use Prim.Native.Nat.{ℕ, zero, suc, _<_}
 use native.Mathlib.Omega.{arith}
 use lib.Dec.{eqb}
 use lib.IntN.{pos}
-use Rattle.lists.specs.Lists.{All, nil, cons}
-use Rattle.lists.proofs.Lists.{All-map, All-append, All-image, All-take, All-getD, All-pairs}
+use Rattle.lists.specs.Lists.{All, nil, cons, from}
+use Rattle.lists.proofs.Lists.{All-map, All-append, All-image, All-take, All-getD, All-pairs, map-same}
+use Rattle.lists.proofs.Moved.{from-below}
 use Rattle.meaning.specs.Condition as C
 use Rattle.meaning.specs.Condition.{sides, renamed}
 use Rattle.meaning.specs.Postfix.{leaves}
 use Rattle.meaning.specs.Limits.{isWithin32}
 use Rattle.meaning.specs.Statement as M
-use Rattle.meaning.specs.Pattern.{Joint, column, constant, ofValue, ofUpdate, ofQuery, insertedColumn, setColumn, Clause}
+use Rattle.meaning.specs.Pattern.{Joint, column, constant, ofValue, ofUpdate, ofQuery, insertedColumn, setColumn, Clause, contradictory, pattern}
 use Rattle.meaning.proofs.Postfix.{clauses-have, sides-have}
 use Rattle.statement.specs.declared.Operand.{Operand}
 use Rattle.statement.specs.declared.Operand.the-variants.{Column, Constant, Parameter}
@@ -25,8 +27,10 @@ use Rattle.statement.specs.declared.Value.the-variants as Given
 use Rattle.statement.specs.declared.Setting.{Setting}
 use Rattle.statement.specs.declared.Update.{Update}
 use Rattle.statement.specs.Sound.{valueRead, operandRead, comparisonRead, noComparison, nodesRead, usedComparisons, usedSteps, conditionNodes, usedSettings, settingRead, settingsRead, settingValues}
-use Rattle.pattern.specs.Stored.{clausesRead, queryClauses, bothClauses, jointClauses, joint}
+use Rattle.pattern.specs.Stored.{clausesRead, queryClauses, bothClauses, jointClauses, joint, patternStruct, noPattern, clausePattern}
+use Rattle.pattern.specs.Least.{coded, contradicts, leastEntry}
 use Rattle.pattern.proofs.OperandCodes.{Fits}
+use Rattle.pattern.proofs.Least.{least-contradicts, least-entry}
 
 -- both operands of a comparison
 abbrev pub Both : {O : Type 0} → (O → Type 0) → C.Comparison O → Type 0
@@ -132,3 +136,16 @@ joint-fits q u hq hu hs =
     (All-map (λ c p. (query-fits (c .left) (p .0), query-fits (c .right) (p .1))) (All-take (q .condition .count) hq))
     (All-map (λ c p. (update-fits (c .left) (p .0), update-fits (c .right) (p .1))) (All-take (u .condition .count) hu))
     (All-map (λ s p. value-fits (s .value) p) (All-take (u .count) hs))
+
+-- ---- the pattern of a clause, by the least codes
+
+pub least-pattern : (n : ℕ) → n < 65535 → (cs : Clause) → All Fits (sides cs)
+    → clausePattern n cs ≡ cond (contradicts (coded cs)) noPattern (patternStruct (map (leastEntry (coded cs)) (from 1 n)))
+least-pattern n small cs fit =
+    go (contradictory cs) refl ∙ ap (λ (b : Bool). cond b noPattern (patternStruct (map (leastEntry (coded cs)) (from 1 n)))) (sym (least-contradicts cs fit))
+  where
+    go : (b : Bool) → contradictory cs ≡ b
+        → cond b noPattern (patternStruct (pattern n cs)) ≡ cond b noPattern (patternStruct (map (leastEntry (coded cs)) (from 1 n)))
+    go true e = refl
+    go false e =
+        ap patternStruct (map-same (leastEntry (coded cs)) (All-map (λ k h. sym (least-entry cs fit k (omega arith) e)) (from-below 1 n)))
