@@ -17,9 +17,6 @@ Inv-loop key keys places n i₀ i = (n ≤ 64) × (length keys ≡ 64) × (lengt
 abbrev μ-loop : tie.MeasureT-loop
 μ-loop key keys places n i₀ i = n - i
 
-cast-least : tie.Need-cast-least Inv-loop μ-loop
-cast-least c = search needs
-
 -- the test, read
 has : (c : tie.After-same Inv-loop μ-loop) →
     let a = c .before .before .before .before .before .before .before .before .before .args in
@@ -28,6 +25,9 @@ has c =
     let a = c .before .before .before .before .before .before .before .before .before .args in
     let l = c .before .before .before .before .before .loop in
     has-read (a .t1) (getD (a .slots .order) (l .i) 0) _ _ (l .inv .1) (c .before .before .before .index .ensures .0) _ _ _ (c .before .is-slot .ensures) (c .same .ensures)
+
+cast-least : tie.Need-cast-least Inv-loop μ-loop
+cast-least c = search needs
 
 least-requires : tie.Need-least-requires Inv-loop μ-loop
 least-requires c κs = search needs
