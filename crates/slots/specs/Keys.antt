@@ -61,13 +61,14 @@ findOf keys s k = findFrom (slotHas keys k) 0 (heldSlots s)
 unfoldable pub heldTwice : List Key → SlotList → Bool
 heldTwice keys s = repeats sameKey (heldKeys keys s)
 
--- ---- fingerprints: numbers of 32 bits by which keys that differ are mostly told apart
+-- ---- parts of the code: fingerprints, numbers of 32 bits by which keys that differ are mostly told apart
 
 -- a signed number of 32 bits, counted from the lowest
 abbrev pub raised : ℤ → ℕ
 raised (pos n) = n + 2 ^ 31
 raised (negsuc n) = 2 ^ 31 - suc n
 
+-- one more value, by multiplicative hashing: the factor is 2 to the 32 divided by the golden ratio
 abbrev pub mixed : ℕ → ℤ → ℕ
 mixed h z = (h * 2654435761 + raised z) % 4294967296
 
@@ -75,6 +76,7 @@ abbrev pub mixedAll : ℕ → List ℤ → ℕ
 mixedAll h [] = h
 mixedAll h (z ∷ zs) = mixedAll (mixed h z) zs
 
+-- of the number, how many values there are, and the values
 unfoldable pub fingerprint : M.Key → ℕ
 fingerprint k = mixedAll (k .query * 16 + length (k .values)) (k .values)
 

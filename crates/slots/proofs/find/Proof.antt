@@ -1,15 +1,13 @@
 -- `find` meets its contract. The invariant: the places left tell (`Finding`). The measure is the places left. Assumes nothing.
-use Prim.Native.Nat.{_-_, _≤_, _<_}
-use mathlib.Core.Path.{_≡_, refl, sym, ap, ap₂, _∙_}
+use Prim.Native.Nat.{_-_, _≤_}
+use mathlib.Core.Path.{_≡_, sym, _∙_}
 use native.Mathlib.Omega.{arith}
 use borrow.Author.Needs.{needs}
-use mathlib.Core.Bool.{Bool, _&&_}
-use mathlib.Core.List.{List}
-use Prim.Native.Nat.{ℕ}
+use mathlib.Core.Bool.{_&&_}
 use lib.ListN.{length, getD}
 use Rattle.lists.proofs.Walks.{of-min}
 use Rattle.slots.specs.Keys.{slotHas, findFrom, findOf}
-use Rattle.slots.proofs.Prints.{has-read, Finding, finding-start, finding-more, finding-stop, finding-end}
+use Rattle.slots.proofs.SlotReads.{has-read, Finding, finding-start, finding-more, finding-stop, finding-end}
 use Rattle.slots.proofs.find.Statement.{statement}
 use Rattle.slots.proofs.find.Tie as tie
 
@@ -19,9 +17,6 @@ Inv-loop key keys places n i₀ i = (n ≤ 64) × (length keys ≡ 64) × (lengt
 abbrev μ-loop : tie.MeasureT-loop
 μ-loop key keys places n i₀ i = n - i
 
-cast-least : tie.Need-cast-least Inv-loop μ-loop
-cast-least c = search needs
-
 -- the test, read
 has : (c : tie.After-same Inv-loop μ-loop) →
     let a = c .before .before .before .before .before .before .before .before .before .args in
@@ -30,6 +25,9 @@ has c =
     let a = c .before .before .before .before .before .before .before .before .before .args in
     let l = c .before .before .before .before .before .loop in
     has-read (a .t1) (getD (a .slots .order) (l .i) 0) _ _ (l .inv .1) (c .before .before .before .index .ensures .0) _ _ _ (c .before .is-slot .ensures) (c .same .ensures)
+
+cast-least : tie.Need-cast-least Inv-loop μ-loop
+cast-least c = search needs
 
 least-requires : tie.Need-least-requires Inv-loop μ-loop
 least-requires c κs = search needs
