@@ -1,6 +1,6 @@
 -- Comparisons by the number of the next parameter: the loop over them, and that with the steps they tell whether a condition is sound. Assumes nothing.
 use mathlib.Core.Path.{_≡_, refl, sym, ap, ap₂, _∙_}
-use mathlib.Core.Bool.{Bool, true, false, not, _&&_, and-false, and-true, and-comm}
+use mathlib.Core.Bool.{Bool, true, false, _&&_, and-false, and-true, and-comm}
 use mathlib.Core.List.{List, [], _∷_, map}
 use Prim.Native.Nat.{ℕ, zero, suc, _+_, _-_, _*_, _≤_, _<_}
 use native.Mathlib.Omega.{arith}
@@ -9,15 +9,14 @@ use lib.Dec.{eqb, leb, ltb, eqb·suc-suc}
 use lib.ListN.{length, getD, take}
 use lib.Seq.{length-take-le}
 use Rattle.lists.specs.Lists.{all}
-use Rattle.lists.proofs.Bools.{and-assoc, and-left, and-right, clash}
-use Rattle.meaning.specs.Condition as C
+use Rattle.lists.proofs.Bools.{and-assoc, clash}
 use Rattle.meaning.specs.Condition.{sides}
 use Rattle.meaning.specs.Postfix.{Node, leaf, allOf, anyOf, leaves, balancedOn, isPostfix}
 use Rattle.meaning.specs.Statement as M
 use Rattle.meaning.specs.Resolve.{markInOperand, parameterCount, isNumbered, numberedOn, numberedFrom, isBelow, columnsBelow}
 use Rattle.meaning.specs.Limits.{most-comparisons, most-marks}
 use Rattle.statement.specs.Built.{markInSide}
-use Rattle.statement.specs.Sound.{operandRead, comparisonRead, nodesRead, usedSteps, usedComparisons, conditionNodes, conditionMarks, soundCondition}
+use Rattle.statement.specs.Sound.{operandRead, comparisonRead, usedSteps, usedComparisons, conditionNodes, conditionMarks, soundCondition}
 use Rattle.statement.specs.declared.Operand.{Operand}
 use Rattle.statement.specs.declared.Operand.the-variants.{Column, Constant, Parameter}
 use Rattle.statement.specs.declared.Comparison.{Comparison}

@@ -6,3 +6,4 @@ pub mod Steps
 pub mod Comparisons
 pub mod Widths
 pub mod Settings
+pub mod Laws

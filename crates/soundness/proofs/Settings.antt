@@ -2,17 +2,16 @@
 use mathlib.Core.Path.{_≡_, refl, sym, ap, ap₂, _∙_}
 use mathlib.Core.Bool.{Bool, true, false, not, cond, _&&_, _||_, and-false, and-true}
 use mathlib.Core.List.{List, [], _∷_, map}
-use Prim.Native.Nat.{ℕ, zero, suc, _+_, _-_, _≤_, _<_}
+use Prim.Native.Nat.{ℕ, zero, suc, _+_, _≤_, _<_}
 use native.Mathlib.Numerals.{add-one}
 use native.Mathlib.Omega.{arith}
-use borrow.Author.Tests.{leb-true, eqb-true, eq-eqb, ne-eqb}
-use lib.Dec.{eqb, leb, ltb, eqb·suc-suc, eqb·suc-zero}
+use borrow.Author.Tests.{leb-true, eqb-true, ne-eqb}
+use lib.Dec.{eqb, leb, ltb, eqb·suc-suc}
 use lib.ListN.{length, getD, take, length-take}
 use lib.Seq.{length-take-le}
 use Rattle.lists.specs.Lists.{any, all, repeats, from}
 use Rattle.lists.specs.Tests.{eqList}
 use Rattle.lists.proofs.Bools.{and-assoc, and-left, and-right, clash}
-use Rattle.meaning.specs.Limits.{most-items}
 use Rattle.meaning.specs.Statement as M
 use Rattle.meaning.specs.Statement.{value}
 use Rattle.meaning.specs.Resolve.{markInOperand, parameterCount, isNumbered, numberedOn}
@@ -24,7 +23,7 @@ use Rattle.statement.specs.declared.Setting.{Setting}
 use Rattle.statement.specs.declared.Update.{Update}
 use Rattle.statement.proofs.Walks.{rest, rest-cons, rest-none}
 use Rattle.soundness.specs.declared.statements.Numbered.{Numbered}
-use Rattle.soundness.specs.Parts.{ifSo, sameColumn, conditionOn, formFits, columnFits, valueFits, settingFits, settingsFit, settingMarks, settingsOn, updateOn}
+use Rattle.soundness.specs.Parts.{ifSo, sameColumn, conditionOn, formFits, columnFits, valueFits, settingsFit, settingMarks, settingsOn, updateOn}
 use Rattle.soundness.proofs.Tests.{interchange, counted}
 
 -- ---- values

@@ -9,7 +9,7 @@ use lib.ListN.{length, getD, take, set, replicate, length-map, length-take}
 use Rattle.lists.specs.Lists.{All, nil, cons, all}
 use Rattle.lists.proofs.Lists.{All-getD}
 use Rattle.lists.proofs.Places.{All-set}
-use Rattle.meaning.specs.Limits.{most-items, most-marks}
+use Rattle.meaning.specs.Limits.{most-marks}
 use Rattle.meaning.specs.Names.{Schema}
 use Rattle.statement.specs.Catalog.{schemaOf, schemasOf}
 use Rattle.statement.specs.Compiled.{padded}

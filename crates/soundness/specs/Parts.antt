@@ -1,5 +1,5 @@
--- The parts of the tests, as the code takes them: steps by the depth of the stack, comparisons and settings by the number of the next parameter, statements by
--- how many columns their table has. proofs/Steps, Comparisons and Statements show that together they are the tests of crate `statement`.
+-- The parts of the tests, as the code takes them: names as numbers, steps by the depth of the stack, comparisons and settings by the number of the next
+-- parameter, statements by how many columns their table has. proofs/Tables, Comparisons, Widths and Settings show that they are the tests of crate `statement`.
 -- Assumes nothing: these are definitions.
 use mathlib.Core.Path.{_≡_}
 use mathlib.Core.Bool.{Bool, true, not, _&&_, cond}

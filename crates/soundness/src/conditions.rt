@@ -63,6 +63,7 @@ fn side_fits(o: Operand, columns: u8, m: u8) -> bool
     }
 }
 
+// How many parameters a side has.
 fn marks_in(o: Operand) -> u8
     ensures { λ r. ⌜ r ≡ markInSide o ⌝ }
 {
@@ -83,6 +84,7 @@ fn comparison_fits(c: Comparison, columns: u8, m: u8) -> bool
     (c.op < OPERATORS) & side_fits(a, columns, m) & side_fits(b, columns, m + marks_in(a))
 }
 
+// How many parameters a comparison has.
 fn marks_of(c: Comparison) -> u8
     ensures { λ r. ⌜ (r ≡ comparisonMarks c) × (r ≤ 2) ⌝ }
 {

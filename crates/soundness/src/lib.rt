@@ -1,5 +1,5 @@
-// The tests of stored tables and statements: whether each is such as a text compiles to. They run at every call of a store, so each entry is looked at once; of
-// the tables a statement's test needs only how many columns each has.
+// The tests of stored tables and statements: whether each is such as a text compiles to. They run at every call of a store, so names are compared as numbers,
+// and of the tables a statement's test needs only how many columns each has.
 mod conditions; // steps and comparisons
 mod names; // names, and tables by themselves
 mod statements; // questions and updates by themselves
@@ -8,13 +8,20 @@ use table::Query;
 use table::Table;
 use table::Update;
 ghost use mathlib.Core.Path.{_≡_};
+ghost use Prim.Native.Nat.{min};
 ghost use Rattle.soundness.specs.Soundness.{tablesSound, queriesSound, updatesSound};
+
+fn least(a: usize, b: usize) -> usize
+    ensures { λ r. ⌜ r ≡ min a b ⌝ }
+{
+    if a < b { a } else { b }
+}
 
 // Whether the first `used` tables are sound beside each other.
 pub fn tables_are_sound(tables: [Table; Table::TABLES], used: u8) -> bool
     ensures { λ r. ⌜ r ≡ tablesSound tables used ⌝ }
 {
-    let n = names::least(used as usize, Table::TABLES);
+    let n = least(used as usize, Table::TABLES);
     let mut codes = [0u64; Table::TABLES];
     let mut i: usize = 0;
     while i < n {
@@ -39,9 +46,9 @@ pub fn queries_are_sound(
 ) -> bool
     ensures { λ r. ⌜ r ≡ queriesSound tables used queries n ⌝ }
 {
-    let there = names::least(used as usize, Table::TABLES);
+    let there = least(used as usize, Table::TABLES);
     let widths = statements::widths(tables, there);
-    let count = names::least(n as usize, Query::QUERIES);
+    let count = least(n as usize, Query::QUERIES);
     let mut ok = true;
     let mut i: usize = 0;
     while i < count {
@@ -62,9 +69,9 @@ pub fn updates_are_sound(
 ) -> bool
     ensures { λ r. ⌜ r ≡ updatesSound tables used updates n ⌝ }
 {
-    let there = names::least(used as usize, Table::TABLES);
+    let there = least(used as usize, Table::TABLES);
     let widths = statements::widths(tables, there);
-    let count = names::least(n as usize, Update::UPDATES);
+    let count = least(n as usize, Update::UPDATES);
     let mut ok = true;
     let mut i: usize = 0;
     while i < count {

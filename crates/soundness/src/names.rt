@@ -3,18 +3,12 @@ use table::Name;
 use table::Table;
 ghost use mathlib.Core.Path.{_≡_};
 ghost use mathlib.Core.Bool.{not};
-ghost use Prim.Native.Nat.{_≤_, min};
+ghost use Prim.Native.Nat.{_≤_};
 ghost use lib.Dec.{eqb};
 ghost use lib.ListN.{take};
 ghost use Rattle.lists.specs.Lists.{repeats};
 ghost use Rattle.meaning.specs.Tokens.{isSmall};
 ghost use Rattle.soundness.specs.Parts.{digitOf, packedName, codeOf, columnsOn, tableOn};
-
-pub fn least(a: usize, b: usize) -> usize
-    ensures { λ r. ⌜ r ≡ min a b ⌝ }
-{
-    if a < b { a } else { b }
-}
 
 // ---- the number of a name
 

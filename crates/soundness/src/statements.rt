@@ -12,7 +12,7 @@ ghost use lib.Dec.{ltb};
 ghost use lib.ListN.{getD, take};
 ghost use Rattle.lists.specs.Lists.{all, repeats};
 ghost use Rattle.statement.specs.Built.{markInValue};
-ghost use Rattle.soundness.specs.Parts.{widthOf, Widths, ifSo, sameColumn, queryOn, formFits, columnFits, valueFits, settingFits, settingsOn, updateOn};
+ghost use Rattle.soundness.specs.Parts.{widthOf, Widths, ifSo, sameColumn, queryOn, formFits, columnFits, valueFits, settingsOn, updateOn};
 
 // ---- how many columns the tables have
 
@@ -122,6 +122,7 @@ fn value_fits(v: Value, m: u8) -> bool
     }
 }
 
+// How many parameters a value has.
 fn marks_in(v: Value) -> u8
     ensures { λ r. ⌜ (r ≡ markInValue v) × (r ≤ 1) ⌝ }
 {
@@ -131,7 +132,7 @@ fn marks_in(v: Value) -> u8
     }
 }
 
-// Whether the settings looked at are sound, and the number of the next parameter.
+// Whether settings are sound, and the number of the next parameter.
 pub struct Numbered {
     pub ok: bool,
     pub next: u8,
@@ -191,9 +192,10 @@ pub fn update_is_sound(u: Update, columns: u8) -> bool
         let n = u.count as usize;
         let settings = u.settings;
         let s = settings_are_sound(settings, n, u.form, columns);
-        let set = if_so(u.form == Update::UPDATE, n);
+        // the columns of an INSERT are their places, so they differ
+        let listed = if_so(u.form == Update::UPDATE, n);
         return s.ok
-            & are_distinct(settings, set)
+            & are_distinct(settings, listed)
             & conditions::is_sound(condition, columns, s.next, u.parameters);
     }
     false

@@ -1,18 +1,15 @@
 -- `queries_are_sound` meets its contract. The invariant: the questions left tell. Assumes nothing.
 use borrow.Author.Needs.{needs}
-use mathlib.Core.Path.{_≡_, ap₂, _∙_}
-use mathlib.Core.Bool.{Bool, _&&_}
-use mathlib.Core.List.{List}
-use Prim.Native.Nat.{ℕ, _-_, _≤_}
+use mathlib.Core.Path.{_≡_, _∙_}
+use Prim.Native.Nat.{_-_, _≤_}
 use native.Mathlib.Omega.{arith}
-use lib.Dec.{ltb}
 use lib.ListN.{length, take}
 use Rattle.lists.specs.Lists.{all}
 use Rattle.statement.specs.Catalog.{schemasOf}
 use Rattle.statement.specs.Sound.{soundQuery}
 use Rattle.statement.proofs.Walks.{of-min, Tested, tested-start, tested-more, tested-end}
 use Rattle.soundness.specs.Soundness.{queriesSound}
-use Rattle.soundness.proofs.Widths.{queryAt, width-small, queries-beside}
+use Rattle.soundness.proofs.Widths.{queryAt, queries-beside}
 use Rattle.soundness.proofs.queries_are_sound.Statement.{statement}
 use Rattle.soundness.proofs.queries_are_sound.Tie as tie
 

@@ -1,12 +1,10 @@
 -- `code` meets its contract. Assumes nothing.
 use borrow.Author.Needs.{needs}
-use mathlib.Core.Path.{_≡_, sym, ap, _∙_}
-use mathlib.Core.Bool.{Bool, true, false, _&&_}
+use mathlib.Core.Path.{sym, ap, _∙_}
+use mathlib.Core.Bool.{Bool, _&&_}
 use borrow.Author.Tests.{leb-true}
 use lib.Dec.{leb}
-use lib.ListN.{getD}
 use Rattle.lists.proofs.Bools.{and-left}
-use Rattle.meaning.specs.Tokens.{isSmall}
 use Rattle.soundness.proofs.Packed.{code-packed, code-none}
 use Rattle.soundness.proofs.names.code.Statement.{statement}
 use Rattle.soundness.proofs.names.code.Tie as tie
