@@ -1,0 +1,5 @@
+pub mod Sound
+pub mod Calls
+pub mod Means
+pub mod Run
+pub mod Demand
