@@ -84,6 +84,15 @@ soundKey s k = ltb (k .query) (s .«query_count») && eqb (k .count) (queryAt s 
 abbrev pub soundKeys : State → Bool
 soundKeys s = all (soundKey s) (heldKeys (s .keys) (s .slots)) && not (heldTwice (s .keys) (s .slots))
 
+-- both of a slot, for the code
+abbrev pub keyFits : ℕ → ℕ → ℕ → ℕ → Bool
+keyFits query count n parameters = ltb query n && eqb count parameters
+
+abbrev pub slotFits : List Key → List ℕ → List Query → ℕ → ℕ → ℕ → Bool
+slotFits keys lengths queries n bytes x =
+    let k = slotKey keys x in
+    keyFits (k .query) (k .count) n (getD queries (k .query) noQuery .parameters) && lengthFits (getD lengths x 0) bytes
+
 -- ---- all of it; "its slot list names each slot once, held ones first" is `soundSlots`
 
 unfoldable pub soundTables : State → Bool
