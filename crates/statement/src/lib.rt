@@ -4,7 +4,7 @@ mod sentences; // the five forms: where each token of a sentence stands
 mod build; // names looked up, statements put together
 
 ghost use mathlib.Core.Path.{_≡_};
-ghost use Rattle.statement.specs.Compiled.{compiledOf};
+ghost use Rattle.statement.specs.Compiled.{refusedBy, compiledOf};
 
 // A name: its first `len` bytes.
 pub struct Name {
@@ -131,6 +131,13 @@ impl Statement {
     pub const QUERY: u8 = 2;
 
     pub const UPDATE: u8 = 3;
+
+    // No table and no statement: what a refused text compiles to, without a number.
+    pub fn none() -> Statement
+        ensures { λ r. ⌜ r ≡ refusedBy 0 ⌝ }
+    {
+        build::refused(0)
+    }
 
     // What a text says beside the first `used` tables, where there are so many questions and updates already, and so many cells.
     pub fn compile(

@@ -1,0 +1,175 @@
+-- The user's three demands, about the calls as the program makes them: `Calls` is what the contracts of the code say that it gives and leaves. Each claim stands below
+-- its sentence, and is proved in proofs/Demand. Assumes nothing: these are definitions.
+use mathlib.Core.Path.{_≡_}
+use mathlib.Core.Logic.{_≢_}
+use mathlib.Core.Bool.{Bool, true, false, not, _&&_, cond}
+use mathlib.Core.List.{List, [], _∷_, _++_, map}
+use Prim.Native.Nat.{ℕ, _≤_, _<_}
+use lib.Dec.{eqb, ltb}
+use lib.IntN.{ℤ}
+use lib.ListN.{length}
+use Rattle.lists.specs.Lists.{All, any, keep, count}
+use Rattle.meaning.specs.Key.{Key, sameKey}
+use Rattle.meaning.specs.Demand.{ReadsBack, Is32, rowsListed}
+use Rattle.meaning.specs.Plain as P
+use Rattle.meaning.specs.Plain.{Plain, openingRefused, recordOf, matchesKey, lowestOf}
+use Rattle.trace.specs.History.{Event, history, fits, Answered, hits, since, Filled, Ground}
+use Rattle.statement.specs.Catalog.{catalog}
+use Rattle.statement.specs.Compiled.{textConditions}
+use Rattle.slots.specs.declared.Found.{Found}
+use Rattle.slots.specs.declared.Found.the-variants.{At, Nothing}
+use Rattle.slots.specs.Keys.{keyRead, heldKeys}
+use Rattle.cache.specs.declared.State.{State}
+use Rattle.cache.specs.Sound.{soundState}
+use Rattle.cache.specs.Means.{tablesIn, Means, Typed}
+use Rattle.cache.specs.Calls.{unfit, askConditions, cachedLength, foundIn, recordAt, updateConditions}
+use Rattle.cache.specs.Run.{Store, Start, openingOf, opened, Call, add, ask, update, flush, Got, Seen, step, after, gets, plainCall, bufferOf, gotOf, plainAfter, plainGets}
+
+-- ---- Demand 1: "If a call brings a text, number, state or lent memory that the store can't take, it gives the refusal number of document 01 and changes nothing. Every
+-- other call ends with its work done." That each call ends, and touches no place outside the lent memories, is what it means for the code to be proved.
+
+-- the numbers that a call can get, each with its condition, on any state
+abbrev pub answerLength : Store → ℕ → List ℤ → Found → ℕ
+answerLength s n vs (At p) = cachedLength (s .state) p
+answerLength s n vs Nothing = length (recordAt (s .state) (s .cells) n vs)
+
+abbrev pub conditions : Store → Call → List (ℕ × Bool)
+conditions s (add text) =
+    (2, unfit (s .state) (length (s .cells)) (length (s .memory)))
+    ∷ textConditions
+    (catalog (s .state .tables) (s .state .«table_count») (s .state .«query_count») (s .state .«update_count») (s .state .cells))
+    text
+conditions s (ask n vs buffer) =
+    askConditions (s .state) (length (s .cells)) (length (s .memory)) n (length vs)
+    ++ ((13, ltb (length buffer) (answerLength s n vs (foundIn (s .state) n vs))) ∷ [])
+conditions s (update n vs) = updateConditions (s .state) (length (s .cells)) (length (s .memory)) n (length vs)
+conditions s flush = (2, unfit (s .state) (length (s .cells)) (length (s .memory))) ∷ []
+
+abbrev pub applies : Store → Call → ℕ → Bool
+applies s c n = any (λ (x : ℕ × Bool). eqb (x .0) n && x .1) (conditions s c)
+
+-- "The lowest number that applies is given, and only then."
+pub record Lowest (s : Store) (c : Call) (n : ℕ) : Type 0 where
+  pub given : n ≢ 0 → applies s c n ≡ true
+  pub lower : (m : ℕ) → m < n → applies s c m ≡ false
+  pub only : n ≡ 0 → (m : ℕ) → applies s c m ≡ false
+
+abbrev pub LowestNumber : Type 0
+LowestNumber = (s : Store) (c : Call) → Lowest s c (step s c .1 .got .refusal)
+
+-- "State and lent memories come back as they came, other results are 0"
+abbrev pub refusedWith : ℕ → List ℕ → Seen
+refusedWith n buffer = record {
+  got = record { refusal = n; kind = 0; number = 0; length = 0; rows = 0; answer = buffer };
+  kept = 0;
+  scanned = 0;
+  drops = 0;
+}
+
+abbrev pub RefusedChangesNothing : Type 0
+RefusedChangesNothing = (s : Store) (c : Call) → step s c .1 .got .refusal ≢ 0 → step s c ≡ (s, refusedWith (step s c .1 .got .refusal) (bufferOf c))
+
+-- ---- soundness: an opening, taken or refused, gives a sound state, and every call leaves a sound state sound
+
+abbrev pub OpensSound : Type 0
+OpensSound = (o : Start) → soundState (opened o .state) ≡ true
+
+abbrev pub StaysSound : Type 0
+StaysSound = (s : Store) (c : Call) → Typed (s .state) → soundState (s .state) ≡ true → soundState (step s c .0 .state) ≡ true
+
+-- ---- Demand 2, of every sound state, reached from an opening or not: there is a plain store that it stands for. A text, an update and a flush, and a question whose
+-- answer is not kept, get on the state what they get on that store; and what the call leaves stands for what the plain store is then.
+
+abbrev pub StandsForPlain : Type 0
+StandsForPlain = (s : Store) → Typed (s .state) → soundState (s .state) ≡ true → (p : Plain) × Means (s .state) (s .cells) p
+
+abbrev pub lengthsLent : Store → P.Lengths
+lengthsLent s = record { cells = length (s .cells); memory = length (s .memory) }
+
+-- no slot holds the answer
+abbrev pub Anew : Store → Call → Type 0
+Anew s (add text) = Unit {0}
+Anew s (ask n vs buffer) = foundIn (s .state) n vs ≡ Nothing
+Anew s (update n vs) = Unit {0}
+Anew s flush = Unit {0}
+
+abbrev pub DoesAsPlain : Type 0
+DoesAsPlain = (s : Store) (c : Call) (p : Plain) → Typed (s .state) → soundState (s .state) ≡ true → Means (s .state) (s .cells) p → Anew s c
+    → (step s c .1 .got ≡ gotOf (bufferOf c) (P.step (lengthsLent s) p (plainCall c) .1))
+    × Means (step s c .0 .state) (step s c .0 .cells) (P.step (lengthsLent s) p (plainCall c) .0)
+
+-- "The kept answers an update drops are exactly those matched by the patterns"
+abbrev pub keysHeld : Store → List Key
+keysHeld s = map keyRead (heldKeys (s .state .keys) (s .state .slots))
+
+abbrev pub DropsExactlyMatched : Type 0
+DropsExactlyMatched = (s : Store) (n : ℕ) (us : List ℤ) (p : Plain) → Typed (s .state) → soundState (s .state) ≡ true → Means (s .state) (s .cells) p
+    → step s (update n us) .1 .got .refusal ≡ 0
+    → (keysHeld (step s (update n us) .0) ≡ keep (λ (k : Key). not (matchesKey p n us k)) (keysHeld s))
+    × (step s (update n us) .1 .drops ≡ count (matchesKey p n us) (keysHeld s))
+
+-- ---- Demand 3: "For every opening and every list of calls after it (adding, asking, updating, flushing), refused ones included, each given the state that the last one
+-- returned and the opening's memories as it left them, which only the store writes: every call gets the refusal number, the statement's kind and number, the record and
+-- the count of rows inserted, matched or deleted that the same call gets from the plain store of document 01, which keeps no answer, and after the list the tables hold
+-- the same rows as that store's."
+
+abbrev pub SameAsPlain : Type 0
+SameAsPlain = (o : Start) (cs : List Call)
+    → (map (λ (x : Seen). x .got) (gets (opened o) cs) ≡ plainGets (openingOf o .lent) (P.opened (openingOf o)) cs)
+    × (tablesIn (after (opened o) cs .state) (after (opened o) cs .cells) ≡ plainAfter o cs .tables)
+
+-- "In every such list a question with its values is worked out anew only if it was never answered since opening, its record doesn't fit a slot, a matching update or a
+-- flush came since its last answer, or at least as many different others as there are slots were answered since." The number of slots is the opening's, 0 if it was
+-- refused.
+
+abbrev pub slotCount : Start → ℕ
+slotCount o = cond (openingRefused (openingOf o)) 0 (o .slots)
+
+abbrev pub slotSize : Start → ℕ
+slotSize o = cond (openingRefused (openingOf o)) 8 (o .slotBytes)
+
+abbrev pub past : Start → List Call → List (Event Key)
+past o cs = history (openingOf o .lent) (P.opened (openingOf o)) (map plainCall cs)
+
+abbrev pub nextAsk : Start → List Call → Key → List ℕ → Seen
+nextAsk o cs k buffer = step (after (opened o) cs) (ask (k .query) (k .values) buffer) .1
+
+abbrev pub AnewOnlyIf : Type 0
+AnewOnlyIf = (o : Start) (cs : List Call) (k : Key) (buffer : List ℕ) → nextAsk o cs k buffer .got .refusal ≡ 0 → nextAsk o cs k buffer .kept ≡ 0
+    → Ground sameKey (slotCount o) (slotSize o) (recordOf (plainAfter o cs) k) k (past o cs)
+
+-- The converse, by the slot rules: a question that was answered before, whose record fits, with no matching update or flush since, and with fewer different others than
+-- there are slots answered since with records that fit, is kept.
+abbrev pub KeptOtherwise : Type 0
+KeptOtherwise = (o : Start) (cs : List Call) (k : Key) (buffer : List ℕ) → nextAsk o cs k buffer .got .refusal ≡ 0 → Answered k (past o cs)
+    → fits (slotSize o) (recordOf (plainAfter o cs) k) ≡ true → any (hits k) (since sameKey k (past o cs)) ≡ false
+    → ¬ Filled (slotSize o) (slotCount o) k (since sameKey k (past o cs)) → nextAsk o cs k buffer .kept ≡ 1
+
+-- Demand 2, "A new answer, and under 3's premises a kept one, holds exactly the rows, in order, that the SQL meaning set down there gives, and its record reads back as
+-- those rows": the answer buffer of every question that is answered, with whatever stands behind the record.
+
+-- the values of a call have 32 bits, as their type says
+abbrev pub Values32 : Call → Type 0
+Values32 (add text) = Unit {0}
+Values32 (ask n vs buffer) = All Is32 vs
+Values32 (update n vs) = All Is32 vs
+Values32 flush = Unit {0}
+
+abbrev pub AnswerReadsBack : Type 0
+AnswerReadsBack = (o : Start) (cs : List Call) → All Values32 cs → (k : Key) (buffer : List ℕ) → nextAsk o cs k buffer .got .refusal ≡ 0
+    → ReadsBack (nextAsk o cs k buffer .got .answer) (length (P.queryAt (plainAfter o cs) (k .query) .selected)) (rowsListed (plainAfter o cs) k)
+
+-- ---- all of these
+
+pub record Demands : Type 0 where
+  pub lowest-number : LowestNumber
+  pub refused-changes-nothing : RefusedChangesNothing
+  pub opens-sound : OpensSound
+  pub stays-sound : StaysSound
+  pub stands-for-plain : StandsForPlain
+  pub does-as-plain : DoesAsPlain
+  pub drops-exactly-matched : DropsExactlyMatched
+  pub same-as-plain : SameAsPlain
+  pub anew-only-if : AnewOnlyIf
+  pub kept-otherwise : KeptOtherwise
+  pub answer-reads-back : AnswerReadsBack

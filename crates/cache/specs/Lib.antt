@@ -1,0 +1,6 @@
+pub mod Sound
+pub mod Calls
+pub mod Marks
+pub mod Means
+pub mod Run
+pub mod Demand

@@ -1,0 +1,521 @@
+// The store that caches answers: its state by value, and the calls open, add, ask, update and flush. The tables' cells and the cache memory are lent at each call.
+mod matching; // which cached answers an update invalidates
+mod lent; // bytes and cells of the lent memories
+mod sound; // the test of a state
+
+use slots::Found;
+use slots::Key;
+use slots::SlotList;
+use table::Query;
+use table::Statement;
+use table::Table;
+use table::Update;
+ghost use mathlib.Core.Path.{_≡_};
+ghost use mathlib.Core.Bool.{true};
+ghost use Prim.Native.Nat.{_≤_, _<_};
+ghost use lib.ListN.{length, take};
+ghost use Rattle.slots.specs.Keys.{keyOf};
+ghost use Rattle.cache.specs.Sound.{opening, soundCounts, soundTables, soundAnswers, soundState};
+ghost use Rattle.cache.specs.Calls.{unfit, emptyState, opens, openOf, addRefused, addedTable, addedQuery, addedUpdate, addedBy, addOf, asks, askRefused, askRefusal, askCached, kept, keptMemory, askNew, askOf, updates, updateRefusal, updateDone, updateOf, flushOf};
+
+// The state. Entries past the counts, and of slots that hold nothing, do not matter.
+pub struct State {
+    pub tables: [Table; Table::TABLES],
+    pub queries: [Query; Query::QUERIES],
+    pub updates: [Update; Update::UPDATES],
+    // of each slot: the key of its answer, and its record's length
+    pub keys: [Key; SlotList::SLOTS],
+    pub lengths: [u16; SlotList::SLOTS],
+    // the order of use
+    pub slots: SlotList,
+    pub table_count: u8,
+    pub query_count: u8,
+    pub update_count: u8,
+    // the bytes of a slot, and the opening's lengths
+    pub slot_bytes: u16,
+    pub cells: u32,
+    pub memory: u32,
+}
+
+// What opening gives: 1 where refused, or 0, and the state.
+pub struct Opened {
+    pub refusal: u8,
+    pub state: State,
+}
+
+// What adding gives: the refusal's number or 0, the kind (Statement::TABLE, QUERY, UPDATE; 0 where refused) and number of what was added, and the state.
+pub struct Added {
+    pub refusal: u8,
+    pub kind: u8,
+    pub number: u8,
+    pub state: State,
+}
+
+// What a question gives: the refusal's number or 0; 1 for a cached answer; the rows scanned; the record's length; and the state.
+pub struct Asked {
+    pub refusal: u8,
+    pub cached: u8,
+    pub scanned: u16,
+    pub length: usize,
+    pub state: State,
+}
+
+// What an update gives: the refusal's number or 0; the rows inserted, matched or deleted; the cached answers that it invalidated; and the state.
+pub struct Updated {
+    pub refusal: u8,
+    pub rows: u16,
+    pub invalidated: u8,
+    pub state: State,
+}
+
+// What a flush gives: the refusal's number or 0, and the state.
+pub struct Flushed {
+    pub refusal: u8,
+    pub state: State,
+}
+
+// The numbers of document 01 for a call not taken, as far as they are decided here.
+pub struct Refusal {}
+
+impl Refusal {
+    pub const OPENING: u8 = 1;
+
+    pub const STATE: u8 = 2;
+
+    pub const NO_STATEMENT: u8 = 10;
+
+    pub const VALUES: u8 = 11;
+
+    pub const FULL: u8 = 12;
+
+    pub const BUFFER: u8 = 13;
+}
+
+impl State {
+    // The most cells, and bytes of cache memory.
+    pub const CELLS: usize = 32768;
+
+    pub const MEMORY: usize = 262144;
+
+    // ---- the test of a state
+
+    // Whether the state is sound.
+    pub fn is_sound(self) -> bool
+        ensures { λ r. ⌜ r ≡ soundState self ⌝ }
+    {
+        let count = self.slots.count as usize;
+        let cells = self.cells as usize;
+        let memory = self.memory as usize;
+        let sizes = sound::sizes_fit(cells, memory, count, self.slot_bytes as usize);
+        let counts = sound::counts_fit(self.table_count, self.query_count, self.update_count);
+        if !(sizes & counts) {
+            return false;
+        }
+        if !self.texts_are_sound() {
+            return false;
+        }
+        self.answers_are_sound()
+    }
+
+    // Whether the tables and statements are sound, where there are not too many of them.
+    fn texts_are_sound(self) -> bool
+        requires { ⌜ soundCounts self ≡ true ⌝ }
+        ensures { λ r. ⌜ r ≡ soundTables self ⌝ }
+    {
+        let tables = self.tables;
+        let queries = self.queries;
+        let updates = self.updates;
+        let n = self.table_count;
+        let areas = sound::areas(tables, n as usize) <= (self.cells as usize);
+        let rows = sound::rows_fit(tables, n as usize);
+        let named = soundness::tables_are_sound(tables, n);
+        let asked = soundness::queries_are_sound(tables, n, queries, self.query_count);
+        let changing = soundness::updates_are_sound(tables, n, updates, self.update_count);
+        areas & rows & named & asked & changing
+    }
+
+    // Whether the slot list is sound, and the keys and lengths of the held slots.
+    fn answers_are_sound(self) -> bool
+        requires { ⌜ soundCounts self ≡ true ⌝ }
+        ensures { λ r. ⌜ r ≡ soundAnswers self ⌝ }
+    {
+        let slots = self.slots;
+        if !slots.is_sound() {
+            return false;
+        }
+        let keys = self.keys;
+        let lengths = self.lengths;
+        let queries = self.queries;
+        let fit = sound::held_fit(keys, lengths, slots, queries, self.query_count, self.slot_bytes);
+        let twice = slots::held_twice(keys, slots);
+        fit & !twice
+    }
+
+    // Whether the state is not sound, or the lengths lent are not the opening's.
+    fn is_unfit(self, cells: usize, memory: usize) -> bool
+        ensures { λ r. ⌜ r ≡ unfit self cells memory ⌝ }
+    {
+        let sound = self.is_sound();
+        let same = (cells == (self.cells as usize)) & (memory == (self.memory as usize));
+        !sound | !same
+    }
+
+    // ---- open
+
+    // A state without tables, statements or cached answers.
+    fn empty(cells: u32, memory: u32, slots: u8, slot_bytes: u16) -> State
+        ensures { λ r. ⌜ r ≡ emptyState (opening cells memory slots «slot_bytes») ⌝ }
+    {
+        let none = Statement::none();
+        let key = Key {
+            query: 0,
+            count: 0,
+            values: [0i32; Key::VALUES],
+        };
+        State {
+            tables: [none.table; Table::TABLES],
+            queries: [none.query; Query::QUERIES],
+            updates: [none.update; Update::UPDATES],
+            keys: [key; SlotList::SLOTS],
+            lengths: [0u16; SlotList::SLOTS],
+            slots: SlotList::open(slots),
+            table_count: 0,
+            query_count: 0,
+            update_count: 0,
+            slot_bytes,
+            cells,
+            memory,
+        }
+    }
+
+    // Opens a store on lent memories, and clears them.
+    pub fn open(cells: &mut [i32], memory: &mut [u8], slots: usize, slot_bytes: usize) -> Opened
+        ensures { λ r. ⌜ opens r (now (cells .exit)) (now (memory .exit)) ≡ openOf (now (cells .entry)) (now (memory .entry)) slots «slot_bytes» ⌝ }
+    {
+        if !sound::sizes_fit(cells.len(), memory.len(), slots, slot_bytes) {
+            let state = State::empty(0, 0, 0, SlotList::LEAST_BYTES as u16);
+            return Opened {
+                refusal: Refusal::OPENING,
+                state,
+            };
+        }
+        lent::clear_cells(cells);
+        lent::clear_bytes(memory);
+        let length = cells.len() as u32;
+        let state = State::empty(length, memory.len() as u32, slots as u8, slot_bytes as u16);
+        Opened { refusal: 0, state }
+    }
+
+    // ---- add
+
+    // Adds the table, query or update that the text says. The memories are lent to be measured.
+    pub fn add(self, cells: &[i32], memory: &[u8], text: &[u8]) -> Added
+        ensures { λ r. ⌜ r ≡ addOf self (length (now (cells .entry))) (length (now (memory .entry))) (now (text .entry)) ⌝ }
+    {
+        if self.is_unfit(cells.len(), memory.len()) {
+            return self.not_added(Refusal::STATE);
+        }
+        let tables = self.tables;
+        let queries = self.query_count;
+        let updates = self.update_count;
+        let c = Statement::compile(text, tables, self.table_count, queries, updates, self.cells);
+        if c.refusal != 0 {
+            return self.not_added(c.refusal);
+        }
+        self.with_statement(c)
+    }
+
+    fn not_added(self, refusal: u8) -> Added
+        ensures { λ r. ⌜ r ≡ addRefused self refusal ⌝ }
+    {
+        Added {
+            refusal,
+            kind: 0,
+            number: 0,
+            state: self,
+        }
+    }
+
+    // The state with what a text says.
+    fn with_statement(self, c: Statement) -> Added
+        requires { ⌜ soundState self ≡ true ⌝ }
+        ensures { λ r. ⌜ r ≡ addedBy self c ⌝ }
+    {
+        if c.kind == Statement::TABLE {
+            return self.with_table(c.table);
+        }
+        if c.kind == Statement::QUERY {
+            return self.with_query(c.query);
+        }
+        if c.kind == Statement::UPDATE {
+            return self.with_update(c.update);
+        }
+        self.not_added(0)
+    }
+
+    fn with_table(mut self, table: Table) -> Added
+        requires { ⌜ self .«table_count» ≤ 8 ⌝ }
+        ensures { λ r. ⌜ r ≡ addedTable self table ⌝ }
+    {
+        let number = self.table_count;
+        if (number as usize) < Table::TABLES {
+            self.tables[number as usize] = table;
+        }
+        self.table_count = number + 1;
+        Added {
+            refusal: 0,
+            kind: Statement::TABLE,
+            number,
+            state: self,
+        }
+    }
+
+    fn with_query(mut self, query: Query) -> Added
+        requires { ⌜ self .«query_count» ≤ 16 ⌝ }
+        ensures { λ r. ⌜ r ≡ addedQuery self query ⌝ }
+    {
+        let number = self.query_count;
+        if (number as usize) < Query::QUERIES {
+            self.queries[number as usize] = query;
+        }
+        self.query_count = number + 1;
+        Added {
+            refusal: 0,
+            kind: Statement::QUERY,
+            number,
+            state: self,
+        }
+    }
+
+    fn with_update(mut self, update: Update) -> Added
+        requires { ⌜ self .«update_count» ≤ 16 ⌝ }
+        ensures { λ r. ⌜ r ≡ addedUpdate self update ⌝ }
+    {
+        let number = self.update_count;
+        if (number as usize) < Update::UPDATES {
+            self.updates[number as usize] = update;
+        }
+        self.update_count = number + 1;
+        Added {
+            refusal: 0,
+            kind: Statement::UPDATE,
+            number,
+            state: self,
+        }
+    }
+
+    // ---- ask
+
+    // Asks a query with its values: the record stands at the start of `answer`, from the cache or worked out.
+    pub fn ask(
+        self,
+        cells: &[i32],
+        memory: &mut [u8],
+        query: usize,
+        values: &[i32],
+        answer: &mut [u8],
+    ) -> Asked
+        ensures { λ r. ⌜ asks r (now (memory .exit)) (now (answer .exit)) ≡ askOf self (now (cells .entry)) (now (memory .entry)) query (now (values .entry)) (now (answer .entry)) ⌝ }
+    {
+        let refusal = self.ask_refusal(cells.len(), memory.len(), query, values.len());
+        if refusal != 0 {
+            return self.not_asked(refusal);
+        }
+        let key = Key::of(query as u8, values);
+        let keys = self.keys;
+        let slots = self.slots;
+        let found = slots::find(keys, slots, key);
+        match found {
+            Found::At(p) => self.ask_cached(memory, answer, p),
+            Found::Nothing => self.ask_new(cells, memory, answer, query, values, key),
+        }
+    }
+
+    // 2, 10 or 11, the lowest that applies, or 0.
+    fn ask_refusal(self, cells: usize, memory: usize, query: usize, values: usize) -> u8
+        ensures { λ r. ⌜ r ≡ askRefusal self cells memory query values ⌝ }
+    {
+        if self.is_unfit(cells, memory) {
+            return Refusal::STATE;
+        }
+        if (self.query_count as usize) <= query {
+            return Refusal::NO_STATEMENT;
+        }
+        let q = self.queries[query];
+        if values != (q.parameters as usize) {
+            return Refusal::VALUES;
+        }
+        0
+    }
+
+    fn not_asked(self, refusal: u8) -> Asked
+        ensures { λ r. ⌜ r ≡ askRefused self refusal ⌝ }
+    {
+        Asked {
+            refusal,
+            cached: 0,
+            scanned: 0,
+            length: 0,
+            state: self,
+        }
+    }
+
+    // The answer in the slot at place p of the order, which moves to the front.
+    fn ask_cached(mut self, memory: &[u8], answer: &mut [u8], p: u8) -> Asked
+        requires { ⌜ (soundState self ≡ true) × (p < self .slots .held) × (length (now memory) ≡ self .memory) ⌝ }
+        ensures { λ r. ⌜ asks r (now (memory .entry)) (now (answer .exit)) ≡ askCached self (now (memory .entry)) (now (answer .entry)) p ⌝ }
+    {
+        let slots = self.slots;
+        let x = slots.order[p as usize] as usize;
+        let length = self.lengths[x] as usize;
+        if answer.len() < length {
+            return self.not_asked(Refusal::BUFFER);
+        }
+        lent::copy(answer, 0, memory, x * (self.slot_bytes as usize), length);
+        self.slots = slots.move_to_front(p);
+        Asked {
+            refusal: 0,
+            cached: 1,
+            scanned: 0,
+            length,
+            state: self,
+        }
+    }
+
+    // The answer worked out; its record takes the last slot if it fits one.
+    fn ask_new(
+        self,
+        cells: &[i32],
+        memory: &mut [u8],
+        answer: &mut [u8],
+        query: usize,
+        values: &[i32],
+        key: Key,
+    ) -> Asked
+        requires { ⌜ (soundState self ≡ true) × (query < self .«query_count») × (length (now memory) ≡ self .memory) × (key ≡ keyOf query (now values)) ⌝ }
+        ensures { λ r. ⌜ asks r (now (memory .exit)) (now (answer .exit)) ≡ askNew self (now (cells .entry)) (now (memory .entry)) (now (answer .entry)) query (now (values .entry)) ⌝ }
+    {
+        let q = self.queries[query];
+        let t = self.tables[q.table as usize];
+        let tables = self.tables;
+        let start = sound::areas(tables, q.table as usize);
+        let done = table::select(q, t, start, cells, values, answer);
+        if done.refusal != 0 {
+            return self.not_asked(done.refusal);
+        }
+        let state = self.keep(key, done.length, answer, memory);
+        Asked {
+            refusal: 0,
+            cached: 0,
+            scanned: done.scanned,
+            length: done.length,
+            state,
+        }
+    }
+
+    // A record that fits a slot takes the last one, which moves to the front.
+    fn keep(mut self, key: Key, length: usize, record: &[u8], memory: &mut [u8]) -> State
+        requires { ⌜ (soundState self ≡ true) × (length ≤ length (now record)) × (length (now memory) ≡ self .memory) ⌝ }
+        ensures state { λ r. ⌜ r ≡ kept self key (take length (now (record .entry))) ⌝ }
+        ensures memory { λ _. ⌜ now (memory .exit) ≡ keptMemory self (take length (now (record .entry))) (now (memory .entry)) ⌝ }
+    {
+        let slots = self.slots;
+        let taken = slots.take_last();
+        let fits = length <= (self.slot_bytes as usize);
+        if !(fits & taken.there) {
+            return self;
+        }
+        let x = taken.slot as usize;
+        lent::copy(memory, x * (self.slot_bytes as usize), record, 0, length);
+        self.slots = taken.slots;
+        self.keys[x] = key;
+        self.lengths[x] = length as u16;
+        self
+    }
+
+    // ---- update
+
+    // Makes an update with its values, and invalidates the cached answers that it matches. The cache memory is lent to be measured.
+    pub fn update(self, cells: &mut [i32], memory: &[u8], update: usize, values: &[i32]) -> Updated
+        ensures { λ r. ⌜ updates r (now (cells .exit)) ≡ updateOf self (now (cells .entry)) (length (now (memory .entry))) update (now (values .entry)) ⌝ }
+    {
+        let refusal = self.update_refusal(cells.len(), memory.len(), update, values.len());
+        if refusal != 0 {
+            return Updated {
+                refusal,
+                rows: 0,
+                invalidated: 0,
+                state: self,
+            };
+        }
+        let u = self.updates[update];
+        self.updated(cells, u, values)
+    }
+
+    // 2, 10, 11 or 12, the lowest that applies, or 0.
+    fn update_refusal(self, cells: usize, memory: usize, update: usize, values: usize) -> u8
+        ensures { λ r. ⌜ r ≡ updateRefusal self cells memory update values ⌝ }
+    {
+        if self.is_unfit(cells, memory) {
+            return Refusal::STATE;
+        }
+        if (self.update_count as usize) <= update {
+            return Refusal::NO_STATEMENT;
+        }
+        let u = self.updates[update];
+        if values != (u.parameters as usize) {
+            return Refusal::VALUES;
+        }
+        let t = self.tables[u.table as usize];
+        if (u.form == Update::INSERT) & (t.capacity <= t.rows) {
+            return Refusal::FULL;
+        }
+        0
+    }
+
+    // The rows changed, and the slots of the answers that the update matches dropped.
+    fn updated(mut self, cells: &mut [i32], u: Update, values: &[i32]) -> Updated
+        requires { ⌜ (soundState self ≡ true) × (u .table < self .«table_count») ⌝ }
+        ensures { λ r. ⌜ updates r (now (cells .exit)) ≡ updateDone self (now (cells .entry)) u (now (values .entry)) ⌝ }
+    {
+        let slots = self.slots;
+        let keys = self.keys;
+        let queries = self.queries;
+        let gone = matching::matched(keys, slots, queries, self.query_count, u, values);
+        let left = slots.drop(gone);
+        let tables = self.tables;
+        let i = u.table as usize;
+        let mut t = self.tables[i];
+        let start = sound::areas(tables, i);
+        let done = table::change(u, t, start, cells, values);
+        t.rows = done.rows;
+        self.tables[i] = t;
+        self.slots = left;
+        Updated {
+            refusal: 0,
+            rows: done.count,
+            invalidated: slots.held - left.held,
+            state: self,
+        }
+    }
+
+    // ---- flush
+
+    // Drops every cached answer. The memories are lent to be measured.
+    pub fn flush(mut self, cells: &[i32], memory: &[u8]) -> Flushed
+        ensures { λ r. ⌜ r ≡ flushOf self (length (now (cells .entry))) (length (now (memory .entry))) ⌝ }
+    {
+        if self.is_unfit(cells.len(), memory.len()) {
+            return Flushed {
+                refusal: Refusal::STATE,
+                state: self,
+            };
+        }
+        let slots = self.slots;
+        self.slots = slots.drop([true; SlotList::SLOTS]);
+        Flushed {
+            refusal: 0,
+            state: self,
+        }
+    }
+}

@@ -1,0 +1,104 @@
+// The test of a state: each part of it a function, each computed once a call.
+use super::State;
+use slots::Key;
+use slots::SlotList;
+use table::Query;
+use table::Table;
+use table::Update;
+ghost use mathlib.Core.Path.{_≡_};
+ghost use mathlib.Core.Bool.{true, not, _&&_};
+ghost use Prim.Native.Nat.{_≤_};
+ghost use lib.Dec.{eqb, leb, ltb};
+ghost use lib.ListN.{take};
+ghost use Rattle.lists.specs.Lists.{all};
+ghost use Rattle.meaning.specs.Plain.{openingRefused};
+ghost use Rattle.slots.specs.Order.{soundSlots};
+ghost use Rattle.cache.specs.Sound.{opening, areasOf, rowsFit, keyFits, lengthFits, slotFits};
+
+// Whether an opening is within the limits, and its slots within the cache memory.
+pub fn sizes_fit(cells: usize, memory: usize, slots: usize, bytes: usize) -> bool
+    ensures { λ r. ⌜ r ≡ not (openingRefused (opening cells memory slots bytes)) ⌝ }
+{
+    let within = (cells <= State::CELLS)
+        & (memory <= State::MEMORY)
+        & (slots <= SlotList::SLOTS)
+        & (SlotList::LEAST_BYTES <= bytes)
+        & (bytes <= SlotList::MOST_BYTES);
+    if within {
+        return slots * bytes <= memory;
+    }
+    false
+}
+
+pub fn counts_fit(tables: u8, queries: u8, updates: u8) -> bool
+    ensures { λ r. ⌜ r ≡ (leb tables 8 && (leb queries 16 && leb updates 16)) ⌝ }
+{
+    ((tables as usize) <= Table::TABLES)
+        & ((queries as usize) <= Query::QUERIES)
+        & ((updates as usize) <= Update::UPDATES)
+}
+
+// The cells of the areas of the first n tables.
+pub fn areas(tables: [Table; Table::TABLES], n: usize) -> usize
+    requires { ⌜ n ≤ 8 ⌝ }
+    ensures { λ r. ⌜ r ≡ areasOf (take n tables) ⌝ }
+{
+    let mut cells: usize = 0;
+    let mut i = n;
+    while 0 < i {
+        i -= 1;
+        let t = tables[i];
+        cells += (t.count as usize) * (t.capacity as usize);
+    }
+    cells
+}
+
+// Whether none of the first n tables holds more rows than its ROWS.
+pub fn rows_fit(tables: [Table; Table::TABLES], n: usize) -> bool
+    requires { ⌜ n ≤ 8 ⌝ }
+    ensures { λ r. ⌜ r ≡ all rowsFit (take n tables) ⌝ }
+{
+    let mut i: usize = 0;
+    while i < n {
+        let t = tables[i];
+        if t.capacity < t.rows {
+            return false;
+        }
+        i += 1;
+    }
+    true
+}
+
+// Whether an answer's key has an existing query, of which there are n, with so many parameters, and its length is from 8 to the slot's bytes.
+fn slot_fits(query: u8, count: u8, n: u8, parameters: u8, length: u16, bytes: u16) -> bool
+    ensures { λ r. ⌜ r ≡ (keyFits query count n parameters && lengthFits length bytes) ⌝ }
+{
+    (query < n) & (count == parameters) & (SlotList::LEAST_BYTES <= (length as usize)) & (length <= bytes)
+}
+
+// Whether each held slot has a key and a length that fit.
+pub fn held_fit(
+    keys: [Key; SlotList::SLOTS],
+    lengths: [u16; SlotList::SLOTS],
+    slots: SlotList,
+    queries: [Query; Query::QUERIES],
+    n: u8,
+    bytes: u16,
+) -> bool
+    requires { ⌜ (soundSlots slots ≡ true) × (n ≤ 16) ⌝ }
+    ensures { λ r. ⌜ r ≡ all (slotFits keys lengths queries n bytes) (take (slots .held) (slots .order)) ⌝ }
+{
+    let order = slots.order;
+    let held = slots.held as usize;
+    let mut i: usize = 0;
+    while i < held {
+        let x = order[i] as usize;
+        let k = keys[x];
+        let q = queries[(k.query as usize) % Query::QUERIES];
+        if !slot_fits(k.query, k.count, n, q.parameters, lengths[x], bytes) {
+            return false;
+        }
+        i += 1;
+    }
+    true
+}
