@@ -1,3 +1,5 @@
 pub mod Sounds
 pub mod Refusals
+pub mod StaysCases
 pub mod StaysCompiled
+pub mod Typed
