@@ -3,3 +3,4 @@ pub mod Refusals
 pub mod StaysCases
 pub mod StaysCompiled
 pub mod Typed
+pub mod StaysAdded
