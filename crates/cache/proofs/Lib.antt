@@ -4,3 +4,8 @@ pub mod StaysCases
 pub mod StaysCompiled
 pub mod Typed
 pub mod StaysAdded
+pub mod SlotLaws
+pub mod StaysAnswers
+pub mod StaysAsked
+pub mod StaysUpdated
+pub mod StaysSound
