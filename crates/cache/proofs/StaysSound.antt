@@ -5,7 +5,7 @@ use native.Mathlib.Omega.{arith}
 use Rattle.lists.specs.Lists.{nil}
 use Rattle.meaning.specs.Plain.{Opening}
 use Rattle.slots.specs.Order.{openOf as slotsOpen}
-use Rattle.cache.proofs.SlotLaws.{open-sound, is-sound as list-is-sound}
+use Rattle.slots.proofs.Laws.{open-sound, is-sound as list-is-sound}
 use Rattle.cache.specs.declared.State.{State}
 use Rattle.cache.specs.Sound.{opening, soundState}
 use Rattle.cache.specs.Calls.{emptyState}
