@@ -1,0 +1,10 @@
+pub mod Sounds
+pub mod Refusals
+pub mod StaysCases
+pub mod StaysCompiled
+pub mod Typed
+pub mod StaysAdded
+pub mod StaysAnswers
+pub mod StaysAsked
+pub mod StaysUpdated
+pub mod StaysSound
