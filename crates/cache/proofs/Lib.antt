@@ -1,1 +1,2 @@
 pub mod Meanings
+pub mod Standing
