@@ -1,2 +1,4 @@
 pub mod Meanings
 pub mod Standing
+pub mod Refused
+pub mod Asking

@@ -26,8 +26,8 @@ use Rattle.statement.specs.Compiled.{noTable, noQuery, noUpdate}
 use Rattle.statement.specs.Sound.{usedColumns, columnsAt, soundTable, soundTables, soundQuery, soundUpdate, AgreesQuery, AgreesUpdate, FromQuery, FromUpdate, TablesFit, QueryFits, UpdateFits, TableStructFits}
 use Rattle.statement.proofs.SoundTable.{table-parts}
 use Rattle.statement.proofs.SoundTables.{tables-fit}
-use Rattle.statement.proofs.SoundQuery.{query-sound}
-use Rattle.statement.proofs.SoundUpdate.{update-sound}
+use Rattle.statement.proofs.SoundQuery.{query-parts, query-sound}
+use Rattle.statement.proofs.SoundUpdate.{update-parts, update-sound}
 use Rattle.soundness.specs.Soundness.{tablesSound, queriesSound, updatesSound}
 use Rattle.cache.specs.declared.State.{State}
 use Rattle.cache.specs.Sound.{usedTables, areasOf, rowsFit, queryAt, soundSizes, soundCounts, soundAreas, soundRows, soundTexts, soundTables as soundStored, soundAnswers, soundState}
@@ -127,6 +127,20 @@ module _ (s : State) (T : Typed s) (S : Standing s) where
   update-is-sound i h =
       subst (λ u. soundUpdate (schemasOf (s .tables) (s .«table_count»)) u ≡ true) (getD-take (s .«update_count») (s .updates) i noUpdate h)
       (All-at i noUpdate (subst (λ n. i < n) (sym (length-take-le (s .«update_count») (s .updates) (S .few-updates))) h) (S .updates-sound))
+
+  schemas-count : length (schemasOf (s .tables) (s .«table_count»)) ≡ s .«table_count»
+  schemas-count = length-map (usedTables s) schemaOf ∙ length-take-le (s .«table_count») (s .tables) (S .few-tables)
+
+  -- the table of a question, and of an update, is there
+  pub query-table : (i : ℕ) → i < s .«query_count» → queryAt s i .table < s .«table_count»
+  query-table i h =
+      subst (λ n. queryAt s i .table < n) schemas-count
+      (query-parts (schemasOf (s .tables) (s .«table_count»)) (queryAt s i) (query-is-sound i h) .there)
+
+  pub update-table : (i : ℕ) → i < s .«update_count» → updateAt s i .table < s .«table_count»
+  update-table i h =
+      subst (λ n. updateAt s i .table < n) schemas-count
+      (update-parts (schemasOf (s .tables) (s .«table_count»)) (updateAt s i) (update-is-sound i h) .there)
 
   -- ---- the plain store
 
