@@ -1,3 +1,4 @@
+pub mod Areas
 pub mod Meanings
 pub mod Standing
 pub mod Refused

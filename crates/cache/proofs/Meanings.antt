@@ -3,12 +3,10 @@ use mathlib.Core.Path.{_≡_, refl, sym, ap, ap₂, _∙_, subst, subst₂}
 use mathlib.Core.Bool.{Bool, true, false}
 use mathlib.Core.List.{List, [], _∷_, _++_, map}
 use Prim.Native.Nat.{ℕ, zero, suc, _+_, _*_, _≤_, _<_}
-use native.Mathlib.Nat.{le-of-suc-le-suc, not-suc-le-zero, mul-le-mul-left}
+use native.Mathlib.Nat.{le-of-suc-le-suc, not-suc-le-zero}
 use native.Mathlib.Omega.{arith}
-use borrow.Author.Tests.{le-leb}
-use lib.Dec.{leb}
 use lib.IntN.{ℤ}
-use lib.ListN.{length, getD, take, drop, length-map}
+use lib.ListN.{length, getD, take, length-map}
 use lib.Seq.{getD-take, length-take-le, take-take}
 use Rattle.lists.specs.Lists.{All, nil, cons, all}
 use Rattle.lists.proofs.Lists.{All-head, All-tail, all-true}
@@ -32,6 +30,7 @@ use Rattle.cache.specs.Sound.{usedTables, areasOf, rowsFit, queryAt}
 use Rattle.cache.specs.Means.{tablesFrom, tablesIn, usedQueries, usedUpdates, Compiled, Means, Typed}
 use Rattle.cache.specs.Means as L
 use Rattle.cache.specs.Calls.{startOf, tableAt, rowsAt, updateAt}
+use Rattle.cache.proofs.Areas.{schemas-from, tableIn, table-from}
 
 -- ---- lists of which each member is the compiled form of the other's
 
@@ -53,56 +52,6 @@ module _ {A B : Type 0} {R : A → B → Type 0} where
   pub compiled-of : {xs : List A} → All (λ x. (y : B) × R x y) xs → (ys : List B) × Compiled R xs ys
   compiled-of nil = ([], L.nil)
   compiled-of (cons r h) = let c = compiled-of h in (r .0 ∷ c .0, L.cons (r .1) (c .1))
-
--- ---- tables, one area behind the other
-
-pub schemas-from : (start : ℕ) (ts : List Table) (cells : List ℤ) → map (λ (t : P.Table). t .schema) (tablesFrom start ts cells) ≡ map schemaOf ts
-schemas-from start [] cells = refl
-schemas-from start (t ∷ ts) cells = ap (λ l. schemaOf t ∷ l) (schemas-from (start + t .count * t .capacity) ts cells)
-
--- table i as the plain store has it
-abbrev pub tableIn : Table → ℕ → List ℤ → P.Table
-tableIn t start cells = record { schema = schemaOf t; rows = rowsUsed t start cells }
-
-pub table-from : (start : ℕ) (ts : List Table) (cells : List ℤ) (i : ℕ) → i < length ts
-    → getD (tablesFrom start ts cells) i P.noTable ≡ tableIn (getD ts i noTable) (start + areasOf (take i ts)) cells
-table-from start [] cells i h = absurd (not-suc-le-zero h)
-table-from start (t ∷ ts) cells zero h =
-    let e : start ≡ start + 0 = omega arith in
-    ap (λ k. tableIn t k cells) e
-table-from start (t ∷ ts) cells (suc i) h =
-    let e : start + t .count * t .capacity + areasOf (take i ts) ≡ start + (t .count * t .capacity + areasOf (take i ts)) = omega arith in
-    table-from (start + t .count * t .capacity) ts cells i (le-of-suc-le-suc h) ∙ ap (λ k. tableIn (getD ts i noTable) k cells) e
-
-pub tables-append : (start : ℕ) (ts us : List Table) (cells : List ℤ)
-    → tablesFrom start (ts ++ us) cells ≡ tablesFrom start ts cells ++ tablesFrom (start + areasOf ts) us cells
-tables-append start [] us cells =
-    let e : start ≡ start + 0 = omega arith in
-    ap (λ k. tablesFrom k us cells) e
-tables-append start (t ∷ ts) us cells =
-    let e : start + t .count * t .capacity + areasOf ts ≡ start + (t .count * t .capacity + areasOf ts) = omega arith in
-    ap (λ l. tableIn t start cells ∷ l)
-    (tables-append (start + t .count * t .capacity) ts us cells
-    ∙ ap (λ k. tablesFrom (start + t .count * t .capacity) ts cells ++ tablesFrom k us cells) e)
-
--- the area of a table lies within all of them
-pub area-within : (ts : List Table) (i : ℕ) → i < length ts
-    → areasOf (take i ts) + getD ts i noTable .count * getD ts i noTable .capacity ≤ areasOf ts
-area-within [] i h = absurd (not-suc-le-zero h)
-area-within (t ∷ ts) zero h = omega arith
-area-within (t ∷ ts) (suc i) h = let k = area-within ts i (le-of-suc-le-suc h) in omega arith
-
--- ---- a table whose area lies inside the cells, and its rows inside the area
-
--- its rows lie inside the cells
-rows-within : (t : Table) (start n : ℕ) → t .rows ≤ t .capacity → start + t .count * t .capacity ≤ n → start + rowCells t ≤ n
-rows-within t start n r h =
-    let m : t .count * t .rows ≤ t .count * t .capacity = mul-le-mul-left (t .count) r in
-    omega arith
-
-pub rows-used : (t : Table) (start : ℕ) (cells : List ℤ) → t .rows ≤ t .capacity → start + t .count * t .capacity ≤ length cells
-    → rowsUsed t start cells ≡ rowsIn (t .count) (t .rows) (drop start cells)
-rows-used t start cells r h = rw (le-leb (start + rowCells t) (length cells) (rows-within t start (length cells) r h))
 
 -- ---- what a state stands for
 

@@ -35,7 +35,8 @@ use Rattle.cache.specs.Means.{tablesIn, usedQueries, usedUpdates, Compil
 use Rattle.cache.specs.Calls.{startOf, tableAt, updateAt}
 use Rattle.cache.specs.Demand.{StandsForPlain}
 use Rattle.cache.specs.Run.{Store}
-use Rattle.cache.proofs.Meanings.{compiled-of, area-within}
+use Rattle.cache.proofs.Areas.{area-within}
+use Rattle.cache.proofs.Meanings.{compiled-of}
 
 -- ---- what the tables and statements of a sound state are
 
