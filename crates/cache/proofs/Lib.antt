@@ -3,3 +3,4 @@ pub mod Meanings
 pub mod Standing
 pub mod Refused
 pub mod Asking
+pub mod Updating
