@@ -36,7 +36,7 @@ use Rattle.cache.specs.declared.State.{State}
 use Rattle.cache.specs.Sound.{usedTables, areasOf, soundState}
 use Rattle.cache.specs.Means.{tablesFrom, tablesIn, Means, Typed}
 use Rattle.cache.specs.Calls.{settled, startOf, tableAt, Updates, updates, updateAt, isFull, updateRefusal, isMatched, dropBy, withRows, withChange, updateRefused, updateDone, updateOf}
-use Rattle.cache.specs.Run.{Store, stepUpdate, step}
+use Rattle.cache.specs.Run.{Store, gotOf, stepUpdate, step}
 use Rattle.cache.specs.Run as R
 use Rattle.cache.specs.Demand.{lengthsLent}
 use Rattle.cache.proofs.Areas.{tableIn, rows-used, tables-set}
@@ -158,3 +158,68 @@ module _ (s : State) (T : Typed s) (S : Standing s) (cells : List ℤ) (p : Plai
         (ap₂ (λ (x : Table) (k : ℕ). tableIn (withRows x used) k after) e k
         ∙ ap₂ (λ (x : Schema) (r : List Row). record { schema = x; rows = r }) (ap (λ (x : P.Table). x .schema) (sym table-is)) rows-then)
         ∙ ap (λ j. set (p .tables) j (record { schema = P.tableAt p (P.updateAt p n .table) .schema; rows = changed (P.updateAt p n .change) us (P.tableAt p (P.updateAt p n .table) .rows) })) (agrees .table-is))
+
+    -- what it leaves stands for what the plain store is then
+    pub change-stands : (slots : SlotList) → Means (withChange s i (withRows t used) slots) after (changedBy p n us)
+    unfolding withChange changedBy
+    change-stands slots = record {
+      cells-are = m .cells-are;
+      memory-is = m .memory-is;
+      tables-are = tables-then;
+      queries-are = m .queries-are;
+      updates-are = m .updates-are;
+    }
+
+-- ---- the whole call
+
+module _ (s : Store) (p : Plain) (T : Typed (s .state)) (h : soundState (s .state) ≡ true) (m : Means (s .state) (s .cells) p) (n : ℕ) (us : List ℤ) where
+  S : Standing (s .state)
+  S = standing (s .state) T h
+
+  count : length (p .updates) ≡ s .state .«update_count»
+  count = update-count (s .state) (s .cells) p m (S .few-updates)
+
+  -- the number that it gets
+  pub update-number : updateRefusal (s .state) (length (s .cells)) (length (s .memory)) n (length us) ≡ refusal (lengthsLent s) p (change n us)
+  unfolding updateRefusal refusal
+  update-number =
+      same-else 2 _ _ _ _ (unfit-is (s .state) (s .cells) p h m (length (s .cells)) (length (s .memory)))
+      (λ a. same-else 10 (leb (s .state .«update_count») n) _ _ _ (ap (λ k. leb k n) (sym count))
+      (λ b.
+      let there : n < s .state .«update_count» = subst (λ k. n < k) count (leb-false (length (p .updates)) n b) in
+      ap₂ (λ (k : ℕ) (f : Bool). orElse (not (eqb (length us) k)) 11 (orElse f 12 0))
+      (update-at (s .state) (s .cells) p m (S .few-updates) n there .parameters-are)
+      (full-is (s .state) T S (s .cells) p m n there (lengths-same (s .state) (s .cells) p m (lengthsLent s) a))))
+
+  -- an update that is not refused, on the plain store
+  module _ (e : refusal (lengthsLent s) p (change n us) ≡ 0) where
+    taken : Changing (lengthsLent s) p n us
+    taken = update-taken (lengthsLent s) p n us e
+
+    pub update-there : n < s .state .«update_count»
+    update-there = subst (λ k. n < k) count (taken .there)
+
+    long : length (s .cells) ≡ s .state .cells
+    long = lengths-same (s .state) (s .cells) p m (lengthsLent s) (taken .lengths)
+
+    done-same : Same [] (stepUpdate s (updateDone (s .state) (s .cells) (updateAt (s .state) n) us)) (changedBy p n us, rows (rowsBy p n us))
+    unfolding updateDone
+    done-same = (
+      ap (λ k. gotOf [] (rows k)) (count-is (s .state) T S (s .cells) p m n update-there long us (taken .room)),
+      change-stands (s .state) T S (s .cells) p m n update-there long us (taken .room) (dropBy (isMatched (s .state) (updateAt (s .state) n) us) (s .state .slots)),
+    )
+
+  pub update-same : Same [] (step s (R.update n us)) (P.step (lengthsLent s) p (change n us))
+  unfolding step updateOf settled
+  update-same =
+      subst
+      (λ k. Same [] (stepUpdate s (settled k (updateDone (s .state) (s .cells) (updateAt (s .state) n) us) (updates (updateRefused (s .state) k) (s .cells))))
+      (P.step (lengthsLent s) p (change n us)))
+      (sym update-number)
+      (go (refusal (lengthsLent s) p (change n us)) refl)
+    where
+      go : (k : ℕ) → refusal (lengthsLent s) p (change n us) ≡ k
+          → Same [] (stepUpdate s (settled k (updateDone (s .state) (s .cells) (updateAt (s .state) n) us) (updates (updateRefused (s .state) k) (s .cells))))
+          (guard k p refused (changedBy p n us, rows (rowsBy p n us)))
+      go zero e = done-same e
+      go (suc k) e = (refl, m)
