@@ -4,3 +4,4 @@ pub mod Standing
 pub mod Refused
 pub mod Asking
 pub mod Updating
+pub mod Adding
