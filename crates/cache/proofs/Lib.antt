@@ -5,3 +5,4 @@ pub mod Refused
 pub mod Asking
 pub mod Updating
 pub mod Adding
+pub mod Plainly
