@@ -36,8 +36,9 @@ use Rattle.cache.specs.Calls.{unfit, settled, Asks, asks, askRefused, as
 use Rattle.cache.specs.Run.{Store, Seen, Got, gotOf, stepAsk, step}
 use Rattle.cache.specs.Run as R
 use Rattle.cache.specs.Demand.{lengthsLent}
-use Rattle.cache.proofs.Meanings.{table-at, query-count, query-at}
-use Rattle.cache.proofs.Standing.{Standing, standing, query-table}
+use Rattle.cache.proofs.Sounds.{Sound, sound-is}
+use Rattle.cache.proofs.Standing.{query-table}
+use Rattle.cache.proofs.Meanings.{table-at, query-count, query-agrees}
 use Rattle.cache.proofs.Refused.{Same, same-else, unfit-is}
 
 -- other kept answers, the same plain store
@@ -62,14 +63,14 @@ kept-means s cells p m k r = go (fitsSlot s r && takenOf (s .slots) .there)
 
 -- ---- the record, on a state that stands for the plain store
 
-module _ (s : State) (T : Typed s) (S : Standing s) (cells : List ℤ) (p : Plain) (m : Means s cells p) (n : ℕ) (there : n < s .«query_count») where
+module _ (s : State) (T : Typed s) (S : Sound s) (cells : List ℤ) (p : Plain) (m : Means s cells p) (n : ℕ) (there : n < s .«query_count») where
   agrees : AgreesQuery (queryAt s n) (P.queryAt p n)
-  agrees = query-at s cells p m (S .few-queries) n there
+  agrees = query-agrees s T S cells p m n there
 
   -- the rows of its table are the plain store's
   pub rows-asked : rowsAt s cells (queryAt s n .table) ≡ P.tableAt p (P.queryAt p n .table) .rows
   rows-asked =
-      ap (λ (t : P.Table). t .rows) (sym (table-at s cells p m (S .few-tables) (queryAt s n .table) (query-table s T S n there)))
+      ap (λ (t : P.Table). t .rows) (sym (table-at s T S cells p m (queryAt s n .table) (query-table s T S n there)))
       ∙ ap (λ i. P.tableAt p i .rows) (agrees .table-is)
 
   -- and so is the record
@@ -83,8 +84,8 @@ module _ (s : State) (T : Typed s) (S : Standing s) (cells : List ℤ) (p : Plai
 
 module _ (s : Store) (p : Plain) (T : Typed (s .state)) (h : soundState (s .state) ≡ true) (m : Means (s .state) (s .cells) p)
     (n : ℕ) (vs : List ℤ) (buffer : List ℕ) where
-  S : Standing (s .state)
-  S = standing (s .state) T h
+  S : Sound (s .state)
+  S = sound-is (s .state) h
 
   abbrev key : Key
   key = record { query = n; values = vs }
@@ -93,11 +94,11 @@ module _ (s : Store) (p : Plain) (T : Typed (s .state)) (h : soundState (s .stat
   pub ask-number : askRefusal (s .state) (length (s .cells)) (length (s .memory)) n (length vs) ≡ plainRefusal (lengthsLent s) p key
   unfolding askRefusal
   ask-number =
-      let count : length (p .queries) ≡ s .state .«query_count» = query-count (s .state) (s .cells) p m (S .few-queries) in
+      let count : length (p .queries) ≡ s .state .«query_count» = query-count (s .state) T S (s .cells) p m in
       same-else 2 _ _ _ _ (unfit-is (s .state) (s .cells) p h m (length (s .cells)) (length (s .memory)))
       (λ a. same-else 10 (leb (s .state .«query_count») n) _ _ _ (ap (λ k. leb k n) (sym count))
       (λ b. ap (λ k. orElse (not (eqb (length vs) k)) 11 0)
-      (query-at (s .state) (s .cells) p m (S .few-queries) n
+      (query-agrees (s .state) T S (s .cells) p m n
       (subst (λ k. n < k) count (leb-false (length (p .queries)) n b)) .parameters-are)))
 
   abbrev done : Asks
@@ -142,5 +143,5 @@ module _ (s : Store) (p : Plain) (T : Typed (s .state)) (h : soundState (s .stat
           → Same buffer (stepAsk s (settled k (askNew (s .state) (s .cells) (s .memory) buffer n vs) (asks (askRefused (s .state) k) (s .memory) buffer)))
           (guard (firstOf k (shortRefusal (length buffer) (recordOf p key))) p refused (p, answered (recordOf p key)))
       go zero e =
-          new-same (subst (λ k. n < k) (query-count (s .state) (s .cells) p m (S .few-queries)) (key-asked (lengthsLent s) p key (sym ask-number ∙ e) .there))
+          new-same (subst (λ k. n < k) (query-count (s .state) T S (s .cells) p m) (key-asked (lengthsLent s) p key (sym ask-number ∙ e) .there))
       go (suc k) e = (refl, m)

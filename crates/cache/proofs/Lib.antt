@@ -1,6 +1,7 @@
+pub mod Sounds
 pub mod Areas
-pub mod Meanings
 pub mod Standing
+pub mod Meanings
 pub mod Refused
 pub mod Asking
 pub mod Updating

@@ -40,8 +40,9 @@ use Rattle.cache.specs.Run.{Store, gotOf, stepUpdate, step}
 use Rattle.cache.specs.Run as R
 use Rattle.cache.specs.Demand.{lengthsLent}
 use Rattle.cache.proofs.Areas.{tableIn, rows-used, tables-set}
-use Rattle.cache.proofs.Meanings.{table-at, update-count, update-at}
-use Rattle.cache.proofs.Standing.{Standing, standing, update-is-sound, update-table, few-columns, few-rows, columns-at, area-inside}
+use Rattle.cache.proofs.Sounds.{schemasIn, Sound, sound-is, rows-at, update-at}
+use Rattle.cache.proofs.Standing.{few-tables, few-updates, update-table, few-columns, columns-at, area-inside}
+use Rattle.cache.proofs.Meanings.{table-at, update-count, update-agrees}
 use Rattle.cache.proofs.Refused.{Same, same-else, unfit-is, lengths-same}
 
 insert-form : (c : Change) → eqb (formOfChange c) 0 ≡ isInsert c
@@ -51,7 +52,7 @@ insert-form (update ss g) = refl
 
 -- ---- an update of a table, on a state that stands for the plain store, with cells of the opening's length
 
-module _ (s : State) (T : Typed s) (S : Standing s) (cells : List ℤ) (p : Plain) (m : Means s cells p) (n : ℕ) (there : n < s .«update_count»)
+module _ (s : State) (T : Typed s) (S : Sound s) (cells : List ℤ) (p : Plain) (m : Means s cells p) (n : ℕ) (there : n < s .«update_count»)
     (long : length cells ≡ s .cells) where
   abbrev u : Update
   u = updateAt s n
@@ -66,19 +67,19 @@ module _ (s : State) (T : Typed s) (S : Standing s) (cells : List ℤ) (p : Plai
   start = startOf s i
 
   agrees : AgreesUpdate u (P.updateAt p n)
-  agrees = update-at s cells p m (S .few-updates) n there
+  agrees = update-agrees s T S cells p m n there
 
   table-there : i < s .«table_count»
   table-there = update-table s T S n there
 
   table-is : P.tableAt p (P.updateAt p n .table) ≡ tableIn t start cells
-  table-is = ap (P.tableAt p) (sym (agrees .table-is)) ∙ table-at s cells p m (S .few-tables) i table-there
+  table-is = ap (P.tableAt p) (sym (agrees .table-is)) ∙ table-at s T S cells p m i table-there
 
   inside : start + t .count * t .capacity ≤ length cells
   inside = subst (λ k. start + t .count * t .capacity ≤ k) (sym long) (area-inside s T S i table-there)
 
   rows-are : rowsUsed t start cells ≡ rowsBefore t start cells
-  rows-are = rows-used t start cells (few-rows s T S i table-there) inside
+  rows-are = rows-used t start cells (rows-at s T S i table-there) inside
 
   -- 12
   pub full-is : isFull s u ≡ full p n
@@ -95,7 +96,7 @@ module _ (s : State) (T : Typed s) (S : Standing s) (cells : List ℤ) (p : Plai
 
   module _ (us : List ℤ) (room : full p n ≡ false) where
     eight : length (u .settings) ≡ 8
-    eight = All-at n noUpdate (omega (arith, S .few-updates)) (T .updates-fit) .eight
+    eight = All-at n noUpdate (omega (arith, few-updates s T S)) (T .updates-fit) .eight
 
     free : u .form ≡ 0 → t .rows < t .capacity
     free z =
@@ -106,14 +107,14 @@ module _ (s : State) (T : Typed s) (S : Standing s) (cells : List ℤ) (p : Plai
     unfolding areaFits
     area-fits =
         and-both (leb (start + t .count * t .capacity) (length cells)) _ (le-leb (start + t .count * t .capacity) (length cells) inside)
-        (le-leb (t .rows) (t .capacity) (few-rows s T S i table-there))
+        (le-leb (t .rows) (t .capacity) (rows-at s T S i table-there))
 
     -- it fits
     pub update-fits : fits u t start cells ≡ true
     update-fits =
         fits-sound u t start cells area-fits (few-columns s T S i table-there)
         (ap (λ c. soundForm (u .form) c u) (sym (columns-at s T S i table-there))
-        ∙ update-parts (schemasOf (s .tables) (s .«table_count»)) u (update-is-sound s T S n there) .form-sound)
+        ∙ update-parts (schemasIn s) u (update-at s T S n there) .form-sound)
         free
 
     abbrev after : List ℤ
@@ -147,11 +148,11 @@ module _ (s : State) (T : Typed s) (S : Standing s) (cells : List ℤ) (p : Plai
     tables-then =
         let e : getD (usedTables s) i noTable ≡ t = getD-take (s .«table_count») (s .tables) i noTable table-there in
         let k : areasOf (take i (usedTables s)) ≡ start = ap areasOf (take-take i (s .«table_count») (s .tables) (omega (arith, table-there))) in
-        let l : length (usedTables s) ≡ s .«table_count» = length-take-le (s .«table_count») (s .tables) (S .few-tables) in
+        let l : length (usedTables s) ≡ s .«table_count» = length-take-le (s .«table_count») (s .tables) (few-tables s T S) in
         sym
         (ap (λ ts. tablesFrom 0 ts after) (take-set-lt (s .«table_count») (s .tables) i (withRows t used) table-there)
         ∙ ap (λ x. tablesFrom 0 (set (usedTables s) i (withRows x used)) after) (sym e)
-        ∙ tables-set (usedTables s) (S .rows-fit) i (subst (λ n. i < n) (sym l) table-there) used cells after (cells-length u t start cells us eight)
+        ∙ tables-set (usedTables s) (S .rows) i (subst (λ n. i < n) (sym l) table-there) used cells after (cells-length u t start cells us eight)
         (λ a c n h. rows-before u t start cells us eight a c n (subst (λ k. a + n * c ≤ k) k h))
         (λ a c n h. rows-behind u t start cells us eight a c n (subst₂ (λ (k : ℕ) (x : Table). k + x .count * x .capacity ≤ a) k e h))
         ∙ ap₂ (λ (ts : List P.Table) (x : P.Table). set ts i x) (sym (m .tables-are))
@@ -173,11 +174,11 @@ module _ (s : State) (T : Typed s) (S : Standing s) (cells : List ℤ) (p : Plai
 -- ---- the whole call
 
 module _ (s : Store) (p : Plain) (T : Typed (s .state)) (h : soundState (s .state) ≡ true) (m : Means (s .state) (s .cells) p) (n : ℕ) (us : List ℤ) where
-  S : Standing (s .state)
-  S = standing (s .state) T h
+  S : Sound (s .state)
+  S = sound-is (s .state) h
 
   count : length (p .updates) ≡ s .state .«update_count»
-  count = update-count (s .state) (s .cells) p m (S .few-updates)
+  count = update-count (s .state) T S (s .cells) p m
 
   -- the number that it gets
   pub update-number : updateRefusal (s .state) (length (s .cells)) (length (s .memory)) n (length us) ≡ refusal (lengthsLent s) p (change n us)
@@ -188,7 +189,7 @@ module _ (s : Store) (p : Plain) (T : Typed (s .state)) (h : soundState (s .stat
       (λ b.
       let there : n < s .state .«update_count» = subst (λ k. n < k) count (leb-false (length (p .updates)) n b) in
       ap₂ (λ (k : ℕ) (f : Bool). orElse (not (eqb (length us) k)) 11 (orElse f 12 0))
-      (update-at (s .state) (s .cells) p m (S .few-updates) n there .parameters-are)
+      (update-agrees (s .state) T S (s .cells) p m n there .parameters-are)
       (full-is (s .state) T S (s .cells) p m n there (lengths-same (s .state) (s .cells) p m (lengthsLent s) a))))
 
   -- an update that is not refused, on the plain store
