@@ -7,3 +7,4 @@ pub mod Asking
 pub mod Updating
 pub mod Adding
 pub mod Plainly
+pub mod Dropping
