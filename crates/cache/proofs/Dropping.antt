@@ -72,3 +72,50 @@ module _ (mean : MatchesMean) (s : State) (T : Typed s) (S : Sound s) (cells : L
       (updateAt s n) (P.updateAt p n) (update-agrees s T S cells p m n there)
       (query-at s T S (slotKey (s .keys) x .query) (k .there)) (update-at s T S n there) us (valuesOf (slotKey (s .keys) x)))
       (S .keys)
+
+  abbrev test : ℕ → Bool
+  test = isMatched s (updateAt s n) us
+
+  abbrev match : Key → Bool
+  match = matchesKey p n us
+
+  abbrev keyAt : ℕ → Key
+  keyAt x = keyRead (slotKey (s .keys) x)
+
+  keys-of : (l : List ℕ) → map keyRead (map (slotKey (s .keys)) l) ≡ map keyAt l
+  keys-of [] = refl
+  keys-of (x ∷ l) = ap (λ r. keyAt x ∷ r) (keys-of l)
+
+  -- the keys held after it
+  keys-stay : map keyRead (heldKeys (s .keys) (dropBy test (s .slots))) ≡ keep (λ (k : Key). not (match k)) (map keyRead (heldKeys (s .keys) (s .slots)))
+  keys-stay =
+      ap (λ l. map keyRead (map (slotKey (s .keys)) l))
+      (held-after test (s .slots) ∙ keep-same (λ x. not (test x)) (λ x. not (match (keyAt x))) (All-map (λ x e. ap not e) matched-is))
+      ∙ keys-of (keep (λ x. not (match (keyAt x))) (heldSlots (s .slots)))
+      ∙ keep-map keyAt (λ (k : Key). not (match k)) (heldSlots (s .slots))
+      ∙ ap (keep (λ (k : Key). not (match k))) (sym (keys-of (heldSlots (s .slots))))
+
+  -- and how many it drops
+  keys-drop : count test (heldSlots (s .slots)) ≡ count match (map keyRead (heldKeys (s .keys) (s .slots)))
+  keys-drop =
+      ap length (keep-same test (λ x. match (keyAt x)) matched-is)
+      ∙ sym (length-map (keep (λ x. match (keyAt x)) (heldSlots (s .slots))) keyAt)
+      ∙ ap length (keep-map keyAt match (heldSlots (s .slots)) ∙ ap (keep match) (sym (keys-of (heldSlots (s .slots)))))
+
+pub drops-exactly-matched : MatchesMean → DropsExactlyMatched
+unfolding step updateOf settled updateDone withChange
+drops-exactly-matched mean s n us p T h m = go (updateRefusal (s .state) (length (s .cells)) (length (s .memory)) n (length us)) refl
+  where
+    after : ℕ → Store × Seen
+    after k =
+        stepUpdate s (settled k (updateDone (s .state) (s .cells) (updateAt (s .state) n) us) (updates (updateRefused (s .state) k) (s .cells)))
+
+    go : (k : ℕ) → updateRefusal (s .state) (length (s .cells)) (length (s .memory)) n (length us) ≡ k → after k .1 .got .refusal ≡ 0
+        → (keysHeld (after k .0) ≡ keep (λ (k : Key). not (matchesKey p n us k)) (keysHeld s)) × (after k .1 .drops ≡ count (matchesKey p n us) (keysHeld s))
+    go zero e z =
+        let S : Sound (s .state) = sound-is (s .state) h in
+        let there : n < s .state .«update_count» = update-there s p T h m n us (sym (update-number s p T h m n us) ∙ e) in (
+          keys-stay mean (s .state) T S (s .cells) p m n there us,
+          keys-drop mean (s .state) T S (s .cells) p m n there us,
+        )
+    go (suc k) e z = absurd (omega arith)
