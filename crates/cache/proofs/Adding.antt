@@ -1,15 +1,15 @@
 -- A text gets from a sound state what it gets from the plain store: it is judged by the tables' TABLE texts, the numbers of statements and the cells alone, and what is
 -- added is the compiled form of its sentence's statement. Assumes nothing.
 use mathlib.Core.Path.{_≡_, refl, sym, ap, ap₂, _∙_, subst, subst₂}
-use mathlib.Core.Bool.{Bool, true, false, not, _&&_, _||_, cond}
+use mathlib.Core.Bool.{Bool, true, false, _||_, cond}
 use mathlib.Core.Option.{Option, none, some}
-use mathlib.Core.List.{List, [], _∷_, _++_, map}
+use mathlib.Core.List.{List, [], _∷_, _++_}
 use Prim.Native.Nat.{ℕ, zero, suc, _+_, _*_, _-_, _<_}
 use native.Mathlib.Omega.{arith}
 use borrow.Author.Tests.{leb-false}
 use lib.Dec.{leb, ltb}
 use lib.IntN.{ℤ, natAbs}
-use lib.ListN.{length, take, set, replicate, length-map, length-replicate}
+use lib.ListN.{length, take, set, length-map, length-replicate}
 use lib.Seq.{take-suc-set}
 use Rattle.lists.proofs.Bools.{or-left}
 use Rattle.meaning.specs.Cells.{areasSize}
@@ -21,25 +21,24 @@ use Rattle.meaning.specs.Names.{Schema, unknown, taken, miscounted}
 use Rattle.meaning.specs.Statement as M
 use Rattle.meaning.specs.Statement.{Statement, creates, asks, changes, statementOf}
 use Rattle.meaning.specs.Plain as P
-use Rattle.meaning.specs.Plain.{Lengths, Plain, schemas, noPlace, isNone, itsSentence, otherLengths, add, refused, Out, guard, orElse, lowestOf, refusal, adding, placed, addedText, does}
+use Rattle.meaning.specs.Plain.{Plain, schemas, noPlace, isNone, itsSentence, otherLengths, add, orElse, lowestOf, refusal, adding, placed, addedText}
 use Rattle.meaning.specs.Demand.{Acceptable}
 use Rattle.meaning.proofs.Accepted.{text-taken}
 use Rattle.statement.specs.declared.Table.{Table}
 use Rattle.statement.specs.declared.Query.{Query}
 use Rattle.statement.specs.declared.Update.{Update}
 use Rattle.statement.specs.declared.Statement.{Statement as Struct}
-use Rattle.statement.specs.Catalog.{schemaOf, schemasOf, catalog}
+use Rattle.statement.specs.Catalog.{schemaOf, catalog}
 use Rattle.statement.specs.Compiled.{tableStruct, queryStruct, updateStruct, structOf, textConditions, structOfText, compiledOf}
 use Rattle.statement.specs.Compiled as C
-use Rattle.statement.specs.Sound.{AgreesTable, AgreesQuery, AgreesUpdate}
+use Rattle.statement.specs.Sound.{AgreesQuery, AgreesUpdate}
 use Rattle.statement.proofs.Compiles.{schemas-are}
 use Rattle.statement.proofs.SoundCompiled.{table-agrees, query-agrees, update-agrees}
-use Rattle.table.specs.Evaluated.{rowCells, rowsUsed}
+use Rattle.table.specs.Evaluated.{rowCells}
 use Rattle.cache.specs.declared.State.{State}
-use Rattle.cache.specs.declared.Added.{Added}
 use Rattle.cache.specs.Sound.{usedTables, areasOf, soundState}
-use Rattle.cache.specs.Means.{tablesFrom, usedQueries, usedUpdates, Compiled, Means, Typed}
-use Rattle.cache.specs.Calls.{settled, unfit, compiledBeside, addRefused, addedTable, addedQuery, addedUpdate, addedBy, addRefusal, addOf}
+use Rattle.cache.specs.Means.{tablesFrom, Compiled, Means, Typed}
+use Rattle.cache.specs.Calls.{settled, compiledBeside, addRefused, addedTable, addedQuery, addedUpdate, addedBy, addRefusal, addOf}
 use Rattle.cache.specs.Run.{Store, stepAdd, step}
 use Rattle.cache.specs.Run as R
 use Rattle.cache.specs.Demand.{lengthsLent}
@@ -47,7 +46,7 @@ use Rattle.cache.proofs.Areas.{tableIn, tables-append}
 use Rattle.cache.proofs.Sounds.{Sound, sound-is}
 use Rattle.cache.proofs.Standing.{compiled-more}
 use Rattle.cache.proofs.Meanings.{schemas-mean, table-count, query-count, update-count}
-use Rattle.cache.proofs.Refused.{Same, same-else, unfit-is}
+use Rattle.cache.proofs.Refused.{Same, settled-same, unfit-is}
 
 -- ---- what a text is judged by
 
@@ -255,15 +254,7 @@ module _ (s : Store) (p : Plain) (T : Typed (s .state)) (h : soundState (s .stat
         (added-same statement refl (place-free p (schemas p) (its .0) (its .2 .place)))
 
   pub add-same : Same [] (step s (R.add text)) (P.step (lengthsLent s) p (add text))
-  unfolding step addOf settled
+  unfolding step addOf
   add-same =
-      subst
-      (λ k. Same [] (stepAdd s (settled k (addedBy (s .state) (compiledBeside (s .state) text)) (addRefused (s .state) k))) (P.step (lengthsLent s) p (add text)))
-      (sym add-number)
-      (go (refusal (lengthsLent s) p (add text)) refl)
-    where
-      go : (k : ℕ) → refusal (lengthsLent s) p (add text) ≡ k
-          → Same [] (stepAdd s (settled k (addedBy (s .state) (compiledBeside (s .state) text)) (addRefused (s .state) k)))
-          (guard k p refused (addedText p (sentence text)))
-      go zero e = done-same e
-      go (suc k) e = (refl, m)
+      settled-same (stepAdd s) (addedBy (s .state) (compiledBeside (s .state) text)) (addRefused (s .state)) [] s p (addedText p (sentence text)) m (λ k. refl) _ _
+      add-number done-same

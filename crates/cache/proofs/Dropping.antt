@@ -1,8 +1,8 @@
 -- An update drops exactly the kept answers whose keys it matches on the plain store. What crate `pattern` states of stored statements is the parameter `mean`.
 -- Assumes nothing.
-use mathlib.Core.Path.{_≡_, refl, sym, ap, ap₂, _∙_, subst}
-use mathlib.Core.Bool.{Bool, true, false, not}
-use mathlib.Core.List.{List, [], _∷_, _++_, map, append-assoc}
+use mathlib.Core.Path.{_≡_, refl, sym, ap, ap₂, _∙_}
+use mathlib.Core.Bool.{Bool, true, not}
+use mathlib.Core.List.{List, [], _∷_, map, append-assoc}
 use Prim.Native.Nat.{ℕ, zero, suc, _<_}
 use native.Mathlib.Omega.{arith}
 use lib.IntN.{ℤ}
@@ -15,22 +15,20 @@ use Rattle.meaning.specs.Names.{Schema}
 use Rattle.meaning.specs.Pattern.{matches}
 use Rattle.meaning.specs.Statement as M
 use Rattle.meaning.specs.Plain as P
-use Rattle.meaning.specs.Plain.{Plain, matchesKey, change, refusal}
+use Rattle.meaning.specs.Plain.{Plain, matchesKey, refusal}
 use Rattle.statement.specs.declared.Query.{Query}
 use Rattle.statement.specs.declared.Update.{Update}
 use Rattle.statement.specs.Sound.{soundQuery, soundUpdate, AgreesQuery, AgreesUpdate}
 use Rattle.pattern.specs.Stored.{matchesStored}
 use Rattle.slots.specs.declared.SlotList.{SlotList}
-use Rattle.slots.specs.declared.Key.{Key as Stored}
 use Rattle.slots.specs.Keys.{keyRead, slotKey, heldKeys, valuesOf}
 use Rattle.slots.specs.Order.{heldSlots}
 use Rattle.cache.specs.declared.State.{State}
-use Rattle.cache.specs.Sound.{queryAt, soundState}
+use Rattle.cache.specs.Sound.{queryAt}
 use Rattle.cache.specs.Means.{Means, Typed}
 use Rattle.cache.specs.Calls.{settled, updates, updateAt, updateRefusal, isMatched, dropBy, withChange, updateRefused, updateDone, updateOf}
 use Rattle.cache.specs.Run.{Store, Seen, stepUpdate, step}
-use Rattle.cache.specs.Run as R
-use Rattle.cache.specs.Demand.{lengthsLent, keysHeld, DropsExactlyMatched}
+use Rattle.cache.specs.Demand.{keysHeld, DropsExactlyMatched}
 use Rattle.cache.proofs.Sounds.{schemasIn, Sound, sound-is, query-at, update-at}
 use Rattle.cache.proofs.Meanings.{query-agrees, update-agrees}
 use Rattle.cache.proofs.Updating.{update-number, update-there}

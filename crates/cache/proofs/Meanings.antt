@@ -1,11 +1,10 @@
 -- What a sound state and its cells say of the plain store that they stand for: its tables with their rows, its questions and its updates, place by place.
 -- Assumes nothing.
 use mathlib.Core.Path.{_≡_, sym, ap, ap₂, _∙_, subst}
-use mathlib.Core.List.{map}
+use mathlib.Core.List.{List, map}
 use Prim.Native.Nat.{ℕ, _+_, _<_}
 use native.Mathlib.Omega.{arith}
 use lib.IntN.{ℤ}
-use mathlib.Core.List.{List}
 use lib.ListN.{length, getD, take, length-map}
 use lib.Seq.{getD-take, length-take-le, take-take}
 use Rattle.meaning.specs.Plain as P
@@ -13,7 +12,6 @@ use Rattle.meaning.specs.Plain.{Plain, schemas}
 use Rattle.statement.specs.declared.Table.{Table}
 use Rattle.statement.specs.declared.Query.{Query}
 use Rattle.statement.specs.declared.Update.{Update}
-use Rattle.statement.specs.Catalog.{schemaOf}
 use Rattle.statement.specs.Compiled.{noTable, noQuery, noUpdate}
 use Rattle.statement.specs.Sound.{AgreesQuery, AgreesUpdate}
 use Rattle.cache.specs.declared.State.{State}

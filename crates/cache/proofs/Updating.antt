@@ -1,41 +1,37 @@
 -- An update gets from a sound state what it gets from the plain store, and leaves the plain store's rows in the cells. Assumes nothing.
 use mathlib.Core.Path.{_≡_, refl, sym, ap, ap₂, _∙_, subst, subst₂}
-use mathlib.Core.Bool.{Bool, true, false, not, _&&_, cond}
-use mathlib.Core.List.{List, [], _∷_}
-use Prim.Native.Nat.{ℕ, zero, suc, _+_, _*_, _≤_, _<_}
+use mathlib.Core.Bool.{Bool, true, false, not, _&&_}
+use mathlib.Core.List.{List, []}
+use Prim.Native.Nat.{ℕ, _+_, _*_, _≤_, _<_}
 use native.Mathlib.Omega.{arith}
-use borrow.Author.Tests.{leb-false, leb-true, le-leb, eqb-true, eq-eqb}
-use lib.Dec.{eqb, leb, ltb}
+use borrow.Author.Tests.{leb-false, le-leb, eq-eqb}
+use lib.Dec.{eqb, leb}
 use lib.IntN.{ℤ}
 use lib.ListN.{length, getD, take, drop, set}
 use lib.Seq.{getD-take, length-take-le, take-set-lt, take-take}
-use Rattle.lists.specs.Lists.{All}
-use Rattle.lists.proofs.Bools.{and-left, and-right, and-both, not-false}
+use Rattle.lists.proofs.Bools.{and-both}
 use Rattle.lists.proofs.Places.{All-at}
 use Rattle.meaning.specs.Meaning.{Row, changed, rowsChanged}
-use Rattle.meaning.specs.Cells.{rowsIn}
 use Rattle.meaning.specs.Names.{Schema}
-use Rattle.meaning.specs.Statement as M
 use Rattle.meaning.specs.Statement.{Change, insert, delete, update}
 use Rattle.meaning.specs.Plain as P
-use Rattle.meaning.specs.Plain.{Lengths, Plain, otherLengths, isInsert, full, change, refused, rows, Out, guard, orElse, lowestOf, refusal, changedBy, rowsBy, does}
+use Rattle.meaning.specs.Plain.{Plain, isInsert, full, change, rows, orElse, refusal, changedBy, rowsBy}
 use Rattle.meaning.proofs.Accepted.{Changing, update-taken}
 use Rattle.meaning.proofs.Cells.{rows-length}
 use Rattle.statement.specs.declared.Table.{Table}
 use Rattle.statement.specs.declared.Update.{Update}
-use Rattle.statement.specs.Catalog.{schemaOf, schemasOf}
 use Rattle.statement.specs.Compiled.{noTable, noUpdate, formOfChange}
-use Rattle.statement.specs.Sound.{soundForm, AgreesUpdate, UpdateFits}
+use Rattle.statement.specs.Sound.{soundForm, AgreesUpdate}
 use Rattle.statement.proofs.SoundUpdate.{update-parts}
 use Rattle.table.specs.Evaluated.{rowsUsed}
-use Rattle.table.specs.Changed.{areaFits, fits, rowsBefore, rowsAfter, changedOf, changeOf, cellsAfter}
+use Rattle.table.specs.Changed.{areaFits, fits, rowsBefore, changedOf, changeOf, cellsAfter}
 use Rattle.table.specs.declared.changes.Changed.{Changed}
 use Rattle.table.proofs.ChangedMeans.{fits-sound, change-count, change-means, changed-are, after-few, cells-length, rows-before, rows-behind}
 use Rattle.slots.specs.declared.SlotList.{SlotList}
 use Rattle.cache.specs.declared.State.{State}
 use Rattle.cache.specs.Sound.{usedTables, areasOf, soundState}
-use Rattle.cache.specs.Means.{tablesFrom, tablesIn, Means, Typed}
-use Rattle.cache.specs.Calls.{settled, startOf, tableAt, Updates, updates, updateAt, isFull, updateRefusal, isMatched, dropBy, withRows, withChange, updateRefused, updateDone, updateOf}
+use Rattle.cache.specs.Means.{tablesFrom, Means, Typed}
+use Rattle.cache.specs.Calls.{startOf, tableAt, updates, updateAt, isFull, updateRefusal, isMatched, dropBy, withRows, withChange, updateRefused, updateDone, updateOf}
 use Rattle.cache.specs.Run.{Store, gotOf, stepUpdate, step}
 use Rattle.cache.specs.Run as R
 use Rattle.cache.specs.Demand.{lengthsLent}
@@ -43,7 +39,7 @@ use Rattle.cache.proofs.Areas.{tableIn, rows-used, tables-set}
 use Rattle.cache.proofs.Sounds.{schemasIn, Sound, sound-is, rows-at, update-at}
 use Rattle.cache.proofs.Standing.{few-tables, few-updates, update-table, few-columns, columns-at, area-inside}
 use Rattle.cache.proofs.Meanings.{table-at, update-count, update-agrees}
-use Rattle.cache.proofs.Refused.{Same, same-else, unfit-is, lengths-same}
+use Rattle.cache.proofs.Refused.{Same, settled-same, same-else, unfit-is, lengths-same}
 
 insert-form : (c : Change) → eqb (formOfChange c) 0 ≡ isInsert c
 insert-form (insert os) = refl
@@ -211,16 +207,7 @@ module _ (s : Store) (p : Plain) (T : Typed (s .state)) (h : soundState (s .stat
     )
 
   pub update-same : Same [] (step s (R.update n us)) (P.step (lengthsLent s) p (change n us))
-  unfolding step updateOf settled
+  unfolding step updateOf
   update-same =
-      subst
-      (λ k. Same [] (stepUpdate s (settled k (updateDone (s .state) (s .cells) (updateAt (s .state) n) us) (updates (updateRefused (s .state) k) (s .cells))))
-      (P.step (lengthsLent s) p (change n us)))
-      (sym update-number)
-      (go (refusal (lengthsLent s) p (change n us)) refl)
-    where
-      go : (k : ℕ) → refusal (lengthsLent s) p (change n us) ≡ k
-          → Same [] (stepUpdate s (settled k (updateDone (s .state) (s .cells) (updateAt (s .state) n) us) (updates (updateRefused (s .state) k) (s .cells))))
-          (guard k p refused (changedBy p n us, rows (rowsBy p n us)))
-      go zero e = done-same e
-      go (suc k) e = (refl, m)
+      settled-same (stepUpdate s) (updateDone (s .state) (s .cells) (updateAt (s .state) n) us) (λ k. updates (updateRefused (s .state) k) (s .cells)) [] s p
+      (changedBy p n us, rows (rowsBy p n us)) m (λ k. refl) _ _ update-number done-same
