@@ -8,3 +8,12 @@ pub mod StaysAnswers
 pub mod StaysAsked
 pub mod StaysUpdated
 pub mod StaysSound
+pub mod Areas
+pub mod Standing
+pub mod Meanings
+pub mod Refused
+pub mod Asking
+pub mod Updating
+pub mod Adding
+pub mod Plainly
+pub mod Dropping

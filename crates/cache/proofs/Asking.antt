@@ -1,0 +1,140 @@
+-- A question whose answer is not kept gets from a sound state what it gets from the plain store. Assumes nothing.
+use mathlib.Core.Path.{_≡_, refl, sym, ap, _∙_, subst}
+use mathlib.Core.Bool.{Bool, true, false, not, _&&_, cond}
+use mathlib.Core.List.{List}
+use Prim.Native.Nat.{ℕ, zero, suc, _<_}
+use borrow.Author.Tests.{leb-false}
+use lib.Dec.{eqb, leb, ltb}
+use lib.IntN.{ℤ}
+use lib.ListN.{length}
+use Rattle.meaning.specs.Key.{Key}
+use Rattle.meaning.specs.Meaning.{answer}
+use Rattle.meaning.specs.Record.{encode}
+use Rattle.meaning.specs.Plain as P
+use Rattle.meaning.specs.Plain.{Plain, recordOf, ask, refused, answered, guard, orElse, refusal}
+use Rattle.lists.specs.Lists.{written}
+use Rattle.meaning.proofs.Accepted.{key-asked}
+use Rattle.trace.specs.Model.{askRefusal as plainRefusal, shortRefusal}
+use Rattle.trace.proofs.Laws.{firstOf, ask-refusal}
+use Rattle.statement.specs.Sound.{AgreesQuery}
+use Rattle.table.proofs.Means.{record-means}
+use Rattle.slots.specs.declared.Found.the-variants.{Nothing}
+use Rattle.slots.specs.declared.SlotList.{SlotList}
+use Rattle.slots.specs.declared.Key.{Key as Stored}
+use Rattle.slots.specs.Order.{takenOf}
+use Rattle.slots.specs.Keys.{keyOf}
+use Rattle.cache.specs.declared.State.{State}
+use Rattle.cache.specs.Sound.{queryAt, soundState}
+use Rattle.cache.specs.Means.{Means, Typed}
+use Rattle.cache.specs.Calls.{Asks, asks, askRefused, askRefusal, withCache, fitsSlot, putIn, kept, keptMemory, rowsAt, recordAt, askNew, askFound, foundIn, askOf}
+use Rattle.cache.specs.Run.{Store, stepAsk, step}
+use Rattle.cache.specs.Run as R
+use Rattle.cache.specs.Demand.{lengthsLent}
+use Rattle.cache.proofs.Sounds.{Sound, sound-is}
+use Rattle.cache.proofs.Standing.{query-table}
+use Rattle.cache.proofs.Meanings.{table-at, query-count, query-agrees}
+use Rattle.cache.proofs.Refused.{Same, settled-same, same-else, unfit-is}
+
+-- other kept answers, the same plain store
+pub cache-means : (s : State) (cells : List ℤ) (p : Plain) → Means s cells p → (slots : SlotList) (keys : List Stored) (lengths : List ℕ)
+    → Means (withCache s slots keys lengths) cells p
+unfolding withCache
+cache-means s cells p m slots keys lengths = record {
+  cells-are = m .cells-are;
+  memory-is = m .memory-is;
+  tables-are = m .tables-are;
+  queries-are = m .queries-are;
+  updates-are = m .updates-are;
+}
+
+kept-means : (s : State) (cells : List ℤ) (p : Plain) → Means s cells p → (k : Stored) (r : List ℕ) → Means (kept s k r) cells p
+unfolding kept
+kept-means s cells p m k r = go (fitsSlot s r && takenOf (s .slots) .there)
+  where
+    go : (b : Bool) → Means (cond b (putIn s k r (takenOf (s .slots))) s) cells p
+    go true = cache-means s cells p m _ _ _
+    go false = m
+
+-- ---- the record, on a state that stands for the plain store
+
+module _ (s : State) (T : Typed s) (S : Sound s) (cells : List ℤ) (p : Plain) (m : Means s cells p) (n : ℕ) (there : n < s .«query_count») where
+  agrees : AgreesQuery (queryAt s n) (P.queryAt p n)
+  agrees = query-agrees s T S cells p m n there
+
+  -- the rows of its table are the plain store's
+  pub rows-asked : rowsAt s cells (queryAt s n .table) ≡ P.tableAt p (P.queryAt p n .table) .rows
+  rows-asked =
+      ap (λ (t : P.Table). t .rows) (sym (table-at s T S cells p m (queryAt s n .table) (query-table s T S n there)))
+      ∙ ap (λ i. P.tableAt p i .rows) (agrees .table-is)
+
+  -- and so is the record
+  pub record-is : (vs : List ℤ) → recordAt s cells n vs ≡ recordOf p (record { query = n; values = vs })
+  unfolding recordAt recordOf
+  record-is vs =
+      record-means (queryAt s n) (P.queryAt p n) agrees vs (rowsAt s cells (queryAt s n .table))
+      ∙ ap (λ rows. encode (length (P.queryAt p n .selected)) (answer (P.queryAt p n) vs rows)) rows-asked
+
+-- ---- the whole call
+
+-- a call that has two numbers, one after the other
+guard-first : {A B : Type 0} (m n : ℕ) (s : A) (f : ℕ → B) (done : A × B) → guard m s f (guard n s f done) ≡ guard (firstOf m n) s f done
+guard-first zero n s f done = refl
+guard-first (suc m) n s f done = refl
+
+module _ (s : Store) (p : Plain) (T : Typed (s .state)) (h : soundState (s .state) ≡ true) (m : Means (s .state) (s .cells) p)
+    (n : ℕ) (vs : List ℤ) (buffer : List ℕ) where
+  S : Sound (s .state)
+  S = sound-is (s .state) h
+
+  abbrev key : Key
+  key = record { query = n; values = vs }
+
+  -- the numbers but 13
+  pub ask-number : askRefusal (s .state) (length (s .cells)) (length (s .memory)) n (length vs) ≡ plainRefusal (lengthsLent s) p key
+  unfolding askRefusal
+  ask-number =
+      let count : length (p .queries) ≡ s .state .«query_count» = query-count (s .state) T S (s .cells) p m in
+      same-else 2 _ _ _ _ (unfit-is (s .state) (s .cells) p h m (length (s .cells)) (length (s .memory)))
+      (λ a. same-else 10 (leb (s .state .«query_count») n) _ _ _ (ap (λ k. leb k n) (sym count))
+      (λ b. ap (λ k. orElse (not (eqb (length vs) k)) 11 0)
+      (query-agrees (s .state) T S (s .cells) p m n
+      (subst (λ k. n < k) count (leb-false (length (p .queries)) n b)) .parameters-are)))
+
+  abbrev done : Asks
+  done = asks
+      (record {
+        refusal = 0;
+        cached = 0;
+        scanned = length (rowsAt (s .state) (s .cells) (queryAt (s .state) n .table));
+        length = length (recordAt (s .state) (s .cells) n vs);
+        state = kept (s .state) (keyOf n vs) (recordAt (s .state) (s .cells) n vs);
+      })
+      (keptMemory (s .state) (recordAt (s .state) (s .cells) n vs) (s .memory))
+      (written buffer 0 (recordAt (s .state) (s .cells) n vs))
+
+  -- 13, or a new answer
+  new-same : n < s .state .«query_count» → Same buffer (stepAsk s (askNew (s .state) (s .cells) (s .memory) buffer n vs))
+      (guard (shortRefusal (length buffer) (recordOf p key)) p refused (p, answered (recordOf p key)))
+  unfolding askNew
+  new-same there =
+      subst (λ r. Same buffer (stepAsk s (askNew (s .state) (s .cells) (s .memory) buffer n vs)) (guard (shortRefusal (length buffer) r) p refused (p, answered r)))
+      (record-is (s .state) T S (s .cells) p m n there vs)
+      (go (ltb (length buffer) (length (recordAt (s .state) (s .cells) n vs))))
+    where
+      go : (b : Bool) → Same buffer (stepAsk s (cond b (asks (askRefused (s .state) 13) (s .memory) buffer) done))
+          (guard (orElse b 13 0) p refused (p, answered (recordAt (s .state) (s .cells) n vs)))
+      go true = (refl, m)
+      go false = (refl, kept-means (s .state) (s .cells) p m (keyOf n vs) (recordAt (s .state) (s .cells) n vs))
+
+  pub ask-same : foundIn (s .state) n vs ≡ Nothing → Same buffer (step s (R.ask n vs buffer)) (P.step (lengthsLent s) p (ask key (length buffer)))
+  unfolding step askOf
+  ask-same anew =
+      let short : ℕ = shortRefusal (length buffer) (recordOf p key) in
+      subst (Same buffer (step s (R.ask n vs buffer)))
+      (guard-first (plainRefusal (lengthsLent s) p key) short p refused (p, answered (recordOf p key))
+      ∙ ap (λ k. guard k p refused (p, answered (recordOf p key))) (sym (ask-refusal (lengthsLent s) p key (length buffer))))
+      (settled-same (stepAsk s) (askFound (foundIn (s .state) n vs) (s .state) (s .cells) (s .memory) buffer n vs)
+      (λ k. asks (askRefused (s .state) k) (s .memory) buffer) buffer s p (guard short p refused (p, answered (recordOf p key))) m (λ k. refl) _ _ ask-number
+      (λ z. subst (λ f. Same buffer (stepAsk s (askFound f (s .state) (s .cells) (s .memory) buffer n vs)) (guard short p refused (p, answered (recordOf p key))))
+      (sym anew)
+      (new-same (subst (λ k. n < k) (query-count (s .state) T S (s .cells) p m) (key-asked (lengthsLent s) p key z .there)))))
