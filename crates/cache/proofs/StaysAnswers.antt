@@ -23,7 +23,7 @@ use Rattle.slots.proofs.HeldLaws.{front-once, drop-once, put-once}
 use Rattle.cache.specs.declared.State.{State}
 use Rattle.cache.specs.Calls.{withCache, putIn, dropBy}
 use Rattle.cache.specs.Means.{Typed}
-use Rattle.cache.proofs.Sounds.{SlotsSound, slots-sound, sound-slots, KeySound, Sound, held-below}
+use Rattle.cache.proofs.Sounds.{KeySound, Sound, held-below}
 
 -- ---- lists
 
@@ -48,7 +48,7 @@ dropped-count p l = refl
 
 pub record Answers (s : State) (slots : SlotList) (keys : List Key) (lengths : List ℕ) : Type 0 where
   pub count-same : slots .count ≡ s .slots .count
-  pub slots-sound : SlotsSound slots
+  pub slots-sound : L.Sound slots
   pub lengths-fit : All (λ (x : ℕ). (least-slot-bytes ≤ getD lengths x 0) × (getD lengths x 0 ≤ s .«slot_bytes»)) (heldSlots slots)
   pub keys-sound : All (λ (x : ℕ). KeySound s (slotKey keys x)) (heldSlots slots)
   pub once : heldTwice keys slots ≡ false
@@ -94,13 +94,6 @@ module _ (s : State) (S : Sound s) where
   abbrev answers : Answers s (s .slots) (s .keys) (s .lengths)
   answers = answers-are s S
 
-  -- the slot list as its own laws have it
-  slot-list : L.Sound (s .slots)
-  slot-list = L.sound-is (s .slots) (sound-slots (s .slots) (S .slots))
-
-  list-sound : (l : SlotList) → L.Sound l → SlotsSound l
-  list-sound l H = slots-sound l (L.is-sound l H)
-
   -- ---- "A kept answer found moves its slot to the front."
 
   module _ (p : ℕ) (h : p < s .slots .held) where
@@ -111,7 +104,7 @@ module _ (s : State) (S : Sound s) where
     unfolding frontOf
     front-stays = answers-sound (frontOf (s .slots) p) (s .keys) (s .lengths) (record {
       count-same = refl;
-      slots-sound = list-sound (frontOf (s .slots) p) (front-sound (s .slots) p (omega (arith, S .slots .within)) slot-list);
+      slots-sound = front-sound (s .slots) p (omega (arith, S .slots .within)) (S .slots);
       lengths-fit = moved-All held-moved (answers .lengths-fit);
       keys-sound = moved-All held-moved (answers .keys-sound);
       once = front-once (s .keys) (s .slots) p h (answers .once);
@@ -141,7 +134,7 @@ module _ (s : State) (S : Sound s) where
         let left : ℕ → Bool = λ (x : ℕ). not (isMarked marks x) in
         answers-sound (dropBy p (s .slots)) (s .keys) (s .lengths) (record {
           count-same = dropped-count p (s .slots);
-          slots-sound = subst SlotsSound (sym dropped-is) (list-sound (dropOf (s .slots) marks) (drop-sound (s .slots) marks slot-list (T .order-64)));
+          slots-sound = subst L.Sound (sym dropped-is) (drop-sound (s .slots) marks (S .slots) (T .order-64));
           lengths-fit = rw held-left (All-keep left (λ x h e. h) (answers .lengths-fit));
           keys-sound = rw held-left (All-keep left (λ x h e. h) (answers .keys-sound));
           once = ap (heldTwice (s .keys)) dropped-is ∙ drop-once (s .keys) (s .slots) marks (answers .once);
@@ -166,15 +159,15 @@ module _ (s : State) (S : Sound s) where
       where
         go : Dec (s .slots .held < s .slots .count) → Others
         go (yes h) =
-            let F : TakenFree (s .slots) = taken-free (s .slots) slot-list (T .order-64) some h in
+            let F : TakenFree (s .slots) = taken-free (s .slots) (S .slots) (T .order-64) some h in
             record { others = heldSlots (s .slots); rest = []; before = sym (append-nil (heldSlots (s .slots))); held = F .held; apart = F .apart }
         go (no h) =
             let e : s .slots .held ≡ s .slots .count = omega (arith, S .slots .within) in
-            let H : TakenHeld (s .slots) = taken-held (s .slots) slot-list (T .order-64) some e in
+            let H : TakenHeld (s .slots) = taken-held (s .slots) (S .slots) (T .order-64) some e in
             record { others = H .others; rest = last ∷ []; before = H .before; held = H .held; apart = H .apart }
 
     last-below : last < s .slots .count
-    last-below = taken-below (s .slots) slot-list (T .order-64) some
+    last-below = taken-below (s .slots) (S .slots) (T .order-64) some
 
     module _ (key : Key) (r : List ℕ) (ok : KeySound s key) (least : least-slot-bytes ≤ length r) (most : length r ≤ s .«slot_bytes»)
         (new : All (λ (x : ℕ). keyRead (slotKey (s .keys) x) ≢ keyRead key) (heldSlots (s .slots))) where
@@ -206,13 +199,13 @@ module _ (s : State) (S : Sound s) where
 
       put-answers : (O : Others) → Answers s (takenOf (s .slots) .slots) keys′ lengths′
       put-answers O = record {
-        count-same = ap (λ t. t .slots .count) (taken-is (s .slots) slot-list (T .order-64) some);
-        slots-sound = list-sound (takenOf (s .slots) .slots) (taken-sound (s .slots) slot-list (T .order-64) some);
+        count-same = ap (λ t. t .slots .count) (taken-is (s .slots) (S .slots) (T .order-64) some);
+        slots-sound = taken-sound (s .slots) (S .slots) (T .order-64) some;
         lengths-fit = rw (O .held)
             (cons (subst Fit (sym length-here) (least, most)) (still-have O (λ x h L. subst Fit (sym (length-there x h)) L) (answers .lengths-fit)));
         keys-sound = rw (O .held)
             (cons (subst (KeySound s) (sym key-here) ok) (still-have O (λ x h K. subst (KeySound s) (sym (key-there x h)) K) (answers .keys-sound)));
-        once = put-once (s .keys) (s .slots) key slot-list (T .order-64) some (T .keys-64) (answers .once) new;
+        once = put-once (s .keys) (s .slots) key (S .slots) (T .order-64) some (T .keys-64) (answers .once) new;
       }
 
       pub put-stays : Sound (putIn s key r (takenOf (s .slots)))
