@@ -1,8 +1,6 @@
 -- `is_sound` meets its contract. Assumes nothing.
 use borrow.Author.Needs.{needs}
-use mathlib.Core.Path.{_≡_, ap₂, _∙_}
-use mathlib.Core.Bool.{Bool, _&&_}
-use lib.Dec.{leb}
+use mathlib.Core.Path.{_≡_}
 use lib.ListN.{length, length-map}
 use Rattle.soundness.proofs.Comparisons.{condition-long, condition-short}
 use Rattle.soundness.proofs.conditions.is_sound.Statement.{statement}
@@ -31,8 +29,8 @@ returns-2 : tie.Need-returns-2
 returns-2 c =
     let s = c .before .before .before .before .before .before in
     let a = s .args in
-    ap₂ (λ (x y : Bool). (leb (a .parameters) 8 && x) && y) (c .before .steps-are-sound .ensures) (c .comparisons-are-sound .ensures)
-    ∙ condition-short (a .columns) (a .m) (a .parameters) (a .c) (c .before .before .before .before .if1 .left) (fifteen s) (eight s)
+    rw (c .before .steps-are-sound .ensures, c .comparisons-are-sound .ensures)
+    (condition-short (a .columns) (a .m) (a .parameters) (a .c) (c .before .before .before .before .if1 .left) (fifteen s) (eight s))
 
 pub is-sound-spec : {M : Type 1} → statement M
 is-sound-spec =
