@@ -1,2 +1,3 @@
+pub mod Sounds
 pub mod Model
 pub mod Finds
