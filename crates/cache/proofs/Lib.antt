@@ -1,3 +1,4 @@
 pub mod Sounds
 pub mod Model
 pub mod Finds
+pub mod Caches
