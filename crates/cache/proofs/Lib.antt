@@ -1,4 +1,9 @@
 pub mod Sounds
+pub mod Areas
+pub mod Meanings
+pub mod Standing
+pub mod Refused
+pub mod Asking
 pub mod Model
 pub mod Finds
 pub mod Caches
