@@ -165,6 +165,15 @@ module _ (s : State) (T : Typed s) (S : Sound s) (memory : List ℕ) where
     unfolding kept keptMemory takenOf
     cached-put = put-by (fitsSlot s r) (isOpen (s .slots)) refl
 
+    -- it changes the kept answers alone
+    pub kept-is : (l : SlotList) × (ks : List Key) × (ns : List ℕ) × (kept s key r ≡ withCache s l ks ns)
+    unfolding kept withCache
+    kept-is = go (fitsSlot s r && takenOf (s .slots) .there)
+      where
+        go : (b : Bool) → (l : SlotList) × (ks : List Key) × (ns : List ℕ) × (cond b (calls.putIn s key r (takenOf (s .slots))) s ≡ withCache s l ks ns)
+        go true = (takenOf (s .slots) .slots, set (s .keys) (takenOf (s .slots) .slot) key, set (s .lengths) (takenOf (s .slots) .slot) (length r), refl)
+        go false = (s .slots, s .keys, s .lengths, refl)
+
   -- ---- the kept memory, which has room for the slots
 
   module _ (lent : length memory ≡ s .memory) where

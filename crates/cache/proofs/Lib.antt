@@ -7,3 +7,4 @@ pub mod Asking
 pub mod Model
 pub mod Finds
 pub mod Caches
+pub mod Follows
