@@ -12,7 +12,7 @@ use lib.IntN.{ℤ}
 use lib.ListN.{length, getD}
 use Rattle.lists.specs.Lists.{All, nil, cons, written}
 use Rattle.lists.proofs.Bools.{and-right, not-false}
-use Rattle.lists.proofs.Lists.{All-head, All-right, All-map, All-every}
+use Rattle.lists.proofs.Lists.{All-head, All-right, All-map, All-every, All-getD}
 use Rattle.meaning.specs.Key.{Key, sameKey}
 use Rattle.meaning.specs.Limits.{most-slots, most-marks}
 use Rattle.meaning.specs.Plain as P
@@ -31,6 +31,8 @@ use Rattle.slots.specs.declared.Found.the-variants.{At, Nothing}
 use Rattle.slots.specs.Keys.{keyRead, slotKey, keyOf}
 use Rattle.slots.specs.Order.{heldSlots, frontOf}
 use Rattle.cache.specs.declared.State.{State}
+use Rattle.cache.specs.declared.Added.{Added}
+use Rattle.cache.specs.declared.Flushed.{Flushed}
 use Rattle.cache.specs.Sound.{soundState, lengthAt, queryAt}
 use Rattle.cache.specs.Means.{Means, Typed}
 use Rattle.cache.specs.Calls as calls
@@ -222,3 +224,137 @@ module _ (s : Store) (p : Plain) (Ty : Typed (s .state)) (h : soundState (s .sta
           let A = key-asked (lengthsLent s) p (asKey n vs) (sym (ask-number s p Ty h m n vs buffer) ∙ e) in
           found-meets A (foundIn (s .state) n vs) (find-is (s .state .keys) (s .state .lengths) n vs (few-values A) (s .state .slots) below)
       go (suc k) e = refused-meets s p m buffer (suc k)
+
+-- ---- a text, an update, a flush: what they get, and the plain store after them, is known
+
+-- which kept answers an update drops: those that it matches on the plain store
+abbrev pub MatchedIs : Type 0
+MatchedIs = (s : Store) (n : ℕ) (us : List ℤ) (p : Plain) → Typed (s .state) → soundState (s .state) ≡ true → Means (s .state) (s .cells) p
+    → refusal (lengthsLent s) p (P.change n us) ≡ 0
+    → All (λ x. isMatched (s .state) (updateAt (s .state) n) us x ≡ matchesKey p n us (keyRead (slotKey (s .state .keys) x))) (heldSlots (s .state .slots))
+
+module _ (does-as-plain : DoesAsPlain) (matched-is : MatchedIs) (s : Store) (p : Plain) (Ty : Typed (s .state)) (h : soundState (s .state) ≡ true)
+    (m : Means (s .state) (s .cells) p) where
+  abbrev lent : Lengths
+  lent = lengthsLent s
+
+  abbrev bytes : ℕ
+  bytes = s .state .«slot_bytes»
+
+  -- a text leaves the kept answers
+  abbrev Leaves : Added → Type 0
+  Leaves a = (cacheOf (a .state) (s .memory) ≡ cacheOf (s .state) (s .memory)) × (a .state .«slot_bytes» ≡ bytes)
+
+  added-leaves : (k : ℕ) (c : Statement) → Leaves (addedOf k (s .state) c)
+  added-leaves zero c = (refl, refl)
+  added-leaves (suc zero) c = (refl, refl)
+  added-leaves (suc (suc zero)) c = (refl, refl)
+  added-leaves (suc (suc (suc zero))) c = (refl, refl)
+  added-leaves (suc (suc (suc (suc k)))) c = (refl, refl)
+
+  text-leaves : (text : List ℕ) → Leaves (addOf (s .state) (length (s .cells)) (length (s .memory)) text)
+  unfolding addOf settled addedBy
+  text-leaves text = go (addRefusal (s .state) (length (s .cells)) (length (s .memory)) text)
+    where
+      go : (k : ℕ) → Leaves (settled k (addedBy (s .state) (compiledBeside (s .state) text)) (addRefused (s .state) k))
+      go zero = added-leaves (compiledBeside (s .state) text .kind) (compiledBeside (s .state) text)
+      go (suc k) = (refl, refl)
+
+  plain-guard : (k : ℕ) (d : Plain × Out)
+      → guard k (modelOf s p) turned (record { store = d .0; cache = modelOf s p .cache }, plainly (d .1))
+      ≡ (record { store = guard k p refused d .0; cache = modelOf s p .cache }, plainly (guard k p refused d .1))
+  plain-guard zero d = refl
+  plain-guard (suc k) d = refl
+
+  add-meets : (text : List ℕ) → Meets s [] (step s (add text)) (T.step lent bytes (modelOf s p) (P.add text))
+  unfolding step
+  add-meets text =
+      let D = does-as-plain s (add text) p Ty h m tt in
+      subst (Meets s [] (step s (add text))) (sym (plain-guard (refusal lent p (P.add text)) (does p (P.add text))))
+      (record {
+        means = D .1;
+        cached = sym (text-leaves text .0);
+        cells-long = refl;
+        memory-long = refl;
+        bytes-same = text-leaves text .1;
+        got = D .0;
+        kept = refl;
+        scanned = refl;
+      })
+
+  -- numbers of a refusal that the two stores give: both 0, or neither
+  one-zero : {X : Type 0} (k : ℕ) → 0 ≡ suc k → X
+  one-zero k e = absurd (omega arith)
+
+  eight : (n : ℕ) → length (updateAt (s .state) n .settings) ≡ 8
+  eight n = All-getD n noUpdate refl (All-map (λ u f. f .eight) (Ty .updates-fit))
+
+  module _ (n : ℕ) (us : List ℤ) where
+    abbrev done : Updates
+    done = updateDone (s .state) (s .cells) (updateAt (s .state) n) us
+
+    -- refused with j, or done
+    abbrev outcome : ℕ → Updates
+    outcome j = settled j done (updates (updateRefused (s .state) j) (s .cells))
+
+    drops-meet : refusal lent p (P.change n us) ≡ 0 → stepUpdate s done .1 .got ≡ gotOf [] (does p (P.change n us) .1)
+        → Means (done .result .state) (done .cells) (does p (P.change n us) .0)
+        → Meets s [] (stepUpdate s done) (dropping lent bytes (modelOf s p) (P.change n us) (matchesKey p n us))
+    unfolding updateDone withChange
+    drops-meet e g M = record {
+      means = M;
+      cached =
+          sym (cached-drop (s .state) Ty (sound-is (s .state) h) (s .memory) (isMatched (s .state) (updateAt (s .state) n) us) (matchesKey p n us) (matched-is s n us p Ty h m e));
+      cells-long = cells-length (updateAt (s .state) n) _ _ (s .cells) us (eight n);
+      memory-long = refl;
+      bytes-same = refl;
+      got = g;
+      kept = refl;
+      scanned = refl;
+    }
+
+    by-number : (j k : ℕ) → refusal lent p (P.change n us) ≡ k → stepUpdate s (outcome j) .1 .got ≡ gotOf [] (guard k p refused (does p (P.change n us)) .1)
+        → Means (outcome j .result .state) (outcome j .cells) (guard k p refused (does p (P.change n us)) .0)
+        → Meets s [] (stepUpdate s (outcome j)) (guard k (modelOf s p) turned (dropping lent bytes (modelOf s p) (P.change n us) (matchesKey p n us)))
+    unfolding settled updateDone
+    by-number zero zero e g M = drops-meet e g M
+    by-number zero (suc k) e g M = one-zero k (ap (λ (x : Got). x .refusal) g)
+    by-number (suc j) zero e g M = one-zero j (sym (ap (λ (x : Got). x .refusal) g))
+    by-number (suc j) (suc k) e g M = subst (λ (i : ℕ). Meets s [] (stepUpdate s (outcome (suc j))) (modelOf s p, turned i)) (ap (λ (x : Got). x .refusal) g) (refused-meets s p m [] (suc j))
+
+    update-meets : Meets s [] (step s (update n us)) (T.step lent bytes (modelOf s p) (P.change n us))
+    unfolding step updateOf
+    update-meets =
+        let D = does-as-plain s (update n us) p Ty h m tt in
+        by-number (updateRefusal (s .state) (length (s .cells)) (length (s .memory)) n (length us)) (refusal lent p (P.change n us)) refl (D .0) (D .1)
+
+  -- a flush drops every answer
+  flushed-by : (b : Bool) (k : ℕ) → stepFlush s (cond b (record { refusal = 2; state = s .state }) (record { refusal = 0; state = emptied (s .state) })) .1 .got ≡ gotOf [] (guard k p refused (does p P.flush) .1)
+      → Meets s [] (stepFlush s (cond b (record { refusal = 2; state = s .state }) (record { refusal = 0; state = emptied (s .state) })))
+      (guard k (modelOf s p) turned (dropping lent bytes (modelOf s p) P.flush (λ x. true)))
+  unfolding withCache
+  flushed-by true zero g = one-zero 1 (sym (ap (λ (x : Got). x .refusal) g))
+  flushed-by true (suc k) g = subst (λ (i : ℕ). Meets s [] (stepFlush s (record { refusal = 2; state = s .state })) (modelOf s p, turned i)) (ap (λ (x : Got). x .refusal) g) (refused-meets s p m [] 2)
+  flushed-by false (suc k) g = one-zero k (ap (λ (x : Got). x .refusal) g)
+  flushed-by false zero g = record {
+    means = cache-means (s .state) (s .cells) p m _ (s .state .keys) (s .state .lengths);
+    cached = sym (cached-drop (s .state) Ty (sound-is (s .state) h) (s .memory) (λ x. true) (λ k. true) (All-every (λ x. refl) (heldSlots (s .state .slots))));
+    cells-long = refl;
+    memory-long = refl;
+    bytes-same = refl;
+    got = g;
+    kept = refl;
+    scanned = refl;
+  }
+
+  flush-meets : Meets s [] (step s flush) (T.step lent bytes (modelOf s p) P.flush)
+  unfolding step flushOf
+  flush-meets = flushed-by (unfit (s .state) (length (s .cells)) (length (s .memory))) (refusal lent p P.flush) (does-as-plain s flush p Ty h m tt .0)
+
+  -- ---- every call
+
+  pub step-meets : (c : Call) → Meets s (bufferOf c) (step s c) (T.step lent bytes (modelOf s p) (plainCall c))
+  step-meets (add text) = add-meets text
+  step-meets (ask n vs buffer) = ask-meets s p Ty h m n vs buffer
+  step-meets (update n us) = update-meets n us
+  step-meets flush = flush-meets
