@@ -8,3 +8,7 @@ pub mod Model
 pub mod Finds
 pub mod Caches
 pub mod Follows
+pub mod Refusals
+pub mod StaysCases
+pub mod StaysCompiled
+pub mod Typed

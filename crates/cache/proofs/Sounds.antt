@@ -1,8 +1,8 @@
 -- Soundness part by part: what the test of a state says, as a record, both ways; and what it says of the table, the statement or the held slot at a place.
 -- Assumes nothing.
-use mathlib.Core.Path.{_≡_, refl, sym, ap, _∙_, subst}
-use mathlib.Core.Bool.{Bool, true, false, not, _&&_, _||_}
-use mathlib.Core.List.{List, [], map}
+use mathlib.Core.Path.{_≡_, sym, ap, _∙_, subst}
+use mathlib.Core.Bool.{Bool, true, false, not}
+use mathlib.Core.List.{List, []}
 use Prim.Native.Nat.{ℕ, suc, _+_, _*_, _≤_, _<_}
 use native.Mathlib.Nat.{mul-le-mul-right, suc-mul}
 use native.Mathlib.Omega.{arith}
@@ -26,14 +26,14 @@ use Rattle.statement.specs.Sound as S
 use Rattle.statement.specs.Sound.{soundQuery, soundUpdate, TablesFit}
 use Rattle.statement.proofs.SoundNames.{or-none}
 use Rattle.statement.proofs.SoundTables.{tables-fit as all-fit}
-use Rattle.statement.proofs.Stored.{all-of, all-map}
+use Rattle.statement.proofs.Stored.{all-of}
 use Rattle.soundness.specs.Soundness.{tablesSound, queriesSound, updatesSound}
 use Rattle.slots.specs.declared.Key.{Key}
 use Rattle.slots.specs.declared.SlotList.{SlotList}
 use Rattle.slots.specs.Keys.{slotKey, heldKeys, sameKey, heldTwice}
 use Rattle.slots.specs.Order.{slotsOf, heldSlots, soundSlots}
 use Rattle.cache.specs.declared.State.{State}
-use Rattle.cache.specs.Sound.{opening, soundSizes, soundCounts, usedTables, areasOf, soundAreas, rowsFit, soundRows, soundTexts, lengthAt, lengthFits, soundLengths, queryAt, soundKey, soundKeys, soundTables, soundAnswers, soundState}
+use Rattle.cache.specs.Sound.{opening, soundSizes, soundCounts, usedTables, areasOf, soundAreas, rowsFit, soundRows, lengthAt, lengthFits, soundLengths, queryAt, soundKey, soundKeys, soundTables, soundAnswers, soundState}
 use Rattle.cache.specs.Calls.{tableAt, updateAt}
 use Rattle.cache.specs.Means.{usedQueries, usedUpdates, Typed}
 
