@@ -38,11 +38,7 @@ use Rattle.cache.specs.Run as R
 use Rattle.cache.specs.Demand.{lengthsLent}
 use Rattle.cache.proofs.Meanings.{table-at, query-count, query-at}
 use Rattle.cache.proofs.Standing.{Standing, standing, query-table}
-use Rattle.cache.proofs.Refused.{same-else, unfit-is}
-
--- a call gets what the plain store gives, and leaves what stands for what the plain store is then
-abbrev pub Same : List ℕ → Store × Seen → Plain × Out → Type 0
-Same buffer r q = (r .1 .got ≡ gotOf buffer (q .1)) × Means (r .0 .state) (r .0 .cells) (q .0)
+use Rattle.cache.proofs.Refused.{Same, same-else, unfit-is}
 
 -- other kept answers, the same plain store
 pub cache-means : (s : State) (cells : List ℤ) (p : Plain) → Means s cells p → (slots : SlotList) (keys : List Stored) (lengths : List ℕ)

@@ -2,15 +2,22 @@
 use mathlib.Core.Path.{_≡_, refl, sym, ap, ap₂, _∙_}
 use mathlib.Core.Bool.{Bool, true, false, not, _&&_, _||_}
 use Prim.Native.Nat.{ℕ}
+use borrow.Author.Tests.{eqb-true}
 use lib.Dec.{eqb}
 use lib.IntN.{ℤ}
 use lib.ListN.{length}
 use mathlib.Core.List.{List}
-use Rattle.meaning.specs.Plain.{Lengths, Plain, otherLengths, orElse}
+use Rattle.lists.proofs.Bools.{and-left, not-false}
+use Rattle.meaning.specs.Plain.{Lengths, Plain, Out, otherLengths, orElse}
 use Rattle.cache.specs.declared.State.{State}
 use Rattle.cache.specs.Sound.{soundState}
 use Rattle.cache.specs.Means.{Means}
 use Rattle.cache.specs.Calls.{unfit}
+use Rattle.cache.specs.Run.{Store, Seen, gotOf}
+
+-- a call gets what the plain store gives, and leaves what stands for what the plain store is then
+abbrev pub Same : List ℕ → Store × Seen → Plain × Out → Type 0
+Same buffer r q = (r .1 .got ≡ gotOf buffer (q .1)) × Means (r .0 .state) (r .0 .cells) (q .0)
 
 -- of two lists with the same first condition, the rest counts only where that fails
 pub same-else : (n : ℕ) (a b : Bool) (x y : ℕ) → a ≡ b → (b ≡ false → x ≡ y) → orElse a n x ≡ orElse b n y
@@ -27,3 +34,10 @@ unfolding unfit otherLengths
 unfit-is s cells p h m a b =
     ap (λ c. not c || not (eqb a (s .cells) && eqb b (s .memory))) h
     ∙ ap₂ (λ x y. not (eqb a x && eqb b y)) (sym (m .cells-are)) (sym (m .memory-is))
+
+-- where it does not apply, the cells have the state's length
+pub lengths-same : (s : State) (cells : List ℤ) (p : Plain) → Means s cells p → (lent : Lengths) → otherLengths lent p ≡ false → lent .cells ≡ s .cells
+unfolding otherLengths
+lengths-same s cells p m lent h =
+    eqb-true (lent .cells) (p .lengths .cells) (and-left (eqb (lent .cells) (p .lengths .cells)) _ (not-false (eqb (lent .cells) (p .lengths .cells) && eqb (lent .memory) (p .lengths .memory)) h))
+    ∙ m .cells-are
