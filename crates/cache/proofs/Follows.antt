@@ -1,5 +1,4 @@
--- A call on a sound state does what it does in the model of crate `trace`: the plain store beside the kept answers. Assumes nothing; what is shown elsewhere of the
--- calls (DoesAsPlain, and which answers an update drops) comes as parameters.
+-- A call on a sound state does what it does in the model of crate `trace`: the plain store beside the kept answers. Assumes nothing.
 use mathlib.Core.Path.{_≡_, refl, sym, ap, ap₂, _∙_, subst}
 use mathlib.Core.Bool.{Bool, true, false, not, _&&_, cond}
 use mathlib.Core.Option.{Option, none, some}
@@ -38,12 +37,13 @@ use Rattle.cache.specs.Means.{Means, Typed}
 use Rattle.cache.specs.Calls as calls
 use Rattle.cache.specs.Calls.{settled, addedOf, addedBy, addRefusal, addOf, compiledBeside, addRefused, Asks, asks, askRefused, askRefusal, withCache, bytesAt, cachedLength, askCached, kept, keptMemory, rowsAt, recordAt, askNew, askFound, foundIn, askOf, Updates, updates, updateAt, updateRefused, updateRefusal, isMatched, withChange, updateDone, updateOf, unfit, emptied, flushOf}
 use Rattle.cache.specs.Run.{Store, Call, add, ask, update, flush, Got, Seen, stepAdd, stepAsk, stepUpdate, stepFlush, step, plainCall, bufferOf, gotOf}
-use Rattle.cache.specs.Demand.{lengthsLent, DoesAsPlain}
+use Rattle.cache.specs.Demand.{lengthsLent}
 use Rattle.cache.proofs.Sounds.{Sound, sound-is, held-below, held-sound, query-at}
 use Rattle.cache.proofs.Standing.{Standing, standing}
 use Rattle.cache.proofs.Meanings.{query-count}
 use Rattle.cache.proofs.Meanings as meanings
 use Rattle.cache.proofs.Asking.{cache-means, rows-asked, record-is, ask-number}
+use Rattle.cache.proofs.Plainly.{does-as-plain}
 use Rattle.cache.proofs.Model.{heldIn, cacheOf, place-is}
 use Rattle.cache.proofs.Finds.{asKey, key-read, Finds, find-is}
 use Rattle.cache.proofs.Caches.{cached-front, cached-drop, cached-count, cached-put, kept-is, bytes-long, kept-long}
@@ -233,7 +233,7 @@ MatchedIs = (s : Store) (n : ℕ) (us : List ℤ) (p : Plain) → Typed (s .stat
     → refusal (lengthsLent s) p (P.change n us) ≡ 0
     → All (λ x. isMatched (s .state) (updateAt (s .state) n) us x ≡ matchesKey p n us (keyRead (slotKey (s .state .keys) x))) (heldSlots (s .state .slots))
 
-module _ (does-as-plain : DoesAsPlain) (matched-is : MatchedIs) (s : Store) (p : Plain) (Ty : Typed (s .state)) (h : soundState (s .state) ≡ true)
+module _ (matched-is : MatchedIs) (s : Store) (p : Plain) (Ty : Typed (s .state)) (h : soundState (s .state) ≡ true)
     (m : Means (s .state) (s .cells) p) where
   abbrev lent : Lengths
   lent = lengthsLent s

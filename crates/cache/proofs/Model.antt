@@ -20,6 +20,7 @@ use Rattle.slots.specs.Keys.{noKey, keyRead, slotKey}
 use Rattle.slots.specs.Order.{heldSlots, freeSlots, front, frontOf, isOpen, heldMore, takenOf}
 use Rattle.cache.specs.declared.State.{State}
 use Rattle.cache.specs.Calls as calls
+use Rattle.cache.proofs.Typed.{dropped-length}
 
 -- ---- the cache of a slot list, with the keys and the lengths by slot
 
@@ -45,16 +46,6 @@ module _ {A : Type 0} where
       let l : length (a ++ x ∷ []) ≡ p + 1 = length-append a (x ∷ []) ∙ ap (λ (n : ℕ). n + 1) h in
       ap₂ (λ u v. take 1 u ++ v) (drop-at a (x ∷ b) p h)
       (ap₂ (λ u v. u ++ v) (take-at a (x ∷ b) p h) (ap (drop (p + 1)) (sym (append-snoc a x b)) ∙ drop-at (a ++ x ∷ []) b (p + 1) l))
-
-  -- those that pass a test, and those that do not
-  pub kept-rest : (p : A → Bool) (l : List A) → length (keep (λ (x : A). not (p x)) l) + length (keep p l) ≡ length l
-  kept-rest p [] = refl
-  kept-rest p (x ∷ l) = go (p x) (kept-rest p l)
-    where
-      go : (b : Bool) → length (keep (λ (x : A). not (p x)) l) + length (keep p l) ≡ length l
-          → length (consIf (not b) x (keep (λ (x : A). not (p x)) l)) + length (consIf b x (keep p l)) ≡ suc (length l)
-      go true e = omega arith
-      go false e = omega arith
 
   -- tests that agree on the members keep the same
   pub keep-same : (p q : A → Bool) {l : List A} → All (λ x. p x ≡ q x) l → keep p l ≡ keep q l
@@ -131,7 +122,9 @@ module _ (l : SlotList) (within : l .held ≤ l .count) (inside : l .count ≤ l
     pub drop-free : freeSlots (calls.dropBy p l) ≡ gone ++ freeSlots l
     unfolding calls.dropBy
     drop-free =
-        let r : length left + length gone ≡ l .held = kept-rest p (heldSlots l) ∙ held-long in
+        let e : length ((left ++ gone) ++ behindHeld) ≡ length (l .order) = dropped-length p l in
+        let r : length left + length gone ≡ l .held =
+        omega (arith, length-append (left ++ gone) behindHeld, length-append left gone, length-drop (l .held) (l .order)) in
         let n : l .count - length left ≡ length gone + (l .count - l .held) = omega arith in
         free-are (calls.dropBy p l) left (gone ++ behindHeld) dropped-order refl (omega arith)
         ∙ ap (λ (k : ℕ). take k (gone ++ behindHeld)) n
