@@ -15,3 +15,4 @@ pub mod Model
 pub mod Finds
 pub mod Caches
 pub mod Follows
+pub mod Demand
