@@ -3,3 +3,4 @@ pub mod Calls
 pub mod Means
 pub mod Run
 pub mod Demand
+pub mod Examples
