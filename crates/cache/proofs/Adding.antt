@@ -1,15 +1,15 @@
 -- A text gets from a sound state what it gets from the plain store: it is judged by the tables' TABLE texts, the numbers of statements and the cells alone, and what is
 -- added is the compiled form of its sentence's statement. Assumes nothing.
 use mathlib.Core.Path.{_≡_, refl, sym, ap, ap₂, _∙_, subst, subst₂}
-use mathlib.Core.Bool.{Bool, true, false, not, _&&_, _||_, cond}
+use mathlib.Core.Bool.{Bool, true, false, _||_, cond}
 use mathlib.Core.Option.{Option, none, some}
-use mathlib.Core.List.{List, [], _∷_, _++_, map}
+use mathlib.Core.List.{List, [], _∷_, _++_}
 use Prim.Native.Nat.{ℕ, zero, suc, _+_, _*_, _-_, _<_}
 use native.Mathlib.Omega.{arith}
 use borrow.Author.Tests.{leb-false}
 use lib.Dec.{leb, ltb}
 use lib.IntN.{ℤ, natAbs}
-use lib.ListN.{length, take, set, replicate, length-map, length-replicate}
+use lib.ListN.{length, take, set, length-map, length-replicate}
 use lib.Seq.{take-suc-set}
 use Rattle.lists.proofs.Bools.{or-left}
 use Rattle.meaning.specs.Cells.{areasSize}
@@ -21,32 +21,32 @@ use Rattle.meaning.specs.Names.{Schema, unknown, taken, miscounted}
 use Rattle.meaning.specs.Statement as M
 use Rattle.meaning.specs.Statement.{Statement, creates, asks, changes, statementOf}
 use Rattle.meaning.specs.Plain as P
-use Rattle.meaning.specs.Plain.{Lengths, Plain, schemas, noPlace, isNone, itsSentence, otherLengths, add, refused, Out, guard, orElse, lowestOf, refusal, adding, placed, addedText, does}
+use Rattle.meaning.specs.Plain.{Plain, schemas, noPlace, isNone, itsSentence, otherLengths, add, orElse, lowestOf, refusal, adding, placed, addedText}
 use Rattle.meaning.specs.Demand.{Acceptable}
 use Rattle.meaning.proofs.Accepted.{text-taken}
 use Rattle.statement.specs.declared.Table.{Table}
 use Rattle.statement.specs.declared.Query.{Query}
 use Rattle.statement.specs.declared.Update.{Update}
 use Rattle.statement.specs.declared.Statement.{Statement as Struct}
-use Rattle.statement.specs.Catalog.{schemaOf, schemasOf, catalog}
+use Rattle.statement.specs.Catalog.{schemaOf, catalog}
 use Rattle.statement.specs.Compiled.{tableStruct, queryStruct, updateStruct, structOf, textConditions, structOfText, compiledOf}
 use Rattle.statement.specs.Compiled as C
-use Rattle.statement.specs.Sound.{AgreesTable, AgreesQuery, AgreesUpdate}
+use Rattle.statement.specs.Sound.{AgreesQuery, AgreesUpdate}
 use Rattle.statement.proofs.Compiles.{schemas-are}
 use Rattle.statement.proofs.SoundCompiled.{table-agrees, query-agrees, update-agrees}
-use Rattle.table.specs.Evaluated.{rowCells, rowsUsed}
+use Rattle.table.specs.Evaluated.{rowCells}
 use Rattle.cache.specs.declared.State.{State}
-use Rattle.cache.specs.declared.Added.{Added}
 use Rattle.cache.specs.Sound.{usedTables, areasOf, soundState}
-use Rattle.cache.specs.Means.{tablesFrom, usedQueries, usedUpdates, Compiled, Means, Typed}
-use Rattle.cache.specs.Calls.{settled, unfit, compiledBeside, addRefused, addedTable, addedQuery, addedUpdate, addedBy, addRefusal, addOf}
+use Rattle.cache.specs.Means.{tablesFrom, Compiled, Means, Typed}
+use Rattle.cache.specs.Calls.{settled, compiledBeside, addRefused, addedTable, addedQuery, addedUpdate, addedBy, addRefusal, addOf}
 use Rattle.cache.specs.Run.{Store, stepAdd, step}
 use Rattle.cache.specs.Run as R
 use Rattle.cache.specs.Demand.{lengthsLent}
 use Rattle.cache.proofs.Areas.{tableIn, tables-append}
-use Rattle.cache.proofs.Meanings.{compiled-more, schemas-mean, table-count, query-count, update-count}
-use Rattle.cache.proofs.Standing.{Standing, standing}
-use Rattle.cache.proofs.Refused.{Same, same-else, unfit-is}
+use Rattle.cache.proofs.Sounds.{Sound, sound-is}
+use Rattle.cache.proofs.Standing.{compiled-more}
+use Rattle.cache.proofs.Meanings.{schemas-mean, table-count, query-count, update-count}
+use Rattle.cache.proofs.Refused.{Same, settled-same, unfit-is}
 
 -- ---- what a text is judged by
 
@@ -117,10 +117,10 @@ take-more l n x h =
 
 -- ---- the statement added, beside what the state stands for
 
-module _ (s : State) (T : Typed s) (S : Standing s) (cells : List ℤ) (p : Plain) (m : Means s cells p) where
+module _ (s : State) (T : Typed s) (S : Sound s) (cells : List ℤ) (p : Plain) (m : Means s cells p) where
   table-stands : (t : Schema) → length (p .tables) < most-tables → Means (addedTable s (tableStruct t) .state) cells (adding p (creates t))
   table-stands t h =
-      let few : s .«table_count» < length (s .tables) = omega (arith, T .eight-tables, table-count s cells p m (S .few-tables)) in
+      let few : s .«table_count» < length (s .tables) = omega (arith, T .eight-tables, table-count s T S cells p m) in
       record {
         cells-are = m .cells-are;
         memory-is = m .memory-is;
@@ -136,7 +136,7 @@ module _ (s : State) (T : Typed s) (S : Standing s) (cells : List ℤ) (p : Plai
   query-stands : (q : M.Query) → AgreesQuery (queryStruct q) q → length (p .queries) < most-queries
       → Means (addedQuery s (queryStruct q) .state) cells (adding p (asks q))
   query-stands q a h =
-      let few : s .«query_count» < length (s .queries) = omega (arith, T .sixteen-queries, query-count s cells p m (S .few-queries)) in
+      let few : s .«query_count» < length (s .queries) = omega (arith, T .sixteen-queries, query-count s T S cells p m) in
       record {
         cells-are = m .cells-are;
         memory-is = m .memory-is;
@@ -150,7 +150,7 @@ module _ (s : State) (T : Typed s) (S : Standing s) (cells : List ℤ) (p : Plai
   update-stands : (u : M.Update) → AgreesUpdate (updateStruct u) u → length (p .updates) < most-updates
       → Means (addedUpdate s (updateStruct u) .state) cells (adding p (changes u))
   update-stands u a h =
-      let few : s .«update_count» < length (s .updates) = omega (arith, T .sixteen-updates, update-count s cells p m (S .few-updates)) in
+      let few : s .«update_count» < length (s .updates) = omega (arith, T .sixteen-updates, update-count s T S cells p m) in
       record {
         cells-are = m .cells-are;
         memory-is = m .memory-is;
@@ -178,8 +178,8 @@ place-free p ts (G.delete t w) h = leb-false most-updates (length (p .updates)) 
 -- ---- the whole call
 
 module _ (s : Store) (p : Plain) (T : Typed (s .state)) (h : soundState (s .state) ≡ true) (m : Means (s .state) (s .cells) p) (text : List ℕ) where
-  S : Standing (s .state)
-  S = standing (s .state) T h
+  S : Sound (s .state)
+  S = sound-is (s .state) h
 
   abbrev beside : Plain
   beside =
@@ -188,14 +188,14 @@ module _ (s : Store) (p : Plain) (T : Typed (s .state)) (h : soundState (s .stat
   beside-schemas : schemas beside ≡ schemas p
   beside-schemas =
       schemas-are (s .state .tables) (s .state .«table_count») (s .state .«query_count») (s .state .«update_count») (s .state .cells)
-      ∙ sym (schemas-mean (s .state) (s .cells) p m)
+      ∙ sym (schemas-mean (s .state) T S (s .cells) p m)
 
   text-number : lowestOf (textConditions beside text) ≡ lowestOf (textConditions p text)
   text-number =
       ap lowestOf
       (conditions-same beside p beside-schemas
-      (length-replicate (s .state .«query_count») P.noQuery ∙ sym (query-count (s .state) (s .cells) p m (S .few-queries)))
-      (length-replicate (s .state .«update_count») P.noUpdate ∙ sym (update-count (s .state) (s .cells) p m (S .few-updates)))
+      (length-replicate (s .state .«query_count») P.noQuery ∙ sym (query-count (s .state) T S (s .cells) p m))
+      (length-replicate (s .state .«update_count») P.noUpdate ∙ sym (update-count (s .state) T S (s .cells) p m))
       (sym (m .cells-are)) text)
 
   compiled-number : compiledBeside (s .state) text .refusal ≡ lowestOf (textConditions p text)
@@ -235,15 +235,15 @@ module _ (s : Store) (p : Plain) (T : Typed (s .state)) (h : soundState (s .stat
     added-same : (x : Statement) → statement ≡ x → Free p x → Same [] (stepAdd s (addedBy (s .state) (structOf x))) (adding p x, placed p x)
     unfolding addedBy structOf
     added-same (creates t) q f = (
-      ap (λ n. R.gotOf [] (P.added P.aTable n)) (sym (table-count (s .state) (s .cells) p m (S .few-tables))),
+      ap (λ n. R.gotOf [] (P.added P.aTable n)) (sym (table-count (s .state) T S (s .cells) p m)),
       table-stands (s .state) T S (s .cells) p m t f,
     )
     added-same (asks r) q f = (
-      ap (λ n. R.gotOf [] (P.added P.aQuery n)) (sym (query-count (s .state) (s .cells) p m (S .few-queries))),
+      ap (λ n. R.gotOf [] (P.added P.aQuery n)) (sym (query-count (s .state) T S (s .cells) p m)),
       query-stands (s .state) T S (s .cells) p m r (query-agrees (schemas p) (its .0) r q) f,
     )
     added-same (changes u) q f = (
-      ap (λ n. R.gotOf [] (P.added P.anUpdate n)) (sym (update-count (s .state) (s .cells) p m (S .few-updates))),
+      ap (λ n. R.gotOf [] (P.added P.anUpdate n)) (sym (update-count (s .state) T S (s .cells) p m)),
       update-stands (s .state) T S (s .cells) p m u (update-agrees (schemas p) (its .0) u q) f,
     )
 
@@ -254,15 +254,7 @@ module _ (s : Store) (p : Plain) (T : Typed (s .state)) (h : soundState (s .stat
         (added-same statement refl (place-free p (schemas p) (its .0) (its .2 .place)))
 
   pub add-same : Same [] (step s (R.add text)) (P.step (lengthsLent s) p (add text))
-  unfolding step addOf settled
+  unfolding step addOf
   add-same =
-      subst
-      (λ k. Same [] (stepAdd s (settled k (addedBy (s .state) (compiledBeside (s .state) text)) (addRefused (s .state) k))) (P.step (lengthsLent s) p (add text)))
-      (sym add-number)
-      (go (refusal (lengthsLent s) p (add text)) refl)
-    where
-      go : (k : ℕ) → refusal (lengthsLent s) p (add text) ≡ k
-          → Same [] (stepAdd s (settled k (addedBy (s .state) (compiledBeside (s .state) text)) (addRefused (s .state) k)))
-          (guard k p refused (addedText p (sentence text)))
-      go zero e = done-same e
-      go (suc k) e = (refl, m)
+      settled-same (stepAdd s) (addedBy (s .state) (compiledBeside (s .state) text)) (addRefused (s .state)) [] s p (addedText p (sentence text)) m (λ k. refl) _ _
+      add-number done-same

@@ -1,11 +1,11 @@
 -- Tables in the cells, one area behind the other, as the plain store has them: what each is, one more, and one that an update changed. Assumes nothing.
 use mathlib.Core.Path.{_≡_, refl, sym, ap, ap₂, _∙_, subst}
-use mathlib.Core.Bool.{true, cond}
+use mathlib.Core.Bool.{cond}
 use mathlib.Core.List.{List, [], _∷_, _++_, map}
 use Prim.Native.Nat.{ℕ, zero, suc, _+_, _*_, _≤_, _<_}
 use native.Mathlib.Nat.{le-of-suc-le-suc, not-suc-le-zero, mul-le-mul-left, mul-comm}
 use native.Mathlib.Omega.{arith}
-use borrow.Author.Tests.{le-leb, leb-true}
+use borrow.Author.Tests.{le-leb}
 use lib.Dec.{leb}
 use lib.IntN.{ℤ}
 use lib.ListN.{length, getD, take, drop, set, length-map}
@@ -19,7 +19,7 @@ use Rattle.statement.specs.declared.Table.{Table}
 use Rattle.statement.specs.Catalog.{schemaOf}
 use Rattle.statement.specs.Compiled.{noTable}
 use Rattle.table.specs.Evaluated.{rowCells, rowsUsed}
-use Rattle.cache.specs.Sound.{areasOf, rowsFit}
+use Rattle.cache.specs.Sound.{areasOf}
 use Rattle.cache.specs.Means.{tablesFrom}
 use Rattle.cache.specs.Calls.{withRows}
 
@@ -76,12 +76,12 @@ rows-used t start cells r h = rw (le-leb (start + rowCells t) (length cells) (ro
 -- ---- other cells
 
 -- the rows of the tables are the same where their cells are
-pub tables-same : (start : ℕ) (ts : List Table) (cells cells′ : List ℤ) → length cells′ ≡ length cells → All (λ t. rowsFit t ≡ true) ts
+pub tables-same : (start : ℕ) (ts : List Table) (cells cells′ : List ℤ) → length cells′ ≡ length cells → All (λ (t : Table). t .rows ≤ t .capacity) ts
     → ((a c n : ℕ) → start ≤ a → a + n * c ≤ start + areasOf ts → rowsIn c n (drop a cells′) ≡ rowsIn c n (drop a cells))
     → tablesFrom start ts cells′ ≡ tablesFrom start ts cells
 tables-same start [] cells cells′ l F f = refl
 tables-same start (t ∷ ts) cells cells′ l F f =
-    let r : t .rows ≤ t .capacity = leb-true (t .rows) (t .capacity) (All-head F) in
+    let r : t .rows ≤ t .capacity = All-head F in
     let k : t .count * t .rows ≤ t .count * t .capacity = mul-le-mul-left (t .count) r in
     let c : t .rows * t .count ≡ t .count * t .rows = mul-comm (t .rows) (t .count) in
     let own : rowsIn (t .count) (t .rows) (drop start cells′) ≡ rowsIn (t .count) (t .rows) (drop start cells) =
@@ -96,7 +96,7 @@ from-length start ts cells =
     sym (length-map (tablesFrom start ts cells) (λ (t : P.Table). t .schema)) ∙ ap length (schemas-from start ts cells) ∙ length-map ts schemaOf
 
 -- one table has other rows, and all cells but its area are as they were
-module _ (ts : List Table) (F : All (λ t. rowsFit t ≡ true) ts) (i : ℕ) (h : i < length ts) (n : ℕ) (cells cells′ : List ℤ) (l : length cells′ ≡ length cells) where
+module _ (ts : List Table) (F : All (λ (t : Table). t .rows ≤ t .capacity) ts) (i : ℕ) (h : i < length ts) (n : ℕ) (cells cells′ : List ℤ) (l : length cells′ ≡ length cells) where
   abbrev t : Table
   t = getD ts i noTable
 
@@ -113,7 +113,7 @@ module _ (ts : List Table) (F : All (λ t. rowsFit t ≡ true) ts) (i : ℕ) (h 
         let first : tablesFrom 0 (take i ts) cells′ ≡ tablesFrom 0 (take i ts) cells =
         tables-same 0 (take i ts) cells cells′ l (All-take i F) (λ a c n x y. before a c n (omega arith)) in
         let later : tablesFrom (start + t .count * t .capacity) rest cells′ ≡ tablesFrom (start + t .count * t .capacity) rest cells =
-        tables-same (start + t .count * t .capacity) rest cells cells′ l (All-tail (All-right (take i ts) (subst (All (λ t. rowsFit t ≡ true)) split F)))
+        tables-same (start + t .count * t .capacity) rest cells cells′ l (All-tail (All-right (take i ts) (subst (All (λ (t : Table). t .rows ≤ t .capacity)) split F)))
         (λ a c n x y. behind a c n x) in
         let old : tablesFrom 0 ts cells ≡ tablesFrom 0 (take i ts) cells ++ tableIn t start cells ∷ tablesFrom (start + t .count * t .capacity) rest cells =
         ap (λ us. tablesFrom 0 us cells) split ∙ tables-append 0 (take i ts) (t ∷ rest) cells

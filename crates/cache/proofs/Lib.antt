@@ -4,13 +4,14 @@ pub mod StaysCases
 pub mod StaysCompiled
 pub mod Typed
 pub mod Areas
-pub mod Meanings
 pub mod Standing
+pub mod Meanings
 pub mod Refused
 pub mod Asking
 pub mod Updating
 pub mod Adding
 pub mod Plainly
+pub mod Dropping
 pub mod Model
 pub mod Finds
 pub mod Caches

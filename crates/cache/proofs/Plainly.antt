@@ -6,7 +6,6 @@ use mathlib.Core.List.{[]}
 use lib.ListN.{length}
 use Rattle.meaning.specs.Plain as P
 use Rattle.meaning.specs.Plain.{Plain, otherLengths, refused, flushed, guard, orElse, refusal}
-use Rattle.cache.specs.declared.Flushed.{Flushed}
 use Rattle.cache.specs.Sound.{soundState}
 use Rattle.cache.specs.Means.{Means}
 use Rattle.cache.specs.Calls.{emptied, flushOf}

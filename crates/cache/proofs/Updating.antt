@@ -1,48 +1,45 @@
 -- An update gets from a sound state what it gets from the plain store, and leaves the plain store's rows in the cells. Assumes nothing.
 use mathlib.Core.Path.{_≡_, refl, sym, ap, ap₂, _∙_, subst, subst₂}
-use mathlib.Core.Bool.{Bool, true, false, not, _&&_, cond}
-use mathlib.Core.List.{List, [], _∷_}
-use Prim.Native.Nat.{ℕ, zero, suc, _+_, _*_, _≤_, _<_}
+use mathlib.Core.Bool.{Bool, true, false, not, _&&_}
+use mathlib.Core.List.{List, []}
+use Prim.Native.Nat.{ℕ, _+_, _*_, _≤_, _<_}
 use native.Mathlib.Omega.{arith}
-use borrow.Author.Tests.{leb-false, leb-true, le-leb, eqb-true, eq-eqb}
-use lib.Dec.{eqb, leb, ltb}
+use borrow.Author.Tests.{leb-false, le-leb, eq-eqb}
+use lib.Dec.{eqb, leb}
 use lib.IntN.{ℤ}
 use lib.ListN.{length, getD, take, drop, set}
 use lib.Seq.{getD-take, length-take-le, take-set-lt, take-take}
-use Rattle.lists.specs.Lists.{All}
-use Rattle.lists.proofs.Bools.{and-left, and-right, and-both, not-false}
+use Rattle.lists.proofs.Bools.{and-both}
 use Rattle.lists.proofs.Places.{All-at}
 use Rattle.meaning.specs.Meaning.{Row, changed, rowsChanged}
-use Rattle.meaning.specs.Cells.{rowsIn}
 use Rattle.meaning.specs.Names.{Schema}
-use Rattle.meaning.specs.Statement as M
 use Rattle.meaning.specs.Statement.{Change, insert, delete, update}
 use Rattle.meaning.specs.Plain as P
-use Rattle.meaning.specs.Plain.{Lengths, Plain, otherLengths, isInsert, full, change, refused, rows, Out, guard, orElse, lowestOf, refusal, changedBy, rowsBy, does}
+use Rattle.meaning.specs.Plain.{Plain, isInsert, full, change, rows, orElse, refusal, changedBy, rowsBy}
 use Rattle.meaning.proofs.Accepted.{Changing, update-taken}
 use Rattle.meaning.proofs.Cells.{rows-length}
 use Rattle.statement.specs.declared.Table.{Table}
 use Rattle.statement.specs.declared.Update.{Update}
-use Rattle.statement.specs.Catalog.{schemaOf, schemasOf}
 use Rattle.statement.specs.Compiled.{noTable, noUpdate, formOfChange}
-use Rattle.statement.specs.Sound.{soundForm, AgreesUpdate, UpdateFits}
+use Rattle.statement.specs.Sound.{soundForm, AgreesUpdate}
 use Rattle.statement.proofs.SoundUpdate.{update-parts}
 use Rattle.table.specs.Evaluated.{rowsUsed}
-use Rattle.table.specs.Changed.{areaFits, fits, rowsBefore, rowsAfter, changedOf, changeOf, cellsAfter}
+use Rattle.table.specs.Changed.{areaFits, fits, rowsBefore, changedOf, changeOf, cellsAfter}
 use Rattle.table.specs.declared.changes.Changed.{Changed}
 use Rattle.table.proofs.ChangedMeans.{fits-sound, change-count, change-means, changed-are, after-few, cells-length, rows-before, rows-behind}
 use Rattle.slots.specs.declared.SlotList.{SlotList}
 use Rattle.cache.specs.declared.State.{State}
 use Rattle.cache.specs.Sound.{usedTables, areasOf, soundState}
-use Rattle.cache.specs.Means.{tablesFrom, tablesIn, Means, Typed}
-use Rattle.cache.specs.Calls.{settled, startOf, tableAt, Updates, updates, updateAt, isFull, updateRefusal, isMatched, dropBy, withRows, withChange, updateRefused, updateDone, updateOf}
+use Rattle.cache.specs.Means.{tablesFrom, Means, Typed}
+use Rattle.cache.specs.Calls.{startOf, tableAt, updates, updateAt, isFull, updateRefusal, isMatched, dropBy, withRows, withChange, updateRefused, updateDone, updateOf}
 use Rattle.cache.specs.Run.{Store, gotOf, stepUpdate, step}
 use Rattle.cache.specs.Run as R
 use Rattle.cache.specs.Demand.{lengthsLent}
 use Rattle.cache.proofs.Areas.{tableIn, rows-used, tables-set}
-use Rattle.cache.proofs.Meanings.{table-at, update-count, update-at}
-use Rattle.cache.proofs.Standing.{Standing, standing, update-is-sound, update-table, few-columns, few-rows, columns-at, area-inside}
-use Rattle.cache.proofs.Refused.{Same, same-else, unfit-is, lengths-same}
+use Rattle.cache.proofs.Sounds.{schemasIn, Sound, sound-is, rows-at, update-at}
+use Rattle.cache.proofs.Standing.{few-tables, few-updates, update-table, few-columns, columns-at, area-inside}
+use Rattle.cache.proofs.Meanings.{table-at, update-count, update-agrees}
+use Rattle.cache.proofs.Refused.{Same, settled-same, same-else, unfit-is, lengths-same}
 
 insert-form : (c : Change) → eqb (formOfChange c) 0 ≡ isInsert c
 insert-form (insert os) = refl
@@ -51,7 +48,7 @@ insert-form (update ss g) = refl
 
 -- ---- an update of a table, on a state that stands for the plain store, with cells of the opening's length
 
-module _ (s : State) (T : Typed s) (S : Standing s) (cells : List ℤ) (p : Plain) (m : Means s cells p) (n : ℕ) (there : n < s .«update_count»)
+module _ (s : State) (T : Typed s) (S : Sound s) (cells : List ℤ) (p : Plain) (m : Means s cells p) (n : ℕ) (there : n < s .«update_count»)
     (long : length cells ≡ s .cells) where
   abbrev u : Update
   u = updateAt s n
@@ -66,19 +63,19 @@ module _ (s : State) (T : Typed s) (S : Standing s) (cells : List ℤ) (p : Plai
   start = startOf s i
 
   agrees : AgreesUpdate u (P.updateAt p n)
-  agrees = update-at s cells p m (S .few-updates) n there
+  agrees = update-agrees s T S cells p m n there
 
   table-there : i < s .«table_count»
   table-there = update-table s T S n there
 
   table-is : P.tableAt p (P.updateAt p n .table) ≡ tableIn t start cells
-  table-is = ap (P.tableAt p) (sym (agrees .table-is)) ∙ table-at s cells p m (S .few-tables) i table-there
+  table-is = ap (P.tableAt p) (sym (agrees .table-is)) ∙ table-at s T S cells p m i table-there
 
   inside : start + t .count * t .capacity ≤ length cells
   inside = subst (λ k. start + t .count * t .capacity ≤ k) (sym long) (area-inside s T S i table-there)
 
   rows-are : rowsUsed t start cells ≡ rowsBefore t start cells
-  rows-are = rows-used t start cells (few-rows s T S i table-there) inside
+  rows-are = rows-used t start cells (rows-at s T S i table-there) inside
 
   -- 12
   pub full-is : isFull s u ≡ full p n
@@ -95,7 +92,7 @@ module _ (s : State) (T : Typed s) (S : Standing s) (cells : List ℤ) (p : Plai
 
   module _ (us : List ℤ) (room : full p n ≡ false) where
     eight : length (u .settings) ≡ 8
-    eight = All-at n noUpdate (omega (arith, S .few-updates)) (T .updates-fit) .eight
+    eight = All-at n noUpdate (omega (arith, few-updates s T S)) (T .updates-fit) .eight
 
     free : u .form ≡ 0 → t .rows < t .capacity
     free z =
@@ -106,14 +103,14 @@ module _ (s : State) (T : Typed s) (S : Standing s) (cells : List ℤ) (p : Plai
     unfolding areaFits
     area-fits =
         and-both (leb (start + t .count * t .capacity) (length cells)) _ (le-leb (start + t .count * t .capacity) (length cells) inside)
-        (le-leb (t .rows) (t .capacity) (few-rows s T S i table-there))
+        (le-leb (t .rows) (t .capacity) (rows-at s T S i table-there))
 
     -- it fits
     pub update-fits : fits u t start cells ≡ true
     update-fits =
         fits-sound u t start cells area-fits (few-columns s T S i table-there)
         (ap (λ c. soundForm (u .form) c u) (sym (columns-at s T S i table-there))
-        ∙ update-parts (schemasOf (s .tables) (s .«table_count»)) u (update-is-sound s T S n there) .form-sound)
+        ∙ update-parts (schemasIn s) u (update-at s T S n there) .form-sound)
         free
 
     abbrev after : List ℤ
@@ -147,11 +144,11 @@ module _ (s : State) (T : Typed s) (S : Standing s) (cells : List ℤ) (p : Plai
     tables-then =
         let e : getD (usedTables s) i noTable ≡ t = getD-take (s .«table_count») (s .tables) i noTable table-there in
         let k : areasOf (take i (usedTables s)) ≡ start = ap areasOf (take-take i (s .«table_count») (s .tables) (omega (arith, table-there))) in
-        let l : length (usedTables s) ≡ s .«table_count» = length-take-le (s .«table_count») (s .tables) (S .few-tables) in
+        let l : length (usedTables s) ≡ s .«table_count» = length-take-le (s .«table_count») (s .tables) (few-tables s T S) in
         sym
         (ap (λ ts. tablesFrom 0 ts after) (take-set-lt (s .«table_count») (s .tables) i (withRows t used) table-there)
         ∙ ap (λ x. tablesFrom 0 (set (usedTables s) i (withRows x used)) after) (sym e)
-        ∙ tables-set (usedTables s) (S .rows-fit) i (subst (λ n. i < n) (sym l) table-there) used cells after (cells-length u t start cells us eight)
+        ∙ tables-set (usedTables s) (S .rows) i (subst (λ n. i < n) (sym l) table-there) used cells after (cells-length u t start cells us eight)
         (λ a c n h. rows-before u t start cells us eight a c n (subst (λ k. a + n * c ≤ k) k h))
         (λ a c n h. rows-behind u t start cells us eight a c n (subst₂ (λ (k : ℕ) (x : Table). k + x .count * x .capacity ≤ a) k e h))
         ∙ ap₂ (λ (ts : List P.Table) (x : P.Table). set ts i x) (sym (m .tables-are))
@@ -173,11 +170,11 @@ module _ (s : State) (T : Typed s) (S : Standing s) (cells : List ℤ) (p : Plai
 -- ---- the whole call
 
 module _ (s : Store) (p : Plain) (T : Typed (s .state)) (h : soundState (s .state) ≡ true) (m : Means (s .state) (s .cells) p) (n : ℕ) (us : List ℤ) where
-  S : Standing (s .state)
-  S = standing (s .state) T h
+  S : Sound (s .state)
+  S = sound-is (s .state) h
 
   count : length (p .updates) ≡ s .state .«update_count»
-  count = update-count (s .state) (s .cells) p m (S .few-updates)
+  count = update-count (s .state) T S (s .cells) p m
 
   -- the number that it gets
   pub update-number : updateRefusal (s .state) (length (s .cells)) (length (s .memory)) n (length us) ≡ refusal (lengthsLent s) p (change n us)
@@ -188,7 +185,7 @@ module _ (s : Store) (p : Plain) (T : Typed (s .state)) (h : soundState (s .stat
       (λ b.
       let there : n < s .state .«update_count» = subst (λ k. n < k) count (leb-false (length (p .updates)) n b) in
       ap₂ (λ (k : ℕ) (f : Bool). orElse (not (eqb (length us) k)) 11 (orElse f 12 0))
-      (update-at (s .state) (s .cells) p m (S .few-updates) n there .parameters-are)
+      (update-agrees (s .state) T S (s .cells) p m n there .parameters-are)
       (full-is (s .state) T S (s .cells) p m n there (lengths-same (s .state) (s .cells) p m (lengthsLent s) a))))
 
   -- an update that is not refused, on the plain store
@@ -210,16 +207,7 @@ module _ (s : Store) (p : Plain) (T : Typed (s .state)) (h : soundState (s .stat
     )
 
   pub update-same : Same [] (step s (R.update n us)) (P.step (lengthsLent s) p (change n us))
-  unfolding step updateOf settled
+  unfolding step updateOf
   update-same =
-      subst
-      (λ k. Same [] (stepUpdate s (settled k (updateDone (s .state) (s .cells) (updateAt (s .state) n) us) (updates (updateRefused (s .state) k) (s .cells))))
-      (P.step (lengthsLent s) p (change n us)))
-      (sym update-number)
-      (go (refusal (lengthsLent s) p (change n us)) refl)
-    where
-      go : (k : ℕ) → refusal (lengthsLent s) p (change n us) ≡ k
-          → Same [] (stepUpdate s (settled k (updateDone (s .state) (s .cells) (updateAt (s .state) n) us) (updates (updateRefused (s .state) k) (s .cells))))
-          (guard k p refused (changedBy p n us, rows (rowsBy p n us)))
-      go zero e = done-same e
-      go (suc k) e = (refl, m)
+      settled-same (stepUpdate s) (updateDone (s .state) (s .cells) (updateAt (s .state) n) us) (λ k. updates (updateRefused (s .state) k) (s .cells)) [] s p
+      (changedBy p n us, rows (rowsBy p n us)) m (λ k. refl) _ _ update-number done-same
