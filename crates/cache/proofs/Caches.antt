@@ -29,7 +29,8 @@ use Rattle.cache.specs.Means.{Typed}
 use Rattle.cache.specs.Calls as calls
 use Rattle.cache.specs.Calls.{withCache, bytesAt, fitsSlot, kept, keptMemory}
 use Rattle.cache.proofs.Sounds.{Sound, HeldSound, held-sound}
-use Rattle.cache.proofs.Model.{heldIn, cacheIn, cacheOf, keep-same, front-held, front-free, drop-held, drop-free, Last, last-is, none-last}
+use Rattle.cache.proofs.Dropping.{keep-same, held-after}
+use Rattle.cache.proofs.Model.{heldIn, cacheIn, cacheOf, front-held, front-free, drop-free, Last, last-is, none-last}
 
 -- no other number of the list is its last one
 last-once : (a : List ℕ) (x : ℕ) → repeats eqb (a ++ x ∷ []) ≡ false → All (λ y. y ≢ x) a
@@ -74,7 +75,7 @@ module _ (s : State) (T : Typed s) (S : Sound s) (memory : List ℕ) where
 
     pub cached-drop : cacheIn (s .keys) (s .lengths) (calls.dropBy p (s .slots)) memory ≡ dropBy d (cacheOf s memory)
     cached-drop =
-        let h = ap (map heldAt) (drop-held (s .slots) (S .slots .within) inside p) ∙ left-are in
+        let h = ap (map heldAt) (held-after p (s .slots)) ∙ left-are in
         let f = drop-free (s .slots) (S .slots .within) inside p
         ∙ ap (λ (l : List ℕ). l ++ freeSlots (s .slots))
         (sym (slots-are (keep p (heldSlots (s .slots)))) ∙ ap (map (λ (e : Held M.Key). e .slot)) gone-are) in

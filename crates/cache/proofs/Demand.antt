@@ -33,8 +33,9 @@ use Rattle.cache.specs.Run.{Store, Start, openingOf, storeOf, opened, Ca
 use Rattle.cache.specs.Demand.{OpensSound, StaysSound, lengthsLent, SameAsPlain, slotCount, slotSize, past, nextAsk, AnewOnlyIf, KeptOtherwise, Values32, AnswerReadsBack}
 use Rattle.cache.proofs.Sounds.{sizes-fit}
 use Rattle.cache.proofs.Typed.{opened-typed, step-typed}
+use Rattle.cache.proofs.Dropping.{MatchesMean}
 use Rattle.cache.proofs.Model.{cacheOf}
-use Rattle.cache.proofs.Follows.{modelOf, Meets, MatchedIs, step-meets}
+use Rattle.cache.proofs.Follows.{modelOf, Meets, step-meets}
 
 -- ---- what holds between the calls
 
@@ -118,10 +119,10 @@ plain-gets lent p [] = refl
 plain-gets lent p (c ∷ cs) =
     ap (λ (l : List Got). gotOf (bufferOf c) (P.step lent p (plainCall c) .1) ∷ l) (plain-gets lent (P.step lent p (plainCall c) .0) cs)
 
-module _ (stays : StaysSound) (matched-is : MatchedIs) {lent : Lengths} {size : ℕ} where
+module _ (stays : StaysSound) (mean : MatchesMean) {lent : Lengths} {size : ℕ} where
   meets : {s : Store} {m : Model} → Follows lent size s m → (c : Call) → Meets s (bufferOf c) (step s c) (T.step lent size m (plainCall c))
   meets {s} {m} F c =
-      let M = step-meets matched-is s (m .store) (F .typed) (F .sound) (F .means) c in
+      let M = step-meets mean s (m .store) (F .typed) (F .sound) (F .means) c in
       let M₁ = subst (λ (x : Model). Meets s (bufferOf c) (step s c) (T.step (lengthsLent s) (s .state .«slot_bytes») x (plainCall c)))
       (ap (λ k. record { store = m .store; cache = k }) (sym (F .cached))) M in
       let M₂ = subst (λ (n : ℕ). Meets s (bufferOf c) (step s c) (T.step (lengthsLent s) n m (plainCall c))) (F .size-is) M₁ in
@@ -196,15 +197,15 @@ values-32 (ask n vs buffer) v = v
 values-32 (update n vs) v = v
 values-32 flush v = v
 
-module _ (opens-sound : OpensSound) (stays : StaysSound) (matched-is : MatchedIs) where
+module _ (opens-sound : OpensSound) (stays : StaysSound) (mean : MatchesMean) where
   pub follows : (o : Start) (cs : List Call)
       → Follows (openingOf o .lent) (T.slotSize (openingOf o)) (after (opened o) cs) (D.afterCalls (startOf o) (map plainCall cs))
-  follows o cs = follows-after stays matched-is (follows-opened o opens-sound) cs
+  follows o cs = follows-after stays mean (follows-opened o opens-sound) cs
 
   pub same-as-plain : SameAsPlain
   same-as-plain o cs =
       let same = on-model .same-as-plain (startOf o) (map plainCall cs) in (
-        follows-gets stays matched-is (follows-opened o opens-sound) cs ∙ ap (gotsOf cs) (same .0) ∙ plain-gets (openingOf o .lent) (P.opened (openingOf o)) cs,
+        follows-gets stays mean (follows-opened o opens-sound) cs ∙ ap (gotsOf cs) (same .0) ∙ plain-gets (openingOf o .lent) (P.opened (openingOf o)) cs,
         sym (follows o cs .means .tables-are) ∙ ap (λ (p : Plain). p .tables) (same .1),
       )
 
@@ -212,7 +213,7 @@ module _ (opens-sound : OpensSound) (stays : StaysSound) (matched-is : MatchedIs
   module _ (o : Start) (cs : List Call) (k : Key) (buffer : List ℕ) where
     next : Meets (after (opened o) cs) buffer (step (after (opened o) cs) (ask (k .query) (k .values) buffer))
         (T.step (openingOf o .lent) (T.slotSize (openingOf o)) (D.afterCalls (startOf o) (map plainCall cs)) (P.ask k (length buffer)))
-    next = meets stays matched-is (follows o cs) (ask (k .query) (k .values) buffer)
+    next = meets stays mean (follows o cs) (ask (k .query) (k .values) buffer)
 
     next-answer : nextAsk o cs k buffer .got .refusal ≡ 0 → (r : List ℕ) × (D.nextCall (startOf o) (map plainCall cs) (P.ask k (length buffer)) .out ≡ answered r)
     next-answer e = answer-of buffer _ (ask-out _ _ (D.afterCalls (startOf o) (map plainCall cs)) k (length buffer)) _ (next .got) e

@@ -39,11 +39,11 @@ use Rattle.cache.specs.Calls.{settled, addedOf, addedBy, addRefusal, add
 use Rattle.cache.specs.Run.{Store, Call, add, ask, update, flush, Got, Seen, stepAdd, stepAsk, stepUpdate, stepFlush, step, plainCall, bufferOf, gotOf}
 use Rattle.cache.specs.Demand.{lengthsLent}
 use Rattle.cache.proofs.Sounds.{Sound, sound-is, held-below, held-sound, query-at}
-use Rattle.cache.proofs.Standing.{Standing, standing}
-use Rattle.cache.proofs.Meanings.{query-count}
-use Rattle.cache.proofs.Meanings as meanings
+use Rattle.cache.proofs.Meanings.{query-count, query-agrees}
 use Rattle.cache.proofs.Asking.{cache-means, rows-asked, record-is, ask-number}
+use Rattle.cache.proofs.Updating.{update-there}
 use Rattle.cache.proofs.Plainly.{does-as-plain}
+use Rattle.cache.proofs.Dropping.{MatchesMean, matched-is}
 use Rattle.cache.proofs.Model.{heldIn, cacheOf, place-is}
 use Rattle.cache.proofs.Finds.{asKey, key-read, Finds, find-is}
 use Rattle.cache.proofs.Caches.{cached-front, cached-drop, cached-count, cached-put, kept-is, bytes-long, kept-long}
@@ -103,12 +103,12 @@ module _ (s : Store) (p : Plain) (Ty : Typed (s .state)) (h : soundState (s .sta
 
   module _ (A : Asked (lengthsLent s) p (asKey n vs)) where
     there : n < s .state .«query_count»
-    there = subst (λ k. n < k) (query-count (s .state) (s .cells) p m (standing (s .state) Ty h .few-queries)) (A .there)
+    there = subst (λ k. n < k) (query-count (s .state) Ty S (s .cells) p m) (A .there)
 
     few-values : length vs ≤ most-marks
     few-values =
         let e : length vs ≡ queryAt (s .state) n .parameters =
-        A .values ∙ sym (meanings.query-at (s .state) (s .cells) p m (standing (s .state) Ty h .few-queries) n there .parameters-are) in
+        A .values ∙ sym (query-agrees (s .state) Ty S (s .cells) p m n there .parameters-are) in
         rw e (query-parts _ (queryAt (s .state) n) (query-at (s .state) Ty S n there) .few-parameters)
 
     memory-lent : length (s .memory) ≡ s .state .memory
@@ -178,10 +178,9 @@ module _ (s : Store) (p : Plain) (Ty : Typed (s .state)) (h : soundState (s .sta
     new-meets : Meets s buffer (stepAsk s (askNew (s .state) (s .cells) (s .memory) buffer n vs)) (answeredNew (recordOf p (asKey n vs)))
     unfolding askNew withCache
     new-meets =
-        let Sg = standing (s .state) Ty h in
         let K = kept-is (s .state) Ty S (s .memory) (keyOf n vs) r in
         subst (λ (x : List ℕ). Meets s buffer (stepAsk s (askNew (s .state) (s .cells) (s .memory) buffer n vs)) (answeredNew x))
-        (record-is (s .state) Ty Sg (s .cells) p m n there vs)
+        (record-is (s .state) Ty S (s .cells) p m n there vs)
         (short-meets (ltb (length buffer) (length r)) _ _
         (record {
           means = subst (λ (t : State). Means t (s .cells) p) (sym (K .3)) (cache-means (s .state) (s .cells) p m (K .0) (K .1) (K .2));
@@ -193,7 +192,7 @@ module _ (s : Store) (p : Plain) (Ty : Typed (s .state)) (h : soundState (s .sta
           bytes-same = ap (λ (t : State). t .«slot_bytes») (K .3);
           got = refl;
           kept = refl;
-          scanned = ap length (rows-asked (s .state) Ty Sg (s .cells) p m n there);
+          scanned = ap length (rows-asked (s .state) Ty S (s .cells) p m n there);
         }))
 
     -- ---- by what is found
@@ -227,13 +226,7 @@ module _ (s : Store) (p : Plain) (Ty : Typed (s .state)) (h : soundState (s .sta
 
 -- ---- a text, an update, a flush: what they get, and the plain store after them, is known
 
--- which kept answers an update drops: those that it matches on the plain store
-abbrev pub MatchedIs : Type 0
-MatchedIs = (s : Store) (n : ℕ) (us : List ℤ) (p : Plain) → Typed (s .state) → soundState (s .state) ≡ true → Means (s .state) (s .cells) p
-    → refusal (lengthsLent s) p (P.change n us) ≡ 0
-    → All (λ x. isMatched (s .state) (updateAt (s .state) n) us x ≡ matchesKey p n us (keyRead (slotKey (s .state .keys) x))) (heldSlots (s .state .slots))
-
-module _ (matched-is : MatchedIs) (s : Store) (p : Plain) (Ty : Typed (s .state)) (h : soundState (s .state) ≡ true)
+module _ (mean : MatchesMean) (s : Store) (p : Plain) (Ty : Typed (s .state)) (h : soundState (s .state) ≡ true)
     (m : Means (s .state) (s .cells) p) where
   abbrev lent : Lengths
   lent = lengthsLent s
@@ -304,7 +297,7 @@ module _ (matched-is : MatchedIs) (s : Store) (p : Plain) (Ty : Typed (s .state)
     drops-meet e g M = record {
       means = M;
       cached =
-          sym (cached-drop (s .state) Ty (sound-is (s .state) h) (s .memory) (isMatched (s .state) (updateAt (s .state) n) us) (matchesKey p n us) (matched-is s n us p Ty h m e));
+          sym (cached-drop (s .state) Ty (sound-is (s .state) h) (s .memory) (isMatched (s .state) (updateAt (s .state) n) us) (matchesKey p n us) (matched-is mean (s .state) Ty (sound-is (s .state) h) (s .cells) p m n (update-there s p Ty h m n us e) us));
       cells-long = cells-length (updateAt (s .state) n) _ _ (s .cells) us (eight n);
       memory-long = refl;
       bytes-same = refl;

@@ -47,11 +47,6 @@ module _ {A : Type 0} where
       ap₂ (λ u v. take 1 u ++ v) (drop-at a (x ∷ b) p h)
       (ap₂ (λ u v. u ++ v) (take-at a (x ∷ b) p h) (ap (drop (p + 1)) (sym (append-snoc a x b)) ∙ drop-at (a ++ x ∷ []) b (p + 1) l))
 
-  -- tests that agree on the members keep the same
-  pub keep-same : (p q : A → Bool) {l : List A} → All (λ x. p x ≡ q x) l → keep p l ≡ keep q l
-  keep-same p q nil = refl
-  keep-same p q (cons {x = x} e h) = ap₂ (λ b r. consIf b x r) e (keep-same p q h)
-
 -- ---- the held and the free slots, where these stand first in the order
 
 module _ (l : SlotList) (hs rest : List ℕ) (is : l .order ≡ hs ++ rest) (long : length hs ≡ l .held) where
@@ -114,10 +109,6 @@ module _ (l : SlotList) (within : l .held ≤ l .count) (inside : l .count ≤ l
     dropped-order : calls.dropBy p l .order ≡ left ++ (gone ++ behindHeld)
     unfolding calls.dropBy
     dropped-order = append-assoc left gone behindHeld
-
-    pub drop-held : heldSlots (calls.dropBy p l) ≡ left
-    unfolding calls.dropBy
-    drop-held = held-are (calls.dropBy p l) left (gone ++ behindHeld) dropped-order refl
 
     pub drop-free : freeSlots (calls.dropBy p l) ≡ gone ++ freeSlots l
     unfolding calls.dropBy
