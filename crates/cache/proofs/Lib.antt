@@ -3,6 +3,7 @@ pub mod Refusals
 pub mod StaysCases
 pub mod StaysCompiled
 pub mod Typed
+pub mod StaysAdded
 pub mod Areas
 pub mod Standing
 pub mod Meanings

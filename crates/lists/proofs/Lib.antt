@@ -6,3 +6,5 @@ pub mod Moved
 pub mod Changed
 pub mod Runs
 pub mod Stacks
+pub mod Walks
+pub mod Repeats

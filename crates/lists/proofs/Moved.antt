@@ -1,8 +1,8 @@
 -- A list in another order, and numbers counted from one on. Assumes nothing.
-use mathlib.Core.Path.{_≡_, refl, sym, ap}
+use mathlib.Core.Path.{_≡_, refl, sym, ap, subst}
 use mathlib.Core.Logic.{_≢_}
 use mathlib.Core.Bool.{Bool, true, false, not}
-use mathlib.Core.List.{List, [], _∷_, _++_, map}
+use mathlib.Core.List.{List, [], _∷_, _++_, map, map-id}
 use Prim.Native.Nat.{ℕ, zero, suc, _+_, _≤_, _<_}
 use native.Mathlib.Nat.{le-refl}
 use native.Mathlib.Omega.{arith}
@@ -24,6 +24,11 @@ module _ {A : Type 0} where
   pub moved-last : (a : List A) (x : A) → Moved (a ++ x ∷ []) (x ∷ a)
   moved-last [] x = moved-refl (x ∷ [])
   moved-last (y ∷ a) x = to (x ∷ []) a (moved-last a x)
+
+  -- one of them to the front
+  pub moved-mid : (a : List A) (x : A) (b : List A) → Moved (a ++ x ∷ b) (x ∷ (a ++ b))
+  moved-mid [] x b = moved-refl (x ∷ b)
+  moved-mid (y ∷ a) x b = to (x ∷ []) (a ++ b) (moved-mid a x b)
 
   insert-All : {P : A → Type 0} (x : A) (a b : List A) → P x → All P (a ++ b) → All P (a ++ x ∷ b)
   insert-All x a b p h = All-append (All-left a b h) (cons p (All-right a h))
@@ -60,6 +65,19 @@ module _ {A B : Type 0} (f : A → B) (rest : List B) where
           → Moved (f x ∷ (map f l ++ rest)) (map f (consIf (not b) x (keep (λ y. not (d y)) l)) ++ (map f (consIf b x (keep d l)) ++ rest))
       go true m = to (map f (keep (λ y. not (d y)) l)) (map f (keep d l) ++ rest) m
       go false m = to [] (map f (keep (λ y. not (d y)) l) ++ (map f (keep d l) ++ rest)) m
+
+-- those that p takes go behind the others
+pub moved-parted : {A : Type 0} (p : A → Bool) (l rest : List A) → Moved (l ++ rest) (keep (λ x. not (p x)) l ++ (keep p l ++ rest))
+moved-parted p l rest =
+    subst (λ r. Moved (r ++ rest) (keep (λ x. not (p x)) l ++ (keep p l ++ rest))) (map-id l)
+    (subst (λ r. Moved (map (λ x. x) l ++ rest) (r ++ (keep p l ++ rest))) (map-id (keep (λ x. not (p x)) l))
+    (subst (λ r. Moved (map (λ x. x) l ++ rest) (map (λ x. x) (keep (λ x. not (p x)) l) ++ (r ++ rest))) (map-id (keep p l)) (moved-drop (λ x. x) rest p l)))
+
+-- each is taken or not
+pub parted-length : {A : Type 0} (p : A → Bool) (l : List A) → length (keep (λ x. not (p x)) l) + length (keep p l) ≡ length l
+parted-length p l =
+    let e = moved-length (moved-parted p l []) in
+    omega (arith, length-append l [], length-append (keep (λ x. not (p x)) l) (keep p l ++ []), length-append (keep p l) [])
 
 -- ---- i, i + 1 and on
 

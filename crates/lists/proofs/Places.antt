@@ -16,6 +16,12 @@ module _ {A : Type 0} where
   All-at zero d h (cons p a) = p
   All-at (suc i) d h (cons p a) = All-at i d (le-of-suc-le-suc h) a
 
+  -- inside the list it does not matter what stands in past the end
+  pub getD-inside : (l : List A) (i : ℕ) (d e : A) → i < length l → getD l i d ≡ getD l i e
+  getD-inside [] i d e h = absurd (not-suc-le-zero h)
+  getD-inside (x ∷ l) zero d e h = refl
+  getD-inside (x ∷ l) (suc i) d e h = getD-inside l i d e (le-of-suc-le-suc h)
+
   pub All-set : {P : A → Type 0} {l : List A} (i : ℕ) (x : A) → P x → All P l → All P (set l i x)
   All-set i x p nil = nil
   All-set zero x p (cons q a) = cons p a

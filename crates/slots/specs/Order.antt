@@ -1,6 +1,6 @@
 -- The order of use as the program has it: document 01, "Slots". Of its array the first `count` places are the slots, the first `held` of them hold an answer, and what
 -- stands behind is no slot and stays. The definitions are given for every struct, also one that is not sound. Assumes nothing: these are definitions.
-use mathlib.Core.Bool.{Bool, true, false, not, _&&_, cond, Bool·beq}
+use mathlib.Core.Bool.{Bool, true, false, not, _&&_, cond}
 use mathlib.Core.List.{List, _++_}
 use Prim.Native.Nat.{ℕ, _+_, _-_, min}
 use lib.Dec.{leb, ltb, eqb}
@@ -9,6 +9,7 @@ use Rattle.lists.specs.Lists.{all, keep, repeats, from, written}
 use Rattle.meaning.specs.Limits.{most-slots}
 use Rattle.slots.specs.declared.SlotList.{SlotList}
 use Rattle.slots.specs.declared.Taken.{Taken}
+use Rattle.slots.specs.declared.order.Run.{Run}
 
 -- the slots, those that hold an answer, and the free ones, each the most recently used first
 abbrev pub slotsOf : SlotList → List ℕ
@@ -38,25 +39,29 @@ front p l = take 1 (drop p l) ++ (take p l ++ drop (p + 1) l)
 unfoldable pub frontOf : SlotList → ℕ → SlotList
 frontOf s p = record { order = front p (s .order); held = s .held; count = s .count }
 
--- "A new record that fits a slot takes the last slot and moves it to the front"; then one more is held, up to all. With no slot, or more than there can be, none is taken.
+-- "A new record that fits a slot takes the last slot and moves it to the front"; then one more is held, up to all
+abbrev pub lastTaken : SlotList → Taken
+lastTaken s =
+    let moved = frontOf s (s .count - 1) in
+    record {
+      there = true;
+      slot = getD (s .order) (s .count - 1) 0;
+      slots = record { order = moved .order; held = min (s .held + 1) (s .count); count = s .count };
+    }
+
+-- with no slot, or more than there can be, none is taken
+abbrev pub noneTaken : SlotList → Taken
+noneTaken s = record { there = false; slot = 0; slots = s }
+
 abbrev pub isOpen : SlotList → Bool
 isOpen s = leb 1 (s .count) && leb (s .count) most-slots
 
-abbrev pub heldMore : SlotList → SlotList
-heldMore s = record { order = s .order; held = min (s .held + 1) (s .count); count = s .count }
-
 unfoldable pub takenOf : SlotList → Taken
-takenOf s =
-    cond (isOpen s)
-    (record { there = true; slot = getD (s .order) (s .count - 1) 0; slots = heldMore (frontOf s (s .count - 1)) })
-    (record { there = false; slot = 0; slots = s })
+takenOf s = cond (isOpen s) (lastTaken s) (noneTaken s)
 
 -- whether a slot is marked; a number past the marks is not
 abbrev pub isMarked : List Bool → ℕ → Bool
 isMarked marks x = getD marks x false
-
-abbrev pub hasMark : List Bool → Bool → ℕ → Bool
-hasMark marks b x = Bool·beq (isMarked marks x) b
 
 -- "Drops put held slots first and free ones after, each in the order they had": of the held slots those that are not marked, then those that are, then the others
 unfoldable pub dropOf : SlotList → List Bool → SlotList
@@ -69,3 +74,11 @@ dropOf s gone =
 -- a number as an index: 0 if it is no slot
 abbrev pub ifSlot : ℕ → ℕ
 ifSlot x = cond (ltb x most-slots) x 0
+
+-- whether a slot is marked, or is not
+abbrev pub hasMark : List Bool → Bool → ℕ → Bool
+hasMark marks b x = cond b (isMarked marks x) (not (isMarked marks x))
+
+-- a run with others behind what it has
+unfoldable pub appended : Run → List ℕ → Run
+appended r xs = record { places = written (r .places) (r .len) xs; len = r .len + length xs }
