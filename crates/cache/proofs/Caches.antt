@@ -1,43 +1,37 @@
 -- What a call does to the kept answers of a sound state is what it does in the model: found, put into the last slot, dropped. Assumes nothing.
-use mathlib.Core.Path.{_≡_, refl, sym, ap, ap₂, _∙_, subst}
+use mathlib.Core.Path.{_≡_, refl, sym, ap, ap₂, _∙_}
 use mathlib.Core.Logic.{_≢_}
 use mathlib.Core.Bool.{Bool, true, false, not, _&&_, and-true, cond}
-use mathlib.Core.Option.{none, some}
 use mathlib.Core.List.{List, [], _∷_, _++_, map}
 use Prim.Native.Nat.{ℕ, suc, _+_, _-_, _*_, _≤_, _<_}
 use native.Mathlib.Omega.{arith}
 use borrow.Author.Tests.{leb-true, leb-false, le-leb, eqb-false}
 use lib.Dec.{eqb, leb}
-use lib.ListN.{length, take, drop, getD, set, length-map}
-use lib.Seq.{getD-set-same, getD-set-other, take-suc, length-take-le}
-use Rattle.lists.specs.Lists.{All, nil, cons, any, keep, count, repeats, written}
-use Rattle.lists.proofs.Bools.{and-left, or-left, or-right}
-use Rattle.lists.proofs.Lists.{All-head, All-right, All-left, All-map, any-false, map-same, keep-map}
+use lib.ListN.{length, take, getD, set}
+use lib.Seq.{getD-set-same, getD-set-other, take-suc}
+use Rattle.lists.specs.Lists.{All, any, keep, count, written}
+use Rattle.lists.proofs.Lists.{All-head, All-right, All-left, All-map, map-same, keep-map}
+use Rattle.lists.proofs.Moved.{moved-last, moved-distinct}
+use Rattle.lists.proofs.Repeats.{repeats-distinct}
 use Rattle.lists.proofs.Written.{slot-written, slot-length}
 use Rattle.meaning.specs.Key as M
 use Rattle.meaning.specs.Limits.{most-slots}
 use Rattle.trace.specs.History.{fits}
-use Rattle.trace.specs.Slots.{Held, Cache, moveToFront, takeLast, putIn, put, dropBy, dropCount}
+use Rattle.trace.specs.Slots.{Held, moveToFront, takeLast, putIn, put, dropBy}
 use Rattle.slots.specs.declared.Key.{Key}
 use Rattle.slots.specs.declared.SlotList.{SlotList}
 use Rattle.slots.specs.declared.Taken.{Taken}
-use Rattle.slots.specs.Keys.{noKey, keyRead, slotKey}
-use Rattle.slots.specs.Order.{slotsOf, heldSlots, freeSlots, frontOf, isOpen, heldMore, takenOf}
+use Rattle.slots.specs.Keys.{noKey, keyRead}
+use Rattle.slots.specs.Order.{slotsOf, heldSlots, freeSlots, frontOf, lastTaken, noneTaken, isOpen, takenOf}
+use Rattle.slots.proofs.Moves.{open-is}
 use Rattle.cache.specs.declared.State.{State}
 use Rattle.cache.specs.Sound.{lengthAt}
 use Rattle.cache.specs.Means.{Typed}
 use Rattle.cache.specs.Calls as calls
 use Rattle.cache.specs.Calls.{withCache, bytesAt, fitsSlot, kept, keptMemory}
-use Rattle.cache.proofs.Sounds.{Sound, HeldSound, held-sound}
+use Rattle.cache.proofs.Sounds.{Sound, HeldSound}
 use Rattle.cache.proofs.Dropping.{keep-same, held-after}
 use Rattle.cache.proofs.Model.{heldIn, cacheIn, cacheOf, front-held, front-free, drop-free, Last, last-is, none-last}
-
--- no other number of the list is its last one
-last-once : (a : List ℕ) (x : ℕ) → repeats eqb (a ++ x ∷ []) ≡ false → All (λ y. y ≢ x) a
-last-once [] x h = nil
-last-once (y ∷ a) x h =
-    cons (eqb-false y x (All-head (All-right a (any-false (eqb y) (a ++ x ∷ []) (or-left (any (eqb y) (a ++ x ∷ [])) _ h)))))
-    (last-once a x (or-right (any (eqb y) (a ++ x ∷ [])) _ h))
 
 module _ (s : State) (T : Typed s) (S : Sound s) (memory : List ℕ) where
   inside : s .slots .count ≤ length (s .slots .order)
@@ -81,9 +75,6 @@ module _ (s : State) (T : Typed s) (S : Sound s) (memory : List ℕ) where
         (sym (slots-are (keep p (heldSlots (s .slots)))) ∙ ap (map (λ (e : Held M.Key). e .slot)) gone-are) in
         ap₂ (λ (l : List (Held M.Key)) (r : List ℕ). record { held = l; free = r; memory = memory }) h f
 
-    pub cached-count : count p (heldSlots (s .slots)) ≡ dropCount d (cacheOf s memory)
-    cached-count = sym (length-map (keep p (heldSlots (s .slots))) heldAt) ∙ ap length gone-are
-
   -- ---- "A new record that fits a slot takes the last slot and moves it to the front."
 
   abbrev last : ℕ
@@ -94,12 +85,7 @@ module _ (s : State) (T : Typed s) (S : Sound s) (memory : List ℕ) where
 
   -- the last slot, or none to take
   abbrev takenBy : Bool → Taken
-  takenBy b =
-      cond b (record { there = true; slot = last; slots = heldMore (frontOf (s .slots) (s .slots .count - 1)) })
-      (record { there = false; slot = 0; slots = s .slots })
-
-  open-some : isOpen (s .slots) ≡ true → 1 ≤ s .slots .count
-  open-some e = leb-true 1 (s .slots .count) (and-left (leb 1 (s .slots .count)) _ e)
+  takenBy b = cond b (lastTaken (s .slots)) (noneTaken (s .slots))
 
   shut-none : isOpen (s .slots) ≡ false → s .slots .count ≡ 0
   shut-none e =
@@ -117,7 +103,9 @@ module _ (s : State) (T : Typed s) (S : Sound s) (memory : List ℕ) where
     last-below = All-head (All-right others (rw slots-split at (S .slots .below)))
 
     last-alone : All (λ y. y ≢ last) others
-    last-alone = last-once others last (rw slots-split at (S .slots .once))
+    last-alone =
+        moved-distinct (moved-last others last)
+        (repeats-distinct eqb (λ (y : ℕ). y) (λ y z e q. eqb-false y z e (sym q)) (others ++ last ∷ []) (rw slots-split at (S .slots .once))) .0
 
   module _ (key : Key) (r : List ℕ) where
     abbrev keys′ : List Key
@@ -141,7 +129,7 @@ module _ (s : State) (T : Typed s) (S : Sound s) (memory : List ℕ) where
         (getD-set-other (s .keys) last y key noKey ne) (getD-set-other (s .lengths) last y (length r) 0 ne)
 
     put-taken : (any : 1 ≤ s .slots .count) (hs fs : List ℕ) → Last (s .slots) (S .slots .within) inside any hs fs
-        → cacheIn keys′ lengths′ (heldMore (frontOf (s .slots) (s .slots .count - 1))) (written-in last)
+        → cacheIn keys′ lengths′ (lastTaken (s .slots) .slots) (written-in last)
         ≡ putIn (s .«slot_bytes») (cacheOf s memory) (keyRead key) r (takeLast (cacheOf s memory))
     put-taken any hs fs L =
         let alone : All (λ y. y ≢ last) hs = All-left hs fs (rw (L .others-are) at (last-alone any)) in
@@ -159,8 +147,8 @@ module _ (s : State) (T : Typed s) (S : Sound s) (memory : List ℕ) where
         ap (putIn (s .«slot_bytes») (cacheOf s memory) (keyRead key) r)
         (sym (none-last (s .slots) (S .slots .within) inside (shut-none e) (s .keys) (s .lengths) memory))
     put-by true true e =
-        let l = last-is (s .slots) (S .slots .within) inside (open-some e) in
-        put-taken (open-some e) (l .0) (l .1) (l .2)
+        let l = last-is (s .slots) (S .slots .within) inside (open-is (s .slots) e .0) in
+        put-taken (open-is (s .slots) e .0) (l .0) (l .1) (l .2)
 
     pub cached-put : cacheOf (kept s key r) (keptMemory s r memory) ≡ put (s .«slot_bytes») (fits (s .«slot_bytes») r) (cacheOf s memory) (keyRead key) r
     unfolding kept keptMemory takenOf
@@ -195,4 +183,4 @@ module _ (s : State) (T : Typed s) (S : Sound s) (memory : List ℕ) where
         go false b e f = refl
         go true false e f = refl
         go true true e f =
-            slot-written (s .slots .count) (s .«slot_bytes») last r memory (last-below (open-some f)) room (leb-true (length r) (s .«slot_bytes») e)
+            slot-written (s .slots .count) (s .«slot_bytes») last r memory (last-below (open-is (s .slots) f .0)) room (leb-true (length r) (s .«slot_bytes») e)

@@ -4,19 +4,19 @@ use mathlib.Core.Path.{_≡_, refl, sym, ap, ap₂, _∙_, subst, subst₂}
 use mathlib.Core.Logic.{_⊎_, inl, inr}
 use mathlib.Core.Bool.{Bool, true, false, cond}
 use mathlib.Core.Option.{Option, none, some}
-use mathlib.Core.List.{List, [], _∷_, _++_, map}
+use mathlib.Core.List.{List, [], _∷_, map}
 use Prim.Native.Nat.{ℕ, zero, suc, _+_, _≤_, zero-le}
 use native.Mathlib.Nat.{le-of-suc-le-suc, not-suc-le-zero}
 use native.Mathlib.Omega.{arith}
 use lib.IntN.{ℤ, pos}
 use lib.ListN.{length, take, drop, replicate, length-replicate}
-use Rattle.lists.specs.Lists.{All, nil, cons, from, written}
+use Rattle.lists.specs.Lists.{nil, from, written}
 use Rattle.lists.proofs.Lists.{All-map, All-image}
 use Rattle.meaning.specs.Key.{Key, sameKey}
-use Rattle.meaning.specs.Demand.{ReadsBack, Is32, Call32, rowsListed}
+use Rattle.meaning.specs.Demand.{ReadsBack, Call32, rowsListed}
 use Rattle.meaning.specs.Limits.{most-slots}
 use Rattle.meaning.specs.Plain as P
-use Rattle.meaning.specs.Plain.{Lengths, Plain, Opening, openingRefused, Out, refused, added, answered, rows, flushed, recordOf}
+use Rattle.meaning.specs.Plain.{Lengths, Plain, Opening, openingRefused, Out, refused, answered, recordOf}
 use Rattle.trace.specs.History.{Ground}
 use Rattle.trace.specs.Slots.{Held, slotBytes, find, empty}
 use Rattle.trace.specs.Model as T
@@ -24,7 +24,6 @@ use Rattle.trace.specs.Model.{Model, turned, asked}
 use Rattle.trace.specs.Demand as D
 use Rattle.trace.proofs.Demand.{demands as on-model}
 use Rattle.slots.specs.Order.{openOf as slotsOpen}
-use Rattle.cache.specs.declared.State.{State}
 use Rattle.cache.specs.Sound.{opening, soundState}
 use Rattle.cache.specs.Means.{Means, Typed}
 use Rattle.cache.specs.Means as L
@@ -35,7 +34,7 @@ use Rattle.cache.proofs.Sounds.{sizes-fit}
 use Rattle.cache.proofs.Typed.{opened-typed, step-typed}
 use Rattle.cache.proofs.Dropping.{MatchesMean}
 use Rattle.cache.proofs.Model.{cacheOf}
-use Rattle.cache.proofs.Follows.{modelOf, Meets, step-meets}
+use Rattle.cache.proofs.Follows.{Meets, step-meets}
 
 -- ---- what holds between the calls
 

@@ -3,14 +3,13 @@ use mathlib.Core.Path.{_≡_, refl, sym, ap, ap₂, _∙_}
 use mathlib.Core.Bool.{Bool, true, false, _&&_, cond}
 use mathlib.Core.Option.{Option, none, some}
 use mathlib.Core.List.{List, [], _∷_, _++_, map}
-use Prim.Native.Nat.{ℕ, suc, _+_, _≤_, _<_, min}
+use Prim.Native.Nat.{ℕ, suc, _+_, _≤_, _<_}
 use native.Mathlib.Omega.{arith}
 use borrow.Author.Tests.{lt-ltb}
-use lib.Dec.{T, ltb}
-use lib.IntN.{ℤ, pos}
-use lib.ListN.{length, take, drop, replicate}
-use lib.Seq.{take-all, take-at}
-use Rattle.lists.specs.Lists.{All, nil, cons, written}
+use lib.Dec.{T}
+use lib.IntN.{ℤ}
+use lib.ListN.{length}
+use Rattle.lists.specs.Lists.{All, cons}
 use Rattle.lists.specs.Tests.{isYes, by-test}
 use Rattle.lists.proofs.Lists.{All-map}
 use Rattle.meaning.specs.Key as M
@@ -20,8 +19,9 @@ use Rattle.slots.specs.declared.Key.{Key}
 use Rattle.slots.specs.declared.Found.{Found}
 use Rattle.slots.specs.declared.Found.the-variants.{At, Nothing}
 use Rattle.slots.specs.declared.SlotList.{SlotList}
-use Rattle.slots.specs.Keys.{valuesOf, keyRead, sameKey, keyOf, slotKey, slotHas, findFrom, findOf}
+use Rattle.slots.specs.Keys.{keyRead, sameKey, keyOf, slotKey, slotHas, findFrom, findOf}
 use Rattle.slots.specs.Order.{heldSlots}
+use Rattle.slots.proofs.KeyLaws.{key-few}
 use Rattle.cache.proofs.Model.{heldIn}
 
 -- a decision by a test is the test's
@@ -53,20 +53,11 @@ module _ (f : ℕ → Held M.Key) (k : M.Key) (test : ℕ → Bool) where
 abbrev pub asKey : ℕ → List ℤ → M.Key
 asKey n vs = record { query = n; values = vs }
 
--- it has the question's number and its values, if there are at most eight
-pub key-read : (n : ℕ) (vs : List ℤ) → length vs ≤ most-marks → keyRead (keyOf n vs) ≡ asKey n vs
-unfolding keyOf
-key-read n vs h =
-    let m : min (length vs) most-marks ≡ length vs = omega arith in
-    let all : take most-marks vs ≡ vs = take-all most-marks vs h in
-    let w : take (length vs) (written (replicate most-marks (pos 0)) 0 vs) ≡ vs = take-at vs _ (length vs) refl in
-    ap (asKey n) (ap₂ (λ (i : ℕ) (l : List ℤ). take i (written (replicate most-marks (pos 0)) 0 l)) m all ∙ w)
-
 module _ (keys : List Key) (lengths : List ℕ) (n : ℕ) (vs : List ℤ) (few : length vs ≤ most-marks) where
   slot-has : (x : ℕ) → x < most-slots → slotHas keys (keyOf n vs) x ≡ isYes (M.sameKey (heldIn keys lengths x .key) (asKey n vs))
   unfolding slotHas sameKey
   slot-has x h =
-      ap₂ (λ (b : Bool) (j : M.Key). b && M.isKey (keyRead (slotKey keys x)) j) (lt-ltb x most-slots h) (key-read n vs few)
+      ap₂ (λ (b : Bool) (j : M.Key). b && M.isKey (keyRead (slotKey keys x)) j) (lt-ltb x most-slots h) (key-few n vs few)
       ∙ sym (yes-test (M.isKey (keyRead (slotKey keys x)) (asKey n vs)) _ _)
 
   -- the answer of a question among the held slots

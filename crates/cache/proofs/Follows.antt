@@ -1,15 +1,15 @@
 -- A call on a sound state does what it does in the model of crate `trace`: the plain store beside the kept answers. Assumes nothing.
-use mathlib.Core.Path.{_≡_, refl, sym, ap, ap₂, _∙_, subst}
-use mathlib.Core.Bool.{Bool, true, false, not, _&&_, cond}
-use mathlib.Core.Option.{Option, none, some}
+use mathlib.Core.Path.{_≡_, refl, sym, ap, _∙_, subst}
+use mathlib.Core.Bool.{Bool, true, false, _&&_, cond}
+use mathlib.Core.Option.{Option, some}
 use mathlib.Core.List.{List, [], _∷_, _++_, map}
-use Prim.Native.Nat.{ℕ, zero, suc, _+_, _*_, _≤_, _<_}
+use Prim.Native.Nat.{ℕ, zero, suc, _+_, _≤_, _<_}
 use native.Mathlib.Omega.{arith}
 use borrow.Author.Tests.{eqb-true}
 use lib.Dec.{eqb, ltb}
 use lib.IntN.{ℤ}
 use lib.ListN.{length, getD}
-use Rattle.lists.specs.Lists.{All, nil, cons, written}
+use Rattle.lists.specs.Lists.{All, written}
 use Rattle.lists.proofs.Bools.{and-right, not-false}
 use Rattle.lists.proofs.Lists.{All-head, All-right, All-map, All-every, All-getD}
 use Rattle.meaning.specs.Key.{Key, sameKey}
@@ -18,7 +18,7 @@ use Rattle.meaning.specs.Plain as P
 use Rattle.meaning.specs.Plain.{Lengths, Plain, otherLengths, refusal, recordOf, rowsAsked, matchesKey, Out, refused, answered, does, guard, orElse}
 use Rattle.meaning.proofs.Accepted.{Asked, key-asked}
 use Rattle.trace.specs.History.{fits}
-use Rattle.trace.specs.Slots.{Held, slotBytes, find, moveToFront, put, dropBy}
+use Rattle.trace.specs.Slots.{Held, find, put}
 use Rattle.trace.specs.Model as T
 use Rattle.trace.specs.Model.{Model, turned, plainly, shortRefusal, asked, dropping}
 use Rattle.statement.specs.declared.Statement.{Statement}
@@ -27,16 +27,15 @@ use Rattle.statement.proofs.SoundQuery.{query-parts}
 use Rattle.table.proofs.ChangedMeans.{cells-length}
 use Rattle.slots.specs.declared.Found.{Found}
 use Rattle.slots.specs.declared.Found.the-variants.{At, Nothing}
-use Rattle.slots.specs.Keys.{keyRead, slotKey, keyOf}
+use Rattle.slots.specs.Keys.{keyOf}
 use Rattle.slots.specs.Order.{heldSlots, frontOf}
+use Rattle.slots.proofs.KeyLaws.{key-few}
 use Rattle.cache.specs.declared.State.{State}
 use Rattle.cache.specs.declared.Added.{Added}
-use Rattle.cache.specs.declared.Flushed.{Flushed}
 use Rattle.cache.specs.Sound.{soundState, lengthAt, queryAt}
 use Rattle.cache.specs.Means.{Means, Typed}
-use Rattle.cache.specs.Calls as calls
-use Rattle.cache.specs.Calls.{settled, addedOf, addedBy, addRefusal, addOf, compiledBeside, addRefused, Asks, asks, askRefused, askRefusal, withCache, bytesAt, cachedLength, askCached, kept, keptMemory, rowsAt, recordAt, askNew, askFound, foundIn, askOf, Updates, updates, updateAt, updateRefused, updateRefusal, isMatched, withChange, updateDone, updateOf, unfit, emptied, flushOf}
-use Rattle.cache.specs.Run.{Store, Call, add, ask, update, flush, Got, Seen, stepAdd, stepAsk, stepUpdate, stepFlush, step, plainCall, bufferOf, gotOf}
+use Rattle.cache.specs.Calls.{settled, addedOf, addedBy, addRefusal, addOf, compiledBeside, addRefused, Asks, asks, askRefused, askRefusal, withCache, bytesAt, askCached, kept, recordAt, askNew, askFound, foundIn, askOf, Updates, updates, updateAt, updateRefused, updateRefusal, isMatched, withChange, updateDone, updateOf, unfit, emptied, flushOf}
+use Rattle.cache.specs.Run.{Store, Call, add, ask, update, flush, Got, Seen, stepAsk, stepUpdate, stepFlush, step, plainCall, bufferOf, gotOf}
 use Rattle.cache.specs.Demand.{lengthsLent}
 use Rattle.cache.proofs.Sounds.{Sound, sound-is, held-below, held-sound, query-at}
 use Rattle.cache.proofs.Meanings.{query-count, query-agrees}
@@ -45,8 +44,8 @@ use Rattle.cache.proofs.Updating.{update-there}
 use Rattle.cache.proofs.Plainly.{does-as-plain}
 use Rattle.cache.proofs.Dropping.{MatchesMean, matched-is}
 use Rattle.cache.proofs.Model.{heldIn, cacheOf, place-is}
-use Rattle.cache.proofs.Finds.{asKey, key-read, Finds, find-is}
-use Rattle.cache.proofs.Caches.{cached-front, cached-drop, cached-count, cached-put, kept-is, bytes-long, kept-long}
+use Rattle.cache.proofs.Finds.{asKey, Finds, find-is}
+use Rattle.cache.proofs.Caches.{cached-front, cached-drop, cached-put, kept-is, bytes-long, kept-long}
 
 -- ---- a store and a plain store that it stands for, as a model
 
@@ -185,7 +184,7 @@ module _ (s : Store) (p : Plain) (Ty : Typed (s .state)) (h : soundState (s .sta
         (record {
           means = subst (λ (t : State). Means t (s .cells) p) (sym (K .3)) (cache-means (s .state) (s .cells) p m (K .0) (K .1) (K .2));
           cached =
-              ap (λ (k : Key). put size (fits size r) (cacheOf (s .state) (s .memory)) k r) (sym (key-read n vs few-values))
+              ap (λ (k : Key). put size (fits size r) (cacheOf (s .state) (s .memory)) k r) (sym (key-few n vs few-values))
               ∙ sym (cached-put (s .state) Ty S (s .memory) (keyOf n vs) r);
           cells-long = refl;
           memory-long = kept-long (s .state) Ty S (s .memory) memory-lent r;

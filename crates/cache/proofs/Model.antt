@@ -1,23 +1,23 @@
 -- What the slots of a state keep, as the model of crate `trace` has it: moving to the front, taking the last slot and dropping do in the slot list what they do in the
 -- model. Assumes nothing.
 use mathlib.Core.Path.{_≡_, refl, sym, ap, ap₂, _∙_}
-use mathlib.Core.Logic.{_≢_}
-use mathlib.Core.Bool.{Bool, true, false, not, _&&_, cond}
-use mathlib.Core.Option.{Option, none, some}
+use mathlib.Core.Bool.{Bool, not}
+use mathlib.Core.Option.{none, some}
 use mathlib.Core.List.{List, [], _∷_, _++_, map, append-assoc, append-nil}
-use Prim.Native.Nat.{ℕ, zero, suc, _+_, _-_, _*_, _≤_, _<_, min}
+use Prim.Native.Nat.{ℕ, suc, _+_, _-_, _≤_, _<_, min}
 use native.Mathlib.Decide.{decLt}
 use native.Mathlib.Omega.{arith}
-use lib.ListN.{length, take, drop, getD, set, length-append, length-drop, take-append-drop}
-use lib.Seq.{take-at, drop-at, getD-at, split-at, append-snoc, length-take-le, take-add, take-append-add, getD-set-same, getD-set-other}
-use Rattle.lists.specs.Lists.{All, nil, cons, consIf, keep, count, unsnoc, behind, written}
-use Rattle.lists.proofs.Lists.{All-map, map-append, map-same, keep-map}
+use lib.ListN.{length, take, drop, getD, length-append, length-drop, take-append-drop}
+use lib.Seq.{take-at, drop-at, getD-at, split-at, append-snoc, length-take-le, take-add, take-append-add}
+use Rattle.lists.specs.Lists.{keep, unsnoc, behind}
+use Rattle.lists.proofs.Lists.{map-append}
 use Rattle.meaning.specs.Key as M
-use Rattle.trace.specs.Slots.{Held, Cache, slotsOf, moveToFront, lastHeld, lastFree, takeLast, putIn, dropBy, dropCount}
+use Rattle.trace.specs.Slots.{Held, Cache, lastHeld, lastFree, takeLast}
 use Rattle.slots.specs.declared.Key.{Key}
 use Rattle.slots.specs.declared.SlotList.{SlotList}
-use Rattle.slots.specs.Keys.{noKey, keyRead, slotKey}
-use Rattle.slots.specs.Order.{heldSlots, freeSlots, front, frontOf, isOpen, heldMore, takenOf}
+use Rattle.slots.specs.Keys.{keyRead, slotKey}
+use Rattle.slots.specs.Order.{heldSlots, freeSlots, front, frontOf, lastTaken}
+use Rattle.slots.proofs.Fronts.{front-at}
 use Rattle.cache.specs.declared.State.{State}
 use Rattle.cache.specs.Calls as calls
 use Rattle.cache.proofs.Typed.{dropped-length}
@@ -39,13 +39,6 @@ module _ {A : Type 0} where
   pub unsnoc-last : (a : List A) (x : A) → unsnoc (a ++ x ∷ []) ≡ some (a, x)
   unsnoc-last [] x = refl
   unsnoc-last (y ∷ a) x = ap (behind y) (unsnoc-last a x)
-
-  -- the member behind a moves to the front
-  front-at : (p : ℕ) (a : List A) (x : A) (b : List A) → length a ≡ p → front p (a ++ x ∷ b) ≡ x ∷ (a ++ b)
-  front-at p a x b h =
-      let l : length (a ++ x ∷ []) ≡ p + 1 = length-append a (x ∷ []) ∙ ap (λ (n : ℕ). n + 1) h in
-      ap₂ (λ u v. take 1 u ++ v) (drop-at a (x ∷ b) p h)
-      (ap₂ (λ u v. u ++ v) (take-at a (x ∷ b) p h) (ap (drop (p + 1)) (sym (append-snoc a x b)) ∙ drop-at (a ++ x ∷ []) b (p + 1) l))
 
 -- ---- the held and the free slots, where these stand first in the order
 
@@ -88,7 +81,7 @@ module _ (l : SlotList) (within : l .held ≤ l .count) (inside : l .count ≤ l
 
     moved-order : frontOf l p .order ≡ (x ∷ (a ++ b)) ++ behindHeld
     unfolding frontOf
-    moved-order = ap (front p) order-is ∙ front-at p a x (b ++ behindHeld) at ∙ ap (λ (o : List ℕ). x ∷ o) (sym (append-assoc a b behindHeld))
+    moved-order = ap (front p) order-is ∙ front-at a x (b ++ behindHeld) p at ∙ ap (λ (o : List ℕ). x ∷ o) (sym (append-assoc a b behindHeld))
 
     pub front-held : heldSlots (frontOf l p) ≡ x ∷ (a ++ b)
     unfolding frontOf
@@ -134,7 +127,7 @@ module _ (l : SlotList) (within : l .held ≤ l .count) (inside : l .count ≤ l
     beyond = drop (suc (l .count - 1)) (l .order)
 
     abbrev taken : SlotList
-    taken = heldMore (frontOf l (l .count - 1))
+    taken = lastTaken l .slots
 
     -- the last slot, and the held and the free ones before it
     pub record Last (hs fs : List ℕ) : Type 0 where
@@ -151,7 +144,7 @@ module _ (l : SlotList) (within : l .held ≤ l .count) (inside : l .count ≤ l
 
     taken-order : taken .order ≡ last ∷ (others ++ beyond)
     unfolding frontOf
-    taken-order = ap (front (l .count - 1)) split ∙ front-at (l .count - 1) others last beyond others-long
+    taken-order = ap (front (l .count - 1)) split ∙ front-at others last beyond (l .count - 1) others-long
 
     -- some slot is free, so the last one is
     module _ (free : l .held < l .count) where

@@ -4,7 +4,7 @@ use mathlib.Core.Path.{_≡_, refl}
 use mathlib.Core.List.{List, [], _∷_, _++_, map}
 use Prim.Native.Nat.{ℕ, _+_, _*_}
 use Prim.Native.String.{String}
-use lib.IntN.{ℤ, pos}
+use lib.IntN.{pos}
 use lib.ListN.{length, replicate}
 use Rattle.lists.specs.Lists.{bytes}
 use Rattle.meaning.specs.Tokens.{isNameByte, isWordByte, decimal, isName, word, negative, tokenFrom, firstToken, scan, tokens}
