@@ -16,5 +16,6 @@ pub mod Dropping
 pub mod Model
 pub mod Finds
 pub mod Caches
+pub mod Meets
 pub mod Follows
 pub mod Demand
