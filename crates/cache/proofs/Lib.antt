@@ -4,6 +4,11 @@ pub mod StaysCases
 pub mod StaysCompiled
 pub mod Typed
 pub mod StaysAdded
+pub mod SlotLaws
+pub mod StaysAnswers
+pub mod StaysAsked
+pub mod StaysUpdated
+pub mod StaysSound
 pub mod Areas
 pub mod Standing
 pub mod Meanings

@@ -48,45 +48,45 @@ pub record SizesFit (o : Opening) : Type 0 where
   pub room : o .slots * o .slotBytes ≤ o .lent .memory
 
 module _ (o : Opening) where
-  abbrev over₁ : Bool
-  over₁ = ltb most-cells (o .lent .cells)
+  abbrev manyCells : Bool
+  manyCells = ltb most-cells (o .lent .cells)
 
-  abbrev over₂ : Bool
-  over₂ = ltb most-memory (o .lent .memory)
+  abbrev muchMemory : Bool
+  muchMemory = ltb most-memory (o .lent .memory)
 
-  abbrev over₃ : Bool
-  over₃ = ltb most-slots (o .slots)
+  abbrev manySlots : Bool
+  manySlots = ltb most-slots (o .slots)
 
-  abbrev over₄ : Bool
-  over₄ = ltb (o .slotBytes) least-slot-bytes
+  abbrev shortSlots : Bool
+  shortSlots = ltb (o .slotBytes) least-slot-bytes
 
-  abbrev over₅ : Bool
-  over₅ = ltb most-slot-bytes (o .slotBytes)
+  abbrev longSlots : Bool
+  longSlots = ltb most-slot-bytes (o .slotBytes)
 
   pub sizes-fit : openingRefused o ≡ false → SizesFit o
   unfolding openingRefused
   sizes-fit h₁ =
-      let h₂ = or-right over₁ _ h₁ in
-      let h₃ = or-right over₂ _ h₂ in
-      let h₄ = or-right over₃ _ h₃ in
-      let h₅ = or-right over₄ _ h₄ in
+      let h₂ = or-right manyCells _ h₁ in
+      let h₃ = or-right muchMemory _ h₂ in
+      let h₄ = or-right manySlots _ h₃ in
+      let h₅ = or-right shortSlots _ h₄ in
       record {
-        few-cells = ltb-false most-cells (o .lent .cells) (or-left over₁ _ h₁);
-        few-memory = ltb-false most-memory (o .lent .memory) (or-left over₂ _ h₂);
-        few-slots = ltb-false most-slots (o .slots) (or-left over₃ _ h₃);
-        least-bytes = ltb-false (o .slotBytes) least-slot-bytes (or-left over₄ _ h₄);
-        most-bytes = ltb-false most-slot-bytes (o .slotBytes) (or-left over₅ _ h₅);
-        room = ltb-false (o .lent .memory) (o .slots * o .slotBytes) (or-right over₅ _ h₅);
+        few-cells = ltb-false most-cells (o .lent .cells) (or-left manyCells _ h₁);
+        few-memory = ltb-false most-memory (o .lent .memory) (or-left muchMemory _ h₂);
+        few-slots = ltb-false most-slots (o .slots) (or-left manySlots _ h₃);
+        least-bytes = ltb-false (o .slotBytes) least-slot-bytes (or-left shortSlots _ h₄);
+        most-bytes = ltb-false most-slot-bytes (o .slotBytes) (or-left longSlots _ h₅);
+        room = ltb-false (o .lent .memory) (o .slots * o .slotBytes) (or-right longSlots _ h₅);
       }
 
   pub fit-sizes : SizesFit o → openingRefused o ≡ false
   unfolding openingRefused
   fit-sizes F =
-      or-none over₁ _ (le-ltb most-cells (o .lent .cells) (F .few-cells))
-      (or-none over₂ _ (le-ltb most-memory (o .lent .memory) (F .few-memory))
-      (or-none over₃ _ (le-ltb most-slots (o .slots) (F .few-slots))
-      (or-none over₄ _ (le-ltb (o .slotBytes) least-slot-bytes (F .least-bytes))
-      (or-none over₅ _ (le-ltb most-slot-bytes (o .slotBytes) (F .most-bytes))
+      or-none manyCells _ (le-ltb most-cells (o .lent .cells) (F .few-cells))
+      (or-none muchMemory _ (le-ltb most-memory (o .lent .memory) (F .few-memory))
+      (or-none manySlots _ (le-ltb most-slots (o .slots) (F .few-slots))
+      (or-none shortSlots _ (le-ltb (o .slotBytes) least-slot-bytes (F .least-bytes))
+      (or-none longSlots _ (le-ltb most-slot-bytes (o .slotBytes) (F .most-bytes))
       (le-ltb (o .lent .memory) (o .slots * o .slotBytes) (F .room))))))
 
 -- ---- "its slot list names each slot once, held ones first"

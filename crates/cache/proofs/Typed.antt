@@ -1,13 +1,14 @@
 -- What the types of a state say stays so: it holds of an opening's, and after each call. Assumes nothing.
 use mathlib.Core.Path.{_≡_, refl, _∙_}
-use mathlib.Core.Bool.{Bool, true, false, not}
-use mathlib.Core.List.{List, [], _∷_, _++_}
-use Prim.Native.Nat.{ℕ, suc, _+_, _-_}
+use mathlib.Core.Bool.{Bool, true, not}
+use mathlib.Core.List.{List, _++_}
+use Prim.Native.Nat.{ℕ, _+_, _-_}
 use native.Mathlib.Omega.{arith}
 use lib.IntN.{ℤ, pos}
 use lib.ListN.{length, take, drop, replicate, length-append, length-take, length-drop, length-set}
-use Rattle.lists.specs.Lists.{All, consIf, keep}
+use Rattle.lists.specs.Lists.{All, keep}
 use Rattle.lists.proofs.Lists.{All-getD}
+use Rattle.lists.proofs.Moved.{parted-length}
 use Rattle.lists.proofs.Places.{All-set}
 use Rattle.lists.proofs.Written.{length-written}
 use Rattle.meaning.specs.Plain.{Opening}
@@ -20,7 +21,8 @@ use Rattle.slots.specs.declared.Key.{Key}
 use Rattle.slots.specs.declared.SlotList.{SlotList}
 use Rattle.slots.specs.declared.Taken.{Taken}
 use Rattle.slots.specs.Keys.{noKey, keyOf}
-use Rattle.slots.specs.Order.{heldSlots, front, frontOf, isOpen, takenOf, openOf as slotsOpen}
+use Rattle.slots.specs.Order.{heldSlots, frontOf, isOpen, takenOf, openOf as slotsOpen}
+use Rattle.slots.proofs.Fronts.{front-length}
 use Rattle.cache.specs.declared.State.{State}
 use Rattle.cache.specs.Sound.{opening}
 use Rattle.cache.specs.Calls.{emptyState, addedTable, addedQuery, addedUpdate, compiledBeside, recordAt, isMatched, withCache, putIn, tableAt, updateAt, dropBy, withRows, withChange, updateDone}
@@ -51,21 +53,9 @@ opened-typed o = by-opened Typed o (empty-typed (opening 0 0 0 8)) (λ e. empty-
 
 -- ---- the order of use has as many places as before
 
-front-length : (p : ℕ) (l : List ℕ) → length (front p l) ≡ length l
-front-length p l = simp (length-append, length-take, length-drop) (omega arith)
-
 taken-length : (l : SlotList) → length (takenOf l .slots .order) ≡ length (l .order)
 unfolding takenOf frontOf
 taken-length l = by-cond (λ (t : Taken). length (t .slots .order) ≡ length (l .order)) (isOpen l) _ _ (λ e. front-length (l .count - 1) (l .order)) (λ e. refl)
-
-parted-length : (p : ℕ → Bool) (l : List ℕ) → length (keep (λ (x : ℕ). not (p x)) l) + length (keep p l) ≡ length l
-parted-length p [] = refl
-parted-length p (x ∷ l) = go (p x) (parted-length p l)
-  where
-    go : (b : Bool) → length (keep (λ (x : ℕ). not (p x)) l) + length (keep p l) ≡ length l
-        → length (consIf (not b) x (keep (λ (x : ℕ). not (p x)) l)) + length (consIf b x (keep p l)) ≡ suc (length l)
-    go true e = omega arith
-    go false e = omega arith
 
 pub dropped-length : (p : ℕ → Bool) (l : SlotList) → length (dropBy p l .order) ≡ length (l .order)
 unfolding dropBy

@@ -9,7 +9,7 @@ use native.Mathlib.Nat.{zero-mul}
 use native.Mathlib.Omega.{arith}
 use lib.ListN.{length, getD, take, length-append, length-map}
 use Rattle.lists.specs.Lists.{any, all, All, nil, cons, DistinctBy, Distinct, consIf, keep, pairs, behind, unsnoc}
-use Rattle.lists.proofs.Bools.{and-or, or-and, and-assoc, or-assoc, and-left, and-right, or-left, or-right}
+use Rattle.lists.proofs.Bools.{and-or, or-and, and-assoc, or-assoc, and-left, and-right, and-both, or-left, or-right}
 
 module _ {A : Type 0} where
   -- ---- All
@@ -83,6 +83,10 @@ module _ {A : Type 0} where
   pub all-true : (p : A → Bool) (xs : List A) → all p xs ≡ true → All (λ x. p x ≡ true) xs
   all-true p [] h = nil
   all-true p (x ∷ xs) h = cons (and-left (p x) (all p xs) h) (all-true p xs (and-right (p x) (all p xs) h))
+
+  pub all-of : (p : A → Bool) {xs : List A} → All (λ x. p x ≡ true) xs → all p xs ≡ true
+  all-of p nil = refl
+  all-of p (cons {x = x} {xs = xs} e h) = and-both (p x) (all p xs) e (all-of p h)
 
   pub any-none : (p : A → Bool) {xs : List A} → All (λ x. p x ≡ false) xs → any p xs ≡ false
   any-none p nil = refl
@@ -213,6 +217,10 @@ module _ {A : Type 0} where
       go : (o : Option (List A × A)) → Unsnoc l o → Unsnoc (x ∷ l) (behind x o)
       go none e = ap (λ r. x ∷ r) e
       go (some c) e = ap (λ r. x ∷ r) e
+
+  pub unsnoc-last : (a : List A) (x : A) → unsnoc (a ++ x ∷ []) ≡ some (a, x)
+  unsnoc-last [] x = refl
+  unsnoc-last (y ∷ a) x = ap (behind y) (unsnoc-last a x)
 
 pub All-source : {A B : Type 0} {P : B → Type 0} (f : A → B) (l : List A) → All P (map f l) → All (λ x. P (f x)) l
 All-source f [] h = nil

@@ -1,14 +1,14 @@
 -- A list in another order, and numbers counted from one on. Assumes nothing.
-use mathlib.Core.Path.{_≡_, refl, sym, ap, subst}
+use mathlib.Core.Path.{_≡_, refl, sym, ap, subst, _∙_}
 use mathlib.Core.Logic.{_≢_}
 use mathlib.Core.Bool.{Bool, true, false, not}
 use mathlib.Core.List.{List, [], _∷_, _++_, map, map-id}
 use Prim.Native.Nat.{ℕ, zero, suc, _+_, _≤_, _<_}
 use native.Mathlib.Nat.{le-refl}
 use native.Mathlib.Omega.{arith}
-use lib.ListN.{length, length-append}
-use Rattle.lists.specs.Lists.{All, nil, cons, Distinct, consIf, keep, from}
-use Rattle.lists.proofs.Lists.{All-head, All-tail, All-map, All-append, All-left, All-right}
+use lib.ListN.{length, take, length-append}
+use Rattle.lists.specs.Lists.{All, nil, cons, DistinctBy, Distinct, consIf, keep, count, from}
+use Rattle.lists.proofs.Lists.{All-head, All-tail, All-map, All-append, All-left, All-right, keep-append}
 
 module _ {A : Type 0} where
   -- the second list is the first in another order
@@ -41,14 +41,30 @@ module _ {A : Type 0} where
   moved-length still = refl
   moved-length (to {x = x} {l = l} a b m) = omega (arith, moved-length m, length-append a b, length-append a (x ∷ b))
 
-  insert-distinct : (x : A) (a b : List A) → Distinct (a ++ b) → All (λ y. y ≢ x) (a ++ b) → Distinct (a ++ x ∷ b)
-  insert-distinct x [] b d h = (h, d)
-  insert-distinct x (y ∷ a) b d h =
-      (insert-All x a b (λ e. All-head h (sym e)) (d .0), insert-distinct x a b (d .1) (All-tail h))
+  -- as many pass a test
+  count-append : (p : A → Bool) (a b : List A) → count p (a ++ b) ≡ count p a + count p b
+  count-append p a b = ap length (keep-append p a b) ∙ length-append (keep p a) (keep p b)
+
+  pub moved-count : (p : A → Bool) {l r : List A} → Moved l r → count p l ≡ count p r
+  moved-count p still = refl
+  moved-count p (to {x = x} {l = l} a b m) = go (p x) (moved-count p m ∙ count-append p a b) ∙ sym (count-append p a (x ∷ b))
+    where
+      go : (t : Bool) → count p l ≡ count p a + count p b → length (consIf t x (keep p l)) ≡ count p a + length (consIf t x (keep p b))
+      go true ih = omega arith
+      go false ih = ih
+
+  module _ {B : Type 0} (f : A → B) where
+    insert-distinct : (x : A) (a b : List A) → DistinctBy f (a ++ b) → All (λ y. f y ≢ f x) (a ++ b) → DistinctBy f (a ++ x ∷ b)
+    insert-distinct x [] b d h = (h, d)
+    insert-distinct x (y ∷ a) b d h =
+        (insert-All x a b (λ e. All-head h (sym e)) (d .0), insert-distinct x a b (d .1) (All-tail h))
+
+    pub moved-distinctBy : {l r : List A} → Moved l r → DistinctBy f l → DistinctBy f r
+    moved-distinctBy still d = tt
+    moved-distinctBy (to {x = x} a b m) d = insert-distinct x a b (moved-distinctBy m (d .1)) (moved-All m (d .0))
 
   pub moved-distinct : {l r : List A} → Moved l r → Distinct l → Distinct r
-  moved-distinct still d = tt
-  moved-distinct (to {x = x} a b m) d = insert-distinct x a b (moved-distinct m (d .1)) (moved-All m (d .0))
+  moved-distinct m d = moved-distinctBy (λ (x : A). x) m d
 
 module _ {A B : Type 0} (f : A → B) (rest : List B) where
   -- one of them to the front
@@ -96,3 +112,8 @@ from-below i (suc n) = cons {x = i} (omega arith) (All-map (λ j h. omega arith)
 pub from-count : (i n : ℕ) → length (from i n) ≡ n
 from-count i zero = refl
 from-count i (suc n) = ap suc (from-count (suc i) n)
+
+pub take-from : (i n m : ℕ) → n ≤ m → take n (from i m) ≡ from i n
+take-from i zero m h = refl
+take-from i (suc n) zero h = absurd (omega arith)
+take-from i (suc n) (suc m) h = ap (λ r. i ∷ r) (take-from (suc i) n m (omega arith))

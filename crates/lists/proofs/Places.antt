@@ -1,13 +1,15 @@
 -- The places of a list: what every member has, the member at a place has; members set; how many are kept; lists one after another. Assumes nothing.
 use mathlib.Core.Path.{_≡_, refl, sym, ap, _∙_}
+use mathlib.Core.Logic.{_≢_}
 use mathlib.Core.Bool.{Bool, true, false}
-use mathlib.Core.List.{List, [], _∷_, _++_, append-assoc}
+use mathlib.Core.List.{List, [], _∷_, _++_, map, append-assoc}
 use Prim.Native.Nat.{ℕ, zero, suc, _*_, _≤_, _<_}
 use native.Mathlib.Nat.{le-of-suc-le-suc, not-suc-le-zero, zero-mul, suc-mul}
 use native.Mathlib.Omega.{arith}
 use lib.ListN.{length, getD, set, length-append}
+use lib.Seq.{getD-set-other}
 use Rattle.lists.specs.Lists.{All, nil, cons, consIf, keep, flat}
-use Rattle.lists.proofs.Lists.{All-head, All-tail}
+use Rattle.lists.proofs.Lists.{All-head, All-tail, All-map, map-same}
 
 module _ {A : Type 0} where
   -- the member at a place inside the list has what every member has
@@ -26,6 +28,10 @@ module _ {A : Type 0} where
   All-set i x p nil = nil
   All-set zero x p (cons q a) = cons p a
   All-set (suc i) x p (cons q a) = cons q (All-set i x p a)
+
+  -- places apart from the one that is set are as they were
+  pub set-apart : (l : List A) (i : ℕ) (x d : A) {ks : List ℕ} → All (λ k. k ≢ i) ks → map (λ (k : ℕ). getD (set l i x) k d) ks ≡ map (λ (k : ℕ). getD l k d) ks
+  set-apart l i x d h = map-same (λ (k : ℕ). getD l k d) (All-map (λ k e. getD-set-other l i k x d e) h)
 
   -- no more are kept than there are
   pub length-keep : (p : A → Bool) (l : List A) → length (keep p l) ≤ length l

@@ -29,7 +29,8 @@ module _ {A B : Type 0} (same : A → A → Bool) (f : A → B) where
   repeats-image same′ g [] h = refl
   repeats-image same′ g (x ∷ l) h =
       ap₂ _||_
-      (contra (any (same x) l) (any (λ (y : A). same′ (f x) (f y)) l) (any-implies (same x) (λ (y : A). same′ (f x) (f y)) (g x) l) (sym (any-map f (same′ (f x)) l) ∙ or-left (any (same′ (f x)) (map f l)) _ h))
+      (contra (any (same x) l) (any (λ (y : A). same′ (f x) (f y)) l) (any-implies (same x) (λ (y : A). same′ (f x) (f y)) (g x) l)
+      (sym (any-map f (same′ (f x)) l) ∙ or-left (any (same′ (f x)) (map f l)) _ h))
       (repeats-image same′ g l (or-right (any (same′ (f x)) (map f l)) _ h))
 
 -- the images of members have the same g exactly if the members do

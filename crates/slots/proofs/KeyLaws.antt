@@ -2,27 +2,25 @@
 use mathlib.Core.Path.{_≡_, refl, sym, ap, subst, _∙_}
 use mathlib.Core.Logic.{_≢_}
 use mathlib.Core.Bool.{Bool, true, false, _&&_, cond}
-use mathlib.Core.List.{List, [], _∷_, _++_, map, map-map}
+use mathlib.Core.List.{List, [], _∷_, _++_}
 use Prim.Native.Nat.{ℕ, suc, _+_, _≤_, _<_, min}
 use native.Mathlib.Omega.{arith}
-use borrow.Author.Tests.{eq-eqb, lt-ltb, ltb-true}
-use lib.Dec.{eqb, ltb}
+use borrow.Author.Tests.{lt-ltb, ltb-true}
+use lib.Dec.{ltb}
 use lib.IntN.{ℤ}
 use lib.ListN.{length, take, length-append, length-take}
 use lib.Seq.{take-all, take-at}
-use Rattle.lists.specs.Lists.{All, nil, cons, DistinctBy, repeats}
+use Rattle.lists.specs.Lists.{All, nil, cons, DistinctBy}
 use Rattle.lists.proofs.Bools.{T→true, true→T, and-left, and-right, clash}
 use Rattle.lists.proofs.Lists.{distinct-source}
-use Rattle.lists.proofs.Repeats.{repeats-distinct, distinct-repeats, repeats-image, distinct-map}
-use Rattle.lists.proofs.Walks.{of-min}
+use Rattle.lists.proofs.Repeats.{repeats-distinct, distinct-repeats, distinct-map}
 use Rattle.meaning.specs.Key as M
 use Rattle.meaning.specs.Limits.{most-slots, most-marks}
 use Rattle.slots.specs.declared.Key.{Key}
 use Rattle.slots.specs.declared.SlotList.{SlotList}
-use Rattle.slots.specs.declared.Found.{Found}
 use Rattle.slots.specs.declared.Found.the-variants.{At, Nothing}
 use Rattle.slots.specs.Order.{heldSlots}
-use Rattle.slots.specs.Keys.{valuesOf, keyRead, sameKey, keyOf, slotKey, heldKeys, slotHas, findFrom, findOf, heldTwice, fingerprint, slotPrint}
+use Rattle.slots.specs.Keys.{valuesOf, keyRead, sameKey, keyOf, slotKey, heldKeys, slotHas, findFrom, findOf, heldTwice}
 
 -- ---- keys that are the same
 
@@ -110,6 +108,11 @@ find-nothing p j (x ∷ l) h = go (p x) refl h (find-nothing p (suc j) l)
     go true e q f = let z : _≡_ {A = ℕ} 0 1 = cc in absurd (omega arith)
     go false e q f = cons e (f q)
 
+-- a place of the held slots is one of those held
+pub found-inside : (s : SlotList) (p : ℕ → Bool) (i : ℕ) → FoundAt p (heldSlots s) i → i < s .held
+found-inside s p i F =
+    omega (arith, F .place, ap length (F .split), length-append (F .before) (F .slot ∷ F .after), length-take (s .held) (s .order))
+
 module _ (keys : List Key) (s : SlotList) (k : Key) where
   pub found-at : (i : ℕ) → findOf keys s k ≡ At i → FoundAt (slotHas keys k) (heldSlots s) i
   unfolding findOf
@@ -119,9 +122,7 @@ module _ (keys : List Key) (s : SlotList) (k : Key) where
       subst (FoundAt (slotHas keys k) (heldSlots s)) e (r .2)
 
   pub found-below : (i : ℕ) → findOf keys s k ≡ At i → i < s .held
-  found-below i h =
-      let F = found-at i h in
-      omega (arith, F .place, ap length (F .split), length-append (F .before) (F .slot ∷ F .after), length-take (s .held) (s .order))
+  found-below i h = found-inside s (slotHas keys k) i (found-at i h)
 
   pub found-nothing : findOf keys s k ≡ Nothing → All (λ x. slotHas keys k x ≡ false) (heldSlots s)
   unfolding findOf
@@ -141,19 +142,3 @@ module _ (keys : List Key) (s : SlotList) where
   twice-not h =
       distinct-repeats sameKey keyRead (λ a b e. read-other a b (λ q. e (sym q))) (heldKeys keys s)
       (distinct-map (slotKey keys) keyRead (heldSlots s) h)
-
--- ---- what `held_twice` returns
-
-same-prints : (a b : Key) → sameKey a b ≡ true → eqb (fingerprint (keyRead a)) (fingerprint (keyRead b)) ≡ true
-same-prints a b h = eq-eqb _ _ (ap fingerprint (same-read a b h))
-
-module _ (keys : List Key) (s : SlotList) (n : ℕ) (long : length (s .order) ≡ 64) (is : n ≡ min (s .held) 64) where
-  pub compared : (r : Bool) → r ≡ repeats sameKey (map (slotKey keys) (take n (s .order))) → r ≡ heldTwice keys s
-  unfolding heldTwice
-  compared r e = e ∙ of-min (λ (l : List ℕ). repeats sameKey (map (slotKey keys) l)) (s .held) n 64 (s .order) long is
-
-  pub none-equal : (prints : List ℕ) → take n prints ≡ map (slotPrint keys) (take n (s .order)) → repeats eqb (take n prints) ≡ false → false ≡ heldTwice keys s
-  none-equal prints e h =
-      let f : Key → ℕ = λ (k : Key). fingerprint (keyRead k) in
-      let p : repeats eqb (map f (map (slotKey keys) (take n (s .order)))) ≡ false = ap (repeats eqb) (map-map f (slotKey keys) (take n (s .order)) ∙ sym e) ∙ h in
-      compared false (sym (repeats-image sameKey f eqb same-prints (map (slotKey keys) (take n (s .order))) p))

@@ -1,5 +1,5 @@
 -- Signed numbers of 32 bits, as the machine has them: 2 ^ 31 added at 64 bits is `raised v`, which is not negative and below 2 ^ 32; and `==` compares the bits. Assumes nothing.
-use Prim.Native.Nat.{ℕ, suc, _+_, _-_, _^_, _<_}
+use Prim.Native.Nat.{suc, _-_, _<_}
 use mathlib.Core.Path.{_≡_, refl, sym, ap, _∙_, subst}
 use mathlib.Core.Bool.{Bool, true, false, cond}
 use native.Mathlib.Omega.{arith}

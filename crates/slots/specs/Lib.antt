@@ -1,2 +1,3 @@
 pub mod Order
 pub mod Keys
+pub mod Examples

@@ -1,15 +1,13 @@
 -- `find` meets its contract. The invariant: the places left tell (`Finding`). The measure is the places left. Assumes nothing.
-use Prim.Native.Nat.{_-_, _≤_, _<_}
-use mathlib.Core.Path.{_≡_, refl, sym, ap, ap₂, _∙_}
+use Prim.Native.Nat.{_-_, _≤_}
+use mathlib.Core.Path.{_≡_, sym, _∙_}
 use native.Mathlib.Omega.{arith}
 use borrow.Author.Needs.{needs}
-use mathlib.Core.Bool.{Bool, _&&_}
-use mathlib.Core.List.{List}
-use Prim.Native.Nat.{ℕ}
+use mathlib.Core.Bool.{_&&_}
 use lib.ListN.{length, getD}
 use Rattle.lists.proofs.Walks.{of-min}
 use Rattle.slots.specs.Keys.{slotHas, findFrom, findOf}
-use Rattle.slots.proofs.Prints.{has-read, Finding, finding-start, finding-more, finding-stop, finding-end}
+use Rattle.slots.proofs.SlotReads.{has-read, Finding, finding-start, finding-more, finding-stop, finding-end}
 use Rattle.slots.proofs.find.Statement.{statement}
 use Rattle.slots.proofs.find.Tie as tie
 

@@ -3,7 +3,7 @@ use mathlib.Core.Path.{_≡_, sym, _∙_}
 use native.Mathlib.Omega.{arith}
 use borrow.Author.Needs.{needs}
 use lib.ListN.{length}
-use Rattle.slots.proofs.KeyLaws.{compared, none-equal}
+use Rattle.slots.proofs.Repeated.{compared, none-equal}
 use Rattle.slots.proofs.held_twice.Statement.{statement}
 use Rattle.slots.proofs.held_twice.Tie as tie
 

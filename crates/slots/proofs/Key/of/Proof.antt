@@ -1,11 +1,11 @@
 -- `Key::of` meets its contract. Assumes nothing.
 use Prim.Native.Nat.{min}
-use mathlib.Core.Path.{_≡_, refl, sym, ap, ap₂, _∙_}
+use mathlib.Core.Path.{_≡_, refl, _∙_}
 use native.Mathlib.Omega.{arith}
 use borrow.Author.Needs.{needs}
 use mathlib.Core.List.{List}
 use lib.IntN.{ℤ, pos}
-use lib.ListN.{length, take, replicate}
+use lib.ListN.{length, replicate}
 use Rattle.lists.specs.Lists.{written}
 use Rattle.lists.proofs.Walks.{of-min}
 use Rattle.slots.specs.Keys.{keyOf}

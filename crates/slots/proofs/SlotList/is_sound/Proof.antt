@@ -1,9 +1,6 @@
 -- `SlotList::is_sound` meets its contract: each return rewrites with the tests that led there. Assumes nothing.
-use mathlib.Core.Path.{_≡_, refl, sym, ap, ap₂, _∙_}
 use borrow.Author.Needs.{needs}
 use borrow.Author.Tests.{le-leb, lt-leb}
-use mathlib.Core.Bool.{Bool, true, false, _&&_, and-false}
-use lib.Dec.{leb}
 use Rattle.slots.specs.Order.{soundSlots}
 use Rattle.slots.proofs.SlotList.is_sound.Statement.{statement}
 use Rattle.slots.proofs.SlotList.is_sound.Tie as tie

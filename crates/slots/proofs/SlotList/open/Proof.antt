@@ -1,5 +1,4 @@
 -- `SlotList::open` meets its contract. Assumes nothing.
-use mathlib.Core.Path.{_≡_, refl, sym, ap, ap₂, _∙_}
 use borrow.Author.Needs.{needs}
 use Rattle.slots.specs.Order.{openOf}
 use Rattle.slots.proofs.SlotList.open.Statement.{statement}

@@ -17,7 +17,7 @@ returns : tie.Need-returns
 returns c = taken-none (c .before .args .t1) (not-true _ (c .if1 .taken))
 
 sub-last : tie.Need-sub-last
-sub-last c = some-slot c .0
+sub-last c = omega (arith, some-slot c)
 
 cast-slot : tie.Need-cast-slot
 cast-slot c = search needs

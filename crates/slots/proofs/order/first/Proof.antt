@@ -1,5 +1,5 @@
 -- `order::first` meets its contract. The invariant: the numbers from i on are still to be written at i. The measure is the places left. Assumes nothing.
-use Prim.Native.Nat.{_+_, _-_, _≤_}
+use Prim.Native.Nat.{_-_, _≤_}
 use mathlib.Core.Path.{_≡_, refl}
 use native.Mathlib.Omega.{arith}
 use borrow.Author.Needs.{needs}

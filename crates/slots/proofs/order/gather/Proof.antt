@@ -1,5 +1,5 @@
 -- `order::gather` meets its contract. The invariant: those left are still to be written (`Gathering`). The measure is the places left. Assumes nothing.
-use Prim.Native.Nat.{ℕ, _+_, _-_, _≤_, _<_}
+use Prim.Native.Nat.{_+_, _-_, _≤_}
 use mathlib.Core.Path.{_≡_, sym, _∙_}
 use native.Mathlib.Omega.{arith}
 use borrow.Author.Needs.{needs}
@@ -7,13 +7,14 @@ use mathlib.Core.Bool.{Bool, true, false, _&&_, Bool·beq}
 use mathlib.Core.Logic.{⊎-elim}
 use lib.ListN.{length, getD, length-set}
 use Rattle.slots.specs.Order.{hasMark, appended}
-use Rattle.slots.proofs.Prints.{mark-read}
+use Rattle.slots.proofs.SlotReads.{mark-read}
 use Rattle.slots.proofs.Gathers.{Gathering, gathering-start, gathering-room, gathering-take, gathering-skip, gathering-end}
 use Rattle.slots.proofs.order.gather.Statement.{statement}
 use Rattle.slots.proofs.order.gather.Tie as tie
 
 abbrev Inv-loop : tie.InvT-loop
-Inv-loop n want order marks places₀ len₀ i₀ places len i = (length order ≡ 64) × (length marks ≡ 64) × (length places ≡ 64) × Gathering (hasMark marks want) n order len₀ places₀ i len places
+Inv-loop n want order marks places₀ len₀ i₀ places len i =
+    (length order ≡ 64) × (length marks ≡ 64) × (length places ≡ 64) × Gathering (hasMark marks want) n order len₀ places₀ i len places
 
 abbrev μ-loop : tie.MeasureT-loop
 μ-loop n want order marks places₀ len₀ i₀ places len i = n - i

@@ -3,7 +3,7 @@ use native.Mathlib.Omega.{arith}
 use borrow.Author.Needs.{needs}
 use borrow.Author.Tests.{ltb-true}
 use mathlib.Core.Path.{sym, _∙_}
-use Rattle.slots.proofs.Prints.{is-index, no-index}
+use Rattle.slots.proofs.SlotReads.{is-index, no-index}
 use Rattle.slots.proofs.order.index.Statement.{statement}
 use Rattle.slots.proofs.order.index.Tie as tie
 

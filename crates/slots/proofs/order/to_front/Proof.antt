@@ -1,5 +1,5 @@
 -- `order::to_front` meets its contract. The invariant: with the slot in front and without the place i, the array is the one wanted. The measure is i. Assumes nothing.
-use Prim.Native.Nat.{_≤_, _<_}
+use Prim.Native.Nat.{_<_}
 use mathlib.Core.Path.{_≡_}
 use native.Mathlib.Omega.{arith}
 use borrow.Author.Needs.{needs}

@@ -1,5 +1,5 @@
 -- `twice::any_equal` meets its contract. The invariants: the pairs left tell (`Outer`, `Inner`). The measures are the places left. Assumes nothing.
-use Prim.Native.Nat.{_-_, _+_, _≤_, _<_}
+use Prim.Native.Nat.{_-_, _≤_, _<_}
 use mathlib.Core.Path.{_≡_, sym}
 use native.Mathlib.Omega.{arith}
 use borrow.Author.Needs.{needs}

@@ -1,13 +1,13 @@
 -- `twice::any_same` meets its contract. The invariants: the pairs left tell (`Outer`, `Inner`). The measures are the places left. Assumes nothing.
 use Prim.Native.Nat.{_-_, _≤_, _<_}
-use mathlib.Core.Path.{_≡_, refl, sym, ap, _∙_}
+use mathlib.Core.Path.{_≡_, _∙_}
 use native.Mathlib.Omega.{arith}
 use borrow.Author.Needs.{needs}
 use mathlib.Core.List.{map}
 use lib.ListN.{length, take, getD}
 use Rattle.lists.proofs.Repeats.{Outer, Inner, outer-start, inner-start, inner-more, inner-end, outer-end}
 use Rattle.slots.specs.Keys.{sameKey, slotKey}
-use Rattle.slots.proofs.Prints.{key-read, first-length, first-at}
+use Rattle.slots.proofs.SlotReads.{key-read, first-length, first-at}
 use Rattle.slots.proofs.twice.any_same.Statement.{statement}
 use Rattle.slots.proofs.twice.any_same.Tie as tie
 

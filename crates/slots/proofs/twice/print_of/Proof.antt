@@ -9,7 +9,7 @@ use mir.Syntax.{w32}
 use mir.Val.{SFits}
 use mir.Facts.{toZ-ofZ}
 use Rattle.slots.specs.Keys.{mixed}
-use Rattle.slots.proofs.Prints.{Mixing, mixing-start, mixing-more, mixing-end}
+use Rattle.slots.proofs.SlotReads.{Mixing, mixing-start, mixing-more, mixing-end}
 use Rattle.slots.proofs.twice.print_of.Statement.{statement}
 use Rattle.slots.proofs.twice.print_of.Tie as tie
 

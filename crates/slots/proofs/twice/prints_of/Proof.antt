@@ -1,21 +1,23 @@
 -- `twice::prints_of` meets its contract. The invariant: the fingerprints left are still to be written at i. The measure is the places left. Assumes nothing.
-use Prim.Native.Nat.{ℕ, _+_, _-_, _≤_, _<_}
+use Prim.Native.Nat.{ℕ, _+_, _-_, _≤_}
 use mathlib.Core.Path.{_≡_, refl, sym, ap, _∙_}
 use native.Mathlib.Omega.{arith}
 use borrow.Author.Needs.{needs}
 use mathlib.Core.List.{_∷_, map}
 use lib.ListN.{length, take, getD, length-set, length-take, length-map}
-use lib.Seq.{take-at, length-take-le}
+use lib.Seq.{take-at}
 use Rattle.lists.specs.Lists.{written}
 use Rattle.lists.proofs.Walks.{rest, rest-cons, rest-none, Filling, filling-more, filling-end}
 use Rattle.slots.specs.declared.Key.{Key}
 use Rattle.slots.specs.Keys.{keyRead, slotPrint, fingerprint}
-use Rattle.slots.proofs.Prints.{key-read}
+use Rattle.slots.proofs.SlotReads.{key-read}
 use Rattle.slots.proofs.twice.prints_of.Statement.{statement}
 use Rattle.slots.proofs.twice.prints_of.Tie as tie
 
 abbrev Inv-loop : tie.InvT-loop
-Inv-loop n keys places prints₀ i₀ prints i = (i ≤ n) × (length keys ≡ 64) × (length places ≡ 64) × (length prints ≡ 64) × Filling (written prints₀ 0 (map (slotPrint keys) (take n places))) prints i (map (slotPrint keys) (rest n i places))
+Inv-loop n keys places prints₀ i₀ prints i =
+    (i ≤ n) × (length keys ≡ 64) × (length places ≡ 64) × (length prints ≡ 64)
+    × Filling (written prints₀ 0 (map (slotPrint keys) (take n places))) prints i (map (slotPrint keys) (rest n i places))
 
 abbrev μ-loop : tie.MeasureT-loop
 μ-loop n keys places prints₀ i₀ prints i = n - i

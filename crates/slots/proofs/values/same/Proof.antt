@@ -1,5 +1,5 @@
 -- `values::same` meets its contract. The invariant: the values left tell. The measure is the values left. Assumes nothing.
-use Prim.Native.Nat.{_-_, _≤_}
+use Prim.Native.Nat.{_-_}
 use mathlib.Core.Path.{_≡_}
 use native.Mathlib.Omega.{arith}
 use borrow.Author.Needs.{needs}

@@ -1,7 +1,7 @@
 -- What is read of a slot: its index, its mark, its key; the keys of the first places; and the loops over values and places. Assumes nothing.
 use mathlib.Core.Path.{_≡_, refl, sym, ap, ap₂, _∙_}
 use mathlib.Core.Bool.{Bool, true, false, not, _&&_, cond, Bool·beq}
-use mathlib.Core.List.{List, _∷_, map}
+use mathlib.Core.List.{List, map}
 use Prim.Native.Nat.{ℕ, _+_, _*_, _≤_, _<_, min}
 use native.Mathlib.Numerals.{add-one}
 use native.Mathlib.Omega.{arith}
@@ -12,10 +12,8 @@ use lib.ListN.{length, take, getD, length-take, length-map, List·getD-eq-defaul
 use lib.Seq.{getD-take}
 use Rattle.lists.proofs.Places.{getD-inside}
 use Rattle.lists.proofs.Walks.{take-min, rest, rest-cons, rest-none}
-use Rattle.meaning.specs.Key as M
 use Rattle.meaning.specs.Limits.{most-slots}
 use Rattle.slots.specs.declared.Key.{Key}
-use Rattle.slots.specs.declared.Found.{Found}
 use Rattle.slots.specs.declared.Found.the-variants.{At, Nothing}
 use Rattle.slots.specs.Order.{ifSlot, isMarked, hasMark}
 use Rattle.slots.specs.Keys.{sameKey, noKey, slotKey, slotHas, findFrom, mixed, mixedAll, fingerprint}

@@ -1,0 +1,243 @@
+-- The kept answers of a sound state stay sound: where one is found and its slot moves to the front, where a new one takes the last slot, and where some are dropped.
+-- Assumes nothing.
+use mathlib.Core.Path.{_≡_, refl, sym, ap, ap₂, _∙_, subst}
+use mathlib.Core.Logic.{_≢_}
+use mathlib.Core.Bool.{Bool, false, not}
+use mathlib.Core.List.{List, [], _∷_, _++_, map, append-nil}
+use Prim.Native.Nat.{ℕ, zero, suc, _+_, _*_, _≤_, _<_}
+use native.Mathlib.Decide.{decLt}
+use native.Mathlib.Omega.{arith}
+use lib.ListN.{length, drop, getD, set}
+use lib.Seq.{getD-set-same, getD-set-other}
+use Rattle.lists.specs.Lists.{All, nil, cons, DistinctBy, Distinct, consIf, keep, from}
+use Rattle.lists.proofs.Lists.{All-map, All-both, All-left, All-keep, distinct-left, distinct-keep, distinct-image, distinct-source, map-append, map-same}
+use Rattle.lists.proofs.Moved.{Moved, still, to, moved-All, moved-distinct}
+use Rattle.meaning.specs.Key as M
+use Rattle.meaning.specs.Limits.{most-slots, least-slot-bytes}
+use Rattle.slots.specs.declared.Key.{Key}
+use Rattle.slots.specs.declared.SlotList.{SlotList}
+use Rattle.slots.specs.Keys.{noKey, keyRead, slotKey, heldTwice}
+use Rattle.slots.specs.Order.{heldSlots, frontOf, takenOf, isMarked, dropOf}
+use Rattle.slots.proofs.Fronts.{front-moved}
+use Rattle.slots.proofs.KeyLaws.{not-twice, twice-not}
+use Rattle.cache.proofs.SlotLaws as L
+use Rattle.cache.proofs.SlotLaws.{front-held, front-sound, drop-held, drop-sound, TakenFree, TakenHeld, taken-is, taken-sound, taken-below, taken-free, taken-held}
+use Rattle.cache.specs.declared.State.{State}
+use Rattle.cache.specs.Calls.{withCache, putIn, dropBy}
+use Rattle.cache.specs.Means.{Typed}
+use Rattle.cache.proofs.Sounds.{SlotsSound, slots-sound, sound-slots, KeySound, Sound, held-below}
+
+-- ---- lists
+
+module _ {A B : Type 0} (f : A → B) where
+  moved-map : {l r : List A} → Moved l r → Moved (map f l) (map f r)
+  moved-map still = still
+  moved-map (to {x = x} {l = l} a b m) =
+      subst (Moved (f x ∷ map f l)) (sym (map-append f a (x ∷ b)))
+      (to (map f a) (map f b) (subst (Moved (map f l)) (map-append f a b) (moved-map m)))
+
+  -- no two have the same f, in another order too
+  moved-different : {l r : List A} → Moved l r → DistinctBy f l → DistinctBy f r
+  moved-different {l} {r} m d = distinct-source f (λ (y : B). y) r (moved-distinct (moved-map m) (distinct-image f l d))
+
+  -- nor the same g, where each has the same g as f
+  same-different : {g : A → B} {l : List A} → All (λ x. g x ≡ f x) l → DistinctBy f l → DistinctBy g l
+  same-different {g} {l} h d = distinct-source g (λ (y : B). y) l (subst Distinct (sym (map-same f h)) (distinct-image f l d))
+
+-- tests that are the same of every member keep the same
+keep-same : (p q : ℕ → Bool) {l : List ℕ} → All (λ x. p x ≡ q x) l → keep p l ≡ keep q l
+keep-same p q nil = refl
+keep-same p q (cons {x = x} e h) = ap₂ (λ (b : Bool) (r : List ℕ). consIf b x r) e (keep-same p q h)
+
+mark-from : (p : ℕ → Bool) (i n x : ℕ) → x < n → getD (map p (from i n)) x false ≡ p (i + x)
+mark-from p i zero x h = absurd (omega arith)
+mark-from p i (suc n) zero h = let e : i ≡ i + 0 = omega arith in ap p e
+mark-from p i (suc n) (suc x) h = let e : suc i + x ≡ i + suc x = omega arith in mark-from p (suc i) n x (omega arith) ∙ ap p e
+
+mark-at : (p : ℕ → Bool) (x : ℕ) → x < most-slots → isMarked (map p (from 0 most-slots)) x ≡ p x
+mark-at p x h = let e : 0 + x ≡ x = omega arith in mark-from p 0 most-slots x h ∙ ap p e
+
+dropped-count : (p : ℕ → Bool) (l : SlotList) → dropBy p l .count ≡ l .count
+unfolding dropBy
+dropped-count p l = refl
+
+-- ---- the kept answers of a state, and others in their place
+
+abbrev pub keyAt : List Key → ℕ → M.Key
+keyAt keys x = keyRead (slotKey keys x)
+
+pub record Answers (s : State) (slots : SlotList) (keys : List Key) (lengths : List ℕ) : Type 0 where
+  pub count-same : slots .count ≡ s .slots .count
+  pub slots-sound : SlotsSound slots
+  pub lengths-fit : All (λ (x : ℕ). (least-slot-bytes ≤ getD lengths x 0) × (getD lengths x 0 ≤ s .«slot_bytes»)) (heldSlots slots)
+  pub keys-sound : All (λ (x : ℕ). KeySound s (slotKey keys x)) (heldSlots slots)
+  pub once : DistinctBy (keyAt keys) (heldSlots slots)
+
+pub answers-are : (s : State) → Sound s → Answers s (s .slots) (s .keys) (s .lengths)
+unfolding heldTwice
+answers-are s S = record {
+  count-same = refl;
+  slots-sound = S .slots;
+  lengths-fit = All-map (λ x L. (L .least, L .most)) (S .lengths);
+  keys-sound = S .keys;
+  once = not-twice (s .keys) (s .slots) (S .once);
+}
+
+module _ (s : State) (S : Sound s) where
+  pub answers-sound : (slots : SlotList) (keys : List Key) (lengths : List ℕ) → Answers s slots keys lengths → Sound (withCache s slots keys lengths)
+  unfolding withCache heldTwice
+  answers-sound slots keys lengths A = record {
+    sizes =
+        let e : slots .count ≡ s .slots .count = A .count-same in
+        record {
+          few-cells = S .sizes .few-cells;
+          few-memory = S .sizes .few-memory;
+          few-slots = omega (arith, S .sizes .few-slots);
+          least-bytes = S .sizes .least-bytes;
+          most-bytes = S .sizes .most-bytes;
+          room = subst (λ (n : ℕ). n * s .«slot_bytes» ≤ s .memory) (sym e) (S .sizes .room);
+        };
+    few-tables = S .few-tables;
+    few-queries = S .few-queries;
+    few-updates = S .few-updates;
+    areas = S .areas;
+    rows = S .rows;
+    tables = S .tables;
+    queries = S .queries;
+    updates = S .updates;
+    lengths = All-map (λ x L. record { least = L .0; most = L .1 }) (A .lengths-fit);
+    keys = All-map (λ x K. record { there = K .there; values = K .values }) (A .keys-sound);
+    once = twice-not keys slots (A .once);
+    slots = A .slots-sound;
+  }
+
+  abbrev answers : Answers s (s .slots) (s .keys) (s .lengths)
+  answers = answers-are s S
+
+  -- the slot list as its own laws have it
+  slot-list : L.Sound (s .slots)
+  slot-list = L.sound-is (s .slots) (sound-slots (s .slots) (S .slots))
+
+  list-sound : (l : SlotList) → L.Sound l → SlotsSound l
+  list-sound l H = slots-sound l (L.is-sound l H)
+
+  -- ---- "A kept answer found moves its slot to the front."
+
+  module _ (p : ℕ) (h : p < s .slots .held) where
+    held-moved : Moved (heldSlots (s .slots)) (heldSlots (frontOf (s .slots) p))
+    held-moved = subst (Moved (heldSlots (s .slots))) (sym (front-held (s .slots) p h)) (front-moved p (heldSlots (s .slots)))
+
+    pub front-stays : Sound (withCache s (frontOf (s .slots) p) (s .keys) (s .lengths))
+    unfolding frontOf
+    front-stays = answers-sound (frontOf (s .slots) p) (s .keys) (s .lengths) (record {
+      count-same = refl;
+      slots-sound = list-sound (frontOf (s .slots) p) (front-sound (s .slots) p (omega (arith, S .slots .within)) slot-list);
+      lengths-fit = moved-All held-moved (answers .lengths-fit);
+      keys-sound = moved-All held-moved (answers .keys-sound);
+      once = moved-different (keyAt (s .keys)) held-moved (answers .once);
+    })
+
+  -- ---- "Drops put held slots first and free ones after, each in the order they had."
+
+  module _ (T : Typed s) (p : ℕ → Bool) where
+    -- the same as a drop of slots that are marked
+    abbrev marks : List Bool
+    marks = map p (from 0 most-slots)
+
+    marked : All (λ (x : ℕ). p x ≡ isMarked marks x) (heldSlots (s .slots))
+    marked = All-map (λ x h. sym (mark-at p x (omega (arith, S .slots .few)))) (held-below s S)
+
+    pub dropped-is : dropBy p (s .slots) ≡ dropOf (s .slots) marks
+    unfolding dropBy dropOf
+    dropped-is =
+        ap₂ (λ (a b : List ℕ). record { order = a ++ b ++ drop (s .slots .held) (s .slots .order); held = length a; count = s .slots .count })
+        (keep-same (λ x. not (p x)) (λ x. not (isMarked marks x)) (All-map (λ x e. ap not e) marked)) (keep-same p (isMarked marks) marked)
+
+    held-left : heldSlots (dropBy p (s .slots)) ≡ keep (λ (x : ℕ). not (isMarked marks x)) (heldSlots (s .slots))
+    held-left = ap heldSlots dropped-is ∙ drop-held (s .slots) marks
+
+    pub drop-stays : Sound (withCache s (dropBy p (s .slots)) (s .keys) (s .lengths))
+    drop-stays =
+        let left : ℕ → Bool = λ (x : ℕ). not (isMarked marks x) in
+        answers-sound (dropBy p (s .slots)) (s .keys) (s .lengths) (record {
+          count-same = dropped-count p (s .slots);
+          slots-sound = subst SlotsSound (sym dropped-is) (list-sound (dropOf (s .slots) marks) (drop-sound (s .slots) marks slot-list (T .order-64)));
+          lengths-fit = rw held-left (All-keep left (λ x h e. h) (answers .lengths-fit));
+          keys-sound = rw held-left (All-keep left (λ x h e. h) (answers .keys-sound));
+          once = rw held-left (distinct-keep (keyAt (s .keys)) left (heldSlots (s .slots)) (answers .once));
+        })
+
+  -- ---- "A new record that fits a slot takes the last slot and moves it to the front."
+
+  module _ (T : Typed s) (some : 1 ≤ s .slots .count) where
+    abbrev last : ℕ
+    last = takenOf (s .slots) .slot
+
+    -- the other slots that are held then, and what else was held
+    record Others : Type 0 where
+      others : List ℕ
+      rest : List ℕ
+      before : heldSlots (s .slots) ≡ others ++ rest
+      held : heldSlots (takenOf (s .slots) .slots) ≡ last ∷ others
+      apart : All (λ (x : ℕ). x ≢ last) others
+
+    others-are : Others
+    others-are = go (decLt (s .slots .held) (s .slots .count))
+      where
+        go : Dec (s .slots .held < s .slots .count) → Others
+        go (yes h) =
+            let F : TakenFree (s .slots) = taken-free (s .slots) slot-list (T .order-64) some h in
+            record { others = heldSlots (s .slots); rest = []; before = sym (append-nil (heldSlots (s .slots))); held = F .held; apart = F .apart }
+        go (no h) =
+            let e : s .slots .held ≡ s .slots .count = omega (arith, S .slots .within) in
+            let H : TakenHeld (s .slots) = taken-held (s .slots) slot-list (T .order-64) some e in
+            record { others = H .others; rest = last ∷ []; before = H .before; held = H .held; apart = H .apart }
+
+    last-below : last < s .slots .count
+    last-below = taken-below (s .slots) slot-list (T .order-64) some
+
+    module _ (key : Key) (r : List ℕ) (ok : KeySound s key) (least : least-slot-bytes ≤ length r) (most : length r ≤ s .«slot_bytes»)
+        (new : All (λ (x : ℕ). keyAt (s .keys) x ≢ keyRead key) (heldSlots (s .slots))) where
+      abbrev keys′ : List Key
+      keys′ = set (s .keys) last key
+
+      abbrev lengths′ : List ℕ
+      lengths′ = set (s .lengths) last (length r)
+
+      key-here : slotKey keys′ last ≡ key
+      key-here = getD-set-same (s .keys) last key noKey (omega (arith, last-below, S .slots .few, T .keys-64))
+
+      key-there : (x : ℕ) → x ≢ last → slotKey keys′ x ≡ slotKey (s .keys) x
+      key-there x h = getD-set-other (s .keys) last x key noKey h
+
+      length-here : getD lengths′ last 0 ≡ length r
+      length-here = getD-set-same (s .lengths) last (length r) 0 (omega (arith, last-below, S .slots .few, T .lengths-64))
+
+      length-there : (x : ℕ) → x ≢ last → getD lengths′ x 0 ≡ getD (s .lengths) x 0
+      length-there x h = getD-set-other (s .lengths) last x (length r) 0 h
+
+      abbrev Fit : ℕ → Type 0
+      Fit n = (least-slot-bytes ≤ n) × (n ≤ s .«slot_bytes»)
+
+      -- what the others had they have still
+      still-have : (O : Others) {P Q : ℕ → Type 0} → ((x : ℕ) → x ≢ last → P x → Q x) → All P (heldSlots (s .slots)) → All Q (O .others)
+      still-have O {P} f a =
+          All-map (λ x h. f x (h .0) (h .1)) (All-both (O .apart) (All-left (O .others) (O .rest) (subst (All P) (O .before) a)))
+
+      put-answers : (O : Others) → Answers s (takenOf (s .slots) .slots) keys′ lengths′
+      put-answers O = record {
+        count-same = ap (λ t. t .slots .count) (taken-is (s .slots) slot-list (T .order-64) some);
+        slots-sound = list-sound (takenOf (s .slots) .slots) (taken-sound (s .slots) slot-list (T .order-64) some);
+        lengths-fit = rw (O .held)
+            (cons (subst Fit (sym length-here) (least, most)) (still-have O (λ x h L. subst Fit (sym (length-there x h)) L) (answers .lengths-fit)));
+        keys-sound = rw (O .held)
+            (cons (subst (KeySound s) (sym key-here) ok) (still-have O (λ x h K. subst (KeySound s) (sym (key-there x h)) K) (answers .keys-sound)));
+        once = rw (O .held) (
+          still-have O (λ x h n e. n (ap keyRead (sym (key-there x h)) ∙ e ∙ ap keyRead key-here)) new,
+          same-different (keyAt (s .keys)) (All-map (λ x h. ap keyRead (key-there x h)) (O .apart))
+              (distinct-left (keyAt (s .keys)) (O .others) (O .rest) (subst (DistinctBy (keyAt (s .keys))) (O .before) (answers .once))),
+        );
+      }
+
+      pub put-stays : Sound (putIn s key r (takenOf (s .slots)))
+      put-stays = answers-sound (takenOf (s .slots) .slots) keys′ lengths′ (put-answers others-are)
