@@ -22,8 +22,12 @@ use Rattle.trace.specs.Demand as D
 use Rattle.trace.proofs.Demand.{demands as on-model}
 use Rattle.cache.specs.Sound.{opening}
 use Rattle.cache.specs.Run.{Start, openingOf, opened, Call, add, ask, update, flush, Got, Seen, step, after, plainCall, gotOf, plainAfter}
-use Rattle.cache.specs.Demand.{OpensSound, StaysSound, SameAsPlain, slotCount, slotSize, past, nextAsk, AnewOnlyIf, KeptOtherwise, Values32, AnswerReadsBack}
-use Rattle.cache.proofs.Dropping.{MatchesMean}
+use Rattle.cache.specs.Demand.{SameAsPlain, slotCount, slotSize, past, nextAsk, AnewOnlyIf, KeptOtherwise, Values32, AnswerReadsBack, Demands}
+use Rattle.cache.proofs.Refusals.{lowest-number, refused-changes-nothing}
+use Rattle.cache.proofs.StaysSound.{opens-sound, stays-sound}
+use Rattle.cache.proofs.Standing.{stands-for-plain}
+use Rattle.cache.proofs.Plainly.{does-as-plain}
+use Rattle.cache.proofs.Dropping.{MatchesMean, drops-exactly-matched}
 use Rattle.cache.proofs.Meets.{Meets}
 use Rattle.cache.proofs.Follows.{Follows, follows-opened, gotsOf, plain-gets, meets, follows-after, follows-gets}
 
@@ -75,15 +79,15 @@ values-32 (ask n vs buffer) v = v
 values-32 (update n vs) v = v
 values-32 flush v = v
 
-module _ (opens-sound : OpensSound) (stays : StaysSound) (mean : MatchesMean) where
+module _ (mean : MatchesMean) where
   pub follows : (o : Start) (cs : List Call)
       → Follows (openingOf o .lent) (T.slotSize (openingOf o)) (after (opened o) cs) (D.afterCalls (startOf o) (map plainCall cs))
-  follows o cs = follows-after stays mean (follows-opened o opens-sound) cs
+  follows o cs = follows-after mean (follows-opened o) cs
 
   pub same-as-plain : SameAsPlain
   same-as-plain o cs =
       let same = on-model .same-as-plain (startOf o) (map plainCall cs) in (
-        follows-gets stays mean (follows-opened o opens-sound) cs ∙ ap (gotsOf cs) (same .0) ∙ plain-gets (openingOf o .lent) (P.opened (openingOf o)) cs,
+        follows-gets mean (follows-opened o) cs ∙ ap (gotsOf cs) (same .0) ∙ plain-gets (openingOf o .lent) (P.opened (openingOf o)) cs,
         sym (follows o cs .means .tables-are) ∙ ap (λ (p : Plain). p .tables) (same .1),
       )
 
@@ -91,7 +95,7 @@ module _ (opens-sound : OpensSound) (stays : StaysSound) (mean : MatchesMean) wh
   module _ (o : Start) (cs : List Call) (k : Key) (buffer : List ℕ) where
     next : Meets (after (opened o) cs) buffer (step (after (opened o) cs) (ask (k .query) (k .values) buffer))
         (T.step (openingOf o .lent) (T.slotSize (openingOf o)) (D.afterCalls (startOf o) (map plainCall cs)) (P.ask k (length buffer)))
-    next = meets stays mean (follows o cs) (ask (k .query) (k .values) buffer)
+    next = meets mean (follows o cs) (ask (k .query) (k .values) buffer)
 
     next-answer : nextAsk o cs k buffer .got .refusal ≡ 0 → (r : List ℕ) × (D.nextCall (startOf o) (map plainCall cs) (P.ask k (length buffer)) .out ≡ answered r)
     next-answer e = answer-of buffer _ (ask-out _ _ (D.afterCalls (startOf o) (map plainCall cs)) k (length buffer)) _ (next .got) e
@@ -114,3 +118,20 @@ module _ (opens-sound : OpensSound) (stays : StaysSound) (mean : MatchesMean) wh
       let b : nextAsk o cs k buffer .got .answer ≡ written buffer 0 (a .0) = ap (λ (x : Got). x .answer) (next o cs k buffer .got ∙ ap (gotOf buffer) (a .1)) in
       subst (λ (l : List ℕ). ReadsBack l (length (P.queryAt (plainAfter o cs) (k .query) .selected)) (rowsListed (plainAfter o cs) k)) (sym b)
       (on-model .kept-reads-back (startOf o) (map plainCall cs) (All-image plainCall (All-map values-32 v)) k (length buffer) (a .0) (a .1) (drop (0 + length (a .0)) buffer))
+
+-- ---- all claims
+
+pub demands : MatchesMean → Demands
+demands mean = record {
+  lowest-number = lowest-number;
+  refused-changes-nothing = refused-changes-nothing;
+  opens-sound = opens-sound;
+  stays-sound = stays-sound;
+  stands-for-plain = stands-for-plain;
+  does-as-plain = does-as-plain;
+  drops-exactly-matched = drops-exactly-matched mean;
+  same-as-plain = same-as-plain mean;
+  anew-only-if = anew-only-if mean;
+  kept-otherwise = kept-otherwise mean;
+  answer-reads-back = answer-reads-back mean;
+}

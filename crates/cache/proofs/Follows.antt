@@ -3,28 +3,29 @@
 use mathlib.Core.Path.{_≡_, refl, sym, ap, ap₂, _∙_, subst}
 use mathlib.Core.Bool.{Bool, true, false, cond}
 use mathlib.Core.List.{List, [], _∷_, map}
-use Prim.Native.Nat.{ℕ, zero, suc, _≤_, zero-le}
-use native.Mathlib.Nat.{le-of-suc-le-suc, not-suc-le-zero}
+use Prim.Native.Nat.{ℕ, _≤_, zero-le}
 use lib.IntN.{ℤ, pos}
-use lib.ListN.{length, take, replicate, length-replicate}
-use Rattle.lists.specs.Lists.{nil, from}
+use lib.ListN.{length, replicate, length-replicate}
+use Rattle.lists.specs.Lists.{nil}
 use Rattle.meaning.specs.Limits.{most-slots}
 use Rattle.meaning.specs.Plain as P
 use Rattle.meaning.specs.Plain.{Lengths, Plain, Opening, openingRefused, Out}
 use Rattle.trace.specs.Slots.{slotBytes, empty}
 use Rattle.trace.specs.Model as T
 use Rattle.trace.specs.Model.{Model}
-use Rattle.slots.specs.Order.{openOf as slotsOpen}
+use Rattle.slots.specs.Keys.{noKey}
+use Rattle.slots.proofs.Laws.{open-held, open-free}
 use Rattle.cache.specs.Sound.{opening, soundState}
 use Rattle.cache.specs.Means.{Means, Typed}
 use Rattle.cache.specs.Means as L
 use Rattle.cache.specs.Calls.{emptyState, opens, openOf}
 use Rattle.cache.specs.Run.{Store, Start, openingOf, storeOf, opened, Call, Got, Seen, step, after, gets, plainCall, bufferOf, gotOf, plainGets}
-use Rattle.cache.specs.Demand.{OpensSound, StaysSound, lengthsLent, slotSize}
+use Rattle.cache.specs.Demand.{lengthsLent}
 use Rattle.cache.proofs.Sounds.{sizes-fit}
 use Rattle.cache.proofs.Typed.{opened-typed, step-typed}
+use Rattle.cache.proofs.StaysSound.{opens-sound, stays-sound}
 use Rattle.cache.proofs.Dropping.{MatchesMean}
-use Rattle.cache.proofs.Model.{cacheOf}
+use Rattle.cache.proofs.Model.{heldIn, cacheOf}
 use Rattle.cache.proofs.Meets.{Meets, step-meets}
 
 -- ---- what holds between the calls
@@ -39,12 +40,6 @@ pub record Follows (lent : Lengths) (size : ℕ) (s : Store) (m : Model) : Type 
 
 -- ---- an opening, taken or refused
 
--- "at first 0, 1, 2 and on"
-first-of : (i n m : ℕ) → n ≤ m → take n (from i m) ≡ from i n
-first-of i zero m h = refl
-first-of i (suc n) zero h = absurd (not-suc-le-zero h)
-first-of i (suc n) (suc m) h = ap (λ (l : List ℕ). i ∷ l) (first-of (suc i) n m (le-of-suc-le-suc h))
-
 -- an empty state stands for a plain store without tables and statements, and keeps no answer
 module _ (o : Opening) where
   empty-means : (cells : List ℤ) → Means (emptyState o) cells (record { lengths = o .lent; tables = []; queries = []; updates = [] })
@@ -52,8 +47,10 @@ module _ (o : Opening) where
   empty-means cells = record { cells-are = refl; memory-is = refl; tables-are = refl; queries-are = L.nil; updates-are = L.nil }
 
   empty-cache : (memory : List ℕ) → o .slots ≤ most-slots → empty (o .slots) memory ≡ cacheOf (emptyState o) memory
-  unfolding emptyState slotsOpen
-  empty-cache memory h = ap (λ (l : List ℕ). record { held = []; free = l; memory = memory }) (sym (first-of 0 (o .slots) most-slots h))
+  unfolding emptyState
+  empty-cache memory h =
+      ap₂ (λ (h f : List ℕ). record { held = map (heldIn (replicate 64 noKey) (replicate 64 0)) h; free = f; memory = memory })
+      (sym (open-held (o .slots))) (sym (open-free (o .slots) h))
 
   empty-bytes : emptyState o .«slot_bytes» ≡ o .slotBytes
   unfolding emptyState
@@ -92,9 +89,9 @@ module _ (o : Start) where
     size-is = empty-bytes (openingOf o);
   }
 
-  pub follows-opened : OpensSound → Follows (openingOf o .lent) (T.slotSize (openingOf o)) (opened o) (T.opened (openingOf o) (o .memory))
+  pub follows-opened : Follows (openingOf o .lent) (T.slotSize (openingOf o)) (opened o) (T.opened (openingOf o) (o .memory))
   unfolding openOf
-  follows-opened sound = follows-by (openingRefused (openingOf o)) refl (opened-typed o) (sound o)
+  follows-opened = follows-by (openingRefused (openingOf o)) refl (opened-typed o) (opens-sound o)
 
 -- ---- each call keeps it so
 
@@ -109,7 +106,7 @@ plain-gets lent p [] = refl
 plain-gets lent p (c ∷ cs) =
     ap (λ (l : List Got). gotOf (bufferOf c) (P.step lent p (plainCall c) .1) ∷ l) (plain-gets lent (P.step lent p (plainCall c) .0) cs)
 
-module _ (stays : StaysSound) (mean : MatchesMean) {lent : Lengths} {size : ℕ} where
+module _ (mean : MatchesMean) {lent : Lengths} {size : ℕ} where
   pub meets : {s : Store} {m : Model} → Follows lent size s m → (c : Call) → Meets s (bufferOf c) (step s c) (T.step lent size m (plainCall c))
   meets {s} {m} F c =
       let M = step-meets mean s (m .store) (F .typed) (F .sound) (F .means) c in
@@ -123,7 +120,7 @@ module _ (stays : StaysSound) (mean : MatchesMean) {lent : Lengths} {size : ℕ}
       let M = meets F c in
       record {
         typed = step-typed s c (F .typed);
-        sound = stays s c (F .typed) (F .sound);
+        sound = stays-sound s c (F .typed) (F .sound);
         means = M .means;
         cached = M .cached;
         lent-is = ap₂ (λ (a b : ℕ). record { cells = a; memory = b }) (M .cells-long) (M .memory-long) ∙ F .lent-is;

@@ -2,13 +2,14 @@
 use mathlib.Core.Path.{_≡_, refl, sym, ap, _∙_, subst}
 use mathlib.Core.Bool.{Bool, true, false, _&&_, cond}
 use mathlib.Core.Option.{Option, some}
-use mathlib.Core.List.{List, [], _∷_, _++_, map}
+use mathlib.Core.List.{List, [], _++_, map}
 use Prim.Native.Nat.{ℕ, zero, suc, _+_, _≤_, _<_}
 use native.Mathlib.Omega.{arith}
 use borrow.Author.Tests.{eqb-true}
 use lib.Dec.{eqb, ltb}
 use lib.IntN.{ℤ}
 use lib.ListN.{length, getD}
+use lib.Seq.{getD-take, getD-at}
 use Rattle.lists.specs.Lists.{All, written}
 use Rattle.lists.proofs.Bools.{and-right, not-false}
 use Rattle.lists.proofs.Lists.{All-head, All-right, All-map, All-every, All-getD}
@@ -27,9 +28,9 @@ use Rattle.statement.proofs.SoundQuery.{query-parts}
 use Rattle.table.proofs.ChangedMeans.{cells-length}
 use Rattle.slots.specs.declared.Found.{Found}
 use Rattle.slots.specs.declared.Found.the-variants.{At, Nothing}
-use Rattle.slots.specs.Keys.{keyOf}
+use Rattle.slots.specs.Keys.{keyOf, slotHas}
 use Rattle.slots.specs.Order.{heldSlots, frontOf}
-use Rattle.slots.proofs.KeyLaws.{key-few}
+use Rattle.slots.proofs.KeyLaws.{key-few, FoundAt, found-inside, found-at}
 use Rattle.cache.specs.declared.State.{State}
 use Rattle.cache.specs.declared.Added.{Added}
 use Rattle.cache.specs.Sound.{soundState, lengthAt, queryAt}
@@ -43,8 +44,8 @@ use Rattle.cache.proofs.Asking.{cache-means, rows-asked, record-is, ask
 use Rattle.cache.proofs.Updating.{update-there}
 use Rattle.cache.proofs.Plainly.{does-as-plain}
 use Rattle.cache.proofs.Dropping.{MatchesMean, matched-is}
-use Rattle.cache.proofs.Model.{heldIn, cacheOf, place-is}
-use Rattle.cache.proofs.Finds.{asKey, Finds, find-is}
+use Rattle.cache.proofs.Model.{heldIn, cacheOf}
+use Rattle.cache.proofs.Finds.{asKey, find-held, find-missed}
 use Rattle.cache.proofs.Caches.{cached-front, cached-drop, cached-put, kept-is, bytes-long, kept-long}
 
 -- ---- a store and a plain store that it stands for, as a model
@@ -104,6 +105,9 @@ module _ (s : Store) (p : Plain) (Ty : Typed (s .state)) (h : soundState (s .sta
   short-meets true r q d = refused-meets s p m buffer 13
   short-meets false r q d = d
 
+  below : All (λ x. x < most-slots) (heldSlots (s .state .slots))
+  below = All-map (λ x l. omega (arith, S .slots .few)) (held-below (s .state) S)
+
   module _ (A : Asked (lengthsLent s) p (asKey n vs)) where
     there : n < s .state .«query_count»
     there = subst (λ k. n < k) (query-count (s .state) Ty S (s .cells) p m) (A .there)
@@ -136,27 +140,28 @@ module _ (s : Store) (p : Plain) (Ty : Typed (s .state)) (h : soundState (s .sta
         })
         (s .memory) (written buffer 0 (bytesAt (s .state) (s .memory) x)))
 
-    module _ (i : ℕ) (a : List ℕ) (x : ℕ) (b : List ℕ) (is : heldSlots (s .state .slots) ≡ a ++ x ∷ b) (at : length a ≡ i) where
-      place : getD (s .state .slots .order) i 0 ≡ x
-      place = place-is (s .state .slots) (S .slots .within) (omega (arith, Ty .order-64, S .slots .few)) i a x b is at
+    module _ (i : ℕ) (F : FoundAt (slotHas (s .state .keys) (keyOf n vs)) (heldSlots (s .state .slots)) i) where
+      place : getD (s .state .slots .order) i 0 ≡ F .slot
+      place =
+          sym (getD-take (s .state .slots .held) (s .state .slots .order) i 0 (found-inside (s .state .slots) _ i F))
+          ∙ ap (λ (l : List ℕ). getD l i 0) (F .split)
+          ∙ getD-at (F .before) (F .slot) (F .after) 0 i (F .place)
 
-      long : length (bytesAt (s .state) (s .memory) x) ≡ lengthAt (s .state) x
-      long = bytes-long (s .state) Ty S (s .memory) memory-lent x (All-head (All-right a (rw is at (held-sound (s .state) S))))
+      long : length (bytesAt (s .state) (s .memory) (F .slot)) ≡ lengthAt (s .state) (F .slot)
+      long = bytes-long (s .state) Ty S (s .memory) memory-lent (F .slot) (All-head (All-right (F .before) (rw (F .split) at (held-sound (s .state) S))))
 
-      cached-is : askCached (s .state) (s .memory) buffer i ≡ shown i x (length (bytesAt (s .state) (s .memory) x))
+      cached-is : askCached (s .state) (s .memory) buffer i ≡ shown i (F .slot) (length (bytesAt (s .state) (s .memory) (F .slot)))
       unfolding askCached
-      cached-is = ap (λ (y : ℕ). shown i y (lengthAt (s .state) y)) place ∙ ap (shown i x) (sym long)
+      cached-is = ap (λ (y : ℕ). shown i y (lengthAt (s .state) y)) place ∙ ap (shown i (F .slot)) (sym long)
 
-      moved-meets : Meets s buffer (stepAsk s (askCached (s .state) (s .memory) buffer i))
-          (modelAsked (some (heldAt x, map heldAt (a ++ b))))
+      moved-meets : Meets s buffer (stepAsk s (askCached (s .state) (s .memory) buffer i)) (modelAsked (some (heldAt (F .slot), map heldAt (F .before ++ F .after))))
       unfolding withCache
       moved-meets =
-          subst (λ (r : Asks). Meets s buffer (stepAsk s r) (modelAsked (some (heldAt x, map heldAt (a ++ b)))))
-          (sym cached-is)
-          (short-meets (ltb (length buffer) (length (bytesAt (s .state) (s .memory) x))) _ _
+          subst (λ (r : Asks). Meets s buffer (stepAsk s r) (modelAsked (some (heldAt (F .slot), map heldAt (F .before ++ F .after))))) (sym cached-is)
+          (short-meets (ltb (length buffer) (length (bytesAt (s .state) (s .memory) (F .slot)))) _ _
           (record {
             means = cache-means (s .state) (s .cells) p m (frontOf (s .state .slots) i) (s .state .keys) (s .state .lengths);
-            cached = sym (cached-front (s .state) Ty S (s .memory) i a x b is at);
+            cached = sym (cached-front (s .state) Ty S (s .memory) _ i F);
             cells-long = refl;
             memory-long = refl;
             bytes-same = refl;
@@ -200,17 +205,17 @@ module _ (s : Store) (p : Plain) (Ty : Typed (s .state)) (h : soundState (s .sta
 
     -- ---- by what is found
 
-    found-meets : (f : Found) → Finds heldAt 0 f (heldSlots (s .state .slots)) modelFinds
+    found-meets : (f : Found) → foundIn (s .state) n vs ≡ f
         → Meets s buffer (stepAsk s (askFound f (s .state) (s .cells) (s .memory) buffer n vs)) (modelAsked modelFinds)
-    found-meets (At i) (a, x, b, is, at, got) =
-        subst (λ o. Meets s buffer (stepAsk s (askCached (s .state) (s .memory) buffer i)) (modelAsked o)) (sym got)
-        (moved-meets i a x b is (omega arith))
-    found-meets Nothing got =
-        subst (λ o. Meets s buffer (stepAsk s (askNew (s .state) (s .cells) (s .memory) buffer n vs)) (modelAsked o)) (sym got)
+    found-meets (At i) e =
+        let F = found-at (s .state .keys) (s .state .slots) (keyOf n vs) i e in
+        subst (λ o. Meets s buffer (stepAsk s (askCached (s .state) (s .memory) buffer i)) (modelAsked o))
+        (sym (find-held (s .state .keys) (s .state .lengths) (s .state .slots) below n vs few-values i F))
+        (moved-meets i F)
+    found-meets Nothing e =
+        subst (λ o. Meets s buffer (stepAsk s (askNew (s .state) (s .cells) (s .memory) buffer n vs)) (modelAsked o))
+        (sym (find-missed (s .state .keys) (s .state .lengths) (s .state .slots) below n vs few-values e))
         new-meets
-
-  below : All (λ x. x < most-slots) (heldSlots (s .state .slots))
-  below = All-map (λ x l. omega (arith, S .slots .few)) (held-below (s .state) S)
 
   ask-meets : Meets s buffer (step s (ask n vs buffer)) (T.step (lengthsLent s) size (modelOf s p) (P.ask (asKey n vs) (length buffer)))
   unfolding step askOf settled
@@ -224,7 +229,7 @@ module _ (s : Store) (p : Plain) (Ty : Typed (s .state)) (h : soundState (s .sta
           (guard k (modelOf s p) turned (modelAsked modelFinds))
       go zero e =
           let A = key-asked (lengthsLent s) p (asKey n vs) (sym (ask-number s p Ty h m n vs buffer) ∙ e) in
-          found-meets A (foundIn (s .state) n vs) (find-is (s .state .keys) (s .state .lengths) n vs (few-values A) (s .state .slots) below)
+          found-meets A (foundIn (s .state) n vs) refl
       go (suc k) e = refused-meets s p m buffer (suc k)
 
 -- ---- a text, an update, a flush: what they get, and the plain store after them, is known
