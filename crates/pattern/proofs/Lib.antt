@@ -1,0 +1,4 @@
+pub mod OperandCodes
+pub mod Least
+pub mod Clauses
+pub mod Laws
