@@ -4,7 +4,6 @@ pub mod StaysCases
 pub mod StaysCompiled
 pub mod Typed
 pub mod StaysAdded
-pub mod SlotLaws
 pub mod StaysAnswers
 pub mod StaysAsked
 pub mod StaysUpdated

@@ -1,18 +1,18 @@
 -- Soundness part by part: what the test of a state says, as a record, both ways; and what it says of the table, the statement or the held slot at a place.
 -- Assumes nothing.
-use mathlib.Core.Path.{_≡_, sym, ap, _∙_, subst}
+use mathlib.Core.Path.{_≡_, ap, _∙_, subst}
 use mathlib.Core.Bool.{Bool, true, false, not}
 use mathlib.Core.List.{List, []}
 use Prim.Native.Nat.{ℕ, suc, _+_, _*_, _≤_, _<_}
 use native.Mathlib.Nat.{mul-le-mul-right, suc-mul}
 use native.Mathlib.Omega.{arith}
 use borrow.Author.Tests.{ltb-true, ltb-false, leb-true, eqb-true, lt-ltb, le-ltb, le-leb, eq-eqb}
-use lib.Dec.{eqb, leb, ltb}
+use lib.Dec.{leb, ltb}
 use lib.ListN.{length, take, getD, length-map}
-use lib.Seq.{getD-take, length-take-le, take-take}
+use lib.Seq.{getD-take, length-take-le}
 use Rattle.lists.specs.Lists.{All, all, repeats}
 use Rattle.lists.proofs.Bools.{and-left, and-right, and-both, or-left, or-right, not-true}
-use Rattle.lists.proofs.Lists.{All-map, All-both, All-take, all-true, All-source, All-image}
+use Rattle.lists.proofs.Lists.{All-map, All-both, All-take, all-true, all-of, All-source, All-image}
 use Rattle.lists.proofs.Places.{All-at}
 use Rattle.meaning.specs.Limits.{most-cells, most-memory, most-slots, least-slot-bytes, most-slot-bytes, most-tables, most-queries, most-updates}
 use Rattle.meaning.specs.Names.{Schema}
@@ -26,12 +26,11 @@ use Rattle.statement.specs.Sound as S
 use Rattle.statement.specs.Sound.{soundQuery, soundUpdate, TablesFit}
 use Rattle.statement.proofs.SoundNames.{or-none}
 use Rattle.statement.proofs.SoundTables.{tables-fit as all-fit}
-use Rattle.statement.proofs.Stored.{all-of}
 use Rattle.soundness.specs.Soundness.{tablesSound, queriesSound, updatesSound}
 use Rattle.slots.specs.declared.Key.{Key}
-use Rattle.slots.specs.declared.SlotList.{SlotList}
 use Rattle.slots.specs.Keys.{slotKey, heldKeys, sameKey, heldTwice}
-use Rattle.slots.specs.Order.{slotsOf, heldSlots, soundSlots}
+use Rattle.slots.specs.Order.{heldSlots}
+use Rattle.slots.proofs.Laws as L
 use Rattle.cache.specs.declared.State.{State}
 use Rattle.cache.specs.Sound.{opening, soundSizes, soundCounts, usedTables, areasOf, soundAreas, rowsFit, soundRows, lengthAt, lengthFits, soundLengths, queryAt, soundKey, soundKeys, soundTables, soundAnswers, soundState}
 use Rattle.cache.specs.Calls.{tableAt, updateAt}
@@ -89,37 +88,6 @@ module _ (o : Opening) where
       (or-none longSlots _ (le-ltb most-slot-bytes (o .slotBytes) (F .most-bytes))
       (le-ltb (o .lent .memory) (o .slots * o .slotBytes) (F .room))))))
 
--- ---- "its slot list names each slot once, held ones first"
-
-pub record SlotsSound (l : SlotList) : Type 0 where
-  pub few : l .count ≤ most-slots
-  pub within : l .held ≤ l .count
-  pub below : All (λ x. x < l .count) (slotsOf l)
-  pub once : repeats eqb (slotsOf l) ≡ false
-
-module _ (l : SlotList) where
-  abbrev isBelow : ℕ → Bool
-  isBelow x = ltb x (l .count)
-
-  pub slots-sound : soundSlots l ≡ true → SlotsSound l
-  unfolding soundSlots
-  slots-sound h₁ =
-      let h₂ = and-right (leb (l .count) most-slots) _ h₁ in
-      let h₃ = and-right (leb (l .held) (l .count)) _ h₂ in
-      record {
-        few = leb-true (l .count) most-slots (and-left (leb (l .count) most-slots) _ h₁);
-        within = leb-true (l .held) (l .count) (and-left (leb (l .held) (l .count)) _ h₂);
-        below = All-map (λ x e. ltb-true x (l .count) e) (all-true isBelow (slotsOf l) (and-left (all isBelow (slotsOf l)) _ h₃));
-        once = not-true (repeats eqb (slotsOf l)) (and-right (all isBelow (slotsOf l)) _ h₃);
-      }
-
-  pub sound-slots : SlotsSound l → soundSlots l ≡ true
-  unfolding soundSlots
-  sound-slots S =
-      and-both (leb (l .count) most-slots) _ (le-leb (l .count) most-slots (S .few))
-      (and-both (leb (l .held) (l .count)) _ (le-leb (l .held) (l .count) (S .within))
-      (and-both (all isBelow (slotsOf l)) _ (all-of isBelow (All-map (λ x e. lt-ltb x (l .count) e) (S .below))) (ap not (S .once))))
-
 -- ---- the state
 
 -- what the tables' TABLE texts say
@@ -149,7 +117,7 @@ pub record Sound (s : State) : Type 0 where
   pub lengths : All (LengthSound s) (heldSlots (s .slots))
   pub keys : All (λ (x : ℕ). KeySound s (slotKey (s .keys) x)) (heldSlots (s .slots))
   pub once : repeats sameKey (heldKeys (s .keys) (s .slots)) ≡ false
-  pub slots : SlotsSound (s .slots)
+  pub slots : L.Sound (s .slots)
 
 module _ (s : State) where
   abbrev lengthTest : ℕ → Bool
@@ -216,7 +184,7 @@ module _ (s : State) where
             All-map (λ x e. key-is (slotKey (s .keys) x) e)
             (All-source (slotKey (s .keys)) (heldSlots (s .slots)) (all-true (soundKey s) (heldKeys (s .keys) (s .slots)) (and-left slotKeys _ keys)));
         once = not-true (heldTwice (s .keys) (s .slots)) (and-right slotKeys _ keys);
-        slots = slots-sound (s .slots) (and-right (soundKeys s) _ answers₁);
+        slots = L.sound-is (s .slots) (and-right (soundKeys s) _ answers₁);
       }
 
   -- ---- and back
@@ -236,7 +204,7 @@ module _ (s : State) where
         and-both (soundLengths s) _ (all-of lengthTest (All-map is-length (S .lengths)))
         (and-both (soundKeys s) _
         (and-both slotKeys _ (all-of (soundKey s) (All-image (slotKey (s .keys)) (All-map (λ x K. is-key (slotKey (s .keys) x) K) (S .keys)))) (ap not (S .once)))
-        (sound-slots (s .slots) (S .slots)))
+        (L.is-sound (s .slots) (S .slots)))
 
     pub is-sound : soundState s ≡ true
     unfolding soundState
@@ -270,12 +238,8 @@ module _ (s : State) (S : Sound s) where
       let m : suc x * s .«slot_bytes» ≤ s .slots .count * s .«slot_bytes» = mul-le-mul-right (s .«slot_bytes») h in
       omega (arith, suc-mul x (s .«slot_bytes»), S .sizes .room)
 
-  -- the held slots are the first of the slots
-  pub held-slots : heldSlots (s .slots) ≡ take (s .slots .held) (slotsOf (s .slots))
-  held-slots = sym (take-take (s .slots .held) (s .slots .count) (s .slots .order) (S .slots .within))
-
   pub held-below : All (λ x. x < s .slots .count) (heldSlots (s .slots))
-  held-below = subst (λ (l : List ℕ). All (λ x. x < s .slots .count) l) (sym held-slots) (All-take (s .slots .held) (S .slots .below))
+  held-below = L.held-below (s .slots) (S .slots)
 
   pub held-sound : All (HeldSound s) (heldSlots (s .slots))
   held-sound =

@@ -9,40 +9,23 @@ use native.Mathlib.Decide.{decLt}
 use native.Mathlib.Omega.{arith}
 use lib.ListN.{length, drop, getD, set}
 use lib.Seq.{getD-set-same, getD-set-other}
-use Rattle.lists.specs.Lists.{All, nil, cons, DistinctBy, Distinct, consIf, keep, from}
-use Rattle.lists.proofs.Lists.{All-map, All-both, All-left, All-keep, distinct-left, distinct-keep, distinct-image, distinct-source, map-append, map-same}
-use Rattle.lists.proofs.Moved.{Moved, still, to, moved-All, moved-distinct}
-use Rattle.meaning.specs.Key as M
+use Rattle.lists.specs.Lists.{All, nil, cons, consIf, keep, from}
+use Rattle.lists.proofs.Lists.{All-map, All-both, All-left, All-keep}
+use Rattle.lists.proofs.Moved.{Moved, moved-All}
 use Rattle.meaning.specs.Limits.{most-slots, least-slot-bytes}
 use Rattle.slots.specs.declared.Key.{Key}
 use Rattle.slots.specs.declared.SlotList.{SlotList}
 use Rattle.slots.specs.Keys.{noKey, keyRead, slotKey, heldTwice}
 use Rattle.slots.specs.Order.{heldSlots, frontOf, takenOf, isMarked, dropOf}
-use Rattle.slots.proofs.Fronts.{front-moved}
-use Rattle.slots.proofs.KeyLaws.{not-twice, twice-not}
-use Rattle.cache.proofs.SlotLaws as L
-use Rattle.cache.proofs.SlotLaws.{front-held, front-sound, drop-held, drop-sound, TakenFree, TakenHeld, taken-is, taken-sound, taken-below, taken-free, taken-held}
+use Rattle.slots.proofs.Laws as L
+use Rattle.slots.proofs.Laws.{held-front, front-sound, drop-held, drop-sound, TakenFree, TakenHeld, taken-is, taken-sound, taken-below, taken-free, taken-held}
+use Rattle.slots.proofs.HeldLaws.{front-once, drop-once, put-once}
 use Rattle.cache.specs.declared.State.{State}
 use Rattle.cache.specs.Calls.{withCache, putIn, dropBy}
 use Rattle.cache.specs.Means.{Typed}
-use Rattle.cache.proofs.Sounds.{SlotsSound, slots-sound, sound-slots, KeySound, Sound, held-below}
+use Rattle.cache.proofs.Sounds.{KeySound, Sound, held-below}
 
 -- ---- lists
-
-module _ {A B : Type 0} (f : A → B) where
-  moved-map : {l r : List A} → Moved l r → Moved (map f l) (map f r)
-  moved-map still = still
-  moved-map (to {x = x} {l = l} a b m) =
-      subst (Moved (f x ∷ map f l)) (sym (map-append f a (x ∷ b)))
-      (to (map f a) (map f b) (subst (Moved (map f l)) (map-append f a b) (moved-map m)))
-
-  -- no two have the same f, in another order too
-  moved-different : {l r : List A} → Moved l r → DistinctBy f l → DistinctBy f r
-  moved-different {l} {r} m d = distinct-source f (λ (y : B). y) r (moved-distinct (moved-map m) (distinct-image f l d))
-
-  -- nor the same g, where each has the same g as f
-  same-different : {g : A → B} {l : List A} → All (λ x. g x ≡ f x) l → DistinctBy f l → DistinctBy g l
-  same-different {g} {l} h d = distinct-source g (λ (y : B). y) l (subst Distinct (sym (map-same f h)) (distinct-image f l d))
 
 -- tests that are the same of every member keep the same
 keep-same : (p q : ℕ → Bool) {l : List ℕ} → All (λ x. p x ≡ q x) l → keep p l ≡ keep q l
@@ -63,15 +46,12 @@ dropped-count p l = refl
 
 -- ---- the kept answers of a state, and others in their place
 
-abbrev pub keyAt : List Key → ℕ → M.Key
-keyAt keys x = keyRead (slotKey keys x)
-
 pub record Answers (s : State) (slots : SlotList) (keys : List Key) (lengths : List ℕ) : Type 0 where
   pub count-same : slots .count ≡ s .slots .count
-  pub slots-sound : SlotsSound slots
+  pub slots-sound : L.Sound slots
   pub lengths-fit : All (λ (x : ℕ). (least-slot-bytes ≤ getD lengths x 0) × (getD lengths x 0 ≤ s .«slot_bytes»)) (heldSlots slots)
   pub keys-sound : All (λ (x : ℕ). KeySound s (slotKey keys x)) (heldSlots slots)
-  pub once : DistinctBy (keyAt keys) (heldSlots slots)
+  pub once : heldTwice keys slots ≡ false
 
 pub answers-are : (s : State) → Sound s → Answers s (s .slots) (s .keys) (s .lengths)
 unfolding heldTwice
@@ -80,7 +60,7 @@ answers-are s S = record {
   slots-sound = S .slots;
   lengths-fit = All-map (λ x L. (L .least, L .most)) (S .lengths);
   keys-sound = S .keys;
-  once = not-twice (s .keys) (s .slots) (S .once);
+  once = S .once;
 }
 
 module _ (s : State) (S : Sound s) where
@@ -107,34 +87,27 @@ module _ (s : State) (S : Sound s) where
     updates = S .updates;
     lengths = All-map (λ x L. record { least = L .0; most = L .1 }) (A .lengths-fit);
     keys = All-map (λ x K. record { there = K .there; values = K .values }) (A .keys-sound);
-    once = twice-not keys slots (A .once);
+    once = A .once;
     slots = A .slots-sound;
   }
 
   abbrev answers : Answers s (s .slots) (s .keys) (s .lengths)
   answers = answers-are s S
 
-  -- the slot list as its own laws have it
-  slot-list : L.Sound (s .slots)
-  slot-list = L.sound-is (s .slots) (sound-slots (s .slots) (S .slots))
-
-  list-sound : (l : SlotList) → L.Sound l → SlotsSound l
-  list-sound l H = slots-sound l (L.is-sound l H)
-
   -- ---- "A kept answer found moves its slot to the front."
 
   module _ (p : ℕ) (h : p < s .slots .held) where
     held-moved : Moved (heldSlots (s .slots)) (heldSlots (frontOf (s .slots) p))
-    held-moved = subst (Moved (heldSlots (s .slots))) (sym (front-held (s .slots) p h)) (front-moved p (heldSlots (s .slots)))
+    held-moved = held-front (s .slots) p h
 
     pub front-stays : Sound (withCache s (frontOf (s .slots) p) (s .keys) (s .lengths))
     unfolding frontOf
     front-stays = answers-sound (frontOf (s .slots) p) (s .keys) (s .lengths) (record {
       count-same = refl;
-      slots-sound = list-sound (frontOf (s .slots) p) (front-sound (s .slots) p (omega (arith, S .slots .within)) slot-list);
+      slots-sound = front-sound (s .slots) p (omega (arith, S .slots .within)) (S .slots);
       lengths-fit = moved-All held-moved (answers .lengths-fit);
       keys-sound = moved-All held-moved (answers .keys-sound);
-      once = moved-different (keyAt (s .keys)) held-moved (answers .once);
+      once = front-once (s .keys) (s .slots) p h (answers .once);
     })
 
   -- ---- "Drops put held slots first and free ones after, each in the order they had."
@@ -161,10 +134,10 @@ module _ (s : State) (S : Sound s) where
         let left : ℕ → Bool = λ (x : ℕ). not (isMarked marks x) in
         answers-sound (dropBy p (s .slots)) (s .keys) (s .lengths) (record {
           count-same = dropped-count p (s .slots);
-          slots-sound = subst SlotsSound (sym dropped-is) (list-sound (dropOf (s .slots) marks) (drop-sound (s .slots) marks slot-list (T .order-64)));
+          slots-sound = subst L.Sound (sym dropped-is) (drop-sound (s .slots) marks (S .slots) (T .order-64));
           lengths-fit = rw held-left (All-keep left (λ x h e. h) (answers .lengths-fit));
           keys-sound = rw held-left (All-keep left (λ x h e. h) (answers .keys-sound));
-          once = rw held-left (distinct-keep (keyAt (s .keys)) left (heldSlots (s .slots)) (answers .once));
+          once = ap (heldTwice (s .keys)) dropped-is ∙ drop-once (s .keys) (s .slots) marks (answers .once);
         })
 
   -- ---- "A new record that fits a slot takes the last slot and moves it to the front."
@@ -186,18 +159,18 @@ module _ (s : State) (S : Sound s) where
       where
         go : Dec (s .slots .held < s .slots .count) → Others
         go (yes h) =
-            let F : TakenFree (s .slots) = taken-free (s .slots) slot-list (T .order-64) some h in
+            let F : TakenFree (s .slots) = taken-free (s .slots) (S .slots) (T .order-64) some h in
             record { others = heldSlots (s .slots); rest = []; before = sym (append-nil (heldSlots (s .slots))); held = F .held; apart = F .apart }
         go (no h) =
             let e : s .slots .held ≡ s .slots .count = omega (arith, S .slots .within) in
-            let H : TakenHeld (s .slots) = taken-held (s .slots) slot-list (T .order-64) some e in
+            let H : TakenHeld (s .slots) = taken-held (s .slots) (S .slots) (T .order-64) some e in
             record { others = H .others; rest = last ∷ []; before = H .before; held = H .held; apart = H .apart }
 
     last-below : last < s .slots .count
-    last-below = taken-below (s .slots) slot-list (T .order-64) some
+    last-below = taken-below (s .slots) (S .slots) (T .order-64) some
 
     module _ (key : Key) (r : List ℕ) (ok : KeySound s key) (least : least-slot-bytes ≤ length r) (most : length r ≤ s .«slot_bytes»)
-        (new : All (λ (x : ℕ). keyAt (s .keys) x ≢ keyRead key) (heldSlots (s .slots))) where
+        (new : All (λ (x : ℕ). keyRead (slotKey (s .keys) x) ≢ keyRead key) (heldSlots (s .slots))) where
       abbrev keys′ : List Key
       keys′ = set (s .keys) last key
 
@@ -226,17 +199,13 @@ module _ (s : State) (S : Sound s) where
 
       put-answers : (O : Others) → Answers s (takenOf (s .slots) .slots) keys′ lengths′
       put-answers O = record {
-        count-same = ap (λ t. t .slots .count) (taken-is (s .slots) slot-list (T .order-64) some);
-        slots-sound = list-sound (takenOf (s .slots) .slots) (taken-sound (s .slots) slot-list (T .order-64) some);
+        count-same = ap (λ t. t .slots .count) (taken-is (s .slots) (S .slots) (T .order-64) some);
+        slots-sound = taken-sound (s .slots) (S .slots) (T .order-64) some;
         lengths-fit = rw (O .held)
             (cons (subst Fit (sym length-here) (least, most)) (still-have O (λ x h L. subst Fit (sym (length-there x h)) L) (answers .lengths-fit)));
         keys-sound = rw (O .held)
             (cons (subst (KeySound s) (sym key-here) ok) (still-have O (λ x h K. subst (KeySound s) (sym (key-there x h)) K) (answers .keys-sound)));
-        once = rw (O .held) (
-          still-have O (λ x h n e. n (ap keyRead (sym (key-there x h)) ∙ e ∙ ap keyRead key-here)) new,
-          same-different (keyAt (s .keys)) (All-map (λ x h. ap keyRead (key-there x h)) (O .apart))
-              (distinct-left (keyAt (s .keys)) (O .others) (O .rest) (subst (DistinctBy (keyAt (s .keys))) (O .before) (answers .once))),
-        );
+        once = put-once (s .keys) (s .slots) key (S .slots) (T .order-64) some (T .keys-64) (answers .once) new;
       }
 
       pub put-stays : Sound (putIn s key r (takenOf (s .slots)))

@@ -18,7 +18,7 @@ use Rattle.statement.proofs.SoundQuery.{query-parts}
 use Rattle.slots.specs.declared.SlotList.{SlotList}
 use Rattle.slots.specs.declared.Taken.{Taken}
 use Rattle.slots.specs.declared.Found.the-variants.{Nothing}
-use Rattle.slots.specs.Keys.{keyRead, keyOf}
+use Rattle.slots.specs.Keys.{keyRead, keyOf, slotKey}
 use Rattle.slots.specs.Order.{heldSlots, isOpen, takenOf}
 use Rattle.slots.proofs.KeyLaws.{has-other, found-below, found-nothing}
 use Rattle.slots.proofs.Moves.{open-is, taken-none}
@@ -29,7 +29,7 @@ use Rattle.cache.specs.Means.{Typed}
 use Rattle.cache.specs.Run.{Store, ask, step}
 use Rattle.cache.proofs.Sounds.{KeySound, Sound, schemasIn, held-below, query-at}
 use Rattle.cache.proofs.StaysCases.{by-ask}
-use Rattle.cache.proofs.StaysAnswers.{keyAt, front-stays, put-stays}
+use Rattle.cache.proofs.StaysAnswers.{front-stays, put-stays}
 
 -- where a slot is taken there is one
 taken-some : (l : SlotList) → takenOf l .there ≡ true → 1 ≤ l .count
@@ -68,7 +68,7 @@ module _ (s : Store) (query : ℕ) (values : List ℤ) (buffer : List ℕ) (T : 
         let few : queryAt st query .parameters ≤ 8 = query-parts (schemasIn st) (queryAt st query) (query-at st T S query query-there) .few-parameters in
         record { there = query-there; values = omega (arith, values-many) }
 
-    new-key : foundIn st query values ≡ Nothing → All (λ (x : ℕ). keyAt (st .keys) x ≢ keyRead (keyOf query values)) (heldSlots (st .slots))
+    new-key : foundIn st query values ≡ Nothing → All (λ (x : ℕ). keyRead (slotKey (st .keys) x) ≢ keyRead (keyOf query values)) (heldSlots (st .slots))
     new-key e =
         All-map (λ x h. has-other (st .keys) (keyOf query values) x (omega (arith, h .0, S .slots .few)) (h .1))
         (All-both (held-below st S) (found-nothing (st .keys) (st .slots) (keyOf query values) e))

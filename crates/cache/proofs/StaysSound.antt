@@ -5,14 +5,14 @@ use native.Mathlib.Omega.{arith}
 use Rattle.lists.specs.Lists.{nil}
 use Rattle.meaning.specs.Plain.{Opening}
 use Rattle.slots.specs.Order.{openOf as slotsOpen}
-use Rattle.cache.proofs.SlotLaws.{open-sound, is-sound as list-is-sound}
+use Rattle.slots.proofs.Laws.{open-sound}
 use Rattle.cache.specs.declared.State.{State}
 use Rattle.cache.specs.Sound.{opening, soundState}
 use Rattle.cache.specs.Calls.{emptyState}
 use Rattle.cache.specs.Means.{Typed}
 use Rattle.cache.specs.Run.{Store, openingOf, Call, add, ask, update, flush, step}
 use Rattle.cache.specs.Demand.{OpensSound, StaysSound}
-use Rattle.cache.proofs.Sounds.{SizesFit, sizes-fit, slots-sound, Sound, sound-is, is-sound}
+use Rattle.cache.proofs.Sounds.{SizesFit, sizes-fit, Sound, sound-is, is-sound}
 use Rattle.cache.proofs.StaysCases.{by-opened, by-flush}
 use Rattle.cache.proofs.StaysAdded.{add-stays}
 use Rattle.cache.proofs.StaysAnswers.{drop-stays}
@@ -36,7 +36,7 @@ empty-sound o F = record {
   lengths = nil;
   keys = nil;
   once = refl;
-  slots = slots-sound (slotsOpen (o .slots)) (list-is-sound (slotsOpen (o .slots)) (open-sound (o .slots) (F .few-slots)));
+  slots = open-sound (o .slots) (F .few-slots);
 }
 
 -- what a refused opening gives
