@@ -24,21 +24,17 @@ use Rattle.slots.specs.Keys.{noKey, keyRead}
 use Rattle.slots.specs.Order.{heldSlots, freeSlots, frontOf, takenOf}
 use Rattle.slots.proofs.Moves.{taken-none}
 use Rattle.slots.proofs.KeyLaws.{FoundAt, found-inside}
-use Rattle.slots.proofs.Laws as L
 use Rattle.slots.proofs.Laws.{front-found, front-free, taken-there, taken-below}
 use Rattle.cache.specs.declared.State.{State}
 use Rattle.cache.specs.Sound.{lengthAt}
 use Rattle.cache.specs.Means.{Typed}
 use Rattle.cache.specs.Calls as calls
 use Rattle.cache.specs.Calls.{withCache, bytesAt, fitsSlot, kept, keptMemory}
-use Rattle.cache.proofs.Sounds.{Sound, HeldSound, sound-slots}
+use Rattle.cache.proofs.Sounds.{Sound, HeldSound}
 use Rattle.cache.proofs.Dropping.{keep-same, held-after}
 use Rattle.cache.proofs.Model.{heldIn, cacheIn, cacheOf, drop-free, Last, last-is, none-last}
 
 module _ (s : State) (T : Typed s) (S : Sound s) (memory : List ℕ) where
-  slot-list : L.Sound (s .slots)
-  slot-list = L.sound-is (s .slots) (sound-slots (s .slots) (S .slots))
-
   abbrev heldAt : ℕ → Held M.Key
   heldAt = heldIn (s .keys) (s .lengths)
 
@@ -73,7 +69,7 @@ module _ (s : State) (T : Typed s) (S : Sound s) (memory : List ℕ) where
     pub cached-drop : cacheIn (s .keys) (s .lengths) (calls.dropBy p (s .slots)) memory ≡ dropBy d (cacheOf s memory)
     cached-drop =
         let h = ap (map heldAt) (held-after p (s .slots)) ∙ left-are in
-        let f = drop-free (s .slots) slot-list (T .order-64) p
+        let f = drop-free (s .slots) (S .slots) (T .order-64) p
         ∙ ap (λ (l : List ℕ). l ++ freeSlots (s .slots))
         (sym (slots-are (keep p (heldSlots (s .slots)))) ∙ ap (map (λ (e : Held M.Key). e .slot)) gone-are) in
         ap₂ (λ (l : List (Held M.Key)) (r : List ℕ). record { held = l; free = r; memory = memory }) h f
@@ -122,12 +118,12 @@ module _ (s : State) (T : Typed s) (S : Sound s) (memory : List ℕ) where
     unfolding withCache
     put-by false d = refl
     put-by true (yes h) =
-        let l = last-is (s .keys) (s .lengths) memory (s .slots) slot-list (T .order-64) h in
-        rw (taken-there (s .slots) slot-list (T .order-64) h) (put-taken (taken-below (s .slots) slot-list (T .order-64) h) (l .0) (l .1) (l .2))
+        let l = last-is (s .keys) (s .lengths) memory (s .slots) (S .slots) (T .order-64) h in
+        rw (taken-there (s .slots) (S .slots) (T .order-64) h) (put-taken (taken-below (s .slots) (S .slots) (T .order-64) h) (l .0) (l .1) (l .2))
     put-by true (no h) =
         let z : s .slots .count ≡ 0 = omega arith in
         rw (none-there z)
-        (ap (putIn (s .«slot_bytes») (cacheOf s memory) (keyRead key) r) (sym (none-last (s .keys) (s .lengths) memory (s .slots) slot-list z)))
+        (ap (putIn (s .«slot_bytes») (cacheOf s memory) (keyRead key) r) (sym (none-last (s .keys) (s .lengths) memory (s .slots) (S .slots) z)))
 
     pub cached-put : cacheOf (kept s key r) (keptMemory s r memory) ≡ put (s .«slot_bytes») (fits (s .«slot_bytes») r) (cacheOf s memory) (keyRead key) r
     unfolding kept keptMemory
@@ -161,6 +157,6 @@ module _ (s : State) (T : Typed s) (S : Sound s) (memory : List ℕ) where
             → length (cond (b && taken .there) (written memory (taken .slot * s .«slot_bytes») r) memory) ≡ length memory
         go false e d = refl
         go true e (yes h) =
-            rw (taken-there (s .slots) slot-list (T .order-64) h)
-            (slot-written (s .slots .count) (s .«slot_bytes») (taken .slot) r memory (taken-below (s .slots) slot-list (T .order-64) h) room (leb-true (length r) (s .«slot_bytes») e))
+            rw (taken-there (s .slots) (S .slots) (T .order-64) h)
+            (slot-written (s .slots .count) (s .«slot_bytes») (taken .slot) r memory (taken-below (s .slots) (S .slots) (T .order-64) h) room (leb-true (length r) (s .«slot_bytes») e))
         go true e (no h) = let z : s .slots .count ≡ 0 = omega arith in rw (none-there z)

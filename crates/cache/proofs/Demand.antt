@@ -27,8 +27,8 @@ use Rattle.cache.proofs.Refusals.{lowest-number, refused-changes-nothin
 use Rattle.cache.proofs.StaysSound.{opens-sound, stays-sound}
 use Rattle.cache.proofs.Standing.{stands-for-plain}
 use Rattle.cache.proofs.Plainly.{does-as-plain}
-use Rattle.cache.proofs.Dropping.{MatchesMean, drops-exactly-matched}
-use Rattle.cache.proofs.Meets.{Meets}
+use Rattle.cache.proofs.Dropping.{drops-exactly-matched}
+use Rattle.cache.proofs.Meets.{Meets, patterns-mean}
 use Rattle.cache.proofs.Follows.{Follows, follows-opened, gotsOf, plain-gets, meets, follows-after, follows-gets}
 
 -- ---- a question that is not refused is answered
@@ -79,59 +79,58 @@ values-32 (ask n vs buffer) v = v
 values-32 (update n vs) v = v
 values-32 flush v = v
 
-module _ (mean : MatchesMean) where
-  pub follows : (o : Start) (cs : List Call)
-      → Follows (openingOf o .lent) (T.slotSize (openingOf o)) (after (opened o) cs) (D.afterCalls (startOf o) (map plainCall cs))
-  follows o cs = follows-after mean (follows-opened o) cs
+pub follows : (o : Start) (cs : List Call)
+    → Follows (openingOf o .lent) (T.slotSize (openingOf o)) (after (opened o) cs) (D.afterCalls (startOf o) (map plainCall cs))
+follows o cs = follows-after (follows-opened o) cs
 
-  pub same-as-plain : SameAsPlain
-  same-as-plain o cs =
-      let same = on-model .same-as-plain (startOf o) (map plainCall cs) in (
-        follows-gets mean (follows-opened o) cs ∙ ap (gotsOf cs) (same .0) ∙ plain-gets (openingOf o .lent) (P.opened (openingOf o)) cs,
-        sym (follows o cs .means .tables-are) ∙ ap (λ (p : Plain). p .tables) (same .1),
-      )
+pub same-as-plain : SameAsPlain
+same-as-plain o cs =
+    let same = on-model .same-as-plain (startOf o) (map plainCall cs) in (
+      follows-gets (follows-opened o) cs ∙ ap (gotsOf cs) (same .0) ∙ plain-gets (openingOf o .lent) (P.opened (openingOf o)) cs,
+      sym (follows o cs .means .tables-are) ∙ ap (λ (p : Plain). p .tables) (same .1),
+    )
 
-  -- the next question, on the state and in the model
-  module _ (o : Start) (cs : List Call) (k : Key) (buffer : List ℕ) where
-    next : Meets (after (opened o) cs) buffer (step (after (opened o) cs) (ask (k .query) (k .values) buffer))
-        (T.step (openingOf o .lent) (T.slotSize (openingOf o)) (D.afterCalls (startOf o) (map plainCall cs)) (P.ask k (length buffer)))
-    next = meets mean (follows o cs) (ask (k .query) (k .values) buffer)
+-- the next question, on the state and in the model
+module _ (o : Start) (cs : List Call) (k : Key) (buffer : List ℕ) where
+  next : Meets (after (opened o) cs) buffer (step (after (opened o) cs) (ask (k .query) (k .values) buffer))
+      (T.step (openingOf o .lent) (T.slotSize (openingOf o)) (D.afterCalls (startOf o) (map plainCall cs)) (P.ask k (length buffer)))
+  next = meets (follows o cs) (ask (k .query) (k .values) buffer)
 
-    next-answer : nextAsk o cs k buffer .got .refusal ≡ 0 → (r : List ℕ) × (D.nextCall (startOf o) (map plainCall cs) (P.ask k (length buffer)) .out ≡ answered r)
-    next-answer e = answer-of buffer _ (ask-out _ _ (D.afterCalls (startOf o) (map plainCall cs)) k (length buffer)) _ (next .got) e
+  next-answer : nextAsk o cs k buffer .got .refusal ≡ 0 → (r : List ℕ) × (D.nextCall (startOf o) (map plainCall cs) (P.ask k (length buffer)) .out ≡ answered r)
+  next-answer e = answer-of buffer _ (ask-out _ _ (D.afterCalls (startOf o) (map plainCall cs)) k (length buffer)) _ (next .got) e
 
-  pub anew-only-if : AnewOnlyIf
-  anew-only-if o cs k buffer e z =
-      let a = next-answer o cs k buffer e in
-      let g = on-model .anew-only-if (startOf o) (map plainCall cs) k (length buffer) (a .0) (a .1) (sym (next o cs k buffer .kept) ∙ z) in
-      subst₂ (λ (n size : ℕ). Ground sameKey n size (recordOf (plainAfter o cs) k) k (past o cs)) (slots-are o) (size-is o) g
+pub anew-only-if : AnewOnlyIf
+anew-only-if o cs k buffer e z =
+    let a = next-answer o cs k buffer e in
+    let g = on-model .anew-only-if (startOf o) (map plainCall cs) k (length buffer) (a .0) (a .1) (sym (next o cs k buffer .kept) ∙ z) in
+    subst₂ (λ (n size : ℕ). Ground sameKey n size (recordOf (plainAfter o cs) k) k (past o cs)) (slots-are o) (size-is o) g
 
-  pub kept-otherwise : KeptOtherwise
-  kept-otherwise o cs k buffer e asked fit hit few =
-      let a = next-answer o cs k buffer e in
-      next o cs k buffer .kept
-      ∙ on-model .kept-otherwise (startOf o) (map plainCall cs) k (length buffer) (a .0) (a .1) asked (rw (size-is o) fit) hit (rw (size-is o, slots-are o) few)
+pub kept-otherwise : KeptOtherwise
+kept-otherwise o cs k buffer e asked fit hit few =
+    let a = next-answer o cs k buffer e in
+    next o cs k buffer .kept
+    ∙ on-model .kept-otherwise (startOf o) (map plainCall cs) k (length buffer) (a .0) (a .1) asked (rw (size-is o) fit) hit (rw (size-is o, slots-are o) few)
 
-  pub answer-reads-back : AnswerReadsBack
-  answer-reads-back o cs v k buffer e =
-      let a = next-answer o cs k buffer e in
-      let b : nextAsk o cs k buffer .got .answer ≡ written buffer 0 (a .0) = ap (λ (x : Got). x .answer) (next o cs k buffer .got ∙ ap (gotOf buffer) (a .1)) in
-      subst (λ (l : List ℕ). ReadsBack l (length (P.queryAt (plainAfter o cs) (k .query) .selected)) (rowsListed (plainAfter o cs) k)) (sym b)
-      (on-model .kept-reads-back (startOf o) (map plainCall cs) (All-image plainCall (All-map values-32 v)) k (length buffer) (a .0) (a .1) (drop (0 + length (a .0)) buffer))
+pub answer-reads-back : AnswerReadsBack
+answer-reads-back o cs v k buffer e =
+    let a = next-answer o cs k buffer e in
+    let b : nextAsk o cs k buffer .got .answer ≡ written buffer 0 (a .0) = ap (λ (x : Got). x .answer) (next o cs k buffer .got ∙ ap (gotOf buffer) (a .1)) in
+    subst (λ (l : List ℕ). ReadsBack l (length (P.queryAt (plainAfter o cs) (k .query) .selected)) (rowsListed (plainAfter o cs) k)) (sym b)
+    (on-model .kept-reads-back (startOf o) (map plainCall cs) (All-image plainCall (All-map values-32 v)) k (length buffer) (a .0) (a .1) (drop (0 + length (a .0)) buffer))
 
 -- ---- all claims
 
-pub demands : MatchesMean → Demands
-demands mean = record {
+pub demands : Demands
+demands = record {
   lowest-number = lowest-number;
   refused-changes-nothing = refused-changes-nothing;
   opens-sound = opens-sound;
   stays-sound = stays-sound;
   stands-for-plain = stands-for-plain;
   does-as-plain = does-as-plain;
-  drops-exactly-matched = drops-exactly-matched mean;
-  same-as-plain = same-as-plain mean;
-  anew-only-if = anew-only-if mean;
-  kept-otherwise = kept-otherwise mean;
-  answer-reads-back = answer-reads-back mean;
+  drops-exactly-matched = drops-exactly-matched patterns-mean;
+  same-as-plain = same-as-plain;
+  anew-only-if = anew-only-if;
+  kept-otherwise = kept-otherwise;
+  answer-reads-back = answer-reads-back;
 }

@@ -24,7 +24,6 @@ use Rattle.cache.specs.Demand.{lengthsLent}
 use Rattle.cache.proofs.Sounds.{sizes-fit}
 use Rattle.cache.proofs.Typed.{opened-typed, step-typed}
 use Rattle.cache.proofs.StaysSound.{opens-sound, stays-sound}
-use Rattle.cache.proofs.Dropping.{MatchesMean}
 use Rattle.cache.proofs.Model.{heldIn, cacheOf}
 use Rattle.cache.proofs.Meets.{Meets, step-meets}
 
@@ -106,10 +105,10 @@ plain-gets lent p [] = refl
 plain-gets lent p (c ∷ cs) =
     ap (λ (l : List Got). gotOf (bufferOf c) (P.step lent p (plainCall c) .1) ∷ l) (plain-gets lent (P.step lent p (plainCall c) .0) cs)
 
-module _ (mean : MatchesMean) {lent : Lengths} {size : ℕ} where
+module _ {lent : Lengths} {size : ℕ} where
   pub meets : {s : Store} {m : Model} → Follows lent size s m → (c : Call) → Meets s (bufferOf c) (step s c) (T.step lent size m (plainCall c))
   meets {s} {m} F c =
-      let M = step-meets mean s (m .store) (F .typed) (F .sound) (F .means) c in
+      let M = step-meets s (m .store) (F .typed) (F .sound) (F .means) c in
       let M₁ = subst (λ (x : Model). Meets s (bufferOf c) (step s c) (T.step (lengthsLent s) (s .state .«slot_bytes») x (plainCall c)))
       (ap (λ k. record { store = m .store; cache = k }) (sym (F .cached))) M in
       let M₂ = subst (λ (n : ℕ). Meets s (bufferOf c) (step s c) (T.step (lengthsLent s) n m (plainCall c))) (F .size-is) M₁ in

@@ -26,6 +26,7 @@ use Rattle.statement.specs.declared.Statement.{Statement}
 use Rattle.statement.specs.Compiled.{noUpdate}
 use Rattle.statement.proofs.SoundQuery.{query-parts}
 use Rattle.table.proofs.ChangedMeans.{cells-length}
+use Rattle.pattern.proofs.Laws.{sound-few, matches-mean}
 use Rattle.slots.specs.declared.Found.{Found}
 use Rattle.slots.specs.declared.Found.the-variants.{At, Nothing}
 use Rattle.slots.specs.Keys.{keyOf, slotHas}
@@ -234,7 +235,11 @@ module _ (s : Store) (p : Plain) (Ty : Typed (s .state)) (h : soundState (s .sta
 
 -- ---- a text, an update, a flush: what they get, and the plain store after them, is known
 
-module _ (mean : MatchesMean) (s : Store) (p : Plain) (Ty : Typed (s .state)) (h : soundState (s .state) ≡ true)
+-- what crate `pattern` states of sound statements
+pub patterns-mean : MatchesMean
+patterns-mean ts q r A u s B h k us qs = matches-mean q r A u s B (sound-few ts q u h k) us qs
+
+module _ (s : Store) (p : Plain) (Ty : Typed (s .state)) (h : soundState (s .state) ≡ true)
     (m : Means (s .state) (s .cells) p) where
   abbrev lent : Lengths
   lent = lengthsLent s
@@ -305,7 +310,7 @@ module _ (mean : MatchesMean) (s : Store) (p : Plain) (Ty : Typed (s .state)) (h
     drops-meet e g M = record {
       means = M;
       cached =
-          sym (cached-drop (s .state) Ty (sound-is (s .state) h) (s .memory) (isMatched (s .state) (updateAt (s .state) n) us) (matchesKey p n us) (matched-is mean (s .state) Ty (sound-is (s .state) h) (s .cells) p m n (update-there s p Ty h m n us e) us));
+          sym (cached-drop (s .state) Ty (sound-is (s .state) h) (s .memory) (isMatched (s .state) (updateAt (s .state) n) us) (matchesKey p n us) (matched-is patterns-mean (s .state) Ty (sound-is (s .state) h) (s .cells) p m n (update-there s p Ty h m n us e) us));
       cells-long = cells-length (updateAt (s .state) n) _ _ (s .cells) us (eight n);
       memory-long = refl;
       bytes-same = refl;
