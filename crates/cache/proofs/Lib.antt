@@ -17,3 +17,9 @@ pub mod Updating
 pub mod Adding
 pub mod Plainly
 pub mod Dropping
+pub mod Model
+pub mod Finds
+pub mod Caches
+pub mod Meets
+pub mod Follows
+pub mod Demand

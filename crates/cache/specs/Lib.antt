@@ -4,3 +4,4 @@ pub mod Marks
 pub mod Means
 pub mod Run
 pub mod Demand
+pub mod Examples

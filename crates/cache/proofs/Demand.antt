@@ -1,0 +1,136 @@
+-- The claims of specs/Demand. Demand 3 is shown on a model (crate `trace`): the plain store beside the kept answers. A list of calls follows the model (proofs/Follows),
+-- so what holds of every list there holds of the state. Assumes nothing.
+use mathlib.Core.Path.{_≡_, refl, sym, ap, _∙_, subst, subst₂}
+use mathlib.Core.Logic.{_⊎_, inl, inr}
+use mathlib.Core.Bool.{Bool, true, false, cond}
+use mathlib.Core.Option.{Option, none, some}
+use mathlib.Core.List.{List, map}
+use Prim.Native.Nat.{ℕ, zero, suc, _+_}
+use native.Mathlib.Omega.{arith}
+use lib.ListN.{length, drop}
+use Rattle.lists.specs.Lists.{written}
+use Rattle.lists.proofs.Lists.{All-map, All-image}
+use Rattle.meaning.specs.Key.{Key, sameKey}
+use Rattle.meaning.specs.Demand.{ReadsBack, Call32, rowsListed}
+use Rattle.meaning.specs.Plain as P
+use Rattle.meaning.specs.Plain.{Lengths, Plain, openingRefused, Out, refused, answered, recordOf}
+use Rattle.trace.specs.History.{Ground}
+use Rattle.trace.specs.Slots.{Held, slotBytes, find}
+use Rattle.trace.specs.Model as T
+use Rattle.trace.specs.Model.{Model, turned, asked}
+use Rattle.trace.specs.Demand as D
+use Rattle.trace.proofs.Demand.{demands as on-model}
+use Rattle.cache.specs.Sound.{opening}
+use Rattle.cache.specs.Run.{Start, openingOf, opened, Call, add, ask, update, flush, Got, Seen, step, after, plainCall, gotOf, plainAfter}
+use Rattle.cache.specs.Demand.{SameAsPlain, slotCount, slotSize, past, nextAsk, AnewOnlyIf, KeptOtherwise, Values32, AnswerReadsBack, Demands}
+use Rattle.cache.proofs.Refusals.{lowest-number, refused-changes-nothing}
+use Rattle.cache.proofs.StaysSound.{opens-sound, stays-sound}
+use Rattle.cache.proofs.Standing.{stands-for-plain}
+use Rattle.cache.proofs.Plainly.{does-as-plain}
+use Rattle.cache.proofs.Dropping.{drops-exactly-matched}
+use Rattle.cache.proofs.Meets.{Meets, patterns-mean}
+use Rattle.cache.proofs.Follows.{Follows, follows-opened, gotsOf, plain-gets, meets, follows-after, follows-gets}
+
+-- ---- a question that is not refused is answered
+
+abbrev AskOut : Out → Type 0
+AskOut o = ((n : ℕ) × (o ≡ refused (suc n))) ⊎ ((r : List ℕ) × (o ≡ answered r))
+
+guard-out : (n : ℕ) (m : Model) (q : Model × T.Seen) → AskOut (q .1 .out) → AskOut (P.guard n m turned q .1 .out)
+guard-out zero m q a = a
+guard-out (suc n) m q a = inl (n, refl)
+
+ask-out : (lent : Lengths) (size : ℕ) (m : Model) (k : Key) (b : ℕ) → AskOut (T.step lent size m (P.ask k b) .1 .out)
+ask-out lent size m k b = guard-out (T.askRefusal lent (m .store) k) m _ (go (find sameKey k (m .cache .held)))
+  where
+    go : (o : Option (Held Key × List (Held Key))) → AskOut (asked lent size m k b o .1 .out)
+    go none = guard-out (T.shortRefusal b (recordOf (m .store) k)) m _ (inr (_, refl))
+    go (some w) = guard-out (T.shortRefusal b (slotBytes size (m .cache .memory) (w .0))) m _ (inr (_, refl))
+
+answer-of : (buffer : List ℕ) (o : Out) → AskOut o → (g : Got) → g ≡ gotOf buffer o → g .refusal ≡ 0 → (r : List ℕ) × (o ≡ answered r)
+answer-of buffer o (inl (n, e)) g i z =
+    let a : 0 ≡ suc n = sym z ∙ ap (λ (x : Got). x .refusal) (i ∙ ap (gotOf buffer) e) in
+    absurd (omega arith)
+answer-of buffer o (inr a) g i z = a
+
+-- ---- demand 3
+
+-- the opening, as the model has it
+abbrev startOf : Start → D.Start
+startOf o = record { opening = openingOf o; memory = o .memory; lent = refl }
+
+slots-are : (o : Start) → T.slotCount (openingOf o) ≡ slotCount o
+slots-are o = go (openingRefused (openingOf o))
+  where
+    go : (b : Bool) → T.slotsOpened b (openingOf o) ≡ cond b 0 (o .slots)
+    go true = refl
+    go false = refl
+
+size-is : (o : Start) → T.slotSize (openingOf o) ≡ slotSize o
+size-is o = go (openingRefused (openingOf o))
+  where
+    go : (b : Bool) → T.sizeOpened b (openingOf o) ≡ cond b 8 (o .slotBytes)
+    go true = refl
+    go false = refl
+
+values-32 : (c : Call) → Values32 c → Call32 (plainCall c)
+values-32 (add text) v = v
+values-32 (ask n vs buffer) v = v
+values-32 (update n vs) v = v
+values-32 flush v = v
+
+pub follows : (o : Start) (cs : List Call)
+    → Follows (openingOf o .lent) (T.slotSize (openingOf o)) (after (opened o) cs) (D.afterCalls (startOf o) (map plainCall cs))
+follows o cs = follows-after (follows-opened o) cs
+
+pub same-as-plain : SameAsPlain
+same-as-plain o cs =
+    let same = on-model .same-as-plain (startOf o) (map plainCall cs) in (
+      follows-gets (follows-opened o) cs ∙ ap (gotsOf cs) (same .0) ∙ plain-gets (openingOf o .lent) (P.opened (openingOf o)) cs,
+      sym (follows o cs .means .tables-are) ∙ ap (λ (p : Plain). p .tables) (same .1),
+    )
+
+-- the next question, on the state and in the model
+module _ (o : Start) (cs : List Call) (k : Key) (buffer : List ℕ) where
+  next : Meets (after (opened o) cs) buffer (step (after (opened o) cs) (ask (k .query) (k .values) buffer))
+      (T.step (openingOf o .lent) (T.slotSize (openingOf o)) (D.afterCalls (startOf o) (map plainCall cs)) (P.ask k (length buffer)))
+  next = meets (follows o cs) (ask (k .query) (k .values) buffer)
+
+  next-answer : nextAsk o cs k buffer .got .refusal ≡ 0 → (r : List ℕ) × (D.nextCall (startOf o) (map plainCall cs) (P.ask k (length buffer)) .out ≡ answered r)
+  next-answer e = answer-of buffer _ (ask-out _ _ (D.afterCalls (startOf o) (map plainCall cs)) k (length buffer)) _ (next .got) e
+
+pub anew-only-if : AnewOnlyIf
+anew-only-if o cs k buffer e z =
+    let a = next-answer o cs k buffer e in
+    let g = on-model .anew-only-if (startOf o) (map plainCall cs) k (length buffer) (a .0) (a .1) (sym (next o cs k buffer .kept) ∙ z) in
+    subst₂ (λ (n size : ℕ). Ground sameKey n size (recordOf (plainAfter o cs) k) k (past o cs)) (slots-are o) (size-is o) g
+
+pub kept-otherwise : KeptOtherwise
+kept-otherwise o cs k buffer e asked fit hit few =
+    let a = next-answer o cs k buffer e in
+    next o cs k buffer .kept
+    ∙ on-model .kept-otherwise (startOf o) (map plainCall cs) k (length buffer) (a .0) (a .1) asked (rw (size-is o) fit) hit (rw (size-is o, slots-are o) few)
+
+pub answer-reads-back : AnswerReadsBack
+answer-reads-back o cs v k buffer e =
+    let a = next-answer o cs k buffer e in
+    let b : nextAsk o cs k buffer .got .answer ≡ written buffer 0 (a .0) = ap (λ (x : Got). x .answer) (next o cs k buffer .got ∙ ap (gotOf buffer) (a .1)) in
+    subst (λ (l : List ℕ). ReadsBack l (length (P.queryAt (plainAfter o cs) (k .query) .selected)) (rowsListed (plainAfter o cs) k)) (sym b)
+    (on-model .kept-reads-back (startOf o) (map plainCall cs) (All-image plainCall (All-map values-32 v)) k (length buffer) (a .0) (a .1) (drop (0 + length (a .0)) buffer))
+
+-- ---- all claims
+
+pub demands : Demands
+demands = record {
+  lowest-number = lowest-number;
+  refused-changes-nothing = refused-changes-nothing;
+  opens-sound = opens-sound;
+  stays-sound = stays-sound;
+  stands-for-plain = stands-for-plain;
+  does-as-plain = does-as-plain;
+  drops-exactly-matched = drops-exactly-matched patterns-mean;
+  same-as-plain = same-as-plain;
+  anew-only-if = anew-only-if;
+  kept-otherwise = kept-otherwise;
+  answer-reads-back = answer-reads-back;
+}
