@@ -146,7 +146,14 @@ impl State {
         let keys = self.keys;
         let lengths = self.lengths;
         let queries = self.queries;
-        let fit = sound::held_fit(keys, lengths, slots, queries, self.query_count, self.slot_bytes);
+        let fit = sound::held_fit(
+            keys,
+            lengths,
+            slots,
+            queries,
+            self.query_count,
+            self.slot_bytes,
+        );
         let twice = slots::held_twice(keys, slots);
         fit & !twice
     }
@@ -414,22 +421,22 @@ impl State {
     }
 
     // A record that fits a slot takes the last one, which moves to the front.
-    fn keep(mut self, key: Key, length: usize, record: &[u8], memory: &mut [u8]) -> State
-        requires { ⌜ (soundState self ≡ true) × (length ≤ length (now record)) × (length (now memory) ≡ self .memory) ⌝ }
-        ensures state { λ r. ⌜ r ≡ kept self key (take length (now (record .entry))) ⌝ }
-        ensures memory { λ _. ⌜ now (memory .exit) ≡ keptMemory self (take length (now (record .entry))) (now (memory .entry)) ⌝ }
+    fn keep(mut self, key: Key, size: usize, bytes: &[u8], memory: &mut [u8]) -> State
+        requires { ⌜ (soundState self ≡ true) × (size ≤ length (now bytes)) × (length (now memory) ≡ self .memory) ⌝ }
+        ensures state { λ r. ⌜ r ≡ kept self key (take size (now (bytes .entry))) ⌝ }
+        ensures memory { λ _. ⌜ now (memory .exit) ≡ keptMemory self (take size (now (bytes .entry))) (now (memory .entry)) ⌝ }
     {
         let slots = self.slots;
         let taken = slots.take_last();
-        let fits = length <= (self.slot_bytes as usize);
+        let fits = size <= (self.slot_bytes as usize);
         if !(fits & taken.there) {
             return self;
         }
         let x = taken.slot as usize;
-        lent::copy(memory, x * (self.slot_bytes as usize), record, 0, length);
+        lent::copy(memory, x * (self.slot_bytes as usize), bytes, 0, size);
         self.slots = taken.slots;
         self.keys[x] = key;
-        self.lengths[x] = length as u16;
+        self.lengths[x] = size as u16;
         self
     }
 
