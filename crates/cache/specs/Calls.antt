@@ -7,6 +7,7 @@ use lib.Dec.{eqb, leb, ltb}
 use lib.IntN.{ℤ, pos}
 use lib.ListN.{length, take, drop, getD, set, replicate}
 use Rattle.lists.specs.Lists.{keep, written, count}
+use Rattle.meaning.specs.Limits.{most-tables, most-queries, most-updates}
 use Rattle.meaning.specs.Plain.{Opening, openingRefused, lowestOf}
 use Rattle.statement.specs.declared.Table.{Table}
 use Rattle.statement.specs.declared.Query.{Query}
@@ -153,6 +154,14 @@ addedOf (suc zero) s c = addedTable s (c .table)
 addedOf (suc (suc zero)) s c = addedQuery s (c .query)
 addedOf (suc (suc (suc zero))) s c = addedUpdate s (c .update)
 addedOf (suc (suc (suc (suc k)))) s c = addRefused s 0
+
+-- whether there is a place for a statement of the kind, for the code
+abbrev pub hasPlace : ℕ → State → Bool
+hasPlace zero s = false
+hasPlace (suc zero) s = ltb (s .«table_count») most-tables
+hasPlace (suc (suc zero)) s = ltb (s .«query_count») most-queries
+hasPlace (suc (suc (suc zero))) s = ltb (s .«update_count») most-updates
+hasPlace (suc (suc (suc (suc k)))) s = false
 
 unfoldable pub addedBy : State → Statement → Added
 addedBy s c = addedOf (c .kind) s c

@@ -16,7 +16,7 @@ ghost use Prim.Native.Nat.{_≤_, _<_};
 ghost use lib.ListN.{length, take};
 ghost use Rattle.slots.specs.Keys.{keyOf};
 ghost use Rattle.cache.specs.Sound.{opening, soundCounts, soundTables, soundAnswers, soundState};
-ghost use Rattle.cache.specs.Calls.{unfit, emptyState, opens, openOf, addRefused, addedTable, addedQuery, addedUpdate, addedBy, addOf, asks, askRefused, askRefusal, askCached, kept, keptMemory, askNew, askOf, updates, updateRefusal, updateDone, updateOf, flushOf};
+ghost use Rattle.cache.specs.Calls.{unfit, emptyState, opens, openOf, addRefused, addedTable, addedQuery, addedUpdate, hasPlace, addedBy, addOf, asks, askRefused, askRefusal, askCached, kept, keptMemory, askNew, askOf, updates, updateRefusal, updateDone, updateOf, flushOf};
 
 // The state. Entries past the counts, and of slots that hold nothing, do not matter.
 pub struct State {
@@ -131,7 +131,7 @@ impl State {
         let named = soundness::tables_are_sound(tables, n);
         let asked = soundness::queries_are_sound(tables, n, queries, self.query_count);
         let changing = soundness::updates_are_sound(tables, n, updates, self.update_count);
-        areas & rows & named & asked & changing
+        areas & (rows & (named & (asked & changing)))
     }
 
     // Whether the slot list is sound, and the keys and lengths of the held slots.
@@ -174,15 +174,18 @@ impl State {
         ensures { λ r. ⌜ r ≡ emptyState (opening cells memory slots «slot_bytes») ⌝ }
     {
         let none = Statement::none();
+        let table = none.table;
+        let query = none.query;
+        let update = none.update;
         let key = Key {
             query: 0,
             count: 0,
             values: [0i32; Key::VALUES],
         };
         State {
-            tables: [none.table; Table::TABLES],
-            queries: [none.query; Query::QUERIES],
-            updates: [none.update; Update::UPDATES],
+            tables: [table; Table::TABLES],
+            queries: [query; Query::QUERIES],
+            updates: [update; Update::UPDATES],
             keys: [key; SlotList::SLOTS],
             lengths: [0u16; SlotList::SLOTS],
             slots: SlotList::open(slots),
@@ -199,7 +202,9 @@ impl State {
     pub fn open(cells: &mut [i32], memory: &mut [u8], slots: usize, slot_bytes: usize) -> Opened
         ensures { λ r. ⌜ opens r (now (cells .exit)) (now (memory .exit)) ≡ openOf (now (cells .entry)) (now (memory .entry)) slots «slot_bytes» ⌝ }
     {
-        if !sound::sizes_fit(cells.len(), memory.len(), slots, slot_bytes) {
+        let length = cells.len();
+        let size = memory.len();
+        if !sound::sizes_fit(length, size, slots, slot_bytes) {
             let state = State::empty(0, 0, 0, SlotList::LEAST_BYTES as u16);
             return Opened {
                 refusal: Refusal::OPENING,
@@ -208,8 +213,7 @@ impl State {
         }
         lent::clear_cells(cells);
         lent::clear_bytes(memory);
-        let length = cells.len() as u32;
-        let state = State::empty(length, memory.len() as u32, slots as u8, slot_bytes as u16);
+        let state = State::empty(length as u32, size as u32, slots as u8, slot_bytes as u16);
         Opened { refusal: 0, state }
     }
 
@@ -243,9 +247,9 @@ impl State {
         }
     }
 
-    // The state with what a text says.
+    // The state with what a text says, where there is a place for it.
     fn with_statement(self, c: Statement) -> Added
-        requires { ⌜ soundState self ≡ true ⌝ }
+        requires { ⌜ hasPlace (c .kind) self ≡ true ⌝ }
         ensures { λ r. ⌜ r ≡ addedBy self c ⌝ }
     {
         if c.kind == Statement::TABLE {
@@ -254,20 +258,15 @@ impl State {
         if c.kind == Statement::QUERY {
             return self.with_query(c.query);
         }
-        if c.kind == Statement::UPDATE {
-            return self.with_update(c.update);
-        }
-        self.not_added(0)
+        self.with_update(c.update)
     }
 
     fn with_table(mut self, table: Table) -> Added
-        requires { ⌜ self .«table_count» ≤ 8 ⌝ }
+        requires { ⌜ self .«table_count» < 8 ⌝ }
         ensures { λ r. ⌜ r ≡ addedTable self table ⌝ }
     {
         let number = self.table_count;
-        if (number as usize) < Table::TABLES {
-            self.tables[number as usize] = table;
-        }
+        self.tables[number as usize] = table;
         self.table_count = number + 1;
         Added {
             refusal: 0,
@@ -278,13 +277,11 @@ impl State {
     }
 
     fn with_query(mut self, query: Query) -> Added
-        requires { ⌜ self .«query_count» ≤ 16 ⌝ }
+        requires { ⌜ self .«query_count» < 16 ⌝ }
         ensures { λ r. ⌜ r ≡ addedQuery self query ⌝ }
     {
         let number = self.query_count;
-        if (number as usize) < Query::QUERIES {
-            self.queries[number as usize] = query;
-        }
+        self.queries[number as usize] = query;
         self.query_count = number + 1;
         Added {
             refusal: 0,
@@ -295,13 +292,11 @@ impl State {
     }
 
     fn with_update(mut self, update: Update) -> Added
-        requires { ⌜ self .«update_count» ≤ 16 ⌝ }
+        requires { ⌜ self .«update_count» < 16 ⌝ }
         ensures { λ r. ⌜ r ≡ addedUpdate self update ⌝ }
     {
         let number = self.update_count;
-        if (number as usize) < Update::UPDATES {
-            self.updates[number as usize] = update;
-        }
+        self.updates[number as usize] = update;
         self.update_count = number + 1;
         Added {
             refusal: 0,
@@ -508,7 +503,7 @@ impl State {
 
     // ---- flush
 
-    // Drops every cached answer. The memories are lent to be measured.
+    // Drops every cached answer: all slots are free, in the order that they had. The memories are lent to be measured.
     pub fn flush(mut self, cells: &[i32], memory: &[u8]) -> Flushed
         ensures { λ r. ⌜ r ≡ flushOf self (length (now (cells .entry))) (length (now (memory .entry))) ⌝ }
     {
@@ -518,8 +513,9 @@ impl State {
                 state: self,
             };
         }
-        let slots = self.slots;
-        self.slots = slots.drop([true; SlotList::SLOTS]);
+        let mut slots = self.slots;
+        slots.held = 0;
+        self.slots = slots;
         Flushed {
             refusal: 0,
             state: self,

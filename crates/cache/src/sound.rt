@@ -33,9 +33,8 @@ pub fn sizes_fit(cells: usize, memory: usize, slots: usize, bytes: usize) -> boo
 pub fn counts_fit(tables: u8, queries: u8, updates: u8) -> bool
     ensures { λ r. ⌜ r ≡ (leb tables 8 && (leb queries 16 && leb updates 16)) ⌝ }
 {
-    ((tables as usize) <= Table::TABLES)
-        & ((queries as usize) <= Query::QUERIES)
-        & ((updates as usize) <= Update::UPDATES)
+    let few = ((queries as usize) <= Query::QUERIES) & ((updates as usize) <= Update::UPDATES);
+    ((tables as usize) <= Table::TABLES) & few
 }
 
 // The cells of the areas of the first n tables.
@@ -58,25 +57,22 @@ pub fn rows_fit(tables: [Table; Table::TABLES], n: usize) -> bool
     requires { ⌜ n ≤ 8 ⌝ }
     ensures { λ r. ⌜ r ≡ all rowsFit (take n tables) ⌝ }
 {
+    let mut fit = true;
     let mut i: usize = 0;
     while i < n {
         let t = tables[i];
-        if t.capacity < t.rows {
-            return false;
-        }
+        fit = fit & (t.rows <= t.capacity);
         i += 1;
     }
-    true
+    fit
 }
 
 // Whether an answer's key has an existing query, of which there are n, with so many parameters, and its length is from 8 to the slot's bytes.
 fn slot_fits(query: u8, count: u8, n: u8, parameters: u8, length: u16, bytes: u16) -> bool
     ensures { λ r. ⌜ r ≡ (keyFits query count n parameters && lengthFits length bytes) ⌝ }
 {
-    (query < n)
-        & (count == parameters)
-        & (SlotList::LEAST_BYTES <= (length as usize))
-        & (length <= bytes)
+    let sized = (SlotList::LEAST_BYTES <= (length as usize)) & (length <= bytes);
+    (query < n) & (count == parameters) & sized
 }
 
 // Whether each held slot has a key and a length that fit.
@@ -93,15 +89,14 @@ pub fn held_fit(
 {
     let order = slots.order;
     let held = slots.held as usize;
+    let mut fit = true;
     let mut i: usize = 0;
     while i < held {
         let x = order[i] as usize;
         let k = keys[x];
         let q = queries[(k.query as usize) % Query::QUERIES];
-        if !slot_fits(k.query, k.count, n, q.parameters, lengths[x], bytes) {
-            return false;
-        }
+        fit = fit & slot_fits(k.query, k.count, n, q.parameters, lengths[x], bytes);
         i += 1;
     }
-    true
+    fit
 }

@@ -1,0 +1,200 @@
+-- The test of a state, part by part, as the code computes it: sizes, counts, areas of tables, held slots, and what one part says of the whole. Assumes nothing.
+use mathlib.Core.Path.{_≡_, refl, sym, ap, ap₂, _∙_}
+use mathlib.Core.Bool.{Bool, true, false, not, _&&_, _||_, and-true, and-false}
+use mathlib.Core.List.{List, [], _∷_}
+use Prim.Native.Nat.{ℕ, suc, _+_, _-_, _*_, _%_, _≤_, _<_}
+use native.Mathlib.Nat.{mul-le-mul, suc-mul}
+use native.Mathlib.Omega.{arith}
+use borrow.Author.Tests.{leb-true, ltb-true}
+use lib.Dec.{eqb, leb, ltb}
+use lib.ListN.{length, take, getD}
+use Rattle.lists.specs.Lists.{all}
+use Rattle.lists.proofs.Bools.{and-left, and-right, leb-not}
+use Rattle.lists.proofs.Places.{getD-inside}
+use Rattle.lists.proofs.Walks.{rest, rest-cons, rest-none}
+use Rattle.meaning.specs.Plain.{openingRefused}
+use Rattle.statement.specs.declared.Table.{Table}
+use Rattle.statement.specs.declared.Query.{Query}
+use Rattle.statement.specs.Compiled.{noQuery}
+use Rattle.statement.proofs.Stored.{all-map}
+use Rattle.slots.specs.declared.Key.{Key}
+use Rattle.slots.specs.declared.SlotList.{SlotList}
+use Rattle.slots.specs.Keys.{noKey, slotKey, heldKeys, heldTwice}
+use Rattle.slots.specs.Order.{heldSlots, soundSlots}
+use Rattle.cache.specs.declared.State.{State}
+use Rattle.cache.specs.Sound.{opening, soundSizes, soundCounts, areasOf, lengthAt, lengthFits, soundLengths, soundKey, soundKeys, keyFits, slotFits, soundTables, soundAnswers, soundState}
+use Rattle.cache.proofs.Sounds.{SlotsSound, slots-sound, All-first}
+
+-- ---- sizes
+
+-- none of six tests holds
+none-of : (a b c d e f : Bool) → (((((not a && not b) && not c) && not d) && not e) && not f) ≡ not (a || (b || (c || (d || (e || f)))))
+none-of true b c d e f = refl
+none-of false true c d e f = refl
+none-of false false true d e f = refl
+none-of false false false true e f = refl
+none-of false false false false true f = refl
+none-of false false false false false f = refl
+
+module _ (cells memory slots bytes : ℕ) where
+  abbrev few : Bool
+  few = (leb cells 32768 && leb memory 262144) && leb slots 64
+
+  abbrev within : Bool
+  within = (few && leb 8 bytes) && leb bytes 4096
+
+  sizes-are : (within && leb (slots * bytes) memory) ≡ not (openingRefused (opening cells memory slots bytes))
+  unfolding openingRefused
+  sizes-are =
+      rw (leb-not cells 32768, leb-not memory 262144, leb-not slots 64, leb-not 8 bytes, leb-not bytes 4096, leb-not (slots * bytes) memory)
+      (none-of (ltb 32768 cells) (ltb 262144 memory) (ltb 64 slots) (ltb bytes 8) (ltb 4096 bytes) (ltb memory (slots * bytes)))
+
+  pub sizes-tested : within ≡ true → leb (slots * bytes) memory ≡ not (openingRefused (opening cells memory slots bytes))
+  sizes-tested h = sym (ap (λ (b : Bool). b && leb (slots * bytes) memory) h) ∙ sizes-are
+
+  pub sizes-past : within ≡ false → false ≡ not (openingRefused (opening cells memory slots bytes))
+  sizes-past h = sym (ap (λ (b : Bool). b && leb (slots * bytes) memory) h) ∙ sizes-are
+
+  -- the product of sizes within the limits is small
+  pub sizes-small : within ≡ true → slots * bytes ≤ 64 * 4096
+  sizes-small h =
+      let b : few ≡ true = and-left few (leb 8 bytes) (and-left (few && leb 8 bytes) (leb bytes 4096) h) in
+      mul-le-mul (leb-true slots 64 (and-right (leb cells 32768 && leb memory 262144) (leb slots 64) b))
+      (leb-true bytes 4096 (and-right (few && leb 8 bytes) (leb bytes 4096) h))
+
+-- ---- areas: those from table i on are summed
+
+module _ (n : ℕ) (tables : List Table) where
+  pub record Summed (cells i : ℕ) : Type 0 where
+    pub within : i ≤ n
+    pub sum : cells ≡ areasOf (rest n i tables)
+    pub small : cells ≤ (n - i) * 16711425
+
+  pub summed-start : Summed 0 n
+  summed-start = record { within = omega arith; sum = ap areasOf (sym (rest-none n n tables (omega arith))); small = omega arith }
+
+  module _ (h : n ≤ length tables) (cells i : ℕ) (d : Table) (k : 0 < i) (S : Summed cells i) where
+    abbrev next : Table
+    next = getD tables (i - 1) d
+
+    module _ (few : next .count ≤ 255) (low : next .capacity ≤ 65535) where
+      pub summed-more : Summed (cells + next .count * next .capacity) (i - 1)
+      summed-more =
+          let e : i - 1 + 1 ≡ i = omega arith in
+          let s : areasOf (rest n (i - 1) tables) ≡ next .count * next .capacity + areasOf (rest n i tables) =
+          ap areasOf (rest-cons n (i - 1) tables d h (omega (arith, S .within))) ∙ ap (λ (j : ℕ). next .count * next .capacity + areasOf (rest n j tables)) e in
+          let m : next .count * next .capacity ≤ 255 * 65535 = mul-le-mul few low in
+          let p : n - (i - 1) ≡ suc (n - i) = omega (arith, S .within) in
+          let q : (n - (i - 1)) * 16711425 ≡ (n - i) * 16711425 + 16711425 = ap (λ (j : ℕ). j * 16711425) p ∙ suc-mul (n - i) 16711425 in
+          record { within = omega (arith, S .within); sum = omega (arith, S .sum); small = omega (arith, S .small) }
+
+  pub summed-end : (cells i : ℕ) → i ≤ 0 → Summed cells i → cells ≡ areasOf (take n tables)
+  summed-end cells i h S = let e : i ≡ 0 = omega arith in S .sum ∙ ap (λ (j : ℕ). areasOf (rest n j tables)) e
+
+-- ---- held slots
+
+module _ (s : SlotList) (long : length (s .order) ≡ 64) (ok : soundSlots s ≡ true) where
+  pub held-few : s .held ≤ 64
+  held-few = let S : SlotsSound s = slots-sound s ok in omega (arith, S .few, S .within)
+
+  -- a held place has a slot that there can be
+  pub held-below : (i : ℕ) → i < s .held → getD (s .order) i 0 < 64
+  held-below i h =
+      let S : SlotsSound s = slots-sound s ok in
+      let b : getD (s .order) i 0 < s .count = All-first {P = λ x. x < s .count} (s .count) (s .order) i 0 (omega (arith, S .few)) (omega (arith, S .within)) (S .below) in
+      omega (arith, S .few)
+
+module _ (keys : List Key) (lengths : List ℕ) (queries : List Query) (n bytes x : ℕ) (d : Key) (e : Query) where
+  abbrev key : Key
+  key = getD keys x d
+
+  -- a query below n stands at its number; one past them does not fit
+  number-is : (k : Key) → length queries ≡ 16 → n ≤ 16
+      → keyFits (k .query) (k .count) n (getD queries (k .query % 16) e .parameters) ≡ keyFits (k .query) (k .count) n (getD queries (k .query) noQuery .parameters)
+  number-is k l h = go (ltb (k .query) n) refl
+    where
+      go : (b : Bool) → ltb (k .query) n ≡ b
+          → (b && eqb (k .count) (getD queries (k .query % 16) e .parameters)) ≡ (b && eqb (k .count) (getD queries (k .query) noQuery .parameters))
+      go true t =
+          let y : k .query < n = ltb-true (k .query) n t in
+          let z : k .query % 16 ≡ k .query = omega arith in
+          let w : k .query < length queries = omega arith in
+          ap (λ (q : ℕ). eqb (k .count) (getD queries q e .parameters)) z
+          ∙ ap (λ (q : Query). eqb (k .count) (q .parameters)) (getD-inside queries (k .query) e noQuery w)
+      go false t = refl
+
+  pub slot-tested : length keys ≡ 64 → length queries ≡ 16 → n ≤ 16 → x < 64 → (r : Bool)
+      → r ≡ (keyFits (key .query) (key .count) n (getD queries (key .query % 16) e .parameters) && lengthFits (getD lengths x 0) bytes) → r ≡ slotFits keys lengths queries n bytes x
+  slot-tested l m h b r p =
+      p
+      ∙ ap (λ (k : Key). keyFits (k .query) (k .count) n (getD queries (k .query % 16) e .parameters) && lengthFits (getD lengths x 0) bytes) (getD-inside keys x d noKey (omega arith))
+      ∙ ap (λ (t : Bool). t && lengthFits (getD lengths x 0) bytes) (number-is (getD keys x noKey) m h)
+
+-- ---- the answers: each held slot by itself, then all
+
+module _ {A : Type 0} (p q : A → Bool) where
+  -- two tests of each member
+  all-both : (l : List A) → all (λ (x : A). p x && q x) l ≡ (all p l && all q l)
+  all-both [] = refl
+  all-both (x ∷ l) = ap (λ (b : Bool). (p x && q x) && b) (all-both l) ∙ apart (p x) (q x) (all p l) (all q l)
+    where
+      apart : (a b c d : Bool) → ((a && b) && (c && d)) ≡ ((a && c) && (b && d))
+      apart true true c d = refl
+      apart true false c d = sym (and-false c)
+      apart false b c d = refl
+
+module _ (s : State) where
+  answers-are : (k l t : Bool) → soundSlots (s .slots) ≡ true → ((k && l) && not t) ≡ (l && ((k && not t) && soundSlots (s .slots)))
+  answers-are k l t e = rw e (go k l (not t))
+    where
+      go : (k l t : Bool) → ((k && l) && t) ≡ (l && ((k && t) && true))
+      go true true t = sym (and-true t)
+      go true false t = refl
+      go false true t = refl
+      go false false t = refl
+
+  pub answers-tested : (fit twice : Bool) → soundSlots (s .slots) ≡ true
+      → fit ≡ all (slotFits (s .keys) (s .lengths) (s .queries) (s .«query_count») (s .«slot_bytes»)) (heldSlots (s .slots)) → twice ≡ heldTwice (s .keys) (s .slots)
+      → (fit && not twice) ≡ soundAnswers s
+  unfolding soundAnswers
+  answers-tested fit twice e f t =
+      let keys : ℕ → Bool = λ (x : ℕ). soundKey s (slotKey (s .keys) x) in
+      let lengths : ℕ → Bool = λ (x : ℕ). lengthFits (lengthAt s x) (s .«slot_bytes») in
+      ap₂ (λ (a b : Bool). a && not b)
+      (f ∙ all-both keys lengths (heldSlots (s .slots)) ∙ ap (λ (b : Bool). b && all lengths (heldSlots (s .slots))) (sym (all-map (slotKey (s .keys)) (soundKey s) (heldSlots (s .slots)))))
+      t
+      ∙ answers-are (all (soundKey s) (heldKeys (s .keys) (s .slots))) (all lengths (heldSlots (s .slots))) (heldTwice (s .keys) (s .slots)) e
+
+  pub answers-past : soundSlots (s .slots) ≡ false → false ≡ soundAnswers s
+  unfolding soundAnswers
+  answers-past e = rw e (sym (ap (λ (b : Bool). soundLengths s && b) (and-false (soundKeys s)) ∙ and-false (soundLengths s)))
+
+  -- ---- the whole
+
+  pub counts-few : soundCounts s ≡ true → (s .«table_count» ≤ 8) × (s .«query_count» ≤ 16) × (s .«update_count» ≤ 16)
+  counts-few h =
+      let r = and-right (leb (s .«table_count») 8) _ h in (
+        leb-true (s .«table_count») 8 (and-left (leb (s .«table_count») 8) _ h),
+        leb-true (s .«query_count») 16 (and-left (leb (s .«query_count») 16) _ r),
+        leb-true (s .«update_count») 16 (and-right (leb (s .«query_count») 16) _ r),
+      )
+
+  pub counts-of : soundState s ≡ true → soundCounts s ≡ true
+  unfolding soundState
+  counts-of h = and-left (soundCounts s) _ (and-right (soundSizes s) _ h)
+
+  module _ (sizes counts : Bool) (z : sizes ≡ soundSizes s) (c : counts ≡ soundCounts s) where
+    pub sound-fails : (sizes && counts) ≡ false → false ≡ soundState s
+    unfolding soundState
+    sound-fails h = go (soundSizes s) (soundCounts s) (soundTables s && soundAnswers s) (ap₂ (λ (a b : Bool). a && b) (sym z) (sym c) ∙ h)
+      where
+        go : (a b r : Bool) → (a && b) ≡ false → false ≡ (a && (b && r))
+        go true b r e = rw e
+        go false b r e = refl
+
+    pub counts-hold : (sizes && counts) ≡ true → soundCounts s ≡ true
+    counts-hold h = sym c ∙ and-right sizes counts h
+
+    pub sound-rest : (sizes && counts) ≡ true → (soundTables s && soundAnswers s) ≡ soundState s
+    unfolding soundState
+    sound-rest h = sym (rw (sym z ∙ and-left sizes counts h, counts-hold h))
