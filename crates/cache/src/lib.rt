@@ -429,7 +429,8 @@ impl State {
         }
         let x = taken.slot as usize;
         lent::copy(memory, x * (self.slot_bytes as usize), bytes, 0, size);
-        self.slots = taken.slots;
+        let moved = taken.slots;
+        self.slots = moved;
         self.keys[x] = key;
         self.lengths[x] = size as u16;
         self

@@ -1,0 +1,231 @@
+-- What each return of a question owes: refused, cached, or worked out; and of a record that is kept. Assumes nothing.
+use mathlib.Core.Path.{_≡_, refl, sym, ap, ap₂, _∙_}
+use mathlib.Core.Bool.{Bool, true, false, _&&_}
+use mathlib.Core.List.{List}
+use Prim.Native.Nat.{ℕ, _*_, _≤_, _<_}
+use native.Mathlib.Omega.{arith}
+use borrow.Author.Tests.{leb-true, leb-false, lt-ltb, le-ltb, le-leb, lt-leb, eq-eqb, ne-eqb}
+use lib.Dec.{leb, lit<}
+use lib.IntN.{ℤ}
+use lib.ListN.{length, take, getD, set}
+use lib.Seq.{length-take-le}
+use Rattle.lists.specs.Lists.{written}
+use Rattle.lists.proofs.Places.{getD-inside}
+use Rattle.lists.proofs.Written.{length-written, written-there}
+use Rattle.answer.specs.Answer.{put}
+use Rattle.answer.proofs.Buffers.{put-fits, put-not}
+use Rattle.statement.specs.declared.Query.{Query}
+use Rattle.statement.specs.declared.Table.{Table}
+use Rattle.statement.specs.Compiled.{noTable, noQuery}
+use Rattle.table.specs.declared.listing.Selected.{Selected}
+use Rattle.table.specs.Evaluated.{rowsUsed, recordStored, selectedBy, selectedIn}
+use Rattle.slots.specs.declared.Key.{Key}
+use Rattle.slots.specs.declared.Found.{Found}
+use Rattle.slots.specs.declared.Found.the-variants.{At, Nothing}
+use Rattle.slots.specs.declared.SlotList.{SlotList}
+use Rattle.slots.specs.declared.Taken.{Taken}
+use Rattle.slots.specs.Keys.{keyOf, findOf}
+use Rattle.slots.specs.Order.{frontOf, takenOf}
+use Rattle.slots.proofs.KeyLaws.{found-below}
+use Rattle.cache.specs.declared.State.{State}
+use Rattle.cache.specs.declared.Asked.{Asked}
+use Rattle.cache.specs.Sound.{areasOf, queryAt}
+use Rattle.cache.specs.Calls.{unfit, Asks, asks, askRefused, askRefusal, withCache, bytesAt, cachedLength, askCached, fitsSlot, kept, keptMemory, startOf, tableAt, rowsAt, recordAt, askNew, askFound, askOf}
+use Rattle.cache.proofs.Settled.{settled-refused, settled-done, Fit, fit-is, or-else-zero}
+
+-- ---- the number: 2, 10, 11
+
+module _ (s : State) (cells memory query values : ℕ) where
+  pub number-unfit : unfit s cells memory ≡ true → 2 ≡ askRefusal s cells memory query values
+  unfolding askRefusal
+  number-unfit h = rw h
+
+  module _ (h : unfit s cells memory ≡ false) where
+    pub number-missing : s .«query_count» ≤ query → 10 ≡ askRefusal s cells memory query values
+    unfolding askRefusal
+    number-missing k = rw (h, le-leb (s .«query_count») query k)
+
+    module _ (k : query < s .«query_count») (inside : query < length (s .queries)) (d : Query) where
+      abbrev parameters : ℕ
+      parameters = getD (s .queries) query d .parameters
+
+      parameters-are : parameters ≡ queryAt s query .parameters
+      parameters-are = ap (λ (q : Query). q .parameters) (getD-inside (s .queries) query d noQuery inside)
+
+      pub number-values : (values ≡ parameters → ⊥) → 11 ≡ askRefusal s cells memory query values
+      unfolding askRefusal
+      number-values n =
+          rw (h, lt-leb (s .«query_count») query k, ne-eqb values (queryAt s query .parameters) (λ e. n (e ∙ sym parameters-are)))
+
+      pub number-none : values ≡ parameters → 0 ≡ askRefusal s cells memory query values
+      unfolding askRefusal
+      number-none e = rw (h, lt-leb (s .«query_count») query k, eq-eqb values (queryAt s query .parameters) (e ∙ parameters-are))
+
+  pub none-fits : askRefusal s cells memory query values ≡ 0 → Fit s cells memory × (query < s .«query_count»)
+  unfolding askRefusal
+  none-fits e =
+      let a = or-else-zero (unfit s cells memory) 2 _ (lit< tt) e in
+      let b = or-else-zero (leb (s .«query_count») query) 10 _ (lit< tt) (a .1) in
+      (fit-is s cells memory (a .0), leb-false (s .«query_count») query (b .0))
+
+-- ---- an answer in a slot
+
+module _ (s : State) (memory answer : List ℕ) (p : ℕ) where
+  pub cached-short : (r : Asked) → length answer < cachedLength s p → r ≡ askRefused s 13 → asks r memory answer ≡ askCached s memory answer p
+  unfolding askCached
+  cached-short r h e = rw (lt-ltb (length answer) (cachedLength s p) h, e)
+
+  pub cached-done : (slots : SlotList) (new : List ℕ) → cachedLength s p ≤ length answer → slots ≡ frontOf (s .slots) p
+      → new ≡ written answer 0 (bytesAt s memory (getD (s .slots .order) p 0))
+      → asks (record { refusal = 0; cached = 1; scanned = 0; length = cachedLength s p; state = withCache s slots (s .keys) (s .lengths) }) memory new
+      ≡ askCached s memory answer p
+  unfolding askCached
+  cached-done slots new h e f = rw (le-ltb (length answer) (cachedLength s p) h, e, f)
+
+-- ---- a record kept
+
+module _ (s : State) (key : Key) (size : ℕ) (bytes memory : List ℕ) (long : size ≤ length bytes) (t : Taken) (e : t ≡ takenOf (s .slots)) where
+  abbrev first : List ℕ
+  first = take size bytes
+
+  abbrev Keeps : State → List ℕ → Type 0
+  Keeps after new = (after ≡ kept s key first) × (new ≡ keptMemory s first memory)
+
+  size-is : length first ≡ size
+  size-is = length-take-le size bytes long
+
+  test-is : (fitsSlot s first && takenOf (s .slots) .there) ≡ (leb size (s .«slot_bytes») && t .there)
+  test-is = ap₂ (λ (n : ℕ) (u : Taken). leb n (s .«slot_bytes») && u .there) size-is (sym e)
+
+  pub keep-not : (leb size (s .«slot_bytes») && t .there) ≡ false → Keeps s memory
+  unfolding kept keptMemory
+  keep-not h = let z = test-is ∙ h in (rw z, rw z)
+
+  pub keep-done : (new : List ℕ) → (leb size (s .«slot_bytes») && t .there) ≡ true → new ≡ written memory (t .slot * s .«slot_bytes») first
+      → Keeps (withCache s (t .slots) (set (s .keys) (t .slot) key) (set (s .lengths) (t .slot) size)) new
+  unfolding kept keptMemory
+  keep-done new h f =
+      let z = test-is ∙ h in (
+        rw z (ap₂ (λ (u : Taken) (n : ℕ). withCache s (u .slots) (set (s .keys) (u .slot) key) (set (s .lengths) (u .slot) n)) e (sym size-is)),
+        rw z (f ∙ ap (λ (u : Taken). written memory (u .slot * s .«slot_bytes») first) e),
+      )
+
+-- ---- an answer worked out
+
+short-number : (b : Bool) (n m : ℕ) → (selectedBy b n m .refusal ≡ 0 → ⊥) → b ≡ false
+short-number true n m h = absurd (h refl)
+short-number false n m h = refl
+
+fits-number : (b : Bool) (n m : ℕ) → selectedBy b n m .refusal ≡ 0 → b ≡ true
+fits-number true n m h = refl
+fits-number false n m h = absurd (omega arith)
+
+module _ (s : State) (cells : List ℤ) (memory : List ℕ) (query : ℕ) (values : List ℤ) (answer : List ℕ) (d : Query) (e : Table)
+    (inside : query < length (s .queries)) (there : queryAt s query .table < length (s .tables)) where
+  -- the query and its table, as they are read
+  abbrev asked : Query
+  asked = getD (s .queries) query d
+
+  abbrev area : Table
+  area = getD (s .tables) (asked .table) e
+
+  pub query-is : asked ≡ queryAt s query
+  query-is = getD-inside (s .queries) query d noQuery inside
+
+  table-is : area ≡ tableAt s (queryAt s query .table)
+  table-is = ap (λ (q : Query). getD (s .tables) (q .table) e) query-is ∙ getD-inside (s .tables) (queryAt s query .table) e noTable there
+
+  abbrev rows : List (List ℤ)
+  rows = rowsAt s cells (queryAt s query .table)
+
+  abbrev rec : List ℕ
+  rec = recordAt s cells query values
+
+  module _ (start : ℕ) (starts : start ≡ areasOf (take (asked .table) (s .tables))) where
+    rows-are : rowsUsed area start cells ≡ rows
+    rows-are = ap₂ (λ (t : Table) (n : ℕ). rowsUsed t n cells) table-is (starts ∙ ap (λ (q : Query). startOf s (q .table)) query-is)
+
+    rec-is : recordStored asked values (rowsUsed area start cells) ≡ rec
+    unfolding recordAt
+    rec-is = ap₂ (λ (q : Query) (l : List (List ℤ)). recordStored q values l) query-is rows-are
+
+    module _ (w : Selected) (new : List ℕ) (g : w ≡ selectedIn answer (rowsUsed area start cells) (recordStored asked values (rowsUsed area start cells)))
+        (h : new ≡ put answer 0 (recordStored asked values (rowsUsed area start cells))) where
+      given : w ≡ selectedIn answer rows rec
+      given = g ∙ ap₂ (selectedIn answer) rows-are rec-is
+
+      stored : new ≡ put answer 0 rec
+      stored = h ∙ ap (put answer 0) rec-is
+
+      number-is : w .refusal ≡ selectedIn answer rows rec .refusal
+      number-is = ap (λ (x : Selected). x .refusal) given
+
+      pub new-short : (r : Asked) → (w .refusal ≡ 0 → ⊥) → r ≡ askRefused s (w .refusal) → asks r memory new ≡ askNew s cells memory answer query values
+      unfolding askNew
+      new-short r k f =
+          let t : leb (length rec) (length answer) ≡ false = short-number _ (length rows) (length rec) (λ z. k (number-is ∙ z)) in
+          let u : length answer < length rec = leb-false (length rec) (length answer) t in
+          let n : w .refusal ≡ 13 = number-is ∙ ap (λ (b : Bool). selectedBy b (length rows) (length rec) .refusal) t in
+          rw (lt-ltb (length answer) (length rec) u) (ap₂ (λ (x : Asked) (y : List ℕ). asks x memory y) (f ∙ ap (askRefused s) n) (stored ∙ put-not answer 0 rec (omega arith)))
+
+      module _ (k : w .refusal ≡ 0) where
+        test : leb (length rec) (length answer) ≡ true
+        test = fits-number _ (length rows) (length rec) (sym number-is ∙ k)
+
+        fits : length rec ≤ length answer
+        fits = leb-true (length rec) (length answer) test
+
+        told : w ≡ selectedBy true (length rows) (length rec)
+        told = given ∙ ap (λ (b : Bool). selectedBy b (length rows) (length rec)) test
+
+        size-told : w .length ≡ length rec
+        size-told = ap (λ (x : Selected). x .length) told
+
+        new-is : new ≡ written answer 0 rec
+        new-is = stored ∙ put-fits answer 0 rec (omega (arith, fits))
+
+        -- the record stands at the buffer's start
+        new-first : take (w .length) new ≡ rec
+        new-first = ap₂ take size-told new-is ∙ written-there answer 0 rec (omega (arith, fits))
+
+        pub new-inside : w .length ≤ length new
+        new-inside =
+            let l : length new ≡ length answer = ap length new-is ∙ length-written answer 0 rec (omega (arith, fits)) in
+            omega (arith, size-told, fits)
+
+        pub new-done : (key : Key) (t : State) (after : List ℕ) → key ≡ keyOf query values → t ≡ kept s key (take (w .length) new)
+            → after ≡ keptMemory s (take (w .length) new) memory
+            → asks (record { refusal = 0; cached = 0; scanned = w .scanned; length = w .length; state = t }) after new ≡ askNew s cells memory answer query values
+        unfolding askNew
+        new-done key t after q f m =
+            let n : w .scanned ≡ length rows = ap (λ (x : Selected). x .scanned) told in
+            let z : t ≡ kept s (keyOf query values) rec = f ∙ ap₂ (kept s) q new-first in
+            let a : after ≡ keptMemory s rec memory = m ∙ ap (λ (l : List ℕ). keptMemory s l memory) new-first in
+            rw (le-ltb (length answer) (length rec) fits)
+            (λ i. asks (record { refusal = 0; cached = 0; scanned = n i; length = size-told i; state = z i }) (a i) (new-is i))
+
+-- ---- the whole question
+
+module _ (s : State) (cells : List ℤ) (memory : List ℕ) (query : ℕ) (values : List ℤ) (answer : List ℕ) (n : ℕ)
+    (e : n ≡ askRefusal s (length cells) (length memory) query (length values)) where
+  pub ask-refused : (r : Asked) → (n ≡ 0 → ⊥) → r ≡ askRefused s n → asks r memory answer ≡ askOf s cells memory query values answer
+  unfolding askOf
+  ask-refused r h f = rw (← e, f) (settled-refused n _ _ h)
+
+  module _ (z : n ≡ 0) where
+    pub accepted : Fit s (length cells) (length memory) × (query < s .«query_count»)
+    accepted = none-fits s (length cells) (length memory) query (length values) (sym e ∙ z)
+
+    module _ (key : Key) (q : key ≡ keyOf query values) (f : Found) (g : f ≡ findOf (s .keys) (s .slots) key) where
+      ask-done : (o : Asks) → o ≡ askFound f s cells memory answer query values → o ≡ askOf s cells memory query values answer
+      unfolding askOf
+      ask-done o h = h ∙ rw (← e, ← q, ← g) (settled-done n _ _ z)
+
+      pub ask-found : (p : ℕ) (o : Asks) → f ≡ At p → o ≡ askCached s memory answer p → o ≡ askOf s cells memory query values answer
+      ask-found p o m h = ask-done o (h ∙ ap (λ (x : Found). askFound x s cells memory answer query values) (sym m))
+
+      pub ask-missed : (o : Asks) → f ≡ Nothing → o ≡ askNew s cells memory answer query values → o ≡ askOf s cells memory query values answer
+      ask-missed o m h = ask-done o (h ∙ ap (λ (x : Found). askFound x s cells memory answer query values) (sym m))
+
+      pub found-held : (p : ℕ) → f ≡ At p → p < s .slots .held
+      found-held p m = found-below (s .keys) (s .slots) key p (sym g ∙ m)

@@ -1,0 +1,83 @@
+-- What a sound state says of the places that a question reads and writes: its query and table, the slot at a held place, and the last slot. Assumes nothing.
+use mathlib.Core.Path.{_≡_, refl, sym, ap, subst, _∙_}
+use mathlib.Core.Bool.{Bool, true, false, cond}
+use Prim.Native.Nat.{ℕ, _+_, _*_, _≤_, _<_}
+use native.Mathlib.Omega.{arith}
+use borrow.Author.Tests.{leb-true}
+use lib.Dec.{leb}
+use lib.ListN.{length, getD, length-map}
+use lib.Seq.{length-take-le}
+use Rattle.lists.proofs.Bools.{and-left}
+use Rattle.meaning.specs.Limits.{most-memory, most-slots, most-slot-bytes, most-tables, most-queries}
+use Rattle.statement.specs.declared.Query.{Query}
+use Rattle.statement.specs.Catalog.{schemaOf}
+use Rattle.statement.specs.Sound.{soundQuery}
+use Rattle.statement.proofs.SoundQuery.{query-parts}
+use Rattle.slots.specs.declared.SlotList.{SlotList}
+use Rattle.slots.specs.declared.Taken.{Taken}
+use Rattle.slots.specs.Order.{lastTaken, noneTaken, isOpen, takenOf}
+use Rattle.slots.proofs.Laws.{taken-below}
+use Rattle.cache.specs.declared.State.{State}
+use Rattle.cache.specs.Sound.{usedTables}
+use Rattle.cache.specs.Calls.{cachedLength}
+use Rattle.cache.proofs.Sounds.{schemasIn, Sound, All-first, HeldSound, slot-room, held-sound}
+
+-- ---- the table of a query
+
+pub query-table : (s : State) → Sound s → length (s .tables) ≡ most-tables → length (s .queries) ≡ most-queries → (i : ℕ) (d : Query) → i < s .«query_count»
+    → getD (s .queries) i d .table < most-tables
+query-table s S tables queries i d h =
+    let q : Query = getD (s .queries) i d in
+    let sound : soundQuery (schemasIn s) q ≡ true =
+    All-first {P = λ (x : Query). soundQuery (schemasIn s) x ≡ true} (s .«query_count») (s .queries) i d (omega (arith, S .few-queries)) h (S .queries) in
+    let there : q .table < length (schemasIn s) = query-parts (schemasIn s) q sound .there in
+    let long : length (schemasIn s) ≡ s .«table_count» = length-map (usedTables s) schemaOf ∙ length-take-le (s .«table_count») (s .tables) (omega (arith, S .few-tables)) in
+    omega (arith, S .few-tables)
+
+-- ---- slots
+
+-- the slot at the place p of the order: its answer lies inside the cache memory
+pub record Held (s : State) (p : ℕ) : Type 0 where
+  pub place : p < most-slots
+  pub slot : getD (s .slots .order) p 0 < most-slots
+  pub start : getD (s .slots .order) p 0 * s .«slot_bytes» ≤ most-memory
+  pub ends : getD (s .slots .order) p 0 * s .«slot_bytes» + cachedLength s p ≤ s .memory
+
+-- the slot t that n bytes take: there they lie inside the cache memory
+pub record Last (s : State) (t : Taken) (n : ℕ) : Type 0 where
+  pub slot : t .slot < most-slots
+  pub start : t .slot * s .«slot_bytes» ≤ most-memory
+  pub ends : t .slot * s .«slot_bytes» + n ≤ s .memory
+  pub small : n ≤ most-slot-bytes
+
+some-slot : (l : SlotList) → takenOf l .there ≡ true → 1 ≤ l .count
+unfolding takenOf
+some-slot l h = leb-true 1 (l .count) (and-left (leb 1 (l .count)) (leb (l .count) most-slots) (go (isOpen l) h))
+  where
+    go : (b : Bool) → cond b (lastTaken l) (noneTaken l) .there ≡ true → b ≡ true
+    go true e = refl
+    go false e = e
+
+module _ (s : State) (S : Sound s) (long : length (s .slots .order) ≡ most-slots) where
+  pub held-known : (p : ℕ) → p < s .slots .held → Held s p
+  held-known p h =
+      let H : HeldSound s (getD (s .slots .order) p 0) =
+      All-first {P = HeldSound s} (s .slots .held) (s .slots .order) p 0 (omega (arith, S .slots .within, S .slots .few)) h (held-sound s S) in
+      record {
+        place = omega (arith, S .slots .within, S .slots .few);
+        slot = omega (arith, H .slot, S .slots .few);
+        start = omega (arith, H .ends, S .sizes .few-memory);
+        ends = H .ends;
+      }
+
+  pub last-known : (t : Taken) (n : ℕ) → t ≡ takenOf (s .slots) → t .there ≡ true → n ≤ s .«slot_bytes» → Last s t n
+  last-known t n e there fits =
+      let some : 1 ≤ s .slots .count = some-slot (s .slots) (sym (ap (λ (u : Taken). u .there) e) ∙ there) in
+      let below : t .slot < s .slots .count = subst (λ (u : Taken). u .slot < s .slots .count) (sym e) (taken-below (s .slots) (S .slots) long some) in
+      let ends : t .slot * s .«slot_bytes» + n ≤ s .memory = slot-room s S (t .slot) n below fits in
+      record {
+        slot = omega (arith, S .slots .few);
+        start = omega (arith, S .sizes .few-memory);
+        ends = ends;
+        small = omega (arith, S .sizes .most-bytes);
+      }
