@@ -2,6 +2,7 @@
 mod matching; // which cached answers an update invalidates
 mod lent; // bytes and cells of the lent memories
 mod sound; // the test of a state
+mod tables; // one of the tables
 
 use slots::Found;
 use slots::Key;
@@ -469,7 +470,8 @@ impl State {
         if values != (u.parameters as usize) {
             return Refusal::VALUES;
         }
-        let t = self.tables[u.table as usize];
+        let tables = self.tables;
+        let t = tables::table_at(tables, u.table as usize);
         if (u.form == Update::INSERT) & (t.capacity <= t.rows) {
             return Refusal::FULL;
         }
@@ -478,7 +480,7 @@ impl State {
 
     // The rows changed, and the slots of the answers that the update matches dropped.
     fn updated(mut self, cells: &mut [i32], u: Update, values: &[i32]) -> Updated
-        requires { ⌜ (soundState self ≡ true) × (u .table < self .«table_count») ⌝ }
+        requires { ⌜ soundState self ≡ true ⌝ }
         ensures { λ r. ⌜ updates r (now (cells .exit)) ≡ updateDone self (now (cells .entry)) u (now (values .entry)) ⌝ }
     {
         let slots = self.slots;
@@ -488,11 +490,11 @@ impl State {
         let left = slots.drop(gone);
         let tables = self.tables;
         let i = u.table as usize;
-        let mut t = self.tables[i];
-        let start = sound::areas(tables, i);
+        let t = tables::table_at(tables, i);
+        let start = tables::start_of(tables, i);
         let done = table::change(u, t, start, cells, values);
-        t.rows = done.rows;
-        self.tables[i] = t;
+        let changed = tables::with_rows(tables, i, done.rows);
+        self.tables = changed;
         self.slots = left;
         Updated {
             refusal: 0,

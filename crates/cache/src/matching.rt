@@ -7,11 +7,14 @@ use table::Query;
 use table::Update;
 ghost use mathlib.Core.Path.{_≡_};
 ghost use Prim.Native.Nat.{_≤_, _<_};
-ghost use mathlib.Core.Bool.{true};
+ghost use mathlib.Core.Bool.{true, _&&_};
+ghost use lib.Dec.{eqb};
 ghost use mathlib.Core.List.{map};
 ghost use Rattle.lists.specs.Lists.{from};
-ghost use Rattle.slots.specs.Order.{heldSlots, soundSlots};
-ghost use Rattle.cache.specs.Marks.{marked as markedBy, agreesAt, queryMarks, holdsAnswer, marksOf};
+ghost use Rattle.pattern.specs.Stored.{agreesStored};
+ghost use Rattle.slots.specs.Keys.{valuesOf};
+ghost use Rattle.slots.specs.Order.{soundSlots};
+ghost use Rattle.cache.specs.Marks.{queryMarks, holdsAnswer, marksOf};
 
 // Which queries hold an answer.
 fn queries_held(keys: [Key; SlotList::SLOTS], slots: SlotList) -> [bool; Query::QUERIES]
@@ -33,35 +36,18 @@ fn queries_held(keys: [Key; SlotList::SLOTS], slots: SlotList) -> [bool; Query::
     found
 }
 
-// Marks the held slots whose key is of the query and agrees with the pattern.
-fn mark_clause(
-    gone: [bool; SlotList::SLOTS],
-    keys: [Key; SlotList::SLOTS],
-    slots: SlotList,
-    q: u8,
-    p: Pattern,
-) -> [bool; SlotList::SLOTS]
-    requires { ⌜ soundSlots slots ≡ true ⌝ }
-    ensures { λ r. ⌜ r ≡ markedBy (agreesAt keys q p) (heldSlots slots) gone ⌝ }
+// Whether a key is of the query and agrees with the pattern.
+fn agrees_key(p: Pattern, q: u8, k: Key) -> bool
+    ensures { λ r. ⌜ r ≡ (eqb (k .query) q && agreesStored p (valuesOf k)) ⌝ }
 {
-    let mut marks = gone;
-    let order = slots.order;
-    let held = slots.held as usize;
-    let mut i: usize = 0;
-    while i < held {
-        let x = order[i] as usize;
-        let k = keys[x];
-        if k.query == q {
-            if p.agrees(k.values, k.count) {
-                marks[x] = true;
-            }
-        }
-        i += 1;
+    if k.query != q {
+        return false;
     }
-    marks
+    let values = k.values;
+    p.agrees(values, k.count)
 }
 
-// Marks the held slots whose key is of the query and is matched by the update.
+// Marks the held slots whose key is of the query and is matched by the update: each joint clause, and beside it every held key.
 fn mark_query(
     gone: [bool; SlotList::SLOTS],
     keys: [Key; SlotList::SLOTS],
@@ -75,12 +61,22 @@ fn mark_query(
     ensures { λ r. ⌜ r ≡ queryMarks keys slots q query update (now (values .entry)) gone ⌝ }
 {
     let mut marks = gone;
+    let order = slots.order;
+    let held = slots.held as usize;
     let total = pattern::clause_total(query, update);
     let mut i: u8 = 0;
     while i < total {
         let p = pattern::clause_pattern(query, update, i);
         let f = p.filled(values);
-        marks = mark_clause(marks, keys, slots, q, f);
+        let mut j: usize = 0;
+        while j < held {
+            let x = order[j] as usize;
+            let k = keys[x];
+            if agrees_key(f, q, k) {
+                marks[x] = true;
+            }
+            j += 1;
+        }
         i += 1;
     }
     marks
@@ -104,7 +100,8 @@ pub fn matched(
     while q < n {
         let query = queries[q as usize];
         if found[q as usize] {
-            marks = mark_query(marks, keys, slots, q, query, update, values);
+            let next = mark_query(marks, keys, slots, q, query, update, values);
+            marks = next;
         }
         q += 1;
     }

@@ -1,3 +1,4 @@
+<<<<<<< ours
 -- `is_unfit` meets its contract. Assumes nothing.
 use borrow.Author.Needs.{needs}
 use Rattle.cache.specs.Calls.{unfit}
@@ -19,3 +20,9 @@ returns c = rw (c .before .before .is-sound .ensures)
 
 pub is-unfit-spec : {M : Type 1} → statement M
 is-unfit-spec = tie.close (tie.spec is-sound-requires cast-same cast-same-2 returns)
+=======
+use Rattle.cache.proofs.State.is_unfit.Statement.{statement}
+
+pub is-unfit-spec : {M : Type 1} → statement M
+is-unfit-spec = ?
+>>>>>>> theirs

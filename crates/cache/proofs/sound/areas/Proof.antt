@@ -1,3 +1,4 @@
+<<<<<<< ours
 -- `areas` meets its contract. The invariant: the areas from table i on are summed. The measure is i. Assumes nothing.
 use borrow.Author.Needs.{needs}
 use mathlib.Core.Path.{_≡_}
@@ -87,3 +88,9 @@ areas-spec =
     loop-less
     loop-again
     returns)
+=======
+use Rattle.cache.proofs.sound.areas.Statement.{statement}
+
+pub areas-spec : {M : Type 1} → statement M
+areas-spec = ?
+>>>>>>> theirs
