@@ -1,10 +1,6 @@
 -- A copy of bytes, for the loop that makes it. Assumes nothing.
 use mathlib.Core.Path.{_≡_, sym, ap, ap₂, _∙_}
-<<<<<<< ours
 use mathlib.Core.List.{List}
-=======
-use mathlib.Core.List.{List, _++_, append-assoc}
->>>>>>> theirs
 use Prim.Native.Nat.{ℕ, suc, _+_, _<_, _≤_}
 use native.Mathlib.Numerals.{add-one}
 use native.Mathlib.Omega.{arith}

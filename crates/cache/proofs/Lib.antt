@@ -1,4 +1,17 @@
 pub mod Sounds
+pub mod Tested
+pub mod Settled
+pub mod Copies
+pub mod Opening
+pub mod Placing
+pub mod Inside
+pub mod AskReturns
+pub mod Marks
+pub mod Marking
+pub mod DropsMarked
+pub mod TableNumbers
+pub mod UpdateReturns
+pub mod Flushing
 pub mod Refusals
 pub mod StaysCases
 pub mod StaysCompiled

@@ -1,4 +1,3 @@
-<<<<<<< ours
 -- `is_unfit` meets its contract. Assumes nothing.
 use borrow.Author.Needs.{needs}
 use Rattle.cache.specs.Calls.{unfit}
@@ -20,9 +19,3 @@ returns c = rw (c .before .before .is-sound .ensures)
 
 pub is-unfit-spec : {M : Type 1} → statement M
 is-unfit-spec = tie.close (tie.spec is-sound-requires cast-same cast-same-2 returns)
-=======
-use Rattle.cache.proofs.State.is_unfit.Statement.{statement}
-
-pub is-unfit-spec : {M : Type 1} → statement M
-is-unfit-spec = ?
->>>>>>> theirs

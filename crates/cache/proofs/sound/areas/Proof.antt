@@ -1,4 +1,3 @@
-<<<<<<< ours
 -- `areas` meets its contract. The invariant: the areas from table i on are summed. The measure is i. Assumes nothing.
 use borrow.Author.Needs.{needs}
 use mathlib.Core.Path.{_≡_}
@@ -88,9 +87,3 @@ areas-spec =
     loop-less
     loop-again
     returns)
-=======
-use Rattle.cache.proofs.sound.areas.Statement.{statement}
-
-pub areas-spec : {M : Type 1} → statement M
-areas-spec = ?
->>>>>>> theirs
