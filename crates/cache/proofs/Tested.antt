@@ -23,7 +23,8 @@ use Rattle.slots.specs.Keys.{noKey, slotKey, heldKeys, heldTwice}
 use Rattle.slots.specs.Order.{heldSlots, soundSlots}
 use Rattle.cache.specs.declared.State.{State}
 use Rattle.cache.specs.Sound.{opening, soundSizes, soundCounts, areasOf, lengthAt, lengthFits, soundLengths, soundKey, soundKeys, keyFits, slotFits, soundTables, soundAnswers, soundState}
-use Rattle.cache.proofs.Sounds.{SlotsSound, slots-sound, All-first}
+use Rattle.slots.proofs.Laws.{Sound, sound-is}
+use Rattle.cache.proofs.Sounds.{All-first}
 
 -- ---- sizes
 
@@ -95,12 +96,12 @@ module _ (n : ℕ) (tables : List Table) where
 
 module _ (s : SlotList) (long : length (s .order) ≡ 64) (ok : soundSlots s ≡ true) where
   pub held-few : s .held ≤ 64
-  held-few = let S : SlotsSound s = slots-sound s ok in omega (arith, S .few, S .within)
+  held-few = let S : Sound s = sound-is s ok in omega (arith, S .few, S .within)
 
   -- a held place has a slot that there can be
   pub held-below : (i : ℕ) → i < s .held → getD (s .order) i 0 < 64
   held-below i h =
-      let S : SlotsSound s = slots-sound s ok in
+      let S : Sound s = sound-is s ok in
       let b : getD (s .order) i 0 < s .count = All-first {P = λ x. x < s .count} (s .count) (s .order) i 0 (omega (arith, S .few)) (omega (arith, S .within)) (S .below) in
       omega (arith, S .few)
 
