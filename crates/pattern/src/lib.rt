@@ -8,10 +8,15 @@ pub enum Entry {
     Any,
 }
 
+// A place of a pattern: a struct, as the array of a struct may hold structs and no enums.
+pub struct Place {
+    pub entry: Entry,
+}
+
 // The pattern of a clause, if it has one: an entry for each of the query's parameters, the first `count` entries.
 pub struct Pattern {
     pub there: bool,
-    pub entries: [Entry; Pattern::ENTRIES],
+    pub entries: [Place; Pattern::ENTRIES],
     pub count: u8,
 }
 
