@@ -1,0 +1,5 @@
+pub mod Formed
+pub mod Selecting
+pub mod Sums
+pub mod Stacking
+pub mod Running
