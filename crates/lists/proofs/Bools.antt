@@ -73,6 +73,12 @@ pub contra : (a b : Bool) → (a ≡ true → b ≡ true) → b ≡ false → a 
 contra true b f h = absurd (true≢false (sym (f refl) ∙ h))
 contra false b f h = refl
 
+-- two tests that imply each other
+pub iff : (a b : Bool) → (a ≡ true → b ≡ true) → (b ≡ true → a ≡ true) → a ≡ b
+iff true b f g = sym (f refl)
+iff false true f g = g refl
+iff false false f g = refl
+
 -- a test that is both true and false
 pub clash : {X : Type 0} {b : Bool} → b ≡ true → b ≡ false → X
 clash h k = absurd (true≢false (sym h ∙ k))

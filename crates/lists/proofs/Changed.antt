@@ -21,6 +21,15 @@ module _ {A : Type 0} where
   members-have [] f = nil
   members-have (x ∷ l) f = cons (f x (head refl)) (members-have l (λ y m. f y (tail m)))
 
+  -- a member that passes the test is kept
+  pub member-keep : (p : A → Bool) {l : List A} {x : A} → p x ≡ true → Member x l → Member x (keep p l)
+  member-keep p {l = y ∷ l} {x} h (head e) = rw (sym (ap p e) ∙ h) (head e)
+  member-keep p {l = y ∷ l} {x} h (tail m) = go (p y) (member-keep p h m)
+    where
+      go : (b : Bool) → Member x (keep p l) → Member x (consIf b y (keep p l))
+      go true k = tail k
+      go false k = k
+
 pub pairs-map : {A B : Type 0} (f : A → B) (cs ds : List (List A)) → map (map f) (pairs cs ds) ≡ pairs (map (map f) cs) (map (map f) ds)
 pairs-map f [] ds = refl
 pairs-map f (c ∷ cs) ds =

@@ -34,14 +34,14 @@ pub data Linked (cs : Clause) : Joint → Joint → Type 0 where
   reversed : {x y : Joint} → Member (equals x y) cs → Linked cs y x
   through : {x y z : Joint} → Linked cs x y → Linked cs y z → Linked cs x z
 
-linked-back : {cs : Clause} {x y : Joint} → Linked cs x y → Linked cs y x
+pub linked-back : {cs : Clause} {x y : Joint} → Linked cs x y → Linked cs y x
 linked-back itself = itself
 linked-back (joined m) = reversed m
 linked-back (reversed m) = joined m
 linked-back (through h k) = through (linked-back k) (linked-back h)
 
 -- what an `=` comparison joins is related by R
-abbrev Joins : (Joint → Joint → Type 0) → Comparison Joint → Type 0
+abbrev pub Joins : (Joint → Joint → Type 0) → Comparison Joint → Type 0
 Joins R c = c .op ≡ eq → R (c .left) (c .right)
 
 -- every equivalence that relates what `=` joins relates each operand to its label
@@ -104,7 +104,7 @@ labels-join f (c ∷ cs) = cons here (labels-join (λ x. join (c .op) (f (c .lef
     here e = labels-kept (λ x. join (c .op) (f (c .left)) (f (c .right)) (f x)) cs (c .left) (c .right) (join-joins (c .op) (f (c .left)) (f (c .right)) e)
 
 -- the comparisons of a clause, as links of it
-clause-joins : (cs : Clause) → All (Joins (Linked cs)) cs
+pub clause-joins : (cs : Clause) → All (Joins (Linked cs)) cs
 clause-joins cs = members-have cs (λ c m e. joined (subst (λ (d : Comparison Joint). Member d cs) (λ i. record { left = c .left; op = e i; right = c .right }) m))
 
 linked-labels : {cs : Clause} {x y : Joint} → Linked cs x y → label cs x ≡ label cs y
@@ -133,7 +133,7 @@ strict-differs le a h = refl
 strict-differs gt a h = absurd (<ℤ-irrefl {a = a} (ltZ-yes (true→T (ltZ a a) h)))
 strict-differs ge a h = refl
 
-differ-none : (w : ℤ) (zs : List ℤ) → All (λ (z : ℤ). z ≡ w) zs → differ zs ≡ false
+pub differ-none : (w : ℤ) (zs : List ℤ) → All (λ (z : ℤ). z ≡ w) zs → differ zs ≡ false
 differ-none w [] h = refl
 differ-none w (y ∷ zs) h =
     any-none (λ (z : ℤ). not (eqZ y z)) (All-map (λ z e. ap not (ap₂ eqZ (All-head h) e ∙ eqZ-same w)) (All-tail h))
@@ -173,20 +173,21 @@ jointValue r us qs (constant z) = z
 jointValue r us qs (asked k) = valueAt qs k
 jointValue r us qs (given k) = valueAt us k
 
-module _ (r : Row) (us qs : List ℤ) (w : ℤ) where
-  constants-are : (xs : List Joint) → All (λ (x : Joint). jointValue r us qs x ≡ w) xs → All (λ (z : ℤ). z ≡ w) (constants xs)
-  constants-are [] h = nil
-  constants-are (column i ∷ xs) h = constants-are xs (All-tail h)
-  constants-are (constant z ∷ xs) h = cons (All-head h) (constants-are xs (All-tail h))
-  constants-are (asked k ∷ xs) h = constants-are xs (All-tail h)
-  constants-are (given k ∷ xs) h = constants-are xs (All-tail h)
+-- what all operands have, their constants and update marks have
+module _ {P : Joint → Type 0} where
+  pub constants-have : {xs : List Joint} → All P xs → All (λ (z : ℤ). P (constant z)) (constants xs)
+  constants-have nil = nil
+  constants-have (cons {x = column i} p h) = constants-have h
+  constants-have (cons {x = constant z} p h) = cons p (constants-have h)
+  constants-have (cons {x = asked k} p h) = constants-have h
+  constants-have (cons {x = given k} p h) = constants-have h
 
-  marks-are : (xs : List Joint) → All (λ (x : Joint). jointValue r us qs x ≡ w) xs → All (λ (k : ℕ). valueAt us k ≡ w) (updateMarks xs)
-  marks-are [] h = nil
-  marks-are (column i ∷ xs) h = marks-are xs (All-tail h)
-  marks-are (constant z ∷ xs) h = marks-are xs (All-tail h)
-  marks-are (asked k ∷ xs) h = marks-are xs (All-tail h)
-  marks-are (given k ∷ xs) h = cons (All-head h) (marks-are xs (All-tail h))
+  pub marks-have : {xs : List Joint} → All P xs → All (λ (k : ℕ). P (given k)) (updateMarks xs)
+  marks-have nil = nil
+  marks-have (cons {x = column i} p h) = marks-have h
+  marks-have (cons {x = constant z} p h) = marks-have h
+  marks-have (cons {x = asked k} p h) = marks-have h
+  marks-have (cons {x = given k} p h) = cons p (marks-have h)
 
 module _ (r : Row) (us qs : List ℤ) (cs : Clause) (met : meets (jointValue r us qs) cs ≡ true) where
   each : All (λ (c : Comparison Joint). holds (jointValue r us qs) c ≡ true) cs
@@ -208,10 +209,10 @@ module _ (r : Row) (us qs : List ℤ) (cs : Clause) (met : meets (jointValue r u
   class-all x = All-map (λ y h. class-value y x h) (All-kept (λ (y : Joint). same (label cs y) (label cs x)) (sides cs))
 
   class-constants : (x : Joint) → All (λ (z : ℤ). z ≡ jointValue r us qs x) (constants (class cs x))
-  class-constants x = constants-are r us qs (jointValue r us qs x) (class cs x) (class-all x)
+  class-constants x = constants-have (class-all x)
 
   class-marks : (x : Joint) → All (λ (k : ℕ). valueAt us k ≡ jointValue r us qs x) (updateMarks (class cs x))
-  class-marks x = marks-are r us qs (jointValue r us qs x) (class cs x) (class-all x)
+  class-marks x = marks-have (class-all x)
 
   apart : (c : Comparison Joint) → holds (jointValue r us qs) c ≡ true → (strict (c .op) && same (label cs (c .left)) (label cs (c .right))) ≡ false
   apart c h = go (strict (c .op)) (same (label cs (c .left)) (label cs (c .right))) refl refl

@@ -1,3 +1,5 @@
+pub mod OperandCodes
+pub mod Least
 pub mod Formed
 pub mod Selecting
 pub mod Sums
