@@ -5,3 +5,7 @@ pub mod Selecting
 pub mod Sums
 pub mod Stacking
 pub mod Running
+pub mod Mapped
+pub mod Constants
+pub mod Operators
+pub mod Labelling

@@ -1,3 +1,4 @@
 pub mod Least
 pub mod Stored
 pub mod Masks
+pub mod Flat
