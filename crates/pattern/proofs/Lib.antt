@@ -9,3 +9,5 @@ pub mod Mapped
 pub mod Constants
 pub mod Operators
 pub mod Labelling
+pub mod Numbering
+pub mod Adding

@@ -1,5 +1,6 @@
 // Which cached answers an update can change: for a query and an update, the pattern of each joint clause of the two (document 01, "Patterns", rules 1 to 7).
 mod clauses; // the clauses of a condition, as masks
+mod joint; // a joint clause in arrays
 mod labels; // the classes of a joint clause, and its pattern
 
 // What a pattern asks of a value of a key: that it is this constant, or the update's parameter of this number (counted from 0), or nothing.
