@@ -20,7 +20,6 @@ use Rattle.meaning.specs.Condition.{Comparison, renamed}
 use Rattle.meaning.specs.Pattern.{number, mark, anything}
 use Rattle.statement.specs.Compiled.{padded, markPlace}
 use Rattle.statement.specs.Places.{operatorAt}
-use Rattle.table.proofs.Copied.{pasted}
 use Rattle.pattern.specs.declared.Entry.the-variants.{Constant, Parameter, Any}
 use Rattle.pattern.specs.declared.Place.{Place}
 use Rattle.pattern.specs.declared.Pattern.{Pattern}
@@ -28,6 +27,7 @@ use Rattle.pattern.specs.declared.labels.Labels.{Labels}
 use Rattle.pattern.specs.Least.{marks-from, asked-from, codeConstant, Coded, joinLeast, leastOn, least, clashes, clashesOn, fails, contradicts, entryOfCode, leastEntry}
 use Rattle.pattern.specs.Stored.{entryStruct, placed, placeStruct, patternStruct, noPattern}
 use Rattle.pattern.specs.Flat.{comparisonAt, clauseAt, failing, Readable, Ready, Labelled, placesOf, codedPattern}
+use Rattle.pattern.proofs.Searching.{fill-more, fill-done}
 use Rattle.pattern.proofs.Mapped.{getD-map-in, map-drop, drop-replicate, from-at, take-from}
 
 -- ---- the comparisons of a clause
@@ -36,10 +36,10 @@ module _ (codes ops : List ℕ) (n : ℕ) where
   abbrev cs : Coded
   cs = clauseAt codes ops n
 
-  clause-length : length cs ≡ n
+  pub clause-length : length cs ≡ n
   clause-length = length-map (from 0 n) (comparisonAt codes ops) ∙ from-count 0 n
 
-  clause-at : (i : ℕ) (d : Comparison ℕ) → i < n → getD cs i d ≡ comparisonAt codes ops i
+  pub clause-at : (i : ℕ) (d : Comparison ℕ) → i < n → getD cs i d ≡ comparisonAt codes ops i
   clause-at i d h =
       let l : i < length (from 0 n) = omega (arith, from-count 0 n) in
       let z : 0 + i ≡ i = omega arith in
@@ -141,22 +141,6 @@ module _ (codes ops : List ℕ) (n : ℕ) where
         readable = L .readable;
       }
 
--- ---- comparisons that cannot hold
-
-module _ (labels ops : List ℕ) (n : ℕ) where
-  pub fails-more : (i : ℕ) (found found′ b : Bool) → i < n → found′ ≡ (found || b) → b ≡ failing (comparisonAt labels ops i)
-      → (found || any failing (drop i (clauseAt labels ops n))) ≡ any failing (clauseAt labels ops n)
-      → (found′ || any failing (drop (i + 1) (clauseAt labels ops n))) ≡ any failing (clauseAt labels ops n)
-  fails-more i found found′ b h e q inv =
-      ap (λ (x : Bool). x || any failing (drop (i + 1) (clauseAt labels ops n))) (e ∙ ap (λ (x : Bool). found || x) q)
-      ∙ sym (or-assoc found (failing (comparisonAt labels ops i)) (any failing (drop (i + 1) (clauseAt labels ops n))))
-      ∙ sym (ap (λ (l : Coded). found || any failing l) (clause-next labels ops n i h)) ∙ inv
-
-  pub fails-done : (i : ℕ) (found : Bool) → n ≤ i → (found || any failing (drop i (clauseAt labels ops n))) ≡ any failing (clauseAt labels ops n)
-      → found ≡ any failing (clauseAt labels ops n)
-  fails-done i found h inv =
-      sym (or-false found) ∙ sym (ap (λ (l : Coded). found || any failing l) (clause-none labels ops n i h)) ∙ inv
-
 -- ---- entries
 
 -- the places of the first n question marks
@@ -170,25 +154,18 @@ module _ (labels : List ℕ) (n : ℕ) (long : length labels ≡ 40) (few : n �
   placing-length : length (placing labels n) ≡ n
   placing-length = length-map (take n (drop 32 labels)) (λ (x : ℕ). placeStruct (entryOfCode x)) ∙ marks-length
 
-  abbrev none : List Place
-  none = replicate 8 (placed Any)
-
-  pub place-more : (k : ℕ) (out : List Place) (e : Place) → k < n → e ≡ placeStruct (entryOfCode (getD labels (32 + k) 0)) → out ≡ paste none 0 (placing labels n) k
-      → set out k e ≡ paste none 0 (placing labels n) (k + 1)
+  pub place-more : (k : ℕ) (out : List Place) (e : Place) → k < n → e ≡ placeStruct (entryOfCode (getD labels (32 + k) 0)) → out ≡ paste (replicate 8 (placed Any)) 0 (placing labels n) k
+      → set out k e ≡ paste (replicate 8 (placed Any)) 0 (placing labels n) (k + 1)
   place-more k out e h q inv =
-      let z : k ≡ 0 + k = omega arith in
-      let g : getD (placing labels n) k (placed Any) ≡ placeStruct (entryOfCode (getD labels (32 + k) 0)) =
-      getD-map-in (λ (x : ℕ). placeStruct (entryOfCode x)) (take n (drop 32 labels)) k 0 (placed Any) (omega (arith, marks-length))
-      ∙ ap (λ (x : ℕ). placeStruct (entryOfCode x)) (getD-take n (drop 32 labels) k 0 h ∙ getD-drop 32 labels k 0) in
-      pasted none 0 (placing labels n) k (placed Any) out k e (omega arith) (omega (arith, placing-length)) inv z (q ∙ sym g)
+      fill-more (λ (x : ℕ). placeStruct (entryOfCode x)) (take n (drop 32 labels)) (replicate 8 (placed Any)) (omega (arith, marks-length)) k out e 0 (omega (arith, marks-length))
+      (q ∙ ap (λ (x : ℕ). placeStruct (entryOfCode x)) (sym (getD-take n (drop 32 labels) k 0 h ∙ getD-drop 32 labels k 0))) inv
 
-  pub place-done : (k : ℕ) (out : List Place) → k ≡ n → out ≡ paste none 0 (placing labels n) k → out ≡ placesOf labels n
+  pub place-done : (k : ℕ) (out : List Place) → k ≡ n → out ≡ paste (replicate 8 (placed Any)) 0 (placing labels n) k → out ≡ placesOf labels n
   unfolding placesOf
   place-done k out e inv =
-      let z : 0 + k ≡ length (placing labels n) = omega (arith, placing-length) in
-      inv
-      ∙ ap₂ (λ (x : List Place) (j : ℕ). x ++ drop j none) (take-all k (placing labels n) (omega (arith, placing-length))) z
-      ∙ ap (λ (x : List Place). placing labels n ++ x) (drop-replicate (length (placing labels n)) 8 (placed Any))
+      let z : length (take n (drop 32 labels)) ≡ length (placing labels n) = omega (arith, marks-length, placing-length) in
+      fill-done (λ (x : ℕ). placeStruct (entryOfCode x)) (take n (drop 32 labels)) (replicate 8 (placed Any)) (omega (arith, marks-length)) k out (omega (arith, marks-length)) inv
+      ∙ ap (λ (x : List Place). placing labels n ++ x) (drop-replicate (length (take n (drop 32 labels))) 8 (placed Any) ∙ ap (λ (m : ℕ). replicate (8 - m) (placed Any)) z)
 
 -- what a number says of a question mark
 pub entry-constant : (n : ℕ) (z : ℤ) → n < marks-from → z ≡ codeConstant n → Constant z ≡ entryStruct (entryOfCode n)

@@ -6,6 +6,8 @@ pub mod Sums
 pub mod Stacking
 pub mod Running
 pub mod Mapped
+pub mod Searching
+pub mod Relevant
 pub mod Constants
 pub mod Operators
 pub mod Labelling

@@ -254,6 +254,13 @@ module _ (s : Stack) (q : ℕ) (rs ls : List ℕ) (st : List (List ℕ)) (H : Ho
 
 -- ---- a step, by its number
 
+-- the stack with other masks
+pub both-made : (s : Stack) (masks : List ℕ) → masks ≡ bothOf s .masks
+    → _≡_ {A = Stack}
+    (record { masks = masks; lengths = set (s .lengths) (s .depth - 2) (leftOf s * rightOf s); depth = s .depth - 1; total = startOf s + leftOf s * rightOf s; bit = s .bit }) (bothOf s)
+both-made s masks e =
+    ap (λ (m : List ℕ). record { masks = m; lengths = set (s .lengths) (s .depth - 2) (leftOf s * rightOf s); depth = s .depth - 1; total = startOf s + leftOf s * rightOf s; bit = s .bit }) e
+
 pub push-steps : (k : ℕ) (s : Stack) → k ≡ 0 → Steps k s → Pushes s
 push-steps zero s e p = p
 push-steps (suc k) s e p = absurd (omega arith)

@@ -2,3 +2,4 @@ pub mod Least
 pub mod Stored
 pub mod Masks
 pub mod Flat
+pub mod Relevance

@@ -16,9 +16,6 @@ use Rattle.pattern.specs.Flat.{operandOf}
 use Rattle.pattern.proofs.Adding.{Adding, add-start, add-more, add-done, read-length, read-at}
 use Rattle.pattern.proofs.joint.add.Statement.{statement}
 use Rattle.pattern.proofs.joint.add.Tie as tie
-use Rattle.pattern.proofs.joint.add.Reads as reads
-use Rattle.pattern.proofs.joint.add.Lts as lts
-use Rattle.pattern.proofs.joint.operand_code.Reads as operand-code-reads
 
 abbrev Inv-loop : tie.InvT-loop
 Inv-loop n mask role settings given condition codes₀ numbers₀ at₀ left₀ i₀ codes numbers at left i = (i ≤ condition .count) × (length (condition .comparisons) ≡ 8) × Adding (operandOf role (map settingRead (take given settings))) (comparisonsRead condition) codes₀ numbers₀ n mask codes numbers at left i

@@ -8,10 +8,6 @@ use Rattle.pattern.proofs.Numbering.{column-plain, column-inserted, col
 use borrow.Author.Needs.{needs}
 use Rattle.pattern.proofs.joint.column_code.Statement.{statement}
 use Rattle.pattern.proofs.joint.column_code.Tie as tie
-use Rattle.pattern.proofs.joint.column_code.Reads as reads
-use Rattle.pattern.proofs.joint.column_code.Lts as lts
-use Rattle.pattern.proofs.joint.inserted_code.Reads as inserted-code-reads
-use Rattle.pattern.proofs.joint.set_code.Reads as set-code-reads
 
 add-result : tie.Need-add-result
 add-result c = search needs

@@ -11,8 +11,6 @@ use Rattle.answer.proofs.Signed.{wide, sum-fits, back-is, raised-small}
 use Rattle.pattern.proofs.Constants.{number-is, number-room, within-32}
 use Rattle.pattern.proofs.joint.constant_code.Statement.{statement}
 use Rattle.pattern.proofs.joint.constant_code.Tie as tie
-use Rattle.pattern.proofs.joint.constant_code.Reads as reads
-use Rattle.pattern.proofs.joint.constant_code.Lts as lts
 
 cast-w : tie.Need-cast-w
 cast-w c = wide (c .args .z) (c .fits .z)

@@ -4,9 +4,6 @@ use Rattle.pattern.proofs.Numbering.{inserted-there, inserted-past}
 use borrow.Author.Needs.{needs}
 use Rattle.pattern.proofs.joint.inserted_code.Statement.{statement}
 use Rattle.pattern.proofs.joint.inserted_code.Tie as tie
-use Rattle.pattern.proofs.joint.inserted_code.Reads as reads
-use Rattle.pattern.proofs.joint.inserted_code.Lts as lts
-use Rattle.pattern.proofs.joint.value_code.Reads as value-code-reads
 
 mul-item : tie.Need-mul-item
 mul-item c = search needs

@@ -5,8 +5,6 @@ use Rattle.pattern.proofs.Numbering.{mark-update, mark-query}
 use borrow.Author.Needs.{needs}
 use Rattle.pattern.proofs.joint.mark_code.Statement.{statement}
 use Rattle.pattern.proofs.joint.mark_code.Tie as tie
-use Rattle.pattern.proofs.joint.mark_code.Reads as reads
-use Rattle.pattern.proofs.joint.mark_code.Lts as lts
 
 add-result : tie.Need-add-result
 add-result c = search needs

@@ -11,11 +11,6 @@ use Rattle.pattern.proofs.Numbering.{coding-operand, constant-coding}
 use borrow.Author.Needs.{needs}
 use Rattle.pattern.proofs.joint.operand_code.Statement.{statement}
 use Rattle.pattern.proofs.joint.operand_code.Tie as tie
-use Rattle.pattern.proofs.joint.operand_code.Reads as reads
-use Rattle.pattern.proofs.joint.operand_code.Lts as lts
-use Rattle.pattern.proofs.joint.column_code.Reads as column-code-reads
-use Rattle.pattern.proofs.joint.constant_code.Reads as constant-code-reads
-use Rattle.pattern.proofs.joint.mark_code.Reads as mark-code-reads
 
 enum-known-o : tie.Need-enum-known-o
 enum-known-o c = search needs

@@ -9,9 +9,6 @@ use Rattle.statement.specs.declared.Value.the-variants.{Constant}
 use Rattle.pattern.proofs.Numbering.{Setting-on, set-start, set-more, set-done}
 use Rattle.pattern.proofs.joint.set_code.Statement.{statement}
 use Rattle.pattern.proofs.joint.set_code.Tie as tie
-use Rattle.pattern.proofs.joint.set_code.Reads as reads
-use Rattle.pattern.proofs.joint.set_code.Lts as lts
-use Rattle.pattern.proofs.joint.set_once.Reads as set-once-reads
 
 abbrev Inv-loop : tie.InvT-loop
 Inv-loop n column settings code₀ i₀ code i = (i ≤ n) × (length settings ≡ 8) × Setting-on settings n column code i

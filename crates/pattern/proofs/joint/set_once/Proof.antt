@@ -3,9 +3,6 @@ use Rattle.pattern.proofs.Numbering.{once-set, once-left}
 use borrow.Author.Needs.{needs}
 use Rattle.pattern.proofs.joint.set_once.Statement.{statement}
 use Rattle.pattern.proofs.joint.set_once.Tie as tie
-use Rattle.pattern.proofs.joint.set_once.Reads as reads
-use Rattle.pattern.proofs.joint.set_once.Lts as lts
-use Rattle.pattern.proofs.joint.value_code.Reads as value-code-reads
 
 value-code-requires : tie.Need-value-code-requires
 value-code-requires c κs = search needs

@@ -8,9 +8,6 @@ use Rattle.pattern.proofs.Numbering.{given-coding, constant-coding, cod
 use borrow.Author.Needs.{needs}
 use Rattle.pattern.proofs.joint.value_code.Statement.{statement}
 use Rattle.pattern.proofs.joint.value_code.Tie as tie
-use Rattle.pattern.proofs.joint.value_code.Reads as reads
-use Rattle.pattern.proofs.joint.value_code.Lts as lts
-use Rattle.pattern.proofs.joint.constant_code.Reads as constant-code-reads
 
 enum-known-value : tie.Need-enum-known-value
 enum-known-value c = search needs

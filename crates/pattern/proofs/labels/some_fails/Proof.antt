@@ -1,19 +1,18 @@
 -- `some_fails` meets its contract. The invariant: a comparison failed, or one of those from the i-th on does, exactly if one of all does. The measure is the comparisons
 -- left. Assumes nothing.
 use Prim.Native.Nat.{_+_, _-_, _*_, _≤_, _<_}
-use mathlib.Core.Path.{_≡_, refl}
-use mathlib.Core.Bool.{_||_}
+use mathlib.Core.Path.{_≡_, refl, sym, ap, _∙_}
 use native.Mathlib.Omega.{arith}
 use borrow.Author.Needs.{needs}
-use lib.ListN.{drop}
-use Rattle.lists.specs.Lists.{any}
-use Rattle.pattern.specs.Flat.{clauseAt, failing}
-use Rattle.pattern.proofs.Labelling.{fails-more, fails-done}
+use lib.ListN.{getD}
+use Rattle.pattern.specs.Flat.{comparisonAt, clauseAt, failing}
+use Rattle.pattern.proofs.Searching.{Seeking, seek-more, seek-done}
+use Rattle.pattern.proofs.Labelling.{clause-at, clause-length}
 use Rattle.pattern.proofs.labels.some_fails.Statement.{statement}
 use Rattle.pattern.proofs.labels.some_fails.Tie as tie
 
 abbrev Inv-loop : tie.InvT-loop
-Inv-loop n labels ops found₀ i₀ found i = (i ≤ n) × ((found || any failing (drop i (clauseAt labels ops n))) ≡ any failing (clauseAt labels ops n))
+Inv-loop n labels ops found₀ i₀ found i = (i ≤ n) × Seeking failing (clauseAt labels ops n) found i
 
 abbrev μ-loop : tie.MeasureT-loop
 μ-loop n labels ops found₀ i₀ found i = n - i
@@ -58,13 +57,16 @@ loop-again : tie.Need-loop-again Inv-loop μ-loop
 loop-again c =
     let a = c .before .before .before .args in
     let l = c .before .before .loop in
-    (omega arith, fails-more (a .t1) (a .t2) (a .n) (l .i) (l .found) _ (c .fails .result) (c .before .loop-test .taken) refl (c .fails .ensures) (l .inv .1))
+    let cs = clauseAt (a .t1) (a .t2) (a .n) in
+    let x = comparisonAt (a .t1) (a .t2) (l .i) in
+    let at : getD cs (l .i) x ≡ x = clause-at (a .t1) (a .t2) (a .n) (l .i) x (c .before .loop-test .taken) in
+    (omega arith, seek-more failing cs (l .i) x (l .found) _ (c .fails .result) (omega (arith, clause-length (a .t1) (a .t2) (a .n))) refl (c .fails .ensures ∙ ap failing (sym at)) (l .inv .1))
 
 returns : tie.Need-returns Inv-loop μ-loop
 returns c =
     let a = c .before .before .args in
     let l = c .before .loop in
-    fails-done (a .t1) (a .t2) (a .n) (l .i) (l .found) (omega arith) (l .inv .1)
+    seek-done failing (clauseAt (a .t1) (a .t2) (a .n)) (l .i) (l .found) (omega (arith, clause-length (a .t1) (a .t2) (a .n))) (l .inv .1)
 
 pub some-fails-spec : {M : Type 1} → statement M
 some-fails-spec =

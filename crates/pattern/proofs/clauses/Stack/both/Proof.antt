@@ -1,9 +1,5 @@
 -- `both` meets its contract, by what `product` ensures. Assumes nothing.
-use mathlib.Core.Path.{ap}
-use mathlib.Core.List.{List}
-use Prim.Native.Nat.{ℕ}
-use Rattle.pattern.specs.declared.clauses.Stack.{Stack}
-use Rattle.pattern.specs.Masks.{bothOf}
+use Rattle.pattern.proofs.Stacking.{both-made}
 use borrow.Author.Needs.{needs}
 use Rattle.pattern.proofs.clauses.Stack.both.Statement.{statement}
 use Rattle.pattern.proofs.clauses.Stack.both.Tie as tie
@@ -57,9 +53,7 @@ add-t19 : tie.Need-add-t19
 add-t19 c = search needs
 
 returns : tie.Need-returns
-returns c =
-    let r : Stack = bothOf (c .before .before .before .before .args .self) in
-    ap (λ (m : List ℕ). record { masks = m; lengths = r .lengths; depth = r .depth; total = r .total; bit = r .bit }) (c .product .ensures)
+returns c = both-made (c .before .before .before .before .args .self) (c .product .result) (c .product .ensures)
 
 pub both-spec : {M : Type 1} → statement M
 both-spec =
