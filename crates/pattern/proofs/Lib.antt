@@ -13,3 +13,5 @@ pub mod Operators
 pub mod Labelling
 pub mod Numbering
 pub mod Adding
+pub mod ClausePatterns
+pub mod JointClauses

@@ -209,18 +209,20 @@ module _ (c : Condition) where
           let all : clausesRead c ≡ map (select (comparisonsRead c)) ms = sym (ap (top ([] ∷ [])) e) in
           record {
             few = omega (arith, stacked-few (R .next) (ms ∷ []) next-few S, most-18 (R .next) next-few);
+            long = H .masks-long;
             counted = ap length all ∙ length-map ms (select (comparisonsRead c)) ∙ sym n;
             clauses-are = all ∙ ap (map (select (comparisonsRead c))) (sym (H .masks-are));
           }
       go (ms ∷ ns ∷ stk) H S k b e = absurd (false≢true b)
 
-  pub run-none : c .count ≡ 0 → (r : Clauses) → r .count ≡ 1 → take 1 (r .masks) ≡ 0 ∷ [] → Masked c r
+  pub run-none : c .count ≡ 0 → (r : Clauses) → r .count ≡ 1 → length (r .masks) ≡ 18 → take 1 (r .masks) ≡ 0 ∷ [] → Masked c r
   unfolding clausesRead conditionNodes
-  run-none e r ec em =
+  run-none e r ec el em =
       let none : comparisonsRead c ≡ [] = ap (λ (n : ℕ). map comparisonRead (take n (c .comparisons))) e in
       let all : clausesRead c ≡ [] ∷ [] = ap (λ (n : ℕ). clausesOfNodes (nodesRead (take (2 * n - 1) (c .steps)) (take n (c .comparisons)))) e in
       record {
         few = omega arith;
+        long = el;
         counted = ap length all ∙ sym ec;
         clauses-are = all ∙ sym (ap₂ (λ (l : Clause) (m : List ℕ). map (select l) m) none (ap (λ (n : ℕ). take n (r .masks)) ec ∙ em));
       }

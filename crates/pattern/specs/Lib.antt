@@ -3,3 +3,4 @@ pub mod Stored
 pub mod Masks
 pub mod Flat
 pub mod Relevance
+pub mod Pairs

@@ -117,5 +117,6 @@ comparisonsRead c = map comparisonRead (usedComparisons c)
 -- the first `count` masks are the clauses of c, at most 18
 pub record Masked (c : Condition) (r : Clauses) : Type 0 where
   pub few : r .count ≤ 18
+  pub long : length (r .masks) ≡ 18
   pub counted : length (clausesRead c) ≡ r .count
   pub clauses-are : clausesRead c ≡ map (select (comparisonsRead c)) (take (r .count) (r .masks))

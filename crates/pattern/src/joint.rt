@@ -9,7 +9,7 @@ ghost use mathlib.Core.Path.{_≡_};
 ghost use mathlib.Core.Bool.{true};
 ghost use mathlib.Core.List.{map};
 ghost use Prim.Native.Nat.{suc, _≤_, min};
-ghost use lib.ListN.{take};
+ghost use lib.ListN.{length, take};
 ghost use Rattle.lists.specs.Lists.{All};
 ghost use Rattle.meaning.specs.Limits.{isWithin32};
 ghost use Rattle.meaning.specs.Pattern.{ofValue, insertedColumn, setColumn, column as columnNamed};
@@ -209,7 +209,7 @@ pub fn add(
     given: usize,
 ) -> Joined
     requires { ⌜ (n ≤ 8) × (given ≤ 8) × (condition .count ≤ 8) × All Readable start ⌝ }
-    ensures { λ r. ⌜ Extended start ops n (chosenOf role (map settingRead (take given settings)) condition mask) r ⌝ }
+    ensures { λ r. ⌜ Extended start ops n (chosenOf role (map settingRead (take given settings)) condition mask) r × (length settings ≡ 8) ⌝ }
 {
     let mut codes = start;
     let mut numbers = ops;

@@ -2,6 +2,7 @@
 mod clauses; // the clauses of a condition, as masks
 mod joint; // a joint clause in arrays
 mod labels; // the classes of a joint clause, and its pattern
+mod pairing; // the joint clauses of a query and an update
 mod relevance; // rules 1 and 2
 
 // What a pattern asks of a value of a key: that it is this constant, or the update's parameter of this number (counted from 0), or nothing.

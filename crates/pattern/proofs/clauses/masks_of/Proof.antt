@@ -42,7 +42,7 @@ cast-n : tie.Need-cast-n Inv-loop μ-loop
 cast-n c = search needs
 
 returns : tie.Need-returns Inv-loop μ-loop
-returns c = run-none (c .before .args .t1) (c .if1 .taken) _ refl refl
+returns c = run-none (c .before .args .t1) (c .if1 .taken) _ refl refl refl
 
 empty-requires : tie.Need-empty-requires Inv-loop μ-loop
 empty-requires c κs = search needs

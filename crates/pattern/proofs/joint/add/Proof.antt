@@ -26,6 +26,9 @@ abbrev μ-loop : tie.MeasureT-loop
 eight : (c : tie.Start Inv-loop μ-loop) → length (c .args .t4 .comparisons) ≡ 8
 eight c = simp length-map at (c .good .1 .1 .1 .0 .1 .1 .0 .1 .0 .1)
 
+settings-long : (c : tie.Start Inv-loop μ-loop) → length (c .args .settings) ≡ 8
+settings-long c = search needs
+
 loop-holds : tie.Need-loop-holds Inv-loop μ-loop
 loop-holds c =
     let s = c .args in
@@ -102,9 +105,11 @@ returns c =
     let s = c .before .before in
     let l = c .before .loop in
     let a = s .args in
-    let few = s .pre .2 in
-    add-done (operandOf (a .role) (map settingRead (take (a .given) (a .settings)))) (comparisonsRead (a .t4)) (a .start) (a .ops) (a .n) (a .mask) (l .codes) (l .numbers) (l .at) (l .left) (l .i)
-    (omega (arith, read-length (a .t4) (l .inv .1) few)) (omega arith) (l .inv .2)
+    let few = s .pre .2 in (
+      add-done (operandOf (a .role) (map settingRead (take (a .given) (a .settings)))) (comparisonsRead (a .t4)) (a .start) (a .ops) (a .n) (a .mask) (l .codes) (l .numbers) (l .at) (l .left) (l .i)
+          (omega (arith, read-length (a .t4) (l .inv .1) few)) (omega arith) (l .inv .2),
+      settings-long s,
+    )
 
 pub add-spec : {M : Type 1} → statement M
 add-spec =
