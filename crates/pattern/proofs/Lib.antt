@@ -15,3 +15,4 @@ pub mod Numbering
 pub mod Adding
 pub mod ClausePatterns
 pub mod JointClauses
+pub mod Agreeing
