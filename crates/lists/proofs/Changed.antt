@@ -2,13 +2,15 @@
 use mathlib.Core.Path.{_≡_, refl, sym, ap, ap₂, subst, _∙_}
 use mathlib.Core.Bool.{Bool, true, false, not, _&&_, _||_, true≢false, false≢true}
 use mathlib.Core.List.{List, [], _∷_, _++_, map, List·Memᴰ as Member, List·Memᴰ·head as head, List·Memᴰ·tail as tail}
-use Prim.Native.Nat.{ℕ, zero, suc, _+_, _≤_, _<_}
+use Prim.Native.Nat.{ℕ, zero, suc, _+_, _≤_, _<_, suc-le-suc}
 use native.Mathlib.Decide.{ℕ-discrete}
 use native.Mathlib.Omega.{arith}
+use lib.ListN.{length, getD}
 use Rattle.lists.specs.Lists.{any, All, nil, cons, consIf, keep, pairs, distinct, from}
 use Rattle.lists.specs.Tests.{eqList, eqList→eq}
 use Rattle.lists.proofs.Bools.{T→true, true→T}
-use Rattle.lists.proofs.Lists.{map-append}
+use Rattle.lists.proofs.Lists.{map-append, All-keep}
+use Rattle.lists.proofs.Places.{length-keep}
 
 -- ---- members
 
@@ -43,6 +45,17 @@ pairs-map f (c ∷ cs) ds =
 pub map-from : {A : Type 0} (g : ℕ → A) (i n : ℕ) → map g (from (suc i) n) ≡ map (λ (k : ℕ). g (suc k)) (from i n)
 map-from g i zero = refl
 map-from g i (suc n) = ap (λ r. g (suc i) ∷ r) (map-from g (suc i) n)
+
+any-later : (p : ℕ → Bool) (i n : ℕ) → any p (from (suc i) n) ≡ any (λ (k : ℕ). p (suc k)) (from i n)
+any-later p i zero = refl
+any-later p i (suc n) = ap (λ (b : Bool). p (suc i) || b) (any-later p (suc i) n)
+
+-- a test of places that is one of the members there
+pub any-places : {A : Type 0} (p : ℕ → Bool) (q : A → Bool) (l : List A) (d : A) → ((i : ℕ) → i < length l → p i ≡ q (getD l i d))
+    → any p (from 0 (length l)) ≡ any q l
+any-places p q [] d f = refl
+any-places p q (x ∷ l) d f =
+    ap₂ _||_ (f zero (omega arith)) (any-later p 0 (length l) ∙ any-places (λ (k : ℕ). p (suc k)) q l d (λ i h. f (suc i) (suc-le-suc h)))
 
 -- what all of these numbers have
 pub from-has : {P : ℕ → Type 0} (i n : ℕ) → All P (from i n) → (k : ℕ) → i ≤ k → k < i + n → P k
@@ -82,6 +95,18 @@ module _ {A : Type 0} (same : A → A → Bool) (is : (x y : A) → same x y ≡
   pub any-distinct : (xs : List A) → any g (distinct same xs) ≡ any g xs
   any-distinct [] = refl
   any-distinct (x ∷ xs) = others x (distinct same xs) ∙ ap (λ (b : Bool). g x || b) (any-distinct xs)
+
+module _ {A : Type 0} (same : A → A → Bool) where
+  pub All-distinct : {P : A → Type 0} {xs : List A} → All P xs → All P (distinct same xs)
+  All-distinct nil = nil
+  All-distinct (cons {x = x} p h) = cons p (All-keep (λ (y : A). not (same x y)) (λ y q e. q) (All-distinct h))
+
+  pub length-distinct : (xs : List A) → length (distinct same xs) ≤ length xs
+  length-distinct [] = omega arith
+  length-distinct (x ∷ xs) =
+      let h = length-keep (λ (y : A). not (same x y)) (distinct same xs) in
+      let k = length-distinct xs in
+      omega arith
 
 -- ---- members changed or dropped where this shows nowhere
 

@@ -92,6 +92,11 @@ module _ {A : Type 0} where
   any-false p [] h = nil
   any-false p (x ∷ xs) h = cons (or-left (p x) (any p xs) h) (any-false p xs (or-right (p x) (any p xs) h))
 
+  -- tests that say the same of every member
+  pub any-same : {p q : A → Bool} {xs : List A} → All (λ (x : A). p x ≡ q x) xs → any p xs ≡ any q xs
+  any-same nil = refl
+  any-same (cons e h) = ap₂ _||_ e (any-same h)
+
   -- a test that implies another
   pub any-implies : (p q : A → Bool) → ((x : A) → p x ≡ true → q x ≡ true) → (xs : List A) → any p xs ≡ true → any q xs ≡ true
   any-implies p q f [] h = h
@@ -241,3 +246,12 @@ module _ {A : Type 0} where
   length-pairs (c ∷ cs) ds =
       length-append (map (λ (d : List A). c ++ d) ds) (pairs cs ds)
       ∙ rw (length-map ds (λ (d : List A). c ++ d), length-pairs cs ds) (omega arith)
+
+  -- what the members of the lists have, those of their pairs have
+  All-prefix : {P : A → Type 0} {c : List A} {ds : List (List A)} → All P c → All (All P) ds → All (All P) (map (λ (d : List A). c ++ d) ds)
+  All-prefix h nil = nil
+  All-prefix h (cons k ks) = cons (All-append h k) (All-prefix h ks)
+
+  pub All-pairs : {P : A → Type 0} {cs ds : List (List A)} → All (All P) cs → All (All P) ds → All (All P) (pairs cs ds)
+  All-pairs nil k = nil
+  All-pairs (cons h hs) k = All-append (All-prefix h k) (All-pairs hs k)

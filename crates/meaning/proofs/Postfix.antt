@@ -10,10 +10,10 @@ use lib.IntN.{ℤ}
 use lib.ListN.{length, length-append}
 use Rattle.lists.specs.Lists.{All, nil, cons, pairs}
 use Rattle.lists.proofs.Bools.{not-not, not-and, not-or}
-use Rattle.lists.proofs.Lists.{All-head, All-tail}
+use Rattle.lists.proofs.Lists.{All-head, All-tail, All-append, All-pairs}
 use Rattle.lists.proofs.Stacks.{regroup}
 use Rattle.meaning.specs.Condition.{Comparison, Level, atom, conjunction, disjunction, Condition, compare, negate, group, alone, both, single, either, Where, always, under, comparisons, sides, comparisonsIn, operandsIn, depth, depthIn, holds, eval, evalWhere, clauses, clausesOf}
-use Rattle.meaning.specs.Postfix.{Node, leaf, allOf, anyOf, top, signed, joinAll, joinAny, nodes, nodesIn, leaves, stepOn, runOn, truthOf, clausesOfNodes, balancedOn, isPostfix}
+use Rattle.meaning.specs.Postfix.{Node, leaf, allOf, anyOf, top, joined, signed, joinAll, joinAny, nodes, nodesIn, leaves, stepOn, runOn, truthOf, clausesOfNodes, balancedOn, isPostfix}
 use Rattle.meaning.proofs.Clauses.{opposite-negates, polar}
 
 -- ---- run on a stack
@@ -129,6 +129,29 @@ module _ {O : Type 0} where
   clauses-postfix always = refl
   clauses-postfix (under c) = top-nodes alternatives pairs _++_ (λ l p c. clauses p c) clauses-folds true c ([] ∷ [])
 
+  -- what every comparison of the nodes has, every comparison of their clauses has
+  module _ {P : Comparison O → Type 0} where
+    joined-have : {f : List (List (Comparison O)) → List (List (Comparison O)) → List (List (Comparison O))}
+        → ((a b : List (List (Comparison O))) → All (All P) a → All (All P) b → All (All P) (f a b))
+        → {st : List (List (List (Comparison O)))} → All (All (All P)) st → All (All (All P)) (joined f st)
+    joined-have g nil = nil
+    joined-have g (cons b nil) = nil
+    joined-have g (cons {x = b} q (cons {x = a} p h)) = cons (g a b p q) h
+
+    run-have : (ns : List (Node O)) → All P (leaves ns) → {st : List (List (List (Comparison O)))} → All (All (All P)) st
+        → All (All (All P)) (runOn alternatives pairs _++_ ns st)
+    run-have [] p h = h
+    run-have (leaf c ∷ ns) p h = run-have ns (All-tail p) (cons (cons (cons (All-head p) nil) nil) h)
+    run-have (allOf ∷ ns) p h = run-have ns p (joined-have (λ a b. All-pairs) h)
+    run-have (anyOf ∷ ns) p h = run-have ns p (joined-have (λ a b. All-append) h)
+
+    pub clauses-have : (ns : List (Node O)) → All P (leaves ns) → All (All P) (clausesOfNodes ns)
+    clauses-have ns p = go (run-have ns p nil)
+      where
+        go : {st : List (List (List (Comparison O)))} → All (All (All P)) st → All (All P) (top ([] ∷ []) st)
+        go nil = cons nil nil
+        go (cons b h) = b
+
   -- ---- what is in them
 
   -- the comparisons of c, in the text's order, each signed by the NOTs around it: p for those around c
@@ -171,6 +194,11 @@ module _ {O : Type 0} where
   leaves-signed p (single c) = leaves-signed p c
   leaves-signed p (either c d) =
       leaves-joined (nodes p c) (nodes p d) (joinAny p) (leaves-any p) ∙ ap₂ _++_ (leaves-signed p c) (leaves-signed p d)
+
+  -- what both sides of each comparison have
+  pub sides-have : {P : O → Type 0} {cs : List (Comparison O)} → All (λ (c : Comparison O). P (c .left) × P (c .right)) cs → All P (sides cs)
+  sides-have nil = nil
+  sides-have (cons p h) = cons (p .0) (cons (p .1) (sides-have h))
 
   pub sides-append : (cs ds : List (Comparison O)) → sides (cs ++ ds) ≡ sides cs ++ sides ds
   sides-append [] ds = refl

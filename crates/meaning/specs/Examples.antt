@@ -6,6 +6,7 @@ use mathlib.Core.List.{List, [], _∷_, _++_, map}
 use Prim.Native.Nat.{ℕ}
 use Prim.Native.String.{String}
 use lib.IntN.{ℤ, pos}
+use lib.Dec.{ltb}
 use lib.ListN.{getD}
 use Rattle.lists.specs.Lists.{bytes, all, All, nil, cons}
 use Rattle.meaning.specs.Tokens.{isNameByte, isWordByte, decimal, isName, word, negative, tokenFrom, firstToken, scan, tokens}
@@ -14,7 +15,7 @@ use Rattle.meaning.specs.Limits.{pastLimit}
 use Rattle.meaning.specs.Names.{unknown, taken, miscounted}
 use Rattle.meaning.specs.Statement.{statementOf}
 use Rattle.meaning.specs.Meaning.{Row, answer, changed, rowsChanged}
-use Rattle.meaning.specs.Pattern.{Pattern, number, mark, anything, jointClauses, jointCount, class, contradictory, entry, patterns, matches}
+use Rattle.meaning.specs.Pattern.{Pattern, number, mark, anything, jointClauses, jointCount, most-clauses, class, contradictory, entry, patterns, matches}
 use Rattle.meaning.specs.Plain.{Lengths, Plain, tableAt, queryAt, updateAt, openingRefused, opened, Call, add, change, otherLengths, noPlace, full, refusal, Out, refused, added, answered, rows, flushed, addedText, changedBy, rowsBy, step, after, outs}
 
 -- what the computations open
@@ -189,12 +190,19 @@ pub counts : (pairCount sixteen delete-four ≡ 64) × (pairCount sixteen update
 unfolding computing
 counts = (refl, refl)
 
+-- rule 5: "passes 64"
+pub bound : (ltb most-clauses 64 ≡ false) × (ltb most-clauses 65 ≡ true)
+bound = (refl, refl)
+
 pub spares : (pairMatches sixteen delete-four (7 ∷ 8 ∷ 120 ∷ 121 ∷ []) (9 ∷ 95 ∷ []) ≡ false)
     × (pairMatches sixteen delete-four (7 ∷ 8 ∷ 120 ∷ 121 ∷ []) (7 ∷ 95 ∷ []) ≡ true)
 unfolding computing
 spares = (refl, refl)
 
--- "Slips a marker would catch", and two more
+abbrev thirteen : String
+thirteen = "SELECT level FROM stage WHERE (site = ? OR site = 1 OR site = 2) AND (level = 1 OR level = 2 OR level = 3 OR level = 4) OR site = 5"
+
+-- "Slips a marker would catch", and more
 abbrev pub slips : List Example
 slips =
     -- "Dropping by the old row only, so a row moved to site 9 leaves site 9's answer kept."
@@ -211,6 +219,10 @@ slips =
     ∷ pair "SELECT level FROM stage WHERE site = ? AND level = site AND level <= site" "DELETE FROM stage WHERE site = 3" ((number (pos 3) ∷ []) ∷ [])
     -- AND pairs left outer
     ∷ pair Q "DELETE FROM stage WHERE (site = ? OR site = ?) AND (site <> 4 OR site = ?)" ((mark 1 ∷ []) ∷ (mark 2 ∷ []) ∷ [])
+    -- the lowest of a class's update marks
+    ∷ pair Q "DELETE FROM stage WHERE site = ? AND level = ? AND site = ?" ((mark 1 ∷ []) ∷ [])
+    -- 13 and 5 clauses: 65 are too many
+    ∷ pair thirteen "DELETE FROM stage WHERE site = 6 OR site = 7 OR level = 6 OR level = 7 OR level = 8" ((anything ∷ []) ∷ [])
     ∷ []
 
 caught-0 : Holds (row slips 0)
@@ -233,5 +245,13 @@ caught-4 : Holds (row slips 4)
 unfolding computing
 caught-4 = (refl, refl)
 
+caught-5 : Holds (row slips 5)
+unfolding computing
+caught-5 = (refl, refl)
+
+caught-6 : Holds (row slips 6)
+unfolding computing
+caught-6 = (refl, refl)
+
 pub caught : All Holds slips
-caught = cons caught-0 (cons caught-1 (cons caught-2 (cons caught-3 (cons caught-4 nil))))
+caught = cons caught-0 (cons caught-1 (cons caught-2 (cons caught-3 (cons caught-4 (cons caught-5 (cons caught-6 nil))))))

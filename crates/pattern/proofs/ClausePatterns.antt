@@ -25,7 +25,7 @@ use Rattle.pattern.specs.Least.{asked-from, codeOf, Coded, coded, contra
 use Rattle.pattern.specs.Stored.{placed, placeStruct, patternStruct, noPattern, clausePattern}
 use Rattle.pattern.specs.Flat.{clauseAt, Narrow, Readable, Ready, codedPattern, chosenOf, noClause, Extended}
 use Rattle.pattern.proofs.OperandCodes.{Fits}
-use Rattle.pattern.proofs.Least.{least-contradicts, least-entry}
+use Rattle.pattern.proofs.Clauses.{least-pattern}
 use Rattle.pattern.proofs.Relevant.{take-few}
 
 -- ---- by numbers
@@ -36,16 +36,9 @@ narrow-fits (constant z) h = h
 narrow-fits (asked k) h = omega arith
 narrow-fits (given k) h = omega (arith, h .1)
 
-pub least-pattern : (n : ℕ) → n ≤ 8 → (cs : Clause) → All Narrow (sides cs) → codedPattern n (coded cs) ≡ clausePattern n cs
+coded-pattern : (n : ℕ) → n ≤ 8 → (cs : Clause) → All Narrow (sides cs) → codedPattern n (coded cs) ≡ clausePattern n cs
 unfolding codedPattern
-least-pattern n few cs h = ap (λ (b : Bool). cond b noPattern (patternStruct (map (leastEntry (coded cs)) (from 1 n)))) (least-contradicts cs fit) ∙ go (contradictory cs) refl
-  where
-    fit : All Fits (sides cs)
-    fit = All-map narrow-fits h
-
-    go : (b : Bool) → contradictory cs ≡ b → cond b noPattern (patternStruct (map (leastEntry (coded cs)) (from 1 n))) ≡ cond b noPattern (patternStruct (pattern n cs))
-    go true e = refl
-    go false e = ap patternStruct (map-same (entry cs) (All-map (λ k l. least-entry cs fit k (omega arith) e) (from-below 1 n)))
+coded-pattern n few cs h = sym (least-pattern n (omega arith) cs (All-map narrow-fits h))
 
 -- ---- the arrays
 
@@ -74,7 +67,7 @@ module _ (a : Clause) (start r : Joined) (es : start ≡ noClause) (E : Extended
   one-clause = from-none .clause-is
 
   pub one-pattern : (m : ℕ) → m ≤ 8 → codedPattern m (clauseAt (r .codes) (r .ops) (r .count)) ≡ clausePattern m a
-  one-pattern m h = ap (codedPattern m) one-clause ∙ least-pattern m h a (E .narrow)
+  one-pattern m h = ap (codedPattern m) one-clause ∙ coded-pattern m h a (E .narrow)
 
   module _ (b : Clause) (s : Joined) (F : Extended (r .codes) (r .ops) (r .count) b s) where
     pub two-ready : Ready (s .codes) (s .count)
@@ -83,7 +76,7 @@ module _ (a : Clause) (start r : Joined) (es : start ≡ noClause) (E : Extended
     pub two-pattern : (m : ℕ) → m ≤ 8 → codedPattern m (clauseAt (s .codes) (s .ops) (s .count)) ≡ clausePattern m (a ++ b)
     two-pattern m h =
         ap (codedPattern m) (F .clause-is ∙ ap (λ (l : Coded). l ++ coded b) one-clause ∙ sym (map-append (renamed codeOf) a b))
-        ∙ least-pattern m h (a ++ b) (subst (All Narrow) (sym (sides-append a b)) (All-append (E .narrow) (F .narrow)))
+        ∙ coded-pattern m h (a ++ b) (subst (All Narrow) (sym (sides-append a b)) (All-append (E .narrow) (F .narrow)))
 
 -- the settings in use
 pub settings-are : (u : Update) (n : ℕ) → length (u .settings) ≡ 8 → n ≡ min (u .count) 8 → map settingRead (take n (u .settings)) ≡ settingsRead u

@@ -20,7 +20,7 @@ use Rattle.statement.specs.declared.Condition.{Condition}
 use Rattle.statement.specs.declared.Query.{Query}
 use Rattle.statement.specs.declared.Update.{Update}
 use Rattle.statement.specs.Sound.{settingsRead}
-use Rattle.pattern.specs.declared.clauses.Clauses.{Clauses}
+use Rattle.pattern.specs.declared.masks.Clauses.{Clauses}
 use Rattle.pattern.specs.Stored.{clausesRead, queryClauses, updateClauses, bothClauses, jointClauses, joint, isFormed, allAny}
 use Rattle.pattern.specs.Masks.{select, comparisonsRead, Masked}
 use Rattle.pattern.specs.Flat.{columnOf, operandOf, chosenOf}

@@ -13,7 +13,7 @@ use borrow.Author.Tests.{ltb-true, ltb-false, eqb-true, eqb-false, lt-ltb, le-lt
 use Rattle.lists.specs.Lists.{any, All, nil, cons}
 use Rattle.lists.specs.Tests.{decN, decZ, eqZ}
 use Rattle.lists.proofs.Bools.{or-left, or-right, not-false, iff, eqZ-true, yes-of, is-yes}
-use Rattle.lists.proofs.Lists.{All-head, All-tail, All-map, All-every, All-keep, All-source, any-map, any-none, any-false}
+use Rattle.lists.proofs.Lists.{All-head, All-tail, All-map, All-every, All-keep, All-source, any-map, any-none, any-false, any-same}
 use Rattle.lists.proofs.Changed.{member-has, members-have, member-keep}
 use Rattle.meaning.specs.Operator.{Operator, eq, ne, lt, le, gt, ge, truth}
 use Rattle.meaning.specs.Condition.{Comparison, sides, renamed}
@@ -22,10 +22,6 @@ use Rattle.meaning.specs.Pattern.{Joint, Joint-discrete, column, constant, aske
 use Rattle.meaning.proofs.Classes.{Linked, itself, joined, reversed, through, linked-back, Joins, clause-joins, labels-linked, constants-have, marks-have, differ-none}
 use Rattle.pattern.specs.Least.{marks-from, codeOf, isConstant, constantCode, Coded, coded, renameCode, joinLeast, leastOn, least, clashes, clashesOn, fails, contradicts, entryOfCode, leastEntry}
 use Rattle.pattern.proofs.OperandCodes.{Fits, constant-below, truth-codes, same-code, operandEntry, entry-of-code, below-constant}
-
-any-same : {A : Type 0} {p q : A → Bool} {xs : List A} → All (λ (x : A). p x ≡ q x) xs → any p xs ≡ any q xs
-any-same nil = refl
-any-same (cons e h) = ap₂ _||_ e (any-same h)
 
 -- ---- labels only fall, and `=` joins them
 
@@ -399,7 +395,7 @@ least-contradicts cs fit = go (any (λ (x : Joint). differ (constants (class cs 
 
 -- ---- rule 7
 
-lowest-within : (j k : ℕ) (ks : List ℕ) → All (λ (m : ℕ). j ≤ m) (k ∷ ks) → j ≤ lowest k ks
+pub lowest-within : (j k : ℕ) (ks : List ℕ) → All (λ (m : ℕ). j ≤ m) (k ∷ ks) → j ≤ lowest k ks
 lowest-within j k [] h = All-head h
 lowest-within j k (m ∷ ms) h = let a = All-head h in let b = lowest-within j m ms (All-tail h) in omega arith
 

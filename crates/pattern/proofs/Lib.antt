@@ -1,5 +1,7 @@
 pub mod OperandCodes
 pub mod Least
+pub mod Clauses
+pub mod Laws
 pub mod Formed
 pub mod Selecting
 pub mod Sums

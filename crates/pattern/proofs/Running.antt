@@ -17,8 +17,8 @@ use Rattle.statement.specs.declared.Condition.{Condition}
 use Rattle.statement.specs.declared.Operand.the-variants.{Column}
 use Rattle.statement.specs.Sound.{comparisonRead, nodesRead, usedComparisons, usedSteps, conditionNodes}
 use Rattle.pattern.specs.Stored.{clausesRead, isFormed}
-use Rattle.pattern.specs.declared.clauses.Clauses.{Clauses}
-use Rattle.pattern.specs.declared.clauses.Stack.{Stack}
+use Rattle.pattern.specs.declared.masks.Clauses.{Clauses}
+use Rattle.pattern.specs.declared.masks.Stack.{Stack}
 use Rattle.pattern.specs.Masks.{select, sums, balanced, noStack, steppedOf, Steps, comparisonsRead, Masked}
 use Rattle.pattern.proofs.Selecting.{select-one, and-clauses, most-18}
 use Rattle.pattern.proofs.Stacking.{masksIn, Stacked, stacked-few, stacked-push, stacked-either, stacked-both, upper, Holds, pushes, push-holds, joins, either-holds, both-holds}

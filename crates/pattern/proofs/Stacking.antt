@@ -10,7 +10,7 @@ use lib.ListN.{length, take, drop, getD, set, length-append, length-set, length-
 use lib.Seq.{take-at, drop-at, take-suc-set, take-append-le, take-take, getD-take, getD-at, set-at, length-take-le, append-snoc, take-set-lt, drop-append-le}
 use Rattle.lists.specs.Lists.{All, nil, cons, written}
 use Rattle.lists.proofs.Written.{length-written}
-use Rattle.pattern.specs.declared.clauses.Stack.{Stack}
+use Rattle.pattern.specs.declared.masks.Stack.{Stack}
 use Rattle.pattern.specs.Masks.{sums, pushedOf, eitherOf, bothOf, rightOf, leftOf, startOf, lefts, rights, steppedOf, Pushes, Joins, Steps}
 use Rattle.pattern.proofs.Sums.{sums-length}
 use Rattle.pattern.proofs.Selecting.{Within, all-either, all-both, sums-fit, most, most-18, most-both}

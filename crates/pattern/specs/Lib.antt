@@ -4,3 +4,4 @@ pub mod Masks
 pub mod Flat
 pub mod Relevance
 pub mod Pairs
+pub mod Examples

@@ -1,4 +1,4 @@
--- The clauses of a stored condition as masks: bit j of a mask says that comparison j, in the text's order, is in the clause. What the code of module `clauses` holds
+-- The clauses of a stored condition as masks: bit j of a mask says that comparison j, in the text's order, is in the clause. What the code of module `masks` holds
 -- and does; proofs/Running shows that these are the clauses of rule 4. Assumes nothing: these are definitions.
 use mathlib.Core.Path.{_≡_}
 use mathlib.Core.Bool.{Bool, true, false, cond}
@@ -12,8 +12,8 @@ use Rattle.meaning.specs.Statement as M
 use Rattle.statement.specs.declared.Condition.{Condition}
 use Rattle.statement.specs.Sound.{comparisonRead, usedComparisons}
 use Rattle.pattern.specs.Stored.{clausesRead}
-use Rattle.pattern.specs.declared.clauses.Clauses.{Clauses}
-use Rattle.pattern.specs.declared.clauses.Stack.{Stack}
+use Rattle.pattern.specs.declared.masks.Clauses.{Clauses}
+use Rattle.pattern.specs.declared.masks.Stack.{Stack}
 
 -- the members whose bits are set
 abbrev pub select : {A : Type 0} → List A → ℕ → List A

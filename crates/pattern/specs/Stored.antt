@@ -1,5 +1,5 @@
 -- The patterns of a stored query and a stored update: document 01, "Patterns", rules 1 to 7, on the structs of the code. They are given for every two structs; of a
--- query and an update that texts compile to, they are the patterns of their sentences (proofs/Patterns). A struct whose condition no text compiles to is treated
+-- query and an update that texts compile to, they are the patterns of their sentences (proofs/Laws). A struct whose condition no text compiles to is treated
 -- as one with too many clauses. Assumes nothing: these are definitions.
 use mathlib.Core.Bool.{Bool, true, false, not, _&&_, _||_, cond}
 use mathlib.Core.List.{List, [], _∷_, _++_, map}

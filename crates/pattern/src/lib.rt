@@ -1,8 +1,8 @@
 // Which cached answers an update can change: for a query and an update, the pattern of each joint clause of the two (document 01, "Patterns", rules 1 to 7).
-mod clauses; // the clauses of a condition, as masks
 mod filling; // entries with the update's values
 mod joint; // a joint clause in arrays
 mod labels; // the classes of a joint clause, and its pattern
+mod masks; // the clauses of a condition
 mod pairing; // the joint clauses of a query and an update
 mod relevance; // rules 1 and 2
 

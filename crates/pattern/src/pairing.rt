@@ -3,11 +3,11 @@ use super::Entry;
 use super::Pattern;
 use super::Patterns;
 use super::Place;
-use super::clauses;
-use super::clauses::Clauses;
 use super::joint;
 use super::joint::Joined;
 use super::labels;
+use super::masks;
+use super::masks::Clauses;
 use table::Query;
 use table::Update;
 ghost use mathlib.Core.Path.{_≡_};
@@ -64,15 +64,15 @@ pub fn paired(query: Query, update: Update) -> Pairing
     ensures { λ r. ⌜ Paired query update r ⌝ }
 {
     let asked = query.condition;
-    if !clauses::is_formed(asked) {
+    if !masks::is_formed(asked) {
         return too_many();
     }
     let given = update.condition;
-    if !clauses::is_formed(given) {
+    if !masks::is_formed(given) {
         return too_many();
     }
-    let f = clauses::masks_of(asked);
-    let g = clauses::masks_of(given);
+    let f = masks::masks_of(asked);
+    let g = masks::masks_of(given);
     let total = total_of(update.form, f.count, g.count);
     Pairing {
         many: (Patterns::CLAUSES as u16) < total,

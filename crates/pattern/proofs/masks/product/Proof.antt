@@ -5,8 +5,8 @@ use native.Mathlib.Omega.{arith}
 use borrow.Author.Needs.{needs}
 use lib.ListN.{length, getD}
 use Rattle.pattern.proofs.Sums.{Rows, rows-start, rows-room, rows-more, rows-done, rows-fit}
-use Rattle.pattern.proofs.clauses.product.Statement.{statement}
-use Rattle.pattern.proofs.clauses.product.Tie as tie
+use Rattle.pattern.proofs.masks.product.Statement.{statement}
+use Rattle.pattern.proofs.masks.product.Tie as tie
 
 abbrev Inv-loop : tie.InvT-loop
 Inv-loop start left right masks next₀ at₀ i₀ next at i = (length masks ≡ 18) × Rows masks start left right next at i

@@ -1,8 +1,8 @@
 -- `both` meets its contract, by what `product` ensures. Assumes nothing.
 use Rattle.pattern.proofs.Stacking.{both-made}
 use borrow.Author.Needs.{needs}
-use Rattle.pattern.proofs.clauses.Stack.both.Statement.{statement}
-use Rattle.pattern.proofs.clauses.Stack.both.Tie as tie
+use Rattle.pattern.proofs.masks.Stack.both.Statement.{statement}
+use Rattle.pattern.proofs.masks.Stack.both.Tie as tie
 
 sub-left : tie.Need-sub-left
 sub-left c = search needs

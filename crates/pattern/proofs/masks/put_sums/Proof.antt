@@ -8,8 +8,8 @@ use lib.ListN.{length, take, drop, getD, length-set}
 use lib.Seq.{paste, paste-zero}
 use Rattle.lists.proofs.Places.{All-at}
 use Rattle.pattern.proofs.Sums.{part, part-length, part-at, row-more, row-done}
-use Rattle.pattern.proofs.clauses.put_sums.Statement.{statement}
-use Rattle.pattern.proofs.clauses.put_sums.Tie as tie
+use Rattle.pattern.proofs.masks.put_sums.Statement.{statement}
+use Rattle.pattern.proofs.masks.put_sums.Tie as tie
 
 abbrev Inv-loop : tie.InvT-loop
 Inv-loop at mask from n masks next₀ j₀ next j =

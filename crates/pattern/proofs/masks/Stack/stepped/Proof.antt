@@ -1,8 +1,8 @@
 -- `stepped` meets its contract, by what its callees ensure. Assumes nothing.
 use mathlib.Core.Path.{_∙_}
 use Rattle.pattern.proofs.Stacking.{push-steps, join-steps, step-push, step-both, step-either}
-use Rattle.pattern.proofs.clauses.Stack.stepped.Statement.{statement}
-use Rattle.pattern.proofs.clauses.Stack.stepped.Tie as tie
+use Rattle.pattern.proofs.masks.Stack.stepped.Statement.{statement}
+use Rattle.pattern.proofs.masks.Stack.stepped.Tie as tie
 
 pushed-requires : tie.Need-pushed-requires
 pushed-requires c κs = let s = c .before in push-steps (s .args .step) (s .args .self) (c .if1 .taken) (s .pre)

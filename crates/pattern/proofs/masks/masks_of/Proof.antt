@@ -5,11 +5,11 @@ use mathlib.Core.Path.{_≡_, refl, sym, ap, subst, _∙_}
 use native.Mathlib.Omega.{arith}
 use borrow.Author.Needs.{needs}
 use lib.ListN.{length, getD, length-map}
-use Rattle.pattern.specs.declared.clauses.Stack.{Stack}
+use Rattle.pattern.specs.declared.masks.Stack.{Stack}
 use Rattle.pattern.proofs.Formed.{formed-few, formed-some}
 use Rattle.pattern.proofs.Running.{Running, run-start, run-steps, run-more, run-done, run-none}
-use Rattle.pattern.proofs.clauses.masks_of.Statement.{statement}
-use Rattle.pattern.proofs.clauses.masks_of.Tie as tie
+use Rattle.pattern.proofs.masks.masks_of.Statement.{statement}
+use Rattle.pattern.proofs.masks.masks_of.Tie as tie
 
 abbrev Inv-loop : tie.InvT-loop
 Inv-loop condition n s₀ i₀ s i = (i + 1 ≤ 2 * n) × Running condition s i

@@ -11,8 +11,8 @@ use lib.ListN.{length, drop, getD, drop-of-length-le}
 use Rattle.statement.specs.Sound.{usedSteps}
 use Rattle.pattern.specs.Masks.{balanced}
 use Rattle.pattern.proofs.Formed.{join-balanced, join-fails, push-balanced, balanced-end, steps-length, steps-next, formed-many, formed-none, formed-some}
-use Rattle.pattern.proofs.clauses.is_formed.Statement.{statement}
-use Rattle.pattern.proofs.clauses.is_formed.Tie as tie
+use Rattle.pattern.proofs.masks.is_formed.Statement.{statement}
+use Rattle.pattern.proofs.masks.is_formed.Tie as tie
 
 abbrev Inv-loop : tie.InvT-loop
 Inv-loop condition n depth₀ i₀ depth i = (i + 1 ≤ 2 * n) × (depth ≤ i) × (length (condition .steps) ≡ 15) × (balanced depth (drop i (usedSteps condition)) ≡ balanced 0 (usedSteps condition))

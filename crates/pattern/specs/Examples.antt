@@ -1,0 +1,122 @@
+-- Document 01, "Examples": the starred rows on patterns, from the texts of the statements, by computation on what the texts compile to. Assumes nothing: each holds
+-- by computing.
+use mathlib.Core.Path.{_≡_, refl}
+use mathlib.Core.Bool.{true, false}
+use mathlib.Core.List.{List, [], _∷_}
+use Prim.Native.String.{String}
+use lib.IntN.{pos}
+use Rattle.lists.specs.Lists.{bytes}
+use Rattle.meaning.specs.Tokens.{isNameByte, isWordByte, decimal, isName, word, negative, tokenFrom, firstToken, scan, tokens}
+use Rattle.meaning.specs.Grammar.{aCondition, aSentence, read}
+use Rattle.meaning.specs.Limits.{pastLimit}
+use Rattle.meaning.specs.Names.{unknown, taken, miscounted}
+use Rattle.meaning.specs.Statement.{statementOf}
+use Rattle.meaning.specs.Plain.{otherLengths, noPlace}
+use Rattle.meaning.specs.Pattern.{Pattern, number, mark, anything, class, contradictory, entry}
+use Rattle.statement.specs.Compiled.{padded, structOf, compiledOf}
+use Rattle.statement.specs.Sound.{conditionNodes}
+use Rattle.statement.specs.declared.Table.{Table}
+use Rattle.statement.specs.declared.Statement.{Statement}
+use Rattle.pattern.specs.declared.Entry.the-variants.{Parameter, Any}
+use Rattle.pattern.specs.declared.Pattern as S
+use Rattle.pattern.specs.Stored.{relevant, clausesRead, jointClauses, isFormed, allAny, patternsStored, clauseTotal, placed, noPattern, patternAt, patternList, filledOf, agreesStored}
+
+-- what the computations open
+computing : Unit {0}
+unfolding isNameByte isWordByte decimal isName word negative tokenFrom firstToken scan tokens aCondition aSentence read pastLimit unknown taken miscounted statementOf otherLengths noPlace structOf compiledOf conditionNodes relevant clausesRead jointClauses isFormed allAny patternsStored clauseTotal patternAt patternList filledOf agreesStored class contradictory entry
+computing = tt
+
+-- the table S, which takes all cells, and a text beside it
+abbrev stage : Table
+stage = compiledOf (bytes "TABLE stage (site, level) ROWS 3") [] 0 0 0 6 .table
+
+abbrev compiled : String → Statement
+compiled text = compiledOf (bytes text) (stage ∷ []) 1 0 0 6
+
+abbrev Q : String
+Q = "SELECT level FROM stage WHERE site = ?"
+
+-- the texts are a query and an update, and these are their patterns
+abbrev Holds : String → String → List Pattern → Type 0
+Holds q u ps = (compiled q .kind ≡ 2) × (compiled u .kind ≡ 3) × (patternsStored (compiled q .query) (compiled u .update) ≡ ps)
+
+abbrev update-level : String
+update-level = "UPDATE stage SET level = ? WHERE site = ?"
+
+-- *SET level = ? WHERE site = ?
+pub set-level : Holds Q update-level ((mark 2 ∷ []) ∷ [])
+unfolding computing
+set-level = (refl, refl, refl)
+
+-- in structs question marks are counted from 0
+abbrev second : S.Pattern
+second = record { there = true; entries = padded 8 (placed Any) (placed (Parameter 1) ∷ []); count = 1 }
+
+pub set-level-list : patternList (compiled Q .query) (compiled update-level .update) ≡ record { items = padded 64 noPattern (second ∷ []); count = 1 }
+unfolding computing
+set-level-list = refl
+
+-- two joint clauses, (G and F) and (G and F'), have this pattern
+pub set-level-clauses :
+    (clauseTotal (compiled Q .query) (compiled update-level .update) ≡ 2)
+    × (patternAt (compiled Q .query) (compiled update-level .update) 0 ≡ second)
+    × (patternAt (compiled Q .query) (compiled update-level .update) 1 ≡ second)
+    × (patternAt (compiled Q .query) (compiled update-level .update) 2 ≡ noPattern)
+unfolding computing
+set-level-clauses = (refl, refl, refl, refl)
+
+-- with the values 120 and 7 it agrees with the key of 7 and spares that of 8
+pub set-level-agrees :
+    (agreesStored (filledOf (pos 120 ∷ pos 7 ∷ []) second) (pos 7 ∷ []) ≡ true) × (agreesStored (filledOf (pos 120 ∷ pos 7 ∷ []) second) (pos 8 ∷ []) ≡ false)
+unfolding computing
+set-level-agrees = (refl, refl)
+
+-- *SET site = ? WHERE site = ?
+pub set-site : Holds Q "UPDATE stage SET site = ? WHERE site = ?" ((mark 2 ∷ []) ∷ (mark 1 ∷ []) ∷ [])
+unfolding computing
+set-site = (refl, refl, refl)
+
+-- *DELETE, level < ?
+pub delete-level : Holds Q "DELETE FROM stage WHERE level < ?" ((anything ∷ []) ∷ [])
+unfolding computing
+delete-level = (refl, refl, refl)
+
+-- *INSERT (3, ?)
+pub insert-three : Holds Q "INSERT INTO stage VALUES (3, ?)" ((number (pos 3) ∷ []) ∷ [])
+unfolding computing
+insert-three = (refl, refl, refl)
+
+-- *INSERT (3, ?), question site = 4
+pub insert-other : Holds "SELECT level FROM stage WHERE site = 4" "INSERT INTO stage VALUES (3, ?)" []
+unfolding computing
+insert-other = (refl, refl, refl)
+
+-- *DELETE site = 3, question site = 3
+pub delete-three : Holds "SELECT level FROM stage WHERE site = 3" "DELETE FROM stage WHERE site = 3" ([] ∷ [])
+unfolding computing
+delete-three = (refl, refl, refl)
+
+-- "counts 4 and 16": 2 × 2 clauses of the update, 2 × 2 × 2 × 2 of the question
+abbrev sixteen : String
+sixteen =
+    "SELECT level FROM stage WHERE (site = ? OR level = ?) AND (site > 0 OR level > 0) AND (site < 9 OR level < 9) AND (site <> 5 OR level <> 5)"
+
+abbrev four : String
+four = "DELETE FROM stage WHERE (site = ? OR site = ?) AND (level = ? OR level = ?)"
+
+pub four-sixteen : clauseTotal (compiled sixteen .query) (compiled four .update) ≡ 64
+unfolding computing
+four-sixteen = refl
+
+-- *DELETE, counts 4 and 16: 64 joint clauses are worked out
+pub delete-four :
+    Holds sixteen four
+    ((mark 1 ∷ anything ∷ []) ∷ (anything ∷ mark 3 ∷ []) ∷ (anything ∷ mark 4 ∷ []) ∷ (mark 2 ∷ anything ∷ []) ∷ [])
+unfolding computing
+delete-four = (refl, refl, refl)
+
+-- *UPDATE, counts 4 and 16: twice as many are not
+pub update-four :
+    Holds sixteen "UPDATE stage SET level = ? WHERE (site = ? OR site = ?) AND (level = ? OR level = ?)" ((anything ∷ anything ∷ []) ∷ [])
+unfolding computing
+update-four = (refl, refl, refl)
