@@ -52,7 +52,7 @@ use Rattle.table.proofs.Means.{answer-means}
 use Rattle.table.proofs.ChangedMeans.{rows-mean}
 use Rattle.pattern.specs.declared.Pattern.{Pattern}
 use Rattle.pattern.specs.declared.Entry.the-variants.{Any}
-use Rattle.pattern.specs.Stored.{columnsUsed, touches, relevant, clausesRead, queryClauses, bothClauses, jointClauses, joint, isFormed, allAny, entryCount, patternsStored, matchesStored, clauseTotal, entryStruct, patternStruct, noPattern, clausePattern, patternAt, filledEntry, filledOf, entryRead, agreesStored}
+use Rattle.pattern.specs.Stored.{columnsUsed, touches, relevant, clausesRead, queryClauses, bothClauses, jointClauses, joint, isFormed, allAny, entryCount, patternsStored, matchesStored, clauseTotal, entryStruct, placed, placeStruct, patternStruct, noPattern, clausePattern, patternAt, filledEntry, filledPlace, filledOf, entryRead, placeRead, agreesStored}
 use Rattle.pattern.proofs.Least.{lowest-within}
 use Rattle.pattern.proofs.Clauses.{joint-have}
 
@@ -118,7 +118,7 @@ module _ (us : List ℤ) where
   filled-at (mark (suc k)) h z = refl
   filled-at anything h z = refl
 
-  filled-agrees : (zs : List ℤ) {es : P.Pattern} → All CountedEntry es → agrees [] zs (map entryRead (map (filledEntry us) (map entryStruct es))) ≡ agrees us zs es
+  filled-agrees : (zs : List ℤ) {es : P.Pattern} → All CountedEntry es → agrees [] zs (map placeRead (map (filledPlace us) (map placeStruct es))) ≡ agrees us zs es
   filled-agrees [] nil = refl
   filled-agrees [] (cons p h) = refl
   filled-agrees (z ∷ zs) nil = refl
@@ -127,9 +127,9 @@ module _ (us : List ℤ) where
   struct-agrees : (zs : List ℤ) (es : P.Pattern) → All CountedEntry es → agreesStored (filledOf us (patternStruct es)) zs ≡ agrees us zs es
   unfolding agreesStored filledOf
   struct-agrees zs es h =
-      ap (λ l. agrees [] zs (map entryRead l))
-      (sym (map-take (filledEntry us) (length es) (padded 8 Any (map entryStruct es)))
-      ∙ ap (map (filledEntry us)) (take-padded 8 Any (map entryStruct es) (length es) (length-map es entryStruct)))
+      ap (λ l. agrees [] zs (map placeRead l))
+      (sym (map-take (filledPlace us) (length es) (padded 8 (placed Any) (map placeStruct es)))
+      ∙ ap (map (filledPlace us)) (take-padded 8 (placed Any) (map placeStruct es) (length es) (length-map es placeStruct)))
       ∙ filled-agrees zs h
 
   clause-agrees : (zs : List ℤ) (n : ℕ) (cs : Clause) → All Counted (sides cs)

@@ -19,7 +19,7 @@ use Rattle.statement.specs.declared.Table.{Table}
 use Rattle.statement.specs.declared.Statement.{Statement}
 use Rattle.pattern.specs.declared.Entry.the-variants.{Parameter, Any}
 use Rattle.pattern.specs.declared.Pattern as S
-use Rattle.pattern.specs.Stored.{relevant, clausesRead, jointClauses, isFormed, allAny, patternsStored, clauseTotal, noPattern, patternAt, patternList, filledOf, agreesStored}
+use Rattle.pattern.specs.Stored.{relevant, clausesRead, jointClauses, isFormed, allAny, patternsStored, clauseTotal, placed, noPattern, patternAt, patternList, filledOf, agreesStored}
 
 -- what the computations open
 computing : Unit {0}
@@ -50,7 +50,7 @@ set-level = (refl, refl, refl)
 
 -- in structs question marks are counted from 0
 abbrev second : S.Pattern
-second = record { there = true; entries = padded 8 Any (Parameter 1 ∷ []); count = 1 }
+second = record { there = true; entries = padded 8 (placed Any) (placed (Parameter 1) ∷ []); count = 1 }
 
 pub set-level-list : patternList (compiled Q .query) (compiled update-level .update) ≡ record { items = padded 64 noPattern (second ∷ []); count = 1 }
 unfolding computing

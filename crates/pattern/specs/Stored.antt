@@ -21,6 +21,7 @@ use Rattle.statement.specs.Compiled.{padded, markPlace}
 use Rattle.statement.specs.Sound.{conditionNodes, settingsRead, settingValues}
 use Rattle.pattern.specs.declared.Entry.{Entry}
 use Rattle.pattern.specs.declared.Entry.the-variants.{Constant, Parameter, Any}
+use Rattle.pattern.specs.declared.Place.{Place}
 use Rattle.pattern.specs.declared.Pattern.{Pattern}
 use Rattle.pattern.specs.declared.Patterns.{Patterns}
 
@@ -93,11 +94,17 @@ entryStruct (number z) = Constant z
 entryStruct (mark k) = Parameter (markPlace k)
 entryStruct anything = Any
 
+abbrev pub placed : Entry → Place
+placed e = record { entry = e }
+
+abbrev pub placeStruct : P.Entry → Place
+placeStruct e = placed (entryStruct e)
+
 abbrev pub patternStruct : P.Pattern → Pattern
-patternStruct es = record { there = true; entries = padded 8 Any (map entryStruct es); count = length es }
+patternStruct es = record { there = true; entries = padded 8 (placed Any) (map placeStruct es); count = length es }
 
 abbrev pub noPattern : Pattern
-noPattern = record { there = false; entries = replicate 8 Any; count = 0 }
+noPattern = record { there = false; entries = replicate 8 (placed Any); count = 0 }
 
 -- of a clause that goes, none
 abbrev pub clausePattern : ℕ → Clause → Pattern
@@ -121,14 +128,20 @@ filledEntry us (Constant z) = Constant z
 filledEntry us (Parameter k) = Constant (getD us k (pos 0))
 filledEntry us Any = Any
 
+abbrev pub filledPlace : List ℤ → Place → Place
+filledPlace us e = placed (filledEntry us (e .entry))
+
 unfoldable pub filledOf : List ℤ → Pattern → Pattern
-filledOf us p = record { there = p .there; entries = map (filledEntry us) (p .entries); count = p .count }
+filledOf us p = record { there = p .there; entries = map (filledPlace us) (p .entries); count = p .count }
 
 abbrev pub entryRead : Entry → P.Entry
 entryRead (Constant z) = number z
 entryRead (Parameter k) = mark (suc k)
 entryRead Any = anything
 
+abbrev pub placeRead : Place → P.Entry
+placeRead e = entryRead (e .entry)
+
 -- a question mark that is not filled in counts as 0
 unfoldable pub agreesStored : Pattern → List ℤ → Bool
-agreesStored p qs = p .there && agrees [] qs (map entryRead (take (p .count) (p .entries)))
+agreesStored p qs = p .there && agrees [] qs (map placeRead (take (p .count) (p .entries)))

@@ -1,0 +1,143 @@
+-- The numbers of operands, as the code finds them: constants, question marks, columns, and what VALUES and SET give for a column. Assumes nothing.
+use mathlib.Core.Path.{_≡_, refl, sym, ap, ap₂, subst, _∙_}
+use mathlib.Core.Bool.{Bool, true, false, cond}
+use mathlib.Core.List.{List, [], _∷_, map}
+use Prim.Native.Nat.{ℕ, zero, suc, _+_, _≤_, _<_}
+use native.Mathlib.Numerals.{add-one}
+use native.Mathlib.Omega.{arith}
+use lib.Dec.{eqb}
+use lib.IntN.{ℤ, pos}
+use borrow.Author.Tests.{eq-eqb, ne-eqb}
+use lib.ListN.{length, take, drop, getD, length-take, length-map, drop-of-length-le, List·getD-eq-default}
+use lib.Seq.{drop-cons, getD-take}
+use Rattle.meaning.specs.Limits.{isWithin32}
+use Rattle.meaning.specs.Statement as M
+use Rattle.meaning.specs.Pattern.{Joint, column, constant, asked, given, ofValue, insertedColumn, setColumn}
+use Rattle.statement.specs.declared.Setting.{Setting}
+use Rattle.statement.specs.declared.Value.{Value}
+use Rattle.statement.specs.declared.Value.the-variants as Given
+use Rattle.statement.specs.declared.Operand.{Operand}
+use Rattle.statement.specs.declared.Operand.the-variants as O
+use Rattle.statement.specs.Sound.{valueRead, operandRead, settingRead}
+use Rattle.pattern.specs.Least.{marks-from, asked-from, columns-from, constantCode}
+use Rattle.pattern.specs.Flat.{valuesOf, columnOf, markOf, operandOf, Coding, SetOnce, Readable}
+use Rattle.pattern.proofs.OperandCodes.{constant-below}
+use Rattle.pattern.proofs.Mapped.{getD-map-in}
+
+-- ---- numbers that are computed
+
+pub column-coding : (i n : ℕ) → i < 256 → n ≡ columns-from + i → Coding (column i) n
+column-coding i n h e = record { is = e; narrow = h }
+
+pub given-coding : (k n : ℕ) → k < 256 → n ≡ marks-from + k + 1 → Coding (given (suc k)) n
+given-coding k n h e = record { is = omega arith; narrow = (omega arith, omega arith) }
+
+pub asked-coding : (k n : ℕ) → k < 256 → n ≡ asked-from + k + 1 → Coding (asked (suc k)) n
+asked-coding k n h e = record { is = omega arith; narrow = omega arith }
+
+pub constant-coding : (z : ℤ) (n : ℕ) → (n ≡ constantCode z) × (isWithin32 z ≡ true) → Coding (constant z) n
+constant-coding z n (e, w) = record { is = e; narrow = w }
+
+-- ---- by the variant that a match found
+
+pub coding-constant : (v : Value) (z y : ℤ) (n : ℕ) → v ≡ Given.Constant z → y ≡ z → Coding (constant y) n → Coding (ofValue (valueRead v)) n
+coding-constant v z y n e q k = subst (λ (w : Value). Coding (ofValue (valueRead w)) n) (sym (e ∙ ap Given.Constant (sym q))) k
+
+pub coding-parameter : (v : Value) (k n : ℕ) → v ≡ Given.Parameter k → Coding (given (suc k)) n → Coding (ofValue (valueRead v)) n
+coding-parameter v k n e q = subst (λ (w : Value). Coding (ofValue (valueRead w)) n) (sym e) q
+
+pub coding-operand : (r : ℕ) (ss : List (ℕ × M.Value)) (o p : Operand) (n : ℕ) → o ≡ p → Coding (operandOf r ss (operandRead p)) n → Coding (operandOf r ss (operandRead o)) n
+coding-operand r ss o p n e k = subst (λ (x : Operand). Coding (operandOf r ss (operandRead x)) n) (sym e) k
+
+-- ---- by the role
+
+pub mark-update : (r k n : ℕ) → r ≡ 0 → k < 256 → n ≡ marks-from + k + 1 → Coding (markOf r (suc k)) n
+mark-update r k n e h q = subst (λ (x : ℕ). Coding (markOf x (suc k)) n) (sym e) (given-coding k n h q)
+
+pub mark-query : (r k n : ℕ) → (r ≡ 0 → ⊥) → k < 256 → n ≡ asked-from + k + 1 → Coding (markOf r (suc k)) n
+mark-query zero k n ne h q = absurd (ne refl)
+mark-query (suc r) k n ne h q = asked-coding k n h q
+
+pub column-plain : (r : ℕ) (ss : List (ℕ × M.Value)) (i n : ℕ) → r < 2 → i < 256 → n ≡ columns-from + i → Coding (columnOf r ss i) n
+column-plain zero ss i n l h e = column-coding i n h e
+column-plain (suc zero) ss i n l h e = column-coding i n h e
+column-plain (suc (suc r)) ss i n l h e = absurd (omega arith)
+
+pub column-inserted : (r : ℕ) (ss : List (ℕ × M.Value)) (i n : ℕ) → r ≡ 2 → Coding (insertedColumn (valuesOf ss) i) n → Coding (columnOf r ss i) n
+column-inserted r ss i n e k = subst (λ (x : ℕ). Coding (columnOf x ss i) n) (sym e) k
+
+pub column-set : (r : ℕ) (ss : List (ℕ × M.Value)) (i n : ℕ) → 2 ≤ r → (r ≡ 2 → ⊥) → Coding (setColumn ss i (column i)) n → Coding (columnOf r ss i) n
+column-set zero ss i n l ne k = absurd (omega arith)
+column-set (suc zero) ss i n l ne k = absurd (omega arith)
+column-set (suc (suc zero)) ss i n l ne k = absurd (ne refl)
+column-set (suc (suc (suc r))) ss i n l ne k = k
+
+-- ---- VALUES and SET
+
+module _ (settings : List Setting) (n : ℕ) where
+  abbrev ss : List (ℕ × M.Value)
+  ss = map settingRead (take n settings)
+
+  -- what the first i settings make of a column
+  pub record Setting-on (j code i : ℕ) : Type 0 where
+    pub now-is : Joint
+    pub coding : Coding now-is code
+    pub left : setColumn (drop i ss) j now-is ≡ setColumn ss j (column j)
+
+  pub set-start : (j code : ℕ) → j < 256 → code ≡ columns-from + j → Setting-on j code 0
+  set-start j code h e = record { now-is = column j; coding = column-coding j code h e; left = refl }
+
+  module _ (long : n ≤ length settings) where
+    taken : length (take n settings) ≡ n
+    taken = length-take n settings ∙ omega arith
+
+    values-length : length (valuesOf ss) ≡ n
+    values-length = length-map ss (λ (s : ℕ × M.Value). s .1) ∙ length-map (take n settings) settingRead ∙ taken
+
+    pub inserted-there : (i r : ℕ) (d : Setting) → i < n → Coding (ofValue (valueRead (getD settings i d .value))) r → Coding (insertedColumn (valuesOf ss) i) r
+    inserted-there i r d h k =
+        let e : getD (valuesOf ss) i (M.constant (pos 0)) ≡ valueRead (getD settings i d .value) =
+        getD-map-in (λ (s : ℕ × M.Value). s .1) ss i (settingRead d) (M.constant (pos 0)) (omega (arith, length-map (take n settings) settingRead, taken))
+        ∙ ap (λ (s : ℕ × M.Value). s .1) (getD-map-in settingRead (take n settings) i d (settingRead d) (omega (arith, taken)))
+        ∙ ap (λ (s : Setting). valueRead (s .value)) (getD-take n settings i d h) in
+        subst (λ (v : M.Value). Coding (ofValue v) r) (sym e) k
+
+    pub inserted-past : (i : ℕ) → n ≤ i → Coding (insertedColumn (valuesOf ss) i) 2147483648
+    inserted-past i h =
+        let e : getD (valuesOf ss) i (M.constant (pos 0)) ≡ M.constant (pos 0) = List·getD-eq-default (valuesOf ss) (M.constant (pos 0)) (omega (arith, values-length)) in
+        subst (λ (v : M.Value). Coding (ofValue v) 2147483648) (sym e) (record { is = refl; narrow = refl })
+
+    ss-next : (i : ℕ) (d : Setting) → i < n → drop i ss ≡ settingRead (getD settings i d) ∷ drop (i + 1) ss
+    ss-next i d h =
+        drop-cons ss i (settingRead d) (omega (arith, length-map (take n settings) settingRead, taken))
+        ∙ ap₂ (λ (x : ℕ × M.Value) (k : ℕ). x ∷ drop k ss)
+        (getD-map-in settingRead (take n settings) i d (settingRead d) (omega (arith, taken)) ∙ ap settingRead (getD-take n settings i d h)) (sym (add-one i))
+
+    pub set-more : (j code code′ i : ℕ) (d : Setting) → i < n → SetOnce (getD settings i d) j code code′ → Setting-on j code i → Setting-on j code′ (i + 1)
+    set-more j code code′ i d h S T = record {
+      now-is = cond (eqb j (getD settings i d .column)) (ofValue (valueRead (getD settings i d .value))) (T .now-is);
+      coding = S .follows (T .now-is) (T .coding);
+      left = sym (ap (λ (l : List (ℕ × M.Value)). setColumn l j (T .now-is)) (ss-next i d h)) ∙ T .left;
+    }
+
+    pub set-done : (j code i : ℕ) → n ≤ i → Setting-on j code i → Coding (setColumn ss j (column j)) code
+    set-done j code i h T =
+        let none : drop i ss ≡ [] = let l : length ss ≤ i = omega (arith, length-map (take n settings) settingRead, taken) in drop-of-length-le ss l in
+        subst (λ (x : Joint). Coding x code) (sym (ap (λ (l : List (ℕ × M.Value)). setColumn l j (T .now-is)) none) ∙ T .left) (T .coding)
+
+-- one setting
+pub once-set : (item : Setting) (j code r : ℕ) → item .column ≡ j → Coding (ofValue (valueRead (item .value))) r → SetOnce item j code r
+once-set item j code r e k =
+    record { follows = λ x q. subst (λ (b : Bool). Coding (cond b (ofValue (valueRead (item .value))) x) r) (sym (eq-eqb j (item .column) (sym e))) k }
+
+pub once-left : (item : Setting) (j code : ℕ) → (item .column ≡ j → ⊥) → SetOnce item j code code
+once-left item j code ne =
+    record { follows = λ x q. subst (λ (b : Bool). Coding (cond b (ofValue (valueRead (item .value))) x) code) (sym (ne-eqb j (item .column) (λ e. ne (sym e)))) q }
+
+-- ---- their numbers can be read
+
+pub coding-readable : (x : Joint) (n : ℕ) → Coding x n → Readable n
+coding-readable (column i) n c = record { some = λ e. omega (arith, c .is); few = λ h. omega (arith, c .is) }
+coding-readable (constant z) n c = let h = constant-below z (c .narrow) in record { some = λ e. omega (arith, c .is); few = λ l. omega (arith, c .is) }
+coding-readable (asked k) n c = record { some = λ e. omega (arith, c .is); few = λ h. omega (arith, c .is) }
+coding-readable (given k) n c = record { some = λ e. omega (arith, c .is, c .narrow .0); few = λ h. omega (arith, c .is, c .narrow .1) }

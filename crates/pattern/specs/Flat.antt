@@ -1,0 +1,126 @@
+-- A joint clause in arrays: operands as the numbers of `Least`, the sides of comparison k at 2 k and 2 k + 1 of forty, and the query's question marks 1 to 8 behind
+-- them, from 32 on; operators by their numbers. What the code of module `labels` makes of it. Assumes nothing: these are definitions.
+use mathlib.Core.Path.{_≡_}
+use mathlib.Core.Bool.{Bool, true, false, cond}
+use mathlib.Core.List.{List, map, _++_}
+use Prim.Native.Nat.{ℕ, zero, suc, _+_, _*_, _≤_, _<_}
+use lib.Dec.{eqb}
+use lib.ListN.{getD, take, drop, replicate}
+use Rattle.lists.specs.Lists.{All, from}
+use Rattle.meaning.specs.Condition.{Comparison, sides, renamed}
+use Rattle.meaning.specs.Limits.{isWithin32}
+use Rattle.meaning.specs.Operator.{Operator, eq, ne, lt, le, gt, ge}
+use Rattle.meaning.specs.Pattern.{Joint, column, constant, asked, given, Clause, ofValue, insertedColumn, setColumn}
+use Rattle.meaning.specs.Statement as M
+use Rattle.statement.specs.declared.Condition.{Condition}
+use Rattle.statement.specs.declared.Setting.{Setting}
+use Rattle.statement.specs.Sound.{valueRead}
+use Rattle.statement.specs.Compiled.{padded}
+use Rattle.statement.specs.Places.{operatorAt}
+use Rattle.pattern.specs.Least.{marks-from, asked-from, codeOf, Coded, coded, least, clashesOn, fails, contradicts, entryOfCode, leastEntry}
+use Rattle.pattern.specs.Stored.{placeStruct, placed, patternStruct, noPattern}
+use Rattle.pattern.specs.declared.Entry.the-variants.{Any}
+use Rattle.pattern.specs.declared.Place.{Place}
+use Rattle.pattern.specs.declared.Pattern.{Pattern}
+use Rattle.pattern.specs.Masks.{select, comparisonsRead}
+use Rattle.pattern.specs.declared.labels.Labels.{Labels}
+use Rattle.pattern.specs.declared.joint.Joined.{Joined}
+
+abbrev pub comparisonAt : List ℕ → List ℕ → ℕ → Comparison ℕ
+comparisonAt codes ops k = record { left = getD codes (2 * k) 0; op = operatorAt (getD ops k 0); right = getD codes (2 * k + 1) 0 }
+
+-- the clause of the first n comparisons
+abbrev pub clauseAt : List ℕ → List ℕ → ℕ → Coded
+clauseAt codes ops n = map (comparisonAt codes ops) (from 0 n)
+
+-- a comparison of labels that cannot hold
+abbrev pub failing : Comparison ℕ → Bool
+failing c = fails (c .op) (c .left) (c .right)
+
+-- ---- `=` alone joins
+
+abbrev pub isJoin : Operator → Bool
+isJoin eq = true
+isJoin ne = false
+isJoin lt = false
+isJoin le = false
+isJoin gt = false
+isJoin ge = false
+
+-- ---- operands of stored statements
+
+abbrev pub Narrow : Joint → Type 0
+Narrow (column i) = i < 256
+Narrow (constant z) = isWithin32 z ≡ true
+Narrow (asked k) = k ≤ 256
+Narrow (given k) = (1 ≤ k) × (k ≤ 256)
+
+-- a number whose entry can be read: it is no question mark of the update, or one that a struct holds
+pub record Readable (code : ℕ) : Type 0 where
+  pub some : code ≡ marks-from → ⊥
+  pub few : code < asked-from → code ≤ marks-from + 256
+
+-- the arrays of a clause of n comparisons
+pub record Ready (codes : List ℕ) (n : ℕ) : Type 0 where
+  pub few : n ≤ 16
+  pub readable : All Readable codes
+  pub marks-there : drop 32 codes ≡ map (λ (k : ℕ). asked-from + k) (from 1 8)
+
+-- the labels of all numbers, and whether an `=` joins two different constants
+pub record Labelled (codes ops : List ℕ) (n : ℕ) (r : Labels) : Type 0 where
+  pub labels-are : r .codes ≡ map (least (clauseAt codes ops n)) codes
+  pub clash-is : r .clash ≡ clashesOn (λ x. x) (clauseAt codes ops n)
+  pub readable : All Readable (r .codes)
+
+-- the places of a pattern, by the labels of the first n question marks
+unfoldable pub placesOf : List ℕ → ℕ → List Place
+placesOf labels n = padded 8 (placed Any) (map (λ (x : ℕ). placeStruct (entryOfCode x)) (take n (drop 32 labels)))
+
+-- the pattern of a clause, by numbers, for n question marks
+unfoldable pub codedPattern : ℕ → Coded → Pattern
+codedPattern n cs = cond (contradicts cs) noPattern (patternStruct (map (leastEntry cs) (from 1 n)))
+
+-- ---- operands of the statements, as module `joint` writes them, by whose they are: 0 the update's, 1 the query's, 2 and 3 the query's with columns replaced as INSERT
+-- and UPDATE do; ss are the update's settings
+
+abbrev pub valuesOf : List (ℕ × M.Value) → List M.Value
+valuesOf ss = map (λ (s : ℕ × M.Value). s .1) ss
+
+abbrev pub columnOf : ℕ → List (ℕ × M.Value) → ℕ → Joint
+columnOf zero ss i = column i
+columnOf (suc zero) ss i = column i
+columnOf (suc (suc zero)) ss i = insertedColumn (valuesOf ss) i
+columnOf (suc (suc (suc k))) ss i = setColumn ss i (column i)
+
+abbrev pub markOf : ℕ → ℕ → Joint
+markOf zero k = given k
+markOf (suc r) k = asked k
+
+abbrev pub operandOf : ℕ → List (ℕ × M.Value) → M.Operand → Joint
+operandOf r ss (M.column i) = columnOf r ss i
+operandOf r ss (M.value (M.constant z)) = constant z
+operandOf r ss (M.value (M.parameter k)) = markOf r k
+
+-- the number of an operand
+pub record Coding (x : Joint) (code : ℕ) : Type 0 where
+  pub is : code ≡ codeOf x
+  pub narrow : Narrow x
+
+-- what one setting makes of the number of a column, or of what that was set to
+pub record SetOnce (item : Setting) (i code r : ℕ) : Type 0 where
+  pub follows : (x : Joint) → Coding x code → Coding (cond (eqb i (item .column)) (ofValue (valueRead (item .value))) x) r
+
+-- the clause that a mask selects of a condition
+abbrev pub chosenOf : ℕ → List (ℕ × M.Value) → Condition → ℕ → Clause
+chosenOf r ss c mask = map (renamed (operandOf r ss)) (select (comparisonsRead c) mask)
+
+abbrev pub noClause : Joined
+noClause = record { codes = replicate 32 0 ++ map (λ (k : ℕ). asked-from + k) (from 1 8); ops = replicate 16 0; count = 0 }
+
+-- the arrays with a clause added behind the first n comparisons
+pub record Extended (codes ops : List ℕ) (n : ℕ) (added : Clause) (r : Joined) : Type 0 where
+  pub clause-is : clauseAt (r .codes) (r .ops) (r .count) ≡ clauseAt codes ops n ++ coded added
+  pub narrow : All Narrow (sides added)
+  pub few : r .count ≤ n + 8
+  pub readable : All Readable (r .codes)
+  pub marks-stay : drop 32 (r .codes) ≡ drop 32 codes

@@ -1,0 +1,235 @@
+// A joint clause in arrays, made from the comparisons that masks select: rule 3 says whose operands they are and what a column of the query becomes.
+use super::labels::Labels;
+use table::Condition;
+use table::Operand;
+use table::Setting;
+use table::Update;
+use table::Value;
+ghost use mathlib.Core.Path.{_≡_};
+ghost use mathlib.Core.Bool.{true};
+ghost use mathlib.Core.List.{map};
+ghost use Prim.Native.Nat.{suc, _≤_, min};
+ghost use lib.ListN.{length, take};
+ghost use Rattle.lists.specs.Lists.{All};
+ghost use Rattle.meaning.specs.Limits.{isWithin32};
+ghost use Rattle.meaning.specs.Pattern.{ofValue, insertedColumn, setColumn, column as columnNamed};
+ghost use Rattle.statement.specs.Sound.{valueRead, operandRead, settingRead};
+ghost use Rattle.pattern.specs.Least.{constantCode};
+ghost use Rattle.pattern.specs.Flat.{columnOf, operandOf, valuesOf, Coding, Readable, chosenOf, noClause, Extended, SetOnce, markOf};
+
+// A clause of `count` comparisons: their operators, and their sides as numbers, two a comparison; the query's question marks stand behind the sides.
+pub struct Joined {
+    pub codes: [u64; Labels::OPERANDS],
+    pub ops: [u8; Labels::COMPARISONS],
+    pub count: usize,
+}
+
+impl Joined {
+    // Whose an operand is: the update's, the query's, the query's with columns as INSERT or UPDATE gives them.
+    pub const UPDATE: u8 = 0;
+
+    pub const QUERY: u8 = 1;
+
+    pub const INSERTED: u8 = 2;
+
+    pub const SET: u8 = 3;
+
+    // No comparison yet.
+    pub fn empty() -> Joined
+        ensures { λ r. ⌜ r ≡ noClause ⌝ }
+    {
+        let ops = [0u8; Labels::COMPARISONS];
+        let a = Labels::FROM_ASKED;
+        let codes = [
+            0,
+            0,
+            0,
+            0,
+            0,
+            0,
+            0,
+            0,
+            0,
+            0,
+            0,
+            0,
+            0,
+            0,
+            0,
+            0,
+            0,
+            0,
+            0,
+            0,
+            0,
+            0,
+            0,
+            0,
+            0,
+            0,
+            0,
+            0,
+            0,
+            0,
+            0,
+            0,
+            a + 1,
+            a + 2,
+            a + 3,
+            a + 4,
+            a + 5,
+            a + 6,
+            a + 7,
+            a + 8,
+        ];
+        Joined {
+            codes,
+            ops,
+            count: 0,
+        }
+    }
+}
+
+// How many of the eight entries of an array a count says are in use.
+pub fn used(count: u8) -> usize
+    ensures { λ r. ⌜ r ≡ min count 8 ⌝ }
+{
+    let n = count as usize;
+    if n < Condition::COMPARISONS {
+        n
+    } else {
+        Condition::COMPARISONS
+    }
+}
+
+// ---- operands
+
+fn constant_code(z: i32) -> u64
+    ensures { λ r. ⌜ (r ≡ constantCode z) × (isWithin32 z ≡ true) ⌝ }
+{
+    let w = (z as i64) + 4294967296;
+    (w as u64) - Labels::ZERO
+}
+
+// What VALUES or SET gives.
+fn value_code(value: Value) -> u64
+    ensures { λ r. ⌜ Coding (ofValue (valueRead value)) r ⌝ }
+{
+    match value {
+        Value::Constant(z) => constant_code(z),
+        Value::Parameter(k) => Labels::FROM_MARKS + (k as u64) + 1,
+    }
+}
+
+// What a column becomes in an INSERT: the value of its place, or 0 past the values.
+fn inserted_code(settings: [Setting; Update::SETTINGS], n: usize, column: u8) -> u64
+    requires { ⌜ n ≤ 8 ⌝ }
+    ensures { λ r. ⌜ Coding (insertedColumn (valuesOf (map settingRead (take n settings))) column) r ⌝ }
+{
+    let i = column as usize;
+    if i < n {
+        let item = settings[i];
+        let value = item.value;
+        return value_code(value);
+    }
+    Labels::ZERO
+}
+
+// A column's number, or the one given, where a setting is of another column.
+fn set_once(item: Setting, column: u8, code: u64) -> u64
+    ensures { λ r. ⌜ SetOnce item column code r ⌝ }
+{
+    if item.column == column {
+        let value = item.value;
+        return value_code(value);
+    }
+    code
+}
+
+// What a column becomes in an UPDATE: what it is last set to, or itself.
+fn set_code(settings: [Setting; Update::SETTINGS], n: usize, column: u8) -> u64
+    requires { ⌜ n ≤ 8 ⌝ }
+    ensures { λ r. ⌜ Coding (setColumn (map settingRead (take n settings)) column (columnNamed column)) r ⌝ }
+{
+    let mut code = Labels::FROM_COLUMNS + (column as u64);
+    let mut i: usize = 0;
+    while i < n {
+        let item = settings[i];
+        code = set_once(item, column, code);
+        i += 1;
+    }
+    code
+}
+
+fn column_code(column: u8, role: u8, settings: [Setting; Update::SETTINGS], n: usize) -> u64
+    requires { ⌜ n ≤ 8 ⌝ }
+    ensures { λ r. ⌜ Coding (columnOf role (map settingRead (take n settings)) column) r ⌝ }
+{
+    if role < Joined::INSERTED {
+        return Labels::FROM_COLUMNS + (column as u64);
+    }
+    if role == Joined::INSERTED {
+        return inserted_code(settings, n, column);
+    }
+    set_code(settings, n, column)
+}
+
+fn mark_code(k: u8, role: u8) -> u64
+    ensures { λ r. ⌜ Coding (markOf role (suc k)) r ⌝ }
+{
+    if role == Joined::UPDATE {
+        return Labels::FROM_MARKS + (k as u64) + 1;
+    }
+    Labels::FROM_ASKED + (k as u64) + 1
+}
+
+// A side of a comparison.
+fn operand_code(o: Operand, role: u8, settings: [Setting; Update::SETTINGS], n: usize) -> u64
+    requires { ⌜ n ≤ 8 ⌝ }
+    ensures { λ r. ⌜ Coding (operandOf role (map settingRead (take n settings)) (operandRead o)) r ⌝ }
+{
+    match o {
+        Operand::Column(i) => column_code(i, role, settings, n),
+        Operand::Constant(z) => constant_code(z),
+        Operand::Parameter(k) => mark_code(k, role),
+    }
+}
+
+// ---- comparisons
+
+// The clause with the comparisons of a condition added that a mask selects. (Each is written behind the others; the next takes its place where it is not selected.)
+pub fn add(
+    start: [u64; Labels::OPERANDS],
+    ops: [u8; Labels::COMPARISONS],
+    n: usize,
+    condition: Condition,
+    mask: u8,
+    role: u8,
+    settings: [Setting; Update::SETTINGS],
+    given: usize,
+) -> Joined
+    requires { ⌜ (n ≤ 8) × (given ≤ 8) × (condition .count ≤ 8) × All Readable start ⌝ }
+    ensures { λ r. ⌜ Extended start ops n (chosenOf role (map settingRead (take given settings)) condition mask) r × (length settings ≡ 8) ⌝ }
+{
+    let mut codes = start;
+    let mut numbers = ops;
+    let mut at = n;
+    let mut left = mask;
+    let mut i: usize = 0;
+    while i < (condition.count as usize) {
+        let c = condition.comparisons[i];
+        let a = c.left;
+        let b = c.right;
+        codes[2 * at] = operand_code(a, role, settings, given);
+        codes[2 * at + 1] = operand_code(b, role, settings, given);
+        numbers[at] = c.op;
+        at += (left % 2) as usize;
+        left = left / 2;
+        i += 1;
+    }
+    Joined {
+        codes,
+        ops: numbers,
+        count: at,
+    }
+}

@@ -1,0 +1,145 @@
+// Rules 1 and 2: whether an update can matter to a query at all.
+use super::joint;
+use table::Condition;
+use table::Operand;
+use table::Query;
+use table::Setting;
+use table::Update;
+ghost use mathlib.Core.Path.{_≡_};
+ghost use mathlib.Core.List.{map};
+ghost use Prim.Native.Nat.{_≤_};
+ghost use lib.ListN.{length, take};
+ghost use Rattle.lists.specs.Lists.{any};
+ghost use Rattle.meaning.specs.Condition.{sides};
+ghost use Rattle.meaning.specs.Pattern.{operandColumns};
+ghost use Rattle.statement.specs.Sound.{comparisonRead, operandRead, usedSteps};
+ghost use Rattle.pattern.specs.Stored.{relevant as relevantTo};
+ghost use Rattle.pattern.specs.Relevance.{isAmong, namesAny, oneIf, comparisonSteps, setsUsed};
+
+// The columns of settings.
+fn columns_of(settings: [Setting; Update::SETTINGS]) -> [u8; Update::SETTINGS]
+    ensures { λ r. ⌜ (r ≡ map (λ s. s .column) settings) × (length settings ≡ 8) ⌝ }
+{
+    let mut columns = [0u8; Update::SETTINGS];
+    let mut i: usize = 0;
+    while i < Update::SETTINGS {
+        let item = settings[i];
+        columns[i] = item.column;
+        i += 1;
+    }
+    columns
+}
+
+// Whether a column is one of the first n.
+fn is_among(columns: [u8; Update::SETTINGS], n: usize, column: u8) -> bool
+    requires { ⌜ n ≤ 8 ⌝ }
+    ensures { λ r. ⌜ r ≡ isAmong (take n columns) column ⌝ }
+{
+    let mut found = false;
+    let mut i: usize = 0;
+    while i < n {
+        found = found | (columns[i] == column);
+        i += 1;
+    }
+    found
+}
+
+// Whether one of the first `count` selected columns is.
+fn selects(
+    selected: [u8; Query::SELECTED],
+    count: usize,
+    columns: [u8; Update::SETTINGS],
+    n: usize,
+) -> bool
+    requires { ⌜ (count ≤ 8) × (n ≤ 8) ⌝ }
+    ensures { λ r. ⌜ r ≡ any (isAmong (take n columns)) (take count selected) ⌝ }
+{
+    let mut found = false;
+    let mut i: usize = 0;
+    while i < count {
+        found = found | is_among(columns, n, selected[i]);
+        i += 1;
+    }
+    found
+}
+
+// Whether a side of a comparison is such a column.
+fn names(o: Operand, columns: [u8; Update::SETTINGS], n: usize) -> bool
+    requires { ⌜ n ≤ 8 ⌝ }
+    ensures { λ r. ⌜ r ≡ namesAny (take n columns) (operandRead o) ⌝ }
+{
+    match o {
+        Operand::Column(i) => is_among(columns, n, i),
+        Operand::Constant(_) => false,
+        Operand::Parameter(_) => false,
+    }
+}
+
+// Whether a side of one of the first `count` comparisons is.
+fn tests(condition: Condition, count: usize, columns: [u8; Update::SETTINGS], n: usize) -> bool
+    requires { ⌜ (count ≤ 8) × (n ≤ 8) ⌝ }
+    ensures { λ r. ⌜ (r ≡ any (isAmong (take n columns)) (operandColumns (sides (map comparisonRead (take count (condition .comparisons)))))) × (length (condition .comparisons) ≡ 8) ⌝ }
+{
+    let mut found = false;
+    let mut i: usize = 0;
+    while i < count {
+        let c = condition.comparisons[i];
+        let left = c.left;
+        let right = c.right;
+        found = found | names(left, columns, n) | names(right, columns, n);
+        i += 1;
+    }
+    found
+}
+
+fn one_if(b: bool) -> usize
+    ensures { λ r. ⌜ r ≡ oneIf b ⌝ }
+{
+    if b { 1 } else { 0 }
+}
+
+// How many comparisons the steps of a condition ask for.
+fn comparison_steps(condition: Condition) -> usize
+    ensures { λ r. ⌜ r ≡ comparisonSteps (usedSteps condition) ⌝ }
+{
+    let n = joint::used(condition.count);
+    let mut found: usize = 0;
+    let mut i: usize = 0;
+    while i + 1 < 2 * n {
+        found += one_if(condition.steps[i] == 0);
+        i += 1;
+    }
+    found
+}
+
+// Whether a query selects or tests a column that an update sets.
+fn touches(query: Query, update: Update) -> bool
+    ensures { λ r. ⌜ r ≡ setsUsed query update ⌝ }
+{
+    let settings = update.settings;
+    let columns = columns_of(settings);
+    let n = joint::used(update.count);
+    let selected = query.selected;
+    if selects(selected, joint::used(query.count), columns, n) {
+        return true;
+    }
+    let condition = query.condition;
+    let asked = comparison_steps(condition);
+    let there = joint::used(condition.count);
+    if asked < there {
+        return tests(condition, asked, columns, n);
+    }
+    tests(condition, there, columns, n)
+}
+
+pub fn relevant(query: Query, update: Update) -> bool
+    ensures { λ r. ⌜ r ≡ relevantTo query update ⌝ }
+{
+    if query.table != update.table {
+        return false;
+    }
+    if update.form == Update::UPDATE {
+        return touches(query, update);
+    }
+    true
+}
