@@ -73,7 +73,10 @@ pub fn rows_fit(tables: [Table; Table::TABLES], n: usize) -> bool
 fn slot_fits(query: u8, count: u8, n: u8, parameters: u8, length: u16, bytes: u16) -> bool
     ensures { λ r. ⌜ r ≡ (keyFits query count n parameters && lengthFits length bytes) ⌝ }
 {
-    (query < n) & (count == parameters) & (SlotList::LEAST_BYTES <= (length as usize)) & (length <= bytes)
+    (query < n)
+        & (count == parameters)
+        & (SlotList::LEAST_BYTES <= (length as usize))
+        & (length <= bytes)
 }
 
 // Whether each held slot has a key and a length that fit.
