@@ -15,12 +15,13 @@ use Rattle.meaning.specs.Limits.{pastLimit}
 use Rattle.meaning.specs.Names.{unknown, taken, miscounted}
 use Rattle.meaning.specs.Statement.{statementOf}
 use Rattle.meaning.specs.Meaning.{Row, answer, changed, rowsChanged}
+use Rattle.meaning.specs.Record.{body, encode}
 use Rattle.meaning.specs.Pattern.{Pattern, number, mark, anything, jointClauses, jointCount, most-clauses, class, contradictory, entry, patterns, matches}
-use Rattle.meaning.specs.Plain.{Lengths, Plain, tableAt, queryAt, updateAt, openingRefused, opened, Call, add, change, otherLengths, noPlace, full, refusal, Out, refused, added, answered, rows, flushed, addedText, changedBy, rowsBy, step, after, outs}
+use Rattle.meaning.specs.Plain.{Lengths, Plain, tableAt, queryAt, updateAt, recordOf, openingRefused, opened, Call, add, ask, change, otherLengths, noPlace, full, refusal, Out, refused, added, answered, rows, flushed, addedText, changedBy, rowsBy, step, after, outs}
 
 -- what the computations open
 computing : Unit {0}
-unfolding isNameByte isWordByte decimal isName word negative tokenFrom firstToken scan tokens aCondition aSentence read pastLimit unknown taken miscounted statementOf answer changed rowsChanged jointClauses class contradictory entry patterns matches openingRefused otherLengths noPlace full refusal addedText changedBy rowsBy
+unfolding isNameByte isWordByte decimal isName word negative tokenFrom firstToken scan tokens aCondition aSentence read pastLimit unknown taken miscounted statementOf answer changed rowsChanged jointClauses class contradictory entry patterns matches body encode recordOf openingRefused otherLengths noPlace full refusal addedText changedBy rowsBy
 computing = tt
 
 -- six cells, and no kept memory
@@ -35,11 +36,13 @@ pub data Outcome : Type 0 where
   patterns-are : List Pattern → Outcome
   next-refused : Call → ℕ → Outcome
   lists : List Row → Outcome
+  next-record : Call → List ℕ → Outcome
 
 abbrev Says : Plain → Outcome → Type 0
 Says p (patterns-are ps) = patterns (queryAt p 0) (updateAt p 0) ≡ ps
 Says p (next-refused c n) = step six p c .1 ≡ refused n
 Says p (lists rs) = answer (queryAt p 0) [] (tableAt p 0 .rows) ≡ rs
+Says p (next-record c r) = step six p c .1 ≡ answered r
 
 pub record Example : Type 0 where
   pub texts : List String
@@ -223,6 +226,18 @@ slips =
     ∷ pair Q "DELETE FROM stage WHERE site = ? AND level = ? AND site = ?" ((mark 1 ∷ []) ∷ [])
     -- 13 and 5 clauses: 65 are too many
     ∷ pair thirteen "DELETE FROM stage WHERE site = 6 OR site = 7 OR level = 6 OR level = 7 OR level = 8" ((anything ∷ []) ∷ [])
+    -- a question added later leaves the first one as it was
+    ∷ record {
+      texts = "SELECT level FROM stage" ∷ "SELECT site FROM stage" ∷ "INSERT INTO stage VALUES (?, ?)" ∷ [];
+      calls = change 0 (numbers (7 ∷ 120 ∷ [])) ∷ [];
+      outcome = lists (numbers (120 ∷ []) ∷ []);
+    }
+    -- a record of one row
+    ∷ record {
+      texts = "SELECT level FROM stage" ∷ "INSERT INTO stage VALUES (?, ?)" ∷ [];
+      calls = change 0 (numbers (7 ∷ 120 ∷ [])) ∷ [];
+      outcome = next-record (ask (record { query = 0; values = [] }) 12) (0 ∷ 0 ∷ 0 ∷ 8 ∷ 1 ∷ 1 ∷ 0 ∷ 1 ∷ 0 ∷ 0 ∷ 0 ∷ 120 ∷ []);
+    }
     ∷ []
 
 caught-0 : Holds (row slips 0)
@@ -253,5 +268,13 @@ caught-6 : Holds (row slips 6)
 unfolding computing
 caught-6 = (refl, refl)
 
+caught-7 : Holds (row slips 7)
+unfolding computing
+caught-7 = (refl, refl)
+
+caught-8 : Holds (row slips 8)
+unfolding computing
+caught-8 = (refl, refl)
+
 pub caught : All Holds slips
-caught = cons caught-0 (cons caught-1 (cons caught-2 (cons caught-3 (cons caught-4 (cons caught-5 (cons caught-6 nil))))))
+caught = cons caught-0 (cons caught-1 (cons caught-2 (cons caught-3 (cons caught-4 (cons caught-5 (cons caught-6 (cons caught-7 (cons caught-8 nil))))))))
