@@ -1,6 +1,6 @@
 -- The loops that mark slots: the held slots walked through, the queries that hold an answer, the clauses of a query, and the queries. Each invariant says what is
 -- left to be done. Assumes nothing.
-use mathlib.Core.Path.{_≡_, refl, sym, ap, ap₂, subst, _∙_}
+use mathlib.Core.Path.{_≡_, refl, sym, ap, subst, _∙_}
 use mathlib.Core.Bool.{Bool, true, false, _&&_, _||_, cond, or-false}
 use mathlib.Core.List.{List, [], _∷_, map}
 use Prim.Native.Nat.{ℕ, zero, suc, _+_, _-_, _≤_, _<_}
@@ -9,7 +9,7 @@ use native.Mathlib.Omega.{arith}
 use borrow.Author.Tests.{eqb-true, eqb-false, eq-eqb, ne-eqb}
 use lib.Dec.{eqb}
 use lib.IntN.{ℤ}
-use lib.ListN.{length, take, getD, set, replicate, length-set, length-map, length-take, List·getD-map}
+use lib.ListN.{length, take, getD, set, replicate, length-set, length-take}
 use lib.Seq.{getD-take}
 use Rattle.lists.specs.Lists.{any, All, from}
 use Rattle.lists.proofs.Bools.{or-assoc}

@@ -1,18 +1,18 @@
 -- The slots that an update marks are those whose key it matches: `marksOf` read slot by slot. Assumes nothing.
 use mathlib.Core.Path.{_≡_, refl, sym, ap, ap₂, _∙_}
 use mathlib.Core.Bool.{Bool, true, false, _&&_, _||_, cond, and-false, and-true, or-false, or-true}
-use mathlib.Core.List.{List, [], _∷_, map, List·Memᴰ as Member, List·Memᴰ·head as head, List·Memᴰ·tail as tail}
+use mathlib.Core.List.{List, [], _∷_, List·Memᴰ as Member, List·Memᴰ·head as head, List·Memᴰ·tail as tail}
 use Prim.Native.Nat.{ℕ, zero, suc, _+_, _≤_, _<_}
 use native.Mathlib.Omega.{arith}
-use borrow.Author.Tests.{eqb-true, eqb-false, eq-eqb, ne-eqb}
+use borrow.Author.Tests.{eqb-true, eqb-false, eq-eqb}
 use lib.Dec.{eqb}
 use lib.IntN.{ℤ}
 use lib.ListN.{length, getD, set, replicate, length-set}
 use lib.Seq.{getD-set-same, getD-set-other}
-use Rattle.lists.specs.Lists.{any, All, nil, cons, from}
+use Rattle.lists.specs.Lists.{any, All, from}
 use Rattle.lists.proofs.Bools.{or-assoc, and-or}
 use Rattle.lists.proofs.Lists.{All-head, All-tail, any-map, any-false, All-source}
-use Rattle.lists.proofs.Changed.{member-has, members-have}
+use Rattle.lists.proofs.Changed.{member-has}
 use Rattle.statement.specs.declared.Query.{Query}
 use Rattle.statement.specs.declared.Update.{Update}
 use Rattle.statement.specs.Compiled.{noQuery}

@@ -1,9 +1,9 @@
 -- What each return of an update owes, over plain variables. Assumes nothing.
-use mathlib.Core.Path.{_≡_, refl, sym, ap, ap₂, _∙_}
+use mathlib.Core.Path.{_≡_, refl, sym, ap, _∙_}
 use mathlib.Core.Logic.{_≢_}
 use mathlib.Core.Bool.{Bool, true, false, not, _&&_}
 use mathlib.Core.List.{List}
-use Prim.Native.Nat.{ℕ, zero, suc, _-_, _≤_, _<_}
+use Prim.Native.Nat.{ℕ, _-_, _≤_, _<_}
 use native.Mathlib.Omega.{arith}
 use borrow.Author.Tests.{leb-false, le-leb, lt-leb, eq-eqb, ne-eqb}
 use lib.Dec.{eqb, leb}
@@ -16,7 +16,7 @@ use Rattle.meaning.specs.Plain.{orElse}
 use Rattle.meaning.proofs.Accepted.{clear}
 use Rattle.statement.specs.declared.Table.{Table}
 use Rattle.statement.specs.declared.Update.{Update}
-use Rattle.statement.specs.Compiled.{noTable, noUpdate}
+use Rattle.statement.specs.Compiled.{noUpdate}
 use Rattle.table.specs.Changed.{changeOf, cellsAfter}
 use Rattle.table.specs.declared.changes.Changed.{Changed}
 use Rattle.slots.specs.declared.SlotList.{SlotList}
@@ -48,7 +48,6 @@ module _ (s : State) (cells memory update values : ℕ) where
 
   pub unfit-refused : unfit s cells memory ≡ true → 2 ≡ updateRefusal s cells memory update values
   unfit-refused e = refusal-is true _ _ _ e refl refl refl
-
 
   module _ (f : unfit s cells memory ≡ false) where
     pub unknown-refused : s .«update_count» ≤ update → 10 ≡ updateRefusal s cells memory update values

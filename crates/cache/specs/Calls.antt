@@ -15,7 +15,6 @@ use Rattle.statement.specs.declared.Update.{Update}
 use Rattle.statement.specs.declared.Statement.{Statement}
 use Rattle.statement.specs.Compiled.{noTable, noQuery, noUpdate, compiledOf}
 use Rattle.table.specs.Evaluated.{rowsUsed, recordStored}
-use Rattle.table.specs.declared.changes.Changed.{Changed}
 use Rattle.table.specs.Changed.{changeOf, cellsAfter}
 use Rattle.pattern.specs.Stored.{matchesStored}
 use Rattle.slots.specs.declared.Key.{Key}

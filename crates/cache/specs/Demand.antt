@@ -4,7 +4,7 @@ use mathlib.Core.Path.{_≡_}
 use mathlib.Core.Logic.{_≢_}
 use mathlib.Core.Bool.{Bool, true, false, not, _&&_, cond}
 use mathlib.Core.List.{List, [], _∷_, _++_, map}
-use Prim.Native.Nat.{ℕ, _≤_, _<_}
+use Prim.Native.Nat.{ℕ, _<_}
 use lib.Dec.{eqb, ltb}
 use lib.IntN.{ℤ}
 use lib.ListN.{length}
@@ -12,7 +12,7 @@ use Rattle.lists.specs.Lists.{All, any, keep, count}
 use Rattle.meaning.specs.Key.{Key, sameKey}
 use Rattle.meaning.specs.Demand.{ReadsBack, Is32, rowsListed}
 use Rattle.meaning.specs.Plain as P
-use Rattle.meaning.specs.Plain.{Plain, openingRefused, recordOf, matchesKey, lowestOf}
+use Rattle.meaning.specs.Plain.{Plain, openingRefused, recordOf, matchesKey}
 use Rattle.trace.specs.History.{Event, history, fits, Answered, hits, since, Filled, Ground}
 use Rattle.statement.specs.Catalog.{catalog}
 use Rattle.statement.specs.Compiled.{textConditions}
@@ -23,7 +23,7 @@ use Rattle.cache.specs.declared.State.{State}
 use Rattle.cache.specs.Sound.{soundState}
 use Rattle.cache.specs.Means.{tablesIn, Means, Typed}
 use Rattle.cache.specs.Calls.{unfit, askConditions, cachedLength, foundIn, recordAt, updateConditions}
-use Rattle.cache.specs.Run.{Store, Start, openingOf, opened, Call, add, ask, update, flush, Got, Seen, step, after, gets, plainCall, bufferOf, gotOf, plainAfter, plainGets}
+use Rattle.cache.specs.Run.{Store, Start, openingOf, opened, Call, add, ask, update, flush, Seen, step, after, gets, plainCall, bufferOf, gotOf, plainAfter, plainGets}
 
 -- ---- Demand 1: "If a call brings a text, number, state or lent memory that the store can't take, it gives the refusal number of document 01 and changes nothing. Every
 -- other call ends with its work done." That each call ends, and touches no place outside the lent memories, is what it means for the code to be proved.

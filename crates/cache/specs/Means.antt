@@ -8,7 +8,7 @@ use lib.ListN.{length, take}
 use Rattle.lists.specs.Lists.{All}
 use Rattle.meaning.specs.Statement as M
 use Rattle.meaning.specs.Plain as P
-use Rattle.meaning.specs.Plain.{Plain, schemas}
+use Rattle.meaning.specs.Plain.{Plain}
 use Rattle.statement.specs.declared.Table.{Table}
 use Rattle.statement.specs.declared.Query.{Query}
 use Rattle.statement.specs.declared.Update.{Update}

@@ -1,6 +1,5 @@
 -- Lists of calls: each is given the state that the last one returned, and the opening's memories as it left them. What each call gets, and what the same call gets
 -- from the plain store of document 01. Assumes nothing: these are definitions.
-use mathlib.Core.Bool.{Bool, cond}
 use mathlib.Core.List.{List, [], _∷_, map}
 use Prim.Native.Nat.{ℕ}
 use lib.IntN.{ℤ}
@@ -10,7 +9,6 @@ use Rattle.meaning.specs.Plain as P
 use Rattle.meaning.specs.Plain.{Lengths, Plain, Opening, Kind, aTable, aQuery, anUpdate, Out, refused, added, answered, rows, flushed}
 use Rattle.cache.specs.declared.State.{State}
 use Rattle.cache.specs.declared.Added.{Added}
-use Rattle.cache.specs.declared.Updated.{Updated}
 use Rattle.cache.specs.declared.Flushed.{Flushed}
 use Rattle.cache.specs.Sound.{opening}
 use Rattle.cache.specs.Calls.{Opens, openOf, addOf, Asks, askOf, Updates, updateOf, flushOf}

@@ -1,17 +1,16 @@
 -- When a state is sound: document 01, "The store and its calls", "A state is sound when ..". One test, which the code computes for any state; each part of the
 -- sentence by itself, in its order. Entries past the counts do not matter. Assumes nothing: these are definitions.
 use mathlib.Core.Bool.{Bool, not, _&&_}
-use mathlib.Core.List.{List, [], _∷_, map}
+use mathlib.Core.List.{List, [], _∷_}
 use Prim.Native.Nat.{ℕ, _+_, _*_}
 use lib.Dec.{eqb, leb, ltb}
 use lib.ListN.{getD, take}
 use Rattle.lists.specs.Lists.{all}
 use Rattle.meaning.specs.Limits.{most-tables, most-queries, most-updates, least-slot-bytes}
-use Rattle.meaning.specs.Plain.{Lengths, Opening, openingRefused}
+use Rattle.meaning.specs.Plain.{Opening, openingRefused}
 use Rattle.statement.specs.declared.Table.{Table}
 use Rattle.statement.specs.declared.Query.{Query}
-use Rattle.statement.specs.declared.Update.{Update}
-use Rattle.statement.specs.Compiled.{noTable, noQuery, noUpdate}
+use Rattle.statement.specs.Compiled.{noQuery}
 use Rattle.soundness.specs.Soundness.{tablesSound, queriesSound, updatesSound}
 use Rattle.slots.specs.declared.Key.{Key}
 use Rattle.slots.specs.Keys.{slotKey, heldKeys, heldTwice}

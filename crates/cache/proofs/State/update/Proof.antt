@@ -1,5 +1,5 @@
 -- `State::update` meets its contract: refused or done (`update-refused`, `update-done`). Assumes nothing.
-use mathlib.Core.Path.{_≡_, refl, sym, _∙_}
+use mathlib.Core.Path.{_≡_, sym, _∙_}
 use native.Mathlib.Omega.{arith}
 use borrow.Author.Needs.{needs}
 use lib.ListN.{length, length-map}
@@ -34,7 +34,7 @@ same-length : tie.Need-same-length
 same-length c = search needs
 
 returns-2 : tie.Need-returns-2
-returns-2 c = 
+returns-2 c =
     let e = c .before .before .before .before in
     update-done _ _ _ _ _ _ (e .before .update-refusal .ensures) (e .if1 .left) (updates-long (e .before .before .before)) _ _ (c .before .updated .ensures)
 

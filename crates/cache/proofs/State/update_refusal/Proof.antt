@@ -37,7 +37,7 @@ cast-if3 : tie.Need-cast-if3
 cast-if3 c = search needs
 
 returns-3 : tie.Need-returns-3
-returns-3 c = 
+returns-3 c =
     let e = c .before .before .before in
     values-refused _ _ _ _ _ (fit (e .before)) (e .if2 .left) (updates-long (e .before .before .before)) _ (c .if3 .taken)
 
@@ -48,12 +48,12 @@ table-at-requires : tie.Need-table-at-requires
 table-at-requires c κs = search needs
 
 returns-4 : tie.Need-returns-4
-returns-4 c = 
+returns-4 c =
     let e = c .before .before .before .before .before .before .before .before .before in
     full-refused _ _ _ _ _ (fit (e .before)) (e .if2 .left) (updates-long (e .before .before .before)) _ (c .before .before .before .before .before .before .if3 .left) _ (c .before .before .before .table-at .ensures) true (c .if4 .taken)
 
 returns-5 : tie.Need-returns-5
-returns-5 c = 
+returns-5 c =
     let e = c .before .before .before .before .before .before .before .before .before in
     full-refused _ _ _ _ _ (fit (e .before)) (e .if2 .left) (updates-long (e .before .before .before)) _ (c .before .before .before .before .before .before .if3 .left) _ (c .before .before .before .table-at .ensures) false (c .if4 .left)
 

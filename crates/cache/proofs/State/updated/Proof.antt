@@ -36,7 +36,7 @@ with-rows-requires : tie.Need-with-rows-requires
 with-rows-requires c κs = search needs
 
 sub-t18 : tie.Need-sub-t18
-sub-t18 c = 
+sub-t18 c =
     let s = c .before .before .before .before .before .before .before .before .before .before .before .before .before .before .before in
     let o : length (s .args .self .slots .order) ≡ 64 = order-long s in
     left-fewer _ (s .pre) _ _ o _ _ (c .before .before .before .before .before .before .before .before .before .before .before .matched .ensures) (c .before .before .before .before .before .before .before .before .before .before .drop .ensures)
@@ -45,7 +45,7 @@ same-length : tie.Need-same-length
 same-length c = search needs
 
 returns : tie.Need-returns
-returns c = 
+returns c =
     let s = c .before .before .before .before .before .before .before .before .before .before .before .before .before .before .before in
     let o : length (s .args .self .slots .order) ≡ 64 = order-long s in
     updated-is _ (s .pre) _ _ o _ _

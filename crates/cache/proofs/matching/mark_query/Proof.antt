@@ -1,6 +1,6 @@
 -- `matching::mark_query` meets its contract. The invariants: the clauses left, and of one clause the slots left, are still to be marked (`Clauses`, `Marking`). The
 -- measures are the clauses and the slots left. Assumes nothing.
-use Prim.Native.Nat.{_+_, _-_}
+use Prim.Native.Nat.{_-_}
 use native.Mathlib.Omega.{arith}
 use borrow.Author.Needs.{needs}
 use mathlib.Core.Path.{_≡_, sym, ap, _∙_}
@@ -86,13 +86,12 @@ loop2-again c =
     let l = c .before .before .before .before .loop2 in
     let t = c .before .before .before .loop2-test .taken in
     let H = l .inv .0 in
-    let e = agrees c in
-    (
+    let e = agrees c in (
       H,
       ⊎-elim
-      (λ w. rw (w .1) (marking-yes _ _ _ _ _ _ (omega (arith, H .few, H .order-64)) t (l .inv .1) (e true (w .0 .taken))))
-      (λ w. rw (w .1) (marking-no _ _ _ _ _ _ (omega (arith, H .few, H .order-64)) t (l .inv .1) (e false (w .0 .left))))
-      (c .if1 .came),
+          (λ w. rw (w .1) (marking-yes _ _ _ _ _ _ (omega (arith, H .few, H .order-64)) t (l .inv .1) (e true (w .0 .taken))))
+          (λ w. rw (w .1) (marking-no _ _ _ _ _ _ (omega (arith, H .few, H .order-64)) t (l .inv .1) (e false (w .0 .left))))
+          (c .if1 .came),
     )
 
 add-i : tie.Need-add-i Inv-loop2 μ-loop2 Inv-loop μ-loop
@@ -104,8 +103,7 @@ loop-less c = search needs
 loop-again : tie.Need-loop-again Inv-loop2 μ-loop2 Inv-loop μ-loop
 loop-again c =
     let l = c .before .before .before .before .before .loop in
-    let f = c .before .before .filled .ensures ∙ ap (filledOf _) (c .before .before .before .clause-pattern .ensures) in
-    (
+    let f = c .before .before .filled .ensures ∙ ap (filledOf _) (c .before .before .before .clause-pattern .ensures) in (
       l .inv .0,
       l .inv .1,
       clauses-more _ _ _ _ _ _ _ _ _ _ _ _ _ (omega (arith, l .inv .1)) f (l .inv .2) (c .loop2-test .left) (c .before .loop2 .inv .1),

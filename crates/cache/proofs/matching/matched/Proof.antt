@@ -55,16 +55,15 @@ loop-less c = search needs
 loop-again : tie.Need-loop-again Inv-loop μ-loop
 loop-again c =
     let l = c .before .before .before .loop in
-    let t = c .before .before .loop-test .taken in
-    (
+    let t = c .before .before .loop-test .taken in (
       l .inv .0,
       l .inv .1,
       l .inv .2,
       l .inv .3,
       ⊎-elim
-      (λ w. rw (w .2) (queries-yes _ _ _ _ _ _ _ _ t (l .inv .4) _ (l .inv .1) (l .inv .3) _ _ (w .0 .taken) (l .inv .2) (w .1 .ensures)))
-      (λ w. rw (w .1) (queries-no _ _ _ _ _ _ _ _ t (l .inv .4) _ (l .inv .1) (l .inv .3) (w .0 .left)))
-      (c .if1 .came),
+          (λ w. rw (w .2) (queries-yes _ _ _ _ _ _ _ _ t (l .inv .4) _ (l .inv .1) (l .inv .3) _ _ (w .0 .taken) (l .inv .2) (w .1 .ensures)))
+          (λ w. rw (w .1) (queries-no _ _ _ _ _ _ _ _ t (l .inv .4) _ (l .inv .1) (l .inv .3) (w .0 .left)))
+          (c .if1 .came),
     )
 
 returns : tie.Need-returns Inv-loop μ-loop

@@ -53,13 +53,12 @@ loop-again : tie.Need-loop-again Inv-loop μ-loop
 loop-again c =
     let l = c .before .before .before .before .loop in
     let t = c .before .before .before .loop-test .taken in
-    let k = key-at _ _ _ (l .inv .0) _ t _ in
-    (
+    let k = key-at _ _ _ (l .inv .0) _ t _ in (
       l .inv .0,
       ⊎-elim
-      (λ w. rw (w .1) (finding-more _ _ _ (l .inv .0) _ _ t (l .inv .1) _ k (w .0 .taken)))
-      (λ w. rw (w .1) (finding-skip _ _ _ (l .inv .0) _ _ t (l .inv .1) _ k (w .0 .left)))
-      (c .if1 .came),
+          (λ w. rw (w .1) (finding-more _ _ _ (l .inv .0) _ _ t (l .inv .1) _ k (w .0 .taken)))
+          (λ w. rw (w .1) (finding-skip _ _ _ (l .inv .0) _ _ t (l .inv .1) _ k (w .0 .left)))
+          (c .if1 .came),
     )
 
 returns : tie.Need-returns Inv-loop μ-loop

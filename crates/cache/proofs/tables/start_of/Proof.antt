@@ -16,7 +16,7 @@ areas-requires-2 : tie.Need-areas-requires-2
 areas-requires-2 c κs = search needs
 
 returns-2 : tie.Need-returns-2
-returns-2 c = 
+returns-2 c =
     let l : length (c .before .before .args .tables) ≡ 8 = search needs in
     c .areas2 .ensures ∙ areas-past _ _ l (c .before .if1 .left)
 

@@ -20,7 +20,7 @@ none-requires : tie.Need-none-requires
 none-requires c κs = search needs
 
 returns-2 : tie.Need-returns-2
-returns-2 c = 
+returns-2 c =
     let l : length (c .before .before .before .args .t1) ≡ 8 = search needs in
     ap (λ (r : Statement). r .table) (c .before .none .ensures) ∙ table-past (c .before .before .before .args .t1) _ l (c .before .before .if1 .left)
 
