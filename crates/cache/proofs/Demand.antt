@@ -1,5 +1,10 @@
--- The claims of specs/Demand. Demand 3 is shown on a model (crate `trace`): the plain store beside the kept answers. A list of calls follows the model (proofs/Follows),
--- so what holds of every list there holds of the state. Assumes nothing.
+-- The claims of specs/Demand, and the argument for demand 3 from top to bottom:
+-- 1. what the table layer states: on a sound state each call does to tables and statements what it does to the plain store that the state stands for (proofs/Standing,
+--    Plainly), the state stays sound (StaysSound), and the answers that an update drops are those that it matches (Dropping, from the patterns' laws);
+-- 2. what the slots keep: finding, moving to the front, taking the last slot and dropping are those of the model of crate `trace` (Model, Finds, Caches);
+-- 3. why they agree: so each call meets the model's step (Meets), and a list of calls follows the model's list (Follows). There the kept answers are those of `recent`,
+--    read off the history of the plain store, and each is the plain store's record of now (trace/proofs/Past, Kept, Same, Anew);
+-- 4. what follows: what holds of every list in the model holds of the state (below). Assumes nothing.
 use mathlib.Core.Path.{_≡_, refl, sym, ap, _∙_, subst, subst₂}
 use mathlib.Core.Logic.{_⊎_, inl, inr}
 use mathlib.Core.Bool.{Bool, true, false, cond}
@@ -22,7 +27,7 @@ use Rattle.trace.specs.Demand as D
 use Rattle.trace.proofs.Demand.{demands as on-model}
 use Rattle.cache.specs.Sound.{opening}
 use Rattle.cache.specs.Run.{Start, openingOf, opened, Call, add, ask, update, flush, Got, Seen, step, after, plainCall, gotOf, plainAfter}
-use Rattle.cache.specs.Demand.{SameAsPlain, slotCount, slotSize, past, nextAsk, AnewOnlyIf, KeptOtherwise, Values32, AnswerReadsBack, Demands}
+use Rattle.cache.specs.Demand.{SameAsPlain, slotCount, slotSize, past, nextAsk, AnewOnlyIf, KeptOtherwise, RowsRead, Values32, AnswerReadsBack, Demands}
 use Rattle.cache.proofs.Refusals.{lowest-number, refused-changes-nothing}
 use Rattle.cache.proofs.StaysSound.{opens-sound, stays-sound}
 use Rattle.cache.proofs.Standing.{stands-for-plain}
@@ -111,6 +116,35 @@ kept-otherwise o cs k buffer e asked fit hit few =
     next o cs k buffer .kept
     ∙ on-model .kept-otherwise (startOf o) (map plainCall cs) k (length buffer) (a .0) (a .1) asked (rw (size-is o) fit) hit (rw (size-is o, slots-are o) few)
 
+-- what a question gets in the model: a refusal, a kept answer, or the rows of its table read
+abbrev AskSeen : Model → Key → T.Seen → Type 0
+AskSeen m k x = ((n : ℕ) × (x .out ≡ refused (suc n))) ⊎ ((x .kept ≡ 1) ⊎ (x .scanned ≡ P.rowsAsked (m .store) (k .query)))
+
+guard-seen : (n : ℕ) (m : Model) (k : Key) (q : Model × T.Seen) → AskSeen m k (q .1) → AskSeen m k (P.guard n m turned q .1)
+guard-seen zero m k q a = a
+guard-seen (suc n) m k q a = inl (n, refl)
+
+ask-seen : (lent : Lengths) (size : ℕ) (m : Model) (k : Key) (b : ℕ) → AskSeen m k (T.step lent size m (P.ask k b) .1)
+ask-seen lent size m k b = guard-seen (T.askRefusal lent (m .store) k) m k _ (go (find sameKey k (m .cache .held)))
+  where
+    go : (o : Option (Held Key × List (Held Key))) → AskSeen m k (asked lent size m k b o .1)
+    go none = guard-seen (T.shortRefusal b (recordOf (m .store) k)) m k _ (inr (inr refl))
+    go (some w) = guard-seen (T.shortRefusal b (slotBytes size (m .cache .memory) (w .0))) m k _ (inr (inl refl))
+
+pub rows-read : RowsRead
+rows-read o cs k buffer e z = go (ask-seen (openingOf o .lent) (T.slotSize (openingOf o)) (D.afterCalls (startOf o) (map plainCall cs)) k (length buffer))
+  where
+    go : AskSeen (D.afterCalls (startOf o) (map plainCall cs)) k (D.nextCall (startOf o) (map plainCall cs) (P.ask k (length buffer)))
+        → nextAsk o cs k buffer .scanned ≡ P.rowsAsked (plainAfter o cs) (k .query)
+    go (inl (n, y)) =
+        let a : 0 ≡ suc n = sym e ∙ ap (λ (x : Got). x .refusal) (next o cs k buffer .got ∙ ap (gotOf buffer) y) in
+        absurd (omega arith)
+    go (inr (inl y)) =
+        let a : _≡_ {A = ℕ} 0 1 = sym z ∙ next o cs k buffer .kept ∙ y in
+        absurd (omega arith)
+    go (inr (inr y)) =
+        next o cs k buffer .scanned ∙ y ∙ ap (λ (p : Plain). P.rowsAsked p (k .query)) (on-model .same-as-plain (startOf o) (map plainCall cs) .1)
+
 pub answer-reads-back : AnswerReadsBack
 answer-reads-back o cs v k buffer e =
     let a = next-answer o cs k buffer e in
@@ -132,5 +166,6 @@ demands = record {
   same-as-plain = same-as-plain;
   anew-only-if = anew-only-if;
   kept-otherwise = kept-otherwise;
+  rows-read = rows-read;
   answer-reads-back = answer-reads-back;
 }

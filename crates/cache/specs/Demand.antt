@@ -145,6 +145,11 @@ KeptOtherwise = (o : Start) (cs : List Call) (k : Key) (buffer : List ℕ) → n
     → fits (slotSize o) (recordOf (plainAfter o cs) k) ≡ true → any (hits k) (since sameKey k (past o cs)) ≡ false
     → ¬ Filled (slotSize o) (slotCount o) k (since sameKey k (past o cs)) → nextAsk o cs k buffer .kept ≡ 1
 
+-- "rows read (0 if kept, else the table's row count)": of a question that is worked out anew, the rows that its table has on the plain store
+abbrev pub RowsRead : Type 0
+RowsRead = (o : Start) (cs : List Call) (k : Key) (buffer : List ℕ) → nextAsk o cs k buffer .got .refusal ≡ 0 → nextAsk o cs k buffer .kept ≡ 0
+    → nextAsk o cs k buffer .scanned ≡ P.rowsAsked (plainAfter o cs) (k .query)
+
 -- Demand 2, "A new answer, and under 3's premises a kept one, holds exactly the rows, in order, that the SQL meaning set down there gives, and its record reads back as
 -- those rows": the answer buffer of every question that is answered, with whatever stands behind the record.
 
@@ -172,4 +177,5 @@ pub record Demands : Type 0 where
   pub same-as-plain : SameAsPlain
   pub anew-only-if : AnewOnlyIf
   pub kept-otherwise : KeptOtherwise
+  pub rows-read : RowsRead
   pub answer-reads-back : AnswerReadsBack
