@@ -7,7 +7,8 @@ use Rattle.examples.proofs.run_all.Statement.{statement}
 use Rattle.examples.proofs.run_all.Tie as tie
 
 abbrev Inv-loop : tie.InvT-loop
-Inv-loop input numbers₀ cells₀ memory₀ answer₀ s₀ at₀ numbers cells memory answer s at = (length numbers ≡ length numbers₀) × (length cells ≡ length cells₀) × (length memory ≡ length memory₀) × (length answer ≡ length answer₀)
+Inv-loop input numbers₀ cells₀ memory₀ answer₀ s₀ at₀ numbers cells memory answer s at =
+    (length numbers ≡ length numbers₀) × (length cells ≡ length cells₀) × (length memory ≡ length memory₀) × (length answer ≡ length answer₀)
 
 abbrev μ-loop : tie.MeasureT-loop
 μ-loop input numbers₀ cells₀ memory₀ answer₀ s₀ at₀ numbers cells memory answer s at = length input - at
