@@ -47,6 +47,7 @@ use Rattle.cache.proofs.Sounds.{Sound, sound-is}
 use Rattle.cache.proofs.Standing.{compiled-more}
 use Rattle.cache.proofs.Meanings.{schemas-mean, table-count, query-count, update-count}
 use Rattle.cache.proofs.Refused.{Same, settled-same, unfit-is}
+use Rattle.cache.proofs.Parts.{take-more}
 
 -- ---- what a text is judged by
 
@@ -109,11 +110,6 @@ new-table : (t : Schema) (start : ℕ) (cells : List ℤ) → tableIn (tableStru
 new-table t start cells =
     ap₂ (λ (x : Schema) (r : List Row). record { schema = x; rows = r }) (schema-back t)
     (no-rows (leb (start + rowCells (tableStruct t)) (length cells)))
-
-take-more : {A : Type 0} (l : List A) (n : ℕ) (x : A) → n < length l → take (n + 1) (set l n x) ≡ take n l ++ x ∷ []
-take-more l n x h =
-    let e : n + 1 ≡ suc n = omega arith in
-    ap (λ k. take k (set l n x)) e ∙ take-suc-set l n x h
 
 -- ---- the statement added, beside what the state stands for
 

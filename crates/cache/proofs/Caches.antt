@@ -31,7 +31,8 @@ use Rattle.cache.specs.Means.{Typed}
 use Rattle.cache.specs.Calls as calls
 use Rattle.cache.specs.Calls.{withCache, bytesAt, fitsSlot, kept, keptMemory}
 use Rattle.cache.proofs.Sounds.{Sound, HeldSound}
-use Rattle.cache.proofs.Dropping.{keep-same, held-after}
+use Rattle.cache.proofs.Parts.{keep-same}
+use Rattle.cache.proofs.Dropping.{held-after}
 use Rattle.cache.proofs.Model.{heldIn, cacheIn, cacheOf, drop-free, Last, last-is, none-last}
 
 module _ (s : State) (T : Typed s) (S : Sound s) (memory : List ℕ) where

@@ -32,13 +32,9 @@ use Rattle.cache.specs.Demand.{keysHeld, DropsExactlyMatched}
 use Rattle.cache.proofs.Sounds.{schemasIn, Sound, sound-is, query-at, update-at}
 use Rattle.cache.proofs.Meanings.{query-agrees, update-agrees}
 use Rattle.cache.proofs.Updating.{update-number, update-there}
+use Rattle.cache.proofs.Parts.{keep-same}
 
 -- ---- lists
-
--- tests that are the same of every member keep the same
-pub keep-same : {A : Type 0} (p q : A → Bool) {l : List A} → All (λ x. p x ≡ q x) l → keep p l ≡ keep q l
-keep-same p q nil = refl
-keep-same p q (cons {x = x} e h) = ap₂ (λ b r. consIf b x r) e (keep-same p q h)
 
 -- ---- what is held after a drop
 pub held-after : (p : ℕ → Bool) (l : SlotList) → heldSlots (dropBy p l) ≡ keep (λ (x : ℕ). not (p x)) (heldSlots l)

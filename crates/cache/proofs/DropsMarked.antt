@@ -20,11 +20,7 @@ use Rattle.cache.specs.Marks.{marksOf}
 use Rattle.cache.specs.Calls.{isMatched, dropBy}
 use Rattle.cache.proofs.Sounds.{Sound}
 use Rattle.cache.proofs.Marks.{marks-match}
-
--- tests that are the same of every member keep the same
-keep-same : {A : Type 0} (p q : A → Bool) {l : List A} → All (λ x. p x ≡ q x) l → keep p l ≡ keep q l
-keep-same p q nil = refl
-keep-same p q (cons {x = x} e h) = ap₂ (λ b r. consIf b x r) e (keep-same p q h)
+use Rattle.cache.proofs.Parts.{keep-same}
 
 module _ (p : ℕ → Bool) (s : SlotList) (gone : List Bool) (h : All (λ x. isMarked gone x ≡ p x) (heldSlots s)) where
   left-same : keep (λ (x : ℕ). not (isMarked gone x)) (heldSlots s) ≡ keep (λ (x : ℕ). not (p x)) (heldSlots s)

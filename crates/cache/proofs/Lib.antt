@@ -1,3 +1,4 @@
+pub mod Parts
 pub mod Sounds
 pub mod Tested
 pub mod Settled

@@ -27,6 +27,7 @@ use Rattle.cache.specs.declared.Added.{Added}
 use Rattle.cache.specs.Sound.{soundState}
 use Rattle.cache.specs.Calls.{settled, unfit, compiledBeside, addRefused, addedOf, hasPlace, addedBy, addRefusal, addOf}
 use Rattle.cache.proofs.Tested.{counts-few, counts-of}
+use Rattle.cache.proofs.Settled.{settled-refused, settled-done}
 
 -- ---- refusal 9: a text that is not refused has a place
 
@@ -93,16 +94,6 @@ module _ (s : State) (c : Statement) (r : Added) where
 
 -- ---- a text
 
-pub settled-done : {X : Type 0} (n : ℕ) (done refused : X) → n ≡ 0 → settled n done refused ≡ done
-unfolding settled
-settled-done zero done refused e = refl
-settled-done (suc n) done refused e = absurd (omega arith)
-
-pub settled-refused : {X : Type 0} (n : ℕ) (done refused : X) → (n ≡ 0 → ⊥) → settled n done refused ≡ refused
-unfolding settled
-settled-refused zero done refused h = absurd (h refl)
-settled-refused (suc n) done refused h = refl
-
 module _ (s : State) (cells memory : ℕ) (text : List ℕ) (bad : Bool) (tested : bad ≡ unfit s cells memory) where
   refusal-is : (b : Bool) → bad ≡ b → addRefusal s cells memory text ≡ cond b 2 (compiledBeside s text .refusal)
   unfolding addRefusal
@@ -110,16 +101,16 @@ module _ (s : State) (cells memory : ℕ) (text : List ℕ) (bad : Bool) (tested
 
   pub add-unfit : bad ≡ true → (r : Added) → r ≡ addRefused s 2 → r ≡ addOf s cells memory text
   unfolding addOf
-  add-unfit h r e = rw (refusal-is true h) (e ∙ sym (settled-refused 2 _ _ (λ z. omega arith)))
+  add-unfit h r e = rw (refusal-is true h) (e ∙ settled-refused 2 _ _ (λ z. omega arith))
 
   module _ (h : bad ≡ false) (c : Statement) (said : c ≡ compiledBeside s text) where
     pub add-refused : (c .refusal ≡ 0 → ⊥) → (r : Added) → r ≡ addRefused s (c .refusal) → r ≡ addOf s cells memory text
     unfolding addOf
-    add-refused n r e = rw (refusal-is false h, ← said) (e ∙ sym (settled-refused (c .refusal) _ _ n))
+    add-refused n r e = rw (refusal-is false h, ← said) (e ∙ settled-refused (c .refusal) _ _ n)
 
     pub add-done : c .refusal ≡ 0 → (r : Added) → r ≡ addedBy s c → r ≡ addOf s cells memory text
     unfolding addOf
-    add-done z r e = rw (refusal-is false h, ← said) (e ∙ sym (settled-done (c .refusal) _ _ z))
+    add-done z r e = rw (refusal-is false h, ← said) (e ∙ settled-done (c .refusal) _ _ z)
 
     is-sound : soundState s ≡ true
     unfolding unfit

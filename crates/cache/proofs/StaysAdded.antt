@@ -46,6 +46,7 @@ use Rattle.cache.specs.Means.{usedQueries, usedUpdates, Typed}
 use Rattle.cache.specs.Run.{Store, add, step}
 use Rattle.cache.proofs.Sounds.{Sound, KeySound, schemasIn}
 use Rattle.cache.proofs.StaysCases.{by-add}
+use Rattle.cache.proofs.Parts.{take-more}
 
 -- ---- refusal 9: a text that is not refused has a place
 
@@ -124,11 +125,8 @@ module _ (text : List ℕ) (tables : List Table) (used queries updates cells : �
 -- ---- one more at the end of those in use
 
 module _ {A : Type 0} where
-  one-more : (l : List A) (n : ℕ) (x : A) → n < length l → take (n + 1) (set l n x) ≡ take n l ++ (x ∷ [])
-  one-more l n x h = ap (λ (k : ℕ). take k (set l n x)) (add-one n) ∙ take-suc-set l n x h
-
   All-more : {P : A → Type 0} (l : List A) (n : ℕ) (x : A) → n < length l → P x → All P (take n l) → All P (take (n + 1) (set l n x))
-  All-more {P} l n x h p a = subst (All P) (sym (one-more l n x h)) (All-append a (cons p nil))
+  All-more {P} l n x h p a = subst (All P) (sym (take-more l n x h)) (All-append a (cons p nil))
 
 module _ (s : State) (T : Typed s) (S : Sound s) where
   -- ---- a question
@@ -253,7 +251,7 @@ module _ (s : State) (T : Typed s) (S : Sound s) (t : Table) (ok : soundTable (s
   created = addedTable s t .state
 
   used-more : usedTables created ≡ usedTables s ++ (t ∷ [])
-  used-more = one-more (s .tables) (s .«table_count») t (omega (arith, T .eight-tables))
+  used-more = take-more (s .tables) (s .«table_count») t (omega (arith, T .eight-tables))
 
   schemas-more : schemasIn created ≡ schemasIn s ++ (schemaOf t ∷ [])
   schemas-more = ap (map schemaOf) used-more ∙ map-append schemaOf (usedTables s) (t ∷ [])

@@ -24,13 +24,9 @@ use Rattle.cache.specs.declared.State.{State}
 use Rattle.cache.specs.Calls.{withCache, putIn, dropBy}
 use Rattle.cache.specs.Means.{Typed}
 use Rattle.cache.proofs.Sounds.{KeySound, Sound, held-below}
+use Rattle.cache.proofs.Parts.{keep-same}
 
 -- ---- lists
-
--- tests that are the same of every member keep the same
-keep-same : (p q : ℕ → Bool) {l : List ℕ} → All (λ x. p x ≡ q x) l → keep p l ≡ keep q l
-keep-same p q nil = refl
-keep-same p q (cons {x = x} e h) = ap₂ (λ (b : Bool) (r : List ℕ). consIf b x r) e (keep-same p q h)
 
 mark-from : (p : ℕ → Bool) (i n x : ℕ) → x < n → getD (map p (from i n)) x false ≡ p (i + x)
 mark-from p i zero x h = absurd (omega arith)
