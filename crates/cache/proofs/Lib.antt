@@ -10,7 +10,6 @@ pub mod AskReturns
 pub mod Marks
 pub mod Marking
 pub mod DropsMarked
-pub mod TableNumbers
 pub mod UpdateReturns
 pub mod Flushing
 pub mod Refusals

@@ -8,36 +8,63 @@ use native.Mathlib.Omega.{arith}
 use borrow.Author.Tests.{leb-false, le-leb, lt-leb, eq-eqb, ne-eqb}
 use lib.Dec.{eqb, leb}
 use lib.IntN.{ℤ}
-use lib.ListN.{length, getD, set}
+use lib.ListN.{length, getD, length-map}
+use lib.Seq.{length-take-le}
 use Rattle.lists.specs.Lists.{count}
 use Rattle.lists.proofs.Lists.{All-head, All-tail}
 use Rattle.lists.proofs.Places.{getD-inside}
+use Rattle.meaning.specs.Limits.{most-tables, most-updates, most-slots}
 use Rattle.meaning.specs.Plain.{orElse}
 use Rattle.meaning.proofs.Accepted.{clear}
 use Rattle.statement.specs.declared.Table.{Table}
 use Rattle.statement.specs.declared.Update.{Update}
-use Rattle.statement.specs.Compiled.{noUpdate}
+use Rattle.statement.specs.Compiled.{noTable, noUpdate}
+use Rattle.statement.specs.Catalog.{schemaOf}
+use Rattle.statement.specs.Sound.{soundUpdate}
+use Rattle.statement.proofs.SoundUpdate.{update-parts}
 use Rattle.table.specs.Changed.{changeOf, cellsAfter}
 use Rattle.table.specs.declared.changes.Changed.{Changed}
 use Rattle.slots.specs.declared.SlotList.{SlotList}
 use Rattle.slots.specs.Order.{heldSlots, dropOf}
 use Rattle.cache.specs.declared.State.{State}
-use Rattle.cache.specs.Sound.{soundState}
+use Rattle.cache.specs.Sound.{usedTables, soundState}
 use Rattle.cache.specs.Marks.{marksOf}
 use Rattle.cache.specs.Calls.{unfit, tableAt, startOf, updateAt, isFull, Updates, updates, updateConditions, updateRefusal, isMatched, dropBy, withRows, withChange, updateRefused, updateDone, updateOf}
-use Rattle.cache.proofs.Sounds.{Sound, sound-is}
+use Rattle.cache.proofs.Sounds.{schemasIn, Sound, sound-is, All-first}
 use Rattle.cache.proofs.Settled.{settled-refused, settled-done, fit-is}
 use Rattle.cache.proofs.DropsMarked.{drop-marked, drop-fewer, drop-count, marks-matched}
 
+-- ---- an update and its table, whatever stands in past the end
+
+-- the lengths of the arrays
+pub record Long (s : State) : Type 0 where
+  pub tables : length (s .tables) ≡ most-tables
+  pub updates : length (s .updates) ≡ most-updates
+
+pub table-below : (s : State) → soundState s ≡ true → (i : ℕ) → i < s .«table_count» → i < most-tables
+table-below s h i k = omega (arith, sound-is s h .few-tables)
+
+table-read : (s : State) → soundState s ≡ true → length (s .tables) ≡ most-tables → (i : ℕ) (d : Table) → i < s .«table_count» → getD (s .tables) i d ≡ tableAt s i
+table-read s h l i d k = getD-inside (s .tables) i d noTable (omega (arith, table-below s h i k))
+
+module _ (s : State) (h : soundState s ≡ true) (L : Long s) (i : ℕ) (k : i < s .«update_count») where
+  pub update-below : i < most-updates
+  update-below = omega (arith, sound-is s h .few-updates)
+
+  update-read : (d : Update) → getD (s .updates) i d ≡ updateAt s i
+  update-read d = getD-inside (s .updates) i d noUpdate (omega (arith, update-below, L .updates))
+
+  -- its table exists
+  pub table-there : (d : Update) → getD (s .updates) i d .table < s .«table_count»
+  table-there d =
+      let u : Update = getD (s .updates) i d in
+      let S : Sound s = sound-is s h in
+      let sound : soundUpdate (schemasIn s) u ≡ true =
+      All-first {P = λ (x : Update). soundUpdate (schemasIn s) x ≡ true} (s .«update_count») (s .updates) i d (omega (arith, S .few-updates, L .updates)) k (S .updates) in
+      let long : length (schemasIn s) ≡ s .«table_count» = length-map (usedTables s) schemaOf ∙ length-take-le (s .«table_count») (s .tables) (omega (arith, S .few-tables, L .tables)) in
+      omega (arith, update-parts (schemasIn s) u sound .there)
+
 -- ---- the refusals
-
--- there are at most 16 updates
-pub below-16 : (s : State) (update : ℕ) → soundState s ≡ true → update < s .«update_count» → update < 16
-below-16 s update t h = omega (arith, sound-is s t .few-updates)
-
--- an update read, whatever stands in past the end
-read-is : (s : State) (update : ℕ) (d : Update) → length (s .updates) ≡ 16 → update < 16 → getD (s .updates) update d ≡ updateAt s update
-read-is s update d l h = getD-inside (s .updates) update d noUpdate (omega arith)
 
 module _ (s : State) (cells memory update values : ℕ) where
   -- as far as the tests were made
@@ -50,42 +77,43 @@ module _ (s : State) (cells memory update values : ℕ) where
   unfit-refused e = refusal-is true _ _ _ e refl refl refl
 
   module _ (f : unfit s cells memory ≡ false) where
+    sound : soundState s ≡ true
+    sound = fit-is s cells memory f .sound
+
     pub unknown-refused : s .«update_count» ≤ update → 10 ≡ updateRefusal s cells memory update values
     unknown-refused h = refusal-is false true _ _ f (le-leb (s .«update_count») update h) refl refl
 
-    module _ (h : update < s .«update_count») (long : length (s .updates) ≡ 16) (d : Update) where
+    module _ (h : update < s .«update_count») (L : Long s) (d : Update) where
       abbrev u : Update
       u = getD (s .updates) update d
-
-      update-read : u ≡ updateAt s update
-      update-read = read-is s update d long (below-16 s update (fit-is s cells memory f .sound) h)
 
       there : leb (s .«update_count») update ≡ false
       there = lt-leb (s .«update_count») update h
 
+      parameters-are : u .parameters ≡ updateAt s update .parameters
+      parameters-are = ap (λ (u : Update). u .parameters) (update-read s sound L update h d)
+
       pub values-refused : values ≢ u .parameters → 11 ≡ updateRefusal s cells memory update values
-      values-refused k = refusal-is false false true _ f there (ap not (ne-eqb values (updateAt s update .parameters) (λ e. k (e ∙ ap (λ (u : Update). u .parameters) (sym update-read))))) refl
+      values-refused k = refusal-is false false true _ f there (ap not (ne-eqb values (updateAt s update .parameters) (λ e. k (e ∙ sym parameters-are)))) refl
 
       -- a table that is full, or is not
-      pub full-refused : values ≡ u .parameters → (t : Table) → t ≡ tableAt s (u .table) → (b : Bool) → (eqb (u .form) 0 && leb (t .capacity) (t .rows)) ≡ b
+      pub full-refused : values ≡ u .parameters → (e : Table) (b : Bool) → let t = getD (s .tables) (u .table) e in (eqb (u .form) 0 && leb (t .capacity) (t .rows)) ≡ b
           → orElse b 12 0 ≡ updateRefusal s cells memory update values
-      full-refused k t r b e =
-          refusal-is false false false b f there (ap not (eq-eqb values (updateAt s update .parameters) (k ∙ ap (λ (u : Update). u .parameters) update-read)))
-          (ap (isFull s) (sym update-read) ∙ ap (λ (t : Table). eqb (u .form) 0 && leb (t .capacity) (t .rows)) (sym r) ∙ e)
+      full-refused k e b q =
+          let t : getD (s .tables) (u .table) e ≡ tableAt s (u .table) = table-read s sound (L .tables) (u .table) e (table-there s sound L update h d) in
+          refusal-is false false false b f there (ap not (eq-eqb values (updateAt s update .parameters) (k ∙ parameters-are)))
+          (ap (isFull s) (sym (update-read s sound L update h d)) ∙ ap (λ (t : Table). eqb (u .form) 0 && leb (t .capacity) (t .rows)) (sym t) ∙ q)
 
   -- an update that is not refused
-  pub record Fits : Type 0 where
+  pub record Accepted : Type 0 where
     pub sound : soundState s ≡ true
     pub there : update < s .«update_count»
-    pub few : update < 16
 
-  pub not-refused : updateRefusal s cells memory update values ≡ 0 → Fits
+  pub accepted : updateRefusal s cells memory update values ≡ 0 → Accepted
   unfolding updateRefusal
-  not-refused e =
+  accepted e =
       let a = clear 0 (updateConditions s cells memory update values) refl .0 e in
-      let t : soundState s ≡ true = fit-is s cells memory (All-head a) .sound in
-      let l : update < s .«update_count» = leb-false (s .«update_count») update (All-head (All-tail a)) in
-      record { sound = t; there = l; few = below-16 s update t l }
+      record { sound = fit-is s cells memory (All-head a) .sound; there = leb-false (s .«update_count») update (All-head (All-tail a)) }
 
 -- ---- refused or done
 
@@ -94,58 +122,47 @@ module _ (s : State) (cells : List ℤ) (memory update : ℕ) (values : List ℤ
   unfolding updateOf
   update-refused h = rw (← e) (settled-refused n _ _ h)
 
-  pub update-done : n ≡ 0 → length (s .updates) ≡ 16 → (d : Update) (o : Updates) → o ≡ updateDone s cells (getD (s .updates) update d) values
-      → o ≡ updateOf s cells memory update values
+  pub update-done : n ≡ 0 → Long s → (d : Update) (o : Updates) → o ≡ updateDone s cells (getD (s .updates) update d) values → o ≡ updateOf s cells memory update values
   unfolding updateOf
-  update-done z l d o k =
-      let r : getD (s .updates) update d ≡ updateAt s update = read-is s update d l (not-refused s (length cells) memory update (length values) (sym e ∙ z) .few) in
-      k ∙ ap (λ (u : Update). updateDone s cells u values) r ∙ rw (← e) (settled-done n _ _ z)
+  update-done z L d o k =
+      let A = accepted s (length cells) memory update (length values) (sym e ∙ z) in
+      k ∙ ap (λ (u : Update). updateDone s cells u values) (update-read s (A .sound) L update (A .there) d) ∙ rw (← e) (settled-done n _ _ z)
 
 -- ---- what is done
 
-module _ (s : State) (h : soundState s ≡ true) (u : Update) (values : List ℤ) (long : length (s .slots .order) ≡ 64) (gone : List Bool) (left : SlotList)
+module _ (s : State) (h : soundState s ≡ true) (long : length (s .slots .order) ≡ most-slots) (u : Update) (values : List ℤ) (gone : List Bool) (left : SlotList)
     (g : gone ≡ marksOf (s .keys) (s .slots) (s .queries) (s .«query_count») u values) (l : left ≡ dropOf (s .slots) gone) where
+  abbrev test : ℕ → Bool
+  test = isMatched s u values
+
   S : Sound s
   S = sound-is s h
 
   held-few : s .slots .held ≤ length (s .slots .order)
   held-few = omega (arith, S .slots .few, S .slots .within)
 
-  dropped-is : left ≡ dropOf (s .slots) (marksOf (s .keys) (s .slots) (s .queries) (s .«query_count») u values)
-  dropped-is = l ∙ ap (dropOf (s .slots)) g
+  dropped : left ≡ dropOf (s .slots) (marksOf (s .keys) (s .slots) (s .queries) (s .«query_count») u values)
+  dropped = l ∙ ap (dropOf (s .slots)) g
 
   pub left-fewer : left .held ≤ s .slots .held
-  left-fewer = rw dropped-is (drop-fewer (isMatched s u values) (s .slots) _ (marks-matched s u values S) held-few)
+  left-fewer = rw dropped (drop-fewer test (s .slots) _ (marks-matched s u values S) held-few)
 
-  left-is : left ≡ dropBy (isMatched s u values) (s .slots)
-  left-is = dropped-is ∙ drop-marked (isMatched s u values) (s .slots) _ (marks-matched s u values S)
+  left-is : left ≡ dropBy test (s .slots)
+  left-is = dropped ∙ drop-marked test (s .slots) _ (marks-matched s u values S)
 
-  fewer-is : s .slots .held - left .held ≡ count (isMatched s u values) (heldSlots (s .slots))
-  fewer-is = rw dropped-is (drop-count (isMatched s u values) (s .slots) _ (marks-matched s u values S) held-few)
+  fewer-is : s .slots .held - left .held ≡ count test (heldSlots (s .slots))
+  fewer-is = rw dropped (drop-count test (s .slots) _ (marks-matched s u values S) held-few)
 
-  pub updated-is : (cells after : List ℤ) (t : Table) (start : ℕ) (done : Changed) (tables : List Table) → t ≡ tableAt s (u .table) → start ≡ startOf s (u .table)
-      → done ≡ changeOf u t start cells values → after ≡ cellsAfter u t start cells values
-      → tables ≡ set (s .tables) (u .table) (withRows (tableAt s (u .table)) (done .rows))
+  pub updated-is : length (s .tables) ≡ most-tables → u .table < s .«table_count» → (cells after : List ℤ) (d : Table) (start : ℕ) (done : Changed)
+      → let t = getD (s .tables) (u .table) d in
+      start ≡ startOf s (u .table) → done ≡ changeOf u t start cells values → after ≡ cellsAfter u t start cells values
       → updates
       (record {
         refusal = 0;
         rows = done .count;
         invalidated = s .slots .held - left .held;
-        state = record {
-          tables = tables;
-          queries = s .queries;
-          updates = s .updates;
-          keys = s .keys;
-          lengths = s .lengths;
-          slots = left;
-          «table_count» = s .«table_count»;
-          «query_count» = s .«query_count»;
-          «update_count» = s .«update_count»;
-          «slot_bytes» = s .«slot_bytes»;
-          cells = s .cells;
-          memory = s .memory;
-        };
+        state = withChange s (u .table) (withRows t (done .rows)) left;
       })
       after ≡ updateDone s cells u values
-  unfolding updateDone withChange
-  updated-is cells after t start done tables et es ed ea eg = rw (eg, fewer-is, left-is, ed, ea, et, es)
+  unfolding updateDone
+  updated-is lt k cells after d start done es ed ea = rw (fewer-is, left-is, ed, ea, table-read s h lt (u .table) d k, es)

@@ -2,7 +2,6 @@
 mod matching; // which cached answers an update invalidates
 mod lent; // bytes and cells of the lent memories
 mod sound; // the test of a state
-mod tables; // one of the tables
 
 use slots::Found;
 use slots::Key;
@@ -470,8 +469,7 @@ impl State {
         if values != (u.parameters as usize) {
             return Refusal::VALUES;
         }
-        let tables = self.tables;
-        let t = tables::table_at(tables, u.table as usize);
+        let t = self.tables[u.table as usize];
         if (u.form == Update::INSERT) & (t.capacity <= t.rows) {
             return Refusal::FULL;
         }
@@ -480,7 +478,7 @@ impl State {
 
     // The rows changed, and the slots of the answers that the update matches dropped.
     fn updated(mut self, cells: &mut [i32], u: Update, values: &[i32]) -> Updated
-        requires { ⌜ soundState self ≡ true ⌝ }
+        requires { ⌜ (soundState self ≡ true) × (u .table < self .«table_count») ⌝ }
         ensures { λ r. ⌜ updates r (now (cells .exit)) ≡ updateDone self (now (cells .entry)) u (now (values .entry)) ⌝ }
     {
         let slots = self.slots;
@@ -490,11 +488,11 @@ impl State {
         let left = slots.drop(gone);
         let tables = self.tables;
         let i = u.table as usize;
-        let t = tables::table_at(tables, i);
-        let start = tables::start_of(tables, i);
+        let mut t = self.tables[i];
+        let start = sound::areas(tables, i);
         let done = table::change(u, t, start, cells, values);
-        let changed = tables::with_rows(tables, i, done.rows);
-        self.tables = changed;
+        t.rows = done.rows;
+        self.tables[i] = t;
         self.slots = left;
         Updated {
             refusal: 0,

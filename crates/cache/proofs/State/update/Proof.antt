@@ -1,19 +1,20 @@
--- `State::update` meets its contract: refused or done (`update-refused`, `update-done`). Assumes nothing.
-use mathlib.Core.Path.{_≡_, sym, _∙_}
+-- `State::update` meets its contract: refused or done. Assumes nothing.
+use mathlib.Core.Path.{sym, _∙_}
 use native.Mathlib.Omega.{arith}
 use borrow.Author.Needs.{needs}
 use lib.ListN.{length, length-map}
-use Rattle.cache.proofs.UpdateReturns.{Fits, not-refused, update-refused, update-done}
+use Rattle.cache.proofs.UpdateReturns.{Long, update-below, table-there, Accepted, accepted, update-refused, update-done}
 use Rattle.cache.proofs.State.update.Statement.{statement}
 use Rattle.cache.proofs.State.update.Tie as tie
 
+-- the lengths of the arrays
+long : (c : tie.Start) → Long (c .args .t1)
+long c = record { tables = simp length-map at (c .good .0 .1 .1 .0 .1 .0 .1); updates = simp length-map at (c .good .0 .1 .1 .1 .1 .0 .1 .0 .1) }
+
 known : (c : tie.Else1) →
     let a = c .before .before .before .args in
-    Fits (a .t1) (length (a .cells .now)) (length (a .memory .now)) (a .update) (length (a .values .now))
-known c = not-refused _ _ _ _ _ (sym (c .before .update-refusal .ensures) ∙ c .if1 .left)
-
-updates-long : (c : tie.Start) → length (c .args .t1 .updates) ≡ 16
-updates-long c = simp length-map at (c .good .0 .1 .1 .1 .1 .0 .1 .0 .1)
+    Accepted (a .t1) (length (a .cells .now)) (length (a .memory .now)) (a .update) (length (a .values .now))
+known c = accepted _ _ _ _ _ (sym (c .before .update-refusal .ensures) ∙ c .if1 .left)
 
 update-refusal-requires : tie.Need-update-refusal-requires
 update-refusal-requires c κs = search needs
@@ -21,14 +22,16 @@ update-refusal-requires c κs = search needs
 returns : tie.Need-returns
 returns c = update-refused _ _ _ _ _ _ (c .before .update-refusal .ensures) (c .if1 .taken)
 
-mul-u : tie.Need-mul-u
-mul-u c = omega (arith, known c .few)
-
 element-copy-out-u : tie.Need-element-copy-out-u
-element-copy-out-u c = known c .few
+element-copy-out-u c = update-below _ (known c .sound) (long (c .before .before .before)) _ (known c .there)
+
+mul-u : tie.Need-mul-u
+mul-u c = omega (arith, element-copy-out-u c)
 
 updated-requires : tie.Need-updated-requires
-updated-requires c κs = known (c .before .before) .sound
+updated-requires c κs =
+    let K = known (c .before .before) in
+    (K .sound, table-there _ (K .sound) (long (c .before .before .before .before .before)) _ (K .there) _)
 
 same-length : tie.Need-same-length
 same-length c = search needs
@@ -36,7 +39,7 @@ same-length c = search needs
 returns-2 : tie.Need-returns-2
 returns-2 c =
     let e = c .before .before .before .before in
-    update-done _ _ _ _ _ _ (e .before .update-refusal .ensures) (e .if1 .left) (updates-long (e .before .before .before)) _ _ (c .before .updated .ensures)
+    update-done _ _ _ _ _ _ (e .before .update-refusal .ensures) (e .if1 .left) (long (e .before .before .before)) _ _ (c .before .updated .ensures)
 
 pub update-spec : {M : Type 1} → statement M
 update-spec =

@@ -2,18 +2,23 @@
 use mathlib.Core.Path.{_≡_, sym, _∙_}
 use mathlib.Core.Bool.{true, false}
 use borrow.Author.Needs.{needs}
-use lib.ListN.{length, length-map}
+use lib.ListN.{length-map}
+use Rattle.cache.specs.Sound.{soundState}
 use Rattle.cache.specs.Calls.{unfit}
 use Rattle.cache.proofs.Settled.{fit-is}
-use Rattle.cache.proofs.UpdateReturns.{below-16, unfit-refused, unknown-refused, values-refused, full-refused}
+use Rattle.cache.proofs.UpdateReturns.{Long, table-below, update-below, table-there, unfit-refused, unknown-refused, values-refused, full-refused}
 use Rattle.cache.proofs.State.update_refusal.Statement.{statement}
 use Rattle.cache.proofs.State.update_refusal.Tie as tie
+
+-- the lengths of the arrays
+long : (c : tie.Start) → Long (c .args .t1)
+long c = record { tables = simp length-map at (c .good .0 .1 .1 .0 .1 .0 .1); updates = simp length-map at (c .good .0 .1 .1 .1 .1 .0 .1 .0 .1) }
 
 fit : (c : tie.Else1) → unfit (c .before .before .args .t1) (c .before .before .args .cells) (c .before .before .args .memory) ≡ false
 fit c = sym (c .before .is-unfit .ensures) ∙ c .if1 .left
 
-updates-long : (c : tie.Start) → length (c .args .t1 .updates) ≡ 16
-updates-long c = simp length-map at (c .good .0 .1 .1 .1 .1 .0 .1 .0 .1)
+sound : (c : tie.Else1) → soundState (c .before .before .args .t1) ≡ true
+sound c = fit-is _ _ _ (fit c) .sound
 
 is-unfit-requires : tie.Need-is-unfit-requires
 is-unfit-requires c κs = search needs
@@ -31,7 +36,7 @@ mul-u : tie.Need-mul-u
 mul-u c = search needs
 
 element-copy-out-u : tie.Need-element-copy-out-u
-element-copy-out-u c = below-16 _ _ (fit-is _ _ _ (fit (c .before)) .sound) (c .if2 .left)
+element-copy-out-u c = update-below _ (sound (c .before)) (long (c .before .before .before)) _ (c .if2 .left)
 
 cast-if3 : tie.Need-cast-if3
 cast-if3 c = search needs
@@ -39,23 +44,28 @@ cast-if3 c = search needs
 returns-3 : tie.Need-returns-3
 returns-3 c =
     let e = c .before .before .before in
-    values-refused _ _ _ _ _ (fit (e .before)) (e .if2 .left) (updates-long (e .before .before .before)) _ (c .if3 .taken)
+    values-refused _ _ _ _ _ (fit (e .before)) (e .if2 .left) (long (e .before .before .before)) _ (c .if3 .taken)
 
-cast-table-at : tie.Need-cast-table-at
-cast-table-at c = search needs
+cast-t : tie.Need-cast-t
+cast-t c = search needs
 
-table-at-requires : tie.Need-table-at-requires
-table-at-requires c κs = search needs
+mul-t : tie.Need-mul-t
+mul-t c = search needs
+
+element-copy-out-t : tie.Need-element-copy-out-t
+element-copy-out-t c =
+    let e = c .before .before .before .before in
+    table-below _ (sound (e .before)) _ (table-there _ (sound (e .before)) (long (e .before .before .before)) _ (e .if2 .left) _)
 
 returns-4 : tie.Need-returns-4
 returns-4 c =
-    let e = c .before .before .before .before .before .before .before .before .before in
-    full-refused _ _ _ _ _ (fit (e .before)) (e .if2 .left) (updates-long (e .before .before .before)) _ (c .before .before .before .before .before .before .if3 .left) _ (c .before .before .before .table-at .ensures) true (c .if4 .taken)
+    let e = c .before .before .before .before .before .before .before .before in
+    full-refused _ _ _ _ _ (fit (e .before)) (e .if2 .left) (long (e .before .before .before)) _ (c .before .before .before .before .before .if3 .left) _ true (c .if4 .taken)
 
 returns-5 : tie.Need-returns-5
 returns-5 c =
-    let e = c .before .before .before .before .before .before .before .before .before in
-    full-refused _ _ _ _ _ (fit (e .before)) (e .if2 .left) (updates-long (e .before .before .before)) _ (c .before .before .before .before .before .before .if3 .left) _ (c .before .before .before .table-at .ensures) false (c .if4 .left)
+    let e = c .before .before .before .before .before .before .before .before in
+    full-refused _ _ _ _ _ (fit (e .before)) (e .if2 .left) (long (e .before .before .before)) _ (c .before .before .before .before .before .if3 .left) _ false (c .if4 .left)
 
 pub update-refusal-spec : {M : Type 1} → statement M
 update-refusal-spec =
@@ -69,7 +79,8 @@ update-refusal-spec =
     element-copy-out-u
     cast-if3
     returns-3
-    cast-table-at
-    table-at-requires
+    cast-t
+    mul-t
+    element-copy-out-t
     returns-4
     returns-5)

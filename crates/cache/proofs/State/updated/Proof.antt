@@ -1,21 +1,28 @@
 -- `State::updated` meets its contract: the promises of the calls, put into one law (`updated-is`). Assumes nothing.
+use Prim.Native.Nat.{_<_}
 use mathlib.Core.Path.{_≡_}
+use native.Mathlib.Omega.{arith}
 use borrow.Author.Needs.{needs}
-use lib.ListN.{length}
+use lib.ListN.{length, length-map}
 use Rattle.slots.proofs.Laws.{is-sound}
+use Rattle.cache.specs.Calls.{withChange}
 use Rattle.cache.proofs.Sounds.{sound-is}
-use Rattle.cache.proofs.UpdateReturns.{left-fewer, updated-is}
+use Rattle.cache.proofs.UpdateReturns.{table-below, left-fewer, updated-is}
 use Rattle.cache.proofs.State.updated.Statement.{statement}
 use Rattle.cache.proofs.State.updated.Tie as tie
 
-order-long : (c : tie.Start) → length (c .args .self .slots .order) ≡ 64
+tables-long : (c : tie.Start) → length (c .args .t1 .tables) ≡ 8
+tables-long c = simp length-map at (c .good .0 .1 .1 .0 .1 .0 .1)
+
+order-long : (c : tie.Start) → length (c .args .t1 .slots .order) ≡ 64
 order-long c = search needs
 
+-- the update's table is one of the state's
+inside : (c : tie.Start) → c .args .u .table < 8
+inside c = table-below _ (c .pre .0) _ (c .pre .1)
+
 matched-requires : tie.Need-matched-requires
-matched-requires c κs =
-    let s = c .before .before .before in
-    let S = sound-is (s .args .self) (s .pre) in
-    (is-sound _ (S .slots), S .few-queries)
+matched-requires c κs = let S = sound-is _ (c .before .before .before .pre .0) in (is-sound _ (S .slots), S .few-queries)
 
 drop-requires : tie.Need-drop-requires
 drop-requires c κs = search needs
@@ -23,39 +30,40 @@ drop-requires c κs = search needs
 cast-i : tie.Need-cast-i
 cast-i c = search needs
 
-table-at-requires : tie.Need-table-at-requires
-table-at-requires c κs = search needs
+mul-t : tie.Need-mul-t
+mul-t c = search needs
 
-start-of-requires : tie.Need-start-of-requires
-start-of-requires c κs = search needs
+element-copy-out-t : tie.Need-element-copy-out-t
+element-copy-out-t c = inside (c .before .before .before .before .before .before .before)
+
+areas-requires : tie.Need-areas-requires
+areas-requires c κs = omega (arith, inside (c .before .before .before .before .before .before .before .before))
 
 change-requires : tie.Need-change-requires
 change-requires c κs = search needs
 
-with-rows-requires : tie.Need-with-rows-requires
-with-rows-requires c κs = search needs
+mul-t-2 : tie.Need-mul-t-2
+mul-t-2 c = search needs
 
-sub-t18 : tie.Need-sub-t18
-sub-t18 c =
-    let s = c .before .before .before .before .before .before .before .before .before .before .before .before .before .before .before in
-    let o : length (s .args .self .slots .order) ≡ 64 = order-long s in
-    left-fewer _ (s .pre) _ _ o _ _ (c .before .before .before .before .before .before .before .before .before .before .before .matched .ensures) (c .before .before .before .before .before .before .before .before .before .before .drop .ensures)
+element-set-from-t : tie.Need-element-set-from-t
+element-set-from-t c = inside (c .before .before .before .before .before .before .before .before .before .before .before .before)
+
+sub-t16 : tie.Need-sub-t16
+sub-t16 c =
+    let s = c .before .before .before .before .before .before .before .before .before .before .before .before .before .before in
+    left-fewer _ (s .pre .0) (order-long s) _ _ _ _ (c .before .before .before .before .before .before .before .before .before .before .matched .ensures) (c .before .before .before .before .before .before .before .before .before .drop .ensures)
 
 same-length : tie.Need-same-length
 same-length c = search needs
 
 returns : tie.Need-returns
+unfolding withChange
 returns c =
-    let s = c .before .before .before .before .before .before .before .before .before .before .before .before .before .before .before in
-    let o : length (s .args .self .slots .order) ≡ 64 = order-long s in
-    updated-is _ (s .pre) _ _ o _ _
-    (c .before .before .before .before .before .before .before .before .before .before .before .matched .ensures)
-    (c .before .before .before .before .before .before .before .before .before .before .drop .ensures) _ _ _ _ _ _
-    (c .before .before .before .before .before .before .before .table-at .ensures)
-    (c .before .before .before .before .before .before .start-of .ensures)
-    (c .before .before .before .before .change .ensures .0)
-    (c .before .before .before .before .change .ensures .1)
-    (c .before .before .with-rows .ensures)
+    let s = c .before .before .before .before .before .before .before .before .before .before .before .before .before .before in
+    updated-is _ (s .pre .0) (order-long s) _ _ _ _ (c .before .before .before .before .before .before .before .before .before .before .matched .ensures) (c .before .before .before .before .before .before .before .before .before .drop .ensures) (tables-long s) (s .pre .1) _ _ _ _ _
+    (c .before .before .before .before .before .areas .ensures)
+    (c .before .before .before .change .ensures .0)
+    (c .before .before .before .change .ensures .1)
 
 pub updated-spec : {M : Type 1} → statement M
 updated-spec =
@@ -64,10 +72,12 @@ updated-spec =
     matched-requires
     drop-requires
     cast-i
-    table-at-requires
-    start-of-requires
+    mul-t
+    element-copy-out-t
+    areas-requires
     change-requires
-    with-rows-requires
-    sub-t18
+    mul-t-2
+    element-set-from-t
+    sub-t16
     same-length
     returns)
