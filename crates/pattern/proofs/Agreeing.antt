@@ -1,15 +1,14 @@
 -- A pattern with values, and beside the values of a key: entry by entry. Assumes nothing.
 use mathlib.Core.Path.{_≡_, refl, sym, ap, ap₂, _∙_}
-use mathlib.Core.Bool.{Bool, true, false, _&&_, and-true, cond}
+use mathlib.Core.Bool.{Bool, true, false, _&&_, cond}
 use mathlib.Core.List.{List, [], _∷_, map}
 use Prim.Native.Nat.{ℕ, zero, suc, _+_, _≤_, _<_, min}
 use native.Mathlib.Omega.{arith}
 use lib.IntN.{ℤ, pos}
-use lib.ListN.{length, take, drop, getD, replicate, length-map, length-take, drop-of-length-le, List·getD-eq-default}
+use lib.ListN.{length, take, getD, replicate, length-map, length-take, List·getD-eq-default}
 use borrow.Author.Tests.{lt-ltb, le-ltb}
 use lib.Seq.{getD-take}
 use Rattle.lists.specs.Tests.{eqZ}
-use Rattle.lists.proofs.Bools.{and-assoc}
 use Rattle.meaning.specs.Pattern as P
 use Rattle.meaning.specs.Pattern.{agreesAt, agrees, anything}
 use Rattle.statement.specs.declared.Query.{Query}
@@ -19,8 +18,8 @@ use Rattle.pattern.specs.declared.Entry.the-variants.{Constant, Paramete
 use Rattle.pattern.specs.declared.Place.{Place}
 use Rattle.pattern.specs.declared.Pattern.{Pattern}
 use Rattle.pattern.specs.Stored.{relevant, joint, allAny, entryCount, clauseTotal, patternStruct, noPattern, clausePattern, patternAt, filledEntry, entryRead, placeRead, agreesStored}
-use Rattle.pattern.proofs.Mapped.{getD-map-in}
-use Rattle.pattern.proofs.Searching.{drop-next}
+use Rattle.pattern.proofs.Mapped.{getD-map-in, getD-any}
+use Rattle.pattern.proofs.Searching.{Pairwise, pair-more, pair-done}
 use Rattle.pattern.proofs.Relevant.{take-few}
 
 -- ---- entries
@@ -53,7 +52,7 @@ agrees-short (z ∷ qs) (e ∷ es) ne = ap (λ (b : Bool). agreesAt [] e z && b)
     go true = refl
     go false = refl
 
--- the first n of each: all agreed so far, and those from the i-th on do, exactly if all do
+-- the first n entries and values
 module _ (entries : List Place) (values : List ℤ) (n : ℕ) where
   abbrev qs : List ℤ
   qs = take n values
@@ -62,7 +61,7 @@ module _ (entries : List Place) (values : List ℤ) (n : ℕ) where
   es = map placeRead (take n entries)
 
   abbrev pub Agreeing : Bool → ℕ → Type 0
-  Agreeing good i = (good && agrees [] (drop i qs) (drop i es)) ≡ agrees [] qs es
+  Agreeing good i = Pairwise (agrees []) qs es good i
 
   module _ (pl : length entries ≡ 8) (vl : length values ≡ 8) (few : n ≤ 8) where
     qs-length : length qs ≡ n
@@ -74,23 +73,13 @@ module _ (entries : List Place) (values : List ℤ) (n : ℕ) where
     pub agree-more : (good b : Bool) (i : ℕ) (z : ℤ) (e d : Place) → i < n → z ≡ getD values i (pos 0) → e ≡ getD entries i d → b ≡ agreesAt [] (placeRead e) z
         → Agreeing good i → Agreeing (good && b) (i + 1)
     agree-more good b i z e d h ez ee eb inv =
-        let q : getD qs i (pos 0) ≡ z = getD-take n values i (pos 0) h ∙ sym ez in
+        let q : getD qs i z ≡ z = getD-take n values i z h ∙ getD-any values i z (pos 0) (omega arith) ∙ sym ez in
         let r : getD es i (placeRead e) ≡ placeRead e =
         getD-map-in placeRead (take n entries) i d (placeRead e) (omega (arith, length-take n entries)) ∙ ap placeRead (getD-take n entries i d h ∙ sym ee) in
-        let nq : drop i qs ≡ z ∷ drop (i + 1) qs = drop-next qs i (pos 0) (omega (arith, qs-length)) ∙ ap (λ (x : ℤ). x ∷ drop (i + 1) qs) q in
-        let ne : drop i es ≡ placeRead e ∷ drop (i + 1) es = drop-next es i (placeRead e) (omega (arith, es-length)) ∙ ap (λ (x : P.Entry). x ∷ drop (i + 1) es) r in
-        sym (and-assoc good b (agrees [] (drop (i + 1) qs) (drop (i + 1) es)))
-        ∙ ap (λ (t : Bool). good && (t && agrees [] (drop (i + 1) qs) (drop (i + 1) es))) eb
-        ∙ sym (ap₂ (λ (x : List ℤ) (y : List P.Entry). good && agrees [] x y) nq ne)
-        ∙ inv
+        pair-more (agrees []) qs es (λ x y. agreesAt [] y x) (λ x y l m. refl) good b i z (placeRead e) (omega (arith, qs-length)) (omega (arith, es-length)) q r eb inv
 
     agree-all : (good : Bool) (i : ℕ) → n ≤ i → Agreeing good i → good ≡ agrees [] qs es
-    agree-all good i h inv =
-        let lq : length qs ≤ i = omega (arith, qs-length) in
-        let le : length es ≤ i = omega (arith, es-length) in
-        sym (and-true good)
-        ∙ sym (ap₂ (λ (x : List ℤ) (y : List P.Entry). good && agrees [] x y) (drop-of-length-le qs lq) (drop-of-length-le es le))
-        ∙ inv
+    agree-all good i h inv = pair-done (agrees []) qs es refl good i (omega (arith, qs-length)) (omega (arith, es-length)) inv
 
 module _ (p : Pattern) (values : List ℤ) (count : ℕ) (pl : length (p .entries) ≡ 8) (vl : length values ≡ 8) where
   pub not-there : p .there ≡ false → false ≡ agreesStored p (take count values)

@@ -58,13 +58,13 @@ use Rattle.pattern.proofs.Clauses.{joint-have}
 
 -- ---- question marks are numbered from 1
 
-abbrev Counted : Joint → Type 0
+abbrev pub Counted : Joint → Type 0
 Counted (column i) = Unit {0}
 Counted (constant z) = Unit {0}
 Counted (asked k) = Unit {0}
 Counted (given k) = 1 ≤ k
 
-abbrev CountedEntry : P.Entry → Type 0
+abbrev pub CountedEntry : P.Entry → Type 0
 CountedEntry (number z) = Unit {0}
 CountedEntry (mark k) = 1 ≤ k
 CountedEntry anything = Unit {0}
@@ -83,7 +83,7 @@ value-counted : (v : Value) → Counted (ofValue (valueRead v))
 value-counted (Given.Constant z) = tt
 value-counted (Given.Parameter k) = omega arith
 
-joint-counted : (q : Query) (u : Update) → All (λ (cs : Clause). All Counted (sides cs)) (joint q u)
+pub joint-counted : (q : Query) (u : Update) → All (λ (cs : Clause). All Counted (sides cs)) (joint q u)
 joint-counted q u =
     joint-have Counted tt q u
     (All-every (λ c. (query-counted (c .left), query-counted (c .right))) (usedComparisons (q .condition)))
@@ -101,10 +101,10 @@ entry-counted cs h k =
     go [] (m ∷ ms) a = lowest-within 1 m ms a
     go (z ∷ zs) ks a = tt
 
-pattern-counted : (n : ℕ) (cs : Clause) → All Counted (sides cs) → All CountedEntry (pattern n cs)
+pub pattern-counted : (n : ℕ) (cs : Clause) → All Counted (sides cs) → All CountedEntry (pattern n cs)
 pattern-counted n cs h = All-image (entry cs) (All-every (entry-counted cs h) (from 1 n))
 
-any-counted : (n : ℕ) → All CountedEntry (replicate n anything)
+pub any-counted : (n : ℕ) → All CountedEntry (replicate n anything)
 any-counted zero = nil
 any-counted (suc n) = cons tt (any-counted n)
 

@@ -18,3 +18,4 @@ pub mod Adding
 pub mod ClausePatterns
 pub mod JointClauses
 pub mod Agreeing
+pub mod Listed

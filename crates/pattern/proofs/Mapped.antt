@@ -37,6 +37,12 @@ getD-map-in f [] i d e h = absurd (not-suc-le-zero h)
 getD-map-in f (x ∷ xs) zero d e h = refl
 getD-map-in f (x ∷ xs) (suc i) d e h = getD-map-in f xs i d e (le-of-suc-le-suc h)
 
+-- what stands at a place inside the list does not hang on what stands in past its end
+pub getD-any : {A : Type 0} (l : List A) (i : ℕ) (d e : A) → i < length l → getD l i d ≡ getD l i e
+getD-any [] i d e h = absurd (not-suc-le-zero h)
+getD-any (x ∷ l) zero d e h = refl
+getD-any (x ∷ l) (suc i) d e h = getD-any l i d e (le-of-suc-le-suc h)
+
 pub map-drop : {A B : Type 0} (f : A → B) (n : ℕ) (l : List A) → drop n (map f l) ≡ map f (drop n l)
 map-drop f zero l = refl
 map-drop f (suc n) [] = refl

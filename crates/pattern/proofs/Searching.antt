@@ -1,6 +1,6 @@
--- Loops that go up a list: whether some member passes a test, how many do, and an array filled from another. Assumes nothing.
+-- Loops that go up a list: whether some member passes a test, how many do, an array filled from another, and two lists compared. Assumes nothing.
 use mathlib.Core.Path.{_≡_, refl, sym, ap, ap₂, _∙_}
-use mathlib.Core.Bool.{Bool, true, false, cond, _||_, or-false}
+use mathlib.Core.Bool.{Bool, true, false, cond, _&&_, _||_, or-false, and-true}
 use mathlib.Core.List.{List, [], _∷_, _++_, map}
 use Prim.Native.Nat.{ℕ, zero, suc, _+_, _≤_, _<_}
 use native.Mathlib.Numerals.{add-one}
@@ -8,7 +8,7 @@ use native.Mathlib.Omega.{arith}
 use lib.ListN.{length, getD, take, drop, set, length-map, drop-of-length-le}
 use lib.Seq.{drop-cons, take-all, paste}
 use Rattle.lists.specs.Lists.{any, consIf, keep, count}
-use Rattle.lists.proofs.Bools.{or-assoc}
+use Rattle.lists.proofs.Bools.{or-assoc, and-assoc}
 use Rattle.table.proofs.Copied.{pasted}
 use Rattle.pattern.proofs.Mapped.{getD-map-in}
 
@@ -65,3 +65,26 @@ module _ {A B : Type 0} (f : A → B) (l : List A) (blank : List B) (room : leng
       let z : 0 + k ≡ length l = omega arith in
       let n : length (map f l) ≡ length l = length-map l f in
       inv ∙ ap₂ (λ (x : List B) (j : ℕ). x ++ drop j blank) (take-all k (map f l) (omega arith)) z
+
+-- two lists member by member: all passed so far, and those from the i-th on do, exactly if all do
+abbrev pub Pairwise : {A B : Type 0} → (List A → List B → Bool) → List A → List B → Bool → ℕ → Type 0
+Pairwise F xs ys good i = (good && F (drop i xs) (drop i ys)) ≡ F xs ys
+
+module _ {A B : Type 0} (F : List A → List B → Bool) (xs : List A) (ys : List B) where
+  pub pair-more : (f : A → B → Bool) → ((x : A) (y : B) (l : List A) (m : List B) → F (x ∷ l) (y ∷ m) ≡ (f x y && F l m))
+      → (good b : Bool) (i : ℕ) (x : A) (y : B) → i < length xs → i < length ys → getD xs i x ≡ x → getD ys i y ≡ y → b ≡ f x y
+      → Pairwise F xs ys good i → Pairwise F xs ys (good && b) (i + 1)
+  pair-more f step good b i x y h l ex ey e inv =
+      let nx : drop i xs ≡ x ∷ drop (i + 1) xs = drop-next xs i x h ∙ ap (λ (z : A). z ∷ drop (i + 1) xs) ex in
+      let ny : drop i ys ≡ y ∷ drop (i + 1) ys = drop-next ys i y l ∙ ap (λ (z : B). z ∷ drop (i + 1) ys) ey in
+      sym (and-assoc good b (F (drop (i + 1) xs) (drop (i + 1) ys)))
+      ∙ ap (λ (t : Bool). good && t) (ap (λ (t : Bool). t && F (drop (i + 1) xs) (drop (i + 1) ys)) e ∙ sym (step x y (drop (i + 1) xs) (drop (i + 1) ys)))
+      ∙ sym (ap₂ (λ (l : List A) (m : List B). good && F l m) nx ny)
+      ∙ inv
+
+  pub pair-done : F [] [] ≡ true → (good : Bool) (i : ℕ) → length xs ≤ i → length ys ≤ i → Pairwise F xs ys good i → good ≡ F xs ys
+  pair-done end good i h l inv =
+      sym (and-true good)
+      ∙ ap (λ (t : Bool). good && t) (sym end)
+      ∙ sym (ap₂ (λ (l : List A) (m : List B). good && F l m) (drop-of-length-le xs h) (drop-of-length-le ys l))
+      ∙ inv

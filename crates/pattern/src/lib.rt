@@ -2,6 +2,7 @@
 mod filling; // entries with the update's values
 mod joint; // a joint clause in arrays
 mod labels; // the classes of a joint clause, and its pattern
+mod listing; // the list of patterns
 mod masks; // the clauses of a condition
 mod pairing; // the joint clauses of a query and an update
 mod relevance; // rules 1 and 2
@@ -10,7 +11,7 @@ use table::Query;
 use table::Update;
 ghost use mathlib.Core.Path.{_≡_};
 ghost use lib.ListN.{take};
-ghost use Rattle.pattern.specs.Stored.{clauseTotal, patternAt, filledOf, agreesStored};
+ghost use Rattle.pattern.specs.Stored.{clauseTotal, patternAt, patternList, filledOf, agreesStored};
 
 // What a pattern asks of a value of a key: that it is this constant, or the update's parameter of this number (counted from 0), or nothing.
 pub enum Entry {
@@ -87,6 +88,35 @@ pub struct Patterns {
 impl Patterns {
     // The most joint clauses that are worked out (rule 5).
     pub const CLAUSES: usize = 64;
+
+    // The patterns of a query and an update, in the order of their clauses.
+    pub fn of(query: Query, update: Update) -> Patterns
+        ensures { λ r. ⌜ r ≡ patternList query update ⌝ }
+    {
+        let total = clause_total(query, update);
+        let mut items = listing::no_patterns();
+        let mut count: usize = 0;
+        let mut i: u8 = 0;
+        while i < total {
+            let p = clause_pattern(query, update, i);
+            let mut seen = false;
+            let mut j: usize = 0;
+            while j < count {
+                let other = items[j];
+                seen = seen | listing::same(other, p);
+                j += 1;
+            }
+            if p.there & !seen {
+                items[count] = p;
+                count += 1;
+            }
+            i += 1;
+        }
+        Patterns {
+            items,
+            count: count as u8,
+        }
+    }
 }
 
 // How many joint clauses there are to look at.
