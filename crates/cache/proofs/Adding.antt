@@ -9,8 +9,7 @@ use native.Mathlib.Omega.{arith}
 use borrow.Author.Tests.{leb-false}
 use lib.Dec.{leb, ltb}
 use lib.IntN.{ℤ, natAbs}
-use lib.ListN.{length, take, set, length-map, length-replicate}
-use lib.Seq.{take-suc-set}
+use lib.ListN.{length, length-map, length-replicate}
 use Rattle.lists.proofs.Bools.{or-left}
 use Rattle.meaning.specs.Cells.{areasSize}
 use Rattle.meaning.specs.Grammar as G

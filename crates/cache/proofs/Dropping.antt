@@ -1,6 +1,6 @@
 -- An update drops exactly the kept answers whose keys it matches on the plain store. What crate `pattern` states of stored statements is the parameter `mean`.
 -- Assumes nothing.
-use mathlib.Core.Path.{_≡_, refl, sym, ap, ap₂, _∙_}
+use mathlib.Core.Path.{_≡_, refl, sym, ap, _∙_}
 use mathlib.Core.Bool.{Bool, true, not}
 use mathlib.Core.List.{List, [], _∷_, map, append-assoc}
 use Prim.Native.Nat.{ℕ, zero, suc, _<_}
@@ -8,7 +8,7 @@ use native.Mathlib.Omega.{arith}
 use lib.IntN.{ℤ}
 use lib.ListN.{length, take, drop, length-map}
 use lib.Seq.{take-at}
-use Rattle.lists.specs.Lists.{All, nil, cons, consIf, keep, count}
+use Rattle.lists.specs.Lists.{All, keep, count}
 use Rattle.lists.proofs.Lists.{All-map, keep-map}
 use Rattle.meaning.specs.Key.{Key}
 use Rattle.meaning.specs.Names.{Schema}

@@ -7,7 +7,7 @@ use native.Mathlib.Omega.{arith}
 use lib.IntN.{ℤ}
 use lib.ListN.{length, drop}
 use lib.Seq.{length-take-le}
-use Rattle.lists.specs.Lists.{All, nil, cons, consIf, keep, count}
+use Rattle.lists.specs.Lists.{All, keep, count}
 use Rattle.lists.proofs.Lists.{All-map}
 use Rattle.lists.proofs.Changed.{member-has, members-have}
 use Rattle.lists.proofs.Moved.{parted-length}

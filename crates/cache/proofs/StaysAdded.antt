@@ -4,13 +4,12 @@ use mathlib.Core.Bool.{true, false}
 use mathlib.Core.Option.{Option, none, some}
 use mathlib.Core.List.{List, [], _∷_, _++_, map, append-assoc, append-nil}
 use Prim.Native.Nat.{ℕ, zero, suc, _+_, _*_, _-_, _≤_, _<_}
-use native.Mathlib.Numerals.{add-one}
 use native.Mathlib.Omega.{arith}
 use borrow.Author.Tests.{ltb-false, leb-false}
 use lib.Dec.{leb, ltb}
 use lib.IntN.{natAbs}
 use lib.ListN.{length, take, drop, set, length-append, length-map, length-replicate, List·getD-append}
-use lib.Seq.{take-suc-set, getD-set-other, length-take-le}
+use lib.Seq.{getD-set-other, length-take-le}
 use Rattle.lists.specs.Lists.{All, nil, cons, all}
 use Rattle.lists.proofs.Bools.{and-left, and-right, and-both, or-left, or-right, clash}
 use Rattle.lists.proofs.Lists.{All-head, All-tail, All-map, All-append, All-take, map-append}

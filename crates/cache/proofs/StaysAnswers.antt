@@ -9,7 +9,7 @@ use native.Mathlib.Decide.{decLt}
 use native.Mathlib.Omega.{arith}
 use lib.ListN.{length, drop, getD, set}
 use lib.Seq.{getD-set-same, getD-set-other}
-use Rattle.lists.specs.Lists.{All, nil, cons, consIf, keep, from}
+use Rattle.lists.specs.Lists.{All, cons, keep, from}
 use Rattle.lists.proofs.Lists.{All-map, All-both, All-left, All-keep}
 use Rattle.lists.proofs.Moved.{Moved, moved-All}
 use Rattle.meaning.specs.Limits.{most-slots, least-slot-bytes}

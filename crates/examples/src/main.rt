@@ -42,7 +42,7 @@ enum Command {
 }
 
 // The state, and the lengths that are lent: of the cells, the cache memory and the answer buffer.
-struct Session {
+struct Store {
     state: State,
     cells: usize,
     memory: usize,
@@ -183,8 +183,8 @@ fn run_command(
     state
 }
 
-// The session with the lengths that a command says.
-fn with_lengths(mut s: Session, command: Command, n: &[i32]) -> Session {
+// The store with the lengths that a command says.
+fn with_lengths(mut s: Store, command: Command, n: &[i32]) -> Store {
     match command {
         Command::Open | Command::Lend => {
             s.cells = number(n, 0);
@@ -200,14 +200,14 @@ fn with_lengths(mut s: Session, command: Command, n: &[i32]) -> Session {
 
 // A command, on as much of the memories as is lent.
 fn run_lent(
-    mut s: Session,
+    mut s: Store,
     command: Command,
     text: &[u8],
     n: &[i32],
     cells: &mut [i32],
     memory: &mut [u8],
     answer: &mut [u8],
-) -> Session {
+) -> Store {
     let c = least(s.cells, cells.len());
     let m = least(s.memory, memory.len());
     let a = least(s.answer, answer.len());
@@ -228,26 +228,26 @@ fn run_lent(
 }
 
 fn run_line(
-    session: Session,
+    store: Store,
     line: &[u8],
     numbers: &mut [i32],
     cells: &mut [i32],
     memory: &mut [u8],
     answer: &mut [u8],
-) -> Session {
+) -> Store {
     let end = lines::find(line, 0, b' ');
     let command = command_named(&line[0..end]);
     let text = lines::behind(line, end);
     let count = lines::read_numbers(text, lines::numbers_start(text), numbers);
     let n = &numbers[0..count];
-    let s = with_lengths(session, command, n);
+    let s = with_lengths(store, command, n);
     run_lent(s, command, text, n, cells, memory, answer)
 }
 
 // ---- all lines
 
-// A session without a store.
-fn no_session(cells: &mut [i32], memory: &mut [u8]) -> Session {
+// A store without a store.
+fn no_store(cells: &mut [i32], memory: &mut [u8]) -> Store {
     let opened = State::open(
         &mut cells[0..0],
         &mut memory[0..0],
@@ -255,7 +255,7 @@ fn no_session(cells: &mut [i32], memory: &mut [u8]) -> Session {
         SlotList::LEAST_BYTES,
     );
     let state = opened.state;
-    Session {
+    Store {
         state,
         cells: 0,
         memory: 0,
@@ -270,7 +270,7 @@ fn run_all(
     memory: &mut [u8],
     answer: &mut [u8],
 ) {
-    let mut s = no_session(cells, memory);
+    let mut s = no_store(cells, memory);
     let mut at = 0;
     while at < input.len() {
         let end = lines::find(input, at, b'\n');

@@ -2,7 +2,7 @@
 -- query and an update that texts compile to, they are the patterns of their sentences (proofs/Laws). A struct whose condition no text compiles to is treated
 -- as one with too many clauses. Assumes nothing: these are definitions.
 use mathlib.Core.Bool.{Bool, true, false, not, _&&_, _||_, cond}
-use mathlib.Core.List.{List, [], _∷_, _++_, map}
+use mathlib.Core.List.{List, [], _++_, map}
 use Prim.Native.Nat.{ℕ, zero, suc, min}
 use lib.Dec.{eqb, leb, ltb}
 use lib.IntN.{ℤ, pos}

@@ -1,6 +1,6 @@
 use Prim.Native.Nat.{ℕ}
 use mathlib.Core.Path.{sym, ap, ap₂, _∙_}
-use mathlib.Core.List.{List, map}
+use mathlib.Core.List.{map}
 use borrow.Author.Needs.{needs}
 use Rattle.statement.specs.Places.{operatorAt}
 use Rattle.pattern.specs.Least.{renameCode}

@@ -1,8 +1,6 @@
 -- `clause_at` meets its contract, by what its callees ensure. Assumes nothing.
-use Prim.Native.Nat.{_≤_, _<_}
 use mathlib.Core.Path.{sym, ap, _∙_}
 use native.Mathlib.Omega.{arith}
-use Rattle.meaning.specs.Pattern.{Clause}
 use Rattle.pattern.specs.Stored.{entryCount, clausePattern}
 use Rattle.pattern.proofs.JointClauses.{product-few, insert-below, insert-chosen, first-chosen, second-chosen}
 use borrow.Author.Needs.{needs}

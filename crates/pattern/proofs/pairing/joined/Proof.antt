@@ -1,5 +1,5 @@
 -- `joined` meets its contract, by what its callees ensure. Assumes nothing.
-use Prim.Native.Nat.{ℕ, _≤_}
+use Prim.Native.Nat.{ℕ}
 use mathlib.Core.Path.{sym, ap₂, subst, _∙_}
 use mathlib.Core.List.{List, _++_, map}
 use native.Mathlib.Omega.{arith}

@@ -1,8 +1,5 @@
-use Prim.Native.Nat.{_≤_, _<_}
 use mathlib.Core.Path.{ap, _∙_}
 use native.Mathlib.Omega.{arith}
-use native.Mathlib.Nat.{lt-of-lt-of-le}
-use Rattle.meaning.specs.Pattern.{Clause}
 use Rattle.pattern.specs.Stored.{entryCount, clausePattern}
 use Rattle.pattern.proofs.JointClauses.{size-some, left-below, right-below, pair-chosen}
 -- `pair_at` meets its contract, by what `joined` ensures. Assumes nothing.
