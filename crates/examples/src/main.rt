@@ -246,7 +246,7 @@ fn run_line(
 
 // ---- all lines
 
-// A store without a store.
+// A store that is not open yet.
 fn no_store(cells: &mut [i32], memory: &mut [u8]) -> Store {
     let opened = State::open(
         &mut cells[0..0],

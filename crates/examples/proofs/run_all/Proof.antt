@@ -13,8 +13,8 @@ Inv-loop input numbers₀ cells₀ memory₀ answer₀ s₀ at₀ numbers cells 
 abbrev μ-loop : tie.MeasureT-loop
 μ-loop input numbers₀ cells₀ memory₀ answer₀ s₀ at₀ numbers cells memory answer s at = length input - at
 
-no-session-requires : tie.Need-no-session-requires Inv-loop μ-loop
-no-session-requires c κs = search needs
+no-store-requires : tie.Need-no-store-requires Inv-loop μ-loop
+no-store-requires c κs = search needs
 
 loop-holds : tie.Need-loop-holds Inv-loop μ-loop
 loop-holds c = search needs
@@ -64,7 +64,7 @@ run-all-spec =
     (tie.spec
     Inv-loop
     μ-loop
-    no-session-requires
+    no-store-requires
     loop-holds
     find-requires
     add-next
