@@ -3,11 +3,11 @@
 use mathlib.Core.Path.{_≡_, refl, sym, ap, ap₂, subst, _∙_}
 use mathlib.Core.Bool.{Bool, true, false}
 use mathlib.Core.List.{List, [], _∷_, _++_, map, append-assoc, append-nil}
-use Prim.Native.Nat.{ℕ, zero, suc, _+_, _-_, _*_, _/_, _%_, _≤_, _<_}
+use Prim.Native.Nat.{ℕ, suc, _+_, _-_, _*_, _/_, _%_, _≤_, _<_}
 use native.Mathlib.Numerals.{add-one}
 use native.Mathlib.Omega.{arith}
 use lib.Dec.{eqb}
-use borrow.Author.Tests.{eq-eqb, ne-eqb, eqb-true, eqb-false}
+use borrow.Author.Tests.{eqb-true, eqb-false}
 use lib.ListN.{length, take, drop, getD, set, length-set, length-map, length-take, drop-of-length-le}
 use lib.Seq.{drop-cons, take-suc, take-all, getD-take, getD-set-same, getD-set-other, drop-set-lt}
 use Rattle.lists.specs.Lists.{All, nil, cons, consIf, from}
@@ -17,16 +17,15 @@ use Rattle.lists.proofs.Moved.{from-below}
 use Rattle.meaning.specs.Condition as C
 use Rattle.meaning.specs.Condition.{renamed, sides}
 use Rattle.meaning.specs.Statement as M
-use Rattle.meaning.specs.Pattern.{Joint, Clause}
+use Rattle.meaning.specs.Pattern.{Joint}
 use Rattle.statement.specs.declared.Comparison.{Comparison}
 use Rattle.statement.specs.declared.Condition.{Condition}
 use Rattle.statement.specs.Places.{operatorAt}
-use Rattle.statement.specs.Sound.{comparisonRead, operandRead, usedComparisons}
+use Rattle.statement.specs.Sound.{comparisonRead, usedComparisons}
 use Rattle.pattern.specs.Least.{Coded, codeOf, coded}
 use Rattle.pattern.specs.Masks.{select, comparisonsRead}
-use Rattle.pattern.specs.Flat.{comparisonAt, clauseAt, Narrow, Readable, Coding, operandOf, chosenOf, Extended}
-use Rattle.pattern.specs.declared.joint.Joined.{Joined}
-use Rattle.pattern.proofs.Mapped.{getD-map-in, map-drop, from-last}
+use Rattle.pattern.specs.Flat.{comparisonAt, clauseAt, Narrow, Readable, Coding, Extended}
+use Rattle.pattern.proofs.Mapped.{getD-map-in, from-last}
 use Rattle.pattern.proofs.Numbering.{coding-readable}
 
 -- ---- one comparison behind the first n

@@ -2,7 +2,7 @@
 use mathlib.Core.Path.{_≡_, refl, sym, ap, ap₂, _∙_}
 use mathlib.Core.Bool.{Bool, true, false, _&&_, cond}
 use mathlib.Core.List.{List, [], _∷_, map}
-use Prim.Native.Nat.{ℕ, zero, suc, _+_, _≤_, _<_, min}
+use Prim.Native.Nat.{ℕ, suc, _+_, _≤_, _<_, min}
 use native.Mathlib.Omega.{arith}
 use lib.IntN.{ℤ, pos}
 use lib.ListN.{length, take, getD, replicate, length-map, length-take, List·getD-eq-default}
@@ -14,7 +14,7 @@ use Rattle.meaning.specs.Pattern.{agreesAt, agrees, anything}
 use Rattle.statement.specs.declared.Query.{Query}
 use Rattle.statement.specs.declared.Update.{Update}
 use Rattle.pattern.specs.declared.Entry.{Entry}
-use Rattle.pattern.specs.declared.Entry.the-variants.{Constant, Parameter, Any}
+use Rattle.pattern.specs.declared.Entry.the-variants.{Constant, Parameter}
 use Rattle.pattern.specs.declared.Place.{Place}
 use Rattle.pattern.specs.declared.Pattern.{Pattern}
 use Rattle.pattern.specs.Stored.{relevant, joint, allAny, entryCount, clauseTotal, patternStruct, noPattern, clausePattern, patternAt, filledEntry, entryRead, placeRead, agreesStored}

@@ -1,19 +1,15 @@
 -- The pattern of a clause in arrays is that of the joint clause: by its numbers (proofs/Least), and by the masks that select its comparisons. Assumes nothing.
 use mathlib.Core.Path.{_≡_, refl, sym, ap, ap₂, subst, _∙_}
-use mathlib.Core.Bool.{Bool, true, false, cond}
-use mathlib.Core.List.{List, [], _∷_, _++_, map}
+use mathlib.Core.Bool.{true}
+use mathlib.Core.List.{List, _∷_, _++_, map}
 use Prim.Native.Nat.{ℕ, zero, suc, _+_, _-_, _≤_, min}
 use native.Mathlib.Omega.{arith}
 use lib.ListN.{length, take, replicate, length-replicate, replicate-append-replicate}
 use Rattle.lists.specs.Lists.{All, nil, cons, from}
-use Rattle.lists.proofs.Lists.{All-map, All-append, All-every, All-image, map-append, map-same}
-use Rattle.lists.proofs.Moved.{from-below}
+use Rattle.lists.proofs.Lists.{All-map, All-append, All-every, All-image, map-append}
 use Rattle.meaning.specs.Condition.{sides, renamed}
-use Rattle.meaning.specs.Statement as M
-use Rattle.meaning.specs.Pattern.{Joint, column, constant, asked, given, Clause, contradictory, pattern, entry, anything}
+use Rattle.meaning.specs.Pattern.{Joint, column, constant, asked, given, Clause, anything}
 use Rattle.meaning.proofs.Postfix.{sides-append}
-use Rattle.statement.specs.declared.Condition.{Condition}
-use Rattle.statement.specs.declared.Setting.{Setting}
 use Rattle.statement.specs.declared.Update.{Update}
 use Rattle.statement.specs.Compiled.{padded}
 use Rattle.statement.specs.Sound.{settingRead, settingsRead}
@@ -21,9 +17,9 @@ use Rattle.pattern.specs.declared.Entry.the-variants.{Any}
 use Rattle.pattern.specs.declared.Place.{Place}
 use Rattle.pattern.specs.declared.Pattern.{Pattern}
 use Rattle.pattern.specs.declared.joint.Joined.{Joined}
-use Rattle.pattern.specs.Least.{asked-from, codeOf, Coded, coded, contradicts, leastEntry}
-use Rattle.pattern.specs.Stored.{placed, placeStruct, patternStruct, noPattern, clausePattern}
-use Rattle.pattern.specs.Flat.{clauseAt, Narrow, Readable, Ready, codedPattern, chosenOf, noClause, Extended}
+use Rattle.pattern.specs.Least.{asked-from, codeOf, Coded, coded}
+use Rattle.pattern.specs.Stored.{placed, placeStruct, patternStruct, clausePattern}
+use Rattle.pattern.specs.Flat.{clauseAt, Narrow, Readable, Ready, codedPattern, noClause, Extended}
 use Rattle.pattern.proofs.OperandCodes.{Fits}
 use Rattle.pattern.proofs.Clauses.{least-pattern}
 use Rattle.pattern.proofs.Relevant.{take-few}

@@ -1,14 +1,14 @@
 -- Constants and their numbers, as the machine works them out. Assumes nothing.
-use Prim.Native.Nat.{ℕ, suc, _+_, _-_, _^_, _≤_, _<_}
-use mathlib.Core.Path.{_≡_, refl, sym, ap, subst, _∙_}
+use Prim.Native.Nat.{ℕ, suc, _-_, _^_, _≤_, _<_}
+use mathlib.Core.Path.{_≡_, refl, ap}
 use mathlib.Core.Bool.{Bool, true, false, cond, _&&_}
 use native.Mathlib.Omega.{arith}
-use borrow.Author.Tests.{ltb-true, ltb-false, le-leb}
+use borrow.Author.Tests.{ltb-true, le-leb}
 use lib.Dec.{ltb}
 use lib.IntN.{ℤ, pos, negsuc, _-ℤ_}
 use mir.Syntax.{w32, w64}
-use mir.Val.{SFits, toZ, ofZ}
-use mir.Facts.{toZ-ofZ, toZ-pos, sfits-widen}
+use mir.Val.{SFits, toZ}
+use mir.Facts.{toZ-pos, sfits-widen}
 use Rattle.meaning.specs.Limits.{isWithin32}
 use Rattle.answer.proofs.Signed.{raised}
 use Rattle.pattern.specs.Least.{constantCode, codeConstant}

@@ -3,11 +3,11 @@ use mathlib.Core.Path.{_≡_, refl, sym, ap, _∙_}
 use mathlib.Core.Bool.{Bool, true, false, _&&_, false≢true}
 use mathlib.Core.List.{List, [], _∷_}
 use Prim.Native.Nat.{ℕ, zero, suc, _+_, _-_, _*_, _≤_, _<_}
-use native.Mathlib.Numerals.{add-one, sub-one}
+use native.Mathlib.Numerals.{add-one}
 use native.Mathlib.Omega.{arith}
 use borrow.Author.Tests.{lt-leb, le-leb, leb-true, ne-eqb}
 use lib.Dec.{eqb, leb}
-use lib.ListN.{length, take, drop, getD, length-take}
+use lib.ListN.{length, drop, getD, length-take}
 use lib.Seq.{drop-cons, getD-take}
 use Rattle.lists.proofs.Bools.{and-left}
 use Rattle.meaning.specs.Postfix.{isPostfix, balancedOn}

@@ -15,7 +15,7 @@ use Rattle.lists.specs.Lists.{pairs}
 use Rattle.lists.proofs.Lists.{length-pairs}
 use Rattle.meaning.specs.Condition.{renamed}
 use Rattle.meaning.specs.Statement as M
-use Rattle.meaning.specs.Pattern.{Joint, column, Clause, ofUpdate, ofQuery, setColumn}
+use Rattle.meaning.specs.Pattern.{Joint, column, Clause, ofUpdate, ofQuery}
 use Rattle.statement.specs.declared.Condition.{Condition}
 use Rattle.statement.specs.declared.Query.{Query}
 use Rattle.statement.specs.declared.Update.{Update}

@@ -9,8 +9,8 @@ use lib.Dec.{eqb, leb, ltb}
 use lib.IntN.{ℤ}
 use borrow.Author.Tests.{leb-true, leb-false, lt-ltb, le-ltb}
 use lib.ListN.{length, getD, take, drop, set, replicate, length-map, length-drop, drop-of-length-le}
-use lib.Seq.{drop-cons, take-all, getD-take, getD-drop, paste, length-take-le}
-use Rattle.lists.specs.Lists.{All, nil, cons, any, from}
+use lib.Seq.{drop-cons, getD-take, getD-drop, paste, length-take-le}
+use Rattle.lists.specs.Lists.{All, any, from}
 use Rattle.lists.proofs.Bools.{or-assoc}
 use Rattle.lists.proofs.Lists.{All-map, All-image, any-map, map-take, map-same}
 use Rattle.lists.proofs.Places.{All-at}
@@ -26,7 +26,7 @@ use Rattle.pattern.specs.declared.Pattern.{Pattern}
 use Rattle.pattern.specs.declared.labels.Labels.{Labels}
 use Rattle.pattern.specs.Least.{marks-from, asked-from, codeConstant, Coded, joinLeast, leastOn, least, clashes, clashesOn, fails, contradicts, entryOfCode, leastEntry}
 use Rattle.pattern.specs.Stored.{entryStruct, placed, placeStruct, patternStruct, noPattern}
-use Rattle.pattern.specs.Flat.{comparisonAt, clauseAt, failing, Readable, Ready, Labelled, placesOf, codedPattern}
+use Rattle.pattern.specs.Flat.{comparisonAt, clauseAt, failing, Readable, Labelled, placesOf, codedPattern}
 use Rattle.pattern.proofs.Searching.{fill-more, fill-done}
 use Rattle.pattern.proofs.Mapped.{getD-map-in, map-drop, drop-replicate, from-at, take-from}
 

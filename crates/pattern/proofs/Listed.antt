@@ -1,32 +1,31 @@
 -- The list of patterns, clause by clause: a pattern that is not there yet goes behind the others. Assumes nothing.
 use mathlib.Core.Path.{_≡_, refl, sym, ap, ap₂, subst, _∙_}
-use mathlib.Core.Bool.{Bool, true, false, cond, not, _&&_, _||_, and-true}
-use mathlib.Core.List.{List, [], _∷_, _++_, map, append-nil, append-assoc}
+use mathlib.Core.Bool.{Bool, true, false, cond, not, _&&_, _||_}
+use mathlib.Core.List.{List, [], _∷_, _++_, map, append-nil}
 use Prim.Native.Nat.{ℕ, zero, suc, _+_, _-_, _≤_, _<_}
 use native.Mathlib.Numerals.{add-one}
 use native.Mathlib.Omega.{arith}
-use lib.Dec.{eqb, ltb}
+use lib.Dec.{eqb}
 use lib.IntN.{ℤ}
-use lib.ListN.{length, take, drop, getD, set, replicate, length-map, length-append, length-replicate, drop-of-length-le}
-use lib.Seq.{take-at, set-at, append-snoc}
-use borrow.Author.Tests.{lt-ltb, eqb-true, eq-eqb}
+use lib.ListN.{length, take, getD, set, replicate, length-map, length-append, length-replicate}
+use lib.Seq.{set-at, append-snoc}
+use borrow.Author.Tests.{eqb-true, eq-eqb}
 use Rattle.lists.specs.Lists.{any, All, nil, cons, consIf, keep, distinct, flat, from}
 use Rattle.lists.specs.Tests.{isYes, decN, decZ, eqZ, eqList}
-use Rattle.lists.proofs.Bools.{and-assoc, is-yes, is-no, yes-of, eqZ-same, eqZ-true, clash}
+use Rattle.lists.proofs.Bools.{is-yes, yes-of, eqZ-same, eqZ-true, clash}
 use Rattle.lists.proofs.Lists.{keep-append, map-append, All-append, All-getD}
-use Rattle.lists.proofs.Places.{All-at, flat-append}
-use Rattle.lists.proofs.Changed.{any-distinct, All-distinct, length-distinct, eqList-true}
+use Rattle.lists.proofs.Places.{flat-append}
+use Rattle.lists.proofs.Changed.{any-distinct, eqList-true}
 use Rattle.meaning.specs.Pattern as P
-use Rattle.meaning.specs.Pattern.{Clause, contradictory, pattern, number, mark, anything, Entry-discrete, sameEntry, clausePatterns, chosen}
+use Rattle.meaning.specs.Pattern.{Clause, contradictory, pattern, number, mark, anything, Entry-discrete, sameEntry, chosen}
 use Rattle.statement.specs.declared.Query.{Query}
 use Rattle.statement.specs.declared.Update.{Update}
 use Rattle.statement.specs.Compiled.{padded}
 use Rattle.pattern.specs.declared.Entry.{Entry}
 use Rattle.pattern.specs.declared.Entry.the-variants.{Constant, Parameter, Any}
-use Rattle.pattern.specs.declared.Place.{Place}
 use Rattle.pattern.specs.declared.Pattern.{Pattern}
 use Rattle.pattern.specs.declared.Patterns.{Patterns}
-use Rattle.pattern.specs.Stored.{relevant, joint, allAny, entryCount, clauseTotal, placed, placeStruct, patternStruct, noPattern, clausePattern, patternAt, patternsStored, patternList, entryRead, placeRead}
+use Rattle.pattern.specs.Stored.{relevant, joint, allAny, entryCount, clauseTotal, placed, placeStruct, patternStruct, noPattern, patternAt, patternsStored, patternList, entryRead, placeRead}
 use Rattle.pattern.proofs.Laws.{CountedEntry, joint-counted, pattern-counted, any-counted, pattern-length}
 use Rattle.statement.proofs.Assembled.{take-padded}
 use Rattle.pattern.proofs.Agreeing.{at-many, at-worked}

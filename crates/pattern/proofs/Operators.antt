@@ -1,7 +1,7 @@
 -- Comparisons by their numbers: which join, which are strict, and what an `=` does. Assumes nothing.
-use mathlib.Core.Path.{_≡_, refl, sym, ap}
+use mathlib.Core.Path.{_≡_, refl, ap}
 use mathlib.Core.Logic.{_≢_}
-use mathlib.Core.Bool.{Bool, true, false, not, _&&_, _||_}
+use mathlib.Core.Bool.{true, false, not, _&&_, _||_}
 use mathlib.Core.List.{List, [], _∷_, map}
 use Prim.Native.Nat.{ℕ, zero, suc, max}
 use native.Mathlib.Omega.{arith}
@@ -10,7 +10,7 @@ use borrow.Author.Tests.{lt-ltb, ne-eqb}
 use Rattle.meaning.specs.Operator.{Operator, eq, ne, lt, le, gt, ge}
 use Rattle.meaning.specs.Pattern.{strict}
 use Rattle.statement.specs.Places.{operatorAt}
-use Rattle.pattern.specs.Least.{isConstant, joinLeast, renameCode, clashes}
+use Rattle.pattern.specs.Least.{joinLeast, clashes}
 use Rattle.pattern.specs.Flat.{isJoin}
 
 pub join-number : (k : ℕ) → (eqb k 0 || ltb 5 k) ≡ isJoin (operatorAt k)

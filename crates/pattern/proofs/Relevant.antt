@@ -1,12 +1,12 @@
 -- Rules 1 and 2: the columns that a query tests, by its comparisons; and the columns set, looked for in either order. Assumes nothing.
 use mathlib.Core.Path.{_≡_, refl, sym, ap, ap₂, _∙_}
 use mathlib.Core.Bool.{Bool, true, false, _&&_, _||_, or-false}
-use mathlib.Core.List.{List, [], _∷_, _++_, map}
-use Prim.Native.Nat.{ℕ, zero, suc, _+_, _-_, _*_, _≤_, _<_, min}
+use mathlib.Core.List.{List, [], _∷_, map}
+use Prim.Native.Nat.{ℕ, zero, suc, _-_, _≤_, min}
 use native.Mathlib.Omega.{arith}
 use lib.Dec.{eqb}
 use borrow.Author.Tests.{eq-eqb, ne-eqb}
-use lib.ListN.{length, take, drop, getD, length-map, length-take}
+use lib.ListN.{length, take, length-map, length-take}
 use lib.Seq.{take-take, take-all, take-nil}
 use Rattle.lists.specs.Lists.{any, keep, consIf, count}
 use Rattle.lists.proofs.Bools.{or-assoc}

@@ -1,6 +1,6 @@
 -- The masks of a condition, step by step: the steps from the i-th on, run on the clauses of the stack's masks, give the clauses of the condition. Assumes nothing.
-use mathlib.Core.Path.{_≡_, refl, sym, ap, ap₂, subst, _∙_}
-use mathlib.Core.Bool.{Bool, true, false, false≢true}
+use mathlib.Core.Path.{_≡_, refl, sym, ap, ap₂, _∙_}
+use mathlib.Core.Bool.{true, false≢true}
 use mathlib.Core.List.{List, [], _∷_, _++_, map}
 use Prim.Native.Nat.{ℕ, zero, suc, _+_, _-_, _*_, _^_, _≤_, _<_}
 use native.Mathlib.Numerals.{add-one}
@@ -16,12 +16,12 @@ use Rattle.statement.specs.declared.Comparison.{Comparison}
 use Rattle.statement.specs.declared.Condition.{Condition}
 use Rattle.statement.specs.declared.Operand.the-variants.{Column}
 use Rattle.statement.specs.Sound.{comparisonRead, nodesRead, usedComparisons, usedSteps, conditionNodes}
-use Rattle.pattern.specs.Stored.{clausesRead, isFormed}
+use Rattle.pattern.specs.Stored.{clausesRead}
 use Rattle.pattern.specs.declared.masks.Clauses.{Clauses}
 use Rattle.pattern.specs.declared.masks.Stack.{Stack}
 use Rattle.pattern.specs.Masks.{select, sums, balanced, noStack, steppedOf, Steps, comparisonsRead, Masked}
 use Rattle.pattern.proofs.Selecting.{select-one, and-clauses, most-18}
-use Rattle.pattern.proofs.Stacking.{masksIn, Stacked, stacked-few, stacked-push, stacked-either, stacked-both, upper, Holds, pushes, push-holds, joins, either-holds, both-holds}
+use Rattle.pattern.proofs.Stacking.{Stacked, stacked-few, stacked-push, stacked-either, stacked-both, upper, Holds, pushes, push-holds, joins, either-holds, both-holds}
 use Rattle.pattern.proofs.Formed.{balanced-few, steps-length, steps-next}
 
 -- ---- the clauses of a stack

@@ -1,11 +1,11 @@
 -- Loops that go up a list: whether some member passes a test, how many do, an array filled from another, and two lists compared. Assumes nothing.
-use mathlib.Core.Path.{_≡_, refl, sym, ap, ap₂, _∙_}
+use mathlib.Core.Path.{_≡_, sym, ap, ap₂, _∙_}
 use mathlib.Core.Bool.{Bool, true, false, cond, _&&_, _||_, or-false, and-true}
 use mathlib.Core.List.{List, [], _∷_, _++_, map}
-use Prim.Native.Nat.{ℕ, zero, suc, _+_, _≤_, _<_}
+use Prim.Native.Nat.{ℕ, _+_, _≤_, _<_}
 use native.Mathlib.Numerals.{add-one}
 use native.Mathlib.Omega.{arith}
-use lib.ListN.{length, getD, take, drop, set, length-map, drop-of-length-le}
+use lib.ListN.{length, getD, drop, set, length-map, drop-of-length-le}
 use lib.Seq.{drop-cons, take-all, paste}
 use Rattle.lists.specs.Lists.{any, consIf, keep, count}
 use Rattle.lists.proofs.Bools.{or-assoc, and-assoc}

@@ -2,14 +2,14 @@
 -- stack of so many comparisons has. Assumes nothing.
 use mathlib.Core.Path.{_≡_, refl, sym, ap, ap₂, subst, _∙_}
 use mathlib.Core.Bool.{Bool, true, false, not, _&&_, _||_}
-use mathlib.Core.List.{List, [], _∷_, _++_, map, append-nil}
+use mathlib.Core.List.{List, [], _∷_, _++_, map}
 use Prim.Native.Nat.{ℕ, zero, suc, _+_, _*_, _^_, _/_, _%_, _≤_, _<_}
-use native.Mathlib.Nat.{pow-zero, pow-succ', one-mul, mul-le-mul-left, mul-assoc, mul-add}
+use native.Mathlib.Nat.{pow-zero, pow-succ', mul-le-mul-left, mul-assoc, mul-add}
 use native.Mathlib.Omega.{arith}
 use lib.Pow.{pow-add, pow-pos, pow-mono}
 use lib.Dec.{eqb, leb}
-use lib.ListN.{length, drop, getD}
-use borrow.Author.Tests.{leb-true, le-leb, eq-eqb, ne-eqb}
+use lib.ListN.{drop, getD}
+use borrow.Author.Tests.{leb-true, le-leb}
 use Rattle.lists.specs.Lists.{All, nil, cons, consIf, all, pairs, from}
 use Rattle.lists.proofs.Bools.{and-left, and-right}
 use Rattle.lists.proofs.Lists.{All-map, All-append, map-append, all-true}

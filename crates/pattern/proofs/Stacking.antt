@@ -1,14 +1,14 @@
 -- A stack of lists of masks in arrays: what the arrays hold, what a step makes of it, and that there is room for it. Assumes nothing.
 use mathlib.Core.Path.{_≡_, refl, sym, ap, ap₂, subst, _∙_}
-use mathlib.Core.List.{List, [], _∷_, _++_, map, append-assoc, append-nil}
+use mathlib.Core.List.{List, [], _∷_, _++_, append-assoc}
 use Prim.Native.Nat.{ℕ, zero, suc, _+_, _-_, _*_, _^_, _≤_, _<_}
-use native.Mathlib.Nat.{pow-zero, pow-succ', mul-le-mul}
+use native.Mathlib.Nat.{pow-succ', mul-le-mul}
 use native.Mathlib.Numerals.{add-one}
 use native.Mathlib.Omega.{arith}
 use lib.Pow.{pow-mono}
-use lib.ListN.{length, take, drop, getD, set, length-append, length-set, length-take, take-append-drop}
-use lib.Seq.{take-at, drop-at, take-suc-set, take-append-le, take-take, getD-take, getD-at, set-at, length-take-le, append-snoc, take-set-lt, drop-append-le}
-use Rattle.lists.specs.Lists.{All, nil, cons, written}
+use lib.ListN.{length, take, drop, getD, set, length-append, length-set, take-append-drop}
+use lib.Seq.{take-at, drop-at, take-suc-set, take-take, getD-take, getD-at, length-take-le, append-snoc}
+use Rattle.lists.specs.Lists.{All, nil, cons}
 use Rattle.lists.proofs.Written.{length-written}
 use Rattle.pattern.specs.declared.masks.Stack.{Stack}
 use Rattle.pattern.specs.Masks.{sums, pushedOf, eitherOf, bothOf, rightOf, leftOf, startOf, lefts, rights, steppedOf, Pushes, Joins, Steps}

@@ -1,11 +1,11 @@
 -- The sums of two lists of masks, written in place of them: one row of sums, and one row after another. Assumes nothing.
 use mathlib.Core.Path.{_≡_, refl, sym, ap, ap₂, subst, _∙_}
 use mathlib.Core.List.{List, [], _∷_, _++_, map, append-assoc, append-nil}
-use Prim.Native.Nat.{ℕ, zero, suc, _+_, _*_, _≤_, _<_}
+use Prim.Native.Nat.{ℕ, suc, _+_, _*_, _≤_, _<_}
 use native.Mathlib.Nat.{zero-mul, suc-mul, mul-le-mul-right}
 use native.Mathlib.Numerals.{add-one}
 use native.Mathlib.Omega.{arith}
-use lib.ListN.{length, take, drop, getD, set, length-append, length-map, length-take, length-drop, length-set, List·getD-map}
+use lib.ListN.{length, take, drop, getD, set, length-append, length-map, length-drop, List·getD-map}
 use lib.Seq.{take-suc, take-all, getD-take, getD-drop, length-take-le, paste}
 use Rattle.lists.specs.Lists.{All, written}
 use Rattle.lists.proofs.Places.{All-at}

@@ -1,7 +1,7 @@
 -- The clauses of a stored condition as masks: bit j of a mask says that comparison j, in the text's order, is in the clause. What the code of module `masks` holds
 -- and does; proofs/Running shows that these are the clauses of rule 4. Assumes nothing: these are definitions.
 use mathlib.Core.Path.{_≡_}
-use mathlib.Core.Bool.{Bool, true, false, cond}
+use mathlib.Core.Bool.{Bool, true, false}
 use mathlib.Core.List.{List, [], _∷_, _++_, map}
 use Prim.Native.Nat.{ℕ, zero, suc, _+_, _-_, _*_, _/_, _%_, _≤_, _<_}
 use lib.Dec.{eqb}

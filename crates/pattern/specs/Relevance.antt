@@ -1,6 +1,6 @@
 -- Rule 2 column by column, as module `relevance` looks for them: whether a column that the query selects or tests is among those that an UPDATE sets. Assumes nothing:
 -- these are definitions.
-use mathlib.Core.Bool.{Bool, false, true, cond}
+use mathlib.Core.Bool.{Bool, false, cond}
 use mathlib.Core.List.{List}
 use Prim.Native.Nat.{ℕ}
 use lib.Dec.{eqb}

@@ -1,6 +1,5 @@
 -- `clause_pattern` meets its contract, by what its callees ensure. Assumes nothing.
-use Prim.Native.Nat.{_≤_, _<_}
-use mathlib.Core.Path.{_≡_, sym, _∙_}
+use mathlib.Core.Path.{sym, _∙_}
 use native.Mathlib.Omega.{arith}
 use borrow.Author.Tests.{not-true, not-false}
 use Rattle.pattern.proofs.Agreeing.{total-none, total-many, total-worked, at-past, at-many, at-worked}

@@ -1,15 +1,13 @@
 -- `agrees` meets its contract. The invariant, `Agreeing`: all agreed so far, and those left do, exactly if all do. The measure is the entries left. Assumes nothing.
-use Prim.Native.Nat.{_-_, _≤_, _<_, min}
+use Prim.Native.Nat.{_-_, _≤_}
 use mathlib.Core.Path.{_≡_, refl, sym, _∙_}
-use mathlib.Core.Bool.{true}
 use native.Mathlib.Omega.{arith}
 use borrow.Author.Needs.{needs}
 use borrow.Author.Tests.{not-true, not-false}
-use lib.ListN.{length, length-map, take, drop, getD}
+use lib.ListN.{length, length-map, getD}
 use lib.IntN.{pos}
 use mir.Syntax.{w32}
 use mir.Val.{toZ, ofZ}
-use Rattle.pattern.specs.declared.Pattern.{Pattern}
 use Rattle.pattern.proofs.Agreeing.{Agreeing, not-there, other-count, agree-more, agree-done}
 use Rattle.pattern.proofs.Pattern.agrees.Statement.{statement}
 use Rattle.pattern.proofs.Pattern.agrees.Tie as tie

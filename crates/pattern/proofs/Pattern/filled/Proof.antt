@@ -6,7 +6,6 @@ use native.Mathlib.Omega.{arith}
 use borrow.Author.Needs.{needs}
 use lib.ListN.{length, length-set, length-map}
 use Rattle.pattern.specs.declared.Place.{Place}
-use Rattle.pattern.specs.declared.Pattern.{Pattern}
 use Rattle.pattern.specs.Stored.{placed, filledPlace, filledOf}
 use Rattle.pattern.proofs.Mapped.{mapped, mapped-more, mapped-all}
 use Rattle.pattern.proofs.Pattern.filled.Statement.{statement}

@@ -1,16 +1,14 @@
 -- `of` meets its contract. The invariants: `Listing`, the patterns of the first i clauses are in the list; and a pattern was found, or is one of those left, exactly if
 -- it is one of the list. The measures are the clauses left, and the patterns left. Assumes nothing.
-use Prim.Native.Nat.{ℕ, _+_, _-_, _≤_, _<_, min}
+use Prim.Native.Nat.{ℕ, _-_, _≤_, _<_, min}
 use mathlib.Core.Path.{_≡_, refl, sym, ap, subst, _∙_}
-use mathlib.Core.Bool.{Bool, not, _&&_}
 use mathlib.Core.List.{List}
 use mathlib.Core.Logic.{⊎-elim}
 use native.Mathlib.Omega.{arith}
 use borrow.Author.Needs.{needs}
-use lib.ListN.{length, take, getD, length-take}
+use lib.ListN.{length, take, length-take}
 use lib.Seq.{getD-take}
 use Rattle.pattern.specs.declared.Pattern.{Pattern}
-use Rattle.pattern.specs.Stored.{clauseTotal}
 use Rattle.pattern.proofs.Laws.{total-few}
 use Rattle.pattern.proofs.Searching.{Seeking, seek-more, seek-done}
 use Rattle.pattern.proofs.Listed.{sameStruct, Listing, list-start, list-long, list-more, list-done, listing-is}

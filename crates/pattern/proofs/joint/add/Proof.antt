@@ -1,6 +1,6 @@
 -- `add` meets its contract. The invariant, `Adding`: the clause so far, with what the rest of the mask selects of the comparisons left, is the clause that is wanted. The
 -- measure is the comparisons left. Assumes nothing.
-use Prim.Native.Nat.{ℕ, _+_, _-_, _*_, _≤_, _<_}
+use Prim.Native.Nat.{_-_, _≤_}
 use mathlib.Core.Path.{_≡_, refl}
 use mathlib.Core.List.{map}
 use native.Mathlib.Omega.{arith}

@@ -4,8 +4,6 @@ use mathlib.Core.Path.{_≡_, refl}
 use native.Mathlib.Omega.{arith}
 use borrow.Author.Needs.{needs}
 use lib.ListN.{length}
-use lib.IntN.{pos}
-use Rattle.statement.specs.declared.Value.the-variants.{Constant}
 use Rattle.pattern.proofs.Numbering.{Setting-on, set-start, set-more, set-done}
 use Rattle.pattern.proofs.joint.set_code.Statement.{statement}
 use Rattle.pattern.proofs.joint.set_code.Tie as tie

@@ -1,7 +1,6 @@
 -- `constant_of` meets its contract. Assumes nothing.
 use mathlib.Core.Path.{sym, subst}
-use lib.IntN.{ℤ}
-use mir.Syntax.{w32, w64}
+use mir.Syntax.{w64}
 use mir.Val.{SFits}
 use mir.Facts.{toZ-ofZ}
 use Rattle.pattern.proofs.Constants.{constant-32, constant-64, constant-is}

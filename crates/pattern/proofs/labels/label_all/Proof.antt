@@ -1,5 +1,5 @@
 -- `label_all` meets its contract. The invariant, `Labelling`: what the first i comparisons make of each operand. The measure is the comparisons left. Assumes nothing.
-use Prim.Native.Nat.{_+_, _-_, _*_, _≤_, _<_}
+use Prim.Native.Nat.{_-_, _≤_}
 use mathlib.Core.Path.{_≡_, ap, _∙_}
 use mathlib.Core.Bool.{Bool, _||_}
 use native.Mathlib.Omega.{arith}

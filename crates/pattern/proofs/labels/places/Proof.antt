@@ -1,16 +1,13 @@
 -- `places` meets its contract. The invariant: the first k entries are there. The measure is the entries left. Assumes nothing.
-use Prim.Native.Nat.{ℕ, _+_, _-_, _≤_, _<_}
+use Prim.Native.Nat.{_+_, _-_, _≤_}
 use mathlib.Core.Path.{_≡_, refl, ap}
-use mathlib.Core.List.{map}
 use native.Mathlib.Omega.{arith}
 use borrow.Author.Needs.{needs}
-use lib.ListN.{length, length-set, replicate, take, drop}
+use lib.ListN.{length, length-set, replicate}
 use lib.Seq.{paste}
 use Rattle.lists.proofs.Places.{All-at}
 use Rattle.pattern.specs.declared.Entry.the-variants.{Any}
-use Rattle.pattern.specs.Least.{entryOfCode}
-use Rattle.pattern.specs.Stored.{placed, placeStruct}
-use Rattle.pattern.specs.Flat.{placesOf}
+use Rattle.pattern.specs.Stored.{placed}
 use Rattle.pattern.proofs.Labelling.{placing, place-more, place-done}
 use Rattle.pattern.proofs.labels.places.Statement.{statement}
 use Rattle.pattern.proofs.labels.places.Tie as tie

@@ -1,6 +1,6 @@
 -- `some_fails` meets its contract. The invariant: a comparison failed, or one of those from the i-th on does, exactly if one of all does. The measure is the comparisons
 -- left. Assumes nothing.
-use Prim.Native.Nat.{_+_, _-_, _*_, _≤_, _<_}
+use Prim.Native.Nat.{_-_, _≤_}
 use mathlib.Core.Path.{_≡_, refl, sym, ap, _∙_}
 use native.Mathlib.Omega.{arith}
 use borrow.Author.Needs.{needs}

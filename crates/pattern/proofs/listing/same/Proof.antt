@@ -4,7 +4,7 @@ use mathlib.Core.Path.{_≡_, refl}
 use mathlib.Core.List.{map}
 use native.Mathlib.Omega.{arith}
 use borrow.Author.Needs.{needs}
-use lib.ListN.{length, getD, length-map}
+use lib.ListN.{length, length-map}
 use Rattle.lists.specs.Tests.{eqList}
 use Rattle.meaning.specs.Pattern.{sameEntry}
 use Rattle.pattern.specs.Stored.{placeRead}

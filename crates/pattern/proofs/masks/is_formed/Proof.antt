@@ -1,8 +1,7 @@
 -- `is_formed` meets its contract. The invariant: the steps from the i-th on, with `depth` values on the stack, are balanced exactly if all are. The measure is the
 -- steps left. Assumes nothing.
-use Prim.Native.Nat.{ℕ, _+_, _-_, _*_, _≤_, _<_}
+use Prim.Native.Nat.{ℕ, _+_, _-_, _*_, _≤_}
 use mathlib.Core.Path.{_≡_, refl, sym, ap, _∙_}
-use mathlib.Core.Bool.{Bool, false}
 use mathlib.Core.List.{_∷_}
 use mathlib.Core.Logic.{⊎-elim}
 use native.Mathlib.Omega.{arith}

@@ -1,5 +1,5 @@
 -- `product` meets its contract. The invariant, `Rows`: the sums of the first i masks are written. The measure is the masks left. Assumes nothing.
-use Prim.Native.Nat.{ℕ, _+_, _-_, _*_, _≤_, _<_}
+use Prim.Native.Nat.{_+_, _-_, _*_, _≤_}
 use mathlib.Core.Path.{_≡_, refl}
 use native.Mathlib.Omega.{arith}
 use borrow.Author.Needs.{needs}

@@ -1,10 +1,10 @@
 -- `put_sums` meets its contract. The invariant: the first j sums are written. The measure is the sums left. Assumes nothing.
 use Prim.Native.Nat.{ℕ, _+_, _-_, _≤_, _<_}
-use mathlib.Core.Path.{_≡_, sym, subst}
+use mathlib.Core.Path.{_≡_}
 use mathlib.Core.List.{map}
 use native.Mathlib.Omega.{arith}
 use borrow.Author.Needs.{needs}
-use lib.ListN.{length, take, drop, getD, length-set}
+use lib.ListN.{length, getD, length-set}
 use lib.Seq.{paste, paste-zero}
 use Rattle.lists.proofs.Places.{All-at}
 use Rattle.pattern.proofs.Sums.{part, part-length, part-at, row-more, row-done}

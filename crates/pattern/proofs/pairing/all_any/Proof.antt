@@ -1,10 +1,10 @@
+-- `all_any` meets its contract. Assumes nothing.
 use Rattle.pattern.proofs.ClausePatterns.{any-made}
 use Rattle.pattern.specs.Stored.{patternStruct}
 use Rattle.meaning.specs.Pattern.{anything}
 use lib.ListN.{replicate}
--- `all_any` meets its contract. Assumes nothing.
-use Prim.Native.Nat.{ℕ, _≤_, min}
-use mathlib.Core.Path.{sym, subst, _≡_, _∙_, ap}
+use Prim.Native.Nat.{ℕ}
+use mathlib.Core.Path.{_∙_, ap}
 use native.Mathlib.Omega.{arith}
 use borrow.Author.Needs.{needs}
 use Rattle.pattern.proofs.pairing.all_any.Statement.{statement}

@@ -4,7 +4,7 @@ use mathlib.Core.Path.{_≡_, sym, ap, subst, _∙_}
 use native.Mathlib.Omega.{arith}
 use borrow.Author.Needs.{needs}
 use lib.Dec.{eqb}
-use lib.ListN.{length, take, getD, length-take}
+use lib.ListN.{length, getD, length-take}
 use lib.Seq.{getD-take}
 use Rattle.statement.specs.Sound.{usedSteps}
 use Rattle.pattern.specs.Relevance.{oneIf}

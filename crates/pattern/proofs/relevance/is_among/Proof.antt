@@ -1,7 +1,7 @@
 -- `is_among` meets its contract. The invariant: the column was found, or is one of those left, exactly if it is one of all. The measure is the columns left. Assumes
 -- nothing.
 use Prim.Native.Nat.{ℕ, _-_, _≤_, min}
-use mathlib.Core.Path.{_≡_, refl, sym, ap, _∙_}
+use mathlib.Core.Path.{_≡_, refl, sym, ap}
 use native.Mathlib.Omega.{arith}
 use borrow.Author.Needs.{needs}
 use lib.Dec.{eqb}

@@ -1,6 +1,6 @@
 -- `tests` meets its contract. The invariant: a column was found, or one of the comparisons left has one, exactly if one of all has. The measure is the comparisons left.
 -- Assumes nothing.
-use Prim.Native.Nat.{ℕ, _-_, _≤_, min}
+use Prim.Native.Nat.{_-_, _≤_, min}
 use mathlib.Core.Path.{_≡_, refl, sym, ap, ap₂, _∙_}
 use native.Mathlib.Omega.{arith}
 use borrow.Author.Needs.{needs}
