@@ -8,8 +8,7 @@ use lib.ListN.{length, take, replicate, length-replicate, replicate-append-repli
 use Rattle.lists.specs.Lists.{All, nil, cons, from}
 use Rattle.lists.proofs.Lists.{All-map, All-append, All-every, All-image, map-append}
 use Rattle.meaning.specs.Condition.{sides, renamed}
-use Rattle.meaning.specs.Statement as M
-use Rattle.meaning.specs.Pattern.{Joint, column, constant, asked, given, Clause, pattern, anything}
+use Rattle.meaning.specs.Pattern.{Joint, column, constant, asked, given, Clause, anything}
 use Rattle.meaning.proofs.Postfix.{sides-append}
 use Rattle.statement.specs.declared.Update.{Update}
 use Rattle.statement.specs.Compiled.{padded}

@@ -8,8 +8,9 @@ use native.Mathlib.Omega.{arith}
 use lib.Dec.{eqb}
 use lib.IntN.{ℤ, pos}
 use borrow.Author.Tests.{eq-eqb, ne-eqb}
-use lib.ListN.{length, take, drop, getD, length-take, length-map, drop-of-length-le, List·getD-eq-default}
-use lib.Seq.{drop-cons, getD-take}
+use lib.ListN.{length, take, drop, getD, set, replicate, length-take, length-map, drop-of-length-le, List·getD-eq-default}
+use lib.Seq.{drop-cons, getD-take, paste}
+use Rattle.lists.specs.Lists.{from}
 use Rattle.meaning.specs.Limits.{isWithin32}
 use Rattle.meaning.specs.Statement as M
 use Rattle.meaning.specs.Pattern.{Joint, column, constant, asked, given, ofValue, insertedColumn, setColumn}
@@ -17,12 +18,12 @@ use Rattle.statement.specs.declared.Setting.{Setting}
 use Rattle.statement.specs.declared.Value.{Value}
 use Rattle.statement.specs.declared.Value.the-variants as Given
 use Rattle.statement.specs.declared.Operand.{Operand}
-use Rattle.statement.specs.declared.Operand.the-variants as O
 use Rattle.statement.specs.Sound.{valueRead, operandRead, settingRead}
+use Rattle.table.proofs.Copied.{pasted}
 use Rattle.pattern.specs.Least.{marks-from, asked-from, columns-from, constantCode}
-use Rattle.pattern.specs.Flat.{valuesOf, columnOf, markOf, operandOf, Coding, SetOnce, Readable}
+use Rattle.pattern.specs.Flat.{valuesOf, columnOf, markOf, operandOf, Coding, SetOnce, Readable, noClause}
 use Rattle.pattern.proofs.OperandCodes.{constant-below}
-use Rattle.pattern.proofs.Mapped.{getD-map-in}
+use Rattle.pattern.proofs.Mapped.{getD-map-in, from-at}
 
 -- ---- numbers that are computed
 
@@ -141,3 +142,17 @@ coding-readable (column i) n c = record { some = λ e. omega (arith, c .is); few
 coding-readable (constant z) n c = let h = constant-below z (c .narrow) in record { some = λ e. omega (arith, c .is); few = λ l. omega (arith, c .is) }
 coding-readable (asked k) n c = record { some = λ e. omega (arith, c .is); few = λ h. omega (arith, c .is) }
 coding-readable (given k) n c = record { some = λ e. omega (arith, c .is, c .narrow .0); few = λ h. omega (arith, c .is, c .narrow .1) }
+
+-- ---- the query's question marks, one after another behind the sides
+
+abbrev pub asked-codes : List ℕ
+asked-codes = map (λ (k : ℕ). asked-from + k) (from 1 8)
+
+pub mark-more : (k n : ℕ) (codes : List ℕ) → k < 8 → n ≡ asked-from + k + 1 → codes ≡ paste (replicate 40 0) 32 asked-codes k → set codes (32 + k) n ≡ paste (replicate 40 0) 32 asked-codes (k + 1)
+mark-more k n codes h e inv =
+    let q : n ≡ asked-from + (1 + k) = omega arith in
+    pasted (replicate 40 0) 32 asked-codes k 0 codes (32 + k) n (omega arith) h inv refl
+    (q ∙ sym (getD-map-in (λ (j : ℕ). asked-from + j) (from 1 8) k 0 0 h ∙ ap (λ (j : ℕ). asked-from + j) (from-at 1 8 k 0 h)))
+
+pub mark-done : (k : ℕ) (codes : List ℕ) → k ≡ 8 → codes ≡ paste (replicate 40 0) 32 asked-codes k → codes ≡ noClause .codes
+mark-done k codes e inv = inv ∙ ap (paste (replicate 40 0) 32 asked-codes) e

@@ -1,4 +1,5 @@
 // A joint clause in arrays, made from the comparisons that masks select: rule 3 says whose operands they are and what a column of the query becomes.
+use super::Pattern;
 use super::labels::Labels;
 use table::Condition;
 use table::Operand;
@@ -39,49 +40,12 @@ impl Joined {
         ensures { λ r. ⌜ r ≡ noClause ⌝ }
     {
         let ops = [0u8; Labels::COMPARISONS];
-        let a = Labels::FROM_ASKED;
-        let codes = [
-            0,
-            0,
-            0,
-            0,
-            0,
-            0,
-            0,
-            0,
-            0,
-            0,
-            0,
-            0,
-            0,
-            0,
-            0,
-            0,
-            0,
-            0,
-            0,
-            0,
-            0,
-            0,
-            0,
-            0,
-            0,
-            0,
-            0,
-            0,
-            0,
-            0,
-            0,
-            0,
-            a + 1,
-            a + 2,
-            a + 3,
-            a + 4,
-            a + 5,
-            a + 6,
-            a + 7,
-            a + 8,
-        ];
+        let mut codes = [0u64; Labels::OPERANDS];
+        let mut k: usize = 0;
+        while k < Pattern::ENTRIES {
+            codes[Labels::ASKED + k] = Labels::FROM_ASKED + (k as u64) + 1;
+            k += 1;
+        }
         Joined {
             codes,
             ops,
@@ -104,6 +68,7 @@ pub fn used(count: u8) -> usize
 
 // ---- operands
 
+// A constant's number. (2 to the 32 is added at 64 bits, so that nothing is negative.)
 fn constant_code(z: i32) -> u64
     ensures { λ r. ⌜ (r ≡ constantCode z) × (isWithin32 z ≡ true) ⌝ }
 {
@@ -161,6 +126,7 @@ fn set_code(settings: [Setting; Update::SETTINGS], n: usize, column: u8) -> u64
     code
 }
 
+// A column's number: its own, or of what the update puts there.
 fn column_code(column: u8, role: u8, settings: [Setting; Update::SETTINGS], n: usize) -> u64
     requires { ⌜ n ≤ 8 ⌝ }
     ensures { λ r. ⌜ Coding (columnOf role (map settingRead (take n settings)) column) r ⌝ }
@@ -174,6 +140,7 @@ fn column_code(column: u8, role: u8, settings: [Setting; Update::SETTINGS], n: u
     set_code(settings, n, column)
 }
 
+// The number of question mark k + 1, of whom the role says.
 fn mark_code(k: u8, role: u8) -> u64
     ensures { λ r. ⌜ Coding (markOf role (suc k)) r ⌝ }
 {

@@ -75,7 +75,7 @@ fn relabel(labels: &mut [u64; Labels::OPERANDS], from: u64, to: u64)
     }
 }
 
-// Whether a comparison by this number is `=`.
+// Whether a comparison by this number is `=`. (So is one by a number past the operators.)
 fn is_join(op: u8) -> bool
     ensures { λ r. ⌜ r ≡ isJoin (operatorAt op) ⌝ }
 {

@@ -10,6 +10,7 @@ ghost use Rattle.lists.specs.Tests.{eqList};
 ghost use Rattle.meaning.specs.Pattern.{sameEntry};
 ghost use Rattle.pattern.specs.Stored.{entryRead, placeRead, noPattern};
 
+// Whether two entries are the same.
 fn same_entry(a: Entry, b: Entry) -> bool
     ensures { λ r. ⌜ r ≡ sameEntry (entryRead a) (entryRead b) ⌝ }
 {
@@ -51,6 +52,7 @@ pub fn same(a: Pattern, b: Pattern) -> bool
     good
 }
 
+// Room for a list of patterns.
 pub fn no_patterns() -> [Pattern; Patterns::CLAUSES]
     ensures { λ r. ⌜ r ≡ replicate 64 noPattern ⌝ }
 {

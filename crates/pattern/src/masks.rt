@@ -102,6 +102,7 @@ fn product(
 }
 
 impl Stack {
+    // No step taken yet.
     fn empty() -> Stack
         ensures { λ r. ⌜ r ≡ noStack ⌝ }
     {
@@ -176,6 +177,7 @@ impl Stack {
         }
     }
 
+    // The stack after a step: a comparison, AND or OR.
     fn stepped(self, step: u8) -> Stack
         requires { ⌜ Steps step self ⌝ }
         ensures { λ r. ⌜ r ≡ steppedOf step self ⌝ }

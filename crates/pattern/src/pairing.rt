@@ -29,6 +29,7 @@ pub struct Pairing {
     pub total: u16,
 }
 
+// How many joint clauses there are, by the form of the update and how many clauses query and update have.
 fn total_of(form: u8, f: u8, g: u8) -> u16
     requires { ⌜ (f ≤ 18) × (g ≤ 18) ⌝ }
     ensures { λ r. ⌜ r ≡ totalOf form f g ⌝ }
@@ -48,6 +49,7 @@ fn no_clauses() -> Clauses {
     Clauses { masks, count: 0 }
 }
 
+// A pair whose clauses are not worked out.
 fn too_many() -> Pairing
     ensures { λ r. ⌜ r .many ≡ true ⌝ }
 {
@@ -60,6 +62,7 @@ fn too_many() -> Pairing
     }
 }
 
+// The clauses of a query and an update, and how many joint clauses they make.
 pub fn paired(query: Query, update: Update) -> Pairing
     ensures { λ r. ⌜ Paired query update r ⌝ }
 {

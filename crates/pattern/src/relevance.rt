@@ -92,6 +92,7 @@ fn tests(condition: Condition, count: usize, columns: [u8; Update::SETTINGS], n:
     found
 }
 
+// 1 if so, else 0.
 fn one_if(b: bool) -> usize
     ensures { λ r. ⌜ r ≡ oneIf b ⌝ }
 {
@@ -132,6 +133,7 @@ fn touches(query: Query, update: Update) -> bool
     tests(condition, there, columns, n)
 }
 
+// Rules 1 and 2: whether the update can change an answer of the query.
 pub fn relevant(query: Query, update: Update) -> bool
     ensures { λ r. ⌜ r ≡ relevantTo query update ⌝ }
 {

@@ -1,5 +1,5 @@
-use mathlib.Core.Path.{ap, _∙_}
 -- `filled` meets its contract. Assumes nothing.
+use mathlib.Core.Path.{ap, _∙_}
 use Rattle.pattern.specs.declared.Entry.the-variants.{Constant}
 use Rattle.pattern.proofs.Agreeing.{filled-constant, filled-there, filled-past}
 use borrow.Author.Needs.{needs}

@@ -1,8 +1,8 @@
+-- `entry_of` meets its contract. Assumes nothing.
 use mathlib.Core.Path.{_∙_}
 use native.Mathlib.Omega.{arith}
 use borrow.Author.Needs.{needs}
 use Rattle.pattern.proofs.Labelling.{entry-constant, entry-mark, entry-any}
--- `entry_of` meets its contract. Assumes nothing.
 use borrow.Author.Needs.{needs}
 use Rattle.pattern.proofs.labels.entry_of.Statement.{statement}
 use Rattle.pattern.proofs.labels.entry_of.Tie as tie

@@ -1,3 +1,4 @@
+-- `join` meets its contract, by what its callees ensure. Assumes nothing.
 use Prim.Native.Nat.{ℕ}
 use mathlib.Core.Path.{sym, ap, ap₂, _∙_}
 use mathlib.Core.List.{map}
@@ -5,7 +6,6 @@ use borrow.Author.Needs.{needs}
 use Rattle.statement.specs.Places.{operatorAt}
 use Rattle.pattern.specs.Least.{renameCode}
 use Rattle.pattern.proofs.Operators.{joins-labels, leaves-labels}
--- `join` meets its contract, by what its callees ensure. Assumes nothing.
 use borrow.Author.Needs.{needs}
 use Rattle.pattern.proofs.labels.join.Statement.{statement}
 use Rattle.pattern.proofs.labels.join.Tie as tie

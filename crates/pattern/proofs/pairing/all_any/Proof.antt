@@ -1,8 +1,8 @@
+-- `all_any` meets its contract. Assumes nothing.
 use Rattle.pattern.proofs.ClausePatterns.{any-made}
 use Rattle.pattern.specs.Stored.{patternStruct}
 use Rattle.meaning.specs.Pattern.{anything}
 use lib.ListN.{replicate}
--- `all_any` meets its contract. Assumes nothing.
 use Prim.Native.Nat.{ℕ}
 use mathlib.Core.Path.{_∙_, ap}
 use native.Mathlib.Omega.{arith}

@@ -8,13 +8,21 @@ use Rattle.pattern.proofs.pairing.clause_at.Statement.{statement}
 use Rattle.pattern.proofs.pairing.clause_at.Tie as tie
 
 array-read-inserted : tie.Need-array-read-inserted
-array-read-inserted c = let w = c .before .before .before .before .before .pre .0 .query-masked .few in let h = insert-below (c .before .before .before .before .before .args .query) (c .before .before .before .before .before .args .update) (c .before .before .before .before .before .args .p) (c .before .before .before .before .before .pre .0) (c .before .before .before .before .before .args .i) (c .before .before .before .before .before .pre .1) (c .before .if1 .taken) in omega arith
+array-read-inserted c =
+    let s = c .before .before .before .before .before in
+    let a = s .args in
+    let w = s .pre .0 .query-masked .few in
+    let h = insert-below (a .query) (a .update) (a .p) (s .pre .0) (a .i) (s .pre .1) (c .before .if1 .taken) in
+    omega arith
 
 inserted-requires : tie.Need-inserted-requires
 inserted-requires c κs = search needs
 
 returns : tie.Need-returns
-returns c = let a = c .before .before .before .before .before .before .args in c .inserted .ensures ∙ ap (clausePattern (entryCount (a .query))) (insert-chosen (c .before .before .before .before .before .before .args .query) (c .before .before .before .before .before .before .args .update) (c .before .before .before .before .before .before .args .p) (c .before .before .before .before .before .before .pre .0) (c .before .before .before .before .before .before .args .i) (c .before .before .before .before .before .before .pre .1) (c .before .before .if1 .taken))
+returns c =
+    let s = c .before .before .before .before .before .before in
+    let a = s .args in
+    c .inserted .ensures ∙ ap (clausePattern (entryCount (a .query))) (insert-chosen (a .query) (a .update) (a .p) (s .pre .0) (a .i) (s .pre .1) (c .before .before .if1 .taken))
 
 cast-size : tie.Need-cast-size
 cast-size c = search needs
@@ -23,19 +31,32 @@ cast-size-2 : tie.Need-cast-size-2
 cast-size-2 c = search needs
 
 mul-size : tie.Need-mul-size
-mul-size c = let w = c .before .before .before .before .before .before .pre .0 in omega (arith, product-few (c .before .before .before .before .before .before .args .p .query .count) (c .before .before .before .before .before .before .args .p .update .count) (w .query-masked .few) (w .update-masked .few))
+mul-size c =
+    let s = c .before .before .before .before .before .before in
+    let a = s .args in
+    let w = s .pre .0 in
+    omega (arith, product-few (a .p .query .count) (a .p .update .count) (w .query-masked .few) (w .update-masked .few))
 
 pair-at-requires : tie.Need-pair-at-requires
 pair-at-requires c κs = search needs
 
 returns-2 : tie.Need-returns-2
-returns-2 c = let a = c .before .before .before .before .before .before .before .before .args in c .pair-at .ensures ∙ ap (clausePattern (entryCount (a .query))) (first-chosen (c .before .before .before .before .before .before .before .before .args .query) (c .before .before .before .before .before .before .before .before .args .update) (c .before .before .before .before .before .before .before .before .args .p) (c .before .before .before .before .before .before .before .before .pre .0) (c .before .before .before .before .before .before .before .before .args .i) (c .before .before .before .before .before .before .before .before .pre .1) (c .before .before .before .before .if1 .left) (c .before .if2 .taken))
+returns-2 c =
+    let s = c .before .before .before .before .before .before .before .before in
+    let a = s .args in
+    c .pair-at .ensures ∙ ap (clausePattern (entryCount (a .query))) (first-chosen (a .query) (a .update) (a .p) (s .pre .0) (a .i) (s .pre .1) (c .before .before .before .before .if1 .left) (c .before .if2 .taken))
 
 pair-at-requires-2 : tie.Need-pair-at-requires-2
-pair-at-requires-2 c κs = (c .before .before .before .before .before .before .before .pre .0, second-chosen (c .before .before .before .before .before .before .before .args .query) (c .before .before .before .before .before .before .before .args .update) (c .before .before .before .before .before .before .before .args .p) (c .before .before .before .before .before .before .before .pre .0) (c .before .before .before .before .before .before .before .args .i) (c .before .before .before .before .before .before .before .pre .1) (c .before .before .before .if1 .left) (c .if2 .left) .1)
+pair-at-requires-2 c κs =
+    let s = c .before .before .before .before .before .before .before in
+    let a = s .args in
+    (s .pre .0, second-chosen (a .query) (a .update) (a .p) (s .pre .0) (a .i) (s .pre .1) (c .before .before .before .if1 .left) (c .if2 .left) .1)
 
 returns-3 : tie.Need-returns-3
-returns-3 c = let a = c .before .before .before .before .before .before .before .before .args in c .pair-at2 .ensures ∙ ap (clausePattern (entryCount (a .query))) (sym (second-chosen (c .before .before .before .before .before .before .before .before .args .query) (c .before .before .before .before .before .before .before .before .args .update) (c .before .before .before .before .before .before .before .before .args .p) (c .before .before .before .before .before .before .before .before .pre .0) (c .before .before .before .before .before .before .before .before .args .i) (c .before .before .before .before .before .before .before .before .pre .1) (c .before .before .before .before .if1 .left) (c .before .if2 .left) .0))
+returns-3 c =
+    let s = c .before .before .before .before .before .before .before .before in
+    let a = s .args in
+    c .pair-at2 .ensures ∙ ap (clausePattern (entryCount (a .query))) (sym (second-chosen (a .query) (a .update) (a .p) (s .pre .0) (a .i) (s .pre .1) (c .before .before .before .before .if1 .left) (c .before .if2 .left) .0))
 
 pub clause-at-spec : {M : Type 1} → statement M
 clause-at-spec =

@@ -1,6 +1,6 @@
+-- `total_of` meets its contract. Assumes nothing.
 use native.Mathlib.Omega.{arith}
 use Rattle.pattern.proofs.JointClauses.{product-few, total-update, total-delete}
--- `total_of` meets its contract. Assumes nothing.
 use borrow.Author.Needs.{needs}
 use Rattle.pattern.proofs.pairing.total_of.Statement.{statement}
 use Rattle.pattern.proofs.pairing.total_of.Tie as tie

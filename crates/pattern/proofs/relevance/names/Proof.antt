@@ -1,9 +1,9 @@
+-- `names` meets its contract. Assumes nothing.
 use mathlib.Core.Path.{sym, ap, _∙_}
 use lib.ListN.{take}
 use Rattle.statement.specs.declared.Operand.{Operand}
 use Rattle.statement.specs.Sound.{operandRead}
 use Rattle.pattern.specs.Relevance.{namesAny}
--- `names` meets its contract. Assumes nothing.
 use borrow.Author.Needs.{needs}
 use Rattle.pattern.proofs.relevance.names.Statement.{statement}
 use Rattle.pattern.proofs.relevance.names.Tie as tie

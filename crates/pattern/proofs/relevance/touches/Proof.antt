@@ -26,7 +26,10 @@ returns : tie.Need-returns
 returns c =
     let s = c .before .before .before .before .before .before .before in
     let a = s .args in
-    sym (by-selected (a .query) (a .update) (c .before .before .before .before .before .columns-of .ensures .1) (c .before .before .before .before .before .columns-of .result) (c .before .before .before .before .used .result) (c .before .before .before .before .before .columns-of .ensures .0) (c .before .before .before .before .used .ensures) (c .before .before .used2 .result) (selected-long s) (c .before .before .used2 .ensures) (sym (c .before .selects .ensures) ∙ c .if1 .taken))
+    let of = c .before .before .before .before .before .columns-of in
+    let n = c .before .before .before .before .used in
+    let m = c .before .before .used2 in
+    sym (by-selected (a .query) (a .update) (of .ensures .1) (of .result) (n .result) (of .ensures .0) (n .ensures) (m .result) (selected-long s) (m .ensures) (sym (c .before .selects .ensures) ∙ c .if1 .taken))
 
 comparison-steps-requires : tie.Need-comparison-steps-requires
 comparison-steps-requires c κs = search needs
@@ -41,9 +44,14 @@ returns-2 : tie.Need-returns-2
 returns-2 c =
     let s = c .before .before .before .before .before .before .before .before .before .before .before .before in
     let a = s .args in
+    let of = c .before .before .before .before .before .before .before .before .before .before .columns-of in
+    let n = c .before .before .before .before .before .before .before .before .before .used in
+    let m = c .before .before .before .before .before .before .before .used2 in
+    let k = c .before .before .before .comparison-steps in
+    let l = c .before .before .used3 in
     c .tests .ensures .0
-    ∙ sym (by-tested (a .query) (a .update) (c .before .before .before .before .before .before .before .before .before .before .columns-of .ensures .1) (c .before .before .before .before .before .before .before .before .before .before .columns-of .result) (c .before .before .before .before .before .before .before .before .before .used .result) (c .before .before .before .before .before .before .before .before .before .before .columns-of .ensures .0) (c .before .before .before .before .before .before .before .before .before .used .ensures) (c .before .before .before .before .before .before .before .used2 .result) (selected-long s) (c .before .before .before .before .before .before .before .used2 .ensures) (sym (c .before .before .before .before .before .before .selects .ensures) ∙ c .before .before .before .before .before .if1 .left)
-    (c .before .before .before .comparison-steps .result) (c .tests .ensures .1) (omega (arith, c .before .before .before .comparison-steps .ensures, c .before .before .used3 .ensures, c .before .if2 .taken)))
+    ∙ sym (by-tested (a .query) (a .update) (of .ensures .1) (of .result) (n .result) (of .ensures .0) (n .ensures) (m .result) (selected-long s) (m .ensures) (sym (c .before .before .before .before .before .before .selects .ensures) ∙ c .before .before .before .before .before .if1 .left)
+    (k .result) (c .tests .ensures .1) (omega (arith, k .ensures, l .ensures, c .before .if2 .taken)))
 
 tests-requires-2 : tie.Need-tests-requires-2
 tests-requires-2 c κs = search needs
@@ -52,9 +60,14 @@ returns-3 : tie.Need-returns-3
 returns-3 c =
     let s = c .before .before .before .before .before .before .before .before .before .before .before .before in
     let a = s .args in
+    let of = c .before .before .before .before .before .before .before .before .before .before .columns-of in
+    let n = c .before .before .before .before .before .before .before .before .before .used in
+    let m = c .before .before .before .before .before .before .before .used2 in
+    let k = c .before .before .before .comparison-steps in
+    let l = c .before .before .used3 in
     c .tests2 .ensures .0
-    ∙ sym (by-tested (a .query) (a .update) (c .before .before .before .before .before .before .before .before .before .before .columns-of .ensures .1) (c .before .before .before .before .before .before .before .before .before .before .columns-of .result) (c .before .before .before .before .before .before .before .before .before .used .result) (c .before .before .before .before .before .before .before .before .before .before .columns-of .ensures .0) (c .before .before .before .before .before .before .before .before .before .used .ensures) (c .before .before .before .before .before .before .before .used2 .result) (selected-long s) (c .before .before .before .before .before .before .before .used2 .ensures) (sym (c .before .before .before .before .before .before .selects .ensures) ∙ c .before .before .before .before .before .if1 .left)
-    (c .before .before .used3 .result) (c .tests2 .ensures .1) (omega (arith, c .before .before .before .comparison-steps .ensures, c .before .before .used3 .ensures, c .before .if2 .left)))
+    ∙ sym (by-tested (a .query) (a .update) (of .ensures .1) (of .result) (n .result) (of .ensures .0) (n .ensures) (m .result) (selected-long s) (m .ensures) (sym (c .before .before .before .before .before .before .selects .ensures) ∙ c .before .before .before .before .before .if1 .left)
+    (l .result) (c .tests2 .ensures .1) (omega (arith, k .ensures, l .ensures, c .before .if2 .left)))
 
 pub touches-spec : {M : Type 1} → statement M
 touches-spec =
