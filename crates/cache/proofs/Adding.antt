@@ -2,9 +2,9 @@
 -- added is the compiled form of its sentence's statement. Assumes nothing.
 use mathlib.Core.Path.{_≡_, refl, sym, ap, ap₂, _∙_, subst, subst₂}
 use mathlib.Core.Bool.{Bool, true, false, _||_, cond}
-use mathlib.Core.Option.{Option, none, some}
+use mathlib.Core.Option.{Option, some}
 use mathlib.Core.List.{List, [], _∷_, _++_}
-use Prim.Native.Nat.{ℕ, zero, suc, _+_, _*_, _-_, _<_}
+use Prim.Native.Nat.{ℕ, _+_, _*_, _-_, _<_}
 use native.Mathlib.Omega.{arith}
 use borrow.Author.Tests.{leb-false}
 use lib.Dec.{leb, ltb}
@@ -47,6 +47,7 @@ use Rattle.cache.proofs.Standing.{compiled-more}
 use Rattle.cache.proofs.Meanings.{schemas-mean, table-count, query-count, update-count}
 use Rattle.cache.proofs.Refused.{Same, settled-same, unfit-is}
 use Rattle.cache.proofs.Parts.{take-more}
+use Rattle.cache.proofs.Refusals.{struct-zero, compiled-number as number-compiled}
 
 -- ---- what a text is judged by
 
@@ -79,22 +80,6 @@ module _ (p q : Plain) (ts : schemas p ≡ schemas q) (qs : length (p .queries) 
       ∷ (9, itsSentence f (sentence text))
       ∷ [])
       ts (λ i s. places-same s i)
-
--- ---- what is compiled
-
-struct-unrefused : (ts : List Schema) (o : Option Sentence) → structOfText ts o .refusal ≡ 0
-unfolding structOf
-struct-unrefused ts none = refl
-struct-unrefused ts (some s) = go (statementOf ts s)
-  where
-    go : (x : Statement) → structOf x .refusal ≡ 0
-    go (creates t) = refl
-    go (asks q) = refl
-    go (changes u) = refl
-
-settled-number : (n : ℕ) (done : Struct) → done .refusal ≡ 0 → C.settled n done .refusal ≡ n
-settled-number zero done h = h
-settled-number (suc n) done h = refl
 
 -- ---- a new table has no rows, and starts where the others end
 
@@ -196,7 +181,7 @@ module _ (s : Store) (p : Plain) (T : Typed (s .state)) (h : soundState (s .stat
   compiled-number : compiledBeside (s .state) text .refusal ≡ lowestOf (textConditions p text)
   unfolding compiledOf
   compiled-number =
-      settled-number (lowestOf (textConditions beside text)) _ (struct-unrefused (schemas beside) (sentence text)) ∙ text-number
+      number-compiled (lowestOf (textConditions beside text)) _ (struct-zero (schemas beside) (sentence text)) ∙ text-number
 
   -- the number that it gets
   pub add-number : addRefusal (s .state) (length (s .cells)) (length (s .memory)) text ≡ refusal (lengthsLent s) p (add text)

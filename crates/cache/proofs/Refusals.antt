@@ -80,7 +80,7 @@ lowest-append k (c ∷ cs) ds a = go (c .1) (c .0) (ltb-true k (c .0) (and-left 
 
 -- ---- add
 
-struct-zero : (ts : List Schema) (o : Option Sentence) → structOfText ts o .refusal ≡ 0
+pub struct-zero : (ts : List Schema) (o : Option Sentence) → structOfText ts o .refusal ≡ 0
 unfolding structOf
 struct-zero ts none = refl
 struct-zero ts (some s) = go (statementOf ts s)
@@ -90,7 +90,7 @@ struct-zero ts (some s) = go (statementOf ts s)
     go (asks q) = refl
     go (changes u) = refl
 
-compiled-number : (n : ℕ) (done : D.Statement) → done .refusal ≡ 0 → compiledBy n done .refusal ≡ n
+pub compiled-number : (n : ℕ) (done : D.Statement) → done .refusal ≡ 0 → compiledBy n done .refusal ≡ n
 compiled-number zero done e = e
 compiled-number (suc n) done e = refl
 

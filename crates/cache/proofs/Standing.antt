@@ -1,7 +1,6 @@
 -- Every sound state stands for a plain store: its tables are read off the state and the cells, and each question and update is the compiled form of a sentence's
 -- statement. Assumes nothing.
 use mathlib.Core.Path.{_≡_, refl, sym, ap, _∙_, subst}
-use mathlib.Core.Bool.{true}
 use mathlib.Core.List.{List, [], _∷_, _++_}
 use Prim.Native.Nat.{ℕ, zero, suc, _+_, _*_, _≤_, _<_}
 use native.Mathlib.Nat.{le-of-suc-le-suc, not-suc-le-zero}
@@ -10,7 +9,6 @@ use lib.IntN.{ℤ}
 use lib.ListN.{length, getD, take, length-map, List·getD-map}
 use lib.Seq.{length-take-le, getD-take, take-take}
 use Rattle.lists.specs.Lists.{All, nil, cons}
-use Rattle.lists.proofs.Bools.{and-left, and-right}
 use Rattle.lists.proofs.Lists.{All-map, All-both, All-take}
 use Rattle.lists.proofs.Places.{All-at}
 use Rattle.meaning.specs.Limits.{most-items}
@@ -20,8 +18,7 @@ use Rattle.meaning.specs.Plain.{Plain}
 use Rattle.statement.specs.declared.Table.{Table}
 use Rattle.statement.specs.Catalog.{schemaOf, nameOfStruct}
 use Rattle.statement.specs.Compiled.{noTable}
-use Rattle.statement.specs.Sound.{usedColumns, columnsAt, soundTable, soundTables, AgreesQuery, AgreesUpdate, FromQuery, FromUpdate, TableStructFits}
-use Rattle.statement.proofs.SoundTable.{table-parts}
+use Rattle.statement.specs.Sound.{usedColumns, columnsAt, AgreesQuery, AgreesUpdate, FromQuery, FromUpdate, TableStructFits}
 use Rattle.statement.proofs.SoundQuery.{query-parts, query-sound}
 use Rattle.statement.proofs.SoundUpdate.{update-parts, update-sound}
 use Rattle.cache.specs.declared.State.{State}
@@ -32,6 +29,7 @@ use Rattle.cache.specs.Calls.{startOf, tableAt, updateAt}
 use Rattle.cache.specs.Demand.{StandsForPlain}
 use Rattle.cache.proofs.Sounds.{schemasIn, Sound, sound-is, schemas-long, tables-fit, query-at, update-at, All-first}
 use Rattle.cache.proofs.Areas.{area-within}
+use Rattle.cache.proofs.StaysAdded.{columns-few}
 
 -- ---- lists of which each member is the compiled form of the other's
 
@@ -56,12 +54,6 @@ module _ {A B : Type 0} {R : A → B → Type 0} where
 
 -- ---- the columns of a table in use
 
-counts-few : (before : List Schema) (ts : List Table) → soundTables before ts ≡ true → All (λ (t : Table). t .count ≤ most-items) ts
-counts-few before [] h = nil
-counts-few before (t ∷ ts) h =
-    cons (table-parts before t (and-left (soundTable before t) _ h) .few-columns)
-    (counts-few _ ts (and-right (soundTable before t) _ h))
-
 columns-length : (t : Table) → TableStructFits t → t .count ≤ most-items → length (schemaOf t .columns) ≡ t .count
 columns-length t F h = length-map (usedColumns t) nameOfStruct ∙ length-take-le (t .count) (t .columns) (omega (arith, F .eight))
 
@@ -83,7 +75,7 @@ module _ (s : State) (T : Typed s) (S : Sound s) where
 
     pub few-columns : tableAt s i .count ≤ most-items
     few-columns =
-        All-first {P = λ (t : Table). t .count ≤ most-items} (s .«table_count») (s .tables) i noTable few-tables h (counts-few [] (usedTables s) (S .tables))
+        All-first {P = λ (t : Table). t .count ≤ most-items} (s .«table_count») (s .tables) i noTable few-tables h (columns-few [] (usedTables s) (S .tables))
 
     -- its columns beside the others
     pub columns-at : columnsAt (schemasIn s) i ≡ tableAt s i .count

@@ -179,7 +179,7 @@ module _ (s : State) (T : Typed s) (S : Sound s) where
 -- ---- a table
 
 -- each of sound tables has few columns
-columns-few : (before : List Schema) (ts : List Table) → soundTables before ts ≡ true → All (λ (t : Table). t .count ≤ most-items) ts
+pub columns-few : (before : List Schema) (ts : List Table) → soundTables before ts ≡ true → All (λ (t : Table). t .count ≤ most-items) ts
 columns-few before [] h = nil
 columns-few before (t ∷ ts) h =
     cons (table-parts before t (and-left (soundTable before t) _ h) .few-columns) (columns-few (before ++ (schemaOf t ∷ [])) ts (and-right (soundTable before t) _ h))
