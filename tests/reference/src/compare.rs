@@ -36,7 +36,7 @@ fn joined(script: &[Vec<u8>]) -> Vec<u8> {
     all
 }
 
-/// The first line of output that differs, or `None`. Scripts with a line that the language does not fix tell nothing.
+/// Do the outputs differ? A script with a line that the language does not fix tells nothing.
 fn differs(mode: Mode, program: &str, script: &[Vec<u8>]) -> bool {
     let bytes = joined(script);
     let (reference, front) = run(mode, &bytes);
@@ -135,6 +135,8 @@ pub fn compare(mode: Mode, program: &str, first: u64, count: u64, length: usize)
         for (ground, n) in ["first", "does not fit", "updated or flushed", "other keys"].iter().zip(made.grounds) {
             tally.add(&format!("new, ground: {ground}"), n);
         }
+        let (_, front) = run(mode, &joined(&made.lines));
+        assert!(!front.unfixed, "seed {seed} makes a line that the language does not fix");
         if differs(mode, program, &made.lines) {
             println!("DIFFERENCE, seed {seed} ({:?}), {} lines", made.profile, made.lines.len());
             let short = shorten(mode, program, made.lines);

@@ -16,7 +16,6 @@ pub struct Front {
     pub lent: (usize, usize),
     /// Calls: the buffer of the last ASK, while a ROW may follow it.
     pub buffer: Option<Vec<u8>>,
-    pub last_length: usize,
     /// Calls: a line came that this language does not fix (the comparison leaves such a script out).
     pub unfixed: bool,
 }
@@ -45,10 +44,17 @@ fn rows_of(record: &[u8]) -> String {
 
 /// Digits only, within `most`.
 fn digits(word: &[u8], most: u64) -> Option<u64> {
-    if word.is_empty() || !word.iter().all(u8::is_ascii_digit) {
+    if word.is_empty() {
         return None;
     }
-    std::str::from_utf8(word).ok()?.trim_start_matches('0').parse().ok().or_else(|| word.iter().all(|&b| b == b'0').then_some(0)).filter(|&n: &u64| n <= most)
+    let mut number = 0u64;
+    for digit in word {
+        if !digit.is_ascii_digit() {
+            return None;
+        }
+        number = number.checked_mul(10)?.checked_add(u64::from(digit - b'0'))?;
+    }
+    (number <= most).then_some(number)
 }
 
 fn values(words: &[&[u8]]) -> Option<Vec<i32>> {
@@ -61,11 +67,11 @@ impl Front {
             Mode::Desk => {
                 let (store, result) = Store::open(4_096, 256, 4, 64);
                 assert_eq!(result, Ok(()));
-                Front { mode, store, lent: (4_096, 256), buffer: None, last_length: 0, unfixed: false }
+                Front { mode, store, lent: (4_096, 256), buffer: None, unfixed: false }
             }
             Mode::Calls => {
                 let (store, _) = Store::open(0, 0, 0, 0);
-                Front { mode, store, lent: (0, 0), buffer: None, last_length: 0, unfixed: false }
+                Front { mode, store, lent: (0, 0), buffer: None, unfixed: false }
             }
         }
     }
@@ -141,7 +147,7 @@ impl Front {
         let words: Vec<&[u8]> = line.split(|&b| b == b' ').collect();
         if words[0] == b"ROW" && words.len() == 2 {
             let bytes = self.buffer.as_ref()?;
-            return Some(Some(match show_row(bytes, digits(words[1], u64::MAX)?) {
+            return Some(Some(match show_row(bytes, digits(words[1], 2_147_483_647)?) {
                 Ok(row) => format!("row : {}", joined(&values_of(row))),
                 Err(number) => refused(number),
             }));
@@ -175,7 +181,6 @@ impl Front {
                         let mut buffer = vec![0; length];
                         buffer[..answer.record.len()].copy_from_slice(&answer.record);
                         self.buffer = Some(buffer);
-                        self.last_length = answer.record.len();
                         let rows = rows_of(&answer.record);
                         format!("{how} read {} bytes {} {rows}", answer.rows_read, answer.record.len())
                     }

@@ -546,6 +546,11 @@ impl Generator {
     fn emit(&mut self, line: Vec<u8>) {
         assert!(!line.contains(&b'\n'));
         if let Some(printed) = self.front.line(&line) {
+            if printed.starts_with("new") {
+                let ground = self.front.store.last_ground.expect("a new answer has a ground");
+                self.made.grounds[ground as usize] += 1;
+                self.made.evictions += usize::from(self.front.store.last_evicted);
+            }
             self.made.printed.push(printed);
         }
         self.made.lines.push(line);
@@ -655,7 +660,7 @@ impl Generator {
         if self.front.buffer.is_some() && self.random.chance(12) {
             let rows = self.front.buffer.as_ref().map_or(0, |b| usize::from(b[6]) * 256 + usize::from(b[7]));
             for _ in 0..self.random.between(1, 3) {
-                let row = self.random.pick(&[0, 0, 1, rows, rows + 1, rows.saturating_sub(1), rows / 2, 511, 512, 513, 65_536, 65_535]);
+                let row = self.random.pick(&[0, 0, 0, 1, 1, 2, rows.saturating_sub(1), rows / 2, rows, rows + 1, 511, 512, 65_536, 2_147_483_647]);
                 self.emit_text(&format!("ROW {row}"));
             }
         }
@@ -870,7 +875,6 @@ impl Generator {
                 self.call();
             }
         }
-        self.made.evictions += self.front.store.evictions;
         self.made
     }
 }

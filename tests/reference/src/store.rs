@@ -33,7 +33,7 @@ pub struct Answer {
     pub record: Vec<u8>,
 }
 
-/// The grounds on which an answer was worked out anew, counted for the report of what was tried.
+/// The grounds on which an answer may be worked out anew.
 #[derive(Clone, Copy, PartialEq, Debug)]
 pub enum Ground {
     First,
@@ -57,8 +57,9 @@ pub struct Store {
     kept: Vec<Option<Kept>>,
     plain: Plain,
     history: Vec<Event>,
+    /// Why the last ask was worked out anew, and whether it took a held slot: counted for the report of what was tried.
     pub last_ground: Option<Ground>,
-    pub evictions: usize,
+    pub last_evicted: bool,
 }
 
 impl Store {
@@ -76,7 +77,7 @@ impl Store {
             plain: Plain::open(cells, bytes),
             history: vec![],
             last_ground: None,
-            evictions: 0,
+            last_evicted: false,
         }
     }
 
@@ -113,13 +114,9 @@ impl Store {
         self.area(table) + row * self.catalogue.tables[table].columns.len()
     }
 
-    pub fn row(&self, table: usize, row: usize) -> Vec<i32> {
+    fn row(&self, table: usize, row: usize) -> Vec<i32> {
         let start = self.row_start(table, row);
         self.cells[start..start + self.catalogue.tables[table].columns.len()].to_vec()
-    }
-
-    pub fn row_count(&self, table: usize) -> usize {
-        self.counts[table]
     }
 
     fn put_row(&mut self, table: usize, row: usize, values: &[i32]) {
@@ -147,6 +144,7 @@ impl Store {
 
     pub fn ask(&mut self, lent: (usize, usize), n: u64, values: &[i32], buffer: usize) -> Result<Answer, u8> {
         self.last_ground = None;
+        self.last_evicted = false;
         let plain = self.plain.ask(lent, n, values, buffer);
         let result = self.ask_here(lent, n, values, buffer);
         match (&result, &plain) {
@@ -201,7 +199,7 @@ impl Store {
         if self.slots > 0 && record.len() <= self.slot_bytes {
             let slot = *self.order.last().unwrap();
             if self.held == self.slots {
-                self.evictions += 1;
+                self.last_evicted = true;
             } else {
                 self.held += 1;
             }
