@@ -257,7 +257,7 @@ impl Generator {
     }
 
     fn where_part(&mut self, columns: &[String], marks: &mut usize) -> Vec<String> {
-        if self.random.chance(12) {
+        if self.random.chance(6) {
             return vec![];
         }
         let mut all = words("WHERE");
@@ -323,7 +323,7 @@ impl Generator {
             Profile::Full => self.random.between(1, 4),
             Profile::Openings if self.random.chance(60) => left / count + self.random.below(2),
             Profile::Large => self.random.pick(&[512, 512, 511, 128, 127]),
-            _ => self.random.pick(&[3, 5, 8, 16, 1, 512]).min(left.max(1)),
+            _ => self.random.pick(&[3, 5, 8, 16, 24, 40, 1, 512]).min((left / count).clamp(1, 512)),
         };
         let mut all = words("TABLE");
         all.extend([name, String::from("(")]);
@@ -726,12 +726,14 @@ impl Generator {
             Profile::Repeats => self.random.between(1, 4),
             Profile::Slots => self.random.pick(&[0, 64, 64, 63]),
             Profile::Large => self.random.pick(&[1, 4, 64]),
+            Profile::Patterns | Profile::Counts => self.random.pick(&[8, 16, 64]),
             _ => self.random.pick(&[1, 2, 3, 4, 5, 8, 16, 64]),
         };
         let slot_bytes = match self.profile {
             Profile::Repeats => self.random.pick(&[8, 12, 16, 20, 24, 32]),
             Profile::Large => self.random.pick(&[4_096, 4_096, 2_056, 1_032, 64]),
             Profile::Slots => self.random.pick(&[8, 12, 64, 4_096]),
+            Profile::Patterns | Profile::Counts => self.random.pick(&[24, 64, 256, 1_024]),
             _ => self.random.pick(&[12, 16, 24, 40, 64, 100, 256]),
         };
         let cells = match self.profile {
@@ -843,6 +845,34 @@ impl Generator {
         }
     }
 
+    /// Now and then another opening, or other lengths lent.
+    fn openings_and_lengths(&mut self) {
+        let percent = if self.profile == Profile::Openings { 4 } else { 0 };
+        if self.random.chance(percent) {
+            self.odd_open();
+            if self.random.chance(30) {
+                self.emit_text("LEND 0 0");
+            }
+            if self.random.chance(50) {
+                self.set_up();
+            }
+            for _ in 0..self.random.between(1, 8) {
+                self.call();
+            }
+            self.open();
+            self.set_up();
+        }
+        if self.random.chance(percent) || self.random.below(400) == 0 {
+            self.wrong_lengths();
+        }
+        // Other statements beside one another.
+        let renewed = matches!(self.profile, Profile::Patterns | Profile::Counts | Profile::Misses);
+        if renewed && self.random.below(80) == 0 {
+            self.open();
+            self.set_up();
+        }
+    }
+
     fn script(mut self, length: usize) -> Generated {
         if self.mode == Mode::Calls {
             self.open();
@@ -855,25 +885,10 @@ impl Generator {
         }
         let end = self.made.lines.len() + length;
         while self.made.lines.len() < end {
-            let odd = if self.profile == Profile::Openings { 4 } else { 0 };
-            if self.mode == Mode::Calls && self.random.chance(odd) {
-                if self.random.chance(50) {
-                    self.odd_open();
-                    if self.random.chance(30) {
-                        self.emit_text("LEND 0 0");
-                    }
-                    if self.random.chance(50) {
-                        self.set_up();
-                    }
-                } else {
-                    self.open();
-                    self.set_up();
-                }
-            } else if self.mode == Mode::Calls && (self.random.chance(odd) || self.random.below(400) == 0) {
-                self.wrong_lengths();
-            } else {
-                self.call();
+            if self.mode == Mode::Calls {
+                self.openings_and_lengths();
             }
+            self.call();
         }
         self.made
     }
