@@ -219,13 +219,28 @@ impl Generator {
         all
     }
 
-    /// Groups of ORs (or NOTs of ANDs) under AND, for clause counts about rule 5's limit.
+    /// Groups of ORs (or NOTs of ANDs) under AND, then some more under OR, for clause counts about rule 5's limit:
+    /// the product of the groups' sizes and one for each more. Pairs of these counts give 64, 65, 66 and others near.
     fn groups(&mut self, columns: &[String], marks: &mut usize) -> Vec<String> {
-        let shapes: [&[usize]; 16] = [
-            &[2, 2], &[2, 2, 2], &[2, 2, 2, 2], &[3, 3], &[3, 3, 2], &[4, 4], &[4, 2, 2], &[1, 2, 4], &[8], &[5], &[6],
-            &[4], &[1], &[2], &[3, 5], &[2, 3],
+        let shapes: [(&[usize], usize); 16] = [
+            (&[2], 0),
+            (&[3], 0),
+            (&[2, 2], 0),
+            (&[4], 0),
+            (&[5], 0),
+            (&[2, 2], 1),
+            (&[3, 2], 0),
+            (&[6], 0),
+            (&[4, 2], 0),
+            (&[2, 2, 2], 0),
+            (&[4, 2, 2], 0),
+            (&[4, 4], 0),
+            (&[2, 2, 2, 2], 0),
+            (&[3, 2, 2], 1),
+            (&[3, 3], 2),
+            (&[3, 3, 2], 0),
         ];
-        let shape = self.random.pick(&shapes);
+        let (shape, more) = self.random.pick(&shapes);
         let mut all = Vec::new();
         for (i, &size) in shape.iter().enumerate() {
             if i > 0 {
@@ -252,6 +267,9 @@ impl Generator {
                 all.extend([column, relation.to_string(), other]);
             }
             all.push(String::from(")"));
+        }
+        for _ in 0..more {
+            all.extend([String::from("OR"), self.column(columns), String::from("="), self.random.below(4).to_string()]);
         }
         all
     }
