@@ -274,6 +274,71 @@ impl Generator {
         all
     }
 
+    /// As `groups`, with all comparisons on one column, equal to constants of a list.
+    fn groups_on(&mut self, column: &str, constants: &[&str], shape: &[usize], more: usize) -> String {
+        let comparison = |random: &mut Random| format!("{column} = {}", random.pick(constants));
+        let mut parts: Vec<String> = Vec::new();
+        for &size in shape {
+            let group: Vec<String> = (0..size).map(|_| comparison(&mut self.random)).collect();
+            parts.push(format!("( {} )", group.join(" OR ")));
+        }
+        let mut all = parts.join(" AND ");
+        for _ in 0..more {
+            all.push_str(&format!(" OR {}", comparison(&mut self.random)));
+        }
+        all
+    }
+
+    /// A question and an update whose clause counts just pass rule 5's limit or just do not. Worked out, most have no
+    /// pattern; else the answer asked before goes.
+    fn count_pair(&mut self) {
+        let counts: [(&[usize], usize, &[usize], usize, bool); 12] = [
+            (&[4], 0, &[4, 4], 0, true),
+            (&[5], 0, &[3, 2, 2], 1, true),
+            (&[3, 2, 2], 1, &[5], 0, true),
+            (&[6], 0, &[3, 3], 2, true),
+            (&[3, 2], 0, &[3, 3], 2, true),
+            (&[2, 2, 2], 0, &[4, 2], 0, true),
+            (&[7], 0, &[3, 3], 0, true),
+            (&[2], 0, &[2, 2, 2, 2], 0, false),
+            (&[4], 0, &[8], 0, false),
+            (&[3], 0, &[3, 3], 2, false),
+            (&[3, 3], 2, &[3], 0, false),
+            (&[3], 0, &[5, 2], 0, false),
+        ];
+        let (of_update, more_update, of_question, more_question, delete) = self.random.pick(&counts);
+        let (table, columns) = self.some_table();
+        let column = self.column(&columns);
+        let g = self.groups_on(&column, &["0", "1"], of_update, more_update);
+        let low = if self.random.chance(15) { "1" } else { "2" };
+        let f = self.groups_on(&column, &[low, "3", "3", "2"], of_question, more_question);
+        let f = if self.random.chance(30) { f.replacen("= 3", "= ?", 1) } else { f };
+        self.add(&words(&format!("SELECT {column} FROM {table} WHERE {f}")));
+        let set = self.random.pick(&["0", "?", "1"]);
+        let update = if delete {
+            format!("DELETE FROM {table} WHERE {g}")
+        } else {
+            format!("UPDATE {table} SET {column} = {set} WHERE {g}")
+        };
+        self.add(&words(&update));
+        let question = self.front.store.catalogue.questions.len().wrapping_sub(1);
+        let update = self.front.store.catalogue.updates.len().wrapping_sub(1);
+        let (Some(q), Some(u)) =
+            (self.front.store.catalogue.questions.get(question), self.front.store.catalogue.updates.get(update))
+        else {
+            return;
+        };
+        let (question_marks, update_marks) = (q.marks, u.marks);
+        let buffer = if self.mode == Mode::Calls { " 16392" } else { "" };
+        let values = self.values(question_marks);
+        let asked = format!("ASK {question}{buffer}{}", self.written(&values));
+        self.emit_text(&asked);
+        let values = self.values(update_marks);
+        let done = format!("DO {update}{}", self.written(&values));
+        self.emit_text(&done);
+        self.emit_text(&asked);
+    }
+
     fn where_part(&mut self, columns: &[String], marks: &mut usize) -> Vec<String> {
         if self.random.chance(6) {
             return vec![];
@@ -823,6 +888,9 @@ impl Generator {
         };
         if self.random.chance(adds) {
             return self.add_something();
+        }
+        if self.profile == Profile::Counts && self.random.chance(4) {
+            return self.count_pair();
         }
         if self.random.chance(flushes) {
             return self.emit_text("FLUSH");
