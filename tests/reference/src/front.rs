@@ -1,0 +1,225 @@
+//! The two front ends: `desk`, and `calls` (one call a line, with the lengths lent).
+
+use crate::meaning::{record_shape, show_row, values_of};
+use crate::store::Store;
+use crate::text::constant;
+
+#[derive(Clone, Copy, PartialEq, Debug)]
+pub enum Mode {
+    Desk,
+    Calls,
+}
+
+pub struct Front {
+    mode: Mode,
+    pub store: Store,
+    pub lent: (usize, usize),
+    /// Calls: the buffer of the last ASK, while a ROW may follow it.
+    pub buffer: Option<Vec<u8>>,
+    /// Calls: a line came that this language does not fix (the comparison leaves such a script out).
+    pub unfixed: bool,
+}
+
+const BAD: &str = "bad line";
+
+fn refused(number: u8) -> String {
+    format!("refused {number}")
+}
+
+fn joined(values: &[i32]) -> String {
+    values.iter().map(|v| v.to_string()).collect::<Vec<_>>().join(" ")
+}
+
+/// The rows of a record behind a colon.
+fn rows_of(record: &[u8]) -> String {
+    let (columns, rows) = record_shape(record).expect("an answer is a record");
+    let shown: Vec<String> = (0..rows as u64).map(|i| joined(&values_of(show_row(record, i).unwrap()))).collect();
+    assert_eq!(record.len(), 8 + 4 * columns * rows);
+    if shown.is_empty() {
+        String::from(":")
+    } else {
+        format!(": {}", shown.join(" / "))
+    }
+}
+
+/// Digits only, within `most`.
+fn digits(word: &[u8], most: u64) -> Option<u64> {
+    if word.is_empty() {
+        return None;
+    }
+    let mut number = 0u64;
+    for digit in word {
+        if !digit.is_ascii_digit() {
+            return None;
+        }
+        number = number.checked_mul(10)?.checked_add(u64::from(digit - b'0'))?;
+    }
+    (number <= most).then_some(number)
+}
+
+fn values(words: &[&[u8]]) -> Option<Vec<i32>> {
+    words.iter().map(|word| constant(word).flatten()).collect()
+}
+
+impl Front {
+    pub fn new(mode: Mode) -> Front {
+        match mode {
+            Mode::Desk => {
+                let (store, result) = Store::open(4_096, 256, 4, 64);
+                assert_eq!(result, Ok(()));
+                Front { mode, store, lent: (4_096, 256), buffer: None, unfixed: false }
+            }
+            Mode::Calls => {
+                let (store, _) = Store::open(0, 0, 0, 0);
+                Front { mode, store, lent: (0, 0), buffer: None, unfixed: false }
+            }
+        }
+    }
+
+    /// What a line (without its end) prints; `None`: nothing.
+    pub fn line(&mut self, line: &[u8]) -> Option<String> {
+        match self.mode {
+            Mode::Desk => Some(self.desk_line(line).unwrap_or_else(|| BAD.to_string())),
+            Mode::Calls => match self.calls_line(line) {
+                Some(printed) => printed,
+                None => {
+                    self.unfixed = true;
+                    Some(BAD.to_string())
+                }
+            },
+        }
+    }
+
+    fn add(&mut self, text: &[u8]) -> String {
+        match self.store.add(self.lent, text) {
+            Ok((kind, number)) => format!("{kind} {number}"),
+            Err(number) => refused(number),
+        }
+    }
+
+    fn update(&mut self, n: u64, values: &[i32]) -> String {
+        match self.store.update(self.lent, n, values) {
+            Ok((rows, dropped)) => format!("rows {rows} dropped {dropped}"),
+            Err(number) => refused(number),
+        }
+    }
+
+    fn flush(&mut self) -> String {
+        match self.store.flush(self.lent) {
+            Ok(()) => String::from("flushed"),
+            Err(number) => refused(number),
+        }
+    }
+
+    /// `None`: a bad line.
+    fn desk_line(&mut self, line: &[u8]) -> Option<String> {
+        if line.len() > 512 {
+            return None;
+        }
+        if let Some(text) = line.strip_prefix(b"ADD ") {
+            return Some(self.add(text));
+        }
+        let words: Vec<&[u8]> = line.split(|&b| b == b' ').collect();
+        match words[0] {
+            b"FLUSH" if words.len() == 1 => Some(self.flush()),
+            b"ASK" if words.len() >= 2 => {
+                let n = digits(words[1], 2_147_483_647)?;
+                let values = values(&words[2..])?;
+                Some(match self.store.ask(self.lent, n, &values, 65_536) {
+                    Ok(answer) => {
+                        let how = if answer.kept { "kept" } else { "new" };
+                        format!("{how} read {} {}", answer.rows_read, rows_of(&answer.record))
+                    }
+                    Err(number) => refused(number),
+                })
+            }
+            b"DO" if words.len() >= 2 => {
+                let n = digits(words[1], 2_147_483_647)?;
+                let values = values(&words[2..])?;
+                Some(self.update(n, &values))
+            }
+            _ => None,
+        }
+    }
+
+    /// `None`: a line that this language does not fix. `Some(None)`: nothing is printed.
+    fn calls_line(&mut self, line: &[u8]) -> Option<Option<String>> {
+        let words: Vec<&[u8]> = line.split(|&b| b == b' ').collect();
+        if words[0] == b"ROW" && words.len() == 2 {
+            let bytes = self.buffer.as_ref()?;
+            return Some(Some(match show_row(bytes, digits(words[1], 2_147_483_647)?) {
+                Ok(row) => format!("row : {}", joined(&values_of(row))),
+                Err(number) => refused(number),
+            }));
+        }
+        self.buffer = None;
+        if let Some(text) = line.strip_prefix(b"ADD ") {
+            return Some(Some(self.add(text)));
+        }
+        let number = |at: usize, most: u64| words.get(at).and_then(|word| digits(word, most));
+        match words[0] {
+            b"OPEN" if words.len() == 5 => {
+                let (cells, bytes) = (number(1, 32_769)?, number(2, 262_145)?);
+                let (store, result) = Store::open(cells, bytes, number(3, 1_000_000)?, number(4, 1_000_000)?);
+                self.store = store;
+                self.lent = (cells as usize, bytes as usize);
+                Some(Some(match result {
+                    Ok(()) => String::from("opened"),
+                    Err(number) => refused(number),
+                }))
+            }
+            b"LEND" if words.len() == 3 => {
+                self.lent = (number(1, 32_769)? as usize, number(2, 262_145)? as usize);
+                Some(None)
+            }
+            b"ASK" if words.len() >= 3 && words.len() <= 12 => {
+                let (n, length) = (number(1, 2_147_483_647)?, number(2, 16_392)? as usize);
+                let values = values(&words[3..])?;
+                Some(Some(match self.store.ask(self.lent, n, &values, length) {
+                    Ok(answer) => {
+                        let how = if answer.kept { "kept" } else { "new" };
+                        let mut buffer = vec![0; length];
+                        buffer[..answer.record.len()].copy_from_slice(&answer.record);
+                        self.buffer = Some(buffer);
+                        let rows = rows_of(&answer.record);
+                        format!("{how} read {} bytes {} {rows}", answer.rows_read, answer.record.len())
+                    }
+                    Err(number) => refused(number),
+                }))
+            }
+            b"DO" if words.len() >= 2 && words.len() <= 11 => {
+                let n = number(1, 2_147_483_647)?;
+                let values = values(&words[2..])?;
+                Some(Some(self.update(n, &values)))
+            }
+            b"FLUSH" if words.len() == 1 => Some(Some(self.flush())),
+            b"SLOTS" if words.len() == 1 => {
+                let order: String = self.store.order.iter().map(|slot| format!(" {slot}")).collect();
+                Some(Some(format!("order{order} held {}", self.store.held)))
+            }
+            _ => None,
+        }
+    }
+}
+
+/// The lines of a script: ended by byte 10, a last one without it only if it has a byte.
+pub fn lines(script: &[u8]) -> Vec<&[u8]> {
+    let mut lines: Vec<&[u8]> = script.split(|&b| b == b'\n').collect();
+    if lines.last().is_some_and(|line| line.is_empty()) {
+        lines.pop();
+    }
+    lines
+}
+
+/// What the reference prints for a script.
+pub fn run(mode: Mode, script: &[u8]) -> (Vec<u8>, Front) {
+    let mut front = Front::new(mode);
+    let mut printed = Vec::new();
+    for line in lines(script) {
+        if let Some(text) = front.line(line) {
+            printed.extend(text.as_bytes());
+            printed.push(b'\n');
+        }
+    }
+    (printed, front)
+}

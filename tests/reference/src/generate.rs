@@ -1,0 +1,989 @@
+//! Random scripts. A seed gives a profile and then the lines; the reference runs along, so that most lines can be
+//! biased to be taken (existing tables, columns, marks, keys kept, buffers that just fit).
+
+use crate::front::{Front, Mode};
+use crate::text::{Catalogue, Statement};
+
+pub struct Random(u64);
+
+impl Random {
+    pub fn new(seed: u64) -> Random {
+        let mut random = Random(seed.wrapping_mul(0x9E37_79B9_7F4A_7C15) ^ 0x5851_F42D_4C95_7F2D);
+        random.next();
+        random
+    }
+
+    fn next(&mut self) -> u64 {
+        self.0 = self.0.wrapping_add(0x9E37_79B9_7F4A_7C15);
+        let mut z = self.0;
+        z = (z ^ (z >> 30)).wrapping_mul(0xBF58_476D_1CE4_E5B9);
+        z = (z ^ (z >> 27)).wrapping_mul(0x94D0_49BB_1331_11EB);
+        z ^ (z >> 31)
+    }
+
+    /// From 0 to n - 1.
+    pub fn below(&mut self, n: usize) -> usize {
+        (self.next() % n.max(1) as u64) as usize
+    }
+
+    fn between(&mut self, low: usize, high: usize) -> usize {
+        low + self.below(high - low + 1)
+    }
+
+    /// True in `percent` of a hundred.
+    fn chance(&mut self, percent: usize) -> bool {
+        self.below(100) < percent
+    }
+
+    fn pick<T: Clone>(&mut self, from: &[T]) -> T {
+        from[self.below(from.len())].clone()
+    }
+}
+
+#[derive(Clone, Copy, PartialEq, Debug)]
+pub enum Profile {
+    /// Few tables, many repeated asks, few slots, records that just fit or do not.
+    Repeats,
+    /// Long conditions, small constants, several marks.
+    Patterns,
+    /// Conditions whose clause counts lie about 64.
+    Counts,
+    /// Small tables, soon full; cells that just suffice.
+    Full,
+    /// Numbers at the ends of 32 bits.
+    Edges,
+    /// Texts that miss by a little.
+    Misses,
+    /// Openings refused and taken, wrong lengths lent.
+    Openings,
+    /// No slot, or 64 of them.
+    Slots,
+    /// Wide and long tables, long records.
+    Large,
+    /// Some of all.
+    Mixed,
+}
+
+pub const PROFILES: [Profile; 10] = [
+    Profile::Repeats,
+    Profile::Patterns,
+    Profile::Counts,
+    Profile::Full,
+    Profile::Edges,
+    Profile::Misses,
+    Profile::Openings,
+    Profile::Slots,
+    Profile::Large,
+    Profile::Mixed,
+];
+
+pub struct Generated {
+    pub profile: Profile,
+    pub lines: Vec<Vec<u8>>,
+    /// The reference's outputs, one for each line that prints.
+    pub printed: Vec<String>,
+    pub grounds: [usize; 4],
+    pub evictions: usize,
+}
+
+struct Generator {
+    random: Random,
+    mode: Mode,
+    profile: Profile,
+    front: Front,
+    made: Generated,
+}
+
+const TABLE_NAMES: [&str; 9] = ["t", "u", "stage", "log1", "ab_c", "x", "twelve_bytes", "select", "v9"];
+const COLUMN_NAMES: [&str; 11] =
+    ["a", "b", "c", "d", "site", "level", "e", "f_", "g", "rows", "twelve_bytes"];
+const RELATIONS: [&str; 6] = ["=", "<>", "<", "<=", ">", ">="];
+const EDGES: [&str; 12] = [
+    "-2147483648", "2147483647", "-2147483647", "2147483646", "0", "-1", "1", "-0", "-00000000000002147483648",
+    "00000000000000002147483647", "007", "-2147483648",
+];
+const OUTSIDE: [&str; 7] = [
+    "2147483648", "-2147483649", "4294967296", "99999999999", "-99999999999999999999999999", "18446744073709551616",
+    "4294967295",
+];
+
+fn words(text: &str) -> Vec<String> {
+    text.split(' ').map(String::from).collect()
+}
+
+impl Generator {
+    // ------------------------------------------------------------ numbers
+
+    fn value(&mut self) -> i32 {
+        let edges = match self.profile {
+            Profile::Edges => 70,
+            Profile::Mixed => 10,
+            _ => 1,
+        };
+        if self.random.chance(edges) {
+            return self.random.pick(&[i32::MIN, i32::MIN, i32::MAX, i32::MIN + 1, i32::MAX - 1, 0, -1, 1]);
+        }
+        let most = match self.profile {
+            Profile::Slots => 30,
+            Profile::Large => 10,
+            _ => 3,
+        };
+        self.random.below(most + 1) as i32
+    }
+
+    fn constant(&mut self) -> String {
+        let edges = if self.profile == Profile::Edges { 60 } else { 2 };
+        if self.random.chance(edges) {
+            if self.random.chance(8) {
+                return self.random.pick(&OUTSIDE).to_string();
+            }
+            return self.random.pick(&EDGES).to_string();
+        }
+        let value = self.value();
+        if self.random.chance(3) {
+            return if value < 0 { format!("-0{}", -i64::from(value)) } else { format!("0{value}") };
+        }
+        value.to_string()
+    }
+
+    // ------------------------------------------------------------ texts
+
+    /// A column of this list, now and then one that the table may not have.
+    fn column(&mut self, columns: &[String]) -> String {
+        if columns.is_empty() || self.random.below(250) == 0 {
+            return self.random.pick(&COLUMN_NAMES).to_string();
+        }
+        self.random.pick(columns)
+    }
+
+    fn operand(&mut self, columns: &[String], marks: &mut usize) -> String {
+        let roll = self.random.below(100);
+        if roll < 55 {
+            self.column(columns)
+        } else if roll < 78 && *marks > 0 {
+            *marks -= 1;
+            String::from("?")
+        } else {
+            self.constant()
+        }
+    }
+
+    fn comparison(&mut self, columns: &[String], marks: &mut usize) -> Vec<String> {
+        let relation = if self.random.chance(55) { "=" } else { self.random.pick(&RELATIONS) };
+        let (left, right) = if self.random.chance(55) {
+            let column = self.column(columns);
+            let other = if *marks > 0 && self.random.chance(60) {
+                *marks -= 1;
+                String::from("?")
+            } else {
+                self.constant()
+            };
+            if self.random.chance(75) {
+                (column, other)
+            } else {
+                (other, column)
+            }
+        } else {
+            (self.operand(columns, marks), self.operand(columns, marks))
+        };
+        vec![left, relation.to_string(), right]
+    }
+
+    /// A condition of `n` comparisons; `room`: the parentheses and NOTs that may still stand around.
+    fn condition(&mut self, n: usize, room: usize, columns: &[String], marks: &mut usize) -> Vec<String> {
+        let wrap = room > 0 && self.random.chance(if self.profile == Profile::Patterns { 30 } else { 15 });
+        if wrap {
+            let not = self.random.chance(50);
+            let parentheses = !not || n > 1 && self.random.chance(90);
+            let mut all = Vec::new();
+            if not {
+                all.push(String::from("NOT"));
+            }
+            if parentheses {
+                all.push(String::from("("));
+            }
+            let used = usize::from(not) + usize::from(parentheses);
+            all.extend(self.condition(n, room.saturating_sub(used), columns, marks));
+            if parentheses {
+                all.push(String::from(")"));
+            }
+            return all;
+        }
+        if n <= 1 {
+            return self.comparison(columns, marks);
+        }
+        let left = self.random.between(1, n - 1);
+        let mut all = self.condition(left, room, columns, marks);
+        all.push(self.random.pick(&["AND", "AND", "OR"]).to_string());
+        all.extend(self.condition(n - left, room, columns, marks));
+        all
+    }
+
+    /// Groups of ORs (or NOTs of ANDs) under AND, then some more under OR, for clause counts about rule 5's limit:
+    /// the product of the groups' sizes and one for each more. Pairs of these counts give 64, 65, 66 and others near.
+    fn groups(&mut self, columns: &[String], marks: &mut usize) -> Vec<String> {
+        let shapes: [(&[usize], usize); 16] = [
+            (&[2], 0),
+            (&[3], 0),
+            (&[2, 2], 0),
+            (&[4], 0),
+            (&[5], 0),
+            (&[2, 2], 1),
+            (&[3, 2], 0),
+            (&[6], 0),
+            (&[4, 2], 0),
+            (&[2, 2, 2], 0),
+            (&[4, 2, 2], 0),
+            (&[4, 4], 0),
+            (&[2, 2, 2, 2], 0),
+            (&[3, 2, 2], 1),
+            (&[3, 3], 2),
+            (&[3, 3, 2], 0),
+        ];
+        let (shape, more) = self.random.pick(&shapes);
+        let mut all = Vec::new();
+        for (i, &size) in shape.iter().enumerate() {
+            if i > 0 {
+                all.push(String::from("AND"));
+            }
+            let negated = self.random.chance(25);
+            all.extend(words(if negated { "NOT (" } else { "(" }));
+            for j in 0..size {
+                if j > 0 {
+                    all.push(String::from(if negated { "AND" } else { "OR" }));
+                }
+                let column = self.column(columns);
+                let relation = if self.random.chance(75) {
+                    if negated { "<>" } else { "=" }
+                } else {
+                    self.random.pick(&RELATIONS)
+                };
+                let other = if *marks > 0 && self.random.chance(40) {
+                    *marks -= 1;
+                    String::from("?")
+                } else {
+                    self.random.below(4).to_string()
+                };
+                all.extend([column, relation.to_string(), other]);
+            }
+            all.push(String::from(")"));
+        }
+        for _ in 0..more {
+            all.extend([String::from("OR"), self.column(columns), String::from("="), self.random.below(4).to_string()]);
+        }
+        all
+    }
+
+    /// As `groups`, with all comparisons on one column, equal to constants of a list.
+    fn groups_on(&mut self, column: &str, constants: &[&str], shape: &[usize], more: usize) -> String {
+        let comparison = |random: &mut Random| format!("{column} = {}", random.pick(constants));
+        let mut parts: Vec<String> = Vec::new();
+        for &size in shape {
+            let group: Vec<String> = (0..size).map(|_| comparison(&mut self.random)).collect();
+            parts.push(format!("( {} )", group.join(" OR ")));
+        }
+        let mut all = parts.join(" AND ");
+        for _ in 0..more {
+            all.push_str(&format!(" OR {}", comparison(&mut self.random)));
+        }
+        all
+    }
+
+    /// A question and an update whose clause counts just pass rule 5's limit or just do not. Worked out, most have no
+    /// pattern; else the answer asked before goes.
+    fn count_pair(&mut self) {
+        let counts: [(&[usize], usize, &[usize], usize, bool); 12] = [
+            (&[4], 0, &[4, 4], 0, true),
+            (&[5], 0, &[3, 2, 2], 1, true),
+            (&[3, 2, 2], 1, &[5], 0, true),
+            (&[6], 0, &[3, 3], 2, true),
+            (&[3, 2], 0, &[3, 3], 2, true),
+            (&[2, 2, 2], 0, &[4, 2], 0, true),
+            (&[7], 0, &[3, 3], 0, true),
+            (&[2], 0, &[2, 2, 2, 2], 0, false),
+            (&[4], 0, &[8], 0, false),
+            (&[3], 0, &[3, 3], 2, false),
+            (&[3, 3], 2, &[3], 0, false),
+            (&[3], 0, &[5, 2], 0, false),
+        ];
+        let (of_update, more_update, of_question, more_question, delete) = self.random.pick(&counts);
+        let (table, columns) = self.some_table();
+        let column = self.column(&columns);
+        let g = self.groups_on(&column, &["0", "1"], of_update, more_update);
+        let low = if self.random.chance(15) { "1" } else { "2" };
+        let f = self.groups_on(&column, &[low, "3", "3", "2"], of_question, more_question);
+        let f = if self.random.chance(30) { f.replacen("= 3", "= ?", 1) } else { f };
+        self.add(&words(&format!("SELECT {column} FROM {table} WHERE {f}")));
+        let set = self.random.pick(&["0", "?", "1"]);
+        let update = if delete {
+            format!("DELETE FROM {table} WHERE {g}")
+        } else {
+            format!("UPDATE {table} SET {column} = {set} WHERE {g}")
+        };
+        self.add(&words(&update));
+        let question = self.front.store.catalogue.questions.len().wrapping_sub(1);
+        let update = self.front.store.catalogue.updates.len().wrapping_sub(1);
+        let (Some(q), Some(u)) =
+            (self.front.store.catalogue.questions.get(question), self.front.store.catalogue.updates.get(update))
+        else {
+            return;
+        };
+        let (question_marks, update_marks) = (q.marks, u.marks);
+        let buffer = if self.mode == Mode::Calls { " 16392" } else { "" };
+        let values = self.values(question_marks);
+        let asked = format!("ASK {question}{buffer}{}", self.written(&values));
+        self.emit_text(&asked);
+        let values = self.values(update_marks);
+        let done = format!("DO {update}{}", self.written(&values));
+        self.emit_text(&done);
+        self.emit_text(&asked);
+    }
+
+    fn where_part(&mut self, columns: &[String], marks: &mut usize) -> Vec<String> {
+        if self.random.chance(6) {
+            return vec![];
+        }
+        let mut all = words("WHERE");
+        if self.profile == Profile::Counts && self.random.chance(80) {
+            all.extend(self.groups(columns, marks));
+            return all;
+        }
+        let n = match self.profile {
+            Profile::Patterns => self.random.between(1, 8),
+            Profile::Repeats | Profile::Large => self.random.between(1, 2),
+            _ => self.random.pick(&[1, 1, 1, 2, 2, 2, 3, 3, 4, 5, 8]),
+        };
+        let room = self.random.pick(&[8, 8, 8, 3, 9]);
+        all.extend(self.condition(n, room, columns, marks));
+        all
+    }
+
+    /// A table's name and columns; now and then a name that may be unknown.
+    fn some_table(&mut self) -> (String, Vec<String>) {
+        let tables = &self.front.store.catalogue.tables;
+        if tables.is_empty() || self.random.below(60) == 0 {
+            let columns = COLUMN_NAMES.iter().map(|c| c.to_string()).collect();
+            return (self.random.pick(&TABLE_NAMES).to_string(), columns);
+        }
+        let table = self.random.pick(tables);
+        (table.name, table.columns)
+    }
+
+    fn listed(items: Vec<Vec<String>>) -> Vec<String> {
+        let mut all = Vec::new();
+        for (i, item) in items.into_iter().enumerate() {
+            if i > 0 {
+                all.push(String::from(","));
+            }
+            all.extend(item);
+        }
+        all
+    }
+
+    fn table_text(&mut self) -> Vec<String> {
+        let catalogue = &self.front.store.catalogue;
+        let mut name = self.random.pick(&TABLE_NAMES).to_string();
+        for _ in 0..6 {
+            if catalogue.tables.iter().any(|t| t.name == name) && self.random.chance(90) {
+                name = self.random.pick(&TABLE_NAMES).to_string();
+            }
+        }
+        let count = match self.profile {
+            Profile::Large => self.random.pick(&[1, 2, 4, 7, 8, 8]),
+            Profile::Misses | Profile::Openings => self.random.between(1, 8),
+            _ => self.random.pick(&[1, 2, 2, 2, 3, 3, 4, 8]),
+        };
+        let mut columns: Vec<Vec<String>> = Vec::new();
+        while columns.len() < count {
+            let column = vec![self.random.pick(&COLUMN_NAMES).to_string()];
+            if !columns.contains(&column) || self.random.below(100) == 0 {
+                columns.push(column);
+            }
+        }
+        let left = self.front.lent.0.saturating_sub(self.front.store.catalogue.cells_used());
+        let rows = match self.profile {
+            Profile::Full if self.random.chance(40) => (left / count + self.random.below(2)).min(9),
+            Profile::Full => self.random.between(1, 4),
+            Profile::Openings if self.random.chance(60) => left / count + self.random.below(2),
+            Profile::Large => self.random.pick(&[512, 512, 511, 128, 127]),
+            _ => self.random.pick(&[3, 5, 8, 16, 24, 40, 1, 512]).min((left / count).clamp(1, 512)),
+        };
+        let mut all = words("TABLE");
+        all.extend([name, String::from("(")]);
+        all.extend(Self::listed(columns));
+        all.extend([String::from(")"), String::from("ROWS"), rows.to_string()]);
+        all
+    }
+
+    fn select_text(&mut self) -> Vec<String> {
+        let (table, columns) = self.some_table();
+        let mut marks = 8;
+        let count = match self.profile {
+            Profile::Large => self.random.pick(&[1, 4, 8, 8]),
+            _ => self.random.pick(&[1, 1, 1, 2, 2, 3, 8]),
+        };
+        let selected: Vec<Vec<String>> = (0..count).map(|_| vec![self.column(&columns)]).collect();
+        let mut all = words("SELECT");
+        all.extend(Self::listed(selected));
+        all.extend([String::from("FROM"), table]);
+        all.extend(self.where_part(&columns, &mut marks));
+        all
+    }
+
+    fn set_value(&mut self, marks: &mut usize, percent: usize) -> Vec<String> {
+        if *marks > 0 && self.random.chance(percent) {
+            *marks -= 1;
+            return words("?");
+        }
+        vec![self.constant()]
+    }
+
+    fn insert_text(&mut self) -> Vec<String> {
+        let (table, columns) = self.some_table();
+        let mut marks = 8;
+        let mut count = columns.len().min(8);
+        if self.random.below(60) == 0 {
+            count = self.random.between(1, 8);
+        }
+        let values: Vec<Vec<String>> = (0..count).map(|_| self.set_value(&mut marks, 80)).collect();
+        let mut all = words("INSERT INTO");
+        all.push(table);
+        all.extend(words("VALUES ("));
+        all.extend(Self::listed(values));
+        all.push(String::from(")"));
+        all
+    }
+
+    fn update_text(&mut self) -> Vec<String> {
+        let (table, columns) = self.some_table();
+        let mut marks = 8;
+        let count = self.random.pick(&[1, 1, 1, 2, 2, 3, 8]).min(columns.len());
+        let mut named: Vec<String> = Vec::new();
+        for _ in 0..20 {
+            let column = self.column(&columns);
+            if named.len() < count && (!named.contains(&column) || self.random.below(150) == 0) {
+                named.push(column);
+            }
+        }
+        let mut sets: Vec<Vec<String>> = Vec::new();
+        for column in named {
+            let mut set = vec![column, String::from("=")];
+            set.extend(self.set_value(&mut marks, 55));
+            sets.push(set);
+        }
+        let mut all = vec![String::from("UPDATE"), table, String::from("SET")];
+        all.extend(Self::listed(sets));
+        all.extend(self.where_part(&columns, &mut marks));
+        all
+    }
+
+    fn delete_text(&mut self) -> Vec<String> {
+        let (table, columns) = self.some_table();
+        let mut marks = 8;
+        let mut all = words("DELETE FROM");
+        all.push(table);
+        all.extend(self.where_part(&columns, &mut marks));
+        all
+    }
+
+    fn statement(&mut self) -> Vec<String> {
+        match self.random.below(100) {
+            0..=9 => self.table_text(),
+            10..=49 => self.select_text(),
+            50..=64 => self.insert_text(),
+            65..=84 => self.update_text(),
+            _ => self.delete_text(),
+        }
+    }
+
+    /// Sentences past a limit, with unknown or taken names, or none by form.
+    fn designed_miss(&mut self) -> Vec<String> {
+        let (table, columns) = self.some_table();
+        let c = self.column(&columns);
+        let d = self.column(&columns);
+        let many = |n: usize, what: &str, by: &str| vec![what; n].join(by);
+        let nine = "a1 , a2 , a3 , a4 , a5 , a6 , a7 , a8 , a9";
+        let depth = self.random.between(7, 10);
+        let nots = self.random.below(depth + 1);
+        let nested = format!(
+            "{}{}{c} = 1{}",
+            "NOT ".repeat(nots),
+            "( ".repeat(depth - nots),
+            " )".repeat(depth - nots)
+        );
+        let miss = match self.random.below(40) {
+            0 => format!("TABLE thirteen_byte ( a ) ROWS 3"),
+            1 => format!("TABLE new ( {nine} ) ROWS 3"),
+            2 => format!("TABLE new ( a ) ROWS {}", self.random.pick(&["0", "513", "-1", "512", "1", "0512", "-0", "99999999999", "?", "x"])),
+            3 => format!("TABLE new ( a , b , a ) ROWS 3"),
+            4 => format!("TABLE {table} ( a ) ROWS {}", self.random.pick(&["3", "0"])),
+            5 => format!("SELECT {} FROM {table}", many(self.random.between(8, 9), &c, " , ")),
+            6 => format!("SELECT {c} FROM {table} WHERE {}", many(self.random.between(8, 9), &format!("{c} = ?"), " OR ")),
+            7 => format!("SELECT {c} FROM {table} WHERE {}", many(self.random.between(8, 9), &format!("{c} <> 1"), " AND ")),
+            8 | 9 => format!("SELECT {c} FROM {table} WHERE {nested}"),
+            10 => format!("DELETE FROM {table} WHERE {nested} OR {d} < ?"),
+            11 => format!("INSERT INTO {table} VALUES ( {} )", many(self.random.between(1, 9), "?", " , ")),
+            12 => format!("INSERT INTO {table} VALUES ( {c} )"),
+            13 => format!("INSERT INTO nil VALUES ( {} )", many(self.random.between(8, 9), "1", " , ")),
+            14 => format!("UPDATE {table} SET {c} = 1 , {c} = ?"),
+            15 => format!("UPDATE {table} SET {c} = 1 , {c} = ? WHERE nil = 3"),
+            16 => format!("UPDATE {table} SET {c} = {d}"),
+            17 => format!("UPDATE {table} SET {}", many(9, &format!("{c} = 1"), " , ")),
+            18 => format!("UPDATE {table} SET {c} <> 1"),
+            19 => format!("DELETE FROM nil"),
+            20 => format!("DELETE FROM {table} WHERE nil = 1"),
+            21 => format!("SELECT nil FROM {table}"),
+            22 => format!("SELECT {c} FROM nil_nil_nil_n"),
+            23 => format!("SELECT FROM {table}"),
+            24 => format!("SELECT {c} , FROM {table}"),
+            25 => format!("SELECT {c} FROM {table} WHERE"),
+            26 => format!("SELECT {c} FROM {table} WHERE ( {c} ) = 1"),
+            27 => format!("SELECT {c} FROM {table} WHERE {c} = {}", self.random.pick(&OUTSIDE)),
+            28 => format!("SELECT {c} FROM {table} WHERE {c} {} 1", self.random.pick(&["< >", "=<", "=>", "= =", "!=", "<>=", "<=>", "> ="])),
+            29 => format!("SELECT {c} FROM {table} WHERE {c} = {}", self.random.pick(&["- 3", "--3", "3a", "3_", "+3", "-", "-a", "A", "_a", "3.0", "1 2", "??", "-?"])),
+            30 => format!("SELECT {c} FROM {table} WHERE NOT NOT NOT {c} = 1"),
+            31 => format!("SELECT {c} FROM {table} WHERE ( {c} = 1 ) ( {d} = 2 )"),
+            32 => format!("SELECT {c} FROM {table} WHERE {c} = 1 NOT {d} = 2"),
+            33 => format!("SELECT {c} FROM {table} WHERE {c} = 1 AND OR {d} = 2"),
+            34 => format!("SELECT {c} FROM {table} WHERE {c} = {d} = 1"),
+            35 => format!("DELETE {table}"),
+            36 => format!("INSERT INTO {table} VALUES ( )"),
+            37 => format!("TABLE new ( ) ROWS 3"),
+            38 => format!("UPDATE {table} SET {c} = ? , {d} = ? WHERE {}", many(self.random.between(6, 7), &format!("{c} = ?"), " OR ")),
+            _ => format!("TABLE table ( select , from , where_ ) ROWS 2"),
+        };
+        words(&miss)
+    }
+
+    /// One token dropped, doubled, swapped or changed.
+    fn changed(&mut self, tokens: &mut Vec<String>) {
+        if tokens.is_empty() {
+            return;
+        }
+        let at = self.random.below(tokens.len());
+        match self.random.below(9) {
+            0 => {
+                tokens.remove(at);
+            }
+            1 => tokens.insert(at, tokens[at].clone()),
+            2 if at + 1 < tokens.len() => tokens.swap(at, at + 1),
+            3 => tokens[at] = tokens[at].to_lowercase(),
+            4 => tokens[at] = tokens[at].to_uppercase(),
+            5 => tokens[at] = self.random.pick(&["(", ")", ",", "?", "=", "<", "AND", "OR", "NOT", "WHERE", "nil", "0", "-1", "SET", "FROM"]).to_string(),
+            6 => tokens.insert(at, self.random.pick(&["(", ")", ",", "?", "NOT", "-", "a", "1"]).to_string()),
+            7 => {
+                let odd = self.random.pick(&["_", "1", "x", "X", "-", ";", "\t", "\r", "é", "'", "*", ".", "\u{0}", "\u{7f}", "<", "=", ">"]);
+                if self.random.chance(50) {
+                    tokens[at].push_str(odd);
+                } else {
+                    tokens[at].insert_str(0, odd);
+                }
+            }
+            _ if at + 1 < tokens.len() => {
+                let next = tokens.remove(at + 1);
+                tokens[at].push_str(&next);
+            }
+            _ => {
+                tokens.remove(at);
+            }
+        }
+    }
+
+    /// The tokens with spaces where they are needed and some where they may stand.
+    fn spaced(&mut self, tokens: &[String]) -> Vec<u8> {
+        let style = self.random.below(4);
+        let mut text = String::new();
+        if style == 0 && self.random.chance(30) {
+            text.push_str("  ");
+        }
+        for token in tokens {
+            let is_word = |c: char| c.is_ascii_alphanumeric() || c == '_';
+            let needed = text.ends_with(is_word) && token.starts_with(is_word);
+            let spaces = match style {
+                0 => self.random.below(3),
+                1 => 0,
+                _ => usize::from(!text.is_empty() && token != "," && token != ")" && !text.ends_with('(')),
+            };
+            text.push_str(&" ".repeat(spaces.max(usize::from(needed))));
+            text.push_str(token);
+        }
+        if style == 0 && self.random.chance(30) {
+            text.push(' ');
+        }
+        if text.len() < 256 && self.random.below(60) == 0 {
+            let whole = self.random.between(255, 258);
+            let front = self.random.chance(50);
+            while text.len() < whole {
+                if front {
+                    text.insert(0, ' ');
+                } else {
+                    text.push(' ');
+                }
+            }
+        }
+        text.into_bytes()
+    }
+
+    // ------------------------------------------------------------ lines
+
+    fn emit(&mut self, line: Vec<u8>) {
+        assert!(!line.contains(&b'\n'));
+        if let Some(printed) = self.front.line(&line) {
+            if printed.starts_with("new") {
+                let ground = self.front.store.last_ground.expect("a new answer has a ground");
+                self.made.grounds[ground as usize] += 1;
+                self.made.evictions += usize::from(self.front.store.last_evicted);
+            }
+            self.made.printed.push(printed);
+        }
+        self.made.lines.push(line);
+    }
+
+    fn emit_text(&mut self, line: &str) {
+        self.emit(line.as_bytes().to_vec());
+    }
+
+    fn add(&mut self, tokens: &[String]) {
+        let mut line = b"ADD ".to_vec();
+        let text = self.spaced(tokens);
+        line.extend(text);
+        self.emit(line);
+    }
+
+    fn add_something(&mut self) {
+        let misses = match self.profile {
+            Profile::Misses => 65,
+            Profile::Mixed => 20,
+            _ => 6,
+        };
+        let mut tokens = if self.random.chance(misses) && self.random.chance(50) {
+            self.designed_miss()
+        } else {
+            self.statement()
+        };
+        if self.random.chance(misses) && self.random.chance(60) {
+            self.changed(&mut tokens);
+            if self.random.chance(25) {
+                self.changed(&mut tokens);
+            }
+        }
+        self.add(&tokens);
+    }
+
+    /// A statement that the store would take now, if one is found soon.
+    fn add_taken(&mut self, make: fn(&mut Generator) -> Vec<String>) {
+        for _ in 0..12 {
+            let tokens = make(self);
+            let catalogue: &Catalogue = &self.front.store.catalogue;
+            let plain_text = tokens.join(" ").into_bytes();
+            let taken = catalogue.read(self.front.lent.0, &plain_text);
+            let useful = match taken {
+                Ok(Statement::Table(_)) | Ok(Statement::Question(_)) | Ok(Statement::Update(_)) => true,
+                Err(_) => false,
+            };
+            if useful {
+                self.add(&tokens);
+                return;
+            }
+        }
+    }
+
+    fn values(&mut self, marks: usize) -> Vec<i32> {
+        let count = if self.random.below(50) == 0 { self.random.below(10) } else { marks };
+        (0..count).map(|_| self.value()).collect()
+    }
+
+    fn written(&mut self, values: &[i32]) -> String {
+        let mut text = String::new();
+        for &value in values {
+            if self.mode == Mode::Desk && self.random.below(40) == 0 {
+                let digits = i64::from(value).abs();
+                text.push_str(&format!(" {}00{digits}", if value < 0 { "-" } else { "" }));
+            } else {
+                text.push_str(&format!(" {value}"));
+            }
+        }
+        text
+    }
+
+    fn statement_number(&mut self, count: usize) -> usize {
+        if count == 0 || self.random.below(60) == 0 {
+            return self.random.pick(&[count, count + 1, 15, 16, 17, 255, 256, 65_536, 2_147_483_647]);
+        }
+        self.random.below(count)
+    }
+
+    fn ask(&mut self) {
+        let count = self.front.store.catalogue.questions.len();
+        let mut n = self.statement_number(count);
+        let mut values = match self.front.store.catalogue.questions.get(n) {
+            Some(question) => {
+                let marks = question.marks;
+                self.values(marks)
+            }
+            None => self.values(0),
+        };
+        let kept = self.front.store.kept_keys();
+        if !kept.is_empty() && self.random.chance(45) {
+            (n, values) = self.random.pick(&kept);
+        }
+        let text = self.written(&values);
+        if self.mode == Mode::Desk {
+            self.emit_text(&format!("ASK {n}{text}"));
+            return;
+        }
+        let mut length = 16_392;
+        if self.random.chance(25) {
+            length = match self.front.store.length_now(n, &values) {
+                Some(exact) => self.random.pick(&[exact, exact, exact - 1, exact + 1, exact - 4, 8, 0]),
+                None => self.random.below(20),
+            };
+        }
+        self.emit_text(&format!("ASK {n} {}{text}", length.min(16_392)));
+        if self.front.buffer.is_some() && self.random.chance(12) {
+            let rows = self.front.buffer.as_ref().map_or(0, |b| usize::from(b[6]) * 256 + usize::from(b[7]));
+            for _ in 0..self.random.between(1, 3) {
+                let row = self.random.pick(&[0, 0, 0, 1, 1, 2, rows.saturating_sub(1), rows / 2, rows, rows + 1, 511, 512, 65_536, 2_147_483_647]);
+                self.emit_text(&format!("ROW {row}"));
+            }
+        }
+    }
+
+    fn update(&mut self) {
+        let count = self.front.store.catalogue.updates.len();
+        let n = self.statement_number(count);
+        let marks = self.front.store.catalogue.updates.get(n).map_or(0, |u| u.marks);
+        let values = self.values(marks);
+        let text = self.written(&values);
+        self.emit_text(&format!("DO {n}{text}"));
+    }
+
+    /// An insert, if there is one; tables stay fuller so.
+    fn insert(&mut self) {
+        let inserts: Vec<usize> = (0..self.front.store.catalogue.updates.len())
+            .filter(|&n| matches!(self.front.store.catalogue.updates[n].change, crate::text::Change::Insert(_)))
+            .collect();
+        if inserts.is_empty() {
+            return self.update();
+        }
+        let n = self.random.pick(&inserts);
+        let marks = self.front.store.catalogue.updates[n].marks;
+        let values = self.values(marks);
+        let text = self.written(&values);
+        self.emit_text(&format!("DO {n}{text}"));
+    }
+
+    fn bad_desk_line(&mut self) {
+        let value = self.random.pick(&OUTSIDE);
+        let line = match self.random.below(24) {
+            0 => String::new(),
+            1 => String::from("FLUSH "),
+            2 => String::from("flush"),
+            3 => String::from("ADD"),
+            4 => String::from("ADD "),
+            5 => String::from("ASK"),
+            6 => String::from("ASK "),
+            7 => String::from("ASK  0"),
+            8 => String::from("ASK 0 "),
+            9 => String::from("ASK 0  1"),
+            10 => String::from(" ASK 0 1"),
+            11 => String::from("ASK -1"),
+            12 => String::from("ASK 2147483648"),
+            13 => format!("ASK 0 {value}"),
+            14 => String::from("DO 0 1\r"),
+            15 => String::from("DO 0 1x"),
+            16 => format!("DO 0{}", " 1".repeat(self.random.between(8, 12))),
+            17 => String::from("DO 00"),
+            18 => format!("ADD {}", "x".repeat(self.random.between(252, 258))),
+            19 => format!("ADD{}", " ".repeat(self.random.between(508, 511))),
+            20 => format!("ASK 0{}", " 1".repeat(self.random.between(252, 255))),
+            21 => String::from("DO 0 -"),
+            22 => String::from("ASK 0 --1"),
+            _ => String::from("DO 0 +1"),
+        };
+        self.emit_text(&line);
+    }
+
+    fn open(&mut self) {
+        let slots = match self.profile {
+            Profile::Repeats => self.random.between(1, 4),
+            Profile::Slots => self.random.pick(&[0, 64, 64, 63]),
+            Profile::Large => self.random.pick(&[1, 4, 64]),
+            Profile::Patterns | Profile::Counts => self.random.pick(&[8, 16, 64]),
+            _ => self.random.pick(&[1, 2, 3, 4, 5, 8, 16, 64]),
+        };
+        let slot_bytes = match self.profile {
+            Profile::Repeats => self.random.pick(&[8, 12, 16, 20, 24, 32]),
+            Profile::Large => self.random.pick(&[4_096, 4_096, 2_056, 1_032, 64]),
+            Profile::Slots => self.random.pick(&[8, 12, 64, 4_096]),
+            Profile::Patterns | Profile::Counts => self.random.pick(&[24, 64, 256, 1_024]),
+            _ => self.random.pick(&[12, 16, 24, 40, 64, 100, 256]),
+        };
+        let cells = match self.profile {
+            Profile::Full => self.random.between(10, 60),
+            Profile::Large => self.random.pick(&[32_768, 8_192]),
+            Profile::Openings => self.random.pick(&[0, 1, 7, 30, 100, 32_768]),
+            _ => self.random.pick(&[100, 1_000, 4_096, 32_768]),
+        };
+        let bytes = slots * slot_bytes + self.random.pick(&[0, 0, 1, 100]);
+        let bytes = bytes.min(262_144);
+        self.emit_text(&format!("OPEN {cells} {bytes} {slots} {slot_bytes}"));
+    }
+
+    /// Openings at and past the limits.
+    fn odd_open(&mut self) {
+        let (cells, bytes, slots, each) = self.random.pick(&[
+            (100, 15, 2, 8),
+            (100, 16, 2, 8),
+            (32_769, 100, 1, 8),
+            (32_768, 262_144, 64, 4_096),
+            (32_768, 262_143, 64, 4_096),
+            (32_768, 262_145, 64, 4_096),
+            (10, 262_144, 65, 8),
+            (10, 262_144, 2, 4_097),
+            (10, 262_144, 0, 4_097),
+            (10, 100, 1, 7),
+            (10, 100, 0, 7),
+            (10, 100, 0, 0),
+            (0, 0, 0, 8),
+            (0, 0, 0, 4_096),
+            (0, 0, 1, 8),
+            (0, 7, 1, 8),
+            (0, 8, 1, 8),
+            (60, 300, 4, 64),
+            (60, 262_144, 3, 20),
+        ]);
+        self.emit_text(&format!("OPEN {cells} {bytes} {slots} {each}"));
+    }
+
+    /// Wrong lengths for some lines, or lengths 0 after a refused opening.
+    fn wrong_lengths(&mut self) {
+        let (cells, bytes) = self.front.lent;
+        let lent = self.random.pick(&[
+            (cells.saturating_sub(1), bytes),
+            (cells + 1, bytes),
+            (cells, bytes.saturating_sub(1)),
+            (cells, bytes + 1),
+            (0, 0),
+            (bytes, cells),
+            (0, bytes),
+            (cells, 0),
+        ]);
+        self.emit_text(&format!("LEND {} {}", lent.0.min(32_769), lent.1.min(262_145)));
+        for _ in 0..self.random.between(1, 6) {
+            self.call();
+        }
+        if self.random.chance(90) {
+            self.emit_text(&format!("LEND {cells} {bytes}"));
+        }
+    }
+
+    fn call(&mut self) {
+        let (adds, flushes) = match self.profile {
+            Profile::Misses => (70, 1),
+            Profile::Patterns | Profile::Counts => (18, 1),
+            Profile::Openings => (25, 2),
+            Profile::Large => (2, 0),
+            _ => (8, 1),
+        };
+        if self.random.chance(adds) {
+            return self.add_something();
+        }
+        if self.profile == Profile::Counts && self.random.chance(4) {
+            return self.count_pair();
+        }
+        if self.random.chance(flushes) {
+            return self.emit_text("FLUSH");
+        }
+        if self.mode == Mode::Desk && self.random.chance(4) {
+            return self.bad_desk_line();
+        }
+        if self.mode == Mode::Calls && self.random.chance(6) {
+            return self.emit_text("SLOTS");
+        }
+        match self.random.below(100) {
+            0..=59 => self.ask(),
+            60..=79 => self.insert(),
+            _ => self.update(),
+        }
+    }
+
+    fn set_up(&mut self) {
+        let tables = match self.profile {
+            Profile::Repeats | Profile::Large => self.random.between(1, 2),
+            Profile::Full => self.random.between(2, 5),
+            _ => self.random.between(1, 3),
+        };
+        for _ in 0..tables {
+            self.add_taken(Generator::table_text);
+        }
+        for _ in 0..self.random.between(1, 3) {
+            self.add_taken(Generator::insert_text);
+        }
+        for _ in 0..self.random.between(1, 4) {
+            self.add_taken(Generator::update_text);
+        }
+        for _ in 0..self.random.between(0, 3) {
+            self.add_taken(Generator::delete_text);
+        }
+        for _ in 0..self.random.between(2, 6) {
+            self.add_taken(Generator::select_text);
+        }
+    }
+
+    /// Now and then another opening, or other lengths lent.
+    fn openings_and_lengths(&mut self) {
+        let percent = if self.profile == Profile::Openings { 4 } else { 0 };
+        if self.random.chance(percent) {
+            self.odd_open();
+            if self.random.chance(30) {
+                self.emit_text("LEND 0 0");
+            }
+            if self.random.chance(50) {
+                self.set_up();
+            }
+            for _ in 0..self.random.between(1, 8) {
+                self.call();
+            }
+            self.open();
+            self.set_up();
+        }
+        if self.random.chance(percent) || self.random.below(400) == 0 {
+            self.wrong_lengths();
+        }
+        // Other statements beside one another.
+        let renewed = matches!(self.profile, Profile::Patterns | Profile::Counts | Profile::Misses);
+        if renewed && self.random.below(80) == 0 {
+            self.open();
+            self.set_up();
+        }
+    }
+
+    fn script(mut self, length: usize) -> Generated {
+        if self.mode == Mode::Calls {
+            self.open();
+        }
+        self.set_up();
+        if self.profile == Profile::Large {
+            for _ in 0..self.random.pick(&[30, 200, 520, 520]) {
+                self.insert();
+            }
+        }
+        let end = self.made.lines.len() + length;
+        while self.made.lines.len() < end {
+            if self.mode == Mode::Calls {
+                self.openings_and_lengths();
+            }
+            self.call();
+        }
+        self.made
+    }
+}
+
+/// The script of a seed, of about `length` lines.
+pub fn script(mode: Mode, seed: u64, length: usize) -> Generated {
+    let profile = PROFILES[(seed % PROFILES.len() as u64) as usize];
+    let made = Generated { profile, lines: vec![], printed: vec![], grounds: [0; 4], evictions: 0 };
+    let generator = Generator { random: Random::new(seed), mode, profile, front: Front::new(mode), made };
+    generator.script(length)
+}

@@ -1,0 +1,254 @@
+//! Patterns, rules 1 to 7 of document 01, straight from its text.
+
+use crate::meaning::compare;
+use crate::text::{Change, Condition, Operand, Question, Relation, Update};
+
+/// A place of a pattern. Marks are the update's and count from 1.
+#[derive(Clone, Copy, PartialEq, Debug)]
+pub enum Place {
+    Any,
+    Constant(i32),
+    Mark(usize),
+}
+
+/// One place for each question mark of the question.
+pub type Pattern = Vec<Place>;
+
+/// An operand of a clause: marks of the question and of the update are told apart.
+#[derive(Clone, Copy, PartialEq, Debug)]
+enum Term {
+    Column(usize),
+    Constant(i32),
+    OfQuestion(usize),
+    OfUpdate(usize),
+}
+
+type Clause = Vec<(Term, Relation, Term)>;
+
+fn opposite(relation: Relation) -> Relation {
+    match relation {
+        Relation::Equal => Relation::Unequal,
+        Relation::Unequal => Relation::Equal,
+        Relation::Less => Relation::GreaterOrEqual,
+        Relation::GreaterOrEqual => Relation::Less,
+        Relation::Greater => Relation::LessOrEqual,
+        Relation::LessOrEqual => Relation::Greater,
+    }
+}
+
+fn question_term(operand: Operand) -> Term {
+    match operand {
+        Operand::Column(c) => Term::Column(c),
+        Operand::Constant(n) => Term::Constant(n),
+        Operand::Mark(m) => Term::OfQuestion(m),
+    }
+}
+
+fn update_term(operand: Operand) -> Term {
+    match operand {
+        Operand::Column(c) => Term::Column(c),
+        Operand::Constant(n) => Term::Constant(n),
+        Operand::Mark(m) => Term::OfUpdate(m),
+    }
+}
+
+/// Rule 4: NOT pushed to the comparisons (so that no NOT is left), operands turned to terms.
+fn pushed(condition: &Condition<Operand>, negated: bool, term: &dyn Fn(Operand) -> Term) -> Condition<Term> {
+    match condition {
+        Condition::Compare(left, relation, right) => {
+            let relation = if negated { opposite(*relation) } else { *relation };
+            Condition::Compare(term(*left), relation, term(*right))
+        }
+        Condition::Not(inner) => pushed(inner, !negated, term),
+        Condition::And(left, right) | Condition::Or(left, right) => {
+            let sides = (Box::new(pushed(left, negated, term)), Box::new(pushed(right, negated, term)));
+            if matches!(condition, Condition::And(..)) != negated {
+                Condition::And(sides.0, sides.1)
+            } else {
+                Condition::Or(sides.0, sides.1)
+            }
+        }
+    }
+}
+
+/// Rule 4: the clauses of a condition without NOT.
+fn clauses_of(condition: &Condition<Term>) -> Vec<Clause> {
+    match condition {
+        Condition::Compare(left, relation, right) => vec![vec![(*left, *relation, *right)]],
+        Condition::Or(left, right) => [clauses_of(left), clauses_of(right)].concat(),
+        Condition::And(left, right) => paired(&clauses_of(left), &clauses_of(right)),
+        Condition::Not(_) => unreachable!("NOT was pushed in"),
+    }
+}
+
+/// An absent WHERE is one clause without comparisons.
+fn clauses(condition: &Option<Condition<Operand>>, term: &dyn Fn(Operand) -> Term) -> Vec<Clause> {
+    match condition {
+        None => vec![vec![]],
+        Some(condition) => clauses_of(&pushed(condition, false, term)),
+    }
+}
+
+fn paired(left: &[Clause], right: &[Clause]) -> Vec<Clause> {
+    let mut all = Vec::new();
+    for l in left {
+        for r in right {
+            all.push([l.clone(), r.clone()].concat());
+        }
+    }
+    all
+}
+
+/// Rule 5's count.
+fn count(condition: &Option<Condition<Operand>>) -> usize {
+    fn of(condition: &Condition<Term>) -> usize {
+        match condition {
+            Condition::Compare(..) => 1,
+            Condition::Or(left, right) => of(left) + of(right),
+            Condition::And(left, right) => of(left) * of(right),
+            Condition::Not(_) => unreachable!("NOT was pushed in"),
+        }
+    }
+    condition.as_ref().map_or(1, |c| of(&pushed(c, false, &question_term)))
+}
+
+fn columns_tested(condition: &Condition<Operand>) -> Vec<usize> {
+    match condition {
+        Condition::Compare(left, _, right) => {
+            [left, right].iter().filter_map(|o| if let Operand::Column(c) = o { Some(*c) } else { None }).collect()
+        }
+        Condition::Not(inner) => columns_tested(inner),
+        Condition::And(left, right) | Condition::Or(left, right) => {
+            [columns_tested(left), columns_tested(right)].concat()
+        }
+    }
+}
+
+/// The classes into which `=` joins the terms of a clause: a list of disjoint lists.
+fn classes(clause: &Clause, marks: usize) -> Vec<Vec<Term>> {
+    let mut classes: Vec<Vec<Term>> = Vec::new();
+    let every_mark = (1..=marks).map(Term::OfQuestion);
+    let every_operand = clause.iter().flat_map(|(l, _, r)| [*l, *r]);
+    for term in every_operand.chain(every_mark) {
+        if !classes.iter().any(|class| class.contains(&term)) {
+            classes.push(vec![term]);
+        }
+    }
+    for (left, relation, right) in clause {
+        if *relation == Relation::Equal {
+            let l = class_of(&classes, *left);
+            let r = class_of(&classes, *right);
+            if l != r {
+                let joined = [classes[l].clone(), classes[r].clone()].concat();
+                classes[l] = joined;
+                classes.remove(r);
+            }
+        }
+    }
+    classes
+}
+
+fn class_of(classes: &[Vec<Term>], term: Term) -> usize {
+    classes.iter().position(|class| class.contains(&term)).expect("every term has a class")
+}
+
+fn constants(class: &[Term]) -> Vec<i32> {
+    class.iter().filter_map(|t| if let Term::Constant(n) = t { Some(*n) } else { None }).collect()
+}
+
+/// Rules 6 and 7 for one clause; `None` if the clause goes.
+fn pattern_of(clause: &Clause, marks: usize) -> Option<Pattern> {
+    let classes = classes(clause, marks);
+    // A class lists each term once, so two constants in it are two different ones.
+    if classes.iter().any(|class| constants(class).len() > 1) {
+        return None;
+    }
+    for (left, relation, right) in clause {
+        let l = class_of(&classes, *left);
+        let r = class_of(&classes, *right);
+        if l == r && matches!(relation, Relation::Unequal | Relation::Less | Relation::Greater) {
+            return None;
+        }
+        if let (Some(a), Some(b)) = (constants(&classes[l]).first(), constants(&classes[r]).first()) {
+            if !compare(*a, *relation, *b) {
+                return None;
+            }
+        }
+    }
+    let place = |mark: usize| {
+        let class = &classes[class_of(&classes, Term::OfQuestion(mark))];
+        if let Some(constant) = constants(class).first() {
+            return Place::Constant(*constant);
+        }
+        let lowest = class.iter().filter_map(|t| if let Term::OfUpdate(m) = t { Some(*m) } else { None }).min();
+        lowest.map_or(Place::Any, Place::Mark)
+    };
+    Some((1..=marks).map(place).collect())
+}
+
+/// The patterns of a question and an update.
+pub fn patterns(question: &Question, update: &Update) -> Vec<Pattern> {
+    // Rule 1.
+    if question.table != update.table {
+        return vec![];
+    }
+    // Rule 2.
+    if let Change::Set(sets) = &update.change {
+        let tested = question.condition.as_ref().map_or(vec![], columns_tested);
+        if !sets.iter().any(|(c, _)| question.columns.contains(c) || tested.contains(c)) {
+            return vec![];
+        }
+    }
+    // Rule 5, before any clause is worked out.
+    let f_count = count(&question.condition);
+    let g_count = count(&update.condition);
+    let worked_out = match update.change {
+        Change::Insert(_) => f_count,
+        Change::Delete => g_count * f_count,
+        Change::Set(_) => 2 * g_count * f_count,
+    };
+    if worked_out > 64 {
+        return vec![vec![Place::Any; question.marks]];
+    }
+    // Rules 3 and 4.
+    let g = clauses(&update.condition, &update_term);
+    let f = clauses(&question.condition, &question_term);
+    let list = match &update.change {
+        Change::Insert(values) => clauses(&question.condition, &|operand| match operand {
+            Operand::Column(c) => update_term(values[c]),
+            other => question_term(other),
+        }),
+        Change::Delete => paired(&g, &f),
+        Change::Set(sets) => {
+            let f_set = clauses(&question.condition, &|operand| match operand {
+                Operand::Column(c) => match sets.iter().find(|(set, _)| *set == c) {
+                    Some((_, value)) => update_term(*value),
+                    None => Term::Column(c),
+                },
+                other => question_term(other),
+            });
+            [paired(&g, &f), paired(&g, &f_set)].concat()
+        }
+    };
+    assert_eq!(list.len(), worked_out);
+    // Rules 6 and 7.
+    let mut found: Vec<Pattern> = Vec::new();
+    for clause in &list {
+        if let Some(pattern) = pattern_of(clause, question.marks) {
+            if !found.contains(&pattern) {
+                found.push(pattern);
+            }
+        }
+    }
+    found
+}
+
+/// Does the pattern, filled with the update's values, agree with the key's values?
+pub fn agrees(pattern: &Pattern, update_values: &[i32], key_values: &[i32]) -> bool {
+    assert_eq!(pattern.len(), key_values.len());
+    pattern.iter().zip(key_values).all(|(place, value)| match place {
+        Place::Any => true,
+        Place::Constant(constant) => constant == value,
+        Place::Mark(mark) => update_values[mark - 1] == *value,
+    })
+}

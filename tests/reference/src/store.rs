@@ -1,0 +1,385 @@
+//! The store that keeps answers: cells, slots, order of use. A plain store runs beside it, and every call asserts
+//! that both give the same results, that every kept answer is the plain store's, and that an answer is worked out
+//! anew only on one of four grounds.
+
+use crate::meaning::{holds, number, record};
+use crate::pattern::{agrees, patterns};
+use crate::plain::Plain;
+use crate::text::{Catalogue, Change, Statement};
+
+/// The question's number with its values.
+#[derive(Clone, PartialEq, Debug)]
+pub struct Key {
+    question: usize,
+    values: Vec<i32>,
+}
+
+#[derive(Clone, Debug)]
+struct Kept {
+    key: Key,
+    length: usize,
+}
+
+/// What happened since the opening, for the four grounds.
+enum Event {
+    Answered(Key),
+    Updated(usize, Vec<i32>),
+    Flushed,
+}
+
+pub struct Answer {
+    pub kept: bool,
+    pub rows_read: usize,
+    pub record: Vec<u8>,
+}
+
+/// The grounds on which an answer may be worked out anew.
+#[derive(Clone, Copy, PartialEq, Debug)]
+pub enum Ground {
+    First,
+    DoesNotFit,
+    UpdatedOrFlushed,
+    OtherKeys,
+}
+
+pub struct Store {
+    slots: usize,
+    slot_bytes: usize,
+    cells: Vec<i32>,
+    memory: Vec<u8>,
+    pub catalogue: Catalogue,
+    /// Rows that each table holds.
+    counts: Vec<usize>,
+    /// The slot list, held ones first.
+    pub order: Vec<usize>,
+    pub held: usize,
+    /// By slot.
+    kept: Vec<Option<Kept>>,
+    plain: Plain,
+    history: Vec<Event>,
+    /// Why the last ask was worked out anew, and whether it took a held slot: counted for the report of what was tried.
+    pub last_ground: Option<Ground>,
+    pub last_evicted: bool,
+}
+
+impl Store {
+    fn made(cells: usize, bytes: usize, slots: usize, slot_bytes: usize) -> Store {
+        Store {
+            slots,
+            slot_bytes,
+            cells: vec![0; cells],
+            memory: vec![0; bytes],
+            catalogue: Catalogue::default(),
+            counts: vec![],
+            order: (0..slots).collect(),
+            held: 0,
+            kept: vec![None; slots],
+            plain: Plain::open(cells, bytes),
+            history: vec![],
+            last_ground: None,
+            last_evicted: false,
+        }
+    }
+
+    /// A store and whether the opening was taken (else refusal 1).
+    pub fn open(cells: u64, bytes: u64, slots: u64, slot_bytes: u64) -> (Store, Result<(), u8>) {
+        let within = cells <= 32_768
+            && bytes <= 262_144
+            && slots <= 64
+            && (8..=4_096).contains(&slot_bytes)
+            && slots * slot_bytes <= bytes;
+        if within {
+            (Store::made(cells as usize, bytes as usize, slots as usize, slot_bytes as usize), Ok(()))
+        } else {
+            (Store::made(0, 0, 0, 8), Err(1))
+        }
+    }
+
+    fn lent(&self, lent: (usize, usize)) -> Result<(), u8> {
+        if lent == (self.cells.len(), self.memory.len()) {
+            Ok(())
+        } else {
+            Err(2)
+        }
+    }
+
+    // ------------------------------------------------------------ cells
+
+    /// The first cell of a table's area.
+    fn area(&self, table: usize) -> usize {
+        self.catalogue.tables[..table].iter().map(|t| t.columns.len() * t.rows).sum()
+    }
+
+    fn row_start(&self, table: usize, row: usize) -> usize {
+        self.area(table) + row * self.catalogue.tables[table].columns.len()
+    }
+
+    fn row(&self, table: usize, row: usize) -> Vec<i32> {
+        let start = self.row_start(table, row);
+        self.cells[start..start + self.catalogue.tables[table].columns.len()].to_vec()
+    }
+
+    fn put_row(&mut self, table: usize, row: usize, values: &[i32]) {
+        let start = self.row_start(table, row);
+        self.cells[start..start + values.len()].copy_from_slice(values);
+    }
+
+    // ------------------------------------------------------------ calls
+
+    pub fn add(&mut self, lent: (usize, usize), text: &[u8]) -> Result<(&'static str, usize), u8> {
+        let result = self.add_here(lent, text);
+        assert_eq!(result, self.plain.add(lent, text), "adding agrees with the plain store");
+        self.check();
+        result
+    }
+
+    fn add_here(&mut self, lent: (usize, usize), text: &[u8]) -> Result<(&'static str, usize), u8> {
+        self.lent(lent)?;
+        let statement = self.catalogue.read(self.cells.len(), text)?;
+        if let Statement::Table(_) = statement {
+            self.counts.push(0);
+        }
+        Ok(self.catalogue.append(statement))
+    }
+
+    pub fn ask(&mut self, lent: (usize, usize), n: u64, values: &[i32], buffer: usize) -> Result<Answer, u8> {
+        self.last_ground = None;
+        self.last_evicted = false;
+        let plain = self.plain.ask(lent, n, values, buffer);
+        let result = self.ask_here(lent, n, values, buffer);
+        match (&result, &plain) {
+            (Ok(answer), Ok(record)) => {
+                assert_eq!(&answer.record, record, "the record is the plain store's");
+                let key = Key { question: n as usize, values: values.to_vec() };
+                if !answer.kept {
+                    self.last_ground = Some(self.ground(&key, record.len()).expect("new, but on none of the grounds"));
+                }
+                self.history.push(Event::Answered(key));
+            }
+            (Err(a), Err(b)) => assert_eq!(a, b, "asking is refused as by the plain store"),
+            _ => panic!("asking is refused by one store only"),
+        }
+        self.check();
+        result
+    }
+
+    fn ask_here(&mut self, lent: (usize, usize), n: u64, values: &[i32], buffer: usize) -> Result<Answer, u8> {
+        self.lent(lent)?;
+        if n >= self.catalogue.questions.len() as u64 {
+            return Err(10);
+        }
+        let key = Key { question: n as usize, values: values.to_vec() };
+        let question = &self.catalogue.questions[key.question];
+        if values.len() != question.marks {
+            return Err(11);
+        }
+        let holder = (0..self.slots).find(|&slot| self.kept[slot].as_ref().is_some_and(|kept| kept.key == key));
+        if let Some(slot) = holder {
+            let length = self.kept[slot].as_ref().unwrap().length;
+            if buffer < length {
+                return Err(13);
+            }
+            self.to_front(slot);
+            let start = slot * self.slot_bytes;
+            let record = self.memory[start..start + length].to_vec();
+            return Ok(Answer { kept: true, rows_read: 0, record });
+        }
+        let rows_read = self.counts[question.table];
+        let mut listed = Vec::new();
+        for i in 0..rows_read {
+            let row = self.row(question.table, i);
+            if holds(&question.condition, &row, values) {
+                listed.push(question.columns.iter().map(|&c| row[c]).collect());
+            }
+        }
+        let record = record(question.columns.len(), &listed);
+        if buffer < record.len() {
+            return Err(13);
+        }
+        if self.slots > 0 && record.len() <= self.slot_bytes {
+            let slot = *self.order.last().unwrap();
+            if self.held == self.slots {
+                self.last_evicted = true;
+            } else {
+                self.held += 1;
+            }
+            self.to_front(slot);
+            self.kept[slot] = Some(Kept { key, length: record.len() });
+            let start = slot * self.slot_bytes;
+            self.memory[start..start + record.len()].copy_from_slice(&record);
+        }
+        Ok(Answer { kept: false, rows_read, record })
+    }
+
+    fn to_front(&mut self, slot: usize) {
+        self.order.retain(|&s| s != slot);
+        self.order.insert(0, slot);
+    }
+
+    /// The rows inserted, matched or deleted, and the kept answers dropped.
+    pub fn update(&mut self, lent: (usize, usize), n: u64, values: &[i32]) -> Result<(usize, usize), u8> {
+        let result = self.update_here(lent, n, values);
+        let plain = self.plain.update(lent, n, values);
+        assert_eq!(result.map(|(rows, _)| rows), plain, "an update agrees with the plain store");
+        if result.is_ok() {
+            self.history.push(Event::Updated(n as usize, values.to_vec()));
+        }
+        self.check();
+        result
+    }
+
+    fn update_here(&mut self, lent: (usize, usize), n: u64, values: &[i32]) -> Result<(usize, usize), u8> {
+        self.lent(lent)?;
+        if n >= self.catalogue.updates.len() as u64 {
+            return Err(10);
+        }
+        let update = self.catalogue.updates[n as usize].clone();
+        if values.len() != update.marks {
+            return Err(11);
+        }
+        let table = update.table;
+        let count = self.counts[table];
+        let width = self.catalogue.tables[table].columns.len();
+        let rows = match &update.change {
+            Change::Insert(operands) => {
+                if count == self.catalogue.tables[table].rows {
+                    return Err(12);
+                }
+                let row: Vec<i32> = operands.iter().map(|&o| number(o, &[], values)).collect();
+                self.put_row(table, count, &row);
+                self.counts[table] += 1;
+                1
+            }
+            Change::Set(sets) => {
+                let mut matched = 0;
+                for i in 0..count {
+                    let mut row = self.row(table, i);
+                    if holds(&update.condition, &row, values) {
+                        matched += 1;
+                        for (column, operand) in sets {
+                            row[*column] = number(*operand, &[], values);
+                        }
+                        self.put_row(table, i, &row);
+                    }
+                }
+                matched
+            }
+            Change::Delete => {
+                let mut stay = 0;
+                for i in 0..count {
+                    let row = self.row(table, i);
+                    if !holds(&update.condition, &row, values) {
+                        self.put_row(table, stay, &row);
+                        stay += 1;
+                    }
+                }
+                for i in stay..count {
+                    self.put_row(table, i, &vec![0; width]);
+                }
+                self.counts[table] = stay;
+                count - stay
+            }
+        };
+        let dropped: Vec<usize> = (0..self.slots)
+            .filter(|&slot| self.kept[slot].as_ref().is_some_and(|k| self.matches(n as usize, values, &k.key)))
+            .collect();
+        self.drop_slots(&dropped);
+        Ok((rows, dropped.len()))
+    }
+
+    /// Does a pattern of the two, filled with the update's values, agree with the key?
+    fn matches(&self, update: usize, values: &[i32], key: &Key) -> bool {
+        patterns(&self.catalogue.questions[key.question], &self.catalogue.updates[update])
+            .iter()
+            .any(|pattern| agrees(pattern, values, &key.values))
+    }
+
+    fn drop_slots(&mut self, dropped: &[usize]) {
+        for &slot in dropped {
+            self.kept[slot] = None;
+        }
+        let (held, free): (Vec<usize>, Vec<usize>) = self.order.iter().partition(|&&slot| self.kept[slot].is_some());
+        self.held = held.len();
+        self.order = [held, free].concat();
+    }
+
+    pub fn flush(&mut self, lent: (usize, usize)) -> Result<(), u8> {
+        let result = self.lent(lent);
+        assert_eq!(result, self.plain.flush(lent), "a flush agrees with the plain store");
+        if result.is_ok() {
+            let all: Vec<usize> = (0..self.slots).collect();
+            self.drop_slots(&all);
+            self.history.push(Event::Flushed);
+        }
+        self.check();
+        result
+    }
+
+    // ------------------------------------------------------------ what is asserted
+
+    /// A ground for working a key out anew: it was not answered before; its record fits no slot; since it was last
+    /// answered a flush or a matching update came; since then as many other keys as there are slots were answered.
+    fn ground(&self, key: &Key, length: usize) -> Option<Ground> {
+        let last = self.history.iter().rposition(|event| matches!(event, Event::Answered(k) if k == key));
+        let since = match last {
+            None => return Some(Ground::First),
+            Some(last) => &self.history[last + 1..],
+        };
+        if length > self.slot_bytes {
+            return Some(Ground::DoesNotFit);
+        }
+        let mut others: Vec<&Key> = Vec::new();
+        for event in since {
+            match event {
+                Event::Flushed => return Some(Ground::UpdatedOrFlushed),
+                Event::Updated(update, values) => {
+                    if self.matches(*update, values, key) {
+                        return Some(Ground::UpdatedOrFlushed);
+                    }
+                }
+                Event::Answered(other) => {
+                    if !others.contains(&other) {
+                        others.push(other);
+                    }
+                }
+            }
+        }
+        (others.len() >= self.slots).then_some(Ground::OtherKeys)
+    }
+
+    /// The state is sound, the cells hold the plain store's rows, and every kept answer is the plain store's.
+    fn check(&self) {
+        let mut sorted = self.order.clone();
+        sorted.sort_unstable();
+        assert_eq!(sorted, (0..self.slots).collect::<Vec<_>>(), "the slot list names each slot once");
+        for (place, &slot) in self.order.iter().enumerate() {
+            assert_eq!(place < self.held, self.kept[slot].is_some(), "held slots stand first");
+        }
+        for (slot, kept) in self.kept.iter().enumerate() {
+            let Some(kept) = kept else { continue };
+            let twice = self.kept[..slot].iter().flatten().any(|other| other.key == kept.key);
+            assert!(!twice, "no key is held twice");
+            assert!(8 <= kept.length && kept.length <= self.slot_bytes);
+            let start = slot * self.slot_bytes;
+            let answer = self.plain.answer(kept.key.question, &kept.key.values);
+            assert_eq!(&self.memory[start..start + kept.length], &answer[..], "a kept answer is the plain store's");
+        }
+        assert!(self.catalogue.cells_used() <= self.cells.len());
+        for table in 0..self.catalogue.tables.len() {
+            assert!(self.counts[table] <= self.catalogue.tables[table].rows);
+            let rows: Vec<Vec<i32>> = (0..self.counts[table]).map(|i| self.row(table, i)).collect();
+            assert_eq!(rows, self.plain.rows(table), "the cells hold the plain store's rows");
+        }
+    }
+
+    /// The length of a question's record now, for the generator.
+    pub fn length_now(&self, question: usize, values: &[i32]) -> Option<usize> {
+        let marks = self.catalogue.questions.get(question)?.marks;
+        (marks == values.len()).then(|| self.plain.answer(question, values).len())
+    }
+
+    /// The keys kept, for the generator.
+    pub fn kept_keys(&self) -> Vec<(usize, Vec<i32>)> {
+        self.kept.iter().flatten().map(|k| (k.key.question, k.key.values.clone())).collect()
+    }
+}

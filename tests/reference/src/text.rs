@@ -1,0 +1,507 @@
+//! Statement texts: tokens, grammar, and what the limits and names refuse
+//! (numbers 3 to 9 of adding).
+
+/// The six comparisons.
+#[derive(Clone, Copy, PartialEq, Eq, Debug)]
+pub enum Relation {
+    Equal,
+    Unequal,
+    Less,
+    LessOrEqual,
+    Greater,
+    GreaterOrEqual,
+}
+
+/// A condition over operands of kind `O`: as written (`Written`) or with the names looked up (`Operand`).
+#[derive(Clone, PartialEq, Debug)]
+pub enum Condition<O> {
+    Compare(O, Relation, O),
+    Not(Box<Condition<O>>),
+    And(Box<Condition<O>>, Box<Condition<O>>),
+    Or(Box<Condition<O>>, Box<Condition<O>>),
+}
+
+/// An operand as written; a constant outside 32 bits is `None`.
+#[derive(Clone, PartialEq, Debug)]
+pub enum Written {
+    Column(String),
+    Constant(Option<i32>),
+    Mark(usize),
+}
+
+/// An operand with its column looked up. Marks count from 1.
+#[derive(Clone, Copy, PartialEq, Debug)]
+pub enum Operand {
+    Column(usize),
+    Constant(i32),
+    Mark(usize),
+}
+
+/// A whole sentence, with nothing looked up and no limit looked at.
+#[derive(Clone, PartialEq, Debug)]
+enum Sentence {
+    Table { name: String, columns: Vec<String>, rows: Option<i32> },
+    Select { columns: Vec<String>, table: String, condition: Option<Condition<Written>> },
+    Insert { table: String, values: Vec<Written> },
+    Update { table: String, sets: Vec<(String, Written)>, condition: Option<Condition<Written>> },
+    Delete { table: String, condition: Option<Condition<Written>> },
+}
+
+#[derive(Clone, Debug)]
+pub struct Table {
+    pub name: String,
+    pub columns: Vec<String>,
+    pub rows: usize,
+}
+
+#[derive(Clone, Debug)]
+pub struct Question {
+    pub table: usize,
+    pub columns: Vec<usize>,
+    pub condition: Option<Condition<Operand>>,
+    pub marks: usize,
+}
+
+#[derive(Clone, Debug)]
+pub enum Change {
+    Insert(Vec<Operand>),
+    Set(Vec<(usize, Operand)>),
+    Delete,
+}
+
+#[derive(Clone, Debug)]
+pub struct Update {
+    pub table: usize,
+    pub change: Change,
+    pub condition: Option<Condition<Operand>>,
+    pub marks: usize,
+}
+
+/// What adding appends.
+#[derive(Clone, Debug)]
+pub enum Statement {
+    Table(Table),
+    Question(Question),
+    Update(Update),
+}
+
+/// The tables and statements of a store, in the order they were added.
+#[derive(Clone, Debug, Default)]
+pub struct Catalogue {
+    pub tables: Vec<Table>,
+    pub questions: Vec<Question>,
+    pub updates: Vec<Update>,
+}
+
+pub const TABLES: usize = 8;
+pub const QUESTIONS: usize = 16;
+pub const UPDATES: usize = 16;
+pub const LIST: usize = 8;
+pub const ROWS: i32 = 512;
+pub const MARKS: usize = 8;
+pub const COMPARISONS: usize = 8;
+pub const DEPTH: usize = 8;
+pub const NAME: usize = 12;
+pub const TEXT: usize = 256;
+
+// ---------------------------------------------------------------- tokens
+
+#[derive(Clone, PartialEq, Debug)]
+enum Token {
+    Keyword(String),
+    Name(String),
+    Constant(Option<i32>),
+    Sign(&'static str),
+}
+
+const KEYWORDS: [&str; 14] = [
+    "TABLE", "ROWS", "SELECT", "FROM", "WHERE", "INSERT", "INTO", "VALUES", "UPDATE", "SET", "DELETE", "AND", "OR",
+    "NOT",
+];
+
+/// Longest first, so that the first that fits is the longest that fits.
+const SIGNS: [&str; 10] = ["<>", "<=", ">=", "<", ">", "=", "(", ")", ",", "?"];
+
+fn is_word_byte(b: u8) -> bool {
+    b.is_ascii_alphanumeric() || b == b'_'
+}
+
+/// A constant's number: an optional minus and digits. `None`: not of that form. `Some(None)`: outside 32 bits.
+pub fn constant(bytes: &[u8]) -> Option<Option<i32>> {
+    let (negative, digits) = match bytes.split_first() {
+        Some((b'-', rest)) => (true, rest),
+        _ => (false, bytes),
+    };
+    if digits.is_empty() || !digits.iter().all(u8::is_ascii_digit) {
+        return None;
+    }
+    let first = digits.iter().position(|&d| d != b'0').unwrap_or(digits.len());
+    let significant = &digits[first..];
+    if significant.len() > 10 {
+        return Some(None);
+    }
+    let size = significant.iter().fold(0i64, |n, &d| n * 10 + i64::from(d - b'0'));
+    Some(i32::try_from(if negative { -size } else { size }).ok())
+}
+
+fn tokens(text: &[u8]) -> Option<Vec<Token>> {
+    let mut found = Vec::new();
+    let mut rest = text;
+    while let Some(&first) = rest.first() {
+        if first == b' ' {
+            rest = &rest[1..];
+            continue;
+        }
+        if first == b'-' || is_word_byte(first) {
+            let start = usize::from(first == b'-');
+            let end = start + rest[start..].iter().take_while(|&&b| is_word_byte(b)).count();
+            let word = &rest[..end];
+            rest = &rest[end..];
+            found.push(word_token(word)?);
+            continue;
+        }
+        let sign = SIGNS.iter().find(|s| rest.starts_with(s.as_bytes()))?;
+        rest = &rest[sign.len()..];
+        found.push(Token::Sign(sign));
+    }
+    Some(found)
+}
+
+fn word_token(word: &[u8]) -> Option<Token> {
+    if let Some(number) = constant(word) {
+        return Some(Token::Constant(number));
+    }
+    let word = std::str::from_utf8(word).ok()?;
+    if KEYWORDS.contains(&word) {
+        return Some(Token::Keyword(word.to_string()));
+    }
+    let name = word.starts_with(|c: char| c.is_ascii_lowercase())
+        && word.bytes().all(|b| b.is_ascii_lowercase() || b.is_ascii_digit() || b == b'_');
+    name.then(|| Token::Name(word.to_string()))
+}
+
+// ---------------------------------------------------------------- grammar
+
+struct Reader {
+    tokens: Vec<Token>,
+    at: usize,
+    marks: usize,
+    comparisons: usize,
+    deepest: usize,
+}
+
+/// `None` everywhere in the reader: no sentence.
+impl Reader {
+    fn peek_keyword(&self, word: &str) -> bool {
+        matches!(self.tokens.get(self.at), Some(Token::Keyword(w)) if w == word)
+    }
+
+    fn peek_sign(&self, sign: &str) -> bool {
+        matches!(self.tokens.get(self.at), Some(Token::Sign(s)) if *s == sign)
+    }
+
+    fn keyword(&mut self, word: &str) -> Option<()> {
+        let there = self.peek_keyword(word);
+        self.at += usize::from(there);
+        there.then_some(())
+    }
+
+    fn sign(&mut self, sign: &str) -> Option<()> {
+        let there = self.peek_sign(sign);
+        self.at += usize::from(there);
+        there.then_some(())
+    }
+
+    fn name(&mut self) -> Option<String> {
+        match self.tokens.get(self.at) {
+            Some(Token::Name(name)) => {
+                self.at += 1;
+                Some(name.clone())
+            }
+            _ => None,
+        }
+    }
+
+    /// One or more, parted by commas.
+    fn list<T>(&mut self, mut one: impl FnMut(&mut Self) -> Option<T>) -> Option<Vec<T>> {
+        let mut all = vec![one(self)?];
+        while self.sign(",").is_some() {
+            all.push(one(self)?);
+        }
+        Some(all)
+    }
+
+    /// A column, a constant or a question mark.
+    fn operand(&mut self) -> Option<Written> {
+        let operand = match self.tokens.get(self.at)? {
+            Token::Name(name) => Written::Column(name.clone()),
+            Token::Constant(number) => Written::Constant(*number),
+            Token::Sign("?") => {
+                self.marks += 1;
+                Written::Mark(self.marks)
+            }
+            _ => return None,
+        };
+        self.at += 1;
+        Some(operand)
+    }
+
+    /// A constant or a question mark.
+    fn value(&mut self) -> Option<Written> {
+        match self.operand()? {
+            Written::Column(_) => None,
+            value => Some(value),
+        }
+    }
+
+    fn relation(&mut self) -> Option<Relation> {
+        let relation = match self.tokens.get(self.at)? {
+            Token::Sign("=") => Relation::Equal,
+            Token::Sign("<>") => Relation::Unequal,
+            Token::Sign("<") => Relation::Less,
+            Token::Sign("<=") => Relation::LessOrEqual,
+            Token::Sign(">") => Relation::Greater,
+            Token::Sign(">=") => Relation::GreaterOrEqual,
+            _ => return None,
+        };
+        self.at += 1;
+        Some(relation)
+    }
+
+    fn any_of(&mut self, depth: usize) -> Option<Condition<Written>> {
+        let mut left = self.all_of(depth)?;
+        while self.keyword("OR").is_some() {
+            left = Condition::Or(Box::new(left), Box::new(self.all_of(depth)?));
+        }
+        Some(left)
+    }
+
+    fn all_of(&mut self, depth: usize) -> Option<Condition<Written>> {
+        let mut left = self.single(depth)?;
+        while self.keyword("AND").is_some() {
+            left = Condition::And(Box::new(left), Box::new(self.single(depth)?));
+        }
+        Some(left)
+    }
+
+    /// `depth`: the parentheses and NOTs around this place.
+    fn single(&mut self, depth: usize) -> Option<Condition<Written>> {
+        if self.keyword("NOT").is_some() {
+            return Some(Condition::Not(Box::new(self.single(depth + 1)?)));
+        }
+        if self.sign("(").is_some() {
+            let inner = self.any_of(depth + 1)?;
+            self.sign(")")?;
+            return Some(inner);
+        }
+        self.comparisons += 1;
+        self.deepest = self.deepest.max(depth);
+        let left = self.operand()?;
+        let relation = self.relation()?;
+        let right = self.operand()?;
+        Some(Condition::Compare(left, relation, right))
+    }
+
+    fn optional_where(&mut self) -> Option<Option<Condition<Written>>> {
+        if self.keyword("WHERE").is_none() {
+            return Some(None);
+        }
+        Some(Some(self.any_of(0)?))
+    }
+
+    fn sentence(&mut self) -> Option<Sentence> {
+        let sentence = if self.keyword("TABLE").is_some() {
+            let name = self.name()?;
+            self.sign("(")?;
+            let columns = self.list(Reader::name)?;
+            self.sign(")")?;
+            self.keyword("ROWS")?;
+            let rows = match self.tokens.get(self.at)? {
+                Token::Constant(number) => *number,
+                _ => return None,
+            };
+            self.at += 1;
+            Sentence::Table { name, columns, rows }
+        } else if self.keyword("SELECT").is_some() {
+            let columns = self.list(Reader::name)?;
+            self.keyword("FROM")?;
+            let table = self.name()?;
+            Sentence::Select { columns, table, condition: self.optional_where()? }
+        } else if self.keyword("INSERT").is_some() {
+            self.keyword("INTO")?;
+            let table = self.name()?;
+            self.keyword("VALUES")?;
+            self.sign("(")?;
+            let values = self.list(Reader::value)?;
+            self.sign(")")?;
+            Sentence::Insert { table, values }
+        } else if self.keyword("UPDATE").is_some() {
+            let table = self.name()?;
+            self.keyword("SET")?;
+            let sets = self.list(|reader| {
+                let column = reader.name()?;
+                reader.sign("=")?;
+                Some((column, reader.value()?))
+            })?;
+            Sentence::Update { table, sets, condition: self.optional_where()? }
+        } else {
+            self.keyword("DELETE")?;
+            self.keyword("FROM")?;
+            let table = self.name()?;
+            Sentence::Delete { table, condition: self.optional_where()? }
+        };
+        (self.at == self.tokens.len()).then_some(sentence)
+    }
+}
+
+// ---------------------------------------------------------------- limits, names
+
+/// Refusal 5, of a whole sentence.
+fn past_a_limit(reader: &Reader, sentence: &Sentence) -> bool {
+    let token_past = reader.tokens.iter().any(|token| match token {
+        Token::Name(name) => name.len() > NAME,
+        Token::Constant(number) => number.is_none(),
+        _ => false,
+    });
+    let list_past = match sentence {
+        Sentence::Table { columns, rows, .. } => columns.len() > LIST || !rows.is_some_and(|n| 1 <= n && n <= ROWS),
+        Sentence::Select { columns, .. } => columns.len() > LIST,
+        Sentence::Insert { values, .. } => values.len() > LIST,
+        Sentence::Update { sets, .. } => sets.len() > LIST,
+        Sentence::Delete { .. } => false,
+    };
+    token_past || list_past || reader.marks > MARKS || reader.comparisons > COMPARISONS || reader.deepest > DEPTH
+}
+
+fn has_repeat(names: &[&String]) -> bool {
+    (0..names.len()).any(|i| names[..i].contains(&names[i]))
+}
+
+fn look_up(table: &Table, operand: &Written) -> Result<Operand, u8> {
+    match operand {
+        Written::Column(name) => Ok(Operand::Column(column(table, name)?)),
+        Written::Constant(number) => Ok(Operand::Constant(number.expect("limits were looked at"))),
+        Written::Mark(mark) => Ok(Operand::Mark(*mark)),
+    }
+}
+
+fn column(table: &Table, name: &str) -> Result<usize, u8> {
+    table.columns.iter().position(|c| c == name).ok_or(6)
+}
+
+fn look_up_condition(table: &Table, condition: &Condition<Written>) -> Result<Condition<Operand>, u8> {
+    Ok(match condition {
+        Condition::Compare(left, relation, right) => {
+            Condition::Compare(look_up(table, left)?, *relation, look_up(table, right)?)
+        }
+        Condition::Not(inner) => Condition::Not(Box::new(look_up_condition(table, inner)?)),
+        Condition::And(left, right) => {
+            Condition::And(Box::new(look_up_condition(table, left)?), Box::new(look_up_condition(table, right)?))
+        }
+        Condition::Or(left, right) => {
+            Condition::Or(Box::new(look_up_condition(table, left)?), Box::new(look_up_condition(table, right)?))
+        }
+    })
+}
+
+fn look_up_where(table: &Table, condition: &Option<Condition<Written>>) -> Result<Option<Condition<Operand>>, u8> {
+    condition.as_ref().map(|c| look_up_condition(table, c)).transpose()
+}
+
+impl Catalogue {
+    pub fn cells_used(&self) -> usize {
+        self.tables.iter().map(|t| t.columns.len() * t.rows).sum()
+    }
+
+    fn table(&self, name: &str) -> Result<usize, u8> {
+        self.tables.iter().position(|t| t.name == name).ok_or(6)
+    }
+
+    /// What the text adds to a store of `cells` cells with these tables and statements, or the number that refuses
+    /// it: 3, 4, 5, 6, 7, 8, 9, looked for in that order.
+    pub fn read(&self, cells: usize, text: &[u8]) -> Result<Statement, u8> {
+        if text.len() > TEXT {
+            return Err(3);
+        }
+        let tokens = tokens(text).ok_or(4)?;
+        let mut reader = Reader { tokens, at: 0, marks: 0, comparisons: 0, deepest: 0 };
+        let sentence = reader.sentence().ok_or(4)?;
+        if past_a_limit(&reader, &sentence) {
+            return Err(5);
+        }
+        let marks = reader.marks;
+        let statement = match &sentence {
+            Sentence::Table { name, columns, rows } => {
+                if self.table(name).is_ok() || has_repeat(&columns.iter().collect::<Vec<_>>()) {
+                    return Err(7);
+                }
+                let rows = rows.expect("limits were looked at") as usize;
+                Statement::Table(Table { name: name.clone(), columns: columns.clone(), rows })
+            }
+            Sentence::Select { columns, table, condition } => {
+                let number = self.table(table)?;
+                let table = &self.tables[number];
+                let columns = columns.iter().map(|c| column(table, c)).collect::<Result<Vec<_>, u8>>()?;
+                let condition = look_up_where(table, condition)?;
+                Statement::Question(Question { table: number, columns, condition, marks })
+            }
+            Sentence::Insert { table, values } => {
+                let number = self.table(table)?;
+                let table = &self.tables[number];
+                if values.len() != table.columns.len() {
+                    return Err(8);
+                }
+                let values = values.iter().map(|v| look_up(table, v)).collect::<Result<Vec<_>, u8>>()?;
+                Statement::Update(Update { table: number, change: Change::Insert(values), condition: None, marks })
+            }
+            Sentence::Update { table, sets, condition } => {
+                let number = self.table(table)?;
+                let table = &self.tables[number];
+                let mut pairs = Vec::new();
+                for (name, value) in sets {
+                    pairs.push((column(table, name)?, look_up(table, value)?));
+                }
+                let condition = look_up_where(table, condition)?;
+                if has_repeat(&sets.iter().map(|(name, _)| name).collect::<Vec<_>>()) {
+                    return Err(7);
+                }
+                Statement::Update(Update { table: number, change: Change::Set(pairs), condition, marks })
+            }
+            Sentence::Delete { table, condition } => {
+                let number = self.table(table)?;
+                let condition = look_up_where(&self.tables[number], condition)?;
+                Statement::Update(Update { table: number, change: Change::Delete, condition, marks })
+            }
+        };
+        let place = match &statement {
+            Statement::Table(table) => {
+                self.tables.len() < TABLES && table.columns.len() * table.rows <= cells - self.cells_used()
+            }
+            Statement::Question(_) => self.questions.len() < QUESTIONS,
+            Statement::Update(_) => self.updates.len() < UPDATES,
+        };
+        if place {
+            Ok(statement)
+        } else {
+            Err(9)
+        }
+    }
+
+    /// Appends, and gives kind and number.
+    pub fn append(&mut self, statement: Statement) -> (&'static str, usize) {
+        match statement {
+            Statement::Table(table) => {
+                self.tables.push(table);
+                ("table", self.tables.len() - 1)
+            }
+            Statement::Question(question) => {
+                self.questions.push(question);
+                ("query", self.questions.len() - 1)
+            }
+            Statement::Update(update) => {
+                self.updates.push(update);
+                ("update", self.updates.len() - 1)
+            }
+        }
+    }
+}
