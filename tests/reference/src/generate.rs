@@ -645,7 +645,13 @@ impl Generator {
 
     fn add(&mut self, tokens: &[String]) {
         let mut line = b"ADD ".to_vec();
-        let text = self.spaced(tokens);
+        let mut text = self.spaced(tokens);
+        let bytes = if self.profile == Profile::Misses { 20 } else { 500 };
+        if !text.is_empty() && self.random.below(bytes) == 0 {
+            let at = self.random.below(text.len());
+            let byte = self.random.below(256) as u8;
+            text[at] = if byte == b'\n' { b'\r' } else { byte };
+        }
         line.extend(text);
         self.emit(line);
     }
