@@ -20,6 +20,9 @@ pub struct Front {
     pub unfixed: bool,
 }
 
+/// Calls: the bytes a script may have.
+pub const CALLS_BYTES: usize = 65_536;
+
 const BAD: &str = "bad line";
 
 fn refused(number: u8) -> String {
@@ -214,6 +217,7 @@ pub fn lines(script: &[u8]) -> Vec<&[u8]> {
 /// What the reference prints for a script.
 pub fn run(mode: Mode, script: &[u8]) -> (Vec<u8>, Front) {
     let mut front = Front::new(mode);
+    front.unfixed = mode == Mode::Calls && script.len() > CALLS_BYTES;
     let mut printed = Vec::new();
     for line in lines(script) {
         if let Some(text) = front.line(line) {

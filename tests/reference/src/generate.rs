@@ -1,7 +1,7 @@
 //! Random scripts. A seed gives a profile and then the lines; the reference runs along, so that most lines can be
 //! biased to be taken (existing tables, columns, marks, keys kept, buffers that just fit).
 
-use crate::front::{Front, Mode};
+use crate::front::{Front, Mode, CALLS_BYTES};
 use crate::text::{Catalogue, Statement};
 
 pub struct Random(u64);
@@ -645,7 +645,13 @@ impl Generator {
 
     fn add(&mut self, tokens: &[String]) {
         let mut line = b"ADD ".to_vec();
-        let text = self.spaced(tokens);
+        let mut text = self.spaced(tokens);
+        let bytes = if self.profile == Profile::Misses { 20 } else { 500 };
+        if !text.is_empty() && self.random.below(bytes) == 0 {
+            let at = self.random.below(text.len());
+            let byte = self.random.below(256) as u8;
+            text[at] = if byte == b'\n' { b'\r' } else { byte };
+        }
         line.extend(text);
         self.emit(line);
     }
@@ -971,6 +977,10 @@ impl Generator {
         }
         let end = self.made.lines.len() + length;
         while self.made.lines.len() < end {
+            let bytes: usize = self.made.lines.iter().map(|line| line.len() + 1).sum();
+            if self.mode == Mode::Calls && bytes > CALLS_BYTES - 5_536 {
+                break;
+            }
             if self.mode == Mode::Calls {
                 self.openings_and_lengths();
             }
