@@ -1,0 +1,5 @@
+pub mod Room
+pub mod Lines
+pub mod Printed
+pub mod Desk
+pub mod Examples

@@ -1,0 +1,70 @@
+// Lines of `desk`: a line read into a command, the command done on a store, and what is printed for it as bytes. No input or output.
+mod lines; // a line of the input, and what it says
+mod text; // what is printed
+
+use cache::State;
+pub use lines::gather;
+pub use lines::read_line;
+pub use text::write_added;
+pub use text::write_answer;
+pub use text::write_bad;
+pub use text::write_flushed;
+pub use text::write_refused;
+pub use text::write_updated;
+ghost use mathlib.Core.Path.{_≡_};
+ghost use Rattle.console.specs.Desk.{replies, replyOf};
+
+// What a line says: a command, the statement's number, and how many values there are. The text of ADD is the line from byte Line::TEXT on.
+pub struct Line {
+    pub command: u8,
+    pub number: usize,
+    pub count: usize,
+}
+
+impl Line {
+    // The most bytes of a line.
+    pub const BYTES: usize = 512;
+
+    // The commands.
+    pub const BAD: u8 = 0;
+
+    pub const ADD: u8 = 1;
+
+    pub const ASK: u8 = 2;
+
+    pub const DO: u8 = 3;
+
+    pub const FLUSH: u8 = 4;
+
+    // Where the text of ADD starts.
+    pub const TEXT: usize = 4;
+}
+
+// How far a line was gathered: where the input goes on, the bytes held, and whether the line has ended.
+pub struct Gathered {
+    pub next: usize,
+    pub held: usize,
+    pub ended: bool,
+}
+
+// What a line brought: how many bytes of the text are at the start of the lent buffer, and the state.
+pub struct Reply {
+    pub length: usize,
+    pub state: State,
+}
+
+// Does what a line says, and puts what is printed for it at the start of `out`, as far as there is room.
+pub fn respond(
+    state: State,
+    cells: &mut [i32],
+    memory: &mut [u8],
+    answer: &mut [u8],
+    line: &[u8],
+    out: &mut [u8],
+) -> Reply
+    ensures { λ r. ⌜ replies r (now (cells .exit)) (now (memory .exit)) (now (answer .exit)) (now (out .exit)) ≡ replyOf state (now (cells .entry)) (now (memory .entry)) (now (answer .entry)) (now (line .entry)) (now (out .entry)) ⌝ }
+{
+    let mut values = [0i32; Line::BYTES];
+    let said = read_line(line, &mut values);
+    Reply { length: 0, state }
+}
