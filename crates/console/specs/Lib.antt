@@ -1,5 +1,6 @@
 pub mod Room
 pub mod Lines
+pub mod Parts
 pub mod Printed
 pub mod Desk
 pub mod Examples
