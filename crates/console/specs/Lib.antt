@@ -1,5 +1,6 @@
 pub mod Room
 pub mod Lines
 pub mod Printed
+pub mod Pieces
 pub mod Desk
 pub mod Examples

@@ -1,0 +1,44 @@
+use borrow.Author.Needs.{needs}
+use Rattle.console.proofs.text.write_updated.Statement.{statement}
+use Rattle.console.proofs.text.write_updated.Tie as tie
+use Rattle.console.proofs.text.write_updated.Reads as reads
+use Rattle.console.proofs.text.write_updated.Lts as lts
+use Rattle.console.proofs.text.put_byte.Reads as put-byte-reads
+use Rattle.console.proofs.text.put_item.Reads as put-item-reads
+
+slice-aggregate-put-item : tie.Need-slice-aggregate-put-item
+slice-aggregate-put-item c = search needs
+
+put-item-requires : tie.Need-put-item-requires
+put-item-requires c κs = search needs
+
+put-byte-requires : tie.Need-put-byte-requires
+put-byte-requires c κs = search needs
+
+slice-aggregate-put-item-2 : tie.Need-slice-aggregate-put-item-2
+slice-aggregate-put-item-2 c = search needs
+
+put-item-requires-2 : tie.Need-put-item-requires-2
+put-item-requires-2 c κs = search needs
+
+put-byte-requires-2 : tie.Need-put-byte-requires-2
+put-byte-requires-2 c κs = search needs
+
+same-length : tie.Need-same-length
+same-length c = search needs
+
+returns : tie.Need-returns
+returns c = ?
+
+pub write-updated-spec : {M : Type 1} → statement M
+write-updated-spec =
+    tie.close
+    (tie.spec
+    slice-aggregate-put-item
+    put-item-requires
+    put-byte-requires
+    slice-aggregate-put-item-2
+    put-item-requires-2
+    put-byte-requires-2
+    same-length
+    returns)
