@@ -95,6 +95,10 @@ puts-long {xs} {at} {a} h = ap length (h .text) ∙ length-filled xs at a
 pub puts-as : {xs : List ℕ} {at : ℕ} {a b ys : List ℕ} {p : ℕ} → a ≡ b → Puts xs at a ys p → Puts xs at b ys p
 puts-as {xs} {at} {a} {b} {ys} {p} e h = subst (λ (t : List ℕ). Puts xs at t ys p) e h
 
+-- its two parts
+pub puts-parts : {xs : List ℕ} {at : ℕ} {a ys : List ℕ} {p : ℕ} → Puts xs at a ys p → (p ≡ filledTo xs at a) × (ys ≡ filled xs at a)
+puts-parts h = (h .ends, h .text)
+
 -- one piece, and then another behind it
 pub puts-both : {xs : List ℕ} {at : ℕ} {a ys : List ℕ} {p : ℕ} {b zs : List ℕ} {q : ℕ} → Puts xs at a ys p → Puts ys p b zs q → Puts xs at (a ++ b) zs q
 puts-both {xs} {at} {a} {ys} {p} {b} {zs} {q} h k = record {

@@ -1,11 +1,8 @@
+-- `put_item` meets its contract: three pieces, one after another. Assumes nothing.
 use borrow.Author.Needs.{needs}
+use Rattle.console.proofs.Rooms.{puts-both}
 use Rattle.console.proofs.text.put_item.Statement.{statement}
 use Rattle.console.proofs.text.put_item.Tie as tie
-use Rattle.console.proofs.text.put_item.Reads as reads
-use Rattle.console.proofs.text.put_item.Lts as lts
-use Rattle.console.proofs.text.put_byte.Reads as put-byte-reads
-use Rattle.console.proofs.text.put_bytes.Reads as put-bytes-reads
-use Rattle.console.proofs.text.put_decimal.Reads as put-decimal-reads
 
 put-bytes-requires : tie.Need-put-bytes-requires
 put-bytes-requires c κs = search needs
@@ -20,7 +17,10 @@ same-length : tie.Need-same-length
 same-length c = search needs
 
 returns : tie.Need-returns
-returns c = ?
+returns c =
+    let d = c .before .before in
+    let s = d .before .before .before .before in
+    puts-both (s .before .before .before .before .put-bytes .ensures) (puts-both (s .put-byte .ensures) (d .put-decimal .ensures))
 
 pub put-item-spec : {M : Type 1} → statement M
 put-item-spec =

@@ -1,9 +1,10 @@
+-- `put_source` meets its contract. Assumes nothing.
+use mathlib.Core.Path.{sym}
 use borrow.Author.Needs.{needs}
+use Rattle.console.proofs.Rooms.{puts-as}
+use Rattle.console.proofs.Shown.{source-new, source-kept}
 use Rattle.console.proofs.text.put_source.Statement.{statement}
 use Rattle.console.proofs.text.put_source.Tie as tie
-use Rattle.console.proofs.text.put_source.Reads as reads
-use Rattle.console.proofs.text.put_source.Lts as lts
-use Rattle.console.proofs.text.put_bytes.Reads as put-bytes-reads
 
 slice-aggregate-put-bytes : tie.Need-slice-aggregate-put-bytes
 slice-aggregate-put-bytes c = search needs
@@ -15,7 +16,9 @@ same-length : tie.Need-same-length
 same-length c = search needs
 
 returns : tie.Need-returns
-returns c = ?
+returns c =
+    let k = c .before .before in
+    puts-as (sym (source-new _ (k .before .before .before .if1 .taken))) (k .put-bytes .ensures)
 
 slice-aggregate-put-bytes-2 : tie.Need-slice-aggregate-put-bytes-2
 slice-aggregate-put-bytes-2 c = search needs
@@ -27,7 +30,9 @@ same-length-2 : tie.Need-same-length-2
 same-length-2 c = search needs
 
 returns-2 : tie.Need-returns-2
-returns-2 c = ?
+returns-2 c =
+    let k = c .before .before in
+    puts-as (sym (source-kept _ (k .before .before .before .if1 .left))) (k .put-bytes2 .ensures)
 
 pub put-source-spec : {M : Type 1} → statement M
 put-source-spec =

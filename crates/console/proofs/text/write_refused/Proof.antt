@@ -1,9 +1,9 @@
+-- `write_refused` meets its contract: a line of a word and a number. Assumes nothing.
 use borrow.Author.Needs.{needs}
+use Rattle.console.specs.Printed.{refusedText}
+use Rattle.console.proofs.Rooms.{puts-parts}
 use Rattle.console.proofs.text.write_refused.Statement.{statement}
 use Rattle.console.proofs.text.write_refused.Tie as tie
-use Rattle.console.proofs.text.write_refused.Reads as reads
-use Rattle.console.proofs.text.write_refused.Lts as lts
-use Rattle.console.proofs.text.put_line.Reads as put-line-reads
 
 slice-aggregate-put-line : tie.Need-slice-aggregate-put-line
 slice-aggregate-put-line c = search needs
@@ -15,7 +15,8 @@ same-length : tie.Need-same-length
 same-length c = search needs
 
 returns : tie.Need-returns
-returns c = ?
+unfolding refusedText
+returns c = puts-parts (c .before .before .put-line .ensures)
 
 pub write-refused-spec : {M : Type 1} → statement M
 write-refused-spec =

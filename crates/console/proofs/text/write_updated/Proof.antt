@@ -1,10 +1,9 @@
+-- `write_updated` meets its contract: pieces, one after another. Assumes nothing.
 use borrow.Author.Needs.{needs}
+use Rattle.console.specs.Printed.{updatedText}
+use Rattle.console.proofs.Rooms.{puts-both, puts-parts}
 use Rattle.console.proofs.text.write_updated.Statement.{statement}
 use Rattle.console.proofs.text.write_updated.Tie as tie
-use Rattle.console.proofs.text.write_updated.Reads as reads
-use Rattle.console.proofs.text.write_updated.Lts as lts
-use Rattle.console.proofs.text.put_byte.Reads as put-byte-reads
-use Rattle.console.proofs.text.put_item.Reads as put-item-reads
 
 slice-aggregate-put-item : tie.Need-slice-aggregate-put-item
 slice-aggregate-put-item c = search needs
@@ -28,7 +27,12 @@ same-length : tie.Need-same-length
 same-length c = search needs
 
 returns : tie.Need-returns
-returns c = ?
+unfolding updatedText
+returns c =
+    let e = c .before .before in
+    let d = e .before .before .before .before in
+    let s = d .before .before .before .before .before in
+    puts-parts (puts-both (puts-both (s .before .before .before .before .put-item .ensures) (puts-both (s .put-byte .ensures) (d .put-item2 .ensures))) (e .put-byte2 .ensures))
 
 pub write-updated-spec : {M : Type 1} → statement M
 write-updated-spec =
