@@ -62,12 +62,12 @@ module _ (l : List ℕ) (i : ℕ) where
       let r : i + 3 + 1 ≡ i + 4 = omega arith in
       one-more l i (omega arith)
       ∙ ap (λ (t : List ℕ). getD l i 0 ∷ t)
-        (one-more l (i + 1) (omega arith)
-        ∙ ap (λ (k : ℕ). getD l (i + 1) 0 ∷ drop k l) p
-        ∙ ap (λ (t : List ℕ). getD l (i + 1) 0 ∷ t)
-          (one-more l (i + 2) (omega arith)
-          ∙ ap (λ (k : ℕ). getD l (i + 2) 0 ∷ drop k l) q
-          ∙ ap (λ (t : List ℕ). getD l (i + 2) 0 ∷ t) (one-more l (i + 3) (omega arith) ∙ ap (λ (k : ℕ). getD l (i + 3) 0 ∷ drop k l) r)))
+      (one-more l (i + 1) (omega arith)
+      ∙ ap (λ (k : ℕ). getD l (i + 1) 0 ∷ drop k l) p
+      ∙ ap (λ (t : List ℕ). getD l (i + 1) 0 ∷ t)
+      (one-more l (i + 2) (omega arith)
+      ∙ ap (λ (k : ℕ). getD l (i + 2) 0 ∷ drop k l) q
+      ∙ ap (λ (t : List ℕ). getD l (i + 2) 0 ∷ t) (one-more l (i + 3) (omega arith) ∙ ap (λ (k : ℕ). getD l (i + 3) 0 ∷ drop k l) r)))
 
   pub row-more : i + 4 ≤ length l → rowText (numbersOf (drop i l)) ≡ (32 ∷ numberText (numberOf (fourAt l i))) ++ rowText (numbersOf (drop (i + 4) l))
   row-more h = ap (λ (t : List ℕ). rowText (numbersOf t)) (four-more h)

@@ -1,12 +1,14 @@
+-- `put_rows` meets its contract: the first row, if there is one, and the further ones. Assumes nothing.
+use Prim.Native.Nat.{ℕ}
+use mathlib.Core.Path.{sym, ap, _∙_}
+use mathlib.Core.List.{List}
 use borrow.Author.Needs.{needs}
+use Rattle.meaning.specs.Record.{numbersOf}
+use Rattle.console.specs.Printed.{rowText}
+use Rattle.console.proofs.Rooms.{puts-none, puts-as, puts-both}
+use Rattle.console.proofs.Shown.{first-more, first-end}
 use Rattle.console.proofs.text.put_rows.Statement.{statement}
 use Rattle.console.proofs.text.put_rows.Tie as tie
-use Rattle.console.proofs.text.put_rows.Reads as reads
-use Rattle.console.proofs.text.put_rows.Lts as lts
-use Rattle.answer.proofs.row.Reads as row-reads
-use Rattle.answer.proofs.row_refusal.Reads as row-refusal-reads
-use Rattle.console.proofs.text.put_further.Reads as put-further-reads
-use Rattle.console.proofs.text.put_row.Reads as put-row-reads
 
 row-refusal-requires : tie.Need-row-refusal-requires
 row-refusal-requires c κs = search needs
@@ -24,10 +26,17 @@ same-length : tie.Need-same-length
 same-length c = search needs
 
 returns : tie.Need-returns
-returns c = ?
+returns c =
+    let f = c .before .before in
+    let r = f .before .before .before .before in
+    let t = r .before .before .before in
+    puts-as (sym (first-more _ (sym (t .before .row-refusal .ensures) ∙ t .if1 .taken)))
+    (puts-both (puts-as (ap (λ (s : List ℕ). rowText (numbersOf s)) (r .before .row .ensures .0)) (r .put-row .ensures)) (f .put-further .ensures))
 
 returns-2 : tie.Need-returns-2
-returns-2 c = ?
+returns-2 c =
+    let a = c .before .before .before .before .args in
+    puts-as (sym (first-end (a .bytes .now) (λ e. c .if1 .left (c .before .row-refusal .ensures ∙ e)))) (puts-none (a .out .now) (a .at))
 
 pub put-rows-spec : {M : Type 1} → statement M
 put-rows-spec =

@@ -1,13 +1,9 @@
+-- `write_answer` meets its contract: pieces, one after another. Assumes nothing.
 use borrow.Author.Needs.{needs}
+use Rattle.console.specs.Printed.{answerText}
+use Rattle.console.proofs.Rooms.{puts-both, puts-parts}
 use Rattle.console.proofs.text.write_answer.Statement.{statement}
 use Rattle.console.proofs.text.write_answer.Tie as tie
-use Rattle.console.proofs.text.write_answer.Reads as reads
-use Rattle.console.proofs.text.write_answer.Lts as lts
-use Rattle.console.proofs.text.put_byte.Reads as put-byte-reads
-use Rattle.console.proofs.text.put_bytes.Reads as put-bytes-reads
-use Rattle.console.proofs.text.put_item.Reads as put-item-reads
-use Rattle.console.proofs.text.put_rows.Reads as put-rows-reads
-use Rattle.console.proofs.text.put_source.Reads as put-source-reads
 
 put-source-requires : tie.Need-put-source-requires
 put-source-requires c κs = search needs
@@ -34,7 +30,16 @@ same-length : tie.Need-same-length
 same-length c = search needs
 
 returns : tie.Need-returns
-returns c = ?
+unfolding answerText
+returns c =
+    let e = c .before .before in
+    let r = e .before .before .before .before in
+    let b = r .before .before .before .before in
+    let i = b .before .before .before .before .before in
+    puts-parts
+    (puts-both
+    (puts-both (i .before .before .before .before .before .put-source .ensures) (puts-both (i .put-item .ensures) (puts-both (b .put-bytes .ensures) (r .put-rows .ensures))))
+    (e .put-byte .ensures))
 
 pub write-answer-spec : {M : Type 1} → statement M
 write-answer-spec =
