@@ -1,3 +1,4 @@
 pub mod Rooms
 pub mod Digits
 pub mod Shown
+pub mod Prints

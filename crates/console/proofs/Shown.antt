@@ -85,20 +85,29 @@ module _ (l : List ℕ) (i : ℕ) where
 -- ---- the rows of a record
 
 module _ (bs : List ℕ) where
-  row-limit : isRecord bs ≡ true → rowCount bs ≤ most-rows
+  limits : isRecord bs ≡ true → (columnsIn bs ≤ most-items) × (rowCount bs ≤ most-rows)
   unfolding isRecord
-  row-limit h =
-      let t = and-right (leb (columnsIn bs) most-items) _ (and-right (leb 1 (columnsIn bs)) _ (and-right (eqb (getD bs 4 0) 1) _ (and-right (leb 8 (length bs)) _ h))) in
-      leb-true (rowCount bs) most-rows (and-left (leb (rowCount bs) most-rows) _ t)
+  limits h =
+      let t = and-right (leb 1 (columnsIn bs)) _ (and-right (eqb (getD bs 4 0) 1) _ (and-right (leb 8 (length bs)) _ h)) in (
+        leb-true (columnsIn bs) most-items (and-left (leb (columnsIn bs) most-items) _ t),
+        leb-true (rowCount bs) most-rows (and-left (leb (rowCount bs) most-rows) _ (and-right (leb (columnsIn bs) most-items) _ t)),
+      )
+
+  pub few-columns : isRecord bs ≡ true → columnsIn bs ≤ most-items
+  few-columns h = limits h .0
 
   pub few-rows : rowsThere bs ≤ 512
   few-rows = go (isRecord bs) refl
     where
       go : (b : Bool) → isRecord bs ≡ b → cond b (rowCount bs) 0 ≤ 512
       go false e = omega arith
-      go true e = row-limit e
+      go true e = limits e .1
 
   module _ (i : ℕ) where
+    pub row-record : hasRow bs i ≡ true → isRecord bs ≡ true
+    unfolding hasRow
+    row-record h = and-left (isRecord bs) (ltb i (rowCount bs)) h
+
     -- what the refusal of row i says
     pub there : rowRefusal bs i ≡ 0 → i < rowsThere bs
     unfolding hasRow
