@@ -5,8 +5,8 @@
 --     all-printed     a buffer as long as a text holds all of it
 -- Assumes nothing.
 use mathlib.Core.Path.{_≡_, refl, sym, ap, ap₂, _∙_, subst}
-use mathlib.Core.Bool.{Bool, true, false, _&&_, cond}
-use mathlib.Core.Option.{Option, none, some}
+use mathlib.Core.Bool.{Bool, true, false, cond}
+use mathlib.Core.Option.{none, some}
 use mathlib.Core.List.{List, [], _∷_, _++_, map, append-nil}
 use Prim.Native.Nat.{ℕ, zero, suc, _+_, _*_, _-_, _/_, _%_, _^_, _≤_, _<_}
 use native.Mathlib.Decide.{decLt}
@@ -16,19 +16,18 @@ use lib.Dec.{eqb, leb, ltb}
 use lib.IntN.{ℤ, pos, negsuc, negℤ}
 use lib.ListN.{length, take, drop, length-append, length-take}
 use lib.Seq.{take-all, take-at}
-use lib.Signed.{leZ}
 use Rattle.lists.specs.Lists.{bytes, all, takeWhile, dropWhile, from, written}
 use Rattle.lists.proofs.Bools.{and-left, and-right, and-both}
 use Rattle.lists.proofs.Lists.{All-map, all-append, all-true, all-of}
-use Rattle.lists.proofs.Runs.{run-split, drop-all, take-yes, drop-yes}
+use Rattle.lists.proofs.Runs.{run-split, drop-all}
 use Rattle.meaning.specs.Limits.{isWithin32}
-use Rattle.meaning.specs.Record.{numberOf, numbersOf, fourAt, rowCount, rowBytes, isRecord, hasRow, rowLength, rowStart, rowPart}
-use Rattle.meaning.specs.Tokens.{Token, constant, isDigit, isNameByte, isWordByte, isMinus, decimalOn, decimal, word, negative, tokenFrom}
+use Rattle.meaning.specs.Record.{numberOf, numbersOf, fourAt, rowBytes, hasRow, rowPart}
+use Rattle.meaning.specs.Tokens.{constant, isDigit, isNameByte, isWordByte, decimalOn, decimal, word, negative, tokenFrom}
 use Rattle.meaning.proofs.Stream.{from-word, from-minus}
 use Rattle.token.proofs.Words.{digit-word}
 use Rattle.console.specs.Room.{fitting, filled, filledTo}
 use Rattle.console.specs.Lines.{wholeToken, valueIn}
-use Rattle.console.specs.Printed.{digitsIn, decimalText, numberText, item, rowText, furtherText, rowsText, rowsThere, rowsShown, sourceWord, answerText}
+use Rattle.console.specs.Printed.{digitsIn, decimalText, numberText, rowText, furtherText, rowsText, rowsThere, sourceWord, answerText}
 use Rattle.console.proofs.Digits.{digits-one, digits-more}
 use Rattle.console.proofs.Shown.{row-record, few-columns, few-rows}
 

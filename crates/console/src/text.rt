@@ -2,7 +2,7 @@
 ghost use mathlib.Core.Path.{_≡_};
 ghost use mathlib.Core.List.{[], _∷_, _++_};
 ghost use Prim.Native.Nat.{_+_, _≤_};
-ghost use lib.ListN.{length, getD};
+ghost use lib.ListN.{length};
 ghost use Rattle.meaning.specs.Record.{fourAt, numberOf, numbersOf};
 ghost use Rattle.console.specs.Room.{filled, filledTo};
 ghost use Rattle.console.specs.Pieces.{Puts, rowsFrom};
@@ -56,11 +56,10 @@ fn put_number(out: &mut [u8], at: usize, bits: u32) -> usize
     put_decimal(out, end, 4294967296 - n)
 }
 
-// A byte as a number; 0 past the end.
-fn byte_at(bytes: &[u8], i: usize) -> u32
-    ensures { λ r. ⌜ (r ≡ getD (now (bytes .entry)) i 0) × (r ≤ 255) ⌝ }
+fn wide(b: u8) -> u32
+    ensures { λ r. ⌜ (r ≡ b) × (r ≤ 255) ⌝ }
 {
-    if i < bytes.len() { bytes[i] as u32 } else { 0 }
+    b as u32
 }
 
 // The number of four bytes.
@@ -68,10 +67,10 @@ fn four_at(bytes: &[u8], i: usize) -> u32
     requires { ⌜ i + 4 ≤ length (now bytes) ⌝ }
     ensures { λ r. ⌜ r ≡ fourAt (now (bytes .entry)) i ⌝ }
 {
-    let a = byte_at(bytes, i);
-    let b = byte_at(bytes, i + 1);
-    let c = byte_at(bytes, i + 2);
-    let d = byte_at(bytes, i + 3);
+    let a = wide(bytes[i]);
+    let b = wide(bytes[i + 1]);
+    let c = wide(bytes[i + 2]);
+    let d = wide(bytes[i + 3]);
     a * 16777216 + b * 65536 + c * 256 + d
 }
 
