@@ -3,10 +3,9 @@ use mathlib.Core.Path.{_≡_, refl, sym, ap, ap₂, _∙_, subst}
 use mathlib.Core.List.{List, [], _∷_, _++_}
 use Prim.Native.Nat.{ℕ, zero, suc, _+_, _-_, _≤_, _<_}
 use native.Mathlib.Decide.{decLe}
-use native.Mathlib.Numerals.{add-one}
 use native.Mathlib.Omega.{arith}
-use lib.ListN.{length, take, drop, getD, set, length-append, length-take, drop-of-length-le}
-use lib.Seq.{take-nil, drop-cons, sets-eq}
+use lib.ListN.{length, take, set, length-append, length-take}
+use lib.Seq.{take-nil, sets-eq}
 use Rattle.lists.specs.Lists.{written}
 use Rattle.lists.proofs.Written.{written-nil, length-written, written-append}
 use Rattle.console.specs.Room.{fitting, filled, filledTo}
@@ -25,16 +24,22 @@ module _ {A : Type 0} where
       ap (λ (l : List A). x ∷ l) (take-both n a b) ∙ ap (λ (k : ℕ). x ∷ (take n a ++ take k b)) (sym e)
 
   module _ (xs : List A) (at : ℕ) where
-    -- behind the end nothing fits
-    module _ (past : length xs < at) where
-      none-fits : (ys : List A) → fitting xs at ys ≡ []
-      none-fits ys = let e : length xs - at ≡ 0 = omega arith in ap (λ (k : ℕ). take k ys) e
+    -- where nothing fits, all stays
+    none-filled : (ys : List A) → fitting xs at ys ≡ [] → filled xs at ys ≡ xs
+    none-filled ys e = ap (written xs at) e ∙ written-nil xs at
 
-      past-filled : (ys : List A) → filled xs at ys ≡ xs
-      past-filled ys = ap (written xs at) (none-fits ys) ∙ written-nil xs at
+    none-ends : (ys : List A) → fitting xs at ys ≡ [] → filledTo xs at ys ≡ at
+    none-ends ys e = let z : at + 0 ≡ at = omega arith in ap (λ (l : List A). at + length l) e ∙ z
 
-      past-ends : (ys : List A) → filledTo xs at ys ≡ at
-      past-ends ys = let e = none-fits ys in ap (λ (l : List A). at + length l) e ∙ (let z : at + 0 ≡ at = omega arith in z)
+    -- at the end and behind it nothing fits
+    none-fits : length xs ≤ at → (ys : List A) → fitting xs at ys ≡ []
+    none-fits h ys = let e : length xs - at ≡ 0 = omega arith in ap (λ (k : ℕ). take k ys) e
+
+    past-filled : length xs ≤ at → (ys : List A) → filled xs at ys ≡ xs
+    past-filled h ys = none-filled ys (none-fits h ys)
+
+    past-ends : length xs ≤ at → (ys : List A) → filledTo xs at ys ≡ at
+    past-ends h ys = none-ends ys (none-fits h ys)
 
     fits-in : at ≤ length xs → (ys : List A) → filledTo xs at ys ≤ length xs
     fits-in h ys = omega (arith, length-take (length xs - at) ys)
@@ -84,10 +89,7 @@ module _ {A : Type 0} where
 pub puts-none : (xs : List ℕ) (at : ℕ) → Puts xs at [] xs at
 puts-none xs at =
     let e : fitting xs at [] ≡ [] = take-nil (length xs - at) in
-    record {
-      ends = (let z : at ≡ at + 0 = omega arith in z) ∙ sym (ap (λ (l : List ℕ). at + length l) e);
-      text = sym (ap (written xs at) e ∙ written-nil xs at);
-    }
+    record { ends = sym (none-ends xs at [] e); text = sym (none-filled xs at [] e) }
 
 pub puts-long : {xs : List ℕ} {at : ℕ} {a ys : List ℕ} {p : ℕ} → Puts xs at a ys p → length ys ≡ length xs
 puts-long {xs} {at} {a} h = ap length (h .text) ∙ length-filled xs at a
@@ -138,17 +140,4 @@ module _ (xs : List ℕ) (at b : ℕ) where
       }
 
   pub byte-past : length xs ≤ at → Puts xs at (b ∷ []) xs at
-  byte-past h =
-      let n : length xs - at ≡ 0 = omega arith in
-      let e : fitting xs at (b ∷ []) ≡ [] = ap (λ (k : ℕ). take k (b ∷ [])) n in
-      record {
-        ends = (let z : at ≡ at + 0 = omega arith in z) ∙ sym (ap (λ (l : List ℕ). at + length l) e);
-        text = sym (ap (written xs at) e ∙ written-nil xs at);
-      }
-
--- the bytes left from i on
-pub one-more : (l : List ℕ) (i : ℕ) → i < length l → drop i l ≡ (getD l i 0 ∷ []) ++ drop (i + 1) l
-one-more l i h = rw (add-one i, drop-cons l i 0)
-
-pub no-more : (l : List ℕ) (i : ℕ) → length l ≤ i → drop i l ≡ []
-no-more l i h = drop-of-length-le l h
+  byte-past h = record { ends = sym (past-ends xs at h (b ∷ [])); text = sym (past-filled xs at h (b ∷ [])) }

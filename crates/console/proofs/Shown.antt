@@ -12,9 +12,9 @@ use Rattle.lists.proofs.Bools.{and-left, and-right}
 use Rattle.lists.proofs.Walks.{from-cons, from-none}
 use Rattle.meaning.specs.Limits.{most-items, most-rows}
 use Rattle.meaning.specs.Record.{numberOf, numbersOf, fourAt, columnsIn, rowCount, isRecord, hasRow, rowPart, rowRefusal}
+use Rattle.token.proofs.Runs.{drop-here}
 use Rattle.console.specs.Printed.{sourceWord, line, item, addedText, decimalText, numberText, rowText, furtherText, rowsText, rowsThere, rowsShown}
 use Rattle.console.specs.Pieces.{rowsFrom}
-use Rattle.console.proofs.Rooms.{one-more}
 
 module _ (n : ℕ) where
   pub number-low : n < 2 ^ 31 → numberText (numberOf n) ≡ decimalText n
@@ -59,14 +59,14 @@ module _ (l : List ℕ) (i : ℕ) where
       let p : i + 1 + 1 ≡ i + 2 = omega arith in
       let q : i + 2 + 1 ≡ i + 3 = omega arith in
       let r : i + 3 + 1 ≡ i + 4 = omega arith in
-      one-more l i (omega arith)
+      drop-here l i (omega arith)
       ∙ ap (λ (t : List ℕ). getD l i 0 ∷ t)
-      (one-more l (i + 1) (omega arith)
+      (drop-here l (i + 1) (omega arith)
       ∙ ap (λ (k : ℕ). getD l (i + 1) 0 ∷ drop k l) p
       ∙ ap (λ (t : List ℕ). getD l (i + 1) 0 ∷ t)
-      (one-more l (i + 2) (omega arith)
+      (drop-here l (i + 2) (omega arith)
       ∙ ap (λ (k : ℕ). getD l (i + 2) 0 ∷ drop k l) q
-      ∙ ap (λ (t : List ℕ). getD l (i + 2) 0 ∷ t) (one-more l (i + 3) (omega arith) ∙ ap (λ (k : ℕ). getD l (i + 3) 0 ∷ drop k l) r)))
+      ∙ ap (λ (t : List ℕ). getD l (i + 2) 0 ∷ t) (drop-here l (i + 3) (omega arith) ∙ ap (λ (k : ℕ). getD l (i + 3) 0 ∷ drop k l) r)))
 
   pub row-more : i + 4 ≤ length l → rowText (numbersOf (drop i l)) ≡ (32 ∷ numberText (numberOf (fourAt l i))) ++ rowText (numbersOf (drop (i + 4) l))
   row-more h = ap (λ (t : List ℕ). rowText (numbersOf t)) (four-more h)

@@ -1,8 +1,9 @@
 -- `put_bytes` meets its contract. The invariant, `Left`: the bytes from i on are left to put. The measure is how many they are. Assumes nothing.
 use Prim.Native.Nat.{_-_}
 use borrow.Author.Needs.{needs}
-use lib.ListN.{length, drop}
-use Rattle.console.proofs.Rooms.{Left, left-start, left-more, left-end, one-more, no-more}
+use lib.ListN.{length, drop, drop-of-length-le}
+use Rattle.token.proofs.Runs.{drop-here}
+use Rattle.console.proofs.Rooms.{Left, left-start, left-more, left-end}
 use Rattle.console.proofs.text.put_bytes.Statement.{statement}
 use Rattle.console.proofs.text.put_bytes.Tie as tie
 
@@ -31,13 +32,13 @@ loop-again : tie.Need-loop-again Inv-loop μ-loop
 loop-again c =
     let k = c .before .before in
     let l = k .before .before .before .before in
-    left-more _ _ (one-more _ (l .loop .i) (k .before .before .before .loop-test .taken)) (k .put-byte .ensures) (l .loop .inv)
+    left-more _ _ (drop-here _ (l .loop .i) (k .before .before .before .loop-test .taken)) (k .put-byte .ensures) (l .loop .inv)
 
 same-length : tie.Need-same-length Inv-loop μ-loop
 same-length c = c .before .loop .inv .long
 
 returns : tie.Need-returns Inv-loop μ-loop
-returns c = left-end (no-more _ _ (c .loop-test .left)) (c .before .loop .inv)
+returns c = left-end (drop-of-length-le _ (c .loop-test .left)) (c .before .loop .inv)
 
 pub put-bytes-spec : {M : Type 1} → statement M
 put-bytes-spec =
