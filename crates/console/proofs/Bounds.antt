@@ -5,17 +5,12 @@ use mathlib.Core.List.{List, [], _∷_}
 use Prim.Native.Nat.{ℕ, zero, suc, _+_, _-_, _≤_, _<_}
 use native.Mathlib.Omega.{arith}
 use lib.IntN.{ℤ}
-use lib.ListN.{length, take, drop, length-take, length-drop}
+use lib.ListN.{length, take, drop, length-drop}
 use Rattle.cache.specs.declared.State.{State}
 use Rattle.lists.specs.Lists.{takeWhile, dropWhile}
-use Rattle.console.specs.Room.{filledTo}
 use Rattle.console.specs.Lines.{isNewline, lineFrom, hasNewline, lineEnds, gatheredOf}
 use Rattle.console.specs.Desk.{replyOf, answeredOf}
-
-module _ {A : Type 0} where
-  -- what is filled ends inside, if it starts there
-  pub filled-within : (xs : List A) (at : ℕ) (ys : List A) → at ≤ length xs → filledTo xs at ys ≤ length xs
-  filled-within xs at ys h = omega (arith, h, length-take (length xs - at) ys)
+use Rattle.console.proofs.Rooms.{filled-within}
 
 -- a byte is taken of what is left, the newline among them
 moves-on : (s : List ℕ) → 0 < length s → 0 < length (takeWhile (λ (b : ℕ). not (isNewline b)) s) + cond (hasNewline (dropWhile (λ (b : ℕ). not (isNewline b)) s)) 1 0

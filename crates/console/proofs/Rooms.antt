@@ -36,15 +36,15 @@ module _ {A : Type 0} where
         let z : at + 0 ≡ at = omega arith in
         (ap (written xs at) e ∙ written-nil xs at, ap (λ (r : List A). at + length r) e ∙ z)
 
-    -- what fits is inside
-    fitting-room : (ys : List A) → at ≤ length xs → at + length (fitting xs at ys) ≤ length xs
-    fitting-room ys h = omega (arith, length-take (length xs - at) ys)
+    -- what is filled ends inside, if it starts there
+    pub filled-within : (ys : List A) → at ≤ length xs → filledTo xs at ys ≤ length xs
+    filled-within ys h = omega (arith, length-take (length xs - at) ys)
 
     pub length-filled : (ys : List A) → length (filled xs at ys) ≡ length xs
     length-filled ys = go (decLe at (length xs))
       where
         go : Dec (at ≤ length xs) → length (filled xs at ys) ≡ length xs
-        go (yes h) = length-written xs at (fitting xs at ys) (fitting-room ys h)
+        go (yes h) = length-written xs at (fitting xs at ys) (filled-within ys h)
         go (no h) = ap length (filled-past ys (omega arith) .0)
 
     -- nothing
@@ -75,7 +75,7 @@ module _ {A : Type 0} where
         where
           go : Dec (at ≤ length xs) → filled (filled xs at ys) (filledTo xs at ys) zs ≡ filled xs at (ys ++ zs)
           go (yes h) =
-              written-append xs at (fitting xs at ys) (fitting-room ys h) (fitting (filled xs at ys) (filledTo xs at ys) zs)
+              written-append xs at (fitting xs at ys) (filled-within ys h) (fitting (filled xs at ys) (filledTo xs at ys) zs)
               ∙ ap (written xs at) (sym (fitting-both h))
           go (no h) =
               let k : length xs ≤ at = omega arith in

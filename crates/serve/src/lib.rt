@@ -1,8 +1,9 @@
 // A store at a descriptor: the lines of an input are answered one by one, and what is printed for a line is written as soon as it is answered.
 use cache::State;
+use console::Gathered;
 use console::Line;
 ghost use mathlib.Core.Path.{_≡_};
-ghost use Prim.Native.Nat.{_≤_};
+ghost use Prim.Native.Nat.{_≤_, _<_};
 ghost use lib.ListN.{length};
 
 // The store that document 01's `desk` opens, and the bytes that it lends for answers.
@@ -26,16 +27,19 @@ const HELD: usize = Line::BYTES + 1;
 // The most reads of an input: a loop must end, and no run lives to see this one end so.
 const MOST_READS: u64 = 18446744073709551615;
 
-// The state after some lines; the bytes that are held of the next one; and whether what was printed could be written.
+// The state after some lines; the bytes that are held of the next one; where the piece of the input goes on; whether what was printed
+// could be written; and how many reads are left, 0 at the end of the input.
 struct Served {
     state: State,
     held: usize,
+    next: usize,
     written: bool,
+    left: u64,
 }
 
 // Answers a line.
 fn answer_line(
-    state: State,
+    served: Served,
     cells: &mut [i32],
     memory: &mut [u8],
     answer: &mut [u8],
@@ -43,8 +47,9 @@ fn answer_line(
     out: &mut [u8],
     output: i32,
 ) -> Served
-    ensures { λ r. ⌜ r .held ≡ 0 ⌝ }
+    ensures { λ r. ⌜ (r .held ≡ 0) × (r .next ≡ served .next) ⌝ }
 {
+    let state = served.state;
     let reply = console::respond(state, cells, memory, answer, line, out);
     let n = reply.length;
     let written = io::write_all(output, &out[0..n]);
@@ -52,8 +57,44 @@ fn answer_line(
     Served {
         state: next,
         held: 0,
+        next: served.next,
         written,
+        left: served.left,
     }
+}
+
+// Gathers a line on: at least a byte of the piece is used up, and what is held stays within the line's place.
+fn gather_on(piece: &[u8], at: usize, line: &mut [u8], held: usize) -> Gathered
+    requires { ⌜ (at < length (now piece)) × (held ≤ length (now line)) ⌝ }
+    ensures { λ r. ⌜ (at < r .next) × (r .held ≤ length (now (line .entry))) ⌝ }
+{
+    console::gather(piece, at, line, held)
+}
+
+// Gathers a line on, and answers it if it ends.
+fn answer_on(
+    served: Served,
+    cells: &mut [i32],
+    memory: &mut [u8],
+    answer: &mut [u8],
+    piece: &[u8],
+    line: &mut [u8],
+    out: &mut [u8],
+    output: i32,
+) -> Served
+    requires { ⌜ (served .next < length (now piece)) × (served .held ≤ length (now line)) ⌝ }
+    ensures { λ r. ⌜ (served .next < r .next) × (r .held ≤ length (now (line .entry))) ⌝ }
+{
+    let mut s = served;
+    let g = gather_on(piece, s.next, line, s.held);
+    let held = g.held;
+    s.held = held;
+    s.next = g.next;
+    if g.ended {
+        let text = &line[0..held];
+        return answer_line(s, cells, memory, answer, text, out, output);
+    }
+    s
 }
 
 // Answers the lines that end in a piece of the input, and holds what is left of it, as long as what is printed can be written.
@@ -71,69 +112,91 @@ fn answer_piece(
     ensures { λ r. ⌜ r .held ≤ length (now (line .entry)) ⌝ }
 {
     let mut s = served;
-    let mut at: usize = 0;
-    while s.written & (at < piece.len()) {
-        let g = console::gather(piece, at, line, s.held);
-        at = g.next;
-        let held = g.held;
-        s.held = held;
-        if g.ended {
-            let state = s.state;
-            let next = answer_line(state, cells, memory, answer, &line[0..held], out, output);
-            s = next;
+    s.next = 0;
+    while s.next < piece.len() {
+        if !s.written {
+            break;
         }
+        let next = answer_on(s, cells, memory, answer, piece, line, out, output);
+        s = next;
     }
     s
 }
 
-// Answers the lines of an input, also a last one that no newline ends.
-fn answer_lines(
-    state: State,
+// How many reads are left after one: none if nothing more can be written.
+fn reads_left(left: u64, written: bool) -> u64
+    requires { ⌜ 0 < left ⌝ }
+    ensures { λ r. ⌜ r < left ⌝ }
+{
+    if written { left - 1 } else { 0 }
+}
+
+// Reads a piece of the input, and answers the lines that end in it.
+fn answer_read(
+    served: Served,
     cells: &mut [i32],
     memory: &mut [u8],
+    answer: &mut [u8],
+    piece: &mut [u8],
     line: &mut [u8],
+    out: &mut [u8],
     input: i32,
     output: i32,
-) {
-    let mut answer = io::large_buffer();
-    let mut out = io::large_buffer();
-    let mut piece = io::large_buffer();
-    let mut s = Served {
-        state,
-        held: 0,
-        written: true,
-    };
-    let mut left = MOST_READS;
-    while s.written & (0 < left) {
-        let n = io::count(libc::read(input, &mut piece), &piece);
-        if n == 0 {
-            break;
-        }
-        let next = answer_piece(
-            s,
-            cells,
-            memory,
-            &mut answer,
-            &piece[0..n],
-            line,
-            &mut out,
-            output,
-        );
-        s = next;
-        left -= 1;
+) -> Served
+    requires { ⌜ (served .held ≤ length (now line)) × (0 < served .left) ⌝ }
+    ensures { λ r. ⌜ (r .held ≤ length (now (line .entry))) × (r .left < served .left) ⌝ }
+{
+    let n = io::count(libc::read(input, piece), piece);
+    if n == 0 {
+        let mut end = served;
+        end.left = 0;
+        return end;
     }
-    let held = s.held;
-    if s.written & (0 < held) {
-        let last = s.state;
-        answer_line(
-            last,
-            cells,
-            memory,
-            &mut answer,
-            &line[0..held],
-            &mut out,
-            output,
-        );
+    let got = &piece[0..n];
+    let mut s = answer_piece(served, cells, memory, answer, got, line, out, output);
+    let left = reads_left(served.left, s.written);
+    s.left = left;
+    s
+}
+
+// Answers the lines of an input until it ends.
+fn answer_all(
+    served: Served,
+    cells: &mut [i32],
+    memory: &mut [u8],
+    answer: &mut [u8],
+    piece: &mut [u8],
+    line: &mut [u8],
+    out: &mut [u8],
+    input: i32,
+    output: i32,
+) -> Served
+    requires { ⌜ served .held ≤ length (now line) ⌝ }
+    ensures { λ r. ⌜ r .held ≤ length (now (line .entry)) ⌝ }
+{
+    let mut s = served;
+    while 0 < s.left {
+        let next = answer_read(s, cells, memory, answer, piece, line, out, input, output);
+        s = next;
+    }
+    s
+}
+
+// Answers a last line that no newline ends, if it has a byte.
+fn answer_last(
+    served: Served,
+    cells: &mut [i32],
+    memory: &mut [u8],
+    answer: &mut [u8],
+    line: &[u8],
+    out: &mut [u8],
+    output: i32,
+)
+    requires { ⌜ served .held ≤ length (now line) ⌝ }
+{
+    let held = served.held;
+    if served.written & (0 < held) {
+        answer_line(served, cells, memory, answer, &line[0..held], out, output);
     }
 }
 
@@ -159,8 +222,37 @@ fn no_line() -> [u8; HELD]
 pub fn serve(input: i32, output: i32) {
     let mut cells = no_cells();
     let mut memory = no_memory();
+    let mut answer = io::large_buffer();
+    let mut piece = io::large_buffer();
     let mut line = no_line();
+    let mut out = io::large_buffer();
     let opened = State::open(&mut cells, &mut memory, Desk::SLOTS, Desk::SLOT_BYTES);
     let state = opened.state;
-    answer_lines(state, &mut cells, &mut memory, &mut line, input, output);
+    let s = Served {
+        state,
+        held: 0,
+        next: 0,
+        written: true,
+        left: MOST_READS,
+    };
+    let last = answer_all(
+        s,
+        &mut cells,
+        &mut memory,
+        &mut answer,
+        &mut piece,
+        &mut line,
+        &mut out,
+        input,
+        output,
+    );
+    answer_last(
+        last,
+        &mut cells,
+        &mut memory,
+        &mut answer,
+        &line,
+        &mut out,
+        output,
+    );
 }
