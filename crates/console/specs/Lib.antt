@@ -2,4 +2,5 @@ pub mod Room
 pub mod Lines
 pub mod Printed
 pub mod Desk
+pub mod Commands
 pub mod Examples
