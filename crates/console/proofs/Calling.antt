@@ -1,8 +1,8 @@
 -- What each return of a command owes: the call's step, and its text printed. Assumes nothing.
-use mathlib.Core.Path.{_≡_, refl, sym, ap, _∙_, subst, subst⁻¹}
+use mathlib.Core.Path.{_≡_, refl, ap, _∙_, subst, subst⁻¹}
 use mathlib.Core.Bool.{Bool, true, false, cond}
-use mathlib.Core.List.{List, [], _∷_, _++_}
-use Prim.Native.Nat.{ℕ, zero, suc, _+_, _-_, _≤_, _<_}
+use mathlib.Core.List.{List, _++_}
+use Prim.Native.Nat.{ℕ, zero, suc, _+_, _-_, _≤_}
 use native.Mathlib.Omega.{arith}
 use borrow.Author.Tests.{ltb-false}
 use lib.Dec.{ltb}
@@ -14,7 +14,7 @@ use Rattle.slots.specs.declared.Found.the-variants.{At, Nothing}
 use Rattle.cache.specs.declared.State.{State}
 use Rattle.cache.specs.declared.Added.{Added}
 use Rattle.cache.specs.declared.Flushed.{Flushed}
-use Rattle.cache.specs.Calls.{settled, addOf, Asks, asks, askRefused, askRefusal, bytesAt, cachedLength, askCached, recordAt, askNew, askFound, foundIn, askOf, Updates, updateOf, flushOf}
+use Rattle.cache.specs.Calls.{settled, addOf, Asks, askRefusal, bytesAt, cachedLength, askCached, recordAt, askNew, askFound, foundIn, askOf, Updates, updateOf, flushOf}
 use Rattle.cache.specs.Run.{Store, Call, add, ask, update, flush, Seen, stepAdd, stepAsk, stepUpdate, stepFlush, step}
 use Rattle.cache.proofs.Settled.{settled-refused, settled-done}
 use Rattle.console.specs.Room.{filled, filledTo}
@@ -27,35 +27,36 @@ storeOf s cells memory = record { state = s; cells = cells; memory = memory }
 
 -- ---- the text is that of a refusal, or of a call that is taken
 
+-- what a step leaves, with so many bytes of the text at the start of a buffer
+abbrev given : List ℕ → Call → ℕ → List ℕ → Store × Seen → Replies
+given answer c n new q = replies (record { length = n; state = q .0 .state }) (q .0 .cells) (q .0 .memory) (bufferAfter c answer (q .1)) new
+
+abbrev Written : List ℕ → ℕ → List ℕ → List ℕ → Type 0
+Written out n new t = (n ≡ filledTo out 0 t) × (new ≡ filled out 0 t)
+
 module _ (s : State) (cells : List ℤ) (memory answer out : List ℕ) (c : Call) (p : Store × Seen) (e : p ≡ step (storeOf s cells memory) c) (n : ℕ) (new : List ℕ) where
-  abbrev given : ℕ → List ℕ → Store × Seen → Replies
-  given length bytes q = replies (record { length = length; state = q .0 .state }) (q .0 .cells) (q .0 .memory) (bufferAfter c answer (q .1)) bytes
-
-  abbrev Printed : List ℕ → Type 0
-  Printed t = (n ≡ filledTo out 0 t) × (new ≡ filled out 0 t)
-
-  printed : (t : List ℕ) → t ≡ textOf c (p .1) → Printed t → given n new p ≡ replyTo s cells memory answer c out
+  told : (t : List ℕ) → t ≡ textOf c (p .1) → Written out n new t → given answer c n new p ≡ replyTo s cells memory answer c out
   unfolding replyTo
-  printed t h w =
-      (λ i. given (w .0 i) (w .1 i) p)
-      ∙ ap (λ (u : List ℕ). given (filledTo out 0 u) (filled out 0 u) p) h
-      ∙ ap (λ (q : Store × Seen). given (filledTo out 0 (textOf c (q .1))) (filled out 0 (textOf c (q .1))) q) e
+  told t h w =
+      (λ i. given answer c (w .0 i) (w .1 i) p)
+      ∙ ap (λ (u : List ℕ). given answer c (filledTo out 0 u) (filled out 0 u) p) h
+      ∙ ap (λ (q : Store × Seen). given answer c (filledTo out 0 (textOf c (q .1))) (filled out 0 (textOf c (q .1))) q) e
 
-  pub call-refused : (p .1 .got .refusal ≡ 0 → ⊥) → Printed (refusedText (p .1 .got .refusal)) → given n new p ≡ replyTo s cells memory answer c out
-  call-refused h w = printed _ (settled-refused (p .1 .got .refusal) _ _ h) w
+  pub call-refused : (p .1 .got .refusal ≡ 0 → ⊥) → Written out n new (refusedText (p .1 .got .refusal)) → given answer c n new p ≡ replyTo s cells memory answer c out
+  call-refused h w = told _ (settled-refused (p .1 .got .refusal) _ _ h) w
 
-  pub call-done : p .1 .got .refusal ≡ 0 → Printed (doneText c (p .1)) → given n new p ≡ replyTo s cells memory answer c out
-  call-done h w = printed _ (settled-done (p .1 .got .refusal) _ _ h) w
+  pub call-done : p .1 .got .refusal ≡ 0 → Written out n new (doneText c (p .1)) → given answer c n new p ≡ replyTo s cells memory answer c out
+  call-done h w = told _ (settled-done (p .1 .got .refusal) _ _ h) w
 
--- an answer: the record is lent as the part of the buffer from 0 on
+-- of a question, the record is lent as the part of the answer buffer from 0 on
 pub answer-done : (s : State) (cells : List ℤ) (memory answer out : List ℕ) (number : ℕ) (values : List ℤ) (p : Store × Seen)
     (e : p ≡ step (storeOf s cells memory) (ask number values answer)) (n : ℕ) (new : List ℕ) → p .1 .got .refusal ≡ 0
-    → Printed s cells memory answer out (ask number values answer) p e n new (answerText (p .1 .kept) (p .1 .scanned) (take (p .1 .got .length - 0) (p .1 .got .answer)))
-    → given s cells memory answer out (ask number values answer) p e n new n new p ≡ replyTo s cells memory answer (ask number values answer) out
+    → Written out n new (answerText (p .1 .kept) (p .1 .scanned) (take (p .1 .got .length - 0) (p .1 .got .answer)))
+    → given answer (ask number values answer) n new p ≡ replyTo s cells memory answer (ask number values answer) out
 answer-done s cells memory answer out number values p e n new h w =
     let l : p .1 .got .length - 0 ≡ p .1 .got .length = omega arith in
     call-done s cells memory answer out (ask number values answer) p e n new h
-    (subst (λ (k : ℕ). Printed s cells memory answer out (ask number values answer) p e n new (answerText (p .1 .kept) (p .1 .scanned) (take k (p .1 .got .answer)))) l w)
+    (subst (λ (k : ℕ). Written out n new (answerText (p .1 .kept) (p .1 .scanned) (take k (p .1 .got .answer)))) l w)
 
 -- ---- the steps, by what the store's functions promise
 

@@ -75,7 +75,15 @@ pub fn respond(
         return respond_add(state, cells, memory, &line[from..], out);
     }
     if said.command == Line::ASK {
-        return respond_ask(state, cells, memory, said.number, &values[0..n], answer, out);
+        return respond_ask(
+            state,
+            cells,
+            memory,
+            said.number,
+            &values[0..n],
+            answer,
+            out,
+        );
     }
     if said.command == Line::DO {
         return respond_do(state, cells, memory, said.number, &values[0..n], out);
@@ -89,13 +97,7 @@ pub fn respond(
 
 // ---- each command, with what is lent to it
 
-fn respond_add(
-    state: State,
-    cells: &[i32],
-    memory: &[u8],
-    text: &[u8],
-    out: &mut [u8],
-) -> Reply
+fn respond_add(state: State, cells: &[i32], memory: &[u8], text: &[u8], out: &mut [u8]) -> Reply
     ensures { λ r. ⌜ replies r (now (cells .entry)) (now (memory .entry)) [] (now (out .exit)) ≡ replyTo state (now (cells .entry)) (now (memory .entry)) [] (add (now (text .entry))) (now (out .entry)) ⌝ }
 {
     let added = state.add(cells, memory, text);

@@ -1,3 +1,4 @@
+-- `respond` meets its contract: the line is read, and each command is a law of `Replying`. Assumes nothing.
 use mathlib.Core.Path.{refl}
 use borrow.Author.Needs.{needs}
 use lib.IntN.{pos}
@@ -5,14 +6,6 @@ use lib.ListN.{replicate}
 use Rattle.console.proofs.Replying.{values-inside, text-inside, reply-add, reply-flush, reply-bad, reply-ask, reply-change}
 use Rattle.console.proofs.respond.Statement.{statement}
 use Rattle.console.proofs.respond.Tie as tie
-use Rattle.console.proofs.respond.Reads as reads
-use Rattle.console.proofs.respond.Lts as lts
-use Rattle.console.proofs.lines.read_line.Reads as read-line-reads
-use Rattle.console.proofs.respond_add.Reads as respond-add-reads
-use Rattle.console.proofs.respond_ask.Reads as respond-ask-reads
-use Rattle.console.proofs.respond_do.Reads as respond-do-reads
-use Rattle.console.proofs.respond_flush.Reads as respond-flush-reads
-use Rattle.console.proofs.text.write_bad.Reads as write-bad-reads
 
 slice-aggregate-read-line : tie.Need-slice-aggregate-read-line
 slice-aggregate-read-line c = search needs
@@ -21,7 +14,9 @@ read-line-requires : tie.Need-read-line-requires
 read-line-requires c κs = search needs
 
 sub-respond-add : tie.Need-sub-respond-add
-sub-respond-add c = text-inside _ _ (c .before .before .before .before .before .read-line .ensures .0) (c .before .before .if1 .taken)
+sub-respond-add c =
+    let r = c .before .before .before .before .before .read-line in
+    text-inside _ _ (r .ensures .0) (c .before .before .if1 .taken)
 
 part-respond-add-start : tie.Need-part-respond-add-start
 part-respond-add-start c = sub-respond-add c
@@ -42,7 +37,9 @@ same-length-3 : tie.Need-same-length-3
 same-length-3 c = search needs
 
 returns : tie.Need-returns
-returns c = reply-add _ _ (c .before .before .before .before .before .before .before .before .before .before .read-line .ensures .0) _ _ _ _ _ _ _ (c .before .before .before .before .before .before .before .if1 .taken) (c .before .before .respond-add .ensures)
+returns c =
+    let r = c .before .before .before .before .before .before .before .before .before .before .read-line in
+    reply-add _ _ (r .ensures .0) _ _ _ _ _ _ _ (c .before .before .before .before .before .before .before .if1 .taken) (c .before .before .respond-add .ensures)
 
 sub-respond-ask : tie.Need-sub-respond-ask
 sub-respond-ask c = search needs
@@ -51,7 +48,9 @@ part-respond-ask-start : tie.Need-part-respond-ask-start
 part-respond-ask-start c = search needs
 
 part-respond-ask-end : tie.Need-part-respond-ask-end
-part-respond-ask-end c = values-inside _ _ (c .before .before .before .before .before .before .before .before .read-line .ensures .0) (replicate 512 (pos 0)) _ refl (c .before .before .before .before .before .before .before .before .read-line .ensures .1)
+part-respond-ask-end c =
+    let r = c .before .before .before .before .before .before .before .before .read-line in
+    values-inside _ _ (r .ensures .0) (replicate 512 (pos 0)) _ refl (r .ensures .1)
 
 respond-ask-requires : tie.Need-respond-ask-requires
 respond-ask-requires c κs = search needs
@@ -69,7 +68,9 @@ same-length-7 : tie.Need-same-length-7
 same-length-7 c = search needs
 
 returns-2 : tie.Need-returns-2
-returns-2 c = reply-ask _ _ (c .before .before .before .before .before .before .before .before .before .before .before .before .before .before .before .before .before .before .read-line .ensures .0) _ _ _ _ _ (replicate 512 (pos 0)) _ refl (c .before .before .before .before .before .before .before .before .before .before .before .before .before .before .before .before .before .before .read-line .ensures .1) _ (c .before .before .before .before .before .before .before .before .before .before .before .before .before .if2 .taken) (c .before .before .before .before .before .before .respond-ask .ensures)
+returns-2 c =
+    let r = c .before .before .before .before .before .before .before .before .before .before .before .before .before .before .before .before .before .before .read-line in
+    reply-ask _ _ (r .ensures .0) _ _ _ _ _ (replicate 512 (pos 0)) (r .last .1 .0) refl (r .ensures .1) _ (c .before .before .before .before .before .before .before .before .before .before .before .before .before .if2 .taken) (c .before .before .before .before .before .before .respond-ask .ensures)
 
 sub-respond-do : tie.Need-sub-respond-do
 sub-respond-do c = search needs
@@ -78,7 +79,9 @@ part-respond-do-start : tie.Need-part-respond-do-start
 part-respond-do-start c = search needs
 
 part-respond-do-end : tie.Need-part-respond-do-end
-part-respond-do-end c = values-inside _ _ (c .before .before .before .before .before .before .before .before .before .before .read-line .ensures .0) (replicate 512 (pos 0)) _ refl (c .before .before .before .before .before .before .before .before .before .before .read-line .ensures .1)
+part-respond-do-end c =
+    let r = c .before .before .before .before .before .before .before .before .before .before .read-line in
+    values-inside _ _ (r .ensures .0) (replicate 512 (pos 0)) _ refl (r .ensures .1)
 
 respond-do-requires : tie.Need-respond-do-requires
 respond-do-requires c κs = search needs
@@ -93,7 +96,9 @@ same-length-10 : tie.Need-same-length-10
 same-length-10 c = search needs
 
 returns-3 : tie.Need-returns-3
-returns-3 c = reply-change _ _ (c .before .before .before .before .before .before .before .before .before .before .before .before .before .before .before .before .read-line .ensures .0) _ _ _ _ _ (replicate 512 (pos 0)) _ refl (c .before .before .before .before .before .before .before .before .before .before .before .before .before .before .before .before .read-line .ensures .1) _ _ _ (c .before .before .before .before .before .before .before .before .before .if3 .taken) (c .before .before .before .respond-do .ensures)
+returns-3 c =
+    let r = c .before .before .before .before .before .before .before .before .before .before .before .before .before .before .before .before .read-line in
+    reply-change _ _ (r .ensures .0) _ _ _ _ _ (replicate 512 (pos 0)) _ refl (r .ensures .1) _ _ _ (c .before .before .before .before .before .before .before .before .before .if3 .taken) (c .before .before .before .respond-do .ensures)
 
 respond-flush-requires : tie.Need-respond-flush-requires
 respond-flush-requires c κs = search needs
@@ -108,7 +113,9 @@ same-length-13 : tie.Need-same-length-13
 same-length-13 c = search needs
 
 returns-4 : tie.Need-returns-4
-returns-4 c = reply-flush _ _ (c .before .before .before .before .before .before .before .before .before .before .before .before .before .before .before .read-line .ensures .0) _ _ _ _ _ _ _ (c .before .before .before .before .before .before .if4 .taken) (c .before .before .respond-flush .ensures)
+returns-4 c =
+    let r = c .before .before .before .before .before .before .before .before .before .before .before .before .before .before .before .read-line in
+    reply-flush _ _ (r .ensures .0) _ _ _ _ _ _ _ (c .before .before .before .before .before .before .if4 .taken) (c .before .before .respond-flush .ensures)
 
 write-bad-requires : tie.Need-write-bad-requires
 write-bad-requires c κs = search needs
@@ -117,7 +124,9 @@ same-length-14 : tie.Need-same-length-14
 same-length-14 c = search needs
 
 returns-5 : tie.Need-returns-5
-returns-5 c = reply-bad _ _ (c .before .before .before .before .before .before .before .before .before .before .before .before .before .read-line .ensures .0) _ _ _ _ _ _ _ (c .before .before .before .before .before .before .before .before .before .before .if1 .left) (c .before .before .before .before .before .before .before .before .if2 .left) (c .before .before .before .before .before .before .if3 .left) (c .before .before .before .before .if4 .left) (c .before .before .write-bad .ensures)
+returns-5 c =
+    let r = c .before .before .before .before .before .before .before .before .before .before .before .before .before .read-line in
+    reply-bad _ _ (r .ensures .0) _ _ _ _ _ _ _ (c .before .before .before .before .before .before .before .before .before .before .if1 .left) (c .before .before .before .before .before .before .before .before .if2 .left) (c .before .before .before .before .before .before .if3 .left) (c .before .before .before .before .if4 .left) (c .before .before .write-bad .ensures)
 
 pub respond-spec : {M : Type 1} → statement M
 respond-spec =

@@ -1,13 +1,9 @@
+-- `respond_add` meets its contract: refused or added. Assumes nothing.
 use borrow.Author.Needs.{needs}
 use Rattle.cache.specs.Run.{add}
 use Rattle.console.proofs.Calling.{call-refused, call-done, add-is}
 use Rattle.console.proofs.respond_add.Statement.{statement}
 use Rattle.console.proofs.respond_add.Tie as tie
-use Rattle.console.proofs.respond_add.Reads as reads
-use Rattle.console.proofs.respond_add.Lts as lts
-use Rattle.cache.proofs.State.add.Reads as add-reads
-use Rattle.console.proofs.text.write_added.Reads as write-added-reads
-use Rattle.console.proofs.text.write_refused.Reads as write-refused-reads
 
 add-requires : tie.Need-add-requires
 add-requires c κs = search needs

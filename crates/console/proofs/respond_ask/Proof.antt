@@ -1,13 +1,9 @@
+-- `respond_ask` meets its contract: refused or answered; the record lies in the answer buffer. Assumes nothing.
 use borrow.Author.Needs.{needs}
 use Rattle.cache.specs.Run.{ask}
 use Rattle.console.proofs.Calling.{call-refused, answer-done, ask-is, answer-inside}
 use Rattle.console.proofs.respond_ask.Statement.{statement}
 use Rattle.console.proofs.respond_ask.Tie as tie
-use Rattle.console.proofs.respond_ask.Reads as reads
-use Rattle.console.proofs.respond_ask.Lts as lts
-use Rattle.cache.proofs.State.ask.Reads as ask-reads
-use Rattle.console.proofs.text.write_answer.Reads as write-answer-reads
-use Rattle.console.proofs.text.write_refused.Reads as write-refused-reads
 
 ask-requires : tie.Need-ask-requires
 ask-requires c κs = search needs

@@ -1,13 +1,9 @@
+-- `respond_do` meets its contract: refused or updated. Assumes nothing.
 use borrow.Author.Needs.{needs}
 use Rattle.cache.specs.Run.{update}
 use Rattle.console.proofs.Calling.{call-refused, call-done, update-is}
 use Rattle.console.proofs.respond_do.Statement.{statement}
 use Rattle.console.proofs.respond_do.Tie as tie
-use Rattle.console.proofs.respond_do.Reads as reads
-use Rattle.console.proofs.respond_do.Lts as lts
-use Rattle.cache.proofs.State.update.Reads as update-reads
-use Rattle.console.proofs.text.write_refused.Reads as write-refused-reads
-use Rattle.console.proofs.text.write_updated.Reads as write-updated-reads
 
 update-requires : tie.Need-update-requires
 update-requires c κs = search needs

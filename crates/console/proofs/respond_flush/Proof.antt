@@ -1,13 +1,9 @@
+-- `respond_flush` meets its contract: refused or flushed. Assumes nothing.
 use borrow.Author.Needs.{needs}
 use Rattle.cache.specs.Run.{flush}
 use Rattle.console.proofs.Calling.{call-refused, call-done, flush-is}
 use Rattle.console.proofs.respond_flush.Statement.{statement}
 use Rattle.console.proofs.respond_flush.Tie as tie
-use Rattle.console.proofs.respond_flush.Reads as reads
-use Rattle.console.proofs.respond_flush.Lts as lts
-use Rattle.cache.proofs.State.flush.Reads as flush-reads
-use Rattle.console.proofs.text.write_flushed.Reads as write-flushed-reads
-use Rattle.console.proofs.text.write_refused.Reads as write-refused-reads
 
 flush-requires : tie.Need-flush-requires
 flush-requires c κs = search needs
