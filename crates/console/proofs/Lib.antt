@@ -1,3 +1,4 @@
 pub mod Calling
 pub mod Said
 pub mod Replying
+pub mod Demand

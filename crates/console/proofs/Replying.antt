@@ -84,11 +84,12 @@ module _ (line : List ℕ) (l : Line) (e : l ≡ lineOf (commandOf line)) where
       number : l .number ≡ lineOf (commandOf line) .number
       number = ap (λ (x : Line). x .number) e
 
-      pub reply-ask : (x : Replies) → l .command ≡ 2 → x ≡ replyTo s cells memory answer (ask (l .number) (take (l .count - 0) vs) answer) out
-          → x ≡ replyOf s cells memory answer line out
+      pub reply-ask : (r : Reply) (kept answered new : List ℕ) → l .command ≡ 2
+          → replies r cells kept answered new ≡ replyTo s cells memory answer (ask (l .number) (take (l .count - 0) vs) answer) out
+          → replies r cells kept answered new ≡ replyOf s cells memory answer line out
       unfolding replyTo
-      reply-ask x h k =
-          done _ (is-ask _ (sym command-is ∙ h)) x
+      reply-ask r kept answered new h k =
+          done _ (is-ask _ (sym command-is ∙ h)) _
           (k ∙ ap₂ (λ (n : ℕ) (zs : List ℤ). replyTo s cells memory answer (ask n zs answer) out) number (values-there room vs long f))
 
       pub reply-change : (r : Reply) (after : List ℤ) (new : List ℕ) → l .command ≡ 3

@@ -70,7 +70,7 @@ same-length-7 c = search needs
 returns-2 : tie.Need-returns-2
 returns-2 c =
     let r = c .before .before .before .before .before .before .before .before .before .before .before .before .before .before .before .before .before .before .read-line in
-    reply-ask _ _ (r .ensures .0) _ _ _ _ _ (replicate 512 (pos 0)) (r .last .1 .0) refl (r .ensures .1) _ (c .before .before .before .before .before .before .before .before .before .before .before .before .before .if2 .taken) (c .before .before .before .before .before .before .respond-ask .ensures)
+    reply-ask _ _ (r .ensures .0) _ _ _ _ _ (replicate 512 (pos 0)) _ refl (r .ensures .1) _ _ _ _ (c .before .before .before .before .before .before .before .before .before .before .before .before .before .if2 .taken) (c .before .before .before .before .before .before .respond-ask .ensures)
 
 sub-respond-do : tie.Need-sub-respond-do
 sub-respond-do c = search needs
