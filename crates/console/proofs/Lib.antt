@@ -8,4 +8,8 @@ pub mod Puttings
 pub mod Digits
 pub mod Shown
 pub mod Prints
+pub mod Calling
+pub mod Said
+pub mod Replying
+pub mod Demand
 pub mod Bounds

@@ -4,4 +4,6 @@ pub mod Parts
 pub mod Printed
 pub mod Pieces
 pub mod Desk
+pub mod Commands
+pub mod Demand
 pub mod Examples
