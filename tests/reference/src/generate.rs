@@ -820,9 +820,14 @@ impl Generator {
 
     /// An insert, if there is one; tables stay fuller so.
     fn insert(&mut self) {
-        let inserts: Vec<usize> = (0..self.front.store.catalogue.updates.len())
-            .filter(|&n| matches!(self.front.store.catalogue.updates[n].change, Change::Insert(_)))
+        let store = &self.front.store;
+        let mut inserts: Vec<usize> = (0..store.catalogue.updates.len())
+            .filter(|&n| matches!(store.catalogue.updates[n].change, Change::Insert(_)))
             .collect();
+        if self.random.chance(80) {
+            let store = &self.front.store;
+            inserts.retain(|&n| !store.is_full(store.catalogue.updates[n].table));
+        }
         if inserts.is_empty() {
             return self.update();
         }
@@ -1140,7 +1145,7 @@ pub fn awkward() -> Vec<Vec<u8>> {
         .iter()
         .map(|text| text.as_bytes().to_vec())
         .collect();
-    for length in [1, 511, 512, 513, 1_024, 1_025, 65_535, 65_536, 65_537, 300_000] {
+    for length in [1, 508, 509, 511, 512, 513, 1_024, 1_025, 65_535, 65_536, 65_537, 300_000] {
         for byte in [b'x', b' ', b'\r', 0, 255] {
             all.push(line(byte, length));
             all.push([line(byte, length), b"\nFLUSH\n".to_vec()].concat());

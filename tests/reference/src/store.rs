@@ -382,6 +382,11 @@ impl Store {
         (marks == values.len()).then(|| self.plain.answer(question, values).len())
     }
 
+    /// Would an INSERT into this table be refused? For the generator.
+    pub fn is_full(&self, table: usize) -> bool {
+        self.counts[table] == self.catalogue.tables[table].rows
+    }
+
     /// The keys kept, for the generator.
     pub fn kept_keys(&self) -> Vec<(usize, Vec<i32>)> {
         self.kept.iter().flatten().map(|k| (k.key.question, k.key.values.clone())).collect()
