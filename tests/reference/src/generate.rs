@@ -348,6 +348,58 @@ impl Generator {
             format!("UPDATE {table} SET {column} = {set} WHERE {g}")
         };
         self.add(&words(&update));
+        self.try_last_pair();
+    }
+
+    /// A question and an update with several of its marks in the class of the question's mark.
+    fn mark_pair(&mut self) {
+        let (table, columns) = self.some_table();
+        let (c, d) = (self.column(&columns), self.column(&columns));
+        let f = self.random.pick(&["c = ?", "c = ? AND d = c", "? = d AND c = d", "? = ? AND ? = c", "c = ? OR d = ?"]);
+        let g = self.random.pick(&["c = ? AND c = ?", "? = d AND d = c AND ? = c", "c = ? AND d = ? AND c = d", "? = ? AND c = ?"]);
+        let named = |text: &str| {
+            let word = |w: &str| match w {
+                "c" => c.clone(),
+                "d" => d.clone(),
+                _ => w.to_string(),
+            };
+            text.split(' ').map(word).collect::<Vec<_>>().join(" ")
+        };
+        self.add(&words(&format!("SELECT {d} FROM {table} WHERE {}", named(f))));
+        let update = match self.random.below(4) {
+            0 => format!("UPDATE {table} SET {c} = ? WHERE {}", named(g)),
+            1 => format!("INSERT INTO {table} VALUES ( {} )", vec!["?"; columns.len()].join(" , ")),
+            _ => format!("DELETE FROM {table} WHERE {}", named(g)),
+        };
+        self.add(&words(&update));
+        for _ in 0..self.random.between(1, 4) {
+            self.try_last_pair();
+        }
+    }
+
+    /// A comparison, often negated, with a constant and an update of rows with a constant at or beside it; or of two
+    /// columns, and an update of rows where these are equal.
+    fn opposite_pair(&mut self) {
+        let (table, columns) = self.some_table();
+        let (c, d) = (self.column(&columns), self.column(&columns));
+        let relation = self.random.pick(&RELATIONS);
+        let of_columns = self.random.chance(30);
+        let f = format!("{c} {relation} {}", if of_columns { &d } else { "2" });
+        let f = if self.random.chance(70) { format!("NOT {f}") } else { f };
+        self.add(&words(&format!("SELECT {c} FROM {table} WHERE {f}")));
+        let beside = self.random.between(1, 3);
+        let update = match self.random.below(3) {
+            _ if of_columns => format!("DELETE FROM {table} WHERE {d} = {c}"),
+            0 => format!("UPDATE {table} SET {c} = {beside} WHERE {c} = {}", self.random.between(1, 3)),
+            1 => format!("INSERT INTO {table} VALUES ( {} )", vec![beside.to_string(); columns.len()].join(" , ")),
+            _ => format!("DELETE FROM {table} WHERE {c} = {beside}"),
+        };
+        self.add(&words(&update));
+        self.try_last_pair();
+    }
+
+    /// The last question asked, the last update done, the same asked again.
+    fn try_last_pair(&mut self) {
         let question = self.front.store.catalogue.questions.len().wrapping_sub(1);
         let update = self.front.store.catalogue.updates.len().wrapping_sub(1);
         let (Some(q), Some(u)) =
@@ -860,7 +912,10 @@ impl Generator {
             13 => self.random.pick(&[" ASK 0 1", " DO 0 1", "  ASK 0"]).into(),
             14 => self.random.pick(&["ASK -1", "DO -1", "ASK -0", "DO -0", "DO +0", "ASK ?", "ASK a", "DO 0x0", "ASK 0.0"]).into(),
             15 => format!("{} {outside}", self.random.pick(&["ASK", "DO"])).into(),
-            16 => format!("{} 2147483647", self.random.pick(&["ASK", "DO"])).into(),
+            16 => {
+                let n = self.random.pick(&["2147483647", "2147483648", "4294967295", "4294967296"]);
+                format!("{} {n}", self.random.pick(&["ASK", "DO"])).into()
+            }
             17 => format!("{} {}", self.random.pick(&["ASK", "DO"]), "9".repeat(self.random.between(9, 40))).into(),
             18 | 19 => format!("{} 0 {outside}", self.random.pick(&["ASK", "DO"])).into(),
             20 | 21 => format!("{} 0 {edge}", self.random.pick(&["ASK", "DO"])).into(),
@@ -1043,6 +1098,9 @@ impl Generator {
         if self.profile == Profile::Counts && self.random.chance(4) {
             return self.count_pair();
         }
+        if matches!(self.profile, Profile::Patterns | Profile::Mixed) && self.random.chance(4) {
+            return if self.random.chance(50) { self.mark_pair() } else { self.opposite_pair() };
+        }
         if self.random.chance(flushes) {
             return self.emit_text("FLUSH");
         }
@@ -1119,6 +1177,16 @@ impl Generator {
         if self.profile == Profile::Large {
             for _ in 0..self.random.pick(&[30, 200, 520, 520]) {
                 self.insert();
+            }
+        }
+        // Before the places for statements are taken: `desk` opens only once.
+        if self.mode == Mode::Desk && matches!(self.profile, Profile::Patterns | Profile::Counts | Profile::Mixed) {
+            for _ in 0..5 {
+                match self.random.below(4) {
+                    0 => self.count_pair(),
+                    1 => self.mark_pair(),
+                    _ => self.opposite_pair(),
+                }
             }
         }
         let end = self.made.script.lines.len() + length;
