@@ -2,13 +2,14 @@
 //! them apart.
 
 use crate::front::{lines, run, Mode};
-use crate::generate::script;
+use crate::generate::{awkward, script, Generated, Script};
 use std::collections::BTreeMap;
 use std::io::{Read, Write};
 use std::process::{Command, Stdio};
 
-/// What the program prints for a script, and how it ended if not well.
-pub fn run_program(program: &str, script: &[u8]) -> (Vec<u8>, Option<String>) {
+/// What the program prints for a script, and how it ended if not well. The script is written in pieces of at most
+/// `piece` bytes.
+pub fn run_program(program: &str, script: &[u8], piece: usize) -> (Vec<u8>, Option<String>) {
     let mut child = Command::new(program)
         .stdin(Stdio::piped())
         .stdout(Stdio::piped())
@@ -18,7 +19,7 @@ pub fn run_program(program: &str, script: &[u8]) -> (Vec<u8>, Option<String>) {
     let script = script.to_vec();
     let writer = std::thread::spawn(move || {
         // A program that ends early leaves the rest unread; the outputs then differ.
-        let _ = input.write_all(&script);
+        let _ = script.chunks(piece).try_for_each(|part| input.write_all(part));
     });
     let mut printed = Vec::new();
     child.stdout.take().unwrap().read_to_end(&mut printed).expect("the program's output is read");
@@ -27,36 +28,36 @@ pub fn run_program(program: &str, script: &[u8]) -> (Vec<u8>, Option<String>) {
     (printed, (!status.success()).then(|| status.to_string()))
 }
 
-fn joined(script: &[Vec<u8>]) -> Vec<u8> {
-    let mut all = Vec::new();
-    for line in script {
-        all.extend(line);
-        all.push(b'\n');
-    }
-    all
+/// A program and how it is fed.
+#[derive(Clone, Copy)]
+struct Other<'a> {
+    mode: Mode,
+    program: &'a str,
+    piece: usize,
 }
 
 /// Do the outputs differ? A script with a line that the language does not fix tells nothing.
-fn differs(mode: Mode, program: &str, script: &[Vec<u8>]) -> bool {
-    let bytes = joined(script);
-    let (reference, front) = run(mode, &bytes);
+fn differs(other: Other, script: &Script) -> bool {
+    let bytes = script.bytes();
+    let (reference, front) = run(other.mode, &bytes);
     if front.unfixed {
         return false;
     }
-    let (other, ended) = run_program(program, &bytes);
-    reference != other || ended.is_some()
+    let (printed, ended) = run_program(other.program, &bytes, other.piece);
+    reference != printed || ended.is_some()
 }
 
 /// Removes lines while the difference stays.
-pub fn shorten(mode: Mode, program: &str, mut script: Vec<Vec<u8>>) -> Vec<Vec<u8>> {
-    let mut size = script.len() / 2;
+fn shorten(other: Other, mut script: Script) -> Script {
+    let mut size = script.lines.len() / 2;
     while size > 0 {
         let mut at = 0;
         let mut removed = false;
-        while at < script.len() {
-            let end = (at + size).min(script.len());
-            let shorter = [&script[..at], &script[end..]].concat();
-            if differs(mode, program, &shorter) {
+        while at < script.lines.len() {
+            let end = (at + size).min(script.lines.len());
+            let lines = [&script.lines[..at], &script.lines[end..]].concat();
+            let shorter = Script { lines, ended: script.ended };
+            if differs(other, &shorter) {
                 script = shorter;
                 removed = true;
             } else {
@@ -70,22 +71,20 @@ pub fn shorten(mode: Mode, program: &str, mut script: Vec<Vec<u8>>) -> Vec<Vec<u
     script
 }
 
-/// Each line of the script with what both print for it.
-fn show(mode: Mode, program: &str, script: &[Vec<u8>]) {
-    let bytes = joined(script);
-    let (reference, _) = run(mode, &bytes);
-    let (other, ended) = run_program(program, &bytes);
-    println!("the script:");
-    for line in script {
-        println!("    {}", line.escape_ascii());
-    }
-    println!("the reference prints:");
-    for line in lines(&reference) {
-        println!("    {}", line.escape_ascii());
+/// The script, and what both print for it.
+fn show(other: Other, script: &Script) {
+    let bytes = script.bytes();
+    let (reference, _) = run(other.mode, &bytes);
+    let (printed, ended) = run_program(other.program, &bytes, other.piece);
+    let last = if script.ended { "" } else { " (the last line without its end)" };
+    for (title, text) in [(format!("the script{last}:"), &bytes), ("the reference prints:".to_string(), &reference)] {
+        println!("{title}");
+        lines(text).iter().for_each(|line| println!("    {}", line.escape_ascii()));
     }
     println!("the program prints:");
-    for line in lines(&other) {
-        println!("    {}", line.escape_ascii());
+    lines(&printed).iter().for_each(|line| println!("    {}", line.escape_ascii()));
+    if printed.last().is_some_and(|&b| b != b'\n') {
+        println!("    (the last line without its end)");
     }
     if let Some(ended) = ended {
         println!("the program ended with {ended}");
@@ -119,10 +118,53 @@ impl Tally {
             _ => self.add(printed, 1),
         }
     }
+
+    /// Counts what a script prints.
+    pub fn take(&mut self, made: &Generated) {
+        for printed in &made.printed {
+            self.note(printed);
+        }
+        self.add("scripts whose last line has no end", usize::from(!made.script.ended));
+        self.add("evictions", made.evictions);
+        self.add("record new, as long as a slot", made.just_fits);
+        self.add("record new, longer than a slot", made.too_long);
+        for (kind, n) in ["INSERT", "UPDATE", "DELETE"].iter().zip(made.drops) {
+            self.add(&format!("answers dropped by {kind}"), n);
+        }
+        for (ground, n) in ["first", "does not fit", "updated or flushed", "other keys"].iter().zip(made.grounds) {
+            self.add(&format!("new, ground: {ground}"), n);
+        }
+    }
+
+    pub fn print(&self) {
+        for (what, n) in &self.0 {
+            println!("    {n:>9}  {what}");
+        }
+    }
+}
+
+/// Inputs that no script gives; true if there was no difference.
+fn compare_awkward(mode: Mode, program: &str) -> bool {
+    for (at, input) in awkward().iter().enumerate() {
+        let script = Script::of(input);
+        for piece in [input.len().max(1), 1_000] {
+            let other = Other { mode, program, piece };
+            if differs(other, &script) {
+                println!("DIFFERENCE, awkward input {at}, {} bytes", input.len());
+                show(other, &shorten(other, script));
+                return false;
+            }
+        }
+    }
+    println!("{} awkward inputs: no difference", awkward().len());
+    true
 }
 
 /// Compares `count` seeds from `first` on; true if there was no difference.
 pub fn compare(mode: Mode, program: &str, first: u64, count: u64, length: usize) -> bool {
+    if mode == Mode::Desk && !compare_awkward(mode, program) {
+        return false;
+    }
     let mut tally = Tally::default();
     let mut all_lines = 0;
     for seed in first..first + count {
@@ -130,26 +172,21 @@ pub fn compare(mode: Mode, program: &str, first: u64, count: u64, length: usize)
             println!("the reference contradicts itself, seed {seed}");
             return false;
         };
-        all_lines += made.lines.len();
-        for printed in &made.printed {
-            tally.note(printed);
-        }
-        tally.add("evictions", made.evictions);
-        for (ground, n) in ["first", "does not fit", "updated or flushed", "other keys"].iter().zip(made.grounds) {
-            tally.add(&format!("new, ground: {ground}"), n);
-        }
-        let (_, front) = run(mode, &joined(&made.lines));
+        all_lines += made.script.lines.len();
+        tally.take(&made);
+        let bytes = made.script.bytes();
+        let (_, front) = run(mode, &bytes);
         assert!(!front.unfixed, "seed {seed} makes a line that the language does not fix");
-        if differs(mode, program, &made.lines) {
-            println!("DIFFERENCE, seed {seed} ({:?}), {} lines", made.profile, made.lines.len());
-            let short = shorten(mode, program, made.lines);
-            show(mode, program, &short);
+        // Most scripts are written at once, some in small pieces, so that reads end inside lines.
+        let piece = if seed % 7 == 3 { 1 + (seed % 601) as usize } else { bytes.len().max(1) };
+        let other = Other { mode, program, piece };
+        if differs(other, &made.script) {
+            println!("DIFFERENCE, seed {seed} ({:?}), {} lines", made.profile, made.script.lines.len());
+            show(other, &shorten(other, made.script));
             return false;
         }
     }
     println!("{count} scripts from seed {first}, {all_lines} lines: no difference");
-    for (what, n) in &tally.0 {
-        println!("    {n:>9}  {what}");
-    }
+    tally.print();
     true
 }

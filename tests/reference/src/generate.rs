@@ -2,7 +2,7 @@
 //! biased to be taken (existing tables, columns, marks, keys kept, buffers that just fit).
 
 use crate::front::{Front, Mode, CALLS_BYTES};
-use crate::text::{Catalogue, Statement};
+use crate::text::{Catalogue, Change, Statement};
 
 pub struct Random(u64);
 
@@ -77,13 +77,40 @@ pub const PROFILES: [Profile; 10] = [
     Profile::Mixed,
 ];
 
+/// Lines without their ends; `ended`: the last one has its end.
+#[derive(Clone)]
+pub struct Script {
+    pub lines: Vec<Vec<u8>>,
+    pub ended: bool,
+}
+
+impl Script {
+    pub fn of(input: &[u8]) -> Script {
+        let lines = crate::front::lines(input).iter().map(|line| line.to_vec()).collect();
+        Script { lines, ended: input.last().map_or(true, |&b| b == b'\n') }
+    }
+
+    pub fn bytes(&self) -> Vec<u8> {
+        let mut all = self.lines.join(&b'\n');
+        if self.ended && !self.lines.is_empty() {
+            all.push(b'\n');
+        }
+        all
+    }
+}
+
 pub struct Generated {
     pub profile: Profile,
-    pub lines: Vec<Vec<u8>>,
+    pub script: Script,
     /// The reference's outputs, one for each line that prints.
     pub printed: Vec<String>,
     pub grounds: [usize; 4],
     pub evictions: usize,
+    /// Records worked out that are as long as a slot, and longer.
+    pub just_fits: usize,
+    pub too_long: usize,
+    /// Answers dropped by INSERT, UPDATE, DELETE.
+    pub drops: [usize; 3],
 }
 
 struct Generator {
@@ -321,6 +348,58 @@ impl Generator {
             format!("UPDATE {table} SET {column} = {set} WHERE {g}")
         };
         self.add(&words(&update));
+        self.try_last_pair();
+    }
+
+    /// A question and an update with several of its marks in the class of the question's mark.
+    fn mark_pair(&mut self) {
+        let (table, columns) = self.some_table();
+        let (c, d) = (self.column(&columns), self.column(&columns));
+        let f = self.random.pick(&["c = ?", "c = ? AND d = c", "? = d AND c = d", "? = ? AND ? = c", "c = ? OR d = ?"]);
+        let g = self.random.pick(&["c = ? AND c = ?", "? = d AND d = c AND ? = c", "c = ? AND d = ? AND c = d", "? = ? AND c = ?"]);
+        let named = |text: &str| {
+            let word = |w: &str| match w {
+                "c" => c.clone(),
+                "d" => d.clone(),
+                _ => w.to_string(),
+            };
+            text.split(' ').map(word).collect::<Vec<_>>().join(" ")
+        };
+        self.add(&words(&format!("SELECT {d} FROM {table} WHERE {}", named(f))));
+        let update = match self.random.below(4) {
+            0 => format!("UPDATE {table} SET {c} = ? WHERE {}", named(g)),
+            1 => format!("INSERT INTO {table} VALUES ( {} )", vec!["?"; columns.len()].join(" , ")),
+            _ => format!("DELETE FROM {table} WHERE {}", named(g)),
+        };
+        self.add(&words(&update));
+        for _ in 0..self.random.between(1, 4) {
+            self.try_last_pair();
+        }
+    }
+
+    /// A comparison, often negated, with a constant and an update of rows with a constant at or beside it; or of two
+    /// columns, and an update of rows where these are equal.
+    fn opposite_pair(&mut self) {
+        let (table, columns) = self.some_table();
+        let (c, d) = (self.column(&columns), self.column(&columns));
+        let relation = self.random.pick(&RELATIONS);
+        let of_columns = self.random.chance(30);
+        let f = format!("{c} {relation} {}", if of_columns { &d } else { "2" });
+        let f = if self.random.chance(70) { format!("NOT {f}") } else { f };
+        self.add(&words(&format!("SELECT {c} FROM {table} WHERE {f}")));
+        let beside = self.random.between(1, 3);
+        let update = match self.random.below(3) {
+            _ if of_columns => format!("DELETE FROM {table} WHERE {d} = {c}"),
+            0 => format!("UPDATE {table} SET {c} = {beside} WHERE {c} = {}", self.random.between(1, 3)),
+            1 => format!("INSERT INTO {table} VALUES ( {} )", vec![beside.to_string(); columns.len()].join(" , ")),
+            _ => format!("DELETE FROM {table} WHERE {c} = {beside}"),
+        };
+        self.add(&words(&update));
+        self.try_last_pair();
+    }
+
+    /// The last question asked, the last update done, the same asked again.
+    fn try_last_pair(&mut self) {
         let question = self.front.store.catalogue.questions.len().wrapping_sub(1);
         let update = self.front.store.catalogue.updates.len().wrapping_sub(1);
         let (Some(q), Some(u)) =
@@ -404,6 +483,7 @@ impl Generator {
         let rows = match self.profile {
             Profile::Full if self.random.chance(40) => (left / count + self.random.below(2)).min(9),
             Profile::Full => self.random.between(1, 4),
+            Profile::Openings if self.mode == Mode::Desk && left / count > 512 => self.random.pick(&[512, 500, 333]),
             Profile::Openings if self.random.chance(60) => left / count + self.random.below(2),
             Profile::Large => self.random.pick(&[512, 512, 511, 128, 127]),
             _ => self.random.pick(&[3, 5, 8, 16, 24, 40, 1, 512]).min((left / count).clamp(1, 512)),
@@ -420,7 +500,7 @@ impl Generator {
         let mut marks = 8;
         let count = match self.profile {
             Profile::Large => self.random.pick(&[1, 4, 8, 8]),
-            _ => self.random.pick(&[1, 1, 1, 2, 2, 3, 8]),
+            _ => self.random.pick(&[1, 1, 1, 2, 2, 3, 7, 8]),
         };
         let selected: Vec<Vec<String>> = (0..count).map(|_| vec![self.column(&columns)]).collect();
         let mut all = words("SELECT");
@@ -629,14 +709,32 @@ impl Generator {
     fn emit(&mut self, line: Vec<u8>) {
         assert!(!line.contains(&b'\n'));
         if let Some(printed) = self.front.line(&line) {
-            if printed.starts_with("new") {
-                let ground = self.front.store.last_ground.expect("a new answer has a ground");
-                self.made.grounds[ground as usize] += 1;
-                self.made.evictions += usize::from(self.front.store.last_evicted);
-            }
+            self.note(&line, &printed);
             self.made.printed.push(printed);
         }
-        self.made.lines.push(line);
+        self.made.script.lines.push(line);
+    }
+
+    /// Counts what the line did.
+    fn note(&mut self, line: &[u8], printed: &str) {
+        let store = &self.front.store;
+        if printed.starts_with("new") {
+            let ground = store.last_ground.expect("a new answer has a ground");
+            self.made.grounds[ground as usize] += 1;
+            self.made.evictions += usize::from(store.last_evicted);
+            self.made.just_fits += usize::from(store.last_length == store.slot_bytes);
+            self.made.too_long += usize::from(store.last_length > store.slot_bytes);
+        }
+        if let Some(dropped) = printed.split_once(" dropped ").map(|(_, n)| n.parse::<usize>().unwrap()) {
+            let text = String::from_utf8_lossy(line);
+            let n: usize = text.split(' ').nth(1).unwrap().parse().unwrap();
+            let kind = match store.catalogue.updates[n].change {
+                Change::Insert(_) => 0,
+                Change::Set(_) => 1,
+                Change::Delete => 2,
+            };
+            self.made.drops[kind] += dropped;
+        }
     }
 
     fn emit_text(&mut self, line: &str) {
@@ -699,12 +797,15 @@ impl Generator {
         (0..count).map(|_| self.value()).collect()
     }
 
+    /// The values as words, each behind a space; in `desk` some in another spelling.
     fn written(&mut self, values: &[i32]) -> String {
         let mut text = String::new();
+        let odd = if self.profile == Profile::Edges { 10 } else { 40 };
         for &value in values {
-            if self.mode == Mode::Desk && self.random.below(40) == 0 {
-                let digits = i64::from(value).abs();
-                text.push_str(&format!(" {}00{digits}", if value < 0 { "-" } else { "" }));
+            if self.mode == Mode::Desk && self.random.below(odd) == 0 {
+                let zeros = "0".repeat(self.random.pick(&[0, 1, 2, 9, 30]));
+                let minus = value < 0 || value == 0 && self.random.chance(50);
+                text.push_str(&format!(" {}{zeros}{}", if minus { "-" } else { "" }, value.unsigned_abs()));
             } else {
                 text.push_str(&format!(" {value}"));
             }
@@ -719,20 +820,21 @@ impl Generator {
         self.random.below(count)
     }
 
-    fn ask(&mut self) {
+    /// A question's number and values, often of an answer that is kept.
+    fn key(&mut self) -> (usize, Vec<i32>) {
         let count = self.front.store.catalogue.questions.len();
-        let mut n = self.statement_number(count);
-        let mut values = match self.front.store.catalogue.questions.get(n) {
-            Some(question) => {
-                let marks = question.marks;
-                self.values(marks)
-            }
-            None => self.values(0),
-        };
+        let n = self.statement_number(count);
+        let marks = self.front.store.catalogue.questions.get(n).map_or(0, |question| question.marks);
+        let values = self.values(marks);
         let kept = self.front.store.kept_keys();
         if !kept.is_empty() && self.random.chance(45) {
-            (n, values) = self.random.pick(&kept);
+            return self.random.pick(&kept);
         }
+        (n, values)
+    }
+
+    fn ask(&mut self) {
+        let (n, values) = self.key();
         let text = self.written(&values);
         if self.mode == Mode::Desk {
             self.emit_text(&format!("ASK {n}{text}"));
@@ -755,20 +857,29 @@ impl Generator {
         }
     }
 
-    fn update(&mut self) {
+    fn update_line(&mut self) -> String {
         let count = self.front.store.catalogue.updates.len();
         let n = self.statement_number(count);
         let marks = self.front.store.catalogue.updates.get(n).map_or(0, |u| u.marks);
         let values = self.values(marks);
-        let text = self.written(&values);
-        self.emit_text(&format!("DO {n}{text}"));
+        format!("DO {n}{}", self.written(&values))
+    }
+
+    fn update(&mut self) {
+        let line = self.update_line();
+        self.emit_text(&line);
     }
 
     /// An insert, if there is one; tables stay fuller so.
     fn insert(&mut self) {
-        let inserts: Vec<usize> = (0..self.front.store.catalogue.updates.len())
-            .filter(|&n| matches!(self.front.store.catalogue.updates[n].change, crate::text::Change::Insert(_)))
+        let store = &self.front.store;
+        let mut inserts: Vec<usize> = (0..store.catalogue.updates.len())
+            .filter(|&n| matches!(store.catalogue.updates[n].change, Change::Insert(_)))
             .collect();
+        if self.random.chance(80) {
+            let store = &self.front.store;
+            inserts.retain(|&n| !store.is_full(store.catalogue.updates[n].table));
+        }
         if inserts.is_empty() {
             return self.update();
         }
@@ -779,35 +890,124 @@ impl Generator {
         self.emit_text(&format!("DO {n}{text}"));
     }
 
-    fn bad_desk_line(&mut self) {
-        let value = self.random.pick(&OUTSIDE);
-        let line = match self.random.below(24) {
-            0 => String::new(),
-            1 => String::from("FLUSH "),
-            2 => String::from("flush"),
-            3 => String::from("ADD"),
-            4 => String::from("ADD "),
-            5 => String::from("ASK"),
-            6 => String::from("ASK "),
-            7 => String::from("ASK  0"),
-            8 => String::from("ASK 0 "),
-            9 => String::from("ASK 0  1"),
-            10 => String::from(" ASK 0 1"),
-            11 => String::from("ASK -1"),
-            12 => String::from("ASK 2147483648"),
-            13 => format!("ASK 0 {value}"),
-            14 => String::from("DO 0 1\r"),
-            15 => String::from("DO 0 1x"),
-            16 => format!("DO 0{}", " 1".repeat(self.random.between(8, 12))),
-            17 => String::from("DO 00"),
-            18 => format!("ADD {}", "x".repeat(self.random.between(252, 258))),
-            19 => format!("ADD{}", " ".repeat(self.random.between(508, 511))),
-            20 => format!("ASK 0{}", " 1".repeat(self.random.between(252, 255))),
-            21 => String::from("DO 0 -"),
-            22 => String::from("ASK 0 --1"),
-            _ => String::from("DO 0 +1"),
+    // ------------------------------------------------------------ lines of desk that are bad, or nearly
+
+    /// Lines that are bad whatever the store holds, and some good ones of unusual form.
+    fn odd_desk_line(&mut self) {
+        let outside = self.random.pick(&OUTSIDE);
+        let edge = self.random.pick(&EDGES);
+        let line: Vec<u8> = match self.random.below(44) {
+            0 | 1 => vec![],
+            2 => b"FLUSH ".to_vec(),
+            3 => self.random.pick(&["FLUSH x", "FLUSH 0", "FLUSHFLUSH", "FLUSH FLUSH", "FLUS", "FLUSH;", " FLUSH"]).into(),
+            4 => self.random.pick(&["flush", "Flush", "ask 0", "do 0", "Ask 0", "add DELETE FROM t", "dO 0"]).into(),
+            5 => b"ADD".to_vec(),
+            6 => b"ADD ".to_vec(),
+            7 => self.random.pick(&["ADD\tDELETE FROM t", "ADDDELETE FROM t", " ADD DELETE FROM t", "ADD\r", "ADD \r"]).into(),
+            8 => self.random.pick(&["ASK", "DO", "AS", "D", "A", "?", "0", "HELP", "SELECT a FROM t"]).into(),
+            9 => self.random.pick(&["ASK ", "DO ", "ASK  ", "DO  ", " ", "  "]).into(),
+            10 => self.random.pick(&["ASK  0", "DO  0", "ASK  0 1", "DO   0 1"]).into(),
+            11 => self.random.pick(&["ASK 0 ", "DO 0 ", "ASK 0  ", "DO 0 1 "]).into(),
+            12 => self.random.pick(&["ASK 0  1", "DO 0  1", "DO 0 1  1"]).into(),
+            13 => self.random.pick(&[" ASK 0 1", " DO 0 1", "  ASK 0"]).into(),
+            14 => self.random.pick(&["ASK -1", "DO -1", "ASK -0", "DO -0", "DO +0", "ASK ?", "ASK a", "DO 0x0", "ASK 0.0"]).into(),
+            15 => format!("{} {outside}", self.random.pick(&["ASK", "DO"])).into(),
+            16 => {
+                let n = self.random.pick(&["2147483647", "2147483648", "4294967295", "4294967296"]);
+                format!("{} {n}", self.random.pick(&["ASK", "DO"])).into()
+            }
+            17 => format!("{} {}", self.random.pick(&["ASK", "DO"]), "9".repeat(self.random.between(9, 40))).into(),
+            18 | 19 => format!("{} 0 {outside}", self.random.pick(&["ASK", "DO"])).into(),
+            20 | 21 => format!("{} 0 {edge}", self.random.pick(&["ASK", "DO"])).into(),
+            22 => format!("{} 15 {outside}", self.random.pick(&["ASK", "DO"])).into(),
+            23 => self.random.pick(&["DO 0 1\r", "ASK 0\r", "FLUSH\r", "\r", "ASK 0\t1", "DO\t0", "\tFLUSH", "FLUSH\t"]).into(),
+            24 => self.random.pick(&["FLUSH\0", "\0", "\0FLUSH", "ASK 0\0", "ASK \0", "DO 0 \x001", "ADD\0", "ADD \0"]).into(),
+            25 => self.random.pick(&[&b"FLUSH\xff"[..], b"\x80", b"ASK \xb2", b"DO 0 \xa01", b"ASK\xa00", b"ADD \xc3\xa9", b"\xffDO 0"]).into(),
+            26 => self.random.pick(&["DO 0 1x", "DO 0 x", "DO 0 1_", "ASK 0 1-", "ASK 0 1,1", "ASK 0 1/1", "ASK 0 1:", "DO 0 1;"]).into(),
+            27 => self.random.pick(&["DO 0 -", "ASK 0 -", "DO 0 - 1", "ASK 0 --1", "DO 0 -+1", "DO 0 +1", "ASK 0 1-1", "DO 0 -x"]).into(),
+            28 | 29 => format!("{} 0{}", self.random.pick(&["ASK", "DO"]), " 1".repeat(self.random.between(7, 12))).into(),
+            30 => self.random.pick(&["DO 00", "ASK 000000000000000000000000", "DO 015", "ASK 016"]).into(),
+            31 => format!("ADD {}", "x".repeat(self.random.between(252, 258))).into(),
+            32 => format!("ADD{}", " ".repeat(self.random.between(253, 262))).into(),
+            33 => format!("ADD{}", " ".repeat(self.random.between(507, 511))).into(),
+            34 => format!("ADD {}", "x".repeat(self.random.between(506, 510))).into(),
+            35 => format!("ASK 0{}", " 1".repeat(self.random.between(252, 255))).into(),
+            36 => format!("DO 00{}", " 1".repeat(self.random.between(252, 254))).into(),
+            37 => format!("DO 0{}{}", " 1".repeat(self.random.between(8, 250)), self.random.pick(&["", " ", " x", " 2147483648"])).into(),
+            38 => format!("FLUSH{}", " ".repeat(self.random.between(506, 508))).into(),
+            39 | 40 => self.long_line(),
+            41 => vec![self.random.pick(&[b' ', b'x', 0, 255]); self.random.between(510, 515)],
+            _ => {
+                let length = self.random.between(1, 40);
+                let bytes: Vec<u8> = (0..length).map(|_| self.random.below(256) as u8).collect();
+                bytes.iter().map(|&b| if b == b'\n' { b'\r' } else { b }).collect()
+            }
         };
-        self.emit_text(&line);
+        self.emit(line);
+    }
+
+    /// A line far past 512 bytes that would be good, or hold good ones, if it were cut.
+    fn long_line(&mut self) -> Vec<u8> {
+        let length = match self.random.below(40) {
+            0 => self.random.pick(&[65_535, 65_536, 65_537, 70_000, 131_073]),
+            1..=4 => self.random.pick(&[4_095, 4_096, 4_097, 5_000, 8_193]),
+            _ => self.random.pick(&[513, 514, 515, 600, 1_023, 1_024, 1_025, 1_026, 1_536, 2_049]),
+        };
+        let part = self.random.pick(&["FLUSH ", "DO 0 1 ", "ASK 0 1 1 1 ", "0", " ", "ADD DELETE FROM t ", "FLUSH\r"]);
+        let start = self.random.pick(&["", "", "ASK 0 ", "DO 0 ", "ADD ", "FLUSH ", "ASK "]);
+        let mut line = start.as_bytes().to_vec();
+        while line.len() < length {
+            line.extend(part.as_bytes());
+        }
+        line.truncate(length);
+        line
+    }
+
+    /// A good line with one change; some stay good.
+    fn changed_desk_line(&mut self) {
+        let mut line = match self.random.below(10) {
+            0 => b"FLUSH".to_vec(),
+            1 => [b"ADD ".to_vec(), self.statement().join(" ").into_bytes()].concat(),
+            2..=6 => {
+                let (n, values) = self.key();
+                format!("ASK {n}{}", self.written(&values)).into_bytes()
+            }
+            _ => self.update_line().into_bytes(),
+        };
+        let spaces: Vec<usize> = (0..line.len()).filter(|&i| line[i] == b' ').collect();
+        let space = if spaces.is_empty() { line.len() } else { self.random.pick(&spaces) };
+        let at = self.random.below(line.len());
+        let byte = match self.random.below(256) as u8 {
+            b'\n' => b'\r',
+            byte => byte,
+        };
+        match self.random.below(14) {
+            0 => line.insert(0, b' '),
+            1 => line.push(b' '),
+            2 => line.insert(space, b' '),
+            3 => line[space.min(at)] = b'\t',
+            4 => line.push(b'\r'),
+            5 => line[at] = line[at].to_ascii_lowercase(),
+            6 => drop(line.remove(space.min(at))),
+            7 => line.insert(at, byte),
+            8 => line[at] = byte,
+            9 => drop(line.remove(at)),
+            10 | 11 => {
+                // A number's zeros may fill the line.
+                let whole = self.random.pick(&[511, 512, 512, 513, 514]);
+                let minus = line.get(space + 1) == Some(&b'-');
+                let place = (space + 1 + usize::from(minus)).min(line.len());
+                let zeros = vec![b'0'; whole - line.len().min(whole)];
+                line.splice(place..place, zeros);
+            }
+            12 => {
+                let word = [self.random.pick(&OUTSIDE), self.random.pick(&EDGES)][self.random.below(2)];
+                line.truncate(spaces.last().copied().unwrap_or(line.len()));
+                line.extend(format!(" {word}").into_bytes());
+            }
+            _ => line.extend(" 1".repeat(self.random.pick(&[1, 2, 8, 100, 240, 300])).into_bytes()),
+        }
+        self.emit(line);
     }
 
     fn open(&mut self) {
@@ -898,11 +1098,15 @@ impl Generator {
         if self.profile == Profile::Counts && self.random.chance(4) {
             return self.count_pair();
         }
+        if matches!(self.profile, Profile::Patterns | Profile::Mixed) && self.random.chance(4) {
+            return if self.random.chance(50) { self.mark_pair() } else { self.opposite_pair() };
+        }
         if self.random.chance(flushes) {
             return self.emit_text("FLUSH");
         }
-        if self.mode == Mode::Desk && self.random.chance(4) {
-            return self.bad_desk_line();
+        let odd = if matches!(self.profile, Profile::Misses | Profile::Edges | Profile::Mixed) { 10 } else { 4 };
+        if self.mode == Mode::Desk && self.random.chance(odd) {
+            return if self.random.chance(50) { self.odd_desk_line() } else { self.changed_desk_line() };
         }
         if self.mode == Mode::Calls && self.random.chance(6) {
             return self.emit_text("SLOTS");
@@ -975,9 +1179,19 @@ impl Generator {
                 self.insert();
             }
         }
-        let end = self.made.lines.len() + length;
-        while self.made.lines.len() < end {
-            let bytes: usize = self.made.lines.iter().map(|line| line.len() + 1).sum();
+        // Before the places for statements are taken: `desk` opens only once.
+        if self.mode == Mode::Desk && matches!(self.profile, Profile::Patterns | Profile::Counts | Profile::Mixed) {
+            for _ in 0..5 {
+                match self.random.below(4) {
+                    0 => self.count_pair(),
+                    1 => self.mark_pair(),
+                    _ => self.opposite_pair(),
+                }
+            }
+        }
+        let end = self.made.script.lines.len() + length;
+        while self.made.script.lines.len() < end {
+            let bytes: usize = self.made.script.lines.iter().map(|line| line.len() + 1).sum();
             if self.mode == Mode::Calls && bytes > CALLS_BYTES - 5_536 {
                 break;
             }
@@ -986,14 +1200,49 @@ impl Generator {
             }
             self.call();
         }
+        let last_is_empty = self.made.script.lines.last().map_or(true, |line| line.is_empty());
+        self.made.script.ended = last_is_empty || self.mode == Mode::Calls || self.random.chance(75);
         self.made
     }
+}
+
+/// Inputs for `desk` that no script gives.
+pub fn awkward() -> Vec<Vec<u8>> {
+    let line = |byte: u8, length: usize| vec![byte; length];
+    let mut all: Vec<Vec<u8>> = ["", "\n", "\n\n\n", "FLUSH", "FLUSH\n", "\r\n", "FLUSH\r\n", " ", "A", "ADD", "ADD ", "ADD \n"]
+        .iter()
+        .map(|text| text.as_bytes().to_vec())
+        .collect();
+    for length in [1, 508, 509, 511, 512, 513, 1_024, 1_025, 65_535, 65_536, 65_537, 300_000] {
+        for byte in [b'x', b' ', b'\r', 0, 255] {
+            all.push(line(byte, length));
+            all.push([line(byte, length), b"\nFLUSH\n".to_vec()].concat());
+            all.push([b"FLUSH\n".to_vec(), line(byte, length), b"\n\nFLUSH".to_vec()].concat());
+        }
+        // All of a long line belongs to it.
+        all.push([b"FLUSH ".repeat(length / 6 + 1), b"\nFLUSH\n".to_vec()].concat());
+        all.push([b"ADD ".to_vec(), line(b' ', length), b"\nFLUSH".to_vec()].concat());
+    }
+    // Lines across the ends of any buffer.
+    all.push(b"FLUSH\n".repeat(12_000));
+    all.push(b"ASK 0 1 2 3 4 5 6 7 8 9\n".repeat(6_000));
+    all.push(b"\n".repeat(66_000));
+    all
 }
 
 /// The script of a seed, of about `length` lines.
 pub fn script(mode: Mode, seed: u64, length: usize) -> Generated {
     let profile = PROFILES[(seed % PROFILES.len() as u64) as usize];
-    let made = Generated { profile, lines: vec![], printed: vec![], grounds: [0; 4], evictions: 0 };
+    let made = Generated {
+        profile,
+        script: Script { lines: vec![], ended: true },
+        printed: vec![],
+        grounds: [0; 4],
+        evictions: 0,
+        just_fits: 0,
+        too_long: 0,
+        drops: [0; 3],
+    };
     let generator = Generator { random: Random::new(seed), mode, profile, front: Front::new(mode), made };
     generator.script(length)
 }

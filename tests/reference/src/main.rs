@@ -12,11 +12,12 @@ mod store;
 mod text;
 
 use front::Mode;
-use std::io::{Read, Write};
+use std::io::{BufRead, Write};
 
 const USAGE: &str = "usage: reference desk | calls                     (standard input to standard output)
        reference check                            (document 01's examples)
        reference script MODE SEED [LINES]         (prints the script of a seed)
+       reference tally MODE LINES SEED ..         (how often each outcome occurs in the scripts of these seeds)
        reference compare MODE PROGRAM FIRST COUNT [LINES]
 MODE is desk or calls";
 
@@ -41,24 +42,45 @@ fn main() {
     }
 }
 
+/// Each line is answered before the next one is read.
+fn answer_lines(mode: Mode) -> std::io::Result<()> {
+    let mut input = std::io::stdin().lock();
+    let mut out = std::io::stdout().lock();
+    let mut front = front::Front::new(mode);
+    let mut line = Vec::new();
+    while input.read_until(b'\n', &mut line)? > 0 {
+        if line.last() == Some(&b'\n') {
+            line.pop();
+        }
+        if let Some(text) = front.line(&line) {
+            out.write_all(format!("{text}\n").as_bytes())?;
+            out.flush()?;
+        }
+        line.clear();
+    }
+    Ok(())
+}
+
 fn act(words: &[&str]) -> Option<bool> {
     let length = |at: usize| words.get(at).map_or(Some(300), |w| w.parse().ok());
     match words {
         ["check"] => Some(check::check()),
         [word] => {
-            let mode = mode(word)?;
-            let mut script = Vec::new();
-            std::io::stdin().read_to_end(&mut script).expect("standard input is read");
-            let (printed, _) = front::run(mode, &script);
-            std::io::stdout().write_all(&printed).expect("standard output is written");
+            answer_lines(mode(word)?).expect("standard input is read and standard output written");
             Some(true)
         }
         ["script", word, seed, ..] => {
             let made = generate::script(mode(word)?, seed.parse().ok()?, length(3)?);
-            let mut out = std::io::stdout().lock();
-            for line in made.lines {
-                out.write_all(&line).and_then(|()| out.write_all(b"\n")).expect("standard output is written");
+            std::io::stdout().write_all(&made.script.bytes()).expect("standard output is written");
+            Some(true)
+        }
+        ["tally", word, length, seeds @ ..] => {
+            let (mode, length) = (mode(word)?, length.parse().ok()?);
+            let mut tally = compare::Tally::default();
+            for seed in seeds {
+                tally.take(&generate::script(mode, seed.parse().ok()?, length));
             }
+            tally.print();
             Some(true)
         }
         ["compare", word, program, first, count, ..] => {

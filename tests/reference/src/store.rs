@@ -44,7 +44,7 @@ pub enum Ground {
 
 pub struct Store {
     slots: usize,
-    slot_bytes: usize,
+    pub slot_bytes: usize,
     cells: Vec<i32>,
     memory: Vec<u8>,
     pub catalogue: Catalogue,
@@ -57,8 +57,10 @@ pub struct Store {
     kept: Vec<Option<Kept>>,
     plain: Plain,
     history: Vec<Event>,
-    /// Why the last ask was worked out anew, and whether it took a held slot: counted for the report of what was tried.
+    /// Why the last ask was worked out anew, how long its record was, and whether it took a held slot: counted for the
+    /// report of what was tried.
     pub last_ground: Option<Ground>,
+    pub last_length: usize,
     pub last_evicted: bool,
 }
 
@@ -77,6 +79,7 @@ impl Store {
             plain: Plain::open(cells, bytes),
             history: vec![],
             last_ground: None,
+            last_length: 0,
             last_evicted: false,
         }
     }
@@ -150,6 +153,7 @@ impl Store {
         match (&result, &plain) {
             (Ok(answer), Ok(record)) => {
                 assert_eq!(&answer.record, record, "the record is the plain store's");
+                self.last_length = record.len();
                 let key = Key { question: n as usize, values: values.to_vec() };
                 if !answer.kept {
                     self.last_ground = Some(self.ground(&key, record.len()).expect("new, but on none of the grounds"));
@@ -376,6 +380,11 @@ impl Store {
     pub fn length_now(&self, question: usize, values: &[i32]) -> Option<usize> {
         let marks = self.catalogue.questions.get(question)?.marks;
         (marks == values.len()).then(|| self.plain.answer(question, values).len())
+    }
+
+    /// Would an INSERT into this table be refused? For the generator.
+    pub fn is_full(&self, table: usize) -> bool {
+        self.counts[table] == self.catalogue.tables[table].rows
     }
 
     /// The keys kept, for the generator.
