@@ -33,7 +33,9 @@ fn replay(n: u8) {
 }
 
 fn main() {
-    for n in 1..=SCRIPTS {
+    let mut n: u8 = 0;
+    while n < SCRIPTS {
+        n += 1;
         replay(n);
     }
 }
