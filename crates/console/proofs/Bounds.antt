@@ -1,14 +1,13 @@
 -- Laws for callers: what is gathered and what is printed stays within what is lent, and gathering goes on through the input. Assumes nothing.
-use mathlib.Core.Path.{_≡_, refl, sym, ap, subst}
 use mathlib.Core.Bool.{Bool, true, false, not, cond}
 use mathlib.Core.List.{List, [], _∷_}
-use Prim.Native.Nat.{ℕ, zero, suc, _+_, _-_, _≤_, _<_}
+use Prim.Native.Nat.{ℕ, _+_, _-_, _≤_, _<_}
 use native.Mathlib.Omega.{arith}
 use lib.IntN.{ℤ}
-use lib.ListN.{length, take, drop, length-drop}
+use lib.ListN.{length, drop, length-drop}
 use Rattle.cache.specs.declared.State.{State}
 use Rattle.lists.specs.Lists.{takeWhile, dropWhile}
-use Rattle.console.specs.Lines.{isNewline, lineFrom, hasNewline, lineEnds, gatheredOf}
+use Rattle.console.specs.Lines.{isNewline, lineFrom, hasNewline, gatheredOf}
 use Rattle.console.specs.Desk.{replyOf, answeredOf}
 use Rattle.console.proofs.Rooms.{filled-within}
 

@@ -3,11 +3,9 @@ use mathlib.Core.Path.{_≡_, refl, sym, ap, ap₂, _∙_}
 use mathlib.Core.Logic.{_≢_}
 use mathlib.Core.List.{List, [], _∷_, map}
 use Prim.Native.Nat.{ℕ}
-use lib.IntN.{ℤ}
 use Rattle.meaning.specs.Plain as P
 use Rattle.meaning.specs.Plain.{Lengths, Plain}
-use Rattle.cache.specs.Calls.{settled}
-use Rattle.cache.specs.Run.{Store, Start, openingOf, opened, Call, add, ask, update, flush, Got, Seen, step, gets, plainCall, bufferOf, gotOf, plainGets}
+use Rattle.cache.specs.Run.{Store, openingOf, opened, Call, add, ask, update, flush, Got, Seen, step, gets, plainCall, bufferOf, gotOf, plainGets}
 use Rattle.cache.specs.Demand.{refusedWith}
 use Rattle.cache.proofs.Settled.{settled-refused}
 use Rattle.cache.proofs.Demand.{demands as of-store}

@@ -14,7 +14,6 @@ use Rattle.cache.specs.Run.{add, ask, update, flush}
 use Rattle.console.specs.declared.Line.{Line}
 use Rattle.console.specs.declared.Reply.{Reply}
 use Rattle.console.specs.Room.{filled, filledTo}
-use Rattle.console.specs.Lines as L
 use Rattle.console.specs.Lines.{Command, commandOf, lineOf, valuesOf}
 use Rattle.console.specs.Printed.{badText}
 use Rattle.console.specs.Desk.{commanded, answeredOf, Replies, replies, repliesWith, replyOf}

@@ -1,12 +1,12 @@
 -- What a line says: the text of ADD is the line from byte 4 on, and there are no more values than bytes. Assumes nothing.
-use mathlib.Core.Path.{_≡_, refl, sym, ap, _∙_}
+use mathlib.Core.Path.{_≡_, refl, sym, ap}
 use mathlib.Core.Logic.{_≢_}
 use mathlib.Core.Bool.{Bool, true, false, cond}
 use mathlib.Core.Option.{Option, none, some}
 use mathlib.Core.List.{List, [], _∷_}
 use Prim.Native.Nat.{ℕ, suc, _+_, _-_, _≤_}
 use native.Mathlib.Omega.{arith}
-use borrow.Author.Tests.{leb-true, eqb-true}
+use borrow.Author.Tests.{leb-true}
 use lib.Dec.{leb, eqb}
 use lib.IntN.{ℤ}
 use lib.ListN.{length, drop}
@@ -14,7 +14,7 @@ use Rattle.lists.specs.Lists.{bytes}
 use Rattle.meaning.specs.Tokens.{isSpace, behindPrefix}
 use Rattle.meaning.proofs.Readers.{some-none, some-same}
 use Rattle.meaning.proofs.Stream.{prefix-length}
-use Rattle.console.specs.Lines.{onFirst, withByte, words, isWord, numberIn, valueIn, andValue, valuesIn, Command, add, ask, change, flush, bad, numbered, wordsSay, lineSays, most-line, commandOf, lineOf, valuesOf}
+use Rattle.console.specs.Lines.{onFirst, words, isWord, numberIn, valueIn, andValue, valuesIn, Command, add, ask, change, flush, bad, numbered, wordsSay, lineSays, most-line, commandOf, lineOf, valuesOf}
 
 -- ---- no more values than bytes
 

@@ -10,7 +10,7 @@ use Rattle.cache.specs.Run.{Store, Start, openingOf, opened, Call, add, ask, up
 use Rattle.console.specs.Lines as L
 use Rattle.console.specs.Lines.{Command, commandOf}
 use Rattle.console.specs.Printed.{badText, refusedText}
-use Rattle.console.specs.Desk.{textOf, bufferAfter, Answered, answeredOf, printedFor}
+use Rattle.console.specs.Desk.{textOf, bufferAfter, answeredOf, printedFor}
 
 -- ---- a bad line, and a line whose call is refused, change nothing
 

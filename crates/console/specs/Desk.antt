@@ -3,7 +3,7 @@
 use mathlib.Core.List.{List, [], _∷_}
 use Prim.Native.Nat.{ℕ}
 use lib.IntN.{ℤ}
-use lib.ListN.{length, take, replicate}
+use lib.ListN.{length, take}
 use Rattle.cache.specs.declared.State.{State}
 use Rattle.cache.specs.Calls.{settled}
 use Rattle.cache.specs.Run.{Store, Call, add, ask, update, flush, Seen, step}

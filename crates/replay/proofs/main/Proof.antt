@@ -3,9 +3,6 @@ use Prim.Native.Nat.{_≤_, _-_}
 use borrow.Author.Needs.{needs}
 use Rattle.replay.proofs.main.Statement.{statement}
 use Rattle.replay.proofs.main.Tie as tie
-use Rattle.replay.proofs.main.Reads as reads
-use Rattle.replay.proofs.main.Lts as lts
-use Rattle.replay.proofs.replay.Reads as replay-reads
 
 abbrev Inv-loop : tie.InvT-loop
 Inv-loop n₀ n = n ≤ 24
@@ -13,27 +10,21 @@ Inv-loop n₀ n = n ≤ 24
 abbrev μ-loop : tie.MeasureT-loop
 μ-loop n₀ n = 24 - n
 
--- src/main.rt:37:5
 loop-holds : tie.Need-loop-holds Inv-loop μ-loop
 loop-holds c = search needs
 
--- src/main.rt:38:9
 add-n : tie.Need-add-n Inv-loop μ-loop
 add-n c = search needs
 
--- src/main.rt:39:9
 replay-requires : tie.Need-replay-requires Inv-loop μ-loop
 replay-requires c κs = search needs
 
--- src/main.rt:37:5
 loop-less : tie.Need-loop-less Inv-loop μ-loop
 loop-less c = search needs
 
--- src/main.rt:37:5
 loop-again : tie.Need-loop-again Inv-loop μ-loop
 loop-again c = search needs
 
--- src/main.rt:35:1
 returns : tie.Need-returns Inv-loop μ-loop
 returns c = search needs
 

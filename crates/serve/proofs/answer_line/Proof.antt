@@ -1,53 +1,40 @@
+-- `serve::answer_line` answers a line: what is printed for it lies inside its buffer. Assumes nothing.
 use native.Mathlib.Omega.{arith}
 use borrow.Author.Needs.{needs}
 use Rattle.serve.proofs.Printing.{reply-fits}
 use Rattle.serve.proofs.answer_line.Statement.{statement}
 use Rattle.serve.proofs.answer_line.Tie as tie
-use Rattle.serve.proofs.answer_line.Reads as reads
-use Rattle.serve.proofs.answer_line.Lts as lts
-use Rattle.console.proofs.respond.Reads as respond-reads
-use Rattle.io.proofs.write_all.Reads as write-all-reads
 
--- src/lib.rt:51:9
 respond-requires : tie.Need-respond-requires
 respond-requires c κs = search needs
 
--- src/lib.rt:53:41
 sub-write-all : tie.Need-sub-write-all
 sub-write-all c = search needs
 
--- src/lib.rt:53:41
 part-write-all-start : tie.Need-part-write-all-start
 part-write-all-start c = search needs
 
--- src/lib.rt:53:41
 part-write-all-end : tie.Need-part-write-all-end
 part-write-all-end c =
     let a = c .before .before .before .before .before .before .before .before .before .before .before .before .before .before .before .before .before .before .args in
     let r = c .before .before .before .before .before .before .before .before .respond in
     omega (arith, reply-fits (r .result) _ _ _ _ (a .served .state) (a .cells .now) (a .memory .now) (a .answer .now) (a .line .now) (a .out .now) (r .ensures))
 
--- src/lib.rt:53:9
 write-all-requires : tie.Need-write-all-requires
 write-all-requires c κs = search needs
 
--- src/lib.rt:39:1
 same-length : tie.Need-same-length
 same-length c = search needs
 
--- src/lib.rt:39:1
 same-length-2 : tie.Need-same-length-2
 same-length-2 c = search needs
 
--- src/lib.rt:39:1
 same-length-3 : tie.Need-same-length-3
 same-length-3 c = search needs
 
--- src/lib.rt:39:1
 same-length-4 : tie.Need-same-length-4
 same-length-4 c = search needs
 
--- src/lib.rt:39:1
 returns : tie.Need-returns
 returns c = search needs
 

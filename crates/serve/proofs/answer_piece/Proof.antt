@@ -1,12 +1,10 @@
+-- `serve::answer_piece` answers the lines of a piece: the measure is what is left of it. Assumes nothing.
 use mathlib.Core.Path.{_≡_}
 use Prim.Native.Nat.{_≤_, _-_}
 use lib.ListN.{length}
 use borrow.Author.Needs.{needs}
 use Rattle.serve.proofs.answer_piece.Statement.{statement}
 use Rattle.serve.proofs.answer_piece.Tie as tie
-use Rattle.serve.proofs.answer_piece.Reads as reads
-use Rattle.serve.proofs.answer_piece.Lts as lts
-use Rattle.serve.proofs.answer_on.Reads as answer-on-reads
 
 abbrev Inv-loop : tie.InvT-loop
 Inv-loop cells₀ memory₀ answer₀ piece line₀ out₀ output s₀ cells memory answer line out s =
@@ -20,67 +18,51 @@ Inv-loop cells₀ memory₀ answer₀ piece line₀ out₀ output s₀ cells mem
 abbrev μ-loop : tie.MeasureT-loop
 μ-loop cells₀ memory₀ answer₀ piece line₀ out₀ output s₀ cells memory answer line out s = length piece - s .next
 
--- src/lib.rt:113:5
 loop-holds : tie.Need-loop-holds Inv-loop μ-loop
 loop-holds c = search needs
 
--- src/lib.rt:117:13
 answer-on-requires : tie.Need-answer-on-requires Inv-loop μ-loop
 answer-on-requires c κs = search needs
 
--- src/lib.rt:113:5
 loop-less : tie.Need-loop-less Inv-loop μ-loop
 loop-less c = search needs
 
--- src/lib.rt:113:5
 loop-again : tie.Need-loop-again Inv-loop μ-loop
 loop-again c = search needs
 
--- src/lib.rt:98:1
 same-length : tie.Need-same-length Inv-loop μ-loop
 same-length c = search needs
 
--- src/lib.rt:98:1
 same-length-2 : tie.Need-same-length-2 Inv-loop μ-loop
 same-length-2 c = search needs
 
--- src/lib.rt:98:1
 same-length-3 : tie.Need-same-length-3 Inv-loop μ-loop
 same-length-3 c = search needs
 
--- src/lib.rt:98:1
 same-length-4 : tie.Need-same-length-4 Inv-loop μ-loop
 same-length-4 c = search needs
 
--- src/lib.rt:98:1
 same-length-5 : tie.Need-same-length-5 Inv-loop μ-loop
 same-length-5 c = search needs
 
--- src/lib.rt:98:1
 returns : tie.Need-returns Inv-loop μ-loop
 returns c = search needs
 
--- src/lib.rt:98:1
 same-length-6 : tie.Need-same-length-6 Inv-loop μ-loop
 same-length-6 c = search needs
 
--- src/lib.rt:98:1
 same-length-7 : tie.Need-same-length-7 Inv-loop μ-loop
 same-length-7 c = search needs
 
--- src/lib.rt:98:1
 same-length-8 : tie.Need-same-length-8 Inv-loop μ-loop
 same-length-8 c = search needs
 
--- src/lib.rt:98:1
 same-length-9 : tie.Need-same-length-9 Inv-loop μ-loop
 same-length-9 c = search needs
 
--- src/lib.rt:98:1
 same-length-10 : tie.Need-same-length-10 Inv-loop μ-loop
 same-length-10 c = search needs
 
--- src/lib.rt:98:1
 returns-2 : tie.Need-returns-2 Inv-loop μ-loop
 returns-2 c = search needs
 

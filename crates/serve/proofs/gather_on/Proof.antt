@@ -1,20 +1,15 @@
+-- `serve::gather_on` uses up a byte or more, by the laws of gathering. Assumes nothing.
 use borrow.Author.Needs.{needs}
 use Rattle.serve.proofs.Printing.{gathers}
 use Rattle.serve.proofs.gather_on.Statement.{statement}
 use Rattle.serve.proofs.gather_on.Tie as tie
-use Rattle.serve.proofs.gather_on.Reads as reads
-use Rattle.serve.proofs.gather_on.Lts as lts
-use Rattle.console.proofs.gather.Reads as gather-reads
 
--- src/lib.rt:65:5
 gather-requires : tie.Need-gather-requires
 gather-requires c κs = search needs
 
--- src/lib.rt:61:1
 same-length : tie.Need-same-length
 same-length c = search needs
 
--- src/lib.rt:61:1
 returns : tie.Need-returns
 returns c =
     let a = c .before .before .before .before .before .before .args in
