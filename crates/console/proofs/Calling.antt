@@ -1,7 +1,7 @@
 -- What each return of a command owes: the call's step, and its text printed. Assumes nothing.
 use mathlib.Core.Path.{_≡_, refl, ap, _∙_, subst, subst⁻¹}
 use mathlib.Core.Bool.{Bool, true, false, cond}
-use mathlib.Core.List.{List, _++_}
+use mathlib.Core.List.{List}
 use Prim.Native.Nat.{ℕ, zero, suc, _+_, _-_, _≤_}
 use native.Mathlib.Omega.{arith}
 use borrow.Author.Tests.{ltb-false}
@@ -82,10 +82,8 @@ module _ (s : State) (cells : List ℤ) (memory : List ℕ) where
 
 -- ---- the record of an answer lies in the answer buffer
 
-written-longer : (xs ys : List ℕ) → length xs ≤ length (written xs 0 ys)
-written-longer xs ys =
-    let a : length (ys ++ drop (0 + length ys) xs) ≡ length ys + length (drop (0 + length ys) xs) = length-append ys (drop (0 + length ys) xs) in
-    omega (arith, length-drop (0 + length ys) xs)
+pub written-length : (xs ys : List ℕ) → length (written xs 0 ys) ≡ length ys + (length xs - (0 + length ys))
+written-length xs ys = length-append ys (drop (0 + length ys) xs) ∙ ap (λ (k : ℕ). length ys + k) (length-drop (0 + length ys) xs)
 
 abbrev Inside : Asks → Type 0
 Inside a = a .result .length ≤ length (a .answer)
@@ -100,11 +98,11 @@ fitting-inside n m refused done r d = go (ltb m n) refl
 module _ (s : State) (cells : List ℤ) (memory : List ℕ) (number : ℕ) (values : List ℤ) (answer : List ℕ) where
   cached-inside : (p : ℕ) → Inside (askCached s memory answer p)
   unfolding askCached
-  cached-inside p = fitting-inside (cachedLength s p) (length answer) _ _ (omega arith) (λ h. omega (arith, written-longer answer (bytesAt s memory (getD (s .slots .order) p 0))))
+  cached-inside p = fitting-inside (cachedLength s p) (length answer) _ _ (omega arith) (λ h. omega (arith, written-length answer (bytesAt s memory (getD (s .slots .order) p 0))))
 
   new-inside : Inside (askNew s cells memory answer number values)
   unfolding askNew
-  new-inside = fitting-inside (length (recordAt s cells number values)) (length answer) _ _ (omega arith) (λ h. omega (arith, written-longer answer (recordAt s cells number values)))
+  new-inside = fitting-inside (length (recordAt s cells number values)) (length answer) _ _ (omega arith) (λ h. omega (arith, written-length answer (recordAt s cells number values)))
 
   found-inside : (f : Found) → Inside (askFound f s cells memory answer number values)
   found-inside (At p) = cached-inside p

@@ -1,19 +1,31 @@
 -- The claims of specs/Demand, from those of the store: a line makes one call or none, so a list of lines makes a list of calls. Assumes nothing.
-use mathlib.Core.Path.{_≡_, refl, sym, ap, ap₂, _∙_}
+use mathlib.Core.Path.{_≡_, refl, sym, ap, ap₂, _∙_, subst}
 use mathlib.Core.Logic.{_≢_}
 use mathlib.Core.List.{List, [], _∷_, map}
-use Prim.Native.Nat.{ℕ}
+use mathlib.Core.Bool.{Bool, true, false, cond}
+use Prim.Native.Nat.{ℕ, zero, suc, _+_, _-_}
+use lib.Dec.{ltb}
+use lib.IntN.{ℤ}
+use lib.ListN.{length, take, drop}
+use lib.Seq.{take-at}
+use Rattle.lists.specs.Lists.{written}
 use Rattle.meaning.specs.Plain as P
-use Rattle.meaning.specs.Plain.{Lengths, Plain}
+use Rattle.meaning.specs.Plain.{Lengths, Plain, Out, refused, added, answered, rows, flushed}
+use Rattle.slots.specs.declared.Found.{Found}
+use Rattle.slots.specs.declared.Found.the-variants.{At, Nothing}
+use Rattle.cache.specs.declared.State.{State}
+use Rattle.cache.specs.declared.Asked.{Asked}
+use Rattle.cache.specs.Calls.{settled, Asks, asks, askRefusal, cachedLength, askCached, recordAt, askNew, askFound, foundIn, askOf}
 use Rattle.cache.specs.Run.{Store, openingOf, opened, Call, add, ask, update, flush, Got, Seen, step, gets, plainCall, bufferOf, gotOf, plainGets}
 use Rattle.cache.specs.Demand.{refusedWith}
 use Rattle.cache.proofs.Settled.{settled-refused}
 use Rattle.cache.proofs.Demand.{demands as of-store}
 use Rattle.console.specs.Lines as L
 use Rattle.console.specs.Lines.{Command, commandOf}
-use Rattle.console.specs.Printed.{refusedText}
+use Rattle.console.specs.Printed.{refusedText, answerText}
 use Rattle.console.specs.Desk.{textOf, bufferAfter, Answered, called, commanded, answeredOf, printedFor}
-use Rattle.console.specs.Demand.{BadChangesNothing, refusalOf, RefusedChangesNothing, Unsaid, seenWith, plainCalled, plainCommanded, linesOf, plainPrinted, PrintsAsPlain, Demands}
+use Rattle.console.proofs.Calling.{written-length}
+use Rattle.console.specs.Demand.{BadChangesNothing, refusalOf, RefusedChangesNothing, Unsaid, seenWith, plainCalled, plainCommanded, linesOf, plainPrinted, PrintsAsPlain, BufferDoesNotMatter, Demands}
 
 -- ---- bad and refused lines
 
@@ -119,6 +131,124 @@ prints-as-plain : PrintsAsPlain
 prints-as-plain o buffer ls =
     printed-same (openingOf o .lent) (opened o) (P.opened (openingOf o)) buffer ls (of-store .same-as-plain o (callsFor (opened o) buffer ls) .0)
 
+-- ---- an answer buffer of the same length
+
+-- the record and the numbers that a question gets, and what it keeps, go by the buffer's length alone
+record Alike (a b : Asks) : Type 0 where
+  results : a .result ≡ b .result
+  memories : a .memory ≡ b .memory
+
+cond-alike : (t : Bool) (r d : Asked) (m k x y u v : List ℕ) → Alike (cond t (asks r m x) (asks d k y)) (cond t (asks r m u) (asks d k v))
+cond-alike true r d m k x y u v = record { results = refl; memories = refl }
+cond-alike false r d m k x y u v = record { results = refl; memories = refl }
+
+module _ (s : State) (cells : List ℤ) (memory : List ℕ) (n : ℕ) (zs : List ℤ) (b c : List ℕ) (e : length b ≡ length c) where
+  found-alike : (f : Found) → Alike (askFound f s cells memory b n zs) (askFound f s cells memory c n zs)
+  unfolding askCached askNew
+  found-alike (At p) = rw (← e) (cond-alike (ltb (length b) (cachedLength s p)) _ _ _ _ _ _ _ _)
+  found-alike Nothing = rw (← e) (cond-alike (ltb (length b) (length (recordAt s cells n zs))) _ _ _ _ _ _ _ _)
+
+  settled-alike : (k : ℕ) (d : Asks) (f : Asks) → Alike d f → (r : Asked) → Alike (settled k d (asks r memory b)) (settled k f (asks r memory c))
+  unfolding settled
+  settled-alike zero d f a r = a
+  settled-alike (suc k) d f a r = record { results = refl; memories = refl }
+
+  ask-alike : Alike (askOf s cells memory n zs b) (askOf s cells memory n zs c)
+  unfolding askOf
+  ask-alike = settled-alike (askRefusal s (length cells) (length memory) n (length zs)) _ _ (found-alike (foundIn s n zs)) _
+
+-- of what the plain store gives, the text and the buffer's length
+record Shown (n : ℕ) (zs : List ℤ) (u : Unsaid) (b c : List ℕ) (o : Out) : Type 0 where
+  texts : textOf (ask n zs b) (seenWith u (gotOf b o)) ≡ textOf (ask n zs c) (seenWith u (gotOf c o))
+  lengths : length (gotOf b o .answer) ≡ length (gotOf c o .answer)
+
+shown : (n : ℕ) (zs : List ℤ) (u : Unsaid) (b c : List ℕ) → length b ≡ length c → (o : Out) → Shown n zs u b c o
+shown n zs u b c e (refused k) = record { texts = refl; lengths = e }
+shown n zs u b c e (added k m) = record { texts = refl; lengths = e }
+shown n zs u b c e (answered r) =
+    let first : (x : List ℕ) → take (length r) (written x 0 r) ≡ r = λ x. take-at r (drop (0 + length r) x) (length r) refl in
+    record {
+      texts = ap (λ (x : List ℕ). settled 0 (answerText (u .kept) (u .scanned) x) (refusedText 0)) (first b ∙ sym (first c));
+      lengths = written-length b r ∙ ap (λ (k : ℕ). length r + (k - (0 + length r))) e ∙ sym (written-length c r);
+    }
+shown n zs u b c e (rows k) = record { texts = refl; lengths = e }
+shown n zs u b c e flushed = record { texts = refl; lengths = e }
+
+module _ (lent : Lengths) where
+  -- a line with each of two buffers, and the calls after it
+  record Next (s : Store) (p : Plain) (b c : List ℕ) (x : Command) (cs ds : List Call) : Type 0 where
+    text : commanded s b x .text ≡ commanded s c x .text
+    stores : commanded s b x .store ≡ commanded s c x .store
+    lengths : length (commanded s b x .buffer) ≡ length (commanded s c x .buffer)
+    plain : Plain
+    first : Same lent (commanded s b x .store) plain cs
+    second : Same lent (commanded s c x .store) plain ds
+
+  module _ (s : Store) (p : Plain) (b c : List ℕ) (e : length b ≡ length c) where
+    module _ (n : ℕ) (zs : List ℤ) (cs ds : List Call) (h : Same lent s p (ask n zs b ∷ cs)) (k : Same lent s p (ask n zs c ∷ ds)) where
+      abbrev plainly : ℕ → Plain × Out
+      plainly l = P.step lent p (P.ask (record { query = n; values = zs }) l)
+
+      alike : Alike (askOf (s .state) (s .cells) (s .memory) n zs b) (askOf (s .state) (s .cells) (s .memory) n zs c)
+      alike = ask-alike (s .state) (s .cells) (s .memory) n zs b c e
+
+      stores-same : step s (ask n zs b) .0 ≡ step s (ask n zs c) .0
+      unfolding step
+      stores-same i = record { state = alike .results i .state; cells = s .cells; memory = alike .memories i }
+
+      unsaid-same : unsaidOf lent s p b (ask n zs b) ≡ unsaidOf lent s p c (ask n zs c)
+      unfolding step
+      unsaid-same i = record { kept = alike .results i .cached; scanned = alike .results i .scanned; drops = 0 }
+
+      shown-same : Shown n zs (unsaidOf lent s p b (ask n zs b)) b c (plainly (length b) .1)
+      shown-same = shown n zs (unsaidOf lent s p b (ask n zs b)) b c e (plainly (length b) .1)
+
+      texts-same : called s b (ask n zs b) .text ≡ called s c (ask n zs c) .text
+      texts-same =
+          text-same lent s p b (ask n zs b) cs h ∙ shown-same .texts
+          ∙ (λ i. textOf (ask n zs c) (seenWith (unsaid-same i) (gotOf c (plainly (e i) .1))))
+          ∙ sym (text-same lent s p c (ask n zs c) ds k)
+
+      buffers-same : length (called s b (ask n zs b) .buffer) ≡ length (called s c (ask n zs c) .buffer)
+      buffers-same =
+          ap length (buffer-same lent s p b (ask n zs b) cs h) ∙ shown-same .lengths
+          ∙ (λ i. length (gotOf c (plainly (e i) .1) .answer))
+          ∙ sym (ap length (buffer-same lent s p c (ask n zs c) ds k))
+
+      ask-next : Next s p b c (L.ask n zs) cs ds
+      ask-next = record {
+        text = texts-same;
+        stores = stores-same;
+        lengths = buffers-same;
+        plain = plainly (length b) .0;
+        first = tail-same lent s p b (ask n zs b) cs h;
+        second = subst (λ (l : ℕ). Same lent (step s (ask n zs c) .0) (plainly l .0) ds) (sym e) (tail-same lent s p c (ask n zs c) ds k);
+      }
+
+    line-next : (x : Command) (cs ds : List Call) → Same lent s p (callsBy b x cs) → Same lent s p (callsBy c x ds) → Next s p b c x cs ds
+    line-next (L.add text) cs ds h k = record { text = refl; stores = refl; lengths = e; plain = _; first = tail-same lent s p b (add text) cs h; second = tail-same lent s p c (add text) ds k }
+    line-next (L.ask n zs) cs ds h k = ask-next n zs cs ds h k
+    line-next (L.change n zs) cs ds h k = record { text = refl; stores = refl; lengths = e; plain = _; first = tail-same lent s p b (update n zs) cs h; second = tail-same lent s p c (update n zs) ds k }
+    line-next L.flush cs ds h k = record { text = refl; stores = refl; lengths = e; plain = _; first = tail-same lent s p b flush cs h; second = tail-same lent s p c flush ds k }
+    line-next L.bad cs ds h k = record { text = refl; stores = refl; lengths = e; plain = p; first = h; second = k }
+
+  buffers-alike : (s : Store) (p : Plain) (b c : List ℕ) (ls : List (List ℕ)) → length b ≡ length c → Same lent s p (callsFor s b ls) → Same lent s p (callsFor s c ls)
+      → printedFor s b ls ≡ printedFor s c ls
+  unfolding answeredOf
+  buffers-alike s p b c [] e h k = refl
+  buffers-alike s p b c (l ∷ ls) e h k =
+      let x = answeredOf s b l in
+      let y = answeredOf s c l in
+      let n = line-next s p b c e (commandOf l) (callsFor (x .store) (x .buffer) ls) (callsFor (y .store) (y .buffer) ls) h k in
+      let g = subst (λ (t : Store). Same lent t (n .plain) (callsFor t (y .buffer) ls)) (sym (n .stores)) (n .second) in
+      ap₂ (λ (t : List ℕ) (u : List (List ℕ)). t ∷ u) (n .text)
+      (buffers-alike (x .store) (n .plain) (x .buffer) (y .buffer) ls (n .lengths) (n .first) g ∙ ap (λ (t : Store). printedFor t (y .buffer) ls) (n .stores))
+
+buffer-does-not-matter : BufferDoesNotMatter
+buffer-does-not-matter o b c ls e =
+    let same : (x : List ℕ) → Same (openingOf o .lent) (opened o) (P.opened (openingOf o)) (callsFor (opened o) x ls) = λ x. of-store .same-as-plain o (callsFor (opened o) x ls) .0 in
+    buffers-alike (openingOf o .lent) (opened o) (P.opened (openingOf o)) b c ls e (same b) (same c)
+
 -- ---- all claims
 
 pub demands : Demands
@@ -126,4 +256,5 @@ demands = record {
   bad-changes-nothing = bad-changes-nothing;
   refused-changes-nothing = refused-changes-nothing;
   prints-as-plain = prints-as-plain;
+  buffer-does-not-matter = buffer-does-not-matter;
 }

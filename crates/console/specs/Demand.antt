@@ -4,6 +4,7 @@ use mathlib.Core.Path.{_≡_}
 use mathlib.Core.Logic.{_≢_}
 use mathlib.Core.List.{List, [], _∷_}
 use Prim.Native.Nat.{ℕ}
+use lib.ListN.{length}
 use Rattle.meaning.specs.Plain as P
 use Rattle.meaning.specs.Plain.{Lengths, Plain}
 use Rattle.cache.specs.Run.{Store, Start, openingOf, opened, Call, add, ask, update, flush, Got, Seen, step, plainCall, bufferOf, gotOf}
@@ -76,7 +77,14 @@ abbrev pub PrintsAsPlain : Type 0
 PrintsAsPlain = (o : Start) (buffer : List ℕ) (ls : List (List ℕ))
     → (xs : List (List ℕ × Unsaid)) × (linesOf xs ≡ ls) × (printedFor (opened o) buffer ls ≡ plainPrinted (openingOf o .lent) (P.opened (openingOf o)) buffer xs)
 
+-- what stood in the answer buffer before does not matter, but its length
+abbrev pub BufferDoesNotMatter : Type 0
+BufferDoesNotMatter = (o : Start) (b c : List ℕ) (ls : List (List ℕ)) → length b ≡ length c → printedFor (opened o) b ls ≡ printedFor (opened o) c ls
+
+-- ---- all of these
+
 pub record Demands : Type 0 where
   pub bad-changes-nothing : BadChangesNothing
   pub refused-changes-nothing : RefusedChangesNothing
   pub prints-as-plain : PrintsAsPlain
+  pub buffer-does-not-matter : BufferDoesNotMatter
