@@ -90,6 +90,22 @@ abbrev pub comparisonsOn : ℕ → ℕ → ℕ → List Comparison → Bool
 comparisonsOn columns m p [] = eqb p m
 comparisonsOn columns m p (c ∷ cs) = comparisonFits columns m c && comparisonsOn columns (m + comparisonMarks c) p cs
 
+-- the number of the next parameter, where m is the next before: 64 more, which is past all, where a part does not fit
+abbrev pub afterSide : ℕ → ℕ → Operand → ℕ
+afterSide columns m (Column i) = cond (ltb i columns) m (m + 64)
+afterSide columns m (Constant z) = m
+afterSide columns m (Parameter k) = cond (eqb k m) (m + 1) (m + 64)
+
+abbrev pub afterSides : ℕ → ℕ → Comparison → ℕ
+afterSides columns m c = afterSide columns (afterSide columns m (c .left)) (c .right)
+
+unfoldable pub afterComparison : ℕ → ℕ → Comparison → ℕ
+afterComparison columns m c = cond (ltb (c .op) 6) (afterSides columns m c) (afterSides columns m c + 64)
+
+abbrev pub afterAll : ℕ → ℕ → List Comparison → ℕ
+afterAll columns m [] = m
+afterAll columns m (c ∷ cs) = afterAll columns (afterComparison columns m c) cs
+
 -- a condition, and there are p parameters with its own
 unfoldable pub conditionOn : ℕ → ℕ → ℕ → Condition → Bool
 conditionOn columns m p c = soundCondition columns m c && (eqb p (m + conditionMarks c) && leb p most-marks)
