@@ -1,5 +1,6 @@
 pub mod Tests
 pub mod Apart
+pub mod Codes
 pub mod Numbering
 pub mod Packed
 pub mod Tables

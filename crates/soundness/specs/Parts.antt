@@ -7,7 +7,7 @@ use mathlib.Core.List.{List, [], _∷_, map}
 use Prim.Native.Nat.{ℕ, _+_, _-_, _*_, _≤_}
 use lib.Dec.{eqb, leb, ltb}
 use lib.ListN.{length, take}
-use Rattle.lists.specs.Lists.{All, all, repeats}
+use Rattle.lists.specs.Lists.{All, all, repeats, from}
 use Rattle.meaning.specs.Tokens.{isDigit, isSmall, isNameByte}
 use Rattle.meaning.specs.Limits.{most-items, most-marks, most-rows}
 use Rattle.meaning.specs.Names.{sameName}
@@ -34,6 +34,9 @@ use Rattle.soundness.specs.declared.statements.Numbered.{Numbered}
 -- a digit of base 38 for each byte of a name, and 0 for other bytes
 abbrev pub digitOf : ℕ → ℕ
 digitOf b = cond (isSmall b) (b - 97 + 1) (cond (isDigit b) (b - 48 + 27) (cond (eqb b 95) 37 0))
+
+unfoldable pub digitTable : List ℕ
+digitTable = map digitOf (from 0 256)
 
 abbrev pub packed : List ℕ → ℕ
 packed [] = 0
