@@ -6,7 +6,7 @@ use Prim.Native.Nat.{ℕ, zero, suc, _+_, _-_, _*_, _≤_, _<_}
 use native.Mathlib.Omega.{arith}
 use borrow.Author.Tests.{le-leb, lt-leb}
 use lib.Dec.{eqb, leb, ltb, eqb·suc-suc}
-use lib.ListN.{length}
+use lib.ListN.{length, take}
 use lib.Seq.{length-take-le}
 use Rattle.lists.specs.Lists.{all}
 use Rattle.lists.proofs.Bools.{and-assoc, clash}
@@ -163,3 +163,10 @@ module _ (columns m p : ℕ) (c : Condition) where
         let e : sides (leaves nodes) ≡ operands cs = ap sides (leaves-are h) in
         (ap (all (isBelow columns)) (sym e), ap (numberedOn m) (sym e), ap (λ (os : List M.Operand). eqb p (m + parameterCount os)) (sym e)))
         ∙ ap (λ (b : Bool). (b && others) && (eqb p (m + conditionMarks c) && leb p most-marks)) (sym (le-leb (c .count) most-comparisons few))
+
+    -- none of them
+    pub condition-none : c .count ≡ 0 → (leb p most-marks && eqb p m) ≡ conditionOn columns m p c
+    condition-none e =
+        ap (λ (b : Bool). b && eqb p m) (sym (and-true (leb p most-marks)))
+        ∙ ap (λ (n : ℕ). (leb p most-marks && stepsOn 0 (take (2 * n - 1) (c .steps))) && comparisonsOn columns m p (take n (c .comparisons))) (sym e)
+        ∙ condition-short

@@ -146,6 +146,9 @@ pub fn is_sound(c: Condition, columns: u8, m: u8, parameters: u8) -> bool
     if Condition::COMPARISONS < n {
         return false;
     }
+    if n == 0 {
+        return ((parameters as u16) <= Statement::MARKS) & (parameters == m);
+    }
     let steps = c.steps;
     let comparisons = c.comparisons;
     ((parameters as u16) <= Statement::MARKS)
