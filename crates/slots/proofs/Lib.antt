@@ -6,6 +6,7 @@ pub mod KeyLaws
 pub mod Laws
 pub mod Moves
 pub mod Named
+pub mod Noted
 pub mod Repeated
 pub mod Signed
 pub mod SlotReads

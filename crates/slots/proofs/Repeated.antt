@@ -22,8 +22,8 @@ module _ (keys : List Key) (s : SlotList) (n : ℕ) (long : length (s .order) �
   unfolding heldTwice
   compared r e = e ∙ of-min (λ (l : List ℕ). repeats sameKey (map (slotKey keys) l)) (s .held) n 64 (s .order) long is
 
-  pub none-equal : (prints : List ℕ) → take n prints ≡ map (slotPrint keys) (take n (s .order)) → repeats eqb (take n prints) ≡ false → false ≡ heldTwice keys s
-  none-equal prints e h =
+  pub none-equal : repeats eqb (map (slotPrint keys) (take n (s .order))) ≡ false → false ≡ heldTwice keys s
+  none-equal h =
       let f : Key → ℕ = λ (k : Key). fingerprint (keyRead k) in
-      let p : repeats eqb (map f (map (slotKey keys) (take n (s .order)))) ≡ false = ap (repeats eqb) (map-map f (slotKey keys) (take n (s .order)) ∙ sym e) ∙ h in
+      let p : repeats eqb (map f (map (slotKey keys) (take n (s .order)))) ≡ false = ap (repeats eqb) (map-map f (slotKey keys) (take n (s .order))) ∙ h in
       compared false (sym (repeats-image sameKey f eqb same-prints (map (slotKey keys) (take n (s .order))) p))

@@ -193,9 +193,20 @@ pub fn held_twice(keys: [Key; SlotList::SLOTS], slots: SlotList) -> bool
 {
     let places = slots.order;
     let n = values::least(slots.held as usize, SlotList::SLOTS);
-    let prints = twice::prints_of(keys, places, n);
-    if twice::any_equal(prints, n) {
-        return twice::any_same(keys, places, n);
+    let mut prints = [0u32; SlotList::SLOTS];
+    let mut seen = [false; twice::REMAINDERS];
+    let mut i: usize = 0;
+    while i < n {
+        let x = places[i];
+        let k = keys[order::index(x)];
+        let h = twice::print_if(x, k);
+        let at = h as usize % twice::REMAINDERS;
+        if twice::occurs(seen[at], h, &prints, i) {
+            return twice::any_same(keys, places, n);
+        }
+        prints[i] = h;
+        seen[at] = true;
+        i += 1;
     }
     false
 }

@@ -1,17 +1,20 @@
-// Fingerprints of keys, and whether a key is held twice. The pairwise tests are each one function with two loops: a function called in a loop would be handed a copy
-// of the keys at every turn.
+// Fingerprints of keys, and whether a key is held twice. The pairwise test is one function with two loops: a function called in a loop would be handed a copy of the
+// keys at every turn.
 use super::Key;
 use super::SlotList;
 use super::order;
 use super::values;
 ghost use mathlib.Core.Path.{_≡_};
-ghost use mathlib.Core.Bool.{cond};
+ghost use mathlib.Core.Bool.{_&&_, cond};
 ghost use mathlib.Core.List.{map};
 ghost use Prim.Native.Nat.{_≤_};
 ghost use lib.Dec.{ltb, eqb};
-ghost use lib.ListN.{take};
-ghost use Rattle.lists.specs.Lists.{repeats};
-ghost use Rattle.slots.specs.Keys.{keyRead, sameKey, noKey, slotKey, raised, mixed, fingerprint, slotPrint};
+ghost use lib.ListN.{length, take};
+ghost use Rattle.lists.specs.Lists.{any, repeats};
+ghost use Rattle.slots.specs.Keys.{keyRead, sameKey, noKey, slotKey, raised, mixed, fingerprint};
+
+// By how much fingerprints are divided: one is looked for among others only if one of them has the same remainder.
+pub const REMAINDERS: usize = 1024;
 
 // A signed number, counted from the lowest.
 fn raised_of(v: i32) -> u64
@@ -43,6 +46,13 @@ fn print_of(k: Key) -> u32
     h
 }
 
+// The fingerprint of the key of a slot, or of what stands for that of a number that is no slot.
+pub fn print_if(x: u8, k: Key) -> u32
+    ensures { λ r. ⌜ r ≡ fingerprint (keyRead (cond (ltb x 64) k noKey)) ⌝ }
+{
+    if order::is_slot(x) { print_of(k) } else { 0 }
+}
+
 // The key of a slot, or what stands for that of a number that is no slot.
 fn key_if(x: u8, k: Key) -> Key
     ensures { λ r. ⌜ r ≡ cond (ltb x 64) k noKey ⌝ }
@@ -57,40 +67,18 @@ fn key_if(x: u8, k: Key) -> Key
     }
 }
 
-// The fingerprints of the keys of the first n slots.
-pub fn prints_of(
-    keys: [Key; SlotList::SLOTS],
-    places: [u8; SlotList::SLOTS],
-    n: usize,
-) -> [u32; SlotList::SLOTS]
-    requires { ⌜ n ≤ 64 ⌝ }
-    ensures { λ r. ⌜ take n r ≡ map (slotPrint keys) (take n places) ⌝ }
+// Whether a number that is marked stands among the first n.
+pub fn occurs(marked: bool, x: u32, prints: &[u32], n: usize) -> bool
+    requires { ⌜ n ≤ length (now prints) ⌝ }
+    ensures { λ r. ⌜ r ≡ (marked && any (eqb x) (take n (now (prints .entry)))) ⌝ }
 {
-    let mut prints = [0u32; SlotList::SLOTS];
-    let mut i: usize = 0;
-    while i < n {
-        let x = places[i];
-        let k = keys[order::index(x)];
-        prints[i] = print_of(key_if(x, k));
-        i += 1;
+    if !marked {
+        return false;
     }
-    prints
-}
-
-// Whether two of the first n numbers are equal.
-pub fn any_equal(prints: [u32; SlotList::SLOTS], n: usize) -> bool
-    requires { ⌜ n ≤ 64 ⌝ }
-    ensures { λ r. ⌜ r ≡ repeats eqb (take n prints) ⌝ }
-{
     let mut found = false;
     let mut i: usize = 0;
     while i < n {
-        let x = prints[i];
-        let mut j = i + 1;
-        while j < n {
-            found = found | (x == prints[j]);
-            j += 1;
-        }
+        found = found | (x == prints[i]);
         i += 1;
     }
     found

@@ -1,4 +1,4 @@
--- Comparisons by the number of the next parameter: the loop over them, and that with the steps they tell whether a condition is sound. Assumes nothing.
+-- Comparisons by the number of the next parameter: with the steps they tell whether a condition is sound. Assumes nothing.
 use mathlib.Core.Path.{_≡_, refl, sym, ap, ap₂, _∙_}
 use mathlib.Core.Bool.{Bool, true, false, _&&_, and-false, and-true, and-comm}
 use mathlib.Core.List.{List, [], _∷_, map}
@@ -6,7 +6,7 @@ use Prim.Native.Nat.{ℕ, zero, suc, _+_, _-_, _*_, _≤_, _<_}
 use native.Mathlib.Omega.{arith}
 use borrow.Author.Tests.{le-leb, lt-leb}
 use lib.Dec.{eqb, leb, ltb, eqb·suc-suc}
-use lib.ListN.{length, getD, take}
+use lib.ListN.{length, take}
 use lib.Seq.{length-take-le}
 use Rattle.lists.specs.Lists.{all}
 use Rattle.lists.proofs.Bools.{and-assoc, clash}
@@ -21,18 +21,12 @@ use Rattle.statement.specs.declared.Operand.{Operand}
 use Rattle.statement.specs.declared.Operand.the-variants.{Column, Constant, Parameter}
 use Rattle.statement.specs.declared.Comparison.{Comparison}
 use Rattle.statement.specs.declared.Condition.{Condition}
-use Rattle.statement.proofs.Walks.{rest, rest-cons, rest-none}
 use Rattle.statement.proofs.Stored.{read-length, read-leaves}
 use Rattle.soundness.specs.Parts.{stepsOn, sideFits, comparisonFits, comparisonMarks, comparisonsOn, conditionOn}
 use Rattle.soundness.proofs.Tests.{interchange}
 use Rattle.soundness.proofs.Steps.{steps-postfix}
 
 -- ---- sides
-
-pub side-marks : (o : Operand) → markInSide o ≤ 1
-side-marks (Column i) = omega arith
-side-marks (Constant z) = omega arith
-side-marks (Parameter k) = omega arith
 
 side-mark : (o : Operand) → markInSide o ≡ markInOperand (operandRead o)
 side-mark (Column i) = refl
@@ -43,33 +37,6 @@ side-is : (columns m : ℕ) (o : Operand) → sideFits columns m o ≡ (isBelow 
 side-is columns m (Column i) = sym (and-true (ltb i columns))
 side-is columns m (Constant z) = refl
 side-is columns m (Parameter k) = sym (eqb·suc-suc k m)
-
--- ---- the loop: the comparisons left tell
-
-module _ (columns m p n : ℕ) (cs : List Comparison) where
-  pub record Compared (ok : Bool) (next i : ℕ) : Type 0 where
-    pub within : i ≤ n
-    pub bound : next ≤ m + 2 * i
-    pub left : (ok && comparisonsOn columns next p (rest n i cs)) ≡ comparisonsOn columns m p (take n cs)
-
-  pub compared-start : Compared true m 0
-  compared-start = record { within = omega arith; bound = omega arith; left = refl }
-
-  module _ (ok : Bool) (next i : ℕ) (P : Compared ok next i) where
-    pub compared-more : n ≤ length cs → (d : Comparison) (b : Bool) (k : ℕ) → i < n → b ≡ comparisonFits columns next (getD cs i d) → k ≡ comparisonMarks (getD cs i d) → k ≤ 2
-        → Compared (ok && b) (next + k) (i + 1)
-    compared-more l d b k h e f s = record {
-      within = omega arith;
-      bound = omega (arith, P .bound);
-      left =
-          sym (and-assoc ok b (comparisonsOn columns (next + k) p (rest n (i + 1) cs)))
-          ∙ ap₂ (λ (t : Bool) (j : ℕ). ok && (t && comparisonsOn columns (next + j) p (rest n (i + 1) cs))) e f
-          ∙ ap (λ (ds : List Comparison). ok && comparisonsOn columns next p ds) (sym (rest-cons n i cs d l h))
-          ∙ P .left;
-    }
-
-    pub compared-end : n ≤ i → (ok && eqb p next) ≡ comparisonsOn columns m p (take n cs)
-    compared-end h = ap (λ (ds : List Comparison). ok && comparisonsOn columns next p ds) (sym (rest-none n i cs h)) ∙ P .left
 
 -- ---- comparisons as they are read
 
@@ -196,3 +163,10 @@ module _ (columns m p : ℕ) (c : Condition) where
         let e : sides (leaves nodes) ≡ operands cs = ap sides (leaves-are h) in
         (ap (all (isBelow columns)) (sym e), ap (numberedOn m) (sym e), ap (λ (os : List M.Operand). eqb p (m + parameterCount os)) (sym e)))
         ∙ ap (λ (b : Bool). (b && others) && (eqb p (m + conditionMarks c) && leb p most-marks)) (sym (le-leb (c .count) most-comparisons few))
+
+    -- none of them
+    pub condition-none : c .count ≡ 0 → (leb p most-marks && eqb p m) ≡ conditionOn columns m p c
+    condition-none e =
+        ap (λ (b : Bool). b && eqb p m) (sym (and-true (leb p most-marks)))
+        ∙ ap (λ (n : ℕ). (leb p most-marks && stepsOn 0 (take (2 * n - 1) (c .steps))) && comparisonsOn columns m p (take n (c .comparisons))) (sym e)
+        ∙ condition-short

@@ -1,5 +1,7 @@
 pub mod Tests
 pub mod Apart
+pub mod Codes
+pub mod Numbering
 pub mod Packed
 pub mod Tables
 pub mod Steps

@@ -1,14 +1,14 @@
 -- Names as numbers of base 38: a byte's digit, a list of bytes as a number, and that sound names are the same exactly if their numbers are. Assumes nothing.
 use mathlib.Core.Path.{_≡_, refl, sym, ap, ap₂, _∙_}
 use mathlib.Core.Bool.{Bool, true, false, cond, _&&_, _||_, and-false}
-use mathlib.Core.List.{List, [], _∷_}
+use mathlib.Core.List.{List, [], _∷_, map}
 use Prim.Native.Nat.{ℕ, zero, suc, _+_, _-_, _*_, _^_, _≤_, _<_}
 use native.Mathlib.Nat.{pow-suc, pow-le-pow-right}
 use native.Mathlib.Omega.{arith}
 use borrow.Author.Tests.{leb-true, eqb-true, eq-eqb, ne-eqb}
 use lib.Dec.{eqb, leb, lit<}
 use lib.ListN.{length, getD, take, take-append-drop}
-use Rattle.lists.specs.Lists.{all}
+use Rattle.lists.specs.Lists.{all, from}
 use Rattle.lists.proofs.Bools.{and-left, and-right, clash}
 use Rattle.lists.proofs.Lists.{all-append}
 use Rattle.meaning.specs.Tokens.{isDigit, isSmall, isNameByte, isName}
@@ -20,7 +20,7 @@ use Rattle.statement.specs.Catalog.{nameOfStruct}
 use Rattle.statement.specs.Sound.{soundName}
 use Rattle.statement.specs.declared.Name.{Name}
 use Rattle.statement.proofs.Walks.{rest, rest-cons, rest-none}
-use Rattle.soundness.specs.Parts.{digitOf, packed, packedName, codeOf}
+use Rattle.soundness.specs.Parts.{digitOf, digitTable, packed, packedName, codeOf}
 
 -- ---- digits
 
@@ -40,6 +40,24 @@ byte b = go (isSmall b) (isDigit b) (eqb b 95) refl refl refl
     go false true l e f g = digit (leb-true 48 b (and-left (leb 48 b) _ f)) (leb-true b 57 (and-right (leb 48 b) _ f))
     go false false true e f g = line (eqb-true b 95 g)
     go false false false e f g = other
+
+-- the digits of all bytes
+from-at : (f : ℕ → ℕ) (i n k : ℕ) → k < n → getD (map f (from i n)) k 0 ≡ f (i + k)
+from-at f i zero k h = absurd (omega arith)
+from-at f i (suc n) zero h = let e : i ≡ i + 0 = omega arith in ap f e
+from-at f i (suc n) (suc k) h = let e : suc i + k ≡ i + suc k = omega arith in from-at f (suc i) n k (omega arith) ∙ ap f e
+
+from-length : (f : ℕ → ℕ) (i n : ℕ) → length (map f (from i n)) ≡ n
+from-length f i zero = refl
+from-length f i (suc n) = ap suc (from-length f (suc i) n)
+
+pub table-length : length digitTable ≡ 256
+unfolding digitTable
+table-length = from-length digitOf 0 256
+
+pub table-at : (b : ℕ) → b < 256 → getD digitTable b 0 ≡ digitOf b
+unfolding digitTable
+table-at b h = let e : 0 + b ≡ b = omega arith in from-at digitOf 0 256 b h ∙ ap digitOf e
 
 pub digit-below : (b : ℕ) → digitOf b < 38
 digit-below b = go (byte b)

@@ -22,7 +22,7 @@ use Rattle.statement.proofs.Found.{same-sym}
 use Rattle.statement.proofs.Assembled.{take-padded}
 use Rattle.soundness.specs.Parts.{codeOf, columnsOn, tableOn}
 use Rattle.soundness.proofs.Packed.{code-zero, code-some, code-same}
-use Rattle.soundness.proofs.Tests.{counted}
+use Rattle.soundness.proofs.Tests.{shuffled, counted}
 
 -- ---- the loop: the members passed are sound, and their numbers are noted
 
@@ -141,13 +141,7 @@ met-more before t (u ∷ ts) =
     ∙ any-append (sameName (tableName u)) (tableNames before) (tableName t ∷ [])
     ∙ ap (λ (b : Bool). has (tableNames before) (tableName u) || (b || false)) (same-sym (tableName u) (tableName t)))
     (met-more before t ts)
-    ∙ shuffle (has (tableNames before) (tableName u)) (sameName (tableName t) (tableName u)) (met before ts) (any (sameName (tableName t)) (map tableName ts))
-  where
-    shuffle : (a b c d : Bool) → ((a || (b || false)) || (c || d)) ≡ ((a || c) || (b || d))
-    shuffle true b c d = refl
-    shuffle false true true d = refl
-    shuffle false true false d = refl
-    shuffle false false c d = refl
+    ∙ shuffled (has (tableNames before) (tableName u)) (sameName (tableName t) (tableName u)) (met before ts) (any (sameName (tableName t)) (map tableName ts))
 
 tables-apart : (before : List Schema) (ts : List Table)
     → soundTables before ts ≡ ((all single ts && not (met before ts)) && not (repeats sameName (map tableName ts)))

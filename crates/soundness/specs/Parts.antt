@@ -7,7 +7,7 @@ use mathlib.Core.List.{List, [], _∷_, map}
 use Prim.Native.Nat.{ℕ, _+_, _-_, _*_, _≤_}
 use lib.Dec.{eqb, leb, ltb}
 use lib.ListN.{length, take}
-use Rattle.lists.specs.Lists.{All, all, repeats}
+use Rattle.lists.specs.Lists.{All, all, repeats, from}
 use Rattle.meaning.specs.Tokens.{isDigit, isSmall, isNameByte}
 use Rattle.meaning.specs.Limits.{most-items, most-marks, most-rows}
 use Rattle.meaning.specs.Names.{sameName}
@@ -34,6 +34,9 @@ use Rattle.soundness.specs.declared.statements.Numbered.{Numbered}
 -- a digit of base 38 for each byte of a name, and 0 for other bytes
 abbrev pub digitOf : ℕ → ℕ
 digitOf b = cond (isSmall b) (b - 97 + 1) (cond (isDigit b) (b - 48 + 27) (cond (eqb b 95) 37 0))
+
+unfoldable pub digitTable : List ℕ
+digitTable = map digitOf (from 0 256)
 
 abbrev pub packed : List ℕ → ℕ
 packed [] = 0
@@ -89,6 +92,22 @@ comparisonMarks c = markInSide (c .left) + markInSide (c .right)
 abbrev pub comparisonsOn : ℕ → ℕ → ℕ → List Comparison → Bool
 comparisonsOn columns m p [] = eqb p m
 comparisonsOn columns m p (c ∷ cs) = comparisonFits columns m c && comparisonsOn columns (m + comparisonMarks c) p cs
+
+-- the number of the next parameter, where m is the next before: 64 more, which is past all, where a part does not fit
+abbrev pub afterSide : ℕ → ℕ → Operand → ℕ
+afterSide columns m (Column i) = cond (ltb i columns) m (m + 64)
+afterSide columns m (Constant z) = m
+afterSide columns m (Parameter k) = cond (eqb k m) (m + 1) (m + 64)
+
+abbrev pub afterSides : ℕ → ℕ → Comparison → ℕ
+afterSides columns m c = afterSide columns (afterSide columns m (c .left)) (c .right)
+
+unfoldable pub afterComparison : ℕ → ℕ → Comparison → ℕ
+afterComparison columns m c = cond (ltb (c .op) 6) (afterSides columns m c) (afterSides columns m c + 64)
+
+abbrev pub afterAll : ℕ → ℕ → List Comparison → ℕ
+afterAll columns m [] = m
+afterAll columns m (c ∷ cs) = afterAll columns (afterComparison columns m c) cs
 
 -- a condition, and there are p parameters with its own
 unfoldable pub conditionOn : ℕ → ℕ → ℕ → Condition → Bool

@@ -4,10 +4,10 @@ use table::Condition;
 use table::Operand;
 use table::Statement;
 ghost use mathlib.Core.Path.{_≡_};
-ghost use Prim.Native.Nat.{_+_, _-_, _*_, _≤_, _<_};
-ghost use lib.ListN.{take};
-ghost use Rattle.statement.specs.Built.{markInSide};
-ghost use Rattle.soundness.specs.Parts.{depthAfter, stepsOn, sideFits, comparisonFits, comparisonMarks, comparisonsOn, conditionOn};
+ghost use mathlib.Core.Bool.{cond};
+ghost use Prim.Native.Nat.{_-_, _*_, _≤_, _<_};
+ghost use lib.ListN.{take, drop};
+ghost use Rattle.soundness.specs.Parts.{depthAfter, stepsOn, afterSide, afterComparison, afterAll, conditionOn};
 
 // How many operators there are: = <> < <= > >=
 const OPERATORS: u8 = 6;
@@ -50,70 +50,91 @@ fn steps_are_sound(steps: [u8; Condition::STEPS], n: usize) -> bool
     depth <= 1
 }
 
-// ---- comparisons
+// ---- comparisons, by the number of the next parameter: where one does not fit, it is more than there can be
 
-// Whether a side is a column of the table, a constant, or the parameter m.
-fn side_fits(o: Operand, columns: u8, m: u8) -> bool
-    ensures { λ r. ⌜ r ≡ sideFits columns m o ⌝ }
+// What is added where a part does not fit.
+const MISFIT: u32 = 64;
+
+// The next number behind a side: it is a column of the table, a constant, or the parameter m.
+fn after_side(o: Operand, columns: u8, m: u32) -> u32
+    requires { ⌜ m ≤ 8192 ⌝ }
+    ensures { λ r. ⌜ r ≡ afterSide columns m o ⌝ }
 {
     match o {
-        Operand::Column(i) => i < columns,
-        Operand::Constant(_) => true,
-        Operand::Parameter(k) => k == m,
+        Operand::Column(i) => { if i < columns { m } else { m + MISFIT } }
+        Operand::Constant(_) => m,
+        Operand::Parameter(k) => { if (k as u32) == m { m + 1 } else { m + MISFIT } }
     }
 }
 
-// How many parameters a side has.
-fn marks_in(o: Operand) -> u8
-    ensures { λ r. ⌜ r ≡ markInSide o ⌝ }
+// The next number behind a comparison.
+fn after_comparison(c: Comparison, columns: u8, m: u32) -> u32
+    requires { ⌜ m ≤ 4096 ⌝ }
+    ensures { λ r. ⌜ r ≡ afterComparison columns m c ⌝ }
 {
-    match o {
-        Operand::Column(_) => 0,
-        Operand::Constant(_) => 0,
-        Operand::Parameter(_) => 1,
+    let a = c.left;
+    let b = c.right;
+    let left = after_side(a, columns, m);
+    let right = after_side(b, columns, left);
+    if c.op < OPERATORS {
+        right
+    } else {
+        right + MISFIT
     }
 }
 
-// Whether a comparison fits, where m parameters stand before it.
-fn comparison_fits(c: Comparison, columns: u8, m: u8) -> bool
-    requires { ⌜ m < 255 ⌝ }
-    ensures { λ r. ⌜ r ≡ comparisonFits columns m c ⌝ }
+// The next number behind a comparison that is there.
+fn after_used(used: bool, c: Comparison, columns: u8, m: u32) -> u32
+    requires { ⌜ m ≤ 4096 ⌝ }
+    ensures { λ r. ⌜ r ≡ cond used (afterComparison columns m c) m ⌝ }
 {
-    let a = c.left;
-    let b = c.right;
-    (c.op < OPERATORS) & side_fits(a, columns, m) & side_fits(b, columns, m + marks_in(a))
+    if used {
+        after_comparison(c, columns, m)
+    } else {
+        m
+    }
 }
 
-// How many parameters a comparison has.
-fn marks_of(c: Comparison) -> u8
-    ensures { λ r. ⌜ (r ≡ comparisonMarks c) × (r ≤ 2) ⌝ }
+// The next number behind those of the first n comparisons that follow the third.
+fn after_others(
+    comparisons: [Comparison; Condition::COMPARISONS],
+    n: usize,
+    columns: u8,
+    m: u32,
+) -> u32
+    requires { ⌜ (n ≤ 8) × (m ≤ 1024) ⌝ }
+    ensures { λ r. ⌜ r ≡ afterAll columns m (drop 3 (take n comparisons)) ⌝ }
 {
-    let a = c.left;
-    let b = c.right;
-    marks_in(a) + marks_in(b)
+    let mut next = m;
+    let mut i = 3;
+    while i < n {
+        let c = comparisons[i];
+        next = after_comparison(c, columns, next);
+        i += 1;
+    }
+    next
 }
 
-// Whether the first n comparisons fit, where m parameters stand before them and there are so many in all.
-fn comparisons_are_sound(
+// The next number behind the first n comparisons. Most conditions have no more than three: these are read where they stand.
+fn after_comparisons(
     comparisons: [Comparison; Condition::COMPARISONS],
     n: usize,
     columns: u8,
     m: u8,
-    parameters: u8,
-) -> bool
+) -> u32
     requires { ⌜ (n ≤ 8) × (m ≤ 8) ⌝ }
-    ensures { λ r. ⌜ r ≡ comparisonsOn columns m parameters (take n comparisons) ⌝ }
+    ensures { λ r. ⌜ r ≡ afterAll columns m (take n comparisons) ⌝ }
 {
-    let mut ok = true;
-    let mut next = m;
-    let mut i = 0;
-    while i < n {
-        let c = comparisons[i];
-        ok = ok & comparison_fits(c, columns, next);
-        next += marks_of(c);
-        i += 1;
+    let first = comparisons[0];
+    let second = comparisons[1];
+    let third = comparisons[2];
+    let a = after_used(0 < n, first, columns, m as u32);
+    let b = after_used(1 < n, second, columns, a);
+    let c = after_used(2 < n, third, columns, b);
+    if n <= 3 {
+        return c;
     }
-    ok & (parameters == next)
+    after_others(comparisons, n, columns, c)
 }
 
 // Whether a condition is sound, where m parameters stand before it and there are so many in all.
@@ -125,9 +146,12 @@ pub fn is_sound(c: Condition, columns: u8, m: u8, parameters: u8) -> bool
     if Condition::COMPARISONS < n {
         return false;
     }
+    if n == 0 {
+        return ((parameters as u16) <= Statement::MARKS) & (parameters == m);
+    }
     let steps = c.steps;
     let comparisons = c.comparisons;
     ((parameters as u16) <= Statement::MARKS)
         & steps_are_sound(steps, n)
-        & comparisons_are_sound(comparisons, n, columns, m, parameters)
+        & ((parameters as u32) == after_comparisons(comparisons, n, columns, m))
 }

@@ -22,19 +22,22 @@ pub fn tables_are_sound(tables: [Table; Table::TABLES], used: u8) -> bool
     ensures { λ r. ⌜ r ≡ tablesSound tables used ⌝ }
 {
     let n = least(used as usize, Table::TABLES);
+    let digits = names::digits();
     let mut codes = [0u64; Table::TABLES];
+    let mut same = false;
     let mut i: usize = 0;
     while i < n {
         let t = tables[i];
         let name = t.name;
-        let c = names::code(name);
-        if (c == 0) | !names::table_fits(t) {
+        let c = names::code(name, &digits);
+        if (c == 0) | !names::table_fits(t, &digits) {
             return false;
         }
+        same = same | names::occurs(c, &codes, i);
         codes[i] = c;
         i += 1;
     }
-    names::are_distinct(codes, n)
+    !same
 }
 
 // Whether the first n questions are sound beside the first `used` tables.

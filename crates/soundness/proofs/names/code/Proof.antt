@@ -19,17 +19,20 @@ is-small-requires : tie.Need-is-small-requires
 is-small-requires c κs = search needs
 
 packed-requires : tie.Need-packed-requires
-packed-requires c κs = let n = c .before .before .before .before .args .name in leb-true (n .len) 12 (and-left (leb (n .len) 12) _ (c .if1 .taken))
+packed-requires c κs =
+    let s = c .before .before .before .before .before in
+    let n = s .args .name in
+    (leb-true (n .len) 12 (and-left (leb (n .len) 12) _ (c .if1 .taken)), s .pre)
 
 returns : tie.Need-returns
 returns c =
-    let n = c .before .before .before .before .before .args .name in
+    let n = c .before .before .before .before .before .before .args .name in
     c .packed .ensures
     ∙ code-packed n (sym (ap (λ (b : Bool). leb (n .len) 12 && b) (c .before .before .is-small .ensures)) ∙ c .before .if1 .taken)
 
 returns-2 : tie.Need-returns-2
 returns-2 c =
-    let n = c .before .before .before .before .args .name in
+    let n = c .before .before .before .before .before .args .name in
     code-none n (sym (ap (λ (b : Bool). leb (n .len) 12 && b) (c .before .is-small .ensures)) ∙ c .if1 .left)
 
 pub code-spec : {M : Type 1} → statement M

@@ -9,10 +9,10 @@ use Rattle.soundness.proofs.names.packed.Statement.{statement}
 use Rattle.soundness.proofs.names.packed.Tie as tie
 
 abbrev Inv-loop : tie.InvT-loop
-Inv-loop n bytes code₀ i₀ code i = (n ≤ 12) × (length bytes ≡ 12) × Packing n bytes code i
+Inv-loop n digits bytes code₀ i₀ code i = (n ≤ 12) × (length bytes ≡ 12) × Packing n bytes code i
 
 abbrev μ-loop : tie.MeasureT-loop
-μ-loop n bytes code₀ i₀ code i = i
+μ-loop n digits bytes code₀ i₀ code i = i
 
 loop-holds : tie.Need-loop-holds Inv-loop μ-loop
 loop-holds c = (omega arith, search needs, packing-start _ _)
@@ -24,7 +24,7 @@ array-read-digit : tie.Need-array-read-digit Inv-loop μ-loop
 array-read-digit c = omega (arith, c .before .loop .inv .2 .within)
 
 digit-requires : tie.Need-digit-requires Inv-loop μ-loop
-digit-requires c κs = tt
+digit-requires c κs = c .before .before .before .pre .1
 
 returns : tie.Need-returns Inv-loop μ-loop
 returns c =
@@ -34,7 +34,7 @@ returns c =
 mul-code : tie.Need-mul-code Inv-loop μ-loop
 mul-code c =
     let l = c .before .before .before .loop in
-    omega (arith, l .inv .2 .small, power-small (c .before .before .before .before .args .n - l .i) (omega (arith, l .inv .2 .within)))
+    omega (arith, l .inv .2 .small, power-small (c .before .before .before .before .before .args .n - l .i) (omega (arith, l .inv .2 .within)))
 
 cast-code : tie.Need-cast-code Inv-loop μ-loop
 cast-code c = search needs
@@ -42,7 +42,7 @@ cast-code c = search needs
 add-code : tie.Need-add-code Inv-loop μ-loop
 add-code c =
     let l = c .before .before .before .loop in
-    omega (arith, l .inv .2 .small, power-small (c .before .before .before .before .args .n - l .i) (omega (arith, l .inv .2 .within)), c .before .digit .ensures, digit-below (getD (c .before .before .before .before .args .t1) (l .i - 1) 0))
+    omega (arith, l .inv .2 .small, power-small (c .before .before .before .before .before .args .n - l .i) (omega (arith, l .inv .2 .within)), c .before .digit .ensures, digit-below (getD (c .before .before .before .before .before .args .t1) (l .i - 1) 0))
 
 loop-less : tie.Need-loop-less Inv-loop μ-loop
 loop-less c = omega arith

@@ -13,16 +13,19 @@ cast-n : tie.Need-cast-n
 cast-n c = search needs
 
 columns-are-sound-requires : tie.Need-columns-are-sound-requires
-columns-are-sound-requires c κs = let t = c .before .before .before .args .t in leb-true (t .count) 8 (and-right (leb 1 (t .count)) _ (c .before .if1 .taken))
+columns-are-sound-requires c κs =
+    let s = c .before .before .before .before in
+    let t = s .args .t in
+    (leb-true (t .count) 8 (and-right (leb 1 (t .count)) _ (c .before .if1 .taken)), s .pre)
 
 returns : tie.Need-returns
 returns c =
-    let t = c .before .before .before .before .before .before .args .t in
+    let t = c .before .before .before .before .before .before .before .args .t in
     ap (λ (b : Bool). b && (leb 1 (t .capacity) && leb (t .capacity) 512)) (c .before .before .columns-are-sound .ensures)
     ∙ table-yes t (c .before .before .before .before .if1 .taken)
 
 returns-2 : tie.Need-returns-2
-returns-2 c = table-no (c .before .before .args .t) (c .if1 .left)
+returns-2 c = table-no (c .before .before .before .args .t) (c .if1 .left)
 
 pub table-fits-spec : {M : Type 1} → statement M
 table-fits-spec = tie.close (tie.spec cast-n columns-are-sound-requires returns returns-2)

@@ -1,0 +1,148 @@
+-- Comparisons by the number of the next parameter alone: past all numbers where one does not fit. Assumes nothing.
+use mathlib.Core.Path.{_≡_, refl, sym, ap, _∙_}
+use mathlib.Core.Bool.{Bool, true, false, cond, _&&_}
+use mathlib.Core.List.{List, [], _∷_}
+use Prim.Native.Nat.{ℕ, _+_, _*_, _≤_, _<_}
+use native.Mathlib.Omega.{arith}
+use borrow.Author.Tests.{leb-true, ltb-true, ltb-false, ne-eqb}
+use lib.Dec.{eqb, leb, ltb}
+use lib.ListN.{length, getD, take}
+use Rattle.lists.proofs.Bools.{and-left, and-right, clash}
+use Rattle.statement.specs.Built.{markInSide}
+use Rattle.statement.specs.declared.Operand.{Operand}
+use Rattle.statement.specs.declared.Operand.the-variants.{Column, Constant, Parameter}
+use Rattle.statement.specs.declared.Comparison.{Comparison}
+use Rattle.statement.proofs.Walks.{rest, rest-cons, rest-none}
+use Rattle.soundness.specs.Parts.{sideFits, comparisonFits, comparisonMarks, comparisonsOn, afterSide, afterSides, afterComparison, afterAll}
+
+cond-up : (b : Bool) (m x y : ℕ) → m ≤ x → m ≤ y → m ≤ cond b x y
+cond-up true m x y h k = h
+cond-up false m x y h k = k
+
+cond-top : (b : Bool) (m x y : ℕ) → x ≤ m → y ≤ m → cond b x y ≤ m
+cond-top true m x y h k = h
+cond-top false m x y h k = k
+
+module _ (columns : ℕ) where
+  -- ---- sides
+
+  side-up : (m : ℕ) (o : Operand) → m ≤ afterSide columns m o
+  side-up m (Column i) = cond-up (ltb i columns) m m (m + 64) (omega arith) (omega arith)
+  side-up m (Constant z) = omega arith
+  side-up m (Parameter k) = cond-up (eqb k m) m (m + 1) (m + 64) (omega arith) (omega arith)
+
+  pub side-top : (m : ℕ) (o : Operand) → afterSide columns m o ≤ m + 64
+  side-top m (Column i) = cond-top (ltb i columns) (m + 64) m (m + 64) (omega arith) (omega arith)
+  side-top m (Constant z) = omega arith
+  side-top m (Parameter k) = cond-top (eqb k m) (m + 64) (m + 1) (m + 64) (omega arith) (omega arith)
+
+  side-yes : (m : ℕ) (o : Operand) → sideFits columns m o ≡ true → afterSide columns m o ≡ m + markInSide o
+  side-yes m (Column i) h = let e : m ≡ m + 0 = omega arith in ap (λ (b : Bool). cond b m (m + 64)) h ∙ e
+  side-yes m (Constant z) h = let e : m ≡ m + 0 = omega arith in e
+  side-yes m (Parameter k) h = ap (λ (b : Bool). cond b (m + 1) (m + 64)) h
+
+  side-no : (m : ℕ) (o : Operand) → sideFits columns m o ≡ false → afterSide columns m o ≡ m + 64
+  side-no m (Column i) h = ap (λ (b : Bool). cond b m (m + 64)) h
+  side-no m (Constant z) h = clash refl h
+  side-no m (Parameter k) h = ap (λ (b : Bool). cond b (m + 1) (m + 64)) h
+
+  -- ---- a comparison
+
+  sides-up : (m : ℕ) (c : Comparison) → m ≤ afterSides columns m c
+  sides-up m c = omega (arith, side-up m (c .left), side-up (afterSide columns m (c .left)) (c .right))
+
+  comparison-up : (m : ℕ) (c : Comparison) → m ≤ afterComparison columns m c
+  unfolding afterComparison
+  comparison-up m c = cond-up (ltb (c .op) 6) m (afterSides columns m c) (afterSides columns m c + 64) (sides-up m c) (omega (arith, sides-up m c))
+
+  pub comparison-top : (m : ℕ) (c : Comparison) → afterComparison columns m c ≤ m + 192
+  unfolding afterComparison
+  comparison-top m c =
+      let t : afterSides columns m c ≤ m + 128 = omega (arith, side-top m (c .left), side-top (afterSide columns m (c .left)) (c .right)) in
+      cond-top (ltb (c .op) 6) (m + 192) (afterSides columns m c) (afterSides columns m c + 64) (omega arith) (omega arith)
+
+  comparison-yes : (m : ℕ) (c : Comparison) → comparisonFits columns m c ≡ true → afterComparison columns m c ≡ m + comparisonMarks c
+  unfolding afterComparison
+  comparison-yes m c h =
+      let l : Bool = sideFits columns m (c .left) in
+      let both : (ltb (c .op) 6 && l) ≡ true = and-left (ltb (c .op) 6 && l) _ h in
+      let e : afterSide columns m (c .left) ≡ m + markInSide (c .left) = side-yes m (c .left) (and-right (ltb (c .op) 6) l both) in
+      let f : afterSides columns m c ≡ (m + markInSide (c .left)) + markInSide (c .right) =
+      ap (λ (k : ℕ). afterSide columns k (c .right)) e ∙ side-yes (m + markInSide (c .left)) (c .right) (and-right (ltb (c .op) 6 && l) _ h) in
+      let g : afterSides columns m c ≡ m + comparisonMarks c = omega arith in
+      ap (λ (b : Bool). cond b (afterSides columns m c) (afterSides columns m c + 64)) (and-left (ltb (c .op) 6) l both) ∙ g
+
+  comparison-no : (m : ℕ) (c : Comparison) → comparisonFits columns m c ≡ false → m + 64 ≤ afterComparison columns m c
+  unfolding afterComparison
+  comparison-no m c h = go (ltb (c .op) 6) (sideFits columns m (c .left)) (sideFits columns (m + markInSide (c .left)) (c .right)) refl refl h
+    where
+      go : (o l r : Bool) → sideFits columns m (c .left) ≡ l → sideFits columns (m + markInSide (c .left)) (c .right) ≡ r → ((o && l) && r) ≡ false
+          → m + 64 ≤ cond o (afterSides columns m c) (afterSides columns m c + 64)
+      go false l r e f q = omega (arith, sides-up m c)
+      go true false r e f q = omega (arith, side-no m (c .left) e, side-up (afterSide columns m (c .left)) (c .right))
+      go true true false e f q =
+          let t : afterSides columns m c ≡ (m + markInSide (c .left)) + 64 =
+          ap (λ (k : ℕ). afterSide columns k (c .right)) (side-yes m (c .left) e) ∙ side-no (m + markInSide (c .left)) (c .right) f in
+          omega arith
+      go true true true e f q = clash refl q
+
+  -- ---- comparisons
+
+  all-up : (m : ℕ) (cs : List Comparison) → m ≤ afterAll columns m cs
+  all-up m [] = omega arith
+  all-up m (c ∷ cs) = omega (arith, comparison-up m c, all-up (afterComparison columns m c) cs)
+
+  numbered : (m p : ℕ) (cs : List Comparison) → p < 64 → eqb p (afterAll columns m cs) ≡ comparisonsOn columns m p cs
+  numbered m p [] h = refl
+  numbered m p (c ∷ cs) h = go (comparisonFits columns m c) refl (numbered (m + comparisonMarks c) p cs h)
+    where
+      go : (b : Bool) → comparisonFits columns m c ≡ b → eqb p (afterAll columns (m + comparisonMarks c) cs) ≡ comparisonsOn columns (m + comparisonMarks c) p cs
+          → eqb p (afterAll columns (afterComparison columns m c) cs) ≡ (comparisonFits columns m c && comparisonsOn columns (m + comparisonMarks c) p cs)
+      go true e i =
+          ap (λ (k : ℕ). eqb p (afterAll columns k cs)) (comparison-yes m c e) ∙ i
+          ∙ ap (λ (b : Bool). b && comparisonsOn columns (m + comparisonMarks c) p cs) (sym e)
+      go false e i =
+          ne-eqb p (afterAll columns (afterComparison columns m c) cs) (λ q. omega (arith, comparison-no m c e, all-up (afterComparison columns m c) cs))
+          ∙ ap (λ (b : Bool). b && comparisonsOn columns (m + comparisonMarks c) p cs) (sym e)
+
+  -- the number tells, where it is one of at most eight
+  pub numbered-few : (m p : ℕ) (cs : List Comparison) (s : Bool)
+      → ((leb p 8 && s) && eqb p (afterAll columns m cs)) ≡ ((leb p 8 && s) && comparisonsOn columns m p cs)
+  numbered-few m p cs s = go (leb p 8) refl
+    where
+      go : (b : Bool) → leb p 8 ≡ b → ((b && s) && eqb p (afterAll columns m cs)) ≡ ((b && s) && comparisonsOn columns m p cs)
+      go true e = ap (λ (b : Bool). s && b) (numbered m p cs (omega (arith, leb-true p 8 e)))
+      go false e = refl
+
+  -- ---- one that is there, or is not
+
+  pub used-top : (b : Bool) (m r : ℕ) (c : Comparison) → r ≡ cond b (afterComparison columns m c) m → r ≤ m + 192
+  used-top b m r c e = omega (arith, cond-top b (m + 192) (afterComparison columns m c) m (comparison-top m c) (omega arith))
+
+  module _ (n : ℕ) (cs : List Comparison) where
+    -- ---- the loop: those left are still to be numbered
+
+    pub record Numbering (m next i : ℕ) : Type 0 where
+      pub bound : next ≤ m + 192 * i
+      pub left : afterAll columns next (rest n i cs) ≡ afterAll columns m (rest n 3 cs)
+
+    pub numbering-start : (m : ℕ) → Numbering m m 3
+    numbering-start m = record { bound = omega arith; left = refl }
+
+    pub numbering-more : (m next i : ℕ) (d : Comparison) (r : ℕ) → n ≤ length cs → i < n → r ≡ afterComparison columns next (getD cs i d) → Numbering m next i → Numbering m r (i + 1)
+    numbering-more m next i d r l k e N = record {
+      bound = omega (arith, comparison-top next (getD cs i d), N .bound);
+      left = ap (λ (j : ℕ). afterAll columns j (rest n (i + 1) cs)) e ∙ ap (afterAll columns next) (sym (rest-cons n i cs d l k)) ∙ N .left;
+    }
+
+    pub numbering-end : (m next i : ℕ) → n ≤ i → Numbering m next i → next ≡ afterAll columns m (rest n 3 cs)
+    numbering-end m next i h N = ap (afterAll columns next) (sym (rest-none n i cs h)) ∙ N .left
+
+    pub used : (m i : ℕ) (d : Comparison) (r : ℕ) → n ≤ length cs → r ≡ cond (ltb i n) (afterComparison columns m (getD cs i d)) m
+        → afterAll columns r (rest n (i + 1) cs) ≡ afterAll columns m (rest n i cs)
+    used m i d r l e = ap (λ (k : ℕ). afterAll columns k (rest n (i + 1) cs)) e ∙ go (ltb i n) refl
+      where
+        go : (b : Bool) → ltb i n ≡ b → afterAll columns (cond b (afterComparison columns m (getD cs i d)) m) (rest n (i + 1) cs) ≡ afterAll columns m (rest n i cs)
+        go true q = ap (afterAll columns m) (sym (rest-cons n i cs d l (ltb-true i n q)))
+        go false q =
+            ap (afterAll columns m) (rest-none n (i + 1) cs (omega (arith, ltb-false i n q)) ∙ sym (rest-none n i cs (ltb-false i n q)))

@@ -1,0 +1,52 @@
+-- `after_comparison` meets its contract. Assumes nothing.
+use borrow.Author.Needs.{needs}
+use mathlib.Core.Path.{_≡_, sym, ap, _∙_}
+use mathlib.Core.Bool.{Bool, cond}
+use Prim.Native.Nat.{ℕ, _+_}
+use native.Mathlib.Omega.{arith}
+use borrow.Author.Tests.{lt-ltb, le-ltb}
+use Rattle.soundness.specs.Parts.{afterSide, afterSides, afterComparison}
+use Rattle.soundness.proofs.Numbering.{side-top}
+use Rattle.soundness.proofs.conditions.after_comparison.Statement.{statement}
+use Rattle.soundness.proofs.conditions.after_comparison.Tie as tie
+
+after-side-requires : tie.Need-after-side-requires
+after-side-requires c κs = search needs
+
+after-side-requires-2 : tie.Need-after-side-requires-2
+after-side-requires-2 c κs = let a = c .before .args in omega (arith, c .after-side .ensures, side-top (a .columns) (a .m) (a .c .left))
+
+add-result : tie.Need-add-result
+add-result c =
+    let a = c .before .before .before .before .args in
+    let r = c .before .before .before .after-side .result in
+    omega (
+      arith,
+      c .before .before .before .after-side .ensures,
+      c .before .before .after-side2 .ensures,
+      side-top (a .columns) (a .m) (a .c .left),
+      side-top (a .columns) r (a .c .right),
+    )
+
+-- both sides
+abbrev behind : (c : tie.After-after-side2) → ℕ
+behind c = let a = c .before .before .args in afterSides (a .columns) (a .m) (a .c)
+
+sides : (c : tie.After-after-side2) → c .after-side2 .result ≡ behind c
+sides c = let a = c .before .before .args in c .after-side2 .ensures ∙ ap (λ (k : ℕ). afterSide (a .columns) k (a .c .right)) (c .before .after-side .ensures)
+
+returns : tie.Need-returns
+unfolding afterComparison
+returns c =
+    let t = c .before .before in
+    sides t ∙ ap (λ (b : Bool). cond b (behind t) (behind t + 64)) (sym (lt-ltb _ _ (c .if1 .taken)))
+
+returns-2 : tie.Need-returns-2
+unfolding afterComparison
+returns-2 c =
+    let t = c .before .before in
+    ap (λ (k : ℕ). k + 64) (sides t) ∙ ap (λ (b : Bool). cond b (behind t) (behind t + 64)) (sym (le-ltb _ _ (c .if1 .left)))
+
+pub after-comparison-spec : {M : Type 1} → statement M
+after-comparison-spec =
+    tie.close (tie.spec after-side-requires after-side-requires-2 add-result returns returns-2)
