@@ -80,39 +80,7 @@ fn following(at: usize, calls: usize) -> usize {
     0
 }
 
-// The state after a call, or the one before it where that is kept.
-fn step(
-    state: State,
-    at: usize,
-    letter: u8,
-    input: &[u8],
-    plan: &[usize; PLAN],
-    values: &[i32],
-    cells: &mut [i32],
-    memory: &mut [u8],
-    answer: &mut [u8],
-    counters: &mut [u64; COUNTERS],
-) -> State {
-    let sum = letter == script::CHECK;
-    let after = calls::make_call(
-        state,
-        at,
-        sum,
-        input,
-        plan,
-        values,
-        cells,
-        memory,
-        answer,
-        counters,
-    );
-    if letter == script::KEEP {
-        return state;
-    }
-    after
-}
-
-// So many calls, round the list.
+// So many calls, round the list, each on the state that the last one left.
 fn run_calls(
     mut state: State,
     letter: u8,
@@ -126,13 +94,14 @@ fn run_calls(
     answer: &mut [u8],
     counters: &mut [u64; COUNTERS],
 ) -> State {
+    let sum = letter == script::CHECK;
     let mut at: usize = 0;
     let mut left = turns;
     while 0 < left {
-        state = step(
+        state = calls::make_call(
             state,
             at,
-            letter,
+            sum,
             input,
             plan,
             values,
@@ -145,6 +114,39 @@ fn run_calls(
         left -= 1;
     }
     state
+}
+
+// So many calls, round the list, each on this state.
+fn run_kept(
+    state: State,
+    turns: usize,
+    calls: usize,
+    input: &[u8],
+    plan: &[usize; PLAN],
+    values: &[i32],
+    cells: &mut [i32],
+    memory: &mut [u8],
+    answer: &mut [u8],
+    counters: &mut [u64; COUNTERS],
+) {
+    let mut at: usize = 0;
+    let mut left = turns;
+    while 0 < left {
+        calls::make_call(
+            state,
+            at,
+            false,
+            input,
+            plan,
+            values,
+            cells,
+            memory,
+            answer,
+            counters,
+        );
+        at = following(at, calls);
+        left -= 1;
+    }
 }
 
 fn run(
@@ -177,6 +179,35 @@ fn run(
     );
     print_counters(counters, letter == script::CHECK);
     state
+}
+
+fn keep(
+    s: Bench,
+    turns: usize,
+    input: &[u8],
+    plan: &[usize; PLAN],
+    values: &[i32],
+    cells: &mut [i32],
+    memory: &mut [u8],
+    answer: &mut [u8],
+) {
+    if s.calls == 0 {
+        return;
+    }
+    let mut counters = [0u64; COUNTERS];
+    run_kept(
+        s.state,
+        turns,
+        s.calls,
+        input,
+        plan,
+        values,
+        cells,
+        memory,
+        answer,
+        &mut counters,
+    );
+    print_counters(counters, false);
 }
 
 // ---- a line
@@ -239,7 +270,11 @@ fn run_line(
             s.used = 0;
         }
         script::TIME => print_time(),
-        script::RUN | script::KEEP | script::CHECK => {
+        script::KEEP => {
+            let word = script::read_count(line);
+            keep(s, word.number, input, plan, values, cells, memory, answer);
+        }
+        script::RUN | script::CHECK => {
             let word = script::read_count(line);
             let state = run(
                 s,

@@ -6,18 +6,18 @@ use Rattle.bench.proofs.run_calls.Statement.{statement}
 use Rattle.bench.proofs.run_calls.Tie as tie
 
 abbrev Inv-loop : tie.InvT-loop
-Inv-loop state₀ letter turns calls input plan values cells₀ memory₀ answer₀ counters₀ at₀ left₀ state cells memory answer counters at left =
+Inv-loop state₀ letter turns calls input plan values cells₀ memory₀ answer₀ counters₀ sum at₀ left₀ state cells memory answer counters at left = 
     (length cells ≡ length cells₀) × (length memory ≡ length memory₀) × (length answer ≡ length answer₀)
 
 abbrev μ-loop : tie.MeasureT-loop
-μ-loop state₀ letter turns calls input plan values cells₀ memory₀ answer₀ counters₀ at₀ left₀ state cells memory answer counters at left =
+μ-loop state₀ letter turns calls input plan values cells₀ memory₀ answer₀ counters₀ sum at₀ left₀ state cells memory answer counters at left = 
     left
 
 loop-holds : tie.Need-loop-holds Inv-loop μ-loop
 loop-holds c = search needs
 
-step-requires : tie.Need-step-requires Inv-loop μ-loop
-step-requires c κs = search needs
+make-call-requires : tie.Need-make-call-requires Inv-loop μ-loop
+make-call-requires c κs = search needs
 
 following-requires : tie.Need-following-requires Inv-loop μ-loop
 following-requires c κs = search needs
@@ -50,7 +50,7 @@ run-calls-spec =
     Inv-loop
     μ-loop
     loop-holds
-    step-requires
+    make-call-requires
     following-requires
     sub-left
     loop-less
