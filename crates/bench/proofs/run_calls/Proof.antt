@@ -6,11 +6,11 @@ use Rattle.bench.proofs.run_calls.Statement.{statement}
 use Rattle.bench.proofs.run_calls.Tie as tie
 
 abbrev Inv-loop : tie.InvT-loop
-Inv-loop state₀ letter turns calls input plan values cells₀ memory₀ answer₀ counters₀ sum at₀ left₀ state cells memory answer counters at left = 
+Inv-loop state₀ letter turns calls input plan values cells₀ memory₀ answer₀ counters₀ sum at₀ left₀ state cells memory answer counters at left =
     (length cells ≡ length cells₀) × (length memory ≡ length memory₀) × (length answer ≡ length answer₀)
 
 abbrev μ-loop : tie.MeasureT-loop
-μ-loop state₀ letter turns calls input plan values cells₀ memory₀ answer₀ counters₀ sum at₀ left₀ state cells memory answer counters at left = 
+μ-loop state₀ letter turns calls input plan values cells₀ memory₀ answer₀ counters₀ sum at₀ left₀ state cells memory answer counters at left =
     left
 
 loop-holds : tie.Need-loop-holds Inv-loop μ-loop

@@ -6,11 +6,11 @@ use Rattle.bench.proofs.run_kept.Statement.{statement}
 use Rattle.bench.proofs.run_kept.Tie as tie
 
 abbrev Inv-loop : tie.InvT-loop
-Inv-loop state turns calls input plan values cells₀ memory₀ answer₀ counters₀ at₀ left₀ cells memory answer counters at left = 
+Inv-loop state turns calls input plan values cells₀ memory₀ answer₀ counters₀ at₀ left₀ cells memory answer counters at left =
     (length cells ≡ length cells₀) × (length memory ≡ length memory₀) × (length answer ≡ length answer₀)
 
 abbrev μ-loop : tie.MeasureT-loop
-μ-loop state turns calls input plan values cells₀ memory₀ answer₀ counters₀ at₀ left₀ cells memory answer counters at left = 
+μ-loop state turns calls input plan values cells₀ memory₀ answer₀ counters₀ at₀ left₀ cells memory answer counters at left =
     left
 
 loop-holds : tie.Need-loop-holds Inv-loop μ-loop
