@@ -139,6 +139,14 @@ fn flush(state: State, cells: &[i32], memory: &[u8], counters: &mut [u64; COUNTE
     flushed.state
 }
 
+// Row i of the last answer.
+fn show(state: State, i: usize, answer: &[u8], counters: &mut [u64; COUNTERS]) -> State {
+    count_refusal(counters, table::row_refusal(answer, i));
+    let row = table::row(answer, i);
+    count(counters, BYTES, row.len() as u64);
+    state
+}
+
 fn test(state: State, counters: &mut [u64; COUNTERS]) -> State {
     if !state.is_sound() {
         count_refusal(counters, 2);
@@ -146,7 +154,7 @@ fn test(state: State, counters: &mut [u64; COUNTERS]) -> State {
     state
 }
 
-// A call that is neither a question nor an update.
+// A call that is no question, update or row.
 fn make_other(
     state: State,
     letter: usize,
@@ -199,6 +207,9 @@ pub fn make_call(
     }
     if letter == (script::UPDATE as usize) {
         return update(state, number, given, cells, memory, counters);
+    }
+    if letter == (script::SHOW as usize) {
+        return show(state, number, answer, counters);
     }
     let text = text_part(input, from, to);
     make_other(state, letter, number, text, cells, memory, counters)

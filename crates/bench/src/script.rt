@@ -1,4 +1,4 @@
-// A line of a script read into a call of the list. A call is four numbers of the plan: its letter, a number (a statement's, or the slots of an opening), and from where up
+// A line of a script read into a call of the list. A call is four numbers of the plan: its letter, a number (a statement's or a row's, or the slots of an opening), and from where up
 // to where its values stand among the values, or its text in the script.
 ghost use Prim.Native.Nat.{_≤_};
 ghost use lib.ListN.{length};
@@ -19,6 +19,8 @@ pub const ASK: u8 = b'Q';
 pub const UPDATE: u8 = b'U';
 
 pub const FLUSH: u8 = b'F';
+
+pub const SHOW: u8 = b'W';
 
 pub const SOUND: u8 = b'S';
 
@@ -42,7 +44,7 @@ pub struct Word {
 
 // Whether a line with this letter is a call with numbers.
 pub fn is_call(letter: u8) -> bool {
-    let numbered = (letter == ASK) | (letter == UPDATE) | (letter == OPEN);
+    let numbered = (letter == ASK) | (letter == UPDATE) | (letter == OPEN) | (letter == SHOW);
     numbered | (letter == FLUSH) | (letter == SOUND) | (letter == NOTHING)
 }
 

@@ -1,6 +1,7 @@
 //! An independent reference of the table store, made from document 01 alone, with a generator of random scripts and
 //! a comparison with a program. It shares no code with the project.
 
+mod bench;
 mod check;
 mod compare;
 mod front;
@@ -18,6 +19,7 @@ const USAGE: &str = "usage: reference desk | calls                     (standard
        reference check                            (document 01's examples)
        reference script MODE SEED [LINES]         (prints the script of a seed)
        reference compare MODE PROGRAM FIRST COUNT [LINES]
+       reference bench FILE                       (the calls of a script of bench/, timed, without assertions)
 MODE is desk or calls";
 
 fn mode(word: &str) -> Option<Mode> {
@@ -61,6 +63,7 @@ fn act(words: &[&str]) -> Option<bool> {
             }
             Some(true)
         }
+        ["bench", file] => Some(bench::bench(file)),
         ["compare", word, program, first, count, ..] => {
             Some(compare::compare(mode(word)?, program, first.parse().ok()?, count.parse().ok()?, length(5)?))
         }
