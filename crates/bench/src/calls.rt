@@ -1,7 +1,6 @@
 // The calls of a list, made and counted.
 use crate::script;
-use crate::script::CALLS;
-use crate::script::PLAN;
+use crate::script::Call;
 use cache::State;
 use slots::SlotList;
 
@@ -154,63 +153,32 @@ fn test(state: State, counters: &mut [u64; COUNTERS]) -> State {
     state
 }
 
-// A call that is no question, update or row.
-fn make_other(
-    state: State,
-    letter: usize,
-    number: usize,
-    text: &[u8],
-    cells: &mut [i32],
-    memory: &mut [u8],
-    counters: &mut [u64; COUNTERS],
-) -> State {
-    if letter == (script::OPEN as usize) {
-        return open(number, cells, memory, counters);
-    }
-    if letter == (script::ADD as usize) {
-        return add(state, text, cells, memory, counters);
-    }
-    if letter == (script::FLUSH as usize) {
-        return flush(state, cells, memory, counters);
-    }
-    if letter == (script::SOUND as usize) {
-        return test(state, counters);
-    }
-    state
-}
-
-// Call `at` of the plan: the state after it.
+// A call: the state after it.
 pub fn make_call(
     state: State,
-    at: usize,
+    call: Call,
     sum: bool,
     input: &[u8],
-    plan: &[usize; PLAN],
     values: &[i32],
     cells: &mut [i32],
     memory: &mut [u8],
     answer: &mut [u8],
     counters: &mut [u64; COUNTERS],
 ) -> State {
-    if CALLS <= at {
-        return state;
-    }
     count(counters, CALLED, 1);
-    let p = at * 4;
-    let letter = plan[p];
-    let number = plan[p + 1];
-    let from = plan[p + 2];
-    let to = plan[p + 3];
-    let given = values_part(values, from, to);
-    if letter == (script::ASK as usize) {
-        return ask(state, number, given, sum, cells, memory, answer, counters);
+    let n = call.number;
+    let letter = call.letter;
+    let given = values_part(values, call.from, call.to);
+    let text = text_part(input, call.from, call.to);
+    match letter {
+        script::ASK => return ask(state, n, given, sum, cells, memory, answer, counters),
+        script::UPDATE => return update(state, n, given, cells, memory, counters),
+        script::SHOW => return show(state, n, answer, counters),
+        script::ADD => return add(state, text, cells, memory, counters),
+        script::OPEN => return open(n, cells, memory, counters),
+        script::FLUSH => return flush(state, cells, memory, counters),
+        script::SOUND => return test(state, counters),
+        _ => {}
     }
-    if letter == (script::UPDATE as usize) {
-        return update(state, number, given, cells, memory, counters);
-    }
-    if letter == (script::SHOW as usize) {
-        return show(state, number, answer, counters);
-    }
-    let text = text_part(input, from, to);
-    make_other(state, letter, number, text, cells, memory, counters)
+    state
 }

@@ -8,6 +8,7 @@ mod script; // a line read into a call of the list
 
 use cache::State;
 use calls::COUNTERS;
+use script::Call;
 use script::PLAN;
 use slots::SlotList;
 use table::Query;
@@ -83,7 +84,7 @@ fn following(at: usize, calls: usize) -> usize {
 // So many calls, round the list, each on the state that the last one left.
 fn run_calls(
     mut state: State,
-    letter: u8,
+    letter: usize,
     turns: usize,
     calls: usize,
     input: &[u8],
@@ -98,12 +99,12 @@ fn run_calls(
     let mut at: usize = 0;
     let mut left = turns;
     while 0 < left {
+        let call = script::call_at(plan, at);
         state = calls::make_call(
             state,
-            at,
+            call,
             sum,
             input,
-            plan,
             values,
             cells,
             memory,
@@ -132,12 +133,12 @@ fn run_kept(
     let mut at: usize = 0;
     let mut left = turns;
     while 0 < left {
+        let call = script::call_at(plan, at);
         calls::make_call(
             state,
-            at,
+            call,
             false,
             input,
-            plan,
             values,
             cells,
             memory,
@@ -151,7 +152,7 @@ fn run_kept(
 
 fn run(
     s: Bench,
-    letter: u8,
+    letter: usize,
     turns: usize,
     input: &[u8],
     plan: &[usize; PLAN],
@@ -212,39 +213,68 @@ fn keep(
 
 // ---- a line
 
-// The list with the added text of the line from `start` up to `end`.
-fn with_text(mut s: Bench, start: usize, end: usize, plan: &mut [usize; PLAN]) -> Bench {
-    script::put_call(
-        plan,
-        s.calls,
-        script::ADD,
-        0,
-        script::text_start(start, end),
-        end,
-    );
+// The list with a call more, which uses the values up to `used`.
+fn with_call(mut s: Bench, plan: &mut [usize; PLAN], call: Call, used: usize) -> Bench {
+    script::put_call(plan, s.calls, call);
     s.calls = script::one_more(s.calls);
+    s.used = used;
     s
 }
 
-// The list with the call of a line.
-fn with_call(mut s: Bench, line: &[u8], plan: &mut [usize; PLAN], values: &mut [i32]) -> Bench {
+// The call of a line that adds, from `start` up to `end`.
+fn text_call(start: usize, end: usize) -> Call {
+    Call {
+        letter: script::ADD,
+        number: 0,
+        from: script::text_start(start, end),
+        to: end,
+    }
+}
+
+// The call of a line with numbers, behind so many values.
+fn number_call(line: &[u8], values: &mut [i32], used: usize) -> Call {
     let word = script::read_count(line);
-    let used = script::read_values(line, word.next, values, s.used);
-    script::put_call(
-        plan,
-        s.calls,
-        script::letter(line),
-        word.number,
-        s.used,
-        used,
-    );
-    s.used = used;
-    s.calls = script::one_more(s.calls);
+    let to = script::read_values(line, word.next, values, used);
+    Call {
+        letter: script::letter(line),
+        number: word.number,
+        from: used,
+        to,
+    }
+}
+
+// A line that is no call.
+fn run_other(
+    mut s: Bench,
+    line: &[u8],
+    input: &[u8],
+    plan: &[usize; PLAN],
+    values: &[i32],
+    cells: &mut [i32],
+    memory: &mut [u8],
+    answer: &mut [u8],
+) -> Bench {
+    let letter = script::letter(line);
+    let word = script::read_count(line);
+    let n = word.number;
+    match letter {
+        script::EMPTY => {
+            s.calls = 0;
+            s.used = 0;
+        }
+        script::TIME => print_time(),
+        script::KEEP => keep(s, n, input, plan, values, cells, memory, answer),
+        script::RUN | script::CHECK => {
+            let state = run(s, letter, n, input, plan, values, cells, memory, answer);
+            s.state = state;
+        }
+        _ => {}
+    }
     s
 }
 
 fn run_line(
-    mut s: Bench,
+    s: Bench,
     input: &[u8],
     start: usize,
     end: usize,
@@ -259,39 +289,13 @@ fn run_line(
     let line = &input[start..end];
     let letter = script::letter(line);
     if letter == script::ADD {
-        return with_text(s, start, end, plan);
+        return with_call(s, plan, text_call(start, end), s.used);
     }
     if script::is_call(letter) {
-        return with_call(s, line, plan, values);
+        let call = number_call(line, values, s.used);
+        return with_call(s, plan, call, call.to);
     }
-    match letter {
-        script::EMPTY => {
-            s.calls = 0;
-            s.used = 0;
-        }
-        script::TIME => print_time(),
-        script::KEEP => {
-            let word = script::read_count(line);
-            keep(s, word.number, input, plan, values, cells, memory, answer);
-        }
-        script::RUN | script::CHECK => {
-            let word = script::read_count(line);
-            let state = run(
-                s,
-                letter,
-                word.number,
-                input,
-                plan,
-                values,
-                cells,
-                memory,
-                answer,
-            );
-            s.state = state;
-        }
-        _ => {}
-    }
-    s
+    run_other(s, line, input, plan, values, cells, memory, answer)
 }
 
 // ---- all lines

@@ -9,32 +9,32 @@ pub const CALLS: usize = 16384;
 
 pub const PLAN: usize = 4 * CALLS;
 
-// The letters of calls, and of the other lines.
-pub const OPEN: u8 = b'O';
+// The letters of calls (O A Q U F W S N), and of the other lines (L R K C T).
+pub const OPEN: usize = 79;
 
-pub const ADD: u8 = b'A';
+pub const ADD: usize = 65;
 
-pub const ASK: u8 = b'Q';
+pub const ASK: usize = 81;
 
-pub const UPDATE: u8 = b'U';
+pub const UPDATE: usize = 85;
 
-pub const FLUSH: u8 = b'F';
+pub const FLUSH: usize = 70;
 
-pub const SHOW: u8 = b'W';
+pub const SHOW: usize = 87;
 
-pub const SOUND: u8 = b'S';
+pub const SOUND: usize = 83;
 
-pub const NOTHING: u8 = b'N';
+pub const NOTHING: usize = 78;
 
-pub const EMPTY: u8 = b'L';
+pub const EMPTY: usize = 76;
 
-pub const RUN: u8 = b'R';
+pub const RUN: usize = 82;
 
-pub const KEEP: u8 = b'K';
+pub const KEEP: usize = 75;
 
-pub const CHECK: u8 = b'C';
+pub const CHECK: usize = 67;
 
-pub const TIME: u8 = b'T';
+pub const TIME: usize = 84;
 
 // A number, and where the line goes on after it.
 pub struct Word {
@@ -42,18 +42,30 @@ pub struct Word {
     pub next: usize,
 }
 
+// A call.
+pub struct Call {
+    pub letter: usize,
+    pub number: usize,
+    pub from: usize,
+    pub to: usize,
+}
+
 // Whether a line with this letter is a call with numbers.
-pub fn is_call(letter: u8) -> bool {
+pub fn is_call(letter: usize) -> bool {
     let numbered = (letter == ASK) | (letter == UPDATE) | (letter == OPEN) | (letter == SHOW);
     numbered | (letter == FLUSH) | (letter == SOUND) | (letter == NOTHING)
 }
 
 // A line's first byte, or 0.
-pub fn letter(line: &[u8]) -> u8 {
+pub fn letter(line: &[u8]) -> usize {
     if 0 < line.len() {
-        return line[0];
+        return wide(line[0]);
     }
     0
+}
+
+fn wide(b: u8) -> usize {
+    b as usize
 }
 
 // Where the text of an added statement starts: behind the letter and a space.
@@ -115,20 +127,24 @@ pub fn read_values(line: &[u8], from: usize, values: &mut [i32], used: usize) ->
 }
 
 // Writes call `at` of the plan, if it has a place.
-pub fn put_call(
-    plan: &mut [usize; PLAN],
-    at: usize,
-    letter: u8,
-    number: usize,
-    from: usize,
-    to: usize,
-) {
+pub fn put_call(plan: &mut [usize; PLAN], at: usize, call: Call) {
     if at < CALLS {
         let p = at * 4;
-        plan[p] = letter as usize;
-        plan[p + 1] = number;
-        plan[p + 2] = from;
-        plan[p + 3] = to;
+        plan[p] = call.letter;
+        plan[p + 1] = call.number;
+        plan[p + 2] = call.from;
+        plan[p + 3] = call.to;
+    }
+}
+
+// Call `at` of the plan.
+pub fn call_at(plan: &[usize; PLAN], at: usize) -> Call {
+    let p = at % CALLS * 4;
+    Call {
+        letter: plan[p],
+        number: plan[p + 1],
+        from: plan[p + 2],
+        to: plan[p + 3],
     }
 }
 

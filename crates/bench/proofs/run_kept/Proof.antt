@@ -16,6 +16,9 @@ abbrev μ-loop : tie.MeasureT-loop
 loop-holds : tie.Need-loop-holds Inv-loop μ-loop
 loop-holds c = search needs
 
+call-at-requires : tie.Need-call-at-requires Inv-loop μ-loop
+call-at-requires c κs = search needs
+
 make-call-requires : tie.Need-make-call-requires Inv-loop μ-loop
 make-call-requires c κs = search needs
 
@@ -50,6 +53,7 @@ run-kept-spec =
     Inv-loop
     μ-loop
     loop-holds
+    call-at-requires
     make-call-requires
     following-requires
     sub-left
