@@ -125,6 +125,13 @@ def gauge(slots, turns, count=10000, parts=5):
     return [*setup, "L", *calls, f"C {len(calls)}", *rounds(turns, parts=parts)]
 
 
+def gauge_changes(count=10000):
+    """The workload's setup with no slot, and its updates alone."""
+    random = Random(1)
+    setup = made(["O 0", *GAUGE]) + made(gauge_rows(random))
+    return setup, [call for call in gauge_calls(random, count) if call.startswith("U")]
+
+
 # ---- one table, for (a), (c) and (f)
 
 def one_table(rows, slots):
@@ -186,24 +193,24 @@ def fullest(keys=64, rows=512):
     adds += [f"A UPDATE t SET a = 1, b = 2, c = 3, d = 4, e = 5, f = 6, g = 7, h = 8 WHERE {where}"] * 15
     filling = [line("U", 0, *[i % (c + 2) for c in range(8)]) for i in range(rows)]
     asks = [line("Q", i % 16, i // 16, *[9] * 7) for i in range(keys)]
-    return made(adds) + made(filling) + made(asks)
+    return made(adds) + made(filling) + (made(asks) if keys else [])
 
 
 FULL_FIRST = line("Q", 15, 3, *[9] * 7)  # the answer asked last
 FULL_LAST = line("Q", 0, 0, *[9] * 7)  # the answer asked first
 FULL_NEW = line("Q", 0, 77, *[9] * 7)
 FULL_UPDATE = line("U", 1, 77, *[9] * 7)  # drops none
-DEEPEST = "A SELECT a FROM t WHERE " + "(" * 227  # no sentence, read to its end
+DEEPEST = "A DELETE FROM t WHERE " + "(" * 236  # 256 bytes, no sentence, read to its end
 
 
 # ---- as many statements and kept answers, but plain ones: two comparisons, keys of one value
 
-def plain():
+def plain(keys=64):
     adds = ["O 64", "A TABLE stages (site, day, level) ROWS 512", "A TABLE points (site, level, flow) ROWS 64"]
     adds += ["A SELECT day, level FROM stages WHERE site = ? AND day > 5"] * 16
     adds += ["A INSERT INTO stages VALUES (?, ?, ?)"]
     adds += ["A UPDATE stages SET level = ? WHERE site = ? AND day = ?"] * 15
-    return made(adds) + made([line("Q", i % 16, i // 16) for i in range(64)])
+    return made(adds) + (made([line("Q", i % 16, i // 16) for i in range(keys)]) if keys else [])
 
 
 # ---- patterns at rule 5's limit: 4 clauses of the update beside 16 of the query, 64 kept answers

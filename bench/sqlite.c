@@ -140,6 +140,10 @@ static void run(int count, long turns, int summing) {
 int main(int argc, char **argv) {
     static char line[1024];
     int count = 0;
+    if (argc == 2 && strcmp(argv[1], "--version") == 0) {
+        printf("%s\n", sqlite3_libversion());
+        return 0;
+    }
     FILE *in = argc == 2 ? fopen(argv[1], "r") : stdin;
     if (!in)
         fail("no script");
