@@ -118,8 +118,8 @@ def gauge_calls(random, count):
     return calls
 
 
-def gauge(slots, turns, count=10000, parts=5):
-    random = Random(1)
+def gauge(slots, turns, count=10000, parts=5, seed=1):
+    random = Random(seed)
     setup = made([f"O {slots}", *GAUGE]) + made(gauge_rows(random))
     calls = gauge_calls(random, count)
     return [*setup, "L", *calls, f"C {len(calls)}", *rounds(turns, parts=parts)]
