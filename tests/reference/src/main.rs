@@ -1,6 +1,7 @@
 //! An independent reference of the table store, made from document 01 alone, with a generator of random scripts and
 //! a comparison with a program. It shares no code with the project.
 
+mod bench;
 mod check;
 mod compare;
 mod front;
@@ -19,6 +20,7 @@ const USAGE: &str = "usage: reference desk | calls                     (standard
        reference script MODE SEED [LINES]         (prints the script of a seed)
        reference tally MODE LINES SEED ..         (how often each outcome occurs in the scripts of these seeds)
        reference compare MODE PROGRAM FIRST COUNT [LINES]
+       reference bench FILE                       (the calls of a script of bench/, timed, without assertions)
 MODE is desk or calls";
 
 fn mode(word: &str) -> Option<Mode> {
@@ -83,6 +85,7 @@ fn act(words: &[&str]) -> Option<bool> {
             tally.print();
             Some(true)
         }
+        ["bench", file] => Some(bench::bench(file)),
         ["compare", word, program, first, count, ..] => {
             Some(compare::compare(mode(word)?, program, first.parse().ok()?, count.parse().ok()?, length(5)?))
         }

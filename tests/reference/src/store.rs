@@ -1,6 +1,6 @@
 //! The store that keeps answers: cells, slots, order of use. A plain store runs beside it, and every call asserts
 //! that both give the same results, that every kept answer is the plain store's, and that an answer is worked out
-//! anew only on one of four grounds.
+//! anew only on one of four grounds. The calls whose names end in `_here` are the store alone, for `bench.rs`.
 
 use crate::meaning::{holds, number, record};
 use crate::pattern::{agrees, patterns};
@@ -136,7 +136,7 @@ impl Store {
         result
     }
 
-    fn add_here(&mut self, lent: (usize, usize), text: &[u8]) -> Result<(&'static str, usize), u8> {
+    pub fn add_here(&mut self, lent: (usize, usize), text: &[u8]) -> Result<(&'static str, usize), u8> {
         self.lent(lent)?;
         let statement = self.catalogue.read(self.cells.len(), text)?;
         if let Statement::Table(_) = statement {
@@ -167,7 +167,7 @@ impl Store {
         result
     }
 
-    fn ask_here(&mut self, lent: (usize, usize), n: u64, values: &[i32], buffer: usize) -> Result<Answer, u8> {
+    pub fn ask_here(&mut self, lent: (usize, usize), n: u64, values: &[i32], buffer: usize) -> Result<Answer, u8> {
         self.lent(lent)?;
         if n >= self.catalogue.questions.len() as u64 {
             return Err(10);
@@ -232,7 +232,7 @@ impl Store {
         result
     }
 
-    fn update_here(&mut self, lent: (usize, usize), n: u64, values: &[i32]) -> Result<(usize, usize), u8> {
+    pub fn update_here(&mut self, lent: (usize, usize), n: u64, values: &[i32]) -> Result<(usize, usize), u8> {
         self.lent(lent)?;
         if n >= self.catalogue.updates.len() as u64 {
             return Err(10);
@@ -308,15 +308,20 @@ impl Store {
     }
 
     pub fn flush(&mut self, lent: (usize, usize)) -> Result<(), u8> {
-        let result = self.lent(lent);
+        let result = self.flush_here(lent);
         assert_eq!(result, self.plain.flush(lent), "a flush agrees with the plain store");
         if result.is_ok() {
-            let all: Vec<usize> = (0..self.slots).collect();
-            self.drop_slots(&all);
             self.history.push(Event::Flushed);
         }
         self.check();
         result
+    }
+
+    pub fn flush_here(&mut self, lent: (usize, usize)) -> Result<(), u8> {
+        self.lent(lent)?;
+        let all: Vec<usize> = (0..self.slots).collect();
+        self.drop_slots(&all);
+        Ok(())
     }
 
     // ------------------------------------------------------------ what is asserted
