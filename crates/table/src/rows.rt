@@ -155,12 +155,24 @@ pub fn count_rows(
     requires { ⌜ from + rows * width ≤ length (now cells) ⌝ }
     ensures { λ r. ⌜ r ≡ count (meetsStored condition (now (values .entry))) (rowsIn width rows (drop from (now (cells .entry)))) ⌝ }
 {
+    let n = used(condition.count, Condition::COMPARISONS);
     let mut found = 0;
     let mut at = from;
     let mut left = rows;
     while 0 < left {
         let end = at + width;
-        found += if_so(holds(condition, &cells[at..end], values), 1);
+        let mut s = 1;
+        let mut next: usize = 0;
+        let mut i: usize = 0;
+        while i + 1 < 2 * n {
+            let step = condition.steps[i];
+            let there = next < n;
+            let c = condition.comparisons[if_so(there, next)];
+            s = stepped(s, step, there, c, &cells[at..end], values);
+            next += if_so(step == 0, 1);
+            i += 1;
+        }
+        found += if_so(s % 2 == 1, 1);
         at = end;
         left -= 1;
     }
