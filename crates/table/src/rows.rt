@@ -114,7 +114,7 @@ fn joined(s: u32, step: u8) -> u32
 }
 
 // One step: the next comparison's bit is pushed, or the two on top are joined.
-fn stepped(s: u32, step: u8, there: bool, c: Comparison, row: &[i32], values: &[i32]) -> u32
+pub fn stepped(s: u32, step: u8, there: bool, c: Comparison, row: &[i32], values: &[i32]) -> u32
     requires { ⌜ s < 65536 ⌝ }
     ensures { λ r. ⌜ r ≡ steppedBits step (nextHolds there c (now (row .entry)) (now (values .entry))) s ⌝ }
 {
