@@ -3,12 +3,10 @@ use statement::Comparison;
 use statement::Condition;
 use statement::Operand;
 ghost use mathlib.Core.Path.{_≡_};
-ghost use Prim.Native.Nat.{_+_, _*_, _≤_, _<_, min};
+ghost use Prim.Native.Nat.{_+_, _<_, min};
 ghost use lib.Dec.{leb};
 ghost use lib.IntN.{pos};
-ghost use lib.ListN.{length, drop, getD};
-ghost use Rattle.lists.specs.Lists.{count};
-ghost use Rattle.meaning.specs.Cells.{rowsIn};
+ghost use lib.ListN.{getD};
 ghost use Rattle.meaning.specs.Operator.{truth};
 ghost use Rattle.meaning.specs.Condition.{holds as comparisonHolds};
 ghost use Rattle.meaning.specs.Meaning.{operandValue};
@@ -141,40 +139,4 @@ pub fn holds(condition: Condition, row: &[i32], values: &[i32]) -> bool
         i += 1;
     }
     s % 2 == 1
-}
-
-// How many of `rows` rows of `width` cells, the first of them at a place, meet a condition.
-pub fn count_rows(
-    cells: &[i32],
-    from: usize,
-    width: usize,
-    rows: usize,
-    condition: Condition,
-    values: &[i32],
-) -> usize
-    requires { ⌜ from + rows * width ≤ length (now cells) ⌝ }
-    ensures { λ r. ⌜ r ≡ count (meetsStored condition (now (values .entry))) (rowsIn width rows (drop from (now (cells .entry)))) ⌝ }
-{
-    let n = used(condition.count, Condition::COMPARISONS);
-    let mut found = 0;
-    let mut at = from;
-    let mut left = rows;
-    while 0 < left {
-        let end = at + width;
-        let mut s = 1;
-        let mut next: usize = 0;
-        let mut i: usize = 0;
-        while i + 1 < 2 * n {
-            let step = condition.steps[i];
-            let there = next < n;
-            let c = condition.comparisons[if_so(there, next)];
-            s = stepped(s, step, there, c, &cells[at..end], values);
-            next += if_so(step == 0, 1);
-            i += 1;
-        }
-        found += if_so(s % 2 == 1, 1);
-        at = end;
-        left -= 1;
-    }
-    found
 }
