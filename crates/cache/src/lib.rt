@@ -535,7 +535,8 @@ impl State {
                 state: self,
             };
         }
-        let u = self.updates[update];
+        let list = self.updates;
+        let u = list[update];
         self.updated(cells, u, values)
     }
 
@@ -550,11 +551,13 @@ impl State {
         if (self.update_count as usize) <= update {
             return Refusal::NO_STATEMENT;
         }
-        let u = self.updates[update];
+        let list = self.updates;
+        let u = list[update];
         if values != (u.parameters as usize) {
             return Refusal::VALUES;
         }
-        let t = self.tables[u.table as usize];
+        let tables = self.tables;
+        let t = tables[u.table as usize];
         if (u.form == Update::INSERT) & (t.capacity <= t.rows) {
             return Refusal::FULL;
         }
