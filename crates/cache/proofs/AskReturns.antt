@@ -2,9 +2,10 @@
 use mathlib.Core.Path.{_≡_, refl, sym, ap, ap₂, _∙_}
 use mathlib.Core.Bool.{Bool, true, false, _&&_}
 use mathlib.Core.List.{List}
-use Prim.Native.Nat.{ℕ, _*_, _≤_, _<_}
+use Prim.Native.Nat.{ℕ, _*_, _%_, _≤_, _<_}
+use native.Mathlib.Nat.{mod-eq-of-lt}
 use native.Mathlib.Omega.{arith}
-use borrow.Author.Tests.{leb-true, leb-false, lt-ltb, le-ltb, le-leb, lt-leb, eq-eqb, ne-eqb}
+use borrow.Author.Tests.{leb-true, leb-false, lt-ltb, le-ltb}
 use lib.Dec.{leb, lit<}
 use lib.IntN.{ℤ}
 use lib.ListN.{length, take, getD, set}
@@ -12,6 +13,7 @@ use lib.Seq.{length-take-le}
 use Rattle.lists.specs.Lists.{written}
 use Rattle.lists.proofs.Places.{getD-inside}
 use Rattle.lists.proofs.Written.{length-written, written-there}
+use Rattle.meaning.specs.Limits.{most-queries, most-slots}
 use Rattle.answer.specs.Answer.{put}
 use Rattle.answer.proofs.Buffers.{put-fits, put-not}
 use Rattle.statement.specs.declared.Query.{Query}
@@ -31,35 +33,37 @@ use Rattle.cache.specs.declared.State.{State}
 use Rattle.cache.specs.declared.Asked.{Asked}
 use Rattle.cache.specs.Sound.{areasOf, queryAt}
 use Rattle.cache.specs.Calls.{unfit, Asks, asks, askRefused, askRefusal, withCache, bytesAt, cachedLength, askCached, fitsSlot, kept, keptMemory, startOf, tableAt, rowsAt, recordAt, askNew, askFound, askOf}
+use Rattle.cache.specs.declared.Place.{Place}
+use Rattle.cache.specs.declared.Outcome.{Outcome}
+use Rattle.cache.specs.Outcomes.{askNumber, noPlace, noAnswer, placed, outcomeOf, Keeps}
+use Rattle.cache.proofs.Sounds.{sound-is}
 use Rattle.cache.proofs.Settled.{settled-refused, settled-done, Fit, fit-is, or-else-zero}
 
 -- ---- the number: 2, 10, 11
 
 module _ (s : State) (cells memory query values : ℕ) where
-  pub number-unfit : unfit s cells memory ≡ true → 2 ≡ askRefusal s cells memory query values
-  unfolding askRefusal
-  number-unfit h = rw h
+  -- the query as it is read: where there are so few, its number is its place
+  module _ (d : Query) (long : length (s .queries) ≡ most-queries) where
+    abbrev parameters : ℕ
+    parameters = getD (s .queries) (query % most-queries) d .parameters
 
-  module _ (h : unfit s cells memory ≡ false) where
-    pub number-missing : s .«query_count» ≤ query → 10 ≡ askRefusal s cells memory query values
+    parameters-are : unfit s cells memory ≡ false → leb (s .«query_count») query ≡ false → parameters ≡ queryAt s query .parameters
+    parameters-are h k =
+        let few = sound-is s (fit-is s cells memory h .sound) .few-queries in
+        let below : query < most-queries = omega (arith, few, leb-false (s .«query_count») query k) in
+        ap (λ (i : ℕ). getD (s .queries) i d .parameters) (mod-eq-of-lt below)
+        ∙ ap (λ (q : Query). q .parameters) (getD-inside (s .queries) query d noQuery (omega (arith, below, long)))
+
+    number-at : (b : Bool) → unfit s cells memory ≡ b → (m : Bool) → leb (s .«query_count») query ≡ m
+        → askNumber (unfit s cells memory) (s .«query_count») query parameters values ≡ askRefusal s cells memory query values
     unfolding askRefusal
-    number-missing k = rw (h, le-leb (s .«query_count») query k)
+    number-at true h m k = rw h
+    number-at false h true k = rw k
+    number-at false h false k = ap (λ (p : ℕ). askNumber (unfit s cells memory) (s .«query_count») query p values) (parameters-are h k)
 
-    module _ (k : query < s .«query_count») (inside : query < length (s .queries)) (d : Query) where
-      abbrev parameters : ℕ
-      parameters = getD (s .queries) query d .parameters
-
-      parameters-are : parameters ≡ queryAt s query .parameters
-      parameters-are = ap (λ (q : Query). q .parameters) (getD-inside (s .queries) query d noQuery inside)
-
-      pub number-values : (values ≡ parameters → ⊥) → 11 ≡ askRefusal s cells memory query values
-      unfolding askRefusal
-      number-values n =
-          rw (h, lt-leb (s .«query_count») query k, ne-eqb values (queryAt s query .parameters) (λ e. n (e ∙ sym parameters-are)))
-
-      pub number-none : values ≡ parameters → 0 ≡ askRefusal s cells memory query values
-      unfolding askRefusal
-      number-none e = rw (h, lt-leb (s .«query_count») query k, eq-eqb values (queryAt s query .parameters) (e ∙ parameters-are))
+    pub number-told : (bad : Bool) → bad ≡ unfit s cells memory → (n : ℕ) → n ≡ askNumber bad (s .«query_count») query parameters values
+        → n ≡ askRefusal s cells memory query values
+    number-told bad e n h = h ∙ ap (λ (b : Bool). askNumber b (s .«query_count») query parameters values) e ∙ number-at (unfit s cells memory) refl (leb (s .«query_count») query) refl
 
   pub none-fits : askRefusal s cells memory query values ≡ 0 → Fit s cells memory × (query < s .«query_count»)
   unfolding askRefusal
@@ -67,6 +71,12 @@ module _ (s : State) (cells memory query values : ℕ) where
       let a = or-else-zero (unfit s cells memory) 2 _ (lit< tt) e in
       let b = or-else-zero (leb (s .«query_count») query) 10 _ (lit< tt) (a .1) in
       (fit-is s cells memory (a .0), leb-false (s .«query_count») query (b .0))
+
+-- ---- an outcome that keeps nothing
+
+pub refused-is : (s : State) (key : Key) (n : ℕ) (o : Outcome) → o ≡ noAnswer n (s .slots) → outcomeOf s key o ≡ askRefused s n
+unfolding withCache
+refused-is s key n o e = ap (outcomeOf s key) e
 
 -- ---- an answer in a slot
 
@@ -84,12 +94,9 @@ module _ (s : State) (memory answer : List ℕ) (p : ℕ) where
 
 -- ---- a record kept
 
-module _ (s : State) (key : Key) (size : ℕ) (bytes memory : List ℕ) (long : size ≤ length bytes) (t : Taken) (e : t ≡ takenOf (s .slots)) where
+module _ (s : State) (size : ℕ) (bytes memory : List ℕ) (long : size ≤ length bytes) (t : Taken) (e : t ≡ takenOf (s .slots)) where
   abbrev first : List ℕ
   first = take size bytes
-
-  abbrev Keeps : State → List ℕ → Type 0
-  Keeps after new = (after ≡ kept s key first) × (new ≡ keptMemory s first memory)
 
   size-is : length first ≡ size
   size-is = length-take-le size bytes long
@@ -97,16 +104,16 @@ module _ (s : State) (key : Key) (size : ℕ) (bytes memory : List ℕ) (long : 
   test-is : (fitsSlot s first && takenOf (s .slots) .there) ≡ (leb size (s .«slot_bytes») && t .there)
   test-is = ap₂ (λ (n : ℕ) (u : Taken). leb n (s .«slot_bytes») && u .there) size-is (sym e)
 
-  pub keep-not : (leb size (s .«slot_bytes») && t .there) ≡ false → Keeps s memory
-  unfolding kept keptMemory
-  keep-not h = let z = test-is ∙ h in (rw z, rw z)
+  pub keep-not : (p : Place) → p ≡ noPlace (s .slots) → (leb size (s .«slot_bytes») && t .there) ≡ false → Keeps s first p × (memory ≡ keptMemory s first memory)
+  unfolding kept keptMemory withCache
+  keep-not p f h = let z = test-is ∙ h in (λ key. rw z (ap (placed s key) f), rw z)
 
-  pub keep-done : (new : List ℕ) → (leb size (s .«slot_bytes») && t .there) ≡ true → new ≡ written memory (t .slot * s .«slot_bytes») first
-      → Keeps (withCache s (t .slots) (set (s .keys) (t .slot) key) (set (s .lengths) (t .slot) size)) new
+  pub keep-done : (new : List ℕ) → t .slot < most-slots → (leb size (s .«slot_bytes») && t .there) ≡ true → new ≡ written memory (t .slot * s .«slot_bytes») first
+      → Keeps s first (record { slot = t .slot; size = size; slots = t .slots }) × (new ≡ keptMemory s first memory)
   unfolding kept keptMemory
-  keep-done new h f =
+  keep-done new below h f =
       let z = test-is ∙ h in (
-        rw z (ap₂ (λ (u : Taken) (n : ℕ). withCache s (u .slots) (set (s .keys) (u .slot) key) (set (s .lengths) (u .slot) n)) e (sym size-is)),
+        λ key. rw (z, lt-ltb (t .slot) most-slots below) (ap₂ (λ (u : Taken) (n : ℕ). withCache s (u .slots) (set (s .keys) (u .slot) key) (set (s .lengths) (u .slot) n)) e (sym size-is)),
         rw z (f ∙ ap (λ (u : Taken). written memory (u .slot * s .«slot_bytes») first) e),
       )
 

@@ -1,5 +1,5 @@
 -- A call settled by its number, and what is known where the first number does not apply. Assumes nothing.
-use mathlib.Core.Path.{_≡_, refl}
+use mathlib.Core.Path.{_≡_, refl, ap, _∙_}
 use mathlib.Core.Bool.{Bool, true, false, not, _&&_}
 use Prim.Native.Nat.{ℕ, zero, suc, _<_}
 use native.Mathlib.Omega.{arith}
@@ -10,6 +10,7 @@ use Rattle.meaning.specs.Plain.{orElse}
 use Rattle.cache.specs.declared.State.{State}
 use Rattle.cache.specs.Sound.{soundState}
 use Rattle.cache.specs.Calls.{settled, unfit}
+use Rattle.cache.specs.Outcomes.{unfitIf}
 
 module _ {X : Type 0} where
   pub settled-refused : (n : ℕ) (done refused : X) → (n ≡ 0 → ⊥) → refused ≡ settled n done refused
@@ -20,6 +21,12 @@ module _ {X : Type 0} where
   pub settled-done : (n : ℕ) (done refused : X) → n ≡ 0 → done ≡ settled n done refused
   unfolding settled
   settled-done n done refused e = rw e
+
+-- 2, as the code decides it
+pub unfit-is : (s : State) (cells memory : ℕ) (sound bad : Bool) → sound ≡ soundState s → bad ≡ unfitIf sound (s .cells) (s .memory) cells memory
+    → bad ≡ unfit s cells memory
+unfolding unfit
+unfit-is s cells memory sound bad e h = h ∙ ap (λ (b : Bool). unfitIf b (s .cells) (s .memory) cells memory) e
 
 -- where the state and the lengths are the opening's
 pub record Fit (s : State) (cells memory : ℕ) : Type 0 where

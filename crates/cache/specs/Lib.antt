@@ -1,5 +1,6 @@
 pub mod Sound
 pub mod Calls
+pub mod Outcomes
 pub mod Marks
 pub mod Means
 pub mod Run

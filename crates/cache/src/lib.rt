@@ -12,11 +12,12 @@ use table::Table;
 use table::Update;
 ghost use mathlib.Core.Path.{_≡_};
 ghost use mathlib.Core.Bool.{true};
-ghost use Prim.Native.Nat.{_≤_, _<_};
+ghost use Prim.Native.Nat.{_≤_, _<_, _%_};
 ghost use lib.ListN.{length, take};
 ghost use Rattle.slots.specs.Keys.{keyOf};
 ghost use Rattle.cache.specs.Sound.{opening, soundCounts, soundTables, soundAnswers, soundState};
-ghost use Rattle.cache.specs.Calls.{unfit, emptyState, opens, openOf, addRefused, addedTable, addedQuery, addedUpdate, hasPlace, addedBy, addOf, asks, askRefused, askRefusal, askCached, kept, keptMemory, askNew, askOf, updates, updateRefusal, updateDone, updateOf, flushOf};
+ghost use Rattle.cache.specs.Outcomes.{noPlace, noAnswer, outcomeOf, unfitIf, askNumber, Caches, Keeps};
+ghost use Rattle.cache.specs.Calls.{emptyState, opens, openOf, addRefused, addedTable, addedQuery, addedUpdate, hasPlace, addedBy, addOf, asks, askRefusal, keptMemory, askNew, askOf, updates, updateRefusal, updateDone, updateOf, flushOf};
 
 // The state. Entries past the counts, and of slots that hold nothing, do not matter.
 pub struct State {
@@ -74,6 +75,22 @@ pub struct Flushed {
     pub state: State,
 }
 
+// Where an answer's record is kept: its slot (SLOTS: in none), its length, and the order of use after that.
+struct Place {
+    slot: u8,
+    size: u16,
+    slots: SlotList,
+}
+
+// What a question gives, without the state.
+struct Outcome {
+    refusal: u8,
+    cached: u8,
+    scanned: u16,
+    length: usize,
+    place: Place,
+}
+
 // The numbers of document 01 for a call not taken, as far as they are decided here.
 pub struct Refusal {}
 
@@ -89,6 +106,54 @@ impl Refusal {
     pub const FULL: u8 = 12;
 
     pub const BUFFER: u8 = 13;
+}
+
+// No slot is taken.
+fn nowhere(slots: SlotList) -> Place
+    ensures { λ r. ⌜ r ≡ noPlace slots ⌝ }
+{
+    Place {
+        slot: SlotList::SLOTS as u8,
+        size: 0,
+        slots,
+    }
+}
+
+fn not_answered(refusal: u8, slots: SlotList) -> Outcome
+    ensures { λ r. ⌜ r ≡ noAnswer refusal slots ⌝ }
+{
+    let place = nowhere(slots);
+    Outcome {
+        refusal,
+        cached: 0,
+        scanned: 0,
+        length: 0,
+        place,
+    }
+}
+
+// Whether a state is not sound, or the lengths lent are not those of its opening.
+fn is_unfit(sound: bool, cells: u32, memory: u32, lent: usize, lent_memory: usize) -> bool
+    ensures { λ r. ⌜ r ≡ unfitIf sound cells memory lent «lent_memory» ⌝ }
+{
+    let same = (lent == (cells as usize)) & (lent_memory == (memory as usize));
+    !sound | !same
+}
+
+// 2, 10 or 11, the lowest that applies, or 0: of `count` queries this one, which has so many parameters.
+fn ask_refusal(unfit: bool, count: u8, query: usize, parameters: u8, values: usize) -> u8
+    ensures { λ r. ⌜ r ≡ askNumber unfit count query parameters values ⌝ }
+{
+    if unfit {
+        return Refusal::STATE;
+    }
+    if (count as usize) <= query {
+        return Refusal::NO_STATEMENT;
+    }
+    if values != (parameters as usize) {
+        return Refusal::VALUES;
+    }
+    0
 }
 
 impl State {
@@ -158,15 +223,6 @@ impl State {
         fit & !twice
     }
 
-    // Whether the state is not sound, or the lengths lent are not the opening's.
-    fn is_unfit(self, cells: usize, memory: usize) -> bool
-        ensures { λ r. ⌜ r ≡ unfit self cells memory ⌝ }
-    {
-        let sound = self.is_sound();
-        let same = (cells == (self.cells as usize)) & (memory == (self.memory as usize));
-        !sound | !same
-    }
-
     // ---- open
 
     // A state without tables, statements or cached answers.
@@ -223,7 +279,8 @@ impl State {
     pub fn add(self, cells: &[i32], memory: &[u8], text: &[u8]) -> Added
         ensures { λ r. ⌜ r ≡ addOf self (length (now (cells .entry))) (length (now (memory .entry))) (now (text .entry)) ⌝ }
     {
-        if self.is_unfit(cells.len(), memory.len()) {
+        let sound = self.is_sound();
+        if is_unfit(sound, self.cells, self.memory, cells.len(), memory.len()) {
             return self.not_added(Refusal::STATE);
         }
         let tables = self.tables;
@@ -308,7 +365,8 @@ impl State {
 
     // ---- ask
 
-    // Asks a query with its values: the record stands at the start of `answer`, from the cache or worked out.
+    // Asks a query with its values: the record stands at the start of `answer`, from the cache or worked out. The state is read and changed in one place each, and
+    // between them only small parts are handed on, so that it is copied once in and once out.
     pub fn ask(
         self,
         cells: &[i32],
@@ -319,13 +377,36 @@ impl State {
     ) -> Asked
         ensures { λ r. ⌜ asks r (now (memory .exit)) (now (answer .exit)) ≡ askOf self (now (cells .entry)) (now (memory .entry)) query (now (values .entry)) (now (answer .entry)) ⌝ }
     {
-        let refusal = self.ask_refusal(cells.len(), memory.len(), query, values.len());
-        if refusal != 0 {
-            return self.not_asked(refusal);
-        }
-        let key = Key::of(query as u8, values);
-        let keys = self.keys;
+        let sound = self.is_sound();
+        let unfit = is_unfit(sound, self.cells, self.memory, cells.len(), memory.len());
+        let queries = self.queries;
+        let number = query % Query::QUERIES;
+        let q = queries[number];
+        let refusal = ask_refusal(unfit, self.query_count, query, q.parameters, values.len());
+        let key = Key::of(number as u8, values);
+        let outcome = self.answered(refusal, cells, memory, query, values, key, answer);
+        self.with_outcome(key, outcome)
+    }
+
+    // What becomes of a question: refused with this number, or answered where it is 0.
+    fn answered(
+        self,
+        refusal: u8,
+        cells: &[i32],
+        memory: &mut [u8],
+        query: usize,
+        values: &[i32],
+        key: Key,
+        answer: &mut [u8],
+    ) -> Outcome
+        requires { ⌜ (refusal ≡ askRefusal self (length (now cells)) (length (now memory)) query (length (now values))) × (key ≡ keyOf (query % 16) (now values)) ⌝ }
+        ensures { λ r. ⌜ asks (outcomeOf self key r) (now (memory .exit)) (now (answer .exit)) ≡ askOf self (now (cells .entry)) (now (memory .entry)) query (now (values .entry)) (now (answer .entry)) ⌝ }
+    {
         let slots = self.slots;
+        if refusal != 0 {
+            return not_answered(refusal, slots);
+        }
+        let keys = self.keys;
         let found = slots::find(keys, slots, key);
         match found {
             Found::At(p) => self.ask_cached(memory, answer, p),
@@ -333,54 +414,27 @@ impl State {
         }
     }
 
-    // 2, 10 or 11, the lowest that applies, or 0.
-    fn ask_refusal(self, cells: usize, memory: usize, query: usize, values: usize) -> u8
-        ensures { λ r. ⌜ r ≡ askRefusal self cells memory query values ⌝ }
-    {
-        if self.is_unfit(cells, memory) {
-            return Refusal::STATE;
-        }
-        if (self.query_count as usize) <= query {
-            return Refusal::NO_STATEMENT;
-        }
-        let q = self.queries[query];
-        if values != (q.parameters as usize) {
-            return Refusal::VALUES;
-        }
-        0
-    }
-
-    fn not_asked(self, refusal: u8) -> Asked
-        ensures { λ r. ⌜ r ≡ askRefused self refusal ⌝ }
-    {
-        Asked {
-            refusal,
-            cached: 0,
-            scanned: 0,
-            length: 0,
-            state: self,
-        }
-    }
-
     // The answer in the slot at place p of the order, which moves to the front.
-    fn ask_cached(mut self, memory: &[u8], answer: &mut [u8], p: u8) -> Asked
+    fn ask_cached(self, memory: &[u8], answer: &mut [u8], p: u8) -> Outcome
         requires { ⌜ (soundState self ≡ true) × (p < self .slots .held) × (length (now memory) ≡ self .memory) ⌝ }
-        ensures { λ r. ⌜ asks r (now (memory .entry)) (now (answer .exit)) ≡ askCached self (now (memory .entry)) (now (answer .entry)) p ⌝ }
+        ensures { λ r. ⌜ Caches self (now (memory .entry)) (now (answer .entry)) p r (now (answer .exit)) ⌝ }
     {
         let slots = self.slots;
+        let lengths = self.lengths;
         let x = slots.order[p as usize] as usize;
-        let length = self.lengths[x] as usize;
+        let length = lengths[x] as usize;
         if answer.len() < length {
-            return self.not_asked(Refusal::BUFFER);
+            return not_answered(Refusal::BUFFER, slots);
         }
         lent::copy(answer, 0, memory, x * (self.slot_bytes as usize), length);
-        self.slots = slots.move_to_front(p);
-        Asked {
+        let moved = slots.move_to_front(p);
+        let place = nowhere(moved);
+        Outcome {
             refusal: 0,
             cached: 1,
             scanned: 0,
             length,
-            state: self,
+            place,
         }
     }
 
@@ -393,47 +447,77 @@ impl State {
         query: usize,
         values: &[i32],
         key: Key,
-    ) -> Asked
+    ) -> Outcome
         requires { ⌜ (soundState self ≡ true) × (query < self .«query_count») × (length (now memory) ≡ self .memory) × (key ≡ keyOf query (now values)) ⌝ }
-        ensures { λ r. ⌜ asks r (now (memory .exit)) (now (answer .exit)) ≡ askNew self (now (cells .entry)) (now (memory .entry)) (now (answer .entry)) query (now (values .entry)) ⌝ }
+        ensures { λ r. ⌜ asks (outcomeOf self key r) (now (memory .exit)) (now (answer .exit)) ≡ askNew self (now (cells .entry)) (now (memory .entry)) (now (answer .entry)) query (now (values .entry)) ⌝ }
     {
-        let q = self.queries[query];
-        let t = self.tables[q.table as usize];
+        let queries = self.queries;
         let tables = self.tables;
+        let slots = self.slots;
+        let q = queries[query];
+        let t = tables[q.table as usize];
         let start = sound::areas(tables, q.table as usize);
         let done = table::select(q, t, start, cells, values, answer);
         if done.refusal != 0 {
-            return self.not_asked(done.refusal);
+            return not_answered(done.refusal, slots);
         }
-        let state = self.keep(key, done.length, answer, memory);
-        Asked {
+        let place = self.keep(done.length, answer, memory);
+        Outcome {
             refusal: 0,
             cached: 0,
             scanned: done.scanned,
             length: done.length,
-            state,
+            place,
         }
     }
 
     // A record that fits a slot takes the last one, which moves to the front.
-    fn keep(mut self, key: Key, size: usize, bytes: &[u8], memory: &mut [u8]) -> State
+    fn keep(self, size: usize, bytes: &[u8], memory: &mut [u8]) -> Place
         requires { ⌜ (soundState self ≡ true) × (size ≤ length (now bytes)) × (length (now memory) ≡ self .memory) ⌝ }
-        ensures state { λ r. ⌜ r ≡ kept self key (take size (now (bytes .entry))) ⌝ }
+        ensures place { λ r. ⌜ Keeps self (take size (now (bytes .entry))) r ⌝ }
         ensures memory { λ _. ⌜ now (memory .exit) ≡ keptMemory self (take size (now (bytes .entry))) (now (memory .entry)) ⌝ }
     {
         let slots = self.slots;
         let taken = slots.take_last();
         let fits = size <= (self.slot_bytes as usize);
         if !(fits & taken.there) {
-            return self;
+            return nowhere(slots);
         }
-        let x = taken.slot as usize;
-        lent::copy(memory, x * (self.slot_bytes as usize), bytes, 0, size);
+        let slot = taken.slot;
+        lent::copy(
+            memory,
+            (slot as usize) * (self.slot_bytes as usize),
+            bytes,
+            0,
+            size,
+        );
         let moved = taken.slots;
-        self.slots = moved;
-        self.keys[x] = key;
-        self.lengths[x] = size as u16;
-        self
+        Place {
+            slot,
+            size: size as u16,
+            slots: moved,
+        }
+    }
+
+    // What a question gives, and the state after it.
+    fn with_outcome(mut self, key: Key, outcome: Outcome) -> Asked
+        ensures { λ r. ⌜ r ≡ outcomeOf self key outcome ⌝ }
+    {
+        let place = outcome.place;
+        let slots = place.slots;
+        let x = place.slot as usize;
+        self.slots = slots;
+        if x < SlotList::SLOTS {
+            self.keys[x] = key;
+            self.lengths[x] = place.size;
+        }
+        Asked {
+            refusal: outcome.refusal,
+            cached: outcome.cached,
+            scanned: outcome.scanned,
+            length: outcome.length,
+            state: self,
+        }
     }
 
     // ---- update
@@ -451,7 +535,8 @@ impl State {
                 state: self,
             };
         }
-        let u = self.updates[update];
+        let list = self.updates;
+        let u = list[update];
         self.updated(cells, u, values)
     }
 
@@ -459,17 +544,20 @@ impl State {
     fn update_refusal(self, cells: usize, memory: usize, update: usize, values: usize) -> u8
         ensures { λ r. ⌜ r ≡ updateRefusal self cells memory update values ⌝ }
     {
-        if self.is_unfit(cells, memory) {
+        let sound = self.is_sound();
+        if is_unfit(sound, self.cells, self.memory, cells, memory) {
             return Refusal::STATE;
         }
         if (self.update_count as usize) <= update {
             return Refusal::NO_STATEMENT;
         }
-        let u = self.updates[update];
+        let list = self.updates;
+        let u = list[update];
         if values != (u.parameters as usize) {
             return Refusal::VALUES;
         }
-        let t = self.tables[u.table as usize];
+        let tables = self.tables;
+        let t = tables[u.table as usize];
         if (u.form == Update::INSERT) & (t.capacity <= t.rows) {
             return Refusal::FULL;
         }
@@ -508,7 +596,8 @@ impl State {
     pub fn flush(mut self, cells: &[i32], memory: &[u8]) -> Flushed
         ensures { λ r. ⌜ r ≡ flushOf self (length (now (cells .entry))) (length (now (memory .entry))) ⌝ }
     {
-        if self.is_unfit(cells.len(), memory.len()) {
+        let sound = self.is_sound();
+        if is_unfit(sound, self.cells, self.memory, cells.len(), memory.len()) {
             return Flushed {
                 refusal: Refusal::STATE,
                 state: self,

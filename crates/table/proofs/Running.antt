@@ -1,5 +1,5 @@
 -- The steps of a stored condition, run on the stack of bits: the steps left give what all steps give. Assumes nothing.
-use Prim.Native.Nat.{ℕ, zero, suc, _+_, _*_, _^_, _≤_, _<_, min}
+use Prim.Native.Nat.{ℕ, zero, suc, _+_, _-_, _*_, _^_, _≤_, _<_, min}
 use mathlib.Core.Path.{_≡_, refl, sym, ap, ap₂, _∙_, subst}
 use mathlib.Core.Bool.{Bool, true, false, _&&_, _||_, cond}
 use mathlib.Core.List.{List, [], _∷_}
@@ -9,13 +9,15 @@ use borrow.Author.Tests.{ne-eqb, ltb-true, ltb-false}
 use lib.Dec.{eqb, ltb}
 use lib.IntN.{ℤ}
 use lib.ListN.{length, take, drop, getD, length-take, drop-of-length-le}
+use lib.Pow.{pow-mono}
 use lib.Seq.{drop-cons, drop-drop, getD-take}
 use Rattle.meaning.specs.Condition as C
 use Rattle.meaning.specs.Postfix.{top, joined, runOn, truthOf}
 use Rattle.meaning.specs.Meaning.{operandValue}
-use Rattle.statement.specs.Sound.{comparisonRead, nodesRead}
+use Rattle.statement.specs.Sound.{comparisonRead, nodesRead, usedComparisons, usedSteps, conditionNodes}
 use Rattle.statement.specs.declared.Comparison.{Comparison}
-use Rattle.table.specs.Evaluated.{bit, odd, joinedBits, nextHolds, joinOf, steppedBits, ifSo}
+use Rattle.statement.specs.declared.Condition.{Condition}
+use Rattle.table.specs.Evaluated.{bit, odd, joinedBits, nextHolds, joinOf, steppedBits, ifSo, meetsStored}
 use Rattle.table.proofs.Stack.{code, code-some, top-odd, join-code, step-bound, two-pow}
 
 -- whether a comparison is next, and which
@@ -110,3 +112,60 @@ module _ (row vs : List ℤ) where
         ap odd (R .coded) ∙ top-odd (R .stack)
         ∙ sym (ap (λ (l : List ℕ). top true (run l (drop next cs) (R .stack))) (drop-of-length-le ss h))
         ∙ R .left
+
+-- ---- the test of a row, as a loop over the steps
+
+-- of the first n comparisons, after i steps: the stack is s, and so many comparisons were read
+pub record Testing (row vs : List ℤ) (cnd : Condition) (n s next i : ℕ) : Type 0 where
+  pub used : n ≡ min (cnd .count) 8
+  pub steps-15 : length (cnd .steps) ≡ 15
+  pub comparisons-8 : length (cnd .comparisons) ≡ 8
+  pub within : i ≤ 15
+  pub running : Running row vs (usedSteps cnd) (usedComparisons cnd) s next i
+
+module _ (row vs : List ℤ) (cnd : Condition) (n : ℕ) where
+  pub test-start : n ≡ min (cnd .count) 8 → length (cnd .steps) ≡ 15 → length (cnd .comparisons) ≡ 8 → Testing row vs cnd n 1 0 0
+  test-start e l m = record { used = e; steps-15 = l; comparisons-8 = m; within = omega arith; running = run-start row vs (usedSteps cnd) (usedComparisons cnd) }
+
+  module _ (s next i : ℕ) (T : Testing row vs cnd n s next i) where
+    steps-used : length (usedSteps cnd) ≡ 2 * n - 1
+    steps-used =
+        let l : length (usedSteps cnd) ≡ min (2 * cnd .count - 1) (length (cnd .steps)) = length-take (2 * cnd .count - 1) (cnd .steps) in
+        omega (arith, T .steps-15, T .used)
+
+    pub test-few : 2 * n ≤ 16
+    test-few = omega (arith, T .used)
+
+    pub test-step : i + 1 < 2 * n → i < 15
+    test-step h = omega (arith, T .used)
+
+    pub test-place : (k : ℕ) → k ≡ ifSo (ltb next n) next → k < 8
+    test-place k e = subst (λ (m : ℕ). m < 8) (sym e) (if-below next n (omega (arith, T .used)))
+
+    pub test-small : s < 65536
+    test-small =
+        let h : i + 1 ≤ 16 = omega (arith, T .within) in
+        omega (arith, pow-mono h, T .running .small)
+
+    pub test-more : (s′ k more : ℕ) (d : Comparison) → i + 1 < 2 * n → k ≡ ifSo (ltb next n) next
+        → s′ ≡ steppedBits (getD (cnd .steps) i 0) (nextHolds (ltb next n) (getD (cnd .comparisons) k d) row vs) s
+        → more ≡ ifSo (eqb (getD (cnd .steps) i 0) 0) 1 → Testing row vs cnd n s′ (next + more) (i + 1)
+    test-more s′ k more d h ek es em =
+        let cs : List Comparison = usedComparisons cnd in
+        let en : min (cnd .count) (length (cnd .comparisons)) ≡ n = omega (arith, T .comparisons-8, T .used) in
+        let x : Next (drop next cs) (ltb next n) (getD (cnd .comparisons) (ifSo (ltb next n) next) d) =
+        subst (λ (m : ℕ). Next (drop next cs) (ltb next m) (getD (cnd .comparisons) (ifSo (ltb next m) next) d)) en (next-is (cnd .comparisons) (cnd .count) next d) in
+        let y : Next (drop next cs) (ltb next n) (getD (cnd .comparisons) k d) =
+        subst (λ (m : ℕ). Next (drop next cs) (ltb next n) (getD (cnd .comparisons) m d)) (sym ek) x in
+        record {
+          used = T .used;
+          steps-15 = T .steps-15;
+          comparisons-8 = T .comparisons-8;
+          within = omega (arith, T .used);
+          running = run-more row vs (usedSteps cnd) cs s s′ next more i (getD (cnd .steps) i 0) (omega (arith, steps-used))
+              (getD-take (2 * cnd .count - 1) (cnd .steps) i 0 (omega (arith, T .used))) y es em (T .running);
+        }
+
+    pub test-stop : 2 * n ≤ i + 1 → odd s ≡ meetsStored cnd vs row
+    unfolding meetsStored conditionNodes
+    test-stop h = run-stop row vs (usedSteps cnd) (usedComparisons cnd) s next i (omega (arith, steps-used)) (T .running)

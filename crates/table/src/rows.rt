@@ -3,12 +3,10 @@ use statement::Comparison;
 use statement::Condition;
 use statement::Operand;
 ghost use mathlib.Core.Path.{_≡_};
-ghost use Prim.Native.Nat.{_+_, _*_, _≤_, _<_, min};
+ghost use Prim.Native.Nat.{_+_, _<_, min};
 ghost use lib.Dec.{leb};
 ghost use lib.IntN.{pos};
-ghost use lib.ListN.{length, drop, getD};
-ghost use Rattle.lists.specs.Lists.{count};
-ghost use Rattle.meaning.specs.Cells.{rowsIn};
+ghost use lib.ListN.{getD};
 ghost use Rattle.meaning.specs.Operator.{truth};
 ghost use Rattle.meaning.specs.Condition.{holds as comparisonHolds};
 ghost use Rattle.meaning.specs.Meaning.{operandValue};
@@ -114,7 +112,7 @@ fn joined(s: u32, step: u8) -> u32
 }
 
 // One step: the next comparison's bit is pushed, or the two on top are joined.
-fn stepped(s: u32, step: u8, there: bool, c: Comparison, row: &[i32], values: &[i32]) -> u32
+pub fn stepped(s: u32, step: u8, there: bool, c: Comparison, row: &[i32], values: &[i32]) -> u32
     requires { ⌜ s < 65536 ⌝ }
     ensures { λ r. ⌜ r ≡ steppedBits step (nextHolds there c (now (row .entry)) (now (values .entry))) s ⌝ }
 {
@@ -141,28 +139,4 @@ pub fn holds(condition: Condition, row: &[i32], values: &[i32]) -> bool
         i += 1;
     }
     s % 2 == 1
-}
-
-// How many of `rows` rows of `width` cells, the first of them at a place, meet a condition.
-pub fn count_rows(
-    cells: &[i32],
-    from: usize,
-    width: usize,
-    rows: usize,
-    condition: Condition,
-    values: &[i32],
-) -> usize
-    requires { ⌜ from + rows * width ≤ length (now cells) ⌝ }
-    ensures { λ r. ⌜ r ≡ count (meetsStored condition (now (values .entry))) (rowsIn width rows (drop from (now (cells .entry)))) ⌝ }
-{
-    let mut found = 0;
-    let mut at = from;
-    let mut left = rows;
-    while 0 < left {
-        let end = at + width;
-        found += if_so(holds(condition, &cells[at..end], values), 1);
-        at = end;
-        left -= 1;
-    }
-    found
 }

@@ -1,87 +1,45 @@
--- `State::ask` meets its contract: refused, cached or worked out, each a law of `AskReturns`. Assumes nothing.
-use Prim.Native.Nat.{ℕ, _<_}
-use mathlib.Core.Path.{_≡_}
-use native.Mathlib.Omega.{arith}
+-- `State::ask` meets its contract: its number, and what becomes of it. Assumes nothing.
+use mathlib.Core.Path.{_≡_, ap}
 use borrow.Author.Needs.{needs}
-use lib.ListN.{length}
-use Rattle.slots.specs.declared.Found.the-variants.{At, Nothing}
-use Rattle.cache.specs.Calls.{Asks, askCached, askNew, askOf}
-use Rattle.cache.proofs.Sounds.{sound-is}
-use Rattle.cache.proofs.Settled.{Fit}
-use Rattle.cache.proofs.AskReturns.{ask-refused, accepted, ask-found, ask-missed, found-held}
+use lib.ListN.{length, length-map}
+use Rattle.cache.proofs.Settled.{unfit-is}
+use Rattle.cache.proofs.AskReturns.{number-told}
 use Rattle.cache.proofs.State.ask.Statement.{statement}
 use Rattle.cache.proofs.State.ask.Tie as tie
 
--- no test refused it
-known : (c : tie.Else1) → let a = c .before .before .before .before .args in Fit (a .self) (length (a .cells .now)) (length (a .memory .now)) × (a .query < a .self .«query_count»)
-known c =
-    let a = c .before .before .before .before .args in
-    let r = c .before .ask-refusal in
-    accepted (a .self) (a .cells .now) (a .memory .now) (a .query) (a .values .now) (a .answer .now) (r .result) (r .ensures) (c .if1 .left)
+queries : (c : tie.Start) → length (c .args .self .queries) ≡ 16
+queries c = simp length-map at (c .good .0 .1 .1 .1 .0 .1 .0 .1)
 
-few : (c : tie.Else1) → c .before .before .before .before .args .query < 16
-few c = omega (arith, sound-is (c .before .before .before .before .args .self) (known c .0 .sound) .few-queries, known c .1)
+is-sound-requires : tie.Need-is-sound-requires
+is-sound-requires c κs = search needs
 
--- the key was looked for
-held : (c : tie.After-find) (p : ℕ) → c .find .result ≡ At p → p < c .before .before .before .before .before .before .before .before .args .self .slots .held
-held c p m =
-    let a = c .before .before .before .before .before .before .before .before .args in
-    let r = c .before .before .before .before .before .ask-refusal in
-    let k = c .before .before .before .of in
-    found-held (a .self) (a .cells .now) (a .memory .now) (a .query) (a .values .now) (a .answer .now) (r .result) (r .ensures) (c .before .before .before .before .if1 .left)
-    (k .result) (k .ensures) (c .find .result) (c .find .ensures) p m
+is-unfit-requires : tie.Need-is-unfit-requires
+is-unfit-requires c κs = search needs
 
-found : (c : tie.After-find) (p : ℕ) (o : Asks) → c .find .result ≡ At p →
-    let a = c .before .before .before .before .before .before .before .before .args in o ≡ askCached (a .self) (a .memory .now) (a .answer .now) p → o ≡ askOf (a .self) (a .cells .now) (a .memory .now) (a .query) (a .values .now) (a .answer .now)
-found c p o m h =
-    let a = c .before .before .before .before .before .before .before .before .args in
-    let r = c .before .before .before .before .before .ask-refusal in
-    let k = c .before .before .before .of in
-    ask-found (a .self) (a .cells .now) (a .memory .now) (a .query) (a .values .now) (a .answer .now) (r .result) (r .ensures) (c .before .before .before .before .if1 .left)
-    (k .result) (k .ensures) (c .find .result) (c .find .ensures) p o m h
+mul-q : tie.Need-mul-q
+mul-q c = search needs
 
-missed : (c : tie.After-find) (o : Asks) → c .find .result ≡ Nothing →
-    let a = c .before .before .before .before .before .before .before .before .args in
-    o ≡ askNew (a .self) (a .cells .now) (a .memory .now) (a .answer .now) (a .query) (a .values .now) → o ≡ askOf (a .self) (a .cells .now) (a .memory .now) (a .query) (a .values .now) (a .answer .now)
-missed c o m h =
-    let a = c .before .before .before .before .before .before .before .before .args in
-    let r = c .before .before .before .before .before .ask-refusal in
-    let k = c .before .before .before .of in
-    ask-missed (a .self) (a .cells .now) (a .memory .now) (a .query) (a .values .now) (a .answer .now) (r .result) (r .ensures) (c .before .before .before .before .if1 .left)
-    (k .result) (k .ensures) (c .find .result) (c .find .ensures) o m h
+array-copy-out-q : tie.Need-array-copy-out-q
+array-copy-out-q c = search needs
 
 ask-refusal-requires : tie.Need-ask-refusal-requires
 ask-refusal-requires c κs = search needs
 
-not-asked-requires : tie.Need-not-asked-requires
-not-asked-requires c κs = search needs
-
-returns : tie.Need-returns
-returns c =
-    let a = c .before .before .before .before .before .args in
-    let r = c .before .before .ask-refusal in
-    ask-refused (a .self) (a .cells .now) (a .memory .now) (a .query) (a .values .now) (a .answer .now) (r .result) (r .ensures) _ (c .before .if1 .taken) (c .not-asked .ensures)
-
 cast-of : tie.Need-cast-of
-cast-of c = omega (arith, few c)
+cast-of c = search needs
 
 of-requires : tie.Need-of-requires
 of-requires c κs = search needs
 
-find-requires : tie.Need-find-requires
-find-requires c κs = search needs
+answered-requires : tie.Need-answered-requires
+answered-requires c κs =
+    let s = c .before .before .before .before .before .before .before .before .before .before in
+    let a = s .args in
+    let bad = unfit-is (a .self) _ _ _ _ (c .before .before .before .before .before .before .before .is-sound .ensures) (c .before .before .before .before .before .before .is-unfit .ensures) in
+    (number-told (a .self) (length (a .cells .now)) (length (a .memory .now)) (a .query) (length (a .values .now)) _ (queries s) _ bad _ (c .before .before .before .ask-refusal .ensures), c .before .before .of .ensures)
 
-enum-known-found : tie.Need-enum-known-found
-enum-known-found c = search needs
-
-ask-cached-requires : tie.Need-ask-cached-requires
-ask-cached-requires c κs = let k = known (c .before .before .before .before .before .before .before .before .before) .0 in (k .sound, held (c .before .before .before .before .before) _ (c .before .before .before .found .given .1), k .memory-is)
-
-enum-told : tie.Need-enum-told
-enum-told c = search needs
-
-ask-new-requires : tie.Need-ask-new-requires
-ask-new-requires c κs = let k = known (c .before .before .before .before .before .before .before .before) in (k .0 .sound, k .1, k .0 .memory-is, c .before .before .before .before .before .before .before .of .ensures)
+with-outcome-requires : tie.Need-with-outcome-requires
+with-outcome-requires c κs = search needs
 
 same-length : tie.Need-same-length
 same-length c = search needs
@@ -89,35 +47,22 @@ same-length c = search needs
 same-length-2 : tie.Need-same-length-2
 same-length-2 c = search needs
 
-returns-2 : tie.Need-returns-2
-returns-2 c = found (c .before .before .before .before .before .before .before .before) _ _ (c .before .before .before .before .before .before .found .given .1) (c .before .before .ask-cached .ensures)
-
-same-length-3 : tie.Need-same-length-3
-same-length-3 c = search needs
-
-same-length-4 : tie.Need-same-length-4
-same-length-4 c = search needs
-
-returns-3 : tie.Need-returns-3
-returns-3 c = missed (c .before .before .before .before .before .before .before .before .before) _ (c .before .before .before .before .before .before .before .enum-told .given .1) (c .before .before .before .before .ask-new .ensures)
+returns : tie.Need-returns
+returns c = rw (c .with-outcome .ensures) (c .before .before .before .before .before .answered .ensures)
 
 pub ask-spec : {M : Type 1} → statement M
 ask-spec =
     tie.close
     (tie.spec
+    is-sound-requires
+    is-unfit-requires
+    mul-q
+    array-copy-out-q
     ask-refusal-requires
-    not-asked-requires
-    returns
     cast-of
     of-requires
-    find-requires
-    enum-known-found
-    ask-cached-requires
-    enum-told
-    ask-new-requires
+    answered-requires
+    with-outcome-requires
     same-length
     same-length-2
-    returns-2
-    same-length-3
-    same-length-4
-    returns-3)
+    returns)

@@ -8,73 +8,73 @@ use Rattle.statement.specs.Compiled.{noQuery}
 use Rattle.cache.specs.Sound.{queryAt}
 use Rattle.cache.proofs.Sounds.{Sound, sound-is}
 use Rattle.cache.proofs.Inside.{query-table}
-use Rattle.cache.proofs.AskReturns.{new-short, new-inside, new-done}
+use Rattle.cache.proofs.AskReturns.{refused-is, new-short, new-inside, new-done}
 use Rattle.cache.proofs.State.ask_new.Statement.{statement}
 use Rattle.cache.proofs.State.ask_new.Tie as tie
 
-sound : (c : tie.Start) → Sound (c .args .t1)
-sound c = sound-is (c .args .t1) (c .pre .0)
+sound : (c : tie.Start) → Sound (c .args .self)
+sound c = sound-is (c .args .self) (c .pre .0)
 
-tables : (c : tie.Start) → length (c .args .t1 .tables) ≡ 8
+tables : (c : tie.Start) → length (c .args .self .tables) ≡ 8
 tables c = simp length-map at (c .good .0 .1 .1 .0 .1 .0 .1)
 
-queries : (c : tie.Start) → length (c .args .t1 .queries) ≡ 16
+queries : (c : tie.Start) → length (c .args .self .queries) ≡ 16
 queries c = simp length-map at (c .good .0 .1 .1 .1 .0 .1 .0 .1)
 
 few : (c : tie.Start) → c .args .query < 16
 few c = omega (arith, sound c .few-queries, c .pre .1)
 
-inside : (c : tie.Start) → c .args .query < length (c .args .t1 .queries)
+inside : (c : tie.Start) → c .args .query < length (c .args .self .queries)
 inside c = omega (arith, few c, queries c)
 
-there : (c : tie.Start) → queryAt (c .args .t1) (c .args .query) .table < length (c .args .t1 .tables)
-there c = omega (arith, query-table (c .args .t1) (sound c) (tables c) (queries c) (c .args .query) noQuery (c .pre .1), tables c)
+there : (c : tie.Start) → queryAt (c .args .self) (c .args .query) .table < length (c .args .self .tables)
+there c = omega (arith, query-table (c .args .self) (sound c) (tables c) (queries c) (c .args .query) noQuery (c .pre .1), tables c)
 
 mul-q : tie.Need-mul-q
-mul-q c = omega (arith, few (c .before .before))
+mul-q c = omega (arith, few (c .before .before .before .before .before))
 
-element-copy-out-q : tie.Need-element-copy-out-q
-element-copy-out-q c = few (c .before .before)
+array-copy-out-q : tie.Need-array-copy-out-q
+array-copy-out-q c = few (c .before .before .before .before .before)
 
 cast-t : tie.Need-cast-t
 cast-t c = search needs
 
-element-copy-out-t : tie.Need-element-copy-out-t
-element-copy-out-t c = let s = c .before .before .before .before in query-table (s .args .t1) (sound s) (tables s) (queries s) (s .args .query) _ (s .pre .1)
+array-copy-out-t : tie.Need-array-copy-out-t
+array-copy-out-t c = let s = c .before .before .before .before .before .before .before in query-table (s .args .self) (sound s) (tables s) (queries s) (s .args .query) _ (s .pre .1)
 
 mul-t : tie.Need-mul-t
-mul-t c = omega (arith, element-copy-out-t c)
+mul-t c = omega (arith, array-copy-out-t c)
 
 cast-areas : tie.Need-cast-areas
 cast-areas c = search needs
 
 areas-requires : tie.Need-areas-requires
-areas-requires c κs = omega (arith, element-copy-out-t (c .before .before .before))
+areas-requires c κs = omega (arith, array-copy-out-t (c .before .before))
 
 select-requires : tie.Need-select-requires
 select-requires c κs = search needs
 
-not-asked-requires : tie.Need-not-asked-requires
-not-asked-requires c κs = search needs
+not-answered-requires : tie.Need-not-answered-requires
+not-answered-requires c κs = search needs
 
 same-length : tie.Need-same-length
 same-length c = search needs
 
 returns : tie.Need-returns
 returns c =
-    let s = c .before .before .before .before .before .before .before .before .before .before .before .before .before .before .before in
+    let s = c .before .before .before .before .before .before .before .before .before .before .before .before .before .before .before .before .before in
     let a = s .args in
     let r = c .before .before .before .before .before .select in
-    new-short (a .t1) (a .cells .now) (a .memory .now) (a .query) (a .values .now) (a .answer .now) _ _ (inside s) (there s) _ (c .before .before .before .before .before .before .before .areas .ensures) (r .result) _
-    (r .ensures .0) (r .ensures .1) _ (c .before .if1 .taken) (c .not-asked .ensures)
+    new-short (a .self) (a .cells .now) (a .memory .now) (a .query) (a .values .now) (a .answer .now) _ _ (inside s) (there s) _ (c .before .before .before .before .before .before .before .areas .ensures) (r .result) _
+    (r .ensures .0) (r .ensures .1) _ (c .before .if1 .taken) (refused-is (a .self) (a .key) _ _ (c .not-answered .ensures))
 
 keep-requires : tie.Need-keep-requires
 keep-requires c κs =
-    let s = c .before .before .before .before .before .before .before .before .before .before .before .before .before .before .before .before in
+    let s = c .before .before .before .before .before .before .before .before .before .before .before .before .before .before .before .before .before .before in
     let a = s .args in
     let r = c .before .before .before .before .before .before .select in (
       s .pre .0,
-      new-inside (a .t1) (a .cells .now) (a .memory .now) (a .query) (a .values .now) (a .answer .now) _ _ (inside s) (there s) _ (c .before .before .before .before .before .before .before .before .areas .ensures) (r .result) _
+      new-inside (a .self) (a .cells .now) (a .memory .now) (a .query) (a .values .now) (a .answer .now) _ _ (inside s) (there s) _ (c .before .before .before .before .before .before .before .before .areas .ensures) (r .result) _
           (r .ensures .0) (r .ensures .1) (c .before .before .if1 .left),
       s .pre .2,
     )
@@ -87,26 +87,26 @@ same-length-3 c = search needs
 
 returns-2 : tie.Need-returns-2
 returns-2 c =
-    let s = c .before .before .before .before .before .before .before .before .before .before .before .before .before .before .before .before .before .before .before in
+    let s = c .before .before .before .before .before .before .before .before .before .before .before .before .before .before .before .before .before .before .before .before .before in
     let a = s .args in
     let r = c .before .before .before .before .before .before .before .before .before .select in
     let k = c .before .before .keep in
-    new-done (a .t1) (a .cells .now) (a .memory .now) (a .query) (a .values .now) (a .answer .now) _ _ (inside s) (there s) _ (c .before .before .before .before .before .before .before .before .before .before .before .areas .ensures) (r .result) _
-    (r .ensures .0) (r .ensures .1) (c .before .before .before .before .before .if1 .left) (a .key) _ _ (s .pre .3) (k .ensures .0) (k .ensures .1)
+    new-done (a .self) (a .cells .now) (a .memory .now) (a .query) (a .values .now) (a .answer .now) _ _ (inside s) (there s) _ (c .before .before .before .before .before .before .before .before .before .before .before .areas .ensures) (r .result) _
+    (r .ensures .0) (r .ensures .1) (c .before .before .before .before .before .if1 .left) (a .key) _ _ (s .pre .3) (k .ensures .0 (a .key)) (k .ensures .1)
 
 pub ask-new-spec : {M : Type 1} → statement M
 ask-new-spec =
     tie.close
     (tie.spec
     mul-q
-    element-copy-out-q
+    array-copy-out-q
     cast-t
     mul-t
-    element-copy-out-t
+    array-copy-out-t
     cast-areas
     areas-requires
     select-requires
-    not-asked-requires
+    not-answered-requires
     same-length
     returns
     keep-requires

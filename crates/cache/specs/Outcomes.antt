@@ -1,0 +1,50 @@
+-- What a question gives, without the state, as the code hands it on; and the state with it. Assumes nothing: these are definitions.
+use mathlib.Core.Path.{_≡_}
+use mathlib.Core.Bool.{Bool, true, false, not, _&&_, _||_}
+use mathlib.Core.List.{List, [], _∷_}
+use Prim.Native.Nat.{ℕ}
+use lib.Dec.{eqb, leb, ltb}
+use lib.ListN.{set}
+use Rattle.meaning.specs.Limits.{most-slots}
+use Rattle.meaning.specs.Plain.{lowestOf}
+use Rattle.slots.specs.declared.Key.{Key}
+use Rattle.slots.specs.declared.SlotList.{SlotList}
+use Rattle.cache.specs.declared.State.{State}
+use Rattle.cache.specs.declared.Asked.{Asked}
+use Rattle.cache.specs.declared.Place.{Place}
+use Rattle.cache.specs.declared.Outcome.{Outcome}
+use Rattle.cache.specs.Calls.{asks, withCache, askCached, kept}
+
+-- 2, from what decides it: whether the state is sound, its opening's lengths, and the lengths lent
+abbrev pub unfitIf : Bool → ℕ → ℕ → ℕ → ℕ → Bool
+unfitIf sound cells memory lent lentMemory = not sound || not (eqb lent cells && eqb lentMemory memory)
+
+-- 2, 10, 11, from the numbers that decide them
+abbrev pub askNumber : Bool → ℕ → ℕ → ℕ → ℕ → ℕ
+askNumber unfit count query parameters values = lowestOf ((2, unfit) ∷ (10, leb count query) ∷ (11, not (eqb values parameters)) ∷ [])
+
+-- no slot is taken
+abbrev pub noPlace : SlotList → Place
+noPlace slots = record { slot = 64; size = 0; slots = slots }
+
+abbrev pub noAnswer : ℕ → SlotList → Outcome
+noAnswer n slots = record { refusal = n; cached = 0; scanned = 0; length = 0; place = noPlace slots }
+
+-- the state with the key and the length in the place's slot, if it is one
+abbrev pub placedIf : Bool → State → Key → Place → State
+placedIf true s key p = withCache s (p .slots) (set (s .keys) (p .slot) key) (set (s .lengths) (p .slot) (p .size))
+placedIf false s key p = withCache s (p .slots) (s .keys) (s .lengths)
+
+abbrev pub placed : State → Key → Place → State
+placed s key p = placedIf (ltb (p .slot) most-slots) s key p
+
+abbrev pub outcomeOf : State → Key → Outcome → Asked
+outcomeOf s key o = record { refusal = o .refusal; cached = o .cached; scanned = o .scanned; length = o .length; state = placed s key (o .place) }
+
+-- the answer in the slot at place p of the order, whatever the key
+abbrev pub Caches : State → List ℕ → List ℕ → ℕ → Outcome → List ℕ → Type 0
+Caches s memory answer p o new = (key : Key) → asks (outcomeOf s key o) memory new ≡ askCached s memory answer p
+
+-- a record that is kept, whatever its key
+abbrev pub Keeps : State → List ℕ → Place → Type 0
+Keeps s r p = (key : Key) → placed s key p ≡ kept s key r
