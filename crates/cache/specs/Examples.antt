@@ -29,12 +29,12 @@ use Rattle.cache.specs.Calls.{settled, unfit, emptyState, openOf, addedB
 use Rattle.cache.specs.Run.{Start, opened, Call, add, ask, update, flush, Seen, step, gets, gotOf}
 
 -- what the computations open
-computing : Unit {0}
+unfoldable pub computing : Unit {0}
 unfolding isNameByte isWordByte decimal isName word negative tokenFrom firstToken scan tokens aCondition aSentence read pastLimit unknown taken miscounted statementOf body encode stored openingRefused noPlace compiledOf structOf conditionNodes soundCondition soundQuery soundTable soundUpdate answerStored meetsStored areaFits cellsAfter changeOf changedOf countAfter fits rowsAfter tablesSound queriesSound updatesSound contradictory class entry allAny clausesRead isFormed jointClauses matchesStored patternsStored relevant sameKey keyOf slotHas findOf heldTwice soundSlots frontOf takenOf slotsOpen soundTables soundAnswers soundState settled unfit emptyState openOf addedBy addRefusal addOf askRefusal withCache askCached kept keptMemory recordAt askNew askOf updateRefusal isMatched dropBy withChange updateDone updateOf flushOf step
 computing = tt
 
 -- 4,096 cells, 256 bytes of kept memory, 4 slots of 64 bytes
-abbrev desk : Start
+abbrev pub desk : Start
 desk = record { cells = replicate 4096 (pos 5); memory = replicate 256 7; slots = 4; slotBytes = 64 }
 
 -- an answer buffer of 20 bytes, in which something stands

@@ -8,12 +8,16 @@ use lib.ListN.{replicate}
 use Rattle.lists.specs.Lists.{bytes}
 use Rattle.meaning.specs.Tokens.{isNameByte, isWordByte, decimal, isName, word, negative, tokenFrom}
 use Rattle.meaning.specs.Record.{isRecord, hasRow, rowPart}
+use Rattle.cache.specs.Examples as calls
+use Rattle.cache.specs.Examples.{desk}
+use Rattle.cache.specs.Run.{opened}
 use Rattle.console.specs.Lines.{Command, add, ask, change, flush, bad, numberIn, valueIn, valuesIn, commandOf}
-use Rattle.console.specs.Printed.{decimalText, numberText, answerText}
+use Rattle.console.specs.Printed.{decimalText, numberText, line, refusedText, addedText, updatedText, answerText}
+use Rattle.console.specs.Desk.{answeredOf, printedFor}
 
 -- what the computations open
 computing : Unit {0}
-unfolding isNameByte isWordByte decimal isName word negative tokenFrom isRecord hasRow rowPart numberIn valueIn valuesIn commandOf decimalText numberText answerText
+unfolding calls.computing addedText updatedText refusedText answeredOf isNameByte isWordByte decimal isName word negative tokenFrom isRecord hasRow rowPart numberIn valueIn valuesIn commandOf decimalText numberText answerText
 computing = tt
 
 -- lines, and what they say
@@ -72,3 +76,23 @@ pub answers-are : map
     ∷ []
 unfolding computing
 answers-are = refl
+
+-- document 01's transcript: left the line, right what `desk` prints for it
+abbrev transcript : List (String × String)
+transcript =
+    ("ADD TABLE stage (site, level) ROWS 3", "table 0")
+    ∷ ("ADD INSERT INTO stage VALUES (?, ?)", "update 0")
+    ∷ ("ADD SELECT level FROM stage WHERE site = ?", "query 0")
+    ∷ ("DO 0 7 120", "rows 1 dropped 0")
+    ∷ ("ASK 0 7", "new read 1 : 120")
+    ∷ ("DO 0 8 95", "rows 1 dropped 0")
+    ∷ ("ASK 0 7", "kept read 0 : 120")
+    ∷ ("DO 0 7 121", "rows 1 dropped 1")
+    ∷ ("ASK 0 7", "new read 3 : 120 / 121")
+    ∷ ("DO 0 7 122", "refused 12")
+    ∷ []
+
+pub transcript-is : printedFor (opened desk) (replicate 20 9) (map (λ (x : String × String). bytes (x .0)) transcript)
+    ≡ map (λ (x : String × String). line (bytes (x .1))) transcript
+unfolding computing
+transcript-is = refl
