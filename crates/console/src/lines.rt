@@ -1,6 +1,7 @@
 // A line gathered from pieces of the input, and what it says.
 use super::Gathered;
 use super::Line;
+use super::text::put_byte;
 use token::Token;
 ghost use mathlib.Core.Path.{_≡_};
 ghost use mathlib.Core.List.{[], _∷_};
@@ -28,18 +29,6 @@ struct Value {
 }
 
 // ---- lines of the input
-
-// Puts a byte, if there is room, and says where the next one goes.
-fn put_byte(line: &mut [u8], at: usize, b: u8) -> usize
-    ensures result { λ r. ⌜ r ≡ filledTo (now (line .entry)) at (b ∷ []) ⌝ }
-    ensures bytes { λ _. ⌜ now (line .exit) ≡ filled (now (line .entry)) at (b ∷ []) ⌝ }
-{
-    if at < line.len() {
-        line[at] = b;
-        return at + 1;
-    }
-    at
-}
 
 // Puts the input's bytes from `from` on, up to the end of the line, behind the `held` bytes of `line`, as far as there is room.
 pub fn gather(input: &[u8], from: usize, line: &mut [u8], held: usize) -> Gathered

@@ -10,7 +10,8 @@ ghost use Rattle.console.specs.Printed.{decimalText, numberText, line, r
 
 // ---- pieces: each is put at a place, as far as there is room, and the result is where it ends
 
-fn put_byte(out: &mut [u8], at: usize, b: u8) -> usize
+// Puts a byte, if there is room, and says where the next one goes.
+pub fn put_byte(out: &mut [u8], at: usize, b: u8) -> usize
     ensures { λ r. ⌜ Puts (now (out .entry)) at (b ∷ []) (now (out .exit)) r ⌝ }
 {
     if at < out.len() {
