@@ -1,15 +1,15 @@
 -- The test of a state, part by part, as the code computes it: sizes, counts, areas of tables, held slots, and what one part says of the whole. Assumes nothing.
 use mathlib.Core.Path.{_≡_, refl, sym, ap, ap₂, _∙_}
-use mathlib.Core.Bool.{Bool, true, false, not, _&&_, _||_, and-true, and-false}
+use mathlib.Core.Bool.{Bool, true, false, not, _&&_, _||_, and-true, and-false, cond}
 use mathlib.Core.List.{List, [], _∷_}
 use Prim.Native.Nat.{ℕ, suc, _+_, _-_, _*_, _%_, _≤_, _<_}
-use native.Mathlib.Nat.{mul-le-mul, suc-mul}
+use native.Mathlib.Nat.{mul-le-mul}
 use native.Mathlib.Omega.{arith}
-use borrow.Author.Tests.{leb-true, ltb-true}
+use borrow.Author.Tests.{leb-true, ltb-true, ltb-false, leb-false}
 use lib.Dec.{eqb, leb, ltb}
 use lib.ListN.{length, take, getD}
 use Rattle.lists.specs.Lists.{all}
-use Rattle.lists.proofs.Bools.{and-left, and-right, leb-not}
+use Rattle.lists.proofs.Bools.{and-assoc, and-left, and-right, leb-not}
 use Rattle.lists.proofs.Places.{getD-inside}
 use Rattle.lists.proofs.Walks.{rest, rest-cons, rest-none}
 use Rattle.meaning.specs.Plain.{openingRefused}
@@ -22,7 +22,7 @@ use Rattle.slots.specs.declared.SlotList.{SlotList}
 use Rattle.slots.specs.Keys.{noKey, slotKey, heldKeys, heldTwice}
 use Rattle.slots.specs.Order.{heldSlots, soundSlots}
 use Rattle.cache.specs.declared.State.{State}
-use Rattle.cache.specs.Sound.{opening, soundSizes, soundCounts, areasOf, lengthAt, lengthFits, soundLengths, soundKey, soundKeys, keyFits, slotFits, soundTables, soundAnswers, soundState}
+use Rattle.cache.specs.Sound.{opening, soundSizes, soundCounts, areasOf, rowsFit, lengthAt, lengthFits, soundLengths, soundKey, soundKeys, keyFits, slotFits, soundTables, soundAnswers, soundState}
 use Rattle.slots.proofs.Laws.{Sound, sound-is}
 use Rattle.cache.proofs.Sounds.{All-first}
 
@@ -67,30 +67,62 @@ module _ (cells memory slots bytes : ℕ) where
 
 module _ (n : ℕ) (tables : List Table) where
   pub record Summed (cells i : ℕ) : Type 0 where
-    pub within : i ≤ n
+    pub within : i ≤ 8
     pub sum : cells ≡ areasOf (rest n i tables)
-    pub small : cells ≤ (n - i) * 16711425
+    pub small : cells + i * 16711425 ≤ 8 * 16711425
 
-  pub summed-start : Summed 0 n
-  summed-start = record { within = omega arith; sum = ap areasOf (sym (rest-none n n tables (omega arith))); small = omega arith }
+  pub summed-start : n ≤ 8 → Summed 0 8
+  summed-start h = record { within = omega arith; sum = ap areasOf (sym (rest-none n 8 tables h)); small = omega arith }
 
   module _ (h : n ≤ length tables) (cells i : ℕ) (d : Table) (k : 0 < i) (S : Summed cells i) where
     abbrev next : Table
     next = getD tables (i - 1) d
 
-    module _ (few : next .count ≤ 255) (low : next .capacity ≤ 65535) where
-      pub summed-more : Summed (cells + next .count * next .capacity) (i - 1)
-      summed-more =
-          let e : i - 1 + 1 ≡ i = omega arith in
-          let s : areasOf (rest n (i - 1) tables) ≡ next .count * next .capacity + areasOf (rest n i tables) =
-          ap areasOf (rest-cons n (i - 1) tables d h (omega (arith, S .within))) ∙ ap (λ (j : ℕ). next .count * next .capacity + areasOf (rest n j tables)) e in
-          let m : next .count * next .capacity ≤ 255 * 65535 = mul-le-mul few low in
-          let p : n - (i - 1) ≡ suc (n - i) = omega (arith, S .within) in
-          let q : (n - (i - 1)) * 16711425 ≡ (n - i) * 16711425 + 16711425 = ap (λ (j : ℕ). j * 16711425) p ∙ suc-mul (n - i) 16711425 in
-          record { within = omega (arith, S .within); sum = omega (arith, S .sum); small = omega (arith, S .small) }
+    sum-more : (b : Bool) → ltb (i - 1) n ≡ b → cells + cond b (next .count * next .capacity) 0 ≡ areasOf (rest n (i - 1) tables)
+    sum-more true t =
+        let e : i - 1 + 1 ≡ i = omega arith in
+        let s : areasOf (rest n (i - 1) tables) ≡ next .count * next .capacity + areasOf (rest n i tables) =
+        ap areasOf (rest-cons n (i - 1) tables d h (ltb-true (i - 1) n t)) ∙ ap (λ (j : ℕ). next .count * next .capacity + areasOf (rest n j tables)) e in
+        omega (arith, S .sum)
+    sum-more false t =
+        let l : n ≤ i - 1 = ltb-false (i - 1) n t in
+        let s : areasOf (rest n (i - 1) tables) ≡ 0 = ap areasOf (rest-none n (i - 1) tables l) in
+        let z : areasOf (rest n i tables) ≡ 0 = ap areasOf (rest-none n i tables (omega arith)) in
+        omega (arith, S .sum)
+
+    pub summed-more : (r : ℕ) → r ≡ cond (ltb (i - 1) n) (next .count * next .capacity) 0 → r ≤ 16711425 → Summed (cells + r) (i - 1)
+    summed-more r e f = record {
+      within = omega (arith, S .within);
+      sum = ap (λ (j : ℕ). cells + j) e ∙ sum-more (ltb (i - 1) n) refl;
+      small = omega (arith, S .small);
+    }
 
   pub summed-end : (cells i : ℕ) → i ≤ 0 → Summed cells i → cells ≡ areasOf (take n tables)
   summed-end cells i h S = let e : i ≡ 0 = omega arith in S .sum ∙ ap (λ (j : ℕ). areasOf (rest n j tables)) e
+
+  -- ---- rows: the tables left tell
+
+  pub record Rows (fit : Bool) (i : ℕ) : Type 0 where
+    pub left : (fit && all rowsFit (rest n i tables)) ≡ all rowsFit (take n tables)
+
+  pub rows-start : Rows true 0
+  rows-start = record { left = refl }
+
+  pub rows-more : n ≤ length tables → (fit : Bool) (i : ℕ) (d : Table) → Rows fit i → Rows (fit && (leb n i || rowsFit (getD tables i d))) (i + 1)
+  rows-more h fit i d R = record { left = go (leb n i) refl }
+    where
+      go : (b : Bool) → leb n i ≡ b → ((fit && (b || rowsFit (getD tables i d))) && all rowsFit (rest n (i + 1) tables)) ≡ all rowsFit (take n tables)
+      go true t =
+          let l : n ≤ i = leb-true n i t in
+          let e : rest n (i + 1) tables ≡ rest n i tables = rest-none n (i + 1) tables (omega arith) ∙ sym (rest-none n i tables l) in
+          ap₂ (λ (b : Bool) (ts : List Table). b && all rowsFit ts) (and-true fit) e ∙ R .left
+      go false t =
+          sym (and-assoc fit (rowsFit (getD tables i d)) (all rowsFit (rest n (i + 1) tables)))
+          ∙ ap (λ (ts : List Table). fit && all rowsFit ts) (sym (rest-cons n i tables d h (leb-false n i t)))
+          ∙ R .left
+
+  pub rows-end : (fit : Bool) (i : ℕ) → n ≤ i → Rows fit i → fit ≡ all rowsFit (take n tables)
+  rows-end fit i h R = sym (and-true fit) ∙ ap (λ (ts : List Table). fit && all rowsFit ts) (sym (rest-none n i tables h)) ∙ R .left
 
 -- ---- held slots
 

@@ -6,8 +6,8 @@ use table::Query;
 use table::Table;
 use table::Update;
 ghost use mathlib.Core.Path.{_≡_};
-ghost use mathlib.Core.Bool.{true, not, _&&_};
-ghost use Prim.Native.Nat.{_≤_};
+ghost use mathlib.Core.Bool.{true, not, _&&_, cond};
+ghost use Prim.Native.Nat.{_*_, _≤_};
 ghost use lib.Dec.{eqb, leb, ltb};
 ghost use lib.ListN.{take};
 ghost use Rattle.lists.specs.Lists.{all};
@@ -37,17 +37,28 @@ pub fn counts_fit(tables: u8, queries: u8, updates: u8) -> bool
     ((tables as usize) <= Table::TABLES) & few
 }
 
-// The cells of the areas of the first n tables.
+// The cells of a table's area, where the table is there.
+fn area_if(there: bool, count: u8, capacity: u16) -> usize
+    ensures { λ r. ⌜ (r ≡ cond there (count * capacity) 0) × (r ≤ 16711425) ⌝ }
+{
+    if there {
+        (count as usize) * (capacity as usize)
+    } else {
+        0
+    }
+}
+
+// The cells of the areas of the first n tables. Here and below a loop of always eight turns is laid out flat, and reads the tables where they stand.
 pub fn areas(tables: [Table; Table::TABLES], n: usize) -> usize
     requires { ⌜ n ≤ 8 ⌝ }
     ensures { λ r. ⌜ r ≡ areasOf (take n tables) ⌝ }
 {
     let mut cells: usize = 0;
-    let mut i = n;
+    let mut i = Table::TABLES;
     while 0 < i {
         i -= 1;
         let t = tables[i];
-        cells += (t.count as usize) * (t.capacity as usize);
+        cells += area_if(i < n, t.count, t.capacity);
     }
     cells
 }
@@ -59,9 +70,9 @@ pub fn rows_fit(tables: [Table; Table::TABLES], n: usize) -> bool
 {
     let mut fit = true;
     let mut i: usize = 0;
-    while i < n {
+    while i < Table::TABLES {
         let t = tables[i];
-        fit = fit & (t.rows <= t.capacity);
+        fit = fit & ((n <= i) | (t.rows <= t.capacity));
         i += 1;
     }
     fit
