@@ -13,7 +13,7 @@ ghost use lib.ListN.{take};
 ghost use Rattle.lists.specs.Lists.{all};
 ghost use Rattle.meaning.specs.Plain.{openingRefused};
 ghost use Rattle.slots.specs.Order.{soundSlots};
-ghost use Rattle.cache.specs.Sound.{opening, areasOf, rowsFit, keyFits, lengthFits, slotFits};
+ghost use Rattle.cache.specs.Sound.{opening, areasOf, rowsFit, parametersOf, keyFits, lengthFits, slotFits};
 
 // Whether an opening is within the limits, and its slots within the cache memory.
 pub fn sizes_fit(cells: usize, memory: usize, slots: usize, bytes: usize) -> bool
@@ -78,6 +78,20 @@ pub fn rows_fit(tables: [Table; Table::TABLES], n: usize) -> bool
     fit
 }
 
+// How many parameters each query has, also those that are not in use.
+pub fn parameters_of(queries: [Query; Query::QUERIES]) -> [u8; Query::QUERIES]
+    ensures { λ r. ⌜ r ≡ parametersOf queries ⌝ }
+{
+    let mut counts = [0u8; Query::QUERIES];
+    let mut i: usize = 0;
+    while i < Query::QUERIES {
+        let q = queries[i];
+        counts[i] = q.parameters;
+        i += 1;
+    }
+    counts
+}
+
 // Whether an answer's key has an existing query, of which there are n, with so many parameters, and its length is from 8 to the slot's bytes.
 fn slot_fits(query: u8, count: u8, n: u8, parameters: u8, length: u16, bytes: u16) -> bool
     ensures { λ r. ⌜ r ≡ (keyFits query count n parameters && lengthFits length bytes) ⌝ }
@@ -86,17 +100,17 @@ fn slot_fits(query: u8, count: u8, n: u8, parameters: u8, length: u16, bytes: u1
     (query < n) & (count == parameters) & sized
 }
 
-// Whether each held slot has a key and a length that fit.
+// Whether each held slot has a key and a length that fit, where the queries have so many parameters.
 pub fn held_fit(
     keys: [Key; SlotList::SLOTS],
     lengths: [u16; SlotList::SLOTS],
     slots: SlotList,
-    queries: [Query; Query::QUERIES],
+    parameters: [u8; Query::QUERIES],
     n: u8,
     bytes: u16,
 ) -> bool
     requires { ⌜ (soundSlots slots ≡ true) × (n ≤ 16) ⌝ }
-    ensures { λ r. ⌜ r ≡ all (slotFits keys lengths queries n bytes) (take (slots .held) (slots .order)) ⌝ }
+    ensures { λ r. ⌜ r ≡ all (slotFits keys lengths parameters n bytes) (take (slots .held) (slots .order)) ⌝ }
 {
     let order = slots.order;
     let held = slots.held as usize;
@@ -105,8 +119,8 @@ pub fn held_fit(
     while i < held {
         let x = order[i] as usize;
         let k = keys[x];
-        let q = queries[(k.query as usize) % Query::QUERIES];
-        fit = fit & slot_fits(k.query, k.count, n, q.parameters, lengths[x], bytes);
+        let p = parameters[(k.query as usize) % Query::QUERIES];
+        fit = fit & slot_fits(k.query, k.count, n, p, lengths[x], bytes);
         i += 1;
     }
     fit
