@@ -1,28 +1,30 @@
 -- The test of a state, part by part, as the code computes it: sizes, counts, areas of tables, held slots, and what one part says of the whole. Assumes nothing.
 use mathlib.Core.Path.{_≡_, refl, sym, ap, ap₂, _∙_}
-use mathlib.Core.Bool.{Bool, true, false, not, _&&_, _||_, and-true, and-false}
-use mathlib.Core.List.{List, [], _∷_}
+use mathlib.Core.Bool.{Bool, true, false, not, _&&_, _||_, and-true, and-false, cond}
+use mathlib.Core.List.{List, [], _∷_, _++_, map, append-nil}
 use Prim.Native.Nat.{ℕ, suc, _+_, _-_, _*_, _%_, _≤_, _<_}
-use native.Mathlib.Nat.{mul-le-mul, suc-mul}
+use native.Mathlib.Nat.{mul-le-mul}
 use native.Mathlib.Omega.{arith}
-use borrow.Author.Tests.{leb-true, ltb-true}
+use borrow.Author.Tests.{leb-true, ltb-true, ltb-false, leb-false}
 use lib.Dec.{eqb, leb, ltb}
-use lib.ListN.{length, take, getD}
+use lib.ListN.{length, take, getD, set, replicate, length-map, List·getD-map}
+use lib.Seq.{take-all}
 use Rattle.lists.specs.Lists.{all}
-use Rattle.lists.proofs.Bools.{and-left, and-right, leb-not}
+use Rattle.lists.proofs.Bools.{and-assoc, and-left, and-right, leb-not}
 use Rattle.lists.proofs.Places.{getD-inside}
 use Rattle.lists.proofs.Walks.{rest, rest-cons, rest-none}
 use Rattle.meaning.specs.Plain.{openingRefused}
 use Rattle.statement.specs.declared.Table.{Table}
 use Rattle.statement.specs.declared.Query.{Query}
-use Rattle.statement.specs.Compiled.{noQuery}
+use Rattle.statement.specs.Compiled.{padded, noQuery}
 use Rattle.statement.proofs.Stored.{all-map}
+use Rattle.statement.proofs.Walks.{length-first, map-rest, map-none, Fills, fills-start, fills-more, fills-end}
 use Rattle.slots.specs.declared.Key.{Key}
 use Rattle.slots.specs.declared.SlotList.{SlotList}
 use Rattle.slots.specs.Keys.{noKey, slotKey, heldKeys, heldTwice}
 use Rattle.slots.specs.Order.{heldSlots, soundSlots}
 use Rattle.cache.specs.declared.State.{State}
-use Rattle.cache.specs.Sound.{opening, soundSizes, soundCounts, areasOf, lengthAt, lengthFits, soundLengths, soundKey, soundKeys, keyFits, slotFits, soundTables, soundAnswers, soundState}
+use Rattle.cache.specs.Sound.{opening, soundSizes, soundCounts, areasOf, rowsFit, lengthAt, lengthFits, soundLengths, soundKey, soundKeys, keyFits, parametersOf, slotFits, soundTables, soundAnswers, soundState}
 use Rattle.slots.proofs.Laws.{Sound, sound-is}
 use Rattle.cache.proofs.Sounds.{All-first}
 
@@ -67,30 +69,62 @@ module _ (cells memory slots bytes : ℕ) where
 
 module _ (n : ℕ) (tables : List Table) where
   pub record Summed (cells i : ℕ) : Type 0 where
-    pub within : i ≤ n
+    pub within : i ≤ 8
     pub sum : cells ≡ areasOf (rest n i tables)
-    pub small : cells ≤ (n - i) * 16711425
+    pub small : cells + i * 16711425 ≤ 8 * 16711425
 
-  pub summed-start : Summed 0 n
-  summed-start = record { within = omega arith; sum = ap areasOf (sym (rest-none n n tables (omega arith))); small = omega arith }
+  pub summed-start : n ≤ 8 → Summed 0 8
+  summed-start h = record { within = omega arith; sum = ap areasOf (sym (rest-none n 8 tables h)); small = omega arith }
 
   module _ (h : n ≤ length tables) (cells i : ℕ) (d : Table) (k : 0 < i) (S : Summed cells i) where
     abbrev next : Table
     next = getD tables (i - 1) d
 
-    module _ (few : next .count ≤ 255) (low : next .capacity ≤ 65535) where
-      pub summed-more : Summed (cells + next .count * next .capacity) (i - 1)
-      summed-more =
-          let e : i - 1 + 1 ≡ i = omega arith in
-          let s : areasOf (rest n (i - 1) tables) ≡ next .count * next .capacity + areasOf (rest n i tables) =
-          ap areasOf (rest-cons n (i - 1) tables d h (omega (arith, S .within))) ∙ ap (λ (j : ℕ). next .count * next .capacity + areasOf (rest n j tables)) e in
-          let m : next .count * next .capacity ≤ 255 * 65535 = mul-le-mul few low in
-          let p : n - (i - 1) ≡ suc (n - i) = omega (arith, S .within) in
-          let q : (n - (i - 1)) * 16711425 ≡ (n - i) * 16711425 + 16711425 = ap (λ (j : ℕ). j * 16711425) p ∙ suc-mul (n - i) 16711425 in
-          record { within = omega (arith, S .within); sum = omega (arith, S .sum); small = omega (arith, S .small) }
+    sum-more : (b : Bool) → ltb (i - 1) n ≡ b → cells + cond b (next .count * next .capacity) 0 ≡ areasOf (rest n (i - 1) tables)
+    sum-more true t =
+        let e : i - 1 + 1 ≡ i = omega arith in
+        let s : areasOf (rest n (i - 1) tables) ≡ next .count * next .capacity + areasOf (rest n i tables) =
+        ap areasOf (rest-cons n (i - 1) tables d h (ltb-true (i - 1) n t)) ∙ ap (λ (j : ℕ). next .count * next .capacity + areasOf (rest n j tables)) e in
+        omega (arith, S .sum)
+    sum-more false t =
+        let l : n ≤ i - 1 = ltb-false (i - 1) n t in
+        let s : areasOf (rest n (i - 1) tables) ≡ 0 = ap areasOf (rest-none n (i - 1) tables l) in
+        let z : areasOf (rest n i tables) ≡ 0 = ap areasOf (rest-none n i tables (omega arith)) in
+        omega (arith, S .sum)
+
+    pub summed-more : (r : ℕ) → r ≡ cond (ltb (i - 1) n) (next .count * next .capacity) 0 → r ≤ 16711425 → Summed (cells + r) (i - 1)
+    summed-more r e f = record {
+      within = omega (arith, S .within);
+      sum = ap (λ (j : ℕ). cells + j) e ∙ sum-more (ltb (i - 1) n) refl;
+      small = omega (arith, S .small);
+    }
 
   pub summed-end : (cells i : ℕ) → i ≤ 0 → Summed cells i → cells ≡ areasOf (take n tables)
   summed-end cells i h S = let e : i ≡ 0 = omega arith in S .sum ∙ ap (λ (j : ℕ). areasOf (rest n j tables)) e
+
+  -- ---- rows: the tables left tell
+
+  pub record Rows (fit : Bool) (i : ℕ) : Type 0 where
+    pub left : (fit && all rowsFit (rest n i tables)) ≡ all rowsFit (take n tables)
+
+  pub rows-start : Rows true 0
+  rows-start = record { left = refl }
+
+  pub rows-more : n ≤ length tables → (fit : Bool) (i : ℕ) (d : Table) → Rows fit i → Rows (fit && (leb n i || rowsFit (getD tables i d))) (i + 1)
+  rows-more h fit i d R = record { left = go (leb n i) refl }
+    where
+      go : (b : Bool) → leb n i ≡ b → ((fit && (b || rowsFit (getD tables i d))) && all rowsFit (rest n (i + 1) tables)) ≡ all rowsFit (take n tables)
+      go true t =
+          let l : n ≤ i = leb-true n i t in
+          let e : rest n (i + 1) tables ≡ rest n i tables = rest-none n (i + 1) tables (omega arith) ∙ sym (rest-none n i tables l) in
+          ap₂ (λ (b : Bool) (ts : List Table). b && all rowsFit ts) (and-true fit) e ∙ R .left
+      go false t =
+          sym (and-assoc fit (rowsFit (getD tables i d)) (all rowsFit (rest n (i + 1) tables)))
+          ∙ ap (λ (ts : List Table). fit && all rowsFit ts) (sym (rest-cons n i tables d h (leb-false n i t)))
+          ∙ R .left
+
+  pub rows-end : (fit : Bool) (i : ℕ) → n ≤ i → Rows fit i → fit ≡ all rowsFit (take n tables)
+  rows-end fit i h R = sym (and-true fit) ∙ ap (λ (ts : List Table). fit && all rowsFit ts) (sym (rest-none n i tables h)) ∙ R .left
 
 -- ---- held slots
 
@@ -105,31 +139,52 @@ module _ (s : SlotList) (long : length (s .order) ≡ 64) (ok : soundSlots s ≡
       let b : getD (s .order) i 0 < s .count = All-first {P = λ x. x < s .count} (s .count) (s .order) i 0 (omega (arith, S .few)) (omega (arith, S .within)) (S .below) in
       omega (arith, S .few)
 
-module _ (keys : List Key) (lengths : List ℕ) (queries : List Query) (n bytes x : ℕ) (d : Key) (e : Query) where
+-- the parameters left are to be written
+module _ (queries : List Query) where
+  abbrev marks : Query → ℕ
+  marks q = q .parameters
+
+  pub record Counted (out : List ℕ) (i : ℕ) : Type 0 where
+    pub fills : Fills (padded 16 0 (map marks (take 16 queries))) out i (map marks (rest 16 i queries))
+
+  pub counted-start : 16 ≤ length queries → Counted (replicate 16 0) 0
+  counted-start l = record { fills = fills-start 16 0 (map marks (take 16 queries)) (replicate 16 0) refl (omega (arith, length-first marks 16 queries l)) }
+
+  pub counted-more : 16 ≤ length queries → (out : List ℕ) (i : ℕ) (d : Query) → i < 16 → Counted out i → Counted (set out i (getD queries i d .parameters)) (i + 1)
+  counted-more l out i d k C = record {
+    fills = fills-more _ out i (map marks (rest 16 i queries)) _ (map marks (rest 16 (i + 1) queries)) (map-rest marks 16 i queries d _ l k refl) (C .fills);
+  }
+
+  pub counted-end : length queries ≡ 16 → (out : List ℕ) (i : ℕ) → 16 ≤ i → Counted out i → out ≡ parametersOf queries
+  counted-end l out i k C =
+      let z : 16 - length (map marks queries) ≡ 0 = omega (arith, length-map queries marks) in
+      fills-end _ out i (map marks (rest 16 i queries)) (map-none marks 16 i queries k) (C .fills)
+      ∙ ap (λ (qs : List Query). padded 16 0 (map marks qs)) (take-all 16 queries (omega arith))
+      ∙ ap (λ (j : ℕ). map marks queries ++ replicate j 0) z ∙ append-nil (map marks queries)
+
+module _ (keys : List Key) (lengths parameters : List ℕ) (n bytes x : ℕ) (d : Key) where
   abbrev key : Key
   key = getD keys x d
 
   -- a query below n stands at its number; one past them does not fit
-  number-is : (k : Key) → length queries ≡ 16 → n ≤ 16
-      → keyFits (k .query) (k .count) n (getD queries (k .query % 16) e .parameters) ≡ keyFits (k .query) (k .count) n (getD queries (k .query) noQuery .parameters)
-  number-is k l h = go (ltb (k .query) n) refl
+  number-is : (k : Key) → n ≤ 16
+      → keyFits (k .query) (k .count) n (getD parameters (k .query % 16) 0) ≡ keyFits (k .query) (k .count) n (getD parameters (k .query) 0)
+  number-is k h = go (ltb (k .query) n) refl
     where
       go : (b : Bool) → ltb (k .query) n ≡ b
-          → (b && eqb (k .count) (getD queries (k .query % 16) e .parameters)) ≡ (b && eqb (k .count) (getD queries (k .query) noQuery .parameters))
+          → (b && eqb (k .count) (getD parameters (k .query % 16) 0)) ≡ (b && eqb (k .count) (getD parameters (k .query) 0))
       go true t =
           let y : k .query < n = ltb-true (k .query) n t in
           let z : k .query % 16 ≡ k .query = omega arith in
-          let w : k .query < length queries = omega arith in
-          ap (λ (q : ℕ). eqb (k .count) (getD queries q e .parameters)) z
-          ∙ ap (λ (q : Query). eqb (k .count) (q .parameters)) (getD-inside queries (k .query) e noQuery w)
+          ap (λ (q : ℕ). eqb (k .count) (getD parameters q 0)) z
       go false t = refl
 
-  pub slot-tested : length keys ≡ 64 → length queries ≡ 16 → n ≤ 16 → x < 64 → (r : Bool)
-      → r ≡ (keyFits (key .query) (key .count) n (getD queries (key .query % 16) e .parameters) && lengthFits (getD lengths x 0) bytes) → r ≡ slotFits keys lengths queries n bytes x
-  slot-tested l m h b r p =
+  pub slot-tested : length keys ≡ 64 → n ≤ 16 → x < 64 → (r : Bool)
+      → r ≡ (keyFits (key .query) (key .count) n (getD parameters (key .query % 16) 0) && lengthFits (getD lengths x 0) bytes) → r ≡ slotFits keys lengths parameters n bytes x
+  slot-tested l h b r p =
       p
-      ∙ ap (λ (k : Key). keyFits (k .query) (k .count) n (getD queries (k .query % 16) e .parameters) && lengthFits (getD lengths x 0) bytes) (getD-inside keys x d noKey (omega arith))
-      ∙ ap (λ (t : Bool). t && lengthFits (getD lengths x 0) bytes) (number-is (getD keys x noKey) m h)
+      ∙ ap (λ (k : Key). keyFits (k .query) (k .count) n (getD parameters (k .query % 16) 0) && lengthFits (getD lengths x 0) bytes) (getD-inside keys x d noKey (omega arith))
+      ∙ ap (λ (t : Bool). t && lengthFits (getD lengths x 0) bytes) (number-is (getD keys x noKey) h)
 
 -- ---- the answers: each held slot by itself, then all
 
@@ -154,15 +209,25 @@ module _ (s : State) where
       go false true t = refl
       go false false t = refl
 
-  pub answers-tested : (fit twice : Bool) → soundSlots (s .slots) ≡ true
-      → fit ≡ all (slotFits (s .keys) (s .lengths) (s .queries) (s .«query_count») (s .«slot_bytes»)) (heldSlots (s .slots)) → twice ≡ heldTwice (s .keys) (s .slots)
+  -- a slot by the parameters of its query
+  slot-is : (x : ℕ) → slotFits (s .keys) (s .lengths) (parametersOf (s .queries)) (s .«query_count») (s .«slot_bytes») x
+      ≡ (soundKey s (slotKey (s .keys) x) && lengthFits (lengthAt s x) (s .«slot_bytes»))
+  slot-is x =
+      let k : Key = slotKey (s .keys) x in
+      ap (λ (m : ℕ). keyFits (k .query) (k .count) (s .«query_count») m && lengthFits (lengthAt s x) (s .«slot_bytes»))
+      (List·getD-map (λ (q : Query). q .parameters) (s .queries) (k .query) noQuery)
+
+  pub answers-tested : (parameters : List ℕ) (fit twice : Bool) → parameters ≡ parametersOf (s .queries) → soundSlots (s .slots) ≡ true
+      → fit ≡ all (slotFits (s .keys) (s .lengths) parameters (s .«query_count») (s .«slot_bytes»)) (heldSlots (s .slots)) → twice ≡ heldTwice (s .keys) (s .slots)
       → (fit && not twice) ≡ soundAnswers s
   unfolding soundAnswers
-  answers-tested fit twice e f t =
+  answers-tested parameters fit twice q e f t =
       let keys : ℕ → Bool = λ (x : ℕ). soundKey s (slotKey (s .keys) x) in
       let lengths : ℕ → Bool = λ (x : ℕ). lengthFits (lengthAt s x) (s .«slot_bytes») in
       ap₂ (λ (a b : Bool). a && not b)
-      (f ∙ all-both keys lengths (heldSlots (s .slots)) ∙ ap (λ (b : Bool). b && all lengths (heldSlots (s .slots))) (sym (all-map (slotKey (s .keys)) (soundKey s) (heldSlots (s .slots)))))
+      (f ∙ ap (λ (ps : List ℕ). all (slotFits (s .keys) (s .lengths) ps (s .«query_count») (s .«slot_bytes»)) (heldSlots (s .slots))) q
+      ∙ ap (λ (p : ℕ → Bool). all p (heldSlots (s .slots))) (λ i x. slot-is x i)
+      ∙ all-both keys lengths (heldSlots (s .slots)) ∙ ap (λ (b : Bool). b && all lengths (heldSlots (s .slots))) (sym (all-map (slotKey (s .keys)) (soundKey s) (heldSlots (s .slots)))))
       t
       ∙ answers-are (all (soundKey s) (heldKeys (s .keys) (s .slots))) (all lengths (heldSlots (s .slots))) (heldTwice (s .keys) (s .slots)) e
 

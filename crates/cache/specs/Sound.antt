@@ -1,7 +1,7 @@
 -- When a state is sound: document 01, "The store and its calls", "A state is sound when ..". One test, which the code computes for any state; each part of the
 -- sentence by itself, in its order. Entries past the counts do not matter. Assumes nothing: these are definitions.
 use mathlib.Core.Bool.{Bool, not, _&&_}
-use mathlib.Core.List.{List, [], _∷_}
+use mathlib.Core.List.{List, [], _∷_, map}
 use Prim.Native.Nat.{ℕ, _+_, _*_}
 use lib.Dec.{eqb, leb, ltb}
 use lib.ListN.{getD, take}
@@ -83,14 +83,17 @@ soundKey s k = ltb (k .query) (s .«query_count») && eqb (k .count) (queryAt s 
 abbrev pub soundKeys : State → Bool
 soundKeys s = all (soundKey s) (heldKeys (s .keys) (s .slots)) && not (heldTwice (s .keys) (s .slots))
 
--- both of a slot, for the code
+-- how many parameters each query has, and both of a slot, for the code
+abbrev pub parametersOf : List Query → List ℕ
+parametersOf queries = map (λ (q : Query). q .parameters) queries
+
 abbrev pub keyFits : ℕ → ℕ → ℕ → ℕ → Bool
 keyFits query count n parameters = ltb query n && eqb count parameters
 
-abbrev pub slotFits : List Key → List ℕ → List Query → ℕ → ℕ → ℕ → Bool
-slotFits keys lengths queries n bytes x =
+abbrev pub slotFits : List Key → List ℕ → List ℕ → ℕ → ℕ → ℕ → Bool
+slotFits keys lengths parameters n bytes x =
     let k = slotKey keys x in
-    keyFits (k .query) (k .count) n (getD queries (k .query) noQuery .parameters) && lengthFits (getD lengths x 0) bytes
+    keyFits (k .query) (k .count) n (getD parameters (k .query) 0) && lengthFits (getD lengths x 0) bytes
 
 -- ---- all of it; "its slot list names each slot once, held ones first" is `soundSlots`
 

@@ -15,7 +15,7 @@ ghost use mathlib.Core.Bool.{true};
 ghost use Prim.Native.Nat.{_≤_, _<_, _%_};
 ghost use lib.ListN.{length, take};
 ghost use Rattle.slots.specs.Keys.{keyOf};
-ghost use Rattle.cache.specs.Sound.{opening, soundCounts, soundTables, soundAnswers, soundState};
+ghost use Rattle.cache.specs.Sound.{opening, parametersOf, soundCounts, soundTables, soundAnswers, soundState};
 ghost use Rattle.cache.specs.Outcomes.{noPlace, noAnswer, outcomeOf, unfitIf, askNumber, Caches, Keeps};
 ghost use Rattle.cache.specs.Calls.{emptyState, opens, openOf, addRefused, addedTable, addedQuery, addedUpdate, hasPlace, addedBy, addOf, asks, askRefusal, keptMemory, askNew, askOf, updates, updateRefusal, updateDone, updateOf, flushOf};
 
@@ -176,10 +176,12 @@ impl State {
         if !(sizes & counts) {
             return false;
         }
+        let queries = self.queries;
+        let parameters = sound::parameters_of(queries);
         if !self.texts_are_sound() {
             return false;
         }
-        self.answers_are_sound()
+        self.answers_are_sound(parameters)
     }
 
     // Whether the tables and statements are sound, where there are not too many of them.
@@ -199,9 +201,9 @@ impl State {
         areas & (rows & (named & (asked & changing)))
     }
 
-    // Whether the slot list is sound, and the keys and lengths of the held slots.
-    fn answers_are_sound(self) -> bool
-        requires { ⌜ soundCounts self ≡ true ⌝ }
+    // Whether the slot list is sound, and the keys and lengths of the held slots, where the queries have so many parameters.
+    fn answers_are_sound(self, parameters: [u8; Query::QUERIES]) -> bool
+        requires { ⌜ (soundCounts self ≡ true) × (parameters ≡ parametersOf (self .queries)) ⌝ }
         ensures { λ r. ⌜ r ≡ soundAnswers self ⌝ }
     {
         let slots = self.slots;
@@ -210,12 +212,11 @@ impl State {
         }
         let keys = self.keys;
         let lengths = self.lengths;
-        let queries = self.queries;
         let fit = sound::held_fit(
             keys,
             lengths,
             slots,
-            queries,
+            parameters,
             self.query_count,
             self.slot_bytes,
         );

@@ -6,14 +6,14 @@ use table::Query;
 use table::Table;
 use table::Update;
 ghost use mathlib.Core.Path.{_≡_};
-ghost use mathlib.Core.Bool.{true, not, _&&_};
-ghost use Prim.Native.Nat.{_≤_};
+ghost use mathlib.Core.Bool.{true, not, _&&_, cond};
+ghost use Prim.Native.Nat.{_*_, _≤_};
 ghost use lib.Dec.{eqb, leb, ltb};
 ghost use lib.ListN.{take};
 ghost use Rattle.lists.specs.Lists.{all};
 ghost use Rattle.meaning.specs.Plain.{openingRefused};
 ghost use Rattle.slots.specs.Order.{soundSlots};
-ghost use Rattle.cache.specs.Sound.{opening, areasOf, rowsFit, keyFits, lengthFits, slotFits};
+ghost use Rattle.cache.specs.Sound.{opening, areasOf, rowsFit, parametersOf, keyFits, lengthFits, slotFits};
 
 // Whether an opening is within the limits, and its slots within the cache memory.
 pub fn sizes_fit(cells: usize, memory: usize, slots: usize, bytes: usize) -> bool
@@ -37,17 +37,28 @@ pub fn counts_fit(tables: u8, queries: u8, updates: u8) -> bool
     ((tables as usize) <= Table::TABLES) & few
 }
 
-// The cells of the areas of the first n tables.
+// The cells of a table's area, where the table is there.
+fn area_if(there: bool, count: u8, capacity: u16) -> usize
+    ensures { λ r. ⌜ (r ≡ cond there (count * capacity) 0) × (r ≤ 16711425) ⌝ }
+{
+    if there {
+        (count as usize) * (capacity as usize)
+    } else {
+        0
+    }
+}
+
+// The cells of the areas of the first n tables. Here and below a loop of always eight turns is laid out flat, and reads the tables where they stand.
 pub fn areas(tables: [Table; Table::TABLES], n: usize) -> usize
     requires { ⌜ n ≤ 8 ⌝ }
     ensures { λ r. ⌜ r ≡ areasOf (take n tables) ⌝ }
 {
     let mut cells: usize = 0;
-    let mut i = n;
+    let mut i = Table::TABLES;
     while 0 < i {
         i -= 1;
         let t = tables[i];
-        cells += (t.count as usize) * (t.capacity as usize);
+        cells += area_if(i < n, t.count, t.capacity);
     }
     cells
 }
@@ -59,12 +70,26 @@ pub fn rows_fit(tables: [Table; Table::TABLES], n: usize) -> bool
 {
     let mut fit = true;
     let mut i: usize = 0;
-    while i < n {
+    while i < Table::TABLES {
         let t = tables[i];
-        fit = fit & (t.rows <= t.capacity);
+        fit = fit & ((n <= i) | (t.rows <= t.capacity));
         i += 1;
     }
     fit
+}
+
+// How many parameters each query has, also those that are not in use.
+pub fn parameters_of(queries: [Query; Query::QUERIES]) -> [u8; Query::QUERIES]
+    ensures { λ r. ⌜ r ≡ parametersOf queries ⌝ }
+{
+    let mut counts = [0u8; Query::QUERIES];
+    let mut i: usize = 0;
+    while i < Query::QUERIES {
+        let q = queries[i];
+        counts[i] = q.parameters;
+        i += 1;
+    }
+    counts
 }
 
 // Whether an answer's key has an existing query, of which there are n, with so many parameters, and its length is from 8 to the slot's bytes.
@@ -75,17 +100,17 @@ fn slot_fits(query: u8, count: u8, n: u8, parameters: u8, length: u16, bytes: u1
     (query < n) & (count == parameters) & sized
 }
 
-// Whether each held slot has a key and a length that fit.
+// Whether each held slot has a key and a length that fit, where the queries have so many parameters.
 pub fn held_fit(
     keys: [Key; SlotList::SLOTS],
     lengths: [u16; SlotList::SLOTS],
     slots: SlotList,
-    queries: [Query; Query::QUERIES],
+    parameters: [u8; Query::QUERIES],
     n: u8,
     bytes: u16,
 ) -> bool
     requires { ⌜ (soundSlots slots ≡ true) × (n ≤ 16) ⌝ }
-    ensures { λ r. ⌜ r ≡ all (slotFits keys lengths queries n bytes) (take (slots .held) (slots .order)) ⌝ }
+    ensures { λ r. ⌜ r ≡ all (slotFits keys lengths parameters n bytes) (take (slots .held) (slots .order)) ⌝ }
 {
     let order = slots.order;
     let held = slots.held as usize;
@@ -94,8 +119,8 @@ pub fn held_fit(
     while i < held {
         let x = order[i] as usize;
         let k = keys[x];
-        let q = queries[(k.query as usize) % Query::QUERIES];
-        fit = fit & slot_fits(k.query, k.count, n, q.parameters, lengths[x], bytes);
+        let p = parameters[(k.query as usize) % Query::QUERIES];
+        fit = fit & slot_fits(k.query, k.count, n, p, lengths[x], bytes);
         i += 1;
     }
     fit

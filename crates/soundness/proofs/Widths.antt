@@ -1,11 +1,14 @@
 -- How many columns the tables have; questions and updates by the number of columns of their table. Assumes nothing.
-use mathlib.Core.Path.{_≡_, refl, sym, ap, ap₂, _∙_}
+use mathlib.Core.Path.{_≡_, refl, sym, ap, _∙_}
 use mathlib.Core.Bool.{Bool, true, false, _&&_}
 use mathlib.Core.List.{List, [], _∷_, _++_, map}
 use Prim.Native.Nat.{ℕ, zero, suc, _+_, _-_, _≤_, _<_, min}
+use native.Mathlib.Nat.{le-of-suc-le-suc, not-suc-le-zero}
 use native.Mathlib.Omega.{arith}
+use borrow.Author.Tests.{ltb-true}
 use lib.Dec.{eqb, leb, ltb}
 use lib.ListN.{length, getD, take, set, replicate, length-map, length-take}
+use lib.Seq.{take-all}
 use Rattle.lists.specs.Lists.{All, nil, cons, all}
 use Rattle.lists.proofs.Lists.{All-getD}
 use Rattle.lists.proofs.Places.{All-set}
@@ -27,25 +30,25 @@ zeros : (n : ℕ) → All (λ w. w ≤ 8) (replicate n 0)
 zeros zero = nil
 zeros (suc n) = cons {x = 0} (omega arith) (zeros n)
 
-module _ (n : ℕ) (ts : List Table) where
+module _ (ts : List Table) where
   pub record Measured (out : List ℕ) (i : ℕ) : Type 0 where
-    pub fills : Fills (padded 8 0 (map widthOf (take n ts))) out i (map widthOf (rest n i ts))
+    pub fills : Fills (padded 8 0 (map widthOf (take 8 ts))) out i (map widthOf (rest 8 i ts))
     pub small : All (λ w. w ≤ 8) out
 
-  pub measured-start : n ≤ 8 → n ≤ length ts → Measured (replicate 8 0) 0
-  measured-start few l = record {
-    fills = fills-start 8 0 (map widthOf (take n ts)) (replicate 8 0) refl (omega (arith, length-first widthOf n ts l));
+  pub measured-start : 8 ≤ length ts → Measured (replicate 8 0) 0
+  measured-start l = record {
+    fills = fills-start 8 0 (map widthOf (take 8 ts)) (replicate 8 0) refl (omega (arith, length-first widthOf 8 ts l));
     small = zeros 8;
   }
 
-  pub measured-more : n ≤ length ts → (out : List ℕ) (i : ℕ) (d : Table) (w : ℕ) → i < n → w ≡ widthOf (getD ts i d) → w ≤ 8 → Measured out i → Measured (set out i w) (i + 1)
+  pub measured-more : 8 ≤ length ts → (out : List ℕ) (i : ℕ) (d : Table) (w : ℕ) → i < 8 → w ≡ widthOf (getD ts i d) → w ≤ 8 → Measured out i → Measured (set out i w) (i + 1)
   measured-more l out i d w k e s P = record {
-    fills = fills-more _ out i (map widthOf (rest n i ts)) w (map widthOf (rest n (i + 1) ts)) (map-rest widthOf n i ts d w l k e) (P .fills);
+    fills = fills-more _ out i (map widthOf (rest 8 i ts)) w (map widthOf (rest 8 (i + 1) ts)) (map-rest widthOf 8 i ts d w l k e) (P .fills);
     small = All-set i w s (P .small);
   }
 
-  pub measured-end : (out : List ℕ) (i : ℕ) → n ≤ i → Measured out i → Widths n ts out
-  measured-end out i k P = (fills-end _ out i (map widthOf (rest n i ts)) (map-none widthOf n i ts k) (P .fills), P .small)
+  pub measured-end : (out : List ℕ) (i : ℕ) → 8 ≤ i → Measured out i → Widths ts out
+  measured-end out i k P = (fills-end _ out i (map widthOf (rest 8 i ts)) (map-none widthOf 8 i ts k) (P .fills), P .small)
 
 -- ---- the width of a table
 
@@ -59,10 +62,17 @@ getD-padded n [] i = getD-zeros n i
 getD-padded n (x ∷ xs) zero = refl
 getD-padded n (x ∷ xs) (suc i) = getD-padded n xs i
 
-getD-width : (ts : List Table) (i : ℕ) → getD (map widthOf ts) i 0 ≡ columnsAt (map schemaOf ts) i
-getD-width [] i = refl
-getD-width (t ∷ ts) zero = refl
-getD-width (t ∷ ts) (suc i) = getD-width ts i
+-- of one of the first n
+getD-width : (n : ℕ) (ts : List Table) (i : ℕ) → i < n → getD (map widthOf ts) i 0 ≡ columnsAt (map schemaOf (take n ts)) i
+getD-width zero ts i h = absurd (not-suc-le-zero h)
+getD-width (suc n) [] i h = refl
+getD-width (suc n) (t ∷ ts) zero h = refl
+getD-width (suc n) (t ∷ ts) (suc i) h = getD-width n ts i (le-of-suc-le-suc h)
+
+-- what is tested beside a test matters where that holds
+beside : (b x y : Bool) → (b ≡ true → x ≡ y) → (b && x) ≡ (b && y)
+beside true x y e = e refl
+beside false x y e = refl
 
 -- a statement as the loop tests it
 abbrev pub queryAt : ℕ → List ℕ → Query → Bool
@@ -71,17 +81,18 @@ queryAt there widths q = ltb (q .table) there && queryOn (getD widths (q .table)
 abbrev pub updateAt : ℕ → List ℕ → Update → Bool
 updateAt there widths u = ltb (u .table) there && updateOn (getD widths (u .table) 0) u
 
-pub width-small : (n : ℕ) (ts : List Table) (widths : List ℕ) → Widths n ts widths → (w i : ℕ) → w ≡ getD widths i 0 → w ≤ 8
-width-small n ts widths W w i h = let s : getD widths i 0 ≤ 8 = All-getD i 0 (omega arith) (W .1) in omega arith
+pub width-small : (ts : List Table) (widths : List ℕ) → Widths ts widths → (w i : ℕ) → w ≡ getD widths i 0 → w ≤ 8
+width-small ts widths W w i h = let s : getD widths i 0 ≤ 8 = All-getD i 0 (omega arith) (W .1) in omega arith
 
-module _ (tables : List Table) (used there : ℕ) (eight : length tables ≡ 8) (e : there ≡ min used 8) (widths : List ℕ) (W : Widths there tables widths) where
+module _ (tables : List Table) (used there : ℕ) (eight : length tables ≡ 8) (e : there ≡ min used 8) (widths : List ℕ) (W : Widths tables widths) where
   schemas : map schemaOf (take there tables) ≡ schemasOf tables used
   schemas = ap (map schemaOf) (ap (λ (k : ℕ). take k tables) e ∙ take-min used 8 tables eight)
 
-  width-is : (i : ℕ) → getD widths i 0 ≡ columnsAt (schemasOf tables used) i
-  width-is i =
-      ap (λ (l : List ℕ). getD l i 0) (W .0) ∙ getD-padded (8 - length (map widthOf (take there tables))) (map widthOf (take there tables)) i
-      ∙ getD-width (take there tables) i ∙ ap (λ (ts : List Schema). columnsAt ts i) schemas
+  width-is : (i : ℕ) → i < there → getD widths i 0 ≡ columnsAt (schemasOf tables used) i
+  width-is i h =
+      ap (λ (l : List ℕ). getD l i 0) (W .0) ∙ getD-padded (8 - length (map widthOf (take 8 tables))) (map widthOf (take 8 tables)) i
+      ∙ ap (λ (ts : List Table). getD (map widthOf ts) i 0) (take-all 8 tables (omega arith))
+      ∙ getD-width there tables i h ∙ ap (λ (ts : List Schema). columnsAt ts i) schemas
 
   -- how many tables there are
   tables-many : length (schemasOf tables used) ≡ there
@@ -89,11 +100,15 @@ module _ (tables : List Table) (used there : ℕ) (eight : length tables ≡ 8) 
 
   query-beside : (q : Query) → queryAt there widths q ≡ soundQuery (schemasOf tables used) q
   unfolding soundQuery queryOn
-  query-beside q = ap₂ (λ (n w : ℕ). ltb (q .table) n && queryOn w q) (sym tables-many) (width-is (q .table))
+  query-beside q =
+      beside (ltb (q .table) there) _ _ (λ h. ap (λ (w : ℕ). queryOn w q) (width-is (q .table) (ltb-true (q .table) there h)))
+      ∙ ap (λ (n : ℕ). ltb (q .table) n && queryOn (columnsAt (schemasOf tables used) (q .table)) q) (sym tables-many)
 
   update-beside : (u : Update) → updateAt there widths u ≡ soundUpdate (schemasOf tables used) u
   unfolding soundUpdate updateOn
-  update-beside u = ap₂ (λ (n w : ℕ). ltb (u .table) n && updateOn w u) (sym tables-many) (width-is (u .table))
+  update-beside u =
+      beside (ltb (u .table) there) _ _ (λ h. ap (λ (w : ℕ). updateOn w u) (width-is (u .table) (ltb-true (u .table) there h)))
+      ∙ ap (λ (n : ℕ). ltb (u .table) n && updateOn (columnsAt (schemasOf tables used) (u .table)) u) (sym tables-many)
 
   pub queries-beside : (qs : List Query) → all (queryAt there widths) qs ≡ all (soundQuery (schemasOf tables used)) qs
   queries-beside qs = ap (λ (p : Query → Bool). all p qs) (λ i q. query-beside q i)

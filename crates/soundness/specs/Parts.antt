@@ -57,12 +57,12 @@ columnsOn ns = all soundName ns && not (repeats sameName (map nameOfStruct ns))
 unfoldable pub tableOn : Table → Bool
 tableOn t = leb 1 (t .count) && (leb (t .count) most-items && (columnsOn (usedColumns t) && (leb 1 (t .capacity) && leb (t .capacity) most-rows)))
 
--- how many columns a table has; the first n of these tables, in an array of eight
+-- how many columns a table has; those of eight tables, in an array
 abbrev pub widthOf : Table → ℕ
 widthOf t = length (schemaOf t .columns)
 
-abbrev pub Widths : ℕ → List Table → List ℕ → Type 0
-Widths n tables r = (r ≡ padded 8 0 (map widthOf (take n tables))) × All (λ w. w ≤ 8) r
+abbrev pub Widths : List Table → List ℕ → Type 0
+Widths tables r = (r ≡ padded 8 0 (map widthOf (take 8 tables))) × All (λ w. w ≤ 8) r
 
 -- ---- steps, where k values are on the stack
 

@@ -50,7 +50,7 @@ pub fn queries_are_sound(
     ensures { λ r. ⌜ r ≡ queriesSound tables used queries n ⌝ }
 {
     let there = least(used as usize, Table::TABLES);
-    let widths = statements::widths(tables, there);
+    let widths = statements::widths(tables);
     let count = least(n as usize, Query::QUERIES);
     let mut ok = true;
     let mut i: usize = 0;
@@ -73,7 +73,7 @@ pub fn updates_are_sound(
     ensures { λ r. ⌜ r ≡ updatesSound tables used updates n ⌝ }
 {
     let there = least(used as usize, Table::TABLES);
-    let widths = statements::widths(tables, there);
+    let widths = statements::widths(tables);
     let count = least(n as usize, Update::UPDATES);
     let mut ok = true;
     let mut i: usize = 0;

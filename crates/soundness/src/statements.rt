@@ -26,14 +26,13 @@ fn width(t: Table) -> u8
     }
 }
 
-// Of the first n tables; 0 past them.
-pub fn widths(tables: [Table; Table::TABLES], n: usize) -> [u8; Table::TABLES]
-    requires { ⌜ n ≤ 8 ⌝ }
-    ensures { λ r. ⌜ Widths n tables r ⌝ }
+// Of all tables, also of those that are not in use: a loop of always eight turns is laid out flat, and reads the tables where they stand.
+pub fn widths(tables: [Table; Table::TABLES]) -> [u8; Table::TABLES]
+    ensures { λ r. ⌜ Widths tables r ⌝ }
 {
     let mut widths = [0u8; Table::TABLES];
     let mut i = 0;
-    while i < n {
+    while i < Table::TABLES {
         let t = tables[i];
         widths[i] = width(t);
         i += 1;

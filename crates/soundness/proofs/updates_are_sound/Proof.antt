@@ -23,7 +23,7 @@ least-requires : tie.Need-least-requires Inv-loop μ-loop
 least-requires c κs = tt
 
 widths-requires : tie.Need-widths-requires Inv-loop μ-loop
-widths-requires c κs = omega (arith, c .least .ensures)
+widths-requires c κs = tt
 
 least-requires-2 : tie.Need-least-requires-2 Inv-loop μ-loop
 least-requires-2 c κs = tt
@@ -46,7 +46,7 @@ cast-ok c = search needs
 update-is-sound-requires : tie.Need-update-is-sound-requires Inv-loop μ-loop
 update-is-sound-requires c κs =
     let d = c .before .before .before .before .before .before .before in
-    width-small (d .least .result) (d .before .args .tables) _ (c .before .before .before .before .before .before .widths .ensures) _ _ (c .before .width-at .ensures)
+    width-small (d .before .args .tables) _ (c .before .before .before .before .before .before .widths .ensures) _ _ (c .before .width-at .ensures)
 
 add-i : tie.Need-add-i Inv-loop μ-loop
 add-i c = omega arith

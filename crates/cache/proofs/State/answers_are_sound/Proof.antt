@@ -14,17 +14,17 @@ returns c = answers-past (c .before .before .before .args .self) (sym (c .before
 
 held-fit-requires : tie.Need-held-fit-requires
 held-fit-requires c κs =
-    let start = c .before .before .before .before .before .before in
-    (sym (c .before .before .before .before .is-sound .ensures) ∙ not-false _ (c .before .before .before .if1 .left), counts-few (start .args .self) (start .pre) .1)
+    let start = c .before .before .before .before .before in
+    (sym (c .before .before .before .is-sound .ensures) ∙ not-false _ (c .before .before .if1 .left), counts-few (start .args .self) (start .pre .0) .1)
 
 held-twice-requires : tie.Need-held-twice-requires
 held-twice-requires c κs = search needs
 
 returns-2 : tie.Need-returns-2
 returns-2 c =
-    let start = c .before .before .before .before .before .before .before .before in
-    answers-tested (start .args .self) (c .before .held-fit .result) (c .held-twice .result)
-    (sym (c .before .before .before .before .before .before .is-sound .ensures) ∙ not-false _ (c .before .before .before .before .before .if1 .left))
+    let start = c .before .before .before .before .before .before .before in
+    answers-tested (start .args .self) (start .args .parameters) (c .before .held-fit .result) (c .held-twice .result) (start .pre .1)
+    (sym (c .before .before .before .before .before .is-sound .ensures) ∙ not-false _ (c .before .before .before .before .if1 .left))
     (c .before .held-fit .ensures) (c .held-twice .ensures)
 
 pub answers-are-sound-spec : {M : Type 1} → statement M

@@ -31,26 +31,30 @@ returns c =
     let b = c .before in
     sound-fails (b .before .before .before .before .before .before .args .self) _ _ (b .before .sizes-fit .ensures) (b .counts-fit .ensures) (not-true _ (c .if1 .taken))
 
+parameters-of-requires : tie.Need-parameters-of-requires
+parameters-of-requires c κs = search needs
+
 texts-are-sound-requires : tie.Need-texts-are-sound-requires
 texts-are-sound-requires c κs =
-    let b = c .before in
-    counts-hold (b .before .before .before .before .before .before .args .self) _ _ (b .before .sizes-fit .ensures) (b .counts-fit .ensures) (not-false _ (c .if1 .left))
+    let e = c .before .before in
+    let b = e .before in
+    counts-hold (b .before .before .before .before .before .before .args .self) _ _ (b .before .sizes-fit .ensures) (b .counts-fit .ensures) (not-false _ (e .if1 .left))
 
 returns-2 : tie.Need-returns-2
 returns-2 c =
-    let e = c .before .before in
+    let e = c .before .before .before .before in
     let b = e .before in
     let s = b .before .before .before .before .before .before .args .self in
     ap (λ (t : Bool). t && soundAnswers s) (sym (sym (c .before .texts-are-sound .ensures) ∙ not-true _ (c .if2 .taken)))
     ∙ sound-rest s _ _ (b .before .sizes-fit .ensures) (b .counts-fit .ensures) (not-false _ (e .if1 .left))
 
 answers-are-sound-requires : tie.Need-answers-are-sound-requires
-answers-are-sound-requires c κs = texts-are-sound-requires (c .before .before) κs
+answers-are-sound-requires c κs = (texts-are-sound-requires (c .before .before) κs, c .before .before .parameters-of .ensures)
 
 returns-3 : tie.Need-returns-3
 returns-3 c =
     let d = c .before in
-    let e = d .before .before in
+    let e = d .before .before .before .before in
     let b = e .before in
     let s = b .before .before .before .before .before .before .args .self in
     ap₂ (λ (x y : Bool). x && y) (sym (not-false _ (d .if2 .left)) ∙ d .before .texts-are-sound .ensures) (c .answers-are-sound .ensures)
@@ -67,6 +71,7 @@ is-sound-spec =
     sizes-fit-requires
     counts-fit-requires
     returns
+    parameters-of-requires
     texts-are-sound-requires
     returns-2
     answers-are-sound-requires

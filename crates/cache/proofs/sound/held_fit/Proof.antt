@@ -12,11 +12,11 @@ use Rattle.cache.proofs.sound.held_fit.Statement.{statement}
 use Rattle.cache.proofs.sound.held_fit.Tie as tie
 
 abbrev Inv-loop : tie.InvT-loop
-Inv-loop n bytes keys lengths queries order held fit₀ i₀ fit i =
-    (length keys ≡ 64) × (length lengths ≡ 64) × (length queries ≡ 16) × Tested (slotFits keys lengths queries n bytes) held order fit i
+Inv-loop n bytes keys lengths parameters order held fit₀ i₀ fit i =
+    (length keys ≡ 64) × (length lengths ≡ 64) × (length parameters ≡ 16) × Tested (slotFits keys lengths parameters n bytes) held order fit i
 
 abbrev μ-loop : tie.MeasureT-loop
-μ-loop n bytes keys lengths queries order held fit₀ i₀ fit i = held - i
+μ-loop n bytes keys lengths parameters order held fit₀ i₀ fit i = held - i
 
 -- what is known of a held place
 few : (c : tie.Start Inv-loop μ-loop) → c .args .slots .held ≤ 64
@@ -43,17 +43,14 @@ array-copy-out-k c = slot (c .before .before .before .before) _ (c .loop-test .t
 mul-k : tie.Need-mul-k Inv-loop μ-loop
 mul-k c = record { fits = omega (arith, array-copy-out-k c) }
 
-cast-q : tie.Need-cast-q Inv-loop μ-loop
-cast-q c = search needs
+cast-p : tie.Need-cast-p Inv-loop μ-loop
+cast-p c = search needs
 
-mul-q : tie.Need-mul-q Inv-loop μ-loop
-mul-q c = search needs
-
-array-copy-out-q : tie.Need-array-copy-out-q Inv-loop μ-loop
-array-copy-out-q c = search needs
+array-read-p : tie.Need-array-read-p Inv-loop μ-loop
+array-read-p c = search needs
 
 array-read-slot-fits : tie.Need-array-read-slot-fits Inv-loop μ-loop
-array-read-slot-fits c = slot (c .before .before .before .before .before .before .before) _ (c .before .before .before .loop-test .taken)
+array-read-slot-fits c = slot (c .before .before .before .before .before .before) _ (c .before .before .loop-test .taken)
 
 mul-slot-fits : tie.Need-mul-slot-fits Inv-loop μ-loop
 mul-slot-fits c = record { fits = omega (arith, array-read-slot-fits c) }
@@ -69,14 +66,14 @@ loop-less c = search needs
 
 loop-again : tie.Need-loop-again Inv-loop μ-loop
 loop-again c =
-    let l = c .before .before .before .before .before .loop in
+    let l = c .before .before .before .before .loop in
     let v = l .inv in
-    let h = c .before .before .before .before .loop-test .taken in
-    let start = c .before .before .before .before .before .before .before .before in
+    let h = c .before .before .before .loop-test .taken in
+    let start = c .before .before .before .before .before .before .before in
     let a = start .args in
     let long : length (a .slots .order) ≡ 64 = search needs in
     let e : c .slot-fits .result ≡ slotFits (a .t1) (a .t2) (a .t4) (a .n) (a .bytes) (getD (a .slots .order) (l .i) 0) =
-    slot-tested (a .t1) (a .t2) (a .t4) (a .n) (a .bytes) (getD (a .slots .order) (l .i) 0) _ _ (v .0) (v .2) (start .pre .1) (slot start (l .i) h) _ (c .slot-fits .ensures) in
+    slot-tested (a .t1) (a .t2) (a .t4) (a .n) (a .bytes) (getD (a .slots .order) (l .i) 0) _ (v .0) (start .pre .1) (slot start (l .i) h) _ (c .slot-fits .ensures) in
     (v .0, v .1, v .2, rw e (tested-more _ _ _ (omega (arith, few start)) (l .fit) (l .i) 0 h (v .3)))
 
 returns : tie.Need-returns Inv-loop μ-loop
@@ -94,9 +91,8 @@ held-fit-spec =
     cast-x
     mul-k
     array-copy-out-k
-    cast-q
-    mul-q
-    array-copy-out-q
+    cast-p
+    array-read-p
     mul-slot-fits
     array-read-slot-fits
     slot-fits-requires

@@ -1,7 +1,7 @@
 -- `widths` meets its contract. The invariant: the widths left are to be written. Assumes nothing.
 use borrow.Author.Needs.{needs}
 use mathlib.Core.Path.{_≡_, refl}
-use Prim.Native.Nat.{_-_, _≤_}
+use Prim.Native.Nat.{_-_}
 use native.Mathlib.Omega.{arith}
 use lib.ListN.{length, length-set}
 use Rattle.soundness.proofs.Widths.{Measured, measured-start, measured-more, measured-end}
@@ -9,13 +9,13 @@ use Rattle.soundness.proofs.statements.widths.Statement.{statement}
 use Rattle.soundness.proofs.statements.widths.Tie as tie
 
 abbrev Inv-loop : tie.InvT-loop
-Inv-loop n tables widths₀ i₀ widths i = (n ≤ 8) × (length tables ≡ 8) × (length widths ≡ 8) × Measured n tables widths i
+Inv-loop tables widths₀ i₀ widths i = (length tables ≡ 8) × (length widths ≡ 8) × Measured tables widths i
 
 abbrev μ-loop : tie.MeasureT-loop
-μ-loop n tables widths₀ i₀ widths i = n - i
+μ-loop tables widths₀ i₀ widths i = 8 - i
 
 loop-holds : tie.Need-loop-holds Inv-loop μ-loop
-loop-holds c = let e : length (c .args .t1) ≡ 8 = search needs in (omega arith, e, refl, measured-start _ _ (omega arith) (omega arith))
+loop-holds c = let e : length (c .args .t1) ≡ 8 = search needs in (e, refl, measured-start _ (omega arith))
 
 mul-t : tie.Need-mul-t Inv-loop μ-loop
 mul-t c = omega arith
@@ -39,12 +39,12 @@ loop-again : tie.Need-loop-again Inv-loop μ-loop
 loop-again c =
     let l = c .before .before .before .loop in
     let v = l .inv in
-    (v .0, v .1, simp length-set (v .2), measured-more _ _ (omega arith) (l .widths) (l .i) _ (c .width .result) (omega arith) (c .width .ensures .0) (c .width .ensures .1) (v .3))
+    (v .0, simp length-set (v .1), measured-more _ (omega arith) (l .widths) (l .i) _ (c .width .result) (omega arith) (c .width .ensures .0) (c .width .ensures .1) (v .2))
 
 returns : tie.Need-returns Inv-loop μ-loop
 returns c =
     let l = c .before .loop in
-    measured-end _ _ (l .widths) (l .i) (c .loop-test .left) (l .inv .3)
+    measured-end _ (l .widths) (l .i) (c .loop-test .left) (l .inv .2)
 
 pub widths-spec : {M : Type 1} → statement M
 widths-spec =
