@@ -1,0 +1,21 @@
+-- `update_refusal` meets its contract: the tests so far decide the number. Assumes nothing.
+use Rattle.cache.proofs.update_refusal.Statement.{statement}
+use Rattle.cache.proofs.update_refusal.Tie as tie
+
+returns : tie.Need-returns
+returns c = rw (c .if1 .taken)
+
+returns-2 : tie.Need-returns-2
+returns-2 c = rw (c .before .if1 .left, c .if2 .taken)
+
+returns-3 : tie.Need-returns-3
+returns-3 c = rw (c .before .before .if1 .left, c .before .if2 .left, c .if3 .taken)
+
+returns-4 : tie.Need-returns-4
+returns-4 c = rw (c .before .before .before .if1 .left, c .before .before .if2 .left, c .before .if3 .left, c .if4 .taken)
+
+returns-5 : tie.Need-returns-5
+returns-5 c = rw (c .before .before .before .if1 .left, c .before .before .if2 .left, c .before .if3 .left, c .if4 .left)
+
+pub update-refusal-spec : {M : Type 1} → statement M
+update-refusal-spec = tie.close (tie.spec returns returns-2 returns-3 returns-4 returns-5)
