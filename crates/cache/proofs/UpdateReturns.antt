@@ -1,19 +1,21 @@
 -- What each return of an update owes, over plain variables. Assumes nothing.
-use mathlib.Core.Path.{_≡_, refl, sym, ap, subst, _∙_}
+use mathlib.Core.Path.{_≡_, refl, sym, ap, _∙_}
 use mathlib.Core.Logic.{_≢_}
 use mathlib.Core.Bool.{Bool, true, false, not, _&&_}
 use mathlib.Core.List.{List}
-use Prim.Native.Nat.{ℕ, _-_, _%_, _≤_, _<_}
-use native.Mathlib.Nat.{mod-eq-of-lt}
+use Prim.Native.Nat.{ℕ, _-_, _≤_, _<_}
 use native.Mathlib.Omega.{arith}
-use borrow.Author.Tests.{leb-false}
-use lib.Dec.{eqb, leb, lit<}
+use borrow.Author.Tests.{leb-false, le-leb, lt-leb, eq-eqb, ne-eqb}
+use lib.Dec.{eqb, leb}
 use lib.IntN.{ℤ}
 use lib.ListN.{length, getD, length-map}
 use lib.Seq.{length-take-le}
 use Rattle.lists.specs.Lists.{count}
+use Rattle.lists.proofs.Lists.{All-head, All-tail}
 use Rattle.lists.proofs.Places.{getD-inside}
 use Rattle.meaning.specs.Limits.{most-tables, most-updates, most-slots}
+use Rattle.meaning.specs.Plain.{orElse}
+use Rattle.meaning.proofs.Accepted.{clear}
 use Rattle.statement.specs.declared.Table.{Table}
 use Rattle.statement.specs.declared.Update.{Update}
 use Rattle.statement.specs.Compiled.{noTable, noUpdate}
@@ -27,10 +29,9 @@ use Rattle.slots.specs.Order.{heldSlots, dropOf}
 use Rattle.cache.specs.declared.State.{State}
 use Rattle.cache.specs.Sound.{usedTables, soundState}
 use Rattle.cache.specs.Marks.{marksOf}
-use Rattle.cache.specs.Calls.{unfit, tableAt, startOf, updateAt, isFull, Updates, updates, updateRefusal, isMatched, dropBy, withRows, withChange, updateRefused, updateDone, updateOf}
-use Rattle.cache.specs.Outcomes.{updateNumber, updateNumberBy, updateBy}
+use Rattle.cache.specs.Calls.{unfit, tableAt, startOf, updateAt, isFull, Updates, updates, updateConditions, updateRefusal, isMatched, dropBy, withRows, withChange, updateRefused, updateDone, updateOf}
 use Rattle.cache.proofs.Sounds.{schemasIn, Sound, sound-is, All-first}
-use Rattle.cache.proofs.Settled.{settled-refused, settled-done, or-else-zero}
+use Rattle.cache.proofs.Settled.{settled-refused, settled-done, fit-is}
 use Rattle.cache.proofs.DropsMarked.{drop-marked, drop-fewer, drop-count, marks-matched}
 
 -- ---- an update and its table, whatever stands in past the end
@@ -63,73 +64,69 @@ module _ (s : State) (h : soundState s ≡ true) (L : Long s) (i : ℕ) (k : i <
       let long : length (schemasIn s) ≡ s .«table_count» = length-map (usedTables s) schemaOf ∙ length-take-le (s .«table_count») (s .tables) (omega (arith, S .few-tables, L .tables)) in
       omega (arith, update-parts (schemasIn s) u sound .there)
 
--- ---- the number, and an update that is not refused
+-- ---- the refusals
 
-module _ (s : State) (bad : Bool) (h : bad ≡ false → soundState s ≡ true) (L : Long s) (update values : ℕ) (d : Update) (e : Table) where
-  -- the update and its table, as they are read
-  abbrev u : Update
-  u = getD (s .updates) (update % most-updates) d
+module _ (s : State) (cells memory update values : ℕ) where
+  -- as far as the tests were made
+  refusal-is : (a b c d : Bool) → unfit s cells memory ≡ a → leb (s .«update_count») update ≡ b → not (eqb values (updateAt s update .parameters)) ≡ c
+      → isFull s (updateAt s update) ≡ d → orElse a 2 (orElse b 10 (orElse c 11 (orElse d 12 0))) ≡ updateRefusal s cells memory update values
+  unfolding updateRefusal
+  refusal-is a b c d e f g h = rw (e, f, g, h)
 
-  abbrev t : Table
-  t = getD (s .tables) (u .table % most-tables) e
+  pub unfit-refused : unfit s cells memory ≡ true → 2 ≡ updateRefusal s cells memory update values
+  unfit-refused e = refusal-is true _ _ _ e refl refl refl
 
-  pub record Known : Type 0 where
+  module _ (f : unfit s cells memory ≡ false) where
+    sound : soundState s ≡ true
+    sound = fit-is s cells memory f .sound
+
+    pub unknown-refused : s .«update_count» ≤ update → 10 ≡ updateRefusal s cells memory update values
+    unknown-refused h = refusal-is false true _ _ f (le-leb (s .«update_count») update h) refl refl
+
+    module _ (h : update < s .«update_count») (L : Long s) (d : Update) where
+      abbrev u : Update
+      u = getD (s .updates) update d
+
+      there : leb (s .«update_count») update ≡ false
+      there = lt-leb (s .«update_count») update h
+
+      parameters-are : u .parameters ≡ updateAt s update .parameters
+      parameters-are = ap (λ (u : Update). u .parameters) (update-read s sound L update h d)
+
+      pub values-refused : values ≢ u .parameters → 11 ≡ updateRefusal s cells memory update values
+      values-refused k = refusal-is false false true _ f there (ap not (ne-eqb values (updateAt s update .parameters) (λ e. k (e ∙ sym parameters-are)))) refl
+
+      -- a table that is full, or is not
+      pub full-refused : values ≡ u .parameters → (e : Table) (b : Bool) → let t = getD (s .tables) (u .table) e in (eqb (u .form) 0 && leb (t .capacity) (t .rows)) ≡ b
+          → orElse b 12 0 ≡ updateRefusal s cells memory update values
+      full-refused k e b q =
+          let t : getD (s .tables) (u .table) e ≡ tableAt s (u .table) = table-read s sound (L .tables) (u .table) e (table-there s sound L update h d) in
+          refusal-is false false false b f there (ap not (eq-eqb values (updateAt s update .parameters) (k ∙ parameters-are)))
+          (ap (isFull s) (sym (update-read s sound L update h d)) ∙ ap (λ (t : Table). eqb (u .form) 0 && leb (t .capacity) (t .rows)) (sym t) ∙ q)
+
+  -- an update that is not refused
+  pub record Accepted : Type 0 where
     pub sound : soundState s ≡ true
-    pub update-is : u ≡ updateAt s update
-    pub there : u .table < s .«table_count»
-    pub place : u .table % most-tables ≡ u .table
+    pub there : update < s .«update_count»
 
-  known : bad ≡ false → leb (s .«update_count») update ≡ false → Known
-  known b k =
-      let S : soundState s ≡ true = h b in
-      let below : update < s .«update_count» = leb-false (s .«update_count») update k in
-      let m : update ≡ update % most-updates = sym (mod-eq-of-lt (update-below s S L update below)) in
-      let inside : u .table < s .«table_count» = subst (λ (i : ℕ). getD (s .updates) i d .table < s .«table_count») m (table-there s S L update below d) in
-      record {
-        sound = S;
-        update-is = ap (λ (i : ℕ). getD (s .updates) i d) (sym m) ∙ update-read s S L update below d;
-        there = inside;
-        place = mod-eq-of-lt (table-below s S (u .table) inside);
-      }
-
-  table-is : (K : Known) → t ≡ tableAt s (u .table)
-  table-is K = ap (λ (i : ℕ). getD (s .tables) i e) (K .place) ∙ table-read s (K .sound) (L .tables) (u .table) e (K .there)
-
-  abbrev number : ℕ
-  number = updateNumber bad (leb (s .«update_count») update) (not (eqb values (u .parameters))) (eqb (u .form) 0 && leb (t .capacity) (t .rows))
-
-  pub number-is : number ≡ updateNumberBy bad s update values
-  number-is = go bad refl (leb (s .«update_count») update) refl
-    where
-      go : (b : Bool) → bad ≡ b → (k : Bool) → leb (s .«update_count») update ≡ k → number ≡ updateNumberBy bad s update values
-      go true f k g = rw f
-      go false f true g = rw (f, g)
-      go false f false g =
-          let K : Known = known f g in
-          ap (λ (x : Table). updateNumber bad (leb (s .«update_count») update) (not (eqb values (u .parameters))) (eqb (u .form) 0 && leb (x .capacity) (x .rows))) (table-is K)
-          ∙ ap (λ (v : Update). updateNumber bad (leb (s .«update_count») update) (not (eqb values (v .parameters))) (isFull s v)) (K .update-is)
-
-  pub accepted : number ≡ 0 → Known
-  accepted z =
-      let a = or-else-zero bad 2 _ (lit< tt) z in
-      known (a .0) (or-else-zero (leb (s .«update_count») update) 10 _ (lit< tt) (a .1) .0)
+  pub accepted : updateRefusal s cells memory update values ≡ 0 → Accepted
+  unfolding updateRefusal
+  accepted e =
+      let a = clear 0 (updateConditions s cells memory update values) refl .0 e in
+      record { sound = fit-is s cells memory (All-head a) .sound; there = leb-false (s .«update_count») update (All-head (All-tail a)) }
 
 -- ---- refused or done
 
-module _ (bad : Bool) (s : State) (cells : List ℤ) (update : ℕ) (values : List ℤ) (n : ℕ) (e : n ≡ updateNumberBy bad s update (length values)) where
-  pub update-refused : n ≢ 0 → updates (updateRefused s n) cells ≡ updateBy bad s cells update values
-  unfolding updateBy
+module _ (s : State) (cells : List ℤ) (memory update : ℕ) (values : List ℤ) (n : ℕ) (e : n ≡ updateRefusal s (length cells) memory update (length values)) where
+  pub update-refused : n ≢ 0 → updates (updateRefused s n) cells ≡ updateOf s cells memory update values
+  unfolding updateOf
   update-refused h = rw (← e) (settled-refused n _ _ h)
 
-  pub update-done : n ≡ 0 → (u : Update) → u ≡ updateAt s update → (o : Updates) → o ≡ updateDone s cells u values → o ≡ updateBy bad s cells update values
-  unfolding updateBy
-  update-done z u f o k = k ∙ ap (λ (v : Update). updateDone s cells v values) f ∙ rw (← e) (settled-done n _ _ z)
-
--- whether the state is unfit, told
-pub update-told : (bad : Bool) (s : State) (cells : List ℤ) (memory update : ℕ) (values : List ℤ) → bad ≡ unfit s (length cells) memory → (o : Updates)
-    → o ≡ updateBy bad s cells update values → o ≡ updateOf s cells memory update values
-unfolding updateBy updateOf updateRefusal
-update-told bad s cells memory update values e o k = k ∙ ap (λ (b : Bool). updateBy b s cells update values) e
+  pub update-done : n ≡ 0 → Long s → (d : Update) (o : Updates) → o ≡ updateDone s cells (getD (s .updates) update d) values → o ≡ updateOf s cells memory update values
+  unfolding updateOf
+  update-done z L d o k =
+      let A = accepted s (length cells) memory update (length values) (sym e ∙ z) in
+      k ∙ ap (λ (u : Update). updateDone s cells u values) (update-read s (A .sound) L update (A .there) d) ∙ rw (← e) (settled-done n _ _ z)
 
 -- ---- what is done
 
@@ -156,16 +153,16 @@ module _ (s : State) (h : soundState s ≡ true) (long : length (s .slots .order
   fewer-is : s .slots .held - left .held ≡ count test (heldSlots (s .slots))
   fewer-is = rw dropped (drop-count test (s .slots) _ (marks-matched s u values S) held-few)
 
-  pub updated-is : length (s .tables) ≡ most-tables → u .table < s .«table_count» → (i : ℕ) → i ≡ u .table → (cells after : List ℤ) (d : Table) (start : ℕ) (done : Changed)
-      → let t = getD (s .tables) i d in
-      start ≡ startOf s i → done ≡ changeOf u t start cells values → after ≡ cellsAfter u t start cells values
+  pub updated-is : length (s .tables) ≡ most-tables → u .table < s .«table_count» → (cells after : List ℤ) (d : Table) (start : ℕ) (done : Changed)
+      → let t = getD (s .tables) (u .table) d in
+      start ≡ startOf s (u .table) → done ≡ changeOf u t start cells values → after ≡ cellsAfter u t start cells values
       → updates
       (record {
         refusal = 0;
         rows = done .count;
         invalidated = s .slots .held - left .held;
-        state = withChange s i (withRows t (done .rows)) left;
+        state = withChange s (u .table) (withRows t (done .rows)) left;
       })
       after ≡ updateDone s cells u values
   unfolding updateDone
-  updated-is lt k i p cells after d start done es ed ea = rw (fewer-is, left-is, ed, ea, p, table-read s h lt (u .table) d k, es ∙ ap (startOf s) p)
+  updated-is lt k cells after d start done es ed ea = rw (fewer-is, left-is, ed, ea, table-read s h lt (u .table) d k, es)

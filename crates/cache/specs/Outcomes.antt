@@ -1,10 +1,9 @@
--- What a question gives, without the state, as the code hands it on; and the state with it. An update, from whether the state is unfit. Assumes nothing: these are definitions.
+-- What a question gives, without the state, as the code hands it on; and the state with it. Assumes nothing: these are definitions.
 use mathlib.Core.Path.{_≡_}
 use mathlib.Core.Bool.{Bool, true, false, not, _&&_, _||_, cond}
 use mathlib.Core.List.{List, [], _∷_}
 use Prim.Native.Nat.{ℕ, _+_, _*_, _≤_, _<_}
 use lib.Dec.{eqb, leb, ltb}
-use lib.IntN.{ℤ}
 use lib.ListN.{length, set}
 use Rattle.lists.specs.Lists.{written}
 use Rattle.meaning.specs.Limits.{most-memory, most-slots, most-slot-bytes}
@@ -17,7 +16,7 @@ use Rattle.cache.specs.declared.State.{State}
 use Rattle.cache.specs.declared.Asked.{Asked}
 use Rattle.cache.specs.declared.Place.{Place}
 use Rattle.cache.specs.declared.Outcome.{Outcome}
-use Rattle.cache.specs.Calls.{settled, asks, withCache, askCached, Updates, updates, updateAt, isFull, updateRefused, updateDone}
+use Rattle.cache.specs.Calls.{asks, withCache, askCached}
 
 -- 2, from what decides it: whether the state is sound, its opening's lengths, and the lengths lent
 abbrev pub unfitIf : Bool → ℕ → ℕ → ℕ → ℕ → Bool
@@ -75,19 +74,3 @@ placeOf slots bytes r = cond (takes slots bytes r) (taking (takenOf slots) (leng
 
 unfoldable pub placeBytes : SlotList → ℕ → List ℕ → List ℕ → List ℕ
 placeBytes slots bytes r memory = cond (takes slots bytes r) (written memory (takenOf slots .slot * bytes) r) memory
-
--- ---- an update
-
--- 2, 10, 11, 12, from what decides them
-abbrev pub updateNumber : Bool → Bool → Bool → Bool → ℕ
-updateNumber unfit unknown unlike full = lowestOf ((2, unfit) ∷ (10, unknown) ∷ (11, unlike) ∷ (12, full) ∷ [])
-
--- the number of an update, and the update, of a state that is known to be unfit or not
-abbrev pub updateNumberBy : Bool → State → ℕ → ℕ → ℕ
-updateNumberBy bad s update values =
-    updateNumber bad (leb (s .«update_count») update) (not (eqb values (updateAt s update .parameters))) (isFull s (updateAt s update))
-
-unfoldable pub updateBy : Bool → State → List ℤ → ℕ → List ℤ → Updates
-updateBy bad s cells update values =
-    let n = updateNumberBy bad s update (length values) in
-    settled n (updateDone s cells (updateAt s update) values) (updates (updateRefused s n) cells)

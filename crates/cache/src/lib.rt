@@ -11,13 +11,13 @@ use table::Statement;
 use table::Table;
 use table::Update;
 ghost use mathlib.Core.Path.{_≡_};
-ghost use mathlib.Core.Bool.{true, false};
+ghost use mathlib.Core.Bool.{true};
 ghost use Prim.Native.Nat.{_≤_, _<_, _%_};
 ghost use lib.ListN.{length, take};
 ghost use Rattle.slots.specs.Keys.{keyOf};
 ghost use Rattle.cache.specs.Sound.{opening, soundCounts, soundTables, soundAnswers, soundState};
-ghost use Rattle.cache.specs.Outcomes.{noPlace, noAnswer, outcomeOf, unfitIf, askNumber, Caches, Room, placeOf, placeBytes, updateNumber, updateBy};
-ghost use Rattle.cache.specs.Calls.{emptyState, opens, openOf, addRefused, addedTable, addedQuery, addedUpdate, hasPlace, addedBy, addOf, asks, askRefusal, askNew, askOf, updates, updateOf, flushOf};
+ghost use Rattle.cache.specs.Outcomes.{noPlace, noAnswer, outcomeOf, unfitIf, askNumber, Caches, Room, placeOf, placeBytes};
+ghost use Rattle.cache.specs.Calls.{emptyState, opens, openOf, addRefused, addedTable, addedQuery, addedUpdate, hasPlace, addedBy, addOf, asks, askRefusal, askNew, askOf, updates, updateRefusal, updateDone, updateOf, flushOf};
 
 // The state. Entries past the counts, and of slots that hold nothing, do not matter.
 pub struct State {
@@ -179,25 +179,6 @@ fn ask_refusal(unfit: bool, count: u8, query: usize, parameters: u8, values: usi
     }
     if values != (parameters as usize) {
         return Refusal::VALUES;
-    }
-    0
-}
-
-// 2, 10, 11 or 12, the lowest that applies, or 0.
-fn update_refusal(unfit: bool, unknown: bool, unlike: bool, full: bool) -> u8
-    ensures { λ r. ⌜ r ≡ updateNumber unfit unknown unlike full ⌝ }
-{
-    if unfit {
-        return Refusal::STATE;
-    }
-    if unknown {
-        return Refusal::NO_STATEMENT;
-    }
-    if unlike {
-        return Refusal::VALUES;
-    }
-    if full {
-        return Refusal::FULL;
     }
     0
 }
@@ -544,25 +525,7 @@ impl State {
     pub fn update(self, cells: &mut [i32], memory: &[u8], update: usize, values: &[i32]) -> Updated
         ensures { λ r. ⌜ updates r (now (cells .exit)) ≡ updateOf self (now (cells .entry)) (length (now (memory .entry))) update (now (values .entry)) ⌝ }
     {
-        let sound = self.is_sound();
-        let unfit = is_unfit(sound, self.cells, self.memory, cells.len(), memory.len());
-        self.updated(unfit, cells, update, values)
-    }
-
-    // Refused, or the rows changed and the slots of the answers that the update matches dropped. The state is read and changed in this one place, so that it is
-    // copied once in and once out.
-    fn updated(mut self, unfit: bool, cells: &mut [i32], update: usize, values: &[i32]) -> Updated
-        requires { ⌜ (unfit ≡ false → soundState self ≡ true) ⌝ }
-        ensures { λ r. ⌜ updates r (now (cells .exit)) ≡ updateBy unfit self (now (cells .entry)) update (now (values .entry)) ⌝ }
-    {
-        let number = update % Update::UPDATES;
-        let u = self.updates[number];
-        let i = (u.table as usize) % Table::TABLES;
-        let mut t = self.tables[i];
-        let full = (u.form == Update::INSERT) & (t.capacity <= t.rows);
-        let unknown = (self.update_count as usize) <= update;
-        let unlike = values.len() != (u.parameters as usize);
-        let refusal = update_refusal(unfit, unknown, unlike, full);
+        let refusal = self.update_refusal(cells.len(), memory.len(), update, values.len());
         if refusal != 0 {
             return Updated {
                 refusal,
@@ -571,13 +534,49 @@ impl State {
                 state: self,
             };
         }
+        let list = self.updates;
+        let u = list[update];
+        self.updated(cells, u, values)
+    }
+
+    // 2, 10, 11 or 12, the lowest that applies, or 0.
+    fn update_refusal(self, cells: usize, memory: usize, update: usize, values: usize) -> u8
+        ensures { λ r. ⌜ r ≡ updateRefusal self cells memory update values ⌝ }
+    {
+        let sound = self.is_sound();
+        if is_unfit(sound, self.cells, self.memory, cells, memory) {
+            return Refusal::STATE;
+        }
+        if (self.update_count as usize) <= update {
+            return Refusal::NO_STATEMENT;
+        }
+        let list = self.updates;
+        let u = list[update];
+        if values != (u.parameters as usize) {
+            return Refusal::VALUES;
+        }
+        let tables = self.tables;
+        let t = tables[u.table as usize];
+        if (u.form == Update::INSERT) & (t.capacity <= t.rows) {
+            return Refusal::FULL;
+        }
+        0
+    }
+
+    // The rows changed, and the slots of the answers that the update matches dropped.
+    fn updated(mut self, cells: &mut [i32], u: Update, values: &[i32]) -> Updated
+        requires { ⌜ (soundState self ≡ true) × (u .table < self .«table_count») ⌝ }
+        ensures { λ r. ⌜ updates r (now (cells .exit)) ≡ updateDone self (now (cells .entry)) u (now (values .entry)) ⌝ }
+    {
         let slots = self.slots;
         let keys = self.keys;
         let queries = self.queries;
-        let tables = self.tables;
-        let start = sound::areas(tables, i);
         let gone = matching::matched(keys, slots, queries, self.query_count, u, values);
         let left = slots.drop(gone);
+        let tables = self.tables;
+        let i = u.table as usize;
+        let mut t = self.tables[i];
+        let start = sound::areas(tables, i);
         let done = table::change(u, t, start, cells, values);
         t.rows = done.rows;
         self.tables[i] = t;

@@ -1,31 +1,56 @@
--- `State::update` meets its contract: whether the state is unfit, told. Assumes nothing.
-use mathlib.Core.Path.{_≡_, sym, _∙_}
+-- `State::update` meets its contract: refused or done. Assumes nothing.
+use mathlib.Core.Path.{sym, _∙_}
+use native.Mathlib.Omega.{arith}
 use borrow.Author.Needs.{needs}
-use lib.ListN.{length}
-use Rattle.cache.specs.Calls.{unfit}
-use Rattle.cache.proofs.Settled.{unfit-is, fit-is}
-use Rattle.cache.proofs.UpdateReturns.{update-told}
+use lib.ListN.{length, length-map}
+use Rattle.cache.proofs.UpdateReturns.{Long, update-below, table-there, Accepted, accepted, update-refused, update-done}
 use Rattle.cache.proofs.State.update.Statement.{statement}
 use Rattle.cache.proofs.State.update.Tie as tie
 
--- the test, read
-unfit-told : (c : tie.After-is-unfit) → let a = c .before .before .before .args in c .is-unfit .result ≡ unfit (a .self) (length (a .cells .now)) (length (a .memory .now))
-unfit-told c = unfit-is (c .before .before .before .args .self) _ _ _ _ (c .before .is-sound .ensures) (c .is-unfit .ensures)
+-- the lengths of the arrays
+long : (c : tie.Start) → Long (c .args .self)
+long c = record { tables = simp length-map at (c .good .0 .1 .1 .0 .1 .0 .1); updates = simp length-map at (c .good .0 .1 .1 .1 .1 .0 .1 .0 .1) }
 
-is-sound-requires : tie.Need-is-sound-requires
-is-sound-requires c κs = search needs
+known : (c : tie.Else1) →
+    let a = c .before .before .before .args in
+    Accepted (a .self) (length (a .cells .now)) (length (a .memory .now)) (a .update) (length (a .values .now))
+known c = accepted _ _ _ _ _ (sym (c .before .update-refusal .ensures) ∙ c .if1 .left)
 
-is-unfit-requires : tie.Need-is-unfit-requires
-is-unfit-requires c κs = search needs
+update-refusal-requires : tie.Need-update-refusal-requires
+update-refusal-requires c κs = search needs
+
+returns : tie.Need-returns
+returns c = update-refused _ _ _ _ _ _ (c .before .update-refusal .ensures) (c .if1 .taken)
+
+array-copy-out-u : tie.Need-array-copy-out-u
+array-copy-out-u c =
+    let e = c .before in
+    update-below _ (known e .sound) (long (e .before .before .before)) _ (known e .there)
+
+mul-u : tie.Need-mul-u
+mul-u c = omega (arith, array-copy-out-u c)
 
 updated-requires : tie.Need-updated-requires
-updated-requires c κs = λ e. fit-is (c .before .before .before .before .args .self) _ _ (sym (unfit-told (c .before)) ∙ e) .sound
+updated-requires c κs =
+    let K = known (c .before .before .before) in
+    (K .sound, table-there _ (K .sound) (long (c .before .before .before .before .before .before)) _ (K .there) _)
 
 same-length : tie.Need-same-length
 same-length c = search needs
 
-returns : tie.Need-returns
-returns c = update-told _ (c .before .before .before .before .before .before .args .self) _ _ _ _ (unfit-told (c .before .before .before)) _ (c .before .updated .ensures)
+returns-2 : tie.Need-returns-2
+returns-2 c =
+    let e = c .before .before .before .before .before in
+    update-done _ _ _ _ _ _ (e .before .update-refusal .ensures) (e .if1 .left) (long (e .before .before .before)) _ _ (c .before .updated .ensures)
 
 pub update-spec : {M : Type 1} → statement M
-update-spec = tie.close (tie.spec is-sound-requires is-unfit-requires updated-requires same-length returns)
+update-spec =
+    tie.close
+    (tie.spec
+    update-refusal-requires
+    returns
+    mul-u
+    array-copy-out-u
+    updated-requires
+    same-length
+    returns-2)
