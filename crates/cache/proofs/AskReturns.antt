@@ -8,9 +8,10 @@ use native.Mathlib.Omega.{arith}
 use borrow.Author.Tests.{leb-true, leb-false, lt-ltb, le-ltb}
 use lib.Dec.{leb, lit<}
 use lib.IntN.{ℤ}
-use lib.ListN.{length, take, getD, set}
+use lib.ListN.{length, take, getD}
 use lib.Seq.{length-take-le}
 use Rattle.lists.specs.Lists.{written}
+use Rattle.lists.proofs.Bools.{and-right}
 use Rattle.lists.proofs.Places.{getD-inside}
 use Rattle.lists.proofs.Written.{length-written, written-there}
 use Rattle.meaning.specs.Limits.{most-queries, most-slots}
@@ -32,10 +33,10 @@ use Rattle.slots.proofs.KeyLaws.{found-below}
 use Rattle.cache.specs.declared.State.{State}
 use Rattle.cache.specs.declared.Asked.{Asked}
 use Rattle.cache.specs.Sound.{areasOf, queryAt}
-use Rattle.cache.specs.Calls.{unfit, Asks, asks, askRefused, askRefusal, withCache, bytesAt, cachedLength, askCached, fitsSlot, kept, keptMemory, startOf, tableAt, rowsAt, recordAt, askNew, askFound, askOf}
+use Rattle.cache.specs.Calls.{unfit, Asks, asks, askRefused, askRefusal, withCache, bytesAt, cachedLength, askCached, kept, keptMemory, startOf, tableAt, rowsAt, recordAt, askNew, askFound, askOf}
 use Rattle.cache.specs.declared.Place.{Place}
 use Rattle.cache.specs.declared.Outcome.{Outcome}
-use Rattle.cache.specs.Outcomes.{askNumber, noPlace, noAnswer, placed, outcomeOf, Keeps}
+use Rattle.cache.specs.Outcomes.{askNumber, noPlace, noAnswer, placed, outcomeOf, takes, taking, placeOf, placeBytes}
 use Rattle.cache.proofs.Sounds.{sound-is}
 use Rattle.cache.proofs.Settled.{settled-refused, settled-done, Fit, fit-is, or-else-zero}
 
@@ -94,28 +95,37 @@ module _ (s : State) (memory answer : List ℕ) (p : ℕ) where
 
 -- ---- a record kept
 
-module _ (s : State) (size : ℕ) (bytes memory : List ℕ) (long : size ≤ length bytes) (t : Taken) (e : t ≡ takenOf (s .slots)) where
+module _ (slots : SlotList) (bytes size : ℕ) (from memory : List ℕ) (long : size ≤ length from) (t : Taken) (e : t ≡ takenOf slots) where
   abbrev first : List ℕ
-  first = take size bytes
+  first = take size from
 
   size-is : length first ≡ size
-  size-is = length-take-le size bytes long
+  size-is = length-take-le size from long
 
-  test-is : (fitsSlot s first && takenOf (s .slots) .there) ≡ (leb size (s .«slot_bytes») && t .there)
-  test-is = ap₂ (λ (n : ℕ) (u : Taken). leb n (s .«slot_bytes») && u .there) size-is (sym e)
+  test-is : takes slots bytes first ≡ (leb size bytes && t .there)
+  test-is = ap₂ (λ (n : ℕ) (u : Taken). leb n bytes && u .there) size-is (sym e)
 
-  pub keep-not : (p : Place) → p ≡ noPlace (s .slots) → (leb size (s .«slot_bytes») && t .there) ≡ false → Keeps s first p × (memory ≡ keptMemory s first memory)
-  unfolding kept keptMemory withCache
-  keep-not p f h = let z = test-is ∙ h in (λ key. rw z (ap (placed s key) f), rw z)
+  pub keep-not : (p : Place) → p ≡ noPlace slots → (leb size bytes && t .there) ≡ false → (p ≡ placeOf slots bytes first) × (memory ≡ placeBytes slots bytes first memory)
+  unfolding placeOf placeBytes
+  keep-not p f h = let z = test-is ∙ h in (rw z f, rw z)
 
-  pub keep-done : (new : List ℕ) → t .slot < most-slots → (leb size (s .«slot_bytes») && t .there) ≡ true → new ≡ written memory (t .slot * s .«slot_bytes») first
-      → Keeps s first (record { slot = t .slot; size = size; slots = t .slots }) × (new ≡ keptMemory s first memory)
-  unfolding kept keptMemory
-  keep-done new below h f =
-      let z = test-is ∙ h in (
-        λ key. rw (z, lt-ltb (t .slot) most-slots below) (ap₂ (λ (u : Taken) (n : ℕ). withCache s (u .slots) (set (s .keys) (u .slot) key) (set (s .lengths) (u .slot) n)) e (sym size-is)),
-        rw z (f ∙ ap (λ (u : Taken). written memory (u .slot * s .«slot_bytes») first) e),
-      )
+  pub keep-done : (new : List ℕ) → (leb size bytes && t .there) ≡ true → new ≡ written memory (t .slot * bytes) first
+      → (taking t size ≡ placeOf slots bytes first) × (new ≡ placeBytes slots bytes first memory)
+  unfolding placeOf placeBytes
+  keep-done new h f = let z = test-is ∙ h in (rw z (ap₂ taking e (sym size-is)), rw z (f ∙ ap (λ (u : Taken). written memory (u .slot * bytes) first) e))
+
+module _ (s : State) (r : List ℕ) (p : Place) (e : p ≡ placeOf (s .slots) (s .«slot_bytes») r) where
+  pub place-kept : (takenOf (s .slots) .there ≡ true → takenOf (s .slots) .slot < most-slots) → (key : Key) → placed s key p ≡ kept s key r
+  unfolding placeOf kept withCache
+  place-kept below key = ap (placed s key) e ∙ go (takes (s .slots) (s .«slot_bytes») r) refl
+    where
+      go : (b : Bool) → takes (s .slots) (s .«slot_bytes») r ≡ b → placed s key (placeOf (s .slots) (s .«slot_bytes») r) ≡ kept s key r
+      go true z = rw (z, lt-ltb (takenOf (s .slots) .slot) most-slots (below (and-right (leb (length r) (s .«slot_bytes»)) _ z)))
+      go false z = rw z
+
+  pub bytes-kept : (after memory : List ℕ) → after ≡ placeBytes (s .slots) (s .«slot_bytes») r memory → after ≡ keptMemory s r memory
+  unfolding placeBytes keptMemory
+  bytes-kept after memory f = f
 
 -- ---- an answer worked out
 

@@ -1,5 +1,5 @@
 -- What a sound state says of the places that a question reads and writes: its query and table, the slot at a held place, and the last slot. Assumes nothing.
-use mathlib.Core.Path.{_≡_, refl, sym, ap, subst, _∙_}
+use mathlib.Core.Path.{_≡_, refl, _∙_}
 use mathlib.Core.Bool.{Bool, true, false, cond}
 use Prim.Native.Nat.{ℕ, _+_, _*_, _≤_, _<_}
 use native.Mathlib.Omega.{arith}
@@ -8,7 +8,7 @@ use lib.Dec.{leb}
 use lib.ListN.{length, getD, length-map}
 use lib.Seq.{length-take-le}
 use Rattle.lists.proofs.Bools.{and-left}
-use Rattle.meaning.specs.Limits.{most-memory, most-slots, most-slot-bytes, most-tables, most-queries}
+use Rattle.meaning.specs.Limits.{most-memory, most-slots, most-tables, most-queries}
 use Rattle.statement.specs.declared.Query.{Query}
 use Rattle.statement.specs.Catalog.{schemaOf}
 use Rattle.statement.specs.Sound.{soundQuery}
@@ -20,6 +20,7 @@ use Rattle.slots.proofs.Laws.{taken-below}
 use Rattle.cache.specs.declared.State.{State}
 use Rattle.cache.specs.Sound.{usedTables}
 use Rattle.cache.specs.Calls.{cachedLength}
+use Rattle.cache.specs.Outcomes.{Room}
 use Rattle.cache.proofs.Sounds.{schemasIn, Sound, All-first, HeldSound, slot-room, held-sound}
 
 -- ---- the table of a query
@@ -43,13 +44,6 @@ pub record Held (s : State) (p : ℕ) : Type 0 where
   pub start : getD (s .slots .order) p 0 * s .«slot_bytes» ≤ most-memory
   pub ends : getD (s .slots .order) p 0 * s .«slot_bytes» + cachedLength s p ≤ s .memory
 
--- the slot t that n bytes take: there they lie inside the cache memory
-pub record Last (s : State) (t : Taken) (n : ℕ) : Type 0 where
-  pub slot : t .slot < most-slots
-  pub start : t .slot * s .«slot_bytes» ≤ most-memory
-  pub ends : t .slot * s .«slot_bytes» + n ≤ s .memory
-  pub small : n ≤ most-slot-bytes
-
 some-slot : (l : SlotList) → takenOf l .there ≡ true → 1 ≤ l .count
 unfolding takenOf
 some-slot l h = leb-true 1 (l .count) (and-left (leb 1 (l .count)) (leb (l .count) most-slots) (go (isOpen l) h))
@@ -70,10 +64,10 @@ module _ (s : State) (S : Sound s) (long : length (s .slots .order) ≡ most-slo
         ends = H .ends;
       }
 
-  pub last-known : (t : Taken) (n : ℕ) → t ≡ takenOf (s .slots) → t .there ≡ true → n ≤ s .«slot_bytes» → Last s t n
-  last-known t n e there fits =
-      let some : 1 ≤ s .slots .count = some-slot (s .slots) (sym (ap (λ (u : Taken). u .there) e) ∙ there) in
-      let below : t .slot < s .slots .count = subst (λ (u : Taken). u .slot < s .slots .count) (sym e) (taken-below (s .slots) (S .slots) long some) in
+  pub last-known : (n : ℕ) → Room (s .slots) (s .«slot_bytes») (s .memory) n
+  last-known n there fits =
+      let t : Taken = takenOf (s .slots) in
+      let below : t .slot < s .slots .count = taken-below (s .slots) (S .slots) long (some-slot (s .slots) there) in
       let ends : t .slot * s .«slot_bytes» + n ≤ s .memory = slot-room s S (t .slot) n below fits in
       record {
         slot = omega (arith, S .slots .few);
@@ -81,3 +75,6 @@ module _ (s : State) (S : Sound s) (long : length (s .slots .order) ≡ most-slo
         ends = ends;
         small = omega (arith, S .sizes .most-bytes);
       }
+
+  pub last-below : takenOf (s .slots) .there ≡ true → takenOf (s .slots) .slot < most-slots
+  last-below there = last-known 0 there (omega arith) .slot

@@ -22,11 +22,11 @@ use Rattle.statement.specs.declared.Query.{Query}
 use Rattle.statement.specs.declared.Update.{Update}
 use Rattle.statement.specs.Compiled.{noQuery}
 use Rattle.pattern.specs.declared.Pattern.{Pattern}
-use Rattle.pattern.specs.Stored.{clauseTotal, patternAt, filledOf, agreesStored}
+use Rattle.pattern.specs.Stored.{relevant, clauseTotal, patternAt, filledOf, agreesStored}
 use Rattle.slots.specs.declared.Key.{Key}
 use Rattle.slots.specs.declared.SlotList.{SlotList}
 use Rattle.slots.specs.Keys.{valuesOf, slotKey}
-use Rattle.slots.specs.Order.{soundSlots, isMarked}
+use Rattle.slots.specs.Order.{soundSlots, heldSlots, isMarked}
 use Rattle.slots.proofs.Laws.{sound-is, held-below}
 use Rattle.cache.specs.Marks.{marked, markedEach, agreesAt, clauseTests, queryMarks, holdsAnswer, marksOver, marksOf}
 use Rattle.cache.proofs.Marks.{no-mark, set-mark}
@@ -191,6 +191,16 @@ module _ (keys : List Key) (n : ℕ) (order : List ℕ) (q : ℕ) (query : Query
 
 -- ---- the queries
 
+-- a query of another table marks nothing
+other-total : (query : Query) (u : Update) → eqb (query .table) (u .table) ≡ false → clauseTotal query u ≡ 0
+unfolding clauseTotal relevant
+other-total query u e = rw e
+
+other-marks : (keys : List Key) (s : SlotList) (q : ℕ) (query : Query) (u : Update) (us : List ℤ) (marks : List Bool) → eqb (query .table) (u .table) ≡ false
+    → queryMarks keys s q query u us marks ≡ marks
+other-marks keys s q query u us marks e =
+    ap (λ (k : ℕ). markedEach (map (λ (i : ℕ). agreesAt keys q (filledOf us (patternAt query u i))) (from 0 k)) (heldSlots s) marks) (other-total query u e)
+
 module _ (keys : List Key) (s : SlotList) (queries : List Query) (n : ℕ) (u : Update) (us : List ℤ) where
   pub record Queries (q : ℕ) (marks : List Bool) : Type 0 where
     pub within : q ≤ n
@@ -227,5 +237,16 @@ module _ (keys : List Key) (s : SlotList) (queries : List Query) (n : ℕ) (u : 
               ∙ (rw (holds true t) at turn-over);
         }
 
-    pub queries-no : isMarked found q ≡ false → Queries (q + 1) marks
-    queries-no t = record { within = omega arith; left = rw (holds false t) at turn-over }
+    -- a query that holds no answer, or is of another table
+    pub queries-no : (d : Query) → length queries ≡ 16 → (isMarked found q && eqb (getD queries q d .table) (u .table)) ≡ false → Queries (q + 1) marks
+    queries-no d l t = record { within = omega arith; left = ap (marksOver keys s queries u us (from (q + 1) (n - (q + 1)))) (sym (go (isMarked found q) refl)) ∙ turn-over }
+      where
+        table-is : getD queries q d .table ≡ getD queries q noQuery .table
+        table-is = ap (λ (x : Query). x .table) (getD-inside queries q d noQuery (omega arith))
+
+        unlike : isMarked found q ≡ true → eqb (getD queries q noQuery .table) (u .table) ≡ false
+        unlike f = ap (λ (i : ℕ). eqb i (u .table)) (sym table-is) ∙ (rw f at t)
+
+        go : (b : Bool) → isMarked found q ≡ b → cond (holdsAnswer keys s q) (queryMarks keys s q (getD queries q noQuery) u us marks) marks ≡ marks
+        go false f = rw (holds false f)
+        go true f = rw (holds true f) (other-marks keys s q (getD queries q noQuery) u us marks (unlike f))

@@ -26,7 +26,6 @@ use Rattle.meaning.proofs.Accepted.{clear}
 use Rattle.meaning.proofs.Postfix.{sides-in, leaves-in}
 use Rattle.meaning.proofs.Resolve.{resolve-where, resolve-length, resolve-leaves}
 use Rattle.meaning.proofs.Resolved.{numbered-length}
-use Rattle.statement.specs.declared.Name as D
 use Rattle.statement.specs.declared.Table.{Table}
 use Rattle.statement.specs.declared.Setting.{Setting}
 use Rattle.statement.specs.declared.Statement.{Statement}

@@ -7,7 +7,6 @@ use Prim.Native.Nat.{ℕ, _+_, _*_}
 use lib.IntN.{ℤ}
 use lib.ListN.{length, take}
 use Rattle.lists.specs.Lists.{All}
-use Rattle.meaning.specs.Statement as M
 use Rattle.meaning.specs.Plain as P
 use Rattle.meaning.specs.Plain.{Plain}
 use Rattle.statement.specs.declared.Table.{Table}

@@ -1,19 +1,22 @@
 -- What a question gives, without the state, as the code hands it on; and the state with it. Assumes nothing: these are definitions.
 use mathlib.Core.Path.{_≡_}
-use mathlib.Core.Bool.{Bool, true, false, not, _&&_, _||_}
+use mathlib.Core.Bool.{Bool, true, false, not, _&&_, _||_, cond}
 use mathlib.Core.List.{List, [], _∷_}
-use Prim.Native.Nat.{ℕ}
+use Prim.Native.Nat.{ℕ, _+_, _*_, _≤_, _<_}
 use lib.Dec.{eqb, leb, ltb}
-use lib.ListN.{set}
-use Rattle.meaning.specs.Limits.{most-slots}
+use lib.ListN.{length, set}
+use Rattle.lists.specs.Lists.{written}
+use Rattle.meaning.specs.Limits.{most-memory, most-slots, most-slot-bytes}
 use Rattle.meaning.specs.Plain.{lowestOf}
 use Rattle.slots.specs.declared.Key.{Key}
 use Rattle.slots.specs.declared.SlotList.{SlotList}
+use Rattle.slots.specs.declared.Taken.{Taken}
+use Rattle.slots.specs.Order.{takenOf}
 use Rattle.cache.specs.declared.State.{State}
 use Rattle.cache.specs.declared.Asked.{Asked}
 use Rattle.cache.specs.declared.Place.{Place}
 use Rattle.cache.specs.declared.Outcome.{Outcome}
-use Rattle.cache.specs.Calls.{asks, withCache, askCached, kept}
+use Rattle.cache.specs.Calls.{asks, withCache, askCached}
 
 -- 2, from what decides it: whether the state is sound, its opening's lengths, and the lengths lent
 abbrev pub unfitIf : Bool → ℕ → ℕ → ℕ → ℕ → Bool
@@ -45,6 +48,29 @@ outcomeOf s key o = record { refusal = o .refusal; cached = o .cached; scanned =
 abbrev pub Caches : State → List ℕ → List ℕ → ℕ → Outcome → List ℕ → Type 0
 Caches s memory answer p o new = (key : Key) → asks (outcomeOf s key o) memory new ≡ askCached s memory answer p
 
--- a record that is kept, whatever its key
-abbrev pub Keeps : State → List ℕ → Place → Type 0
-Keeps s r p = (key : Key) → placed s key p ≡ kept s key r
+-- ---- a record that is kept
+
+-- n bytes in the slot t: there they lie inside the memory
+pub record Last (bytes memory : ℕ) (t : Taken) (n : ℕ) : Type 0 where
+  pub slot : t .slot < most-slots
+  pub start : t .slot * bytes ≤ most-memory
+  pub ends : t .slot * bytes + n ≤ memory
+  pub small : n ≤ most-slot-bytes
+
+-- if n bytes take the last slot, there is room for them
+abbrev pub Room : SlotList → ℕ → ℕ → ℕ → Type 0
+Room slots bytes memory n = takenOf slots .there ≡ true → n ≤ bytes → Last bytes memory (takenOf slots) n
+
+-- whether a record takes the last slot
+abbrev pub takes : SlotList → ℕ → List ℕ → Bool
+takes slots bytes r = leb (length r) bytes && takenOf slots .there
+
+abbrev pub taking : Taken → ℕ → Place
+taking t n = record { slot = t .slot; size = n; slots = t .slots }
+
+-- where a record is kept, and the memory then
+unfoldable pub placeOf : SlotList → ℕ → List ℕ → Place
+placeOf slots bytes r = cond (takes slots bytes r) (taking (takenOf slots) (length r)) (noPlace slots)
+
+unfoldable pub placeBytes : SlotList → ℕ → List ℕ → List ℕ → List ℕ
+placeBytes slots bytes r memory = cond (takes slots bytes r) (written memory (takenOf slots .slot * bytes) r) memory

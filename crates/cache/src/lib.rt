@@ -16,8 +16,8 @@ ghost use Prim.Native.Nat.{_≤_, _<_, _%_};
 ghost use lib.ListN.{length, take};
 ghost use Rattle.slots.specs.Keys.{keyOf};
 ghost use Rattle.cache.specs.Sound.{opening, parametersOf, soundCounts, soundTables, soundAnswers, soundState};
-ghost use Rattle.cache.specs.Outcomes.{noPlace, noAnswer, outcomeOf, unfitIf, askNumber, Caches, Keeps};
-ghost use Rattle.cache.specs.Calls.{emptyState, opens, openOf, addRefused, addedTable, addedQuery, addedUpdate, hasPlace, addedBy, addOf, asks, askRefusal, keptMemory, askNew, askOf, updates, updateRefusal, updateDone, updateOf, flushOf};
+ghost use Rattle.cache.specs.Outcomes.{noPlace, noAnswer, outcomeOf, unfitIf, askNumber, Caches, Room, placeOf, placeBytes};
+ghost use Rattle.cache.specs.Calls.{emptyState, opens, openOf, addRefused, addedTable, addedQuery, addedUpdate, hasPlace, addedBy, addOf, asks, askRefusal, askNew, askOf, updates, updateRefusal, updateDone, updateOf, flushOf};
 
 // The state. Entries past the counts, and of slots that hold nothing, do not matter.
 pub struct State {
@@ -129,6 +129,33 @@ fn not_answered(refusal: u8, slots: SlotList) -> Outcome
         scanned: 0,
         length: 0,
         place,
+    }
+}
+
+// A record that fits a slot of so many bytes takes the last one, which moves to the front.
+fn keep(slots: SlotList, slot_bytes: u16, size: usize, bytes: &[u8], memory: &mut [u8]) -> Place
+    requires { ⌜ (size ≤ length (now bytes)) × Room slots «slot_bytes» (length (now memory)) size ⌝ }
+    ensures place { λ r. ⌜ r ≡ placeOf slots «slot_bytes» (take size (now (bytes .entry))) ⌝ }
+    ensures memory { λ _. ⌜ now (memory .exit) ≡ placeBytes slots «slot_bytes» (take size (now (bytes .entry))) (now (memory .entry)) ⌝ }
+{
+    let taken = slots.take_last();
+    let fits = size <= (slot_bytes as usize);
+    if !(fits & taken.there) {
+        return nowhere(slots);
+    }
+    let slot = taken.slot;
+    lent::copy(
+        memory,
+        (slot as usize) * (slot_bytes as usize),
+        bytes,
+        0,
+        size,
+    );
+    let moved = taken.slots;
+    Place {
+        slot,
+        size: size as u16,
+        slots: moved,
     }
 }
 
@@ -462,41 +489,13 @@ impl State {
         if done.refusal != 0 {
             return not_answered(done.refusal, slots);
         }
-        let place = self.keep(done.length, answer, memory);
+        let place = keep(slots, self.slot_bytes, done.length, answer, memory);
         Outcome {
             refusal: 0,
             cached: 0,
             scanned: done.scanned,
             length: done.length,
             place,
-        }
-    }
-
-    // A record that fits a slot takes the last one, which moves to the front.
-    fn keep(self, size: usize, bytes: &[u8], memory: &mut [u8]) -> Place
-        requires { ⌜ (soundState self ≡ true) × (size ≤ length (now bytes)) × (length (now memory) ≡ self .memory) ⌝ }
-        ensures place { λ r. ⌜ Keeps self (take size (now (bytes .entry))) r ⌝ }
-        ensures memory { λ _. ⌜ now (memory .exit) ≡ keptMemory self (take size (now (bytes .entry))) (now (memory .entry)) ⌝ }
-    {
-        let slots = self.slots;
-        let taken = slots.take_last();
-        let fits = size <= (self.slot_bytes as usize);
-        if !(fits & taken.there) {
-            return nowhere(slots);
-        }
-        let slot = taken.slot;
-        lent::copy(
-            memory,
-            (slot as usize) * (self.slot_bytes as usize),
-            bytes,
-            0,
-            size,
-        );
-        let moved = taken.slots;
-        Place {
-            slot,
-            size: size as u16,
-            slots: moved,
         }
     }
 

@@ -1,5 +1,5 @@
 // Which held slots an update invalidates. Each joint clause of a query and the update is worked out once, and compared with every held key of that query; a query
-// that holds no answer costs nothing.
+// that holds no answer, or is of another table, costs nothing.
 use pattern::Pattern;
 use slots::Key;
 use slots::SlotList;
@@ -99,7 +99,8 @@ pub fn matched(
     let mut q: u8 = 0;
     while q < n {
         let query = queries[q as usize];
-        if found[q as usize] {
+        let same = query.table == update.table;
+        if found[q as usize] & same {
             let next = mark_query(marks, keys, slots, q, query, update, values);
             marks = next;
         }

@@ -6,7 +6,7 @@ use Prim.Native.Nat.{ℕ, _+_, _*_, _≤_, _<_}
 use native.Mathlib.Omega.{arith}
 use borrow.Author.Tests.{leb-true, ltb-true, ltb-false, ne-eqb}
 use lib.Dec.{eqb, leb, ltb}
-use lib.ListN.{length, getD, take}
+use lib.ListN.{length, getD}
 use Rattle.lists.proofs.Bools.{and-left, and-right, clash}
 use Rattle.statement.specs.Built.{markInSide}
 use Rattle.statement.specs.declared.Operand.{Operand}

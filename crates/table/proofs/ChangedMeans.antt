@@ -17,7 +17,7 @@ use Rattle.lists.proofs.Places.{length-keep, flat-length}
 use Rattle.meaning.specs.Condition.{Where}
 use Rattle.meaning.specs.Statement as M
 use Rattle.meaning.specs.Statement.{insert, delete, update}
-use Rattle.meaning.specs.Meaning.{Row, meetsWhere, operandValue, newRow, assigned, changed, rowsChanged}
+use Rattle.meaning.specs.Meaning.{Row, meetsWhere, newRow, assigned, changed, rowsChanged}
 use Rattle.meaning.specs.Cells.{rowsIn, areaOf, stored, withArea}
 use Rattle.meaning.proofs.Cells.{rows-length, rows-front, rows-wide, rows-stored, stored-length, area-length, put-length, put-there, put-before, put-after}
 use Rattle.statement.specs.declared.Condition.{Condition}
@@ -25,7 +25,6 @@ use Rattle.statement.specs.declared.Table.{Table}
 use Rattle.statement.specs.declared.Update.{Update}
 use Rattle.statement.specs.Sound.{settingsRead, settingValues, soundForm, AgreesCondition, AgreesUpdate}
 use Rattle.statement.specs.Compiled.{placedFrom, settingsOfChange, whereOfChange, formOfChange}
-use Rattle.statement.proofs.SoundCondition.{agrees-truth}
 use Rattle.table.specs.Evaluated.{meetsStored}
 use Rattle.table.specs.Changed.{settled, rowsAfter, countAfter, areaFits, formFits, fits, rowsBefore, changedOf, changeOf, cellsAfter}
 use Rattle.table.specs.declared.changes.Changed.{Changed}

@@ -86,19 +86,19 @@ fn assign(row: &mut [i32], settings: [Setting; Update::SETTINGS], n: usize, valu
     }
 }
 
-// One row: 1 where it met the condition and was set, and 0 where it is as it was.
+// One row: 1 where it met the condition and is set, and 0 where it is as it was.
 fn update_row(
     row: &mut [i32],
-    condition: Condition,
+    met: bool,
     settings: [Setting; Update::SETTINGS],
     n: usize,
     values: &[i32],
 ) -> u16
     requires { ⌜ n ≤ most-items ⌝ }
-    ensures count { λ r. ⌜ r ≡ cond (meetsStored condition (now (values .entry)) (now (row .entry))) 1 0 ⌝ }
-    ensures cells { λ _. ⌜ now (row .exit) ≡ settled (meetsStored condition (now (values .entry))) (assigned (map settingRead (take n settings)) (now (values .entry))) (now (row .entry)) ⌝ }
+    ensures count { λ r. ⌜ r ≡ cond met 1 0 ⌝ }
+    ensures cells { λ _. ⌜ now (row .exit) ≡ cond met (assigned (map settingRead (take n settings)) (now (values .entry)) (now (row .entry))) (now (row .entry)) ⌝ }
 {
-    if rows::holds(condition, row, values) {
+    if met {
         assign(row, settings, n, values);
         return 1;
     }
@@ -119,12 +119,24 @@ fn update_rows(
     ensures count { λ r. ⌜ r ≡ count (meetsStored condition (now (values .entry))) (rowsIn columns used (now (area .entry))) ⌝ }
     ensures cells { λ _. ⌜ now (area .exit) ≡ stored (now (area .entry)) (used * columns) (map (settled (meetsStored condition (now (values .entry))) (assigned (map settingRead (take n settings)) (now (values .entry)))) (rowsIn columns used (now (area .entry)))) ⌝ }
 {
+    let m = rows::used(condition.count, Condition::COMPARISONS);
     let mut at = 0;
     let mut left = used;
     let mut found: u16 = 0;
     while 0 < left {
         let end = at + columns;
-        found += update_row(&mut area[at..end], condition, settings, n, values);
+        let mut s = 1;
+        let mut next: usize = 0;
+        let mut i: usize = 0;
+        while i + 1 < 2 * m {
+            let step = condition.steps[i];
+            let there = next < m;
+            let c = condition.comparisons[rows::if_so(there, next)];
+            s = rows::stepped(s, step, there, c, &area[at..end], values);
+            next += rows::if_so(step == 0, 1);
+            i += 1;
+        }
+        found += update_row(&mut area[at..end], s % 2 == 1, settings, n, values);
         at = end;
         left -= 1;
     }
@@ -168,13 +180,25 @@ fn delete_rows(
     ensures count { λ r. ⌜ r ≡ count (meetsStored condition (now (values .entry))) (rowsIn columns used (now (area .entry))) ⌝ }
     ensures cells { λ _. ⌜ now (area .exit) ≡ stored (now (area .entry)) (used * columns) (keep (λ r. not (meetsStored condition (now (values .entry)) r)) (rowsIn columns used (now (area .entry)))) ⌝ }
 {
+    let m = rows::used(condition.count, Condition::COMPARISONS);
     let mut from = 0;
     let mut to = 0;
     let mut left = used;
     let mut gone: u16 = 0;
     while 0 < left {
         let end = from + columns;
-        if rows::holds(condition, &area[from..end], values) {
+        let mut s = 1;
+        let mut next: usize = 0;
+        let mut i: usize = 0;
+        while i + 1 < 2 * m {
+            let step = condition.steps[i];
+            let there = next < m;
+            let c = condition.comparisons[rows::if_so(there, next)];
+            s = rows::stepped(s, step, there, c, &area[from..end], values);
+            next += rows::if_so(step == 0, 1);
+            i += 1;
+        }
+        if s % 2 == 1 {
             gone += 1;
         } else {
             move_row(area, from, to, columns);

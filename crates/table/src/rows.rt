@@ -1,6 +1,5 @@
 // The test of a row: a condition in postfix order, run on a stack of bits in a number. It is given cells, values and positions, no name or text.
 use statement::Comparison;
-use statement::Condition;
 use statement::Operand;
 ghost use mathlib.Core.Path.{_≡_};
 ghost use Prim.Native.Nat.{_+_, _<_, min};
@@ -12,7 +11,7 @@ ghost use Rattle.meaning.specs.Condition.{holds as comparisonHolds};
 ghost use Rattle.meaning.specs.Meaning.{operandValue};
 ghost use Rattle.statement.specs.Places.{operatorAt};
 ghost use Rattle.statement.specs.Sound.{operandRead, comparisonRead};
-ghost use Rattle.table.specs.Evaluated.{bit, nextHolds, joinedBits, steppedBits, ifSo, meetsStored};
+ghost use Rattle.table.specs.Evaluated.{bit, nextHolds, joinedBits, steppedBits, ifSo};
 
 // How many entries of an array of `most` a count says are in use.
 pub fn used(count: u8, most: usize) -> usize
@@ -111,7 +110,8 @@ fn joined(s: u32, step: u8) -> u32
     rest + (ones + 1) / 2
 }
 
-// One step: the next comparison's bit is pushed, or the two on top are joined.
+// One step: the next comparison's bit is pushed, or the two on top are joined. The stack is a 1 and behind it a bit for each value, the top last: so an empty one
+// reads as true. A row meets a condition if after all steps the top is 1; the loops over rows run the steps in place, as a call would copy the condition for every row.
 pub fn stepped(s: u32, step: u8, there: bool, c: Comparison, row: &[i32], values: &[i32]) -> u32
     requires { ⌜ s < 65536 ⌝ }
     ensures { λ r. ⌜ r ≡ steppedBits step (nextHolds there c (now (row .entry)) (now (values .entry))) s ⌝ }
@@ -120,23 +120,4 @@ pub fn stepped(s: u32, step: u8, there: bool, c: Comparison, row: &[i32], values
         return s * 2 + next_bit(there, c, row, values);
     }
     joined(s, step)
-}
-
-// Whether a row meets a condition. The stack is a 1 and behind it a bit for each value, the top last: so an empty one reads as true.
-pub fn holds(condition: Condition, row: &[i32], values: &[i32]) -> bool
-    ensures { λ r. ⌜ r ≡ meetsStored condition (now (values .entry)) (now (row .entry)) ⌝ }
-{
-    let n = used(condition.count, Condition::COMPARISONS);
-    let mut s = 1;
-    let mut next: usize = 0;
-    let mut i: usize = 0;
-    while i + 1 < 2 * n {
-        let step = condition.steps[i];
-        let there = next < n;
-        let c = condition.comparisons[if_so(there, next)];
-        s = stepped(s, step, there, c, row, values);
-        next += if_so(step == 0, 1);
-        i += 1;
-    }
-    s % 2 == 1
 }

@@ -1,5 +1,5 @@
 -- `State::ask` meets its contract: its number, and what becomes of it. Assumes nothing.
-use mathlib.Core.Path.{_≡_, ap}
+use mathlib.Core.Path.{_≡_}
 use borrow.Author.Needs.{needs}
 use lib.ListN.{length, length-map}
 use Rattle.cache.proofs.Settled.{unfit-is}

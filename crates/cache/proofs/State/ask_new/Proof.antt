@@ -1,14 +1,15 @@
 -- `State::ask_new` meets its contract: 13 or the record, by what `select` and `keep` promise; the query's table is one of the state's. Assumes nothing.
-use Prim.Native.Nat.{_<_}
-use mathlib.Core.Path.{_≡_}
+use Prim.Native.Nat.{ℕ, _<_}
+use mathlib.Core.Path.{_≡_, sym, subst}
 use native.Mathlib.Omega.{arith}
 use borrow.Author.Needs.{needs}
 use lib.ListN.{length, length-map}
 use Rattle.statement.specs.Compiled.{noQuery}
 use Rattle.cache.specs.Sound.{queryAt}
+use Rattle.cache.specs.Outcomes.{Room}
 use Rattle.cache.proofs.Sounds.{Sound, sound-is}
-use Rattle.cache.proofs.Inside.{query-table}
-use Rattle.cache.proofs.AskReturns.{refused-is, new-short, new-inside, new-done}
+use Rattle.cache.proofs.Inside.{query-table, last-known, last-below}
+use Rattle.cache.proofs.AskReturns.{refused-is, place-kept, bytes-kept, new-short, new-inside, new-done}
 use Rattle.cache.proofs.State.ask_new.Statement.{statement}
 use Rattle.cache.proofs.State.ask_new.Tie as tie
 
@@ -20,6 +21,9 @@ tables c = simp length-map at (c .good .0 .1 .1 .0 .1 .0 .1)
 
 queries : (c : tie.Start) → length (c .args .self .queries) ≡ 16
 queries c = simp length-map at (c .good .0 .1 .1 .1 .0 .1 .0 .1)
+
+order : (c : tie.Start) → length (c .args .self .slots .order) ≡ 64
+order c = search needs
 
 few : (c : tie.Start) → c .args .query < 16
 few c = omega (arith, sound c .few-queries, c .pre .1)
@@ -73,10 +77,9 @@ keep-requires c κs =
     let s = c .before .before .before .before .before .before .before .before .before .before .before .before .before .before .before .before .before .before in
     let a = s .args in
     let r = c .before .before .before .before .before .before .select in (
-      s .pre .0,
       new-inside (a .self) (a .cells .now) (a .memory .now) (a .query) (a .values .now) (a .answer .now) _ _ (inside s) (there s) _ (c .before .before .before .before .before .before .before .before .areas .ensures) (r .result) _
           (r .ensures .0) (r .ensures .1) (c .before .before .if1 .left),
-      s .pre .2,
+      subst (λ (m : ℕ). Room (a .self .slots) (a .self .«slot_bytes») m (r .result .length)) (sym (s .pre .2)) (last-known (a .self) (sound s) (order s) (r .result .length)),
     )
 
 same-length-2 : tie.Need-same-length-2
@@ -92,7 +95,7 @@ returns-2 c =
     let r = c .before .before .before .before .before .before .before .before .before .select in
     let k = c .before .before .keep in
     new-done (a .self) (a .cells .now) (a .memory .now) (a .query) (a .values .now) (a .answer .now) _ _ (inside s) (there s) _ (c .before .before .before .before .before .before .before .before .before .before .before .areas .ensures) (r .result) _
-    (r .ensures .0) (r .ensures .1) (c .before .before .before .before .before .if1 .left) (a .key) _ _ (s .pre .3) (k .ensures .0 (a .key)) (k .ensures .1)
+    (r .ensures .0) (r .ensures .1) (c .before .before .before .before .before .if1 .left) (a .key) _ _ (s .pre .3) (place-kept (a .self) _ _ (k .ensures .0) (last-below (a .self) (sound s) (order s)) (a .key)) (bytes-kept (a .self) _ _ (k .ensures .0) _ _ (k .ensures .1))
 
 pub ask-new-spec : {M : Type 1} → statement M
 ask-new-spec =

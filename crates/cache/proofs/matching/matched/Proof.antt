@@ -1,6 +1,5 @@
 -- `matching::matched` meets its contract. The invariant: the queries left are still to be marked (`Queries`). The measure is the queries left. Assumes nothing.
 use Prim.Native.Nat.{_-_, _≤_}
-use native.Mathlib.Omega.{arith}
 use borrow.Author.Needs.{needs}
 use mathlib.Core.Path.{_≡_}
 use mathlib.Core.Bool.{true}
@@ -8,6 +7,7 @@ use mathlib.Core.List.{map}
 use mathlib.Core.Logic.{⊎-elim}
 use lib.ListN.{length}
 use Rattle.lists.specs.Lists.{from}
+use Rattle.lists.proofs.Bools.{and-left}
 use Rattle.slots.specs.Order.{soundSlots}
 use Rattle.cache.specs.Marks.{holdsAnswer}
 use Rattle.cache.proofs.Marking.{Queries, queries-start, queries-yes, queries-no, queries-end}
@@ -54,15 +54,15 @@ loop-less c = search needs
 
 loop-again : tie.Need-loop-again Inv-loop μ-loop
 loop-again c =
-    let l = c .before .before .before .loop in
-    let t = c .before .before .loop-test .taken in (
+    let l = c .before .before .before .before .before .loop in
+    let t = c .before .before .before .before .loop-test .taken in (
       l .inv .0,
       l .inv .1,
       l .inv .2,
       l .inv .3,
       ⊎-elim
-          (λ w. rw (w .2) (queries-yes _ _ _ _ _ _ _ _ t (l .inv .4) _ (l .inv .1) (l .inv .3) _ _ (w .0 .taken) (l .inv .2) (w .1 .ensures)))
-          (λ w. rw (w .1) (queries-no _ _ _ _ _ _ _ _ t (l .inv .4) _ (l .inv .1) (l .inv .3) (w .0 .left)))
+          (λ w. rw (w .2) (queries-yes _ _ _ _ _ _ _ _ t (l .inv .4) _ (l .inv .1) (l .inv .3) _ _ (and-left _ _ (w .0 .taken)) (l .inv .2) (w .1 .ensures)))
+          (λ w. rw (w .1) (queries-no _ _ _ _ _ _ _ _ t (l .inv .4) _ (l .inv .1) (l .inv .3) _ (l .inv .2) (w .0 .left)))
           (c .if1 .came),
     )
 

@@ -1,6 +1,6 @@
 -- `after_used` meets its contract. Assumes nothing.
 use borrow.Author.Needs.{needs}
-use mathlib.Core.Path.{_≡_, sym, ap, _∙_}
+use mathlib.Core.Path.{sym, ap, _∙_}
 use mathlib.Core.Bool.{Bool, cond}
 use Rattle.soundness.specs.Parts.{afterComparison}
 use Rattle.soundness.proofs.conditions.after_used.Statement.{statement}
