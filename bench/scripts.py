@@ -152,6 +152,34 @@ ONE_ROW = line("Q", 0, 3, 1)
 EIGHTH = line("Q", 1, 3)
 
 
+# ---- conditions of no, one, four and eight comparisons, for (f)
+
+CONDITIONS = {
+    0: ("", []),
+    1: (" WHERE a = ?", [3]),
+    4: (" WHERE a = ? AND b >= ? AND c <> ? AND d < ?", [3, 100, 5, 9]),
+    8: (" WHERE a = ? OR b = ? AND c > ? OR d <= 3 AND a < b OR c = 7 AND d = ? OR b = 511", [3, 100, 5, 4]),
+}
+
+
+def conditions():
+    """A table of four columns and 512 rows, and of each condition a question, an UPDATE and a DELETE."""
+    adds = ["O 0", "A TABLE t (a, b, c, d) ROWS 512", "A INSERT INTO t VALUES (?, ?, ?, ?)"]
+    for where, _ in CONDITIONS.values():
+        adds += [f"A SELECT a, b FROM t{where}", f"A UPDATE t SET d = ?{where}", f"A DELETE FROM t{where}"]
+    return made(adds) + made([line("U", 0, i % 8, i, i * 7 % 13, i * 5 % 11) for i in range(512)])
+
+
+def condition_calls():
+    """A name and a call of each."""
+    calls = {}
+    for i, (count, (_, values)) in enumerate(CONDITIONS.items()):
+        calls[f"ask, new, 512 rows, {count} comparisons"] = line("Q", i, *values)
+        calls[f"UPDATE, 512 rows, {count} comparisons"] = line("U", 2 * i + 1, 5, *values)
+        calls[f"DELETE, 512 rows, {count} comparisons"] = line("U", 2 * i + 2, *values)
+    return calls
+
+
 # ---- kept answers, for (d) and (f)
 
 def held(count):

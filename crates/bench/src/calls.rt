@@ -1,6 +1,6 @@
 // The calls of a list, made and counted.
-use crate::script;
-use crate::script::Call;
+use crate::plan;
+use crate::plan::Call;
 use cache::State;
 use slots::SlotList;
 
@@ -171,13 +171,13 @@ pub fn make_call(
     let given = values_part(values, call.from, call.to);
     let text = text_part(input, call.from, call.to);
     match letter {
-        script::ASK => return ask(state, n, given, sum, cells, memory, answer, counters),
-        script::UPDATE => return update(state, n, given, cells, memory, counters),
-        script::SHOW => return show(state, n, answer, counters),
-        script::ADD => return add(state, text, cells, memory, counters),
-        script::OPEN => return open(n, cells, memory, counters),
-        script::FLUSH => return flush(state, cells, memory, counters),
-        script::SOUND => return test(state, counters),
+        plan::ASK => return ask(state, n, given, sum, cells, memory, answer, counters),
+        plan::UPDATE => return update(state, n, given, cells, memory, counters),
+        plan::SHOW => return show(state, n, answer, counters),
+        plan::ADD => return add(state, text, cells, memory, counters),
+        plan::OPEN => return open(n, cells, memory, counters),
+        plan::FLUSH => return flush(state, cells, memory, counters),
+        plan::SOUND => return test(state, counters),
         _ => {}
     }
     state

@@ -4,24 +4,21 @@
 // one left; `K n` makes each of n calls on the state that was there before; `C n` is `R n` with a checksum of the answers. `T` prints the processor time used. Other lines
 // are comments.
 mod calls; // the calls, counted
-mod script; // a line read into a call of the list
+mod plan; // a line read into a call of the list
 
 use cache::State;
 use calls::COUNTERS;
-use script::Call;
-use script::PLAN;
+use plan::Call;
+use plan::PLAN;
+use script::print;
+use script::print_item;
 use slots::SlotList;
 use table::Query;
 use table::Table;
 ghost use mathlib.Core.Path.{_≡_};
-ghost use Prim.Native.Nat.{_≤_};
 ghost use lib.ListN.{length};
 
-const OUT: i32 = 1;
-
-// The bytes of the longest script, and the most values of a list.
-const SCRIPT: usize = 262144;
-
+// The most values of a list.
 const VALUES: usize = 65536;
 
 // The bytes of the longest record: a head of eight, and four a value.
@@ -36,37 +33,33 @@ struct Bench {
 
 // ---- what is printed
 
-fn print(text: &[u8]) {
-    io::write_all(OUT, text);
+// What the questions gave.
+fn print_asked(counters: [u64; COUNTERS]) {
+    print_item(b" cached ", counters[calls::CACHED]);
+    print_item(b" read ", counters[calls::READ]);
+    print_item(b" bytes ", counters[calls::BYTES]);
 }
 
-fn print_item(word: &[u8], n: u64) {
-    print(word);
-    io::print_decimal(OUT, n);
+// What the updates gave.
+fn print_updated(counters: [u64; COUNTERS]) {
+    print_item(b" changed ", counters[calls::CHANGED]);
+    print_item(b" dropped ", counters[calls::DROPPED]);
 }
 
 fn print_counters(counters: [u64; COUNTERS], sum: bool) {
     print_item(b"calls ", counters[calls::CALLED]);
     print_item(b" refused ", counters[calls::REFUSED]);
-    print_item(b" cached ", counters[calls::CACHED]);
-    print_item(b" read ", counters[calls::READ]);
-    print_item(b" bytes ", counters[calls::BYTES]);
-    print_item(b" changed ", counters[calls::CHANGED]);
-    print_item(b" dropped ", counters[calls::DROPPED]);
+    print_asked(counters);
+    print_updated(counters);
     if sum {
         print_item(b" sum ", counters[calls::SUM]);
     }
     print(b"\n");
 }
 
-fn natural(z: i64) -> u64 {
-    if z > 0 { z as u64 } else { 0 }
-}
-
 // The processor time used, in microseconds.
 fn print_time() {
-    print_item(b"time ", natural(libc::clock()));
-    print(b"\n");
+    script::print_line(b"time ", script::natural(libc::clock()));
 }
 
 // ---- the list, run
@@ -95,11 +88,11 @@ fn run_calls(
     answer: &mut [u8],
     counters: &mut [u64; COUNTERS],
 ) -> State {
-    let sum = letter == script::CHECK;
+    let sum = letter == plan::CHECK;
     let mut at: usize = 0;
     let mut left = turns;
     while 0 < left {
-        let call = script::call_at(plan, at);
+        let call = plan::call_at(plan, at);
         state = calls::make_call(
             state,
             call,
@@ -133,7 +126,7 @@ fn run_kept(
     let mut at: usize = 0;
     let mut left = turns;
     while 0 < left {
-        let call = script::call_at(plan, at);
+        let call = plan::call_at(plan, at);
         calls::make_call(
             state,
             call,
@@ -178,7 +171,7 @@ fn run(
         answer,
         &mut counters,
     );
-    print_counters(counters, letter == script::CHECK);
+    print_counters(counters, letter == plan::CHECK);
     state
 }
 
@@ -215,8 +208,8 @@ fn keep(
 
 // The list with a call more, which uses the values up to `used`.
 fn with_call(mut s: Bench, plan: &mut [usize; PLAN], call: Call, used: usize) -> Bench {
-    script::put_call(plan, s.calls, call);
-    s.calls = script::one_more(s.calls);
+    plan::put_call(plan, s.calls, call);
+    s.calls = plan::one_more(s.calls);
     s.used = used;
     s
 }
@@ -224,20 +217,20 @@ fn with_call(mut s: Bench, plan: &mut [usize; PLAN], call: Call, used: usize) ->
 // The call of a line that adds, from `start` up to `end`.
 fn text_call(start: usize, end: usize) -> Call {
     Call {
-        letter: script::ADD,
+        letter: plan::ADD,
         number: 0,
-        from: script::text_start(start, end),
+        from: plan::text_start(start, end),
         to: end,
     }
 }
 
 // The call of a line with numbers, behind so many values.
 fn number_call(line: &[u8], values: &mut [i32], used: usize) -> Call {
-    let word = script::read_count(line);
-    let to = script::read_values(line, word.next, values, used);
+    let count = script::count_at(line, 1);
+    let to = plan::read_values(line, count.next, values, used);
     Call {
-        letter: script::letter(line),
-        number: word.number,
+        letter: plan::letter(line),
+        number: count.value,
         from: used,
         to,
     }
@@ -254,17 +247,17 @@ fn run_other(
     memory: &mut [u8],
     answer: &mut [u8],
 ) -> Bench {
-    let letter = script::letter(line);
-    let word = script::read_count(line);
-    let n = word.number;
+    let letter = plan::letter(line);
+    let count = script::count_at(line, 1);
+    let n = count.value;
     match letter {
-        script::EMPTY => {
+        plan::EMPTY => {
             s.calls = 0;
             s.used = 0;
         }
-        script::TIME => print_time(),
-        script::KEEP => keep(s, n, input, plan, values, cells, memory, answer),
-        script::RUN | script::CHECK => {
+        plan::TIME => print_time(),
+        plan::KEEP => keep(s, n, input, plan, values, cells, memory, answer),
+        plan::RUN | plan::CHECK => {
             let state = run(s, letter, n, input, plan, values, cells, memory, answer);
             s.state = state;
         }
@@ -276,22 +269,20 @@ fn run_other(
 fn run_line(
     s: Bench,
     input: &[u8],
-    start: usize,
-    end: usize,
+    at: usize,
     plan: &mut [usize; PLAN],
     values: &mut [i32],
     cells: &mut [i32],
     memory: &mut [u8],
     answer: &mut [u8],
-) -> Bench
-    requires { ⌜ (start ≤ end) × (end ≤ length (now input)) ⌝ }
-{
-    let line = &input[start..end];
-    let letter = script::letter(line);
-    if letter == script::ADD {
-        return with_call(s, plan, text_call(start, end), s.used);
+) -> Bench {
+    let line = script::part(input, at, b'\n');
+    let letter = plan::letter(line);
+    if letter == plan::ADD {
+        let end = script::find(input, at, b'\n');
+        return with_call(s, plan, text_call(at, end), s.used);
     }
-    if script::is_call(letter) {
+    if plan::is_call(letter) {
         let call = number_call(line, values, s.used);
         return with_call(s, plan, call, call.to);
     }
@@ -327,17 +318,9 @@ fn run_all(
     let mut s = no_store(cells, memory);
     let mut at = 0;
     while at < input.len() {
-        let end = bytes::scan::find(input, at, input.len(), b'\n');
-        let next = end + 1;
-        s = run_line(s, input, at, end, plan, values, cells, memory, answer);
-        at = next;
+        s = run_line(s, input, at, plan, values, cells, memory, answer);
+        at = script::next_line(input, at);
     }
-}
-
-fn no_script() -> [u8; SCRIPT]
-    ensures { λ r. ⌜ 262144 ≡ length r ⌝ }
-{
-    [0; SCRIPT]
 }
 
 fn no_plan() -> [usize; PLAN]
@@ -358,6 +341,7 @@ fn no_cells() -> [i32; State::CELLS]
     [0; State::CELLS]
 }
 
+// Bytes for the script, which may be as long as the cache memory, and for the cache memory.
 fn no_memory() -> [u8; State::MEMORY]
     ensures { λ r. ⌜ 262144 ≡ length r ⌝ }
 {
@@ -371,7 +355,7 @@ fn no_record() -> [u8; RECORD]
 }
 
 fn main() {
-    let mut input = no_script();
+    let mut input = no_memory();
     let mut plan = no_plan();
     let mut values = no_values();
     let mut cells = no_cells();

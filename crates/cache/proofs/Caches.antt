@@ -3,7 +3,7 @@ use mathlib.Core.Path.{_≡_, refl, sym, ap, ap₂, _∙_}
 use mathlib.Core.Logic.{_≢_}
 use mathlib.Core.Bool.{Bool, true, false, not, _&&_, cond}
 use mathlib.Core.List.{List, [], _∷_, _++_, map}
-use Prim.Native.Nat.{ℕ, _+_, _-_, _*_, _≤_, _<_}
+use Prim.Native.Nat.{ℕ, _*_, _≤_, _<_}
 use native.Mathlib.Decide.{decLe}
 use native.Mathlib.Omega.{arith}
 use borrow.Author.Tests.{leb-true}
@@ -21,10 +21,11 @@ use Rattle.slots.specs.declared.Key.{Key}
 use Rattle.slots.specs.declared.SlotList.{SlotList}
 use Rattle.slots.specs.declared.Taken.{Taken}
 use Rattle.slots.specs.Keys.{noKey, keyRead}
+use Rattle.slots.specs.Order as order
 use Rattle.slots.specs.Order.{heldSlots, freeSlots, frontOf, takenOf}
 use Rattle.slots.proofs.Moves.{taken-none}
 use Rattle.slots.proofs.KeyLaws.{FoundAt, found-inside}
-use Rattle.slots.proofs.Laws.{front-found, front-free, taken-there, taken-below}
+use Rattle.slots.proofs.Laws.{front-found, front-free, taken-there, taken-below, drop-held, drop-free}
 use Rattle.cache.specs.declared.State.{State}
 use Rattle.cache.specs.Sound.{lengthAt}
 use Rattle.cache.specs.Means.{Typed}
@@ -32,8 +33,7 @@ use Rattle.cache.specs.Calls as calls
 use Rattle.cache.specs.Calls.{withCache, bytesAt, fitsSlot, kept, keptMemory}
 use Rattle.cache.proofs.Sounds.{Sound, HeldSound}
 use Rattle.cache.proofs.Parts.{keep-same}
-use Rattle.cache.proofs.Dropping.{held-after}
-use Rattle.cache.proofs.Model.{heldIn, cacheIn, cacheOf, drop-free, Last, last-is, none-last}
+use Rattle.cache.proofs.Model.{heldIn, cacheIn, cacheOf, Last, last-is, none-last}
 
 module _ (s : State) (T : Typed s) (S : Sound s) (memory : List ℕ) where
   abbrev heldAt : ℕ → Held M.Key
@@ -67,10 +67,10 @@ module _ (s : State) (T : Typed s) (S : Sound s) (memory : List ℕ) where
     slots-are [] = refl
     slots-are (x ∷ l) = ap (λ (r : List ℕ). x ∷ r) (slots-are l)
 
-    pub cached-drop : cacheIn (s .keys) (s .lengths) (calls.dropBy p (s .slots)) memory ≡ dropBy d (cacheOf s memory)
+    pub cached-drop : cacheIn (s .keys) (s .lengths) (order.dropBy p (s .slots)) memory ≡ dropBy d (cacheOf s memory)
     cached-drop =
-        let h = ap (map heldAt) (held-after p (s .slots)) ∙ left-are in
-        let f = drop-free (s .slots) (S .slots) (T .order-64) p
+        let h = ap (map heldAt) (drop-held (s .slots) p) ∙ left-are in
+        let f = drop-free (s .slots) p (S .slots) (T .order-64)
         ∙ ap (λ (l : List ℕ). l ++ freeSlots (s .slots))
         (sym (slots-are (keep p (heldSlots (s .slots)))) ∙ ap (map (λ (e : Held M.Key). e .slot)) gone-are) in
         ap₂ (λ (l : List (Held M.Key)) (r : List ℕ). record { held = l; free = r; memory = memory }) h f

@@ -2,12 +2,11 @@
 -- Assumes nothing.
 use mathlib.Core.Path.{_≡_, refl, sym, ap, _∙_}
 use mathlib.Core.Bool.{Bool, true, not}
-use mathlib.Core.List.{List, [], _∷_, map, append-assoc}
+use mathlib.Core.List.{List, [], _∷_, map}
 use Prim.Native.Nat.{ℕ, zero, suc, _<_}
 use native.Mathlib.Omega.{arith}
 use lib.IntN.{ℤ}
-use lib.ListN.{length, take, drop, length-map}
-use lib.Seq.{take-at}
+use lib.ListN.{length, length-map}
 use Rattle.lists.specs.Lists.{All, keep, count}
 use Rattle.lists.proofs.Lists.{All-map, keep-map}
 use Rattle.meaning.specs.Key.{Key}
@@ -20,31 +19,19 @@ use Rattle.statement.specs.declared.Query.{Query}
 use Rattle.statement.specs.declared.Update.{Update}
 use Rattle.statement.specs.Sound.{soundQuery, soundUpdate, AgreesQuery, AgreesUpdate}
 use Rattle.pattern.specs.Stored.{matchesStored}
-use Rattle.slots.specs.declared.SlotList.{SlotList}
 use Rattle.slots.specs.Keys.{keyRead, slotKey, heldKeys, valuesOf}
-use Rattle.slots.specs.Order.{heldSlots}
+use Rattle.slots.specs.Order.{heldSlots, dropBy}
+use Rattle.slots.proofs.Laws.{drop-held}
 use Rattle.cache.specs.declared.State.{State}
 use Rattle.cache.specs.Sound.{queryAt}
 use Rattle.cache.specs.Means.{Means, Typed}
-use Rattle.cache.specs.Calls.{settled, updates, updateAt, updateRefusal, isMatched, dropBy, withChange, updateRefused, updateDone, updateOf}
+use Rattle.cache.specs.Calls.{settled, updates, updateAt, updateRefusal, isMatched, withChange, updateRefused, updateDone, updateOf}
 use Rattle.cache.specs.Run.{Store, Seen, stepUpdate, step}
 use Rattle.cache.specs.Demand.{keysHeld, DropsExactlyMatched}
 use Rattle.cache.proofs.Sounds.{schemasIn, Sound, sound-is, query-at, update-at}
 use Rattle.cache.proofs.Meanings.{query-agrees, update-agrees}
 use Rattle.cache.proofs.Updating.{update-number, update-there}
 use Rattle.cache.proofs.Parts.{keep-same}
-
--- ---- lists
-
--- ---- what is held after a drop
-pub held-after : (p : ℕ → Bool) (l : SlotList) → heldSlots (dropBy p l) ≡ keep (λ (x : ℕ). not (p x)) (heldSlots l)
-unfolding dropBy
-held-after p l =
-    ap (take (length left)) (append-assoc left (keep p (heldSlots l)) (drop (l .held) (l .order)))
-    ∙ take-at left _ (length left) refl
-  where
-    left : List ℕ
-    left = keep (λ (x : ℕ). not (p x)) (heldSlots l)
 
 -- ---- an update on a state that stands for the plain store
 
@@ -84,7 +71,7 @@ module _ (mean : MatchesMean) (s : State) (T : Typed s) (S : Sound s) (cells : L
   keys-stay : map keyRead (heldKeys (s .keys) (dropBy test (s .slots))) ≡ keep (λ (k : Key). not (match k)) (map keyRead (heldKeys (s .keys) (s .slots)))
   keys-stay =
       ap (λ l. map keyRead (map (slotKey (s .keys)) l))
-      (held-after test (s .slots) ∙ keep-same (λ x. not (test x)) (λ x. not (match (keyAt x))) (All-map (λ x e. ap not e) matched-is))
+      (drop-held (s .slots) test ∙ keep-same (λ x. not (test x)) (λ x. not (match (keyAt x))) (All-map (λ x e. ap not e) matched-is))
       ∙ keys-of (keep (λ x. not (match (keyAt x))) (heldSlots (s .slots)))
       ∙ keep-map keyAt (λ (k : Key). not (match k)) (heldSlots (s .slots))
       ∙ ap (keep (λ (k : Key). not (match k))) (sym (keys-of (heldSlots (s .slots))))

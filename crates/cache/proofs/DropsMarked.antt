@@ -13,11 +13,11 @@ use Rattle.lists.proofs.Changed.{member-has, members-have}
 use Rattle.lists.proofs.Moved.{parted-length}
 use Rattle.statement.specs.declared.Update.{Update}
 use Rattle.slots.specs.declared.SlotList.{SlotList}
-use Rattle.slots.specs.Order.{heldSlots, isMarked, dropOf}
+use Rattle.slots.specs.Order.{heldSlots, isMarked, dropBy, dropOf}
 use Rattle.slots.proofs.Laws.{held-below}
 use Rattle.cache.specs.declared.State.{State}
 use Rattle.cache.specs.Marks.{marksOf}
-use Rattle.cache.specs.Calls.{isMatched, dropBy}
+use Rattle.cache.specs.Calls.{isMatched}
 use Rattle.cache.proofs.Sounds.{Sound}
 use Rattle.cache.proofs.Marks.{marks-match}
 use Rattle.cache.proofs.Parts.{keep-same}
@@ -27,14 +27,14 @@ module _ (p : ℕ → Bool) (s : SlotList) (gone : List Bool) (h : All (λ x. is
   left-same = keep-same (λ x. not (isMarked gone x)) (λ x. not (p x)) (All-map (λ x e. ap not e) h)
 
   pub drop-marked : dropOf s gone ≡ dropBy p s
-  unfolding dropOf dropBy
+  unfolding dropBy
   drop-marked = ap₂
       (λ (l g : List ℕ). record { order = l ++ g ++ drop (s .held) (s .order); held = length l; count = s .count })
       left-same (keep-same (isMarked gone) p h)
 
   module _ (long : s .held ≤ length (s .order)) where
     held-parted : dropOf s gone .held + count p (heldSlots s) ≡ s .held
-    unfolding dropOf
+    unfolding dropBy
     held-parted = ap (λ (l : List ℕ). length l + count p (heldSlots s)) left-same ∙ parted-length p (heldSlots s) ∙ length-take-le (s .held) (s .order) long
 
     -- no more are held, and as many fewer as pass the test

@@ -1,17 +1,14 @@
--- What the slots of a state keep, as the model of crate `trace` has it; the last slot taken, and the slots that are free after a drop. Assumes nothing.
-use mathlib.Core.Path.{_≡_, refl, sym, ap, ap₂, _∙_}
+-- What the slots of a state keep, as the model of crate `trace` has it; and the last slot taken. Assumes nothing.
+use mathlib.Core.Path.{_≡_, refl, ap, ap₂, _∙_}
 use mathlib.Core.Logic.{_≢_}
-use mathlib.Core.Bool.{Bool, not}
 use mathlib.Core.Option.{none, some}
-use mathlib.Core.List.{List, [], _∷_, _++_, map, append-assoc}
-use Prim.Native.Nat.{ℕ, _+_, _-_, _≤_, _<_}
+use mathlib.Core.List.{List, [], _∷_, _++_, map}
+use Prim.Native.Nat.{ℕ, _≤_, _<_}
 use native.Mathlib.Decide.{decLt}
 use native.Mathlib.Omega.{arith}
-use lib.ListN.{length, take, drop, getD, take-append-drop}
-use lib.Seq.{drop-at, take-append-add}
-use Rattle.lists.specs.Lists.{All, keep, unsnoc, behind}
+use lib.ListN.{length, take, drop, getD}
+use Rattle.lists.specs.Lists.{All, unsnoc, behind}
 use Rattle.lists.proofs.Lists.{map-append}
-use Rattle.lists.proofs.Moved.{parted-length}
 use Rattle.meaning.specs.Key as M
 use Rattle.meaning.specs.Limits.{most-slots}
 use Rattle.trace.specs.Slots.{Held, Cache, lastHeld, lastFree, takeLast}
@@ -19,9 +16,8 @@ use Rattle.slots.specs.declared.Key.{Key}
 use Rattle.slots.specs.declared.SlotList.{SlotList}
 use Rattle.slots.specs.Keys.{keyRead, slotKey}
 use Rattle.slots.specs.Order.{heldSlots, freeSlots, takenOf}
-use Rattle.slots.proofs.Laws.{Sound, held-length, TakenFree, TakenHeld, taken-free, taken-held}
+use Rattle.slots.proofs.Laws.{Sound, TakenFree, TakenHeld, taken-free, taken-held}
 use Rattle.cache.specs.declared.State.{State}
-use Rattle.cache.specs.Calls as calls
 
 -- ---- the cache of a slot list, with the keys and the lengths by slot
 
@@ -80,28 +76,3 @@ module _ (keys : List Key) (lengths memory : List ℕ) (l : SlotList) where
   none-last S z =
       let h : l .held ≡ 0 = omega (arith, S .within) in
       ap₂ (λ (m n : ℕ). lastFree (map (heldIn keys lengths) (take m (l .order))) (unsnoc (drop m (take n (l .order))))) h z
-
--- ---- "Drops put held slots first and free ones after, each in the order they had."
-
-module _ (l : SlotList) (S : Sound l) (long : length (l .order) ≡ most-slots) where
-  -- the free slots, where so many held ones stand before them in the order
-  free-behind : (hs rest : List ℕ) (n : ℕ) → length hs ≡ n → n ≤ l .count → drop n (take (l .count) (hs ++ rest)) ≡ take (l .count - n) rest
-  free-behind hs rest n e h =
-      let k : l .count ≡ length hs + (l .count - n) = omega arith in
-      ap (λ (i : ℕ). drop n (take i (hs ++ rest))) k ∙ ap (drop n) (take-append-add hs rest (l .count - n)) ∙ drop-at hs (take (l .count - n) rest) n e
-
-  pub drop-free : (p : ℕ → Bool) → freeSlots (calls.dropBy p l) ≡ keep p (heldSlots l) ++ freeSlots l
-  unfolding calls.dropBy
-  drop-free p =
-      let left : List ℕ = keep (λ (x : ℕ). not (p x)) (heldSlots l) in
-      let gone : List ℕ = keep p (heldSlots l) in
-      let rest : List ℕ = drop (l .held) (l .order) in
-      let parts : length left + length gone ≡ l .held = parted-length p (heldSlots l) ∙ held-length l S long in
-      let n : l .count - length left ≡ length gone + (l .count - l .held) = omega (arith, S .within) in
-      ap (λ (o : List ℕ). drop (length left) (take (l .count) o)) (append-assoc left gone rest)
-      ∙ free-behind left (gone ++ rest) (length left) refl (omega (arith, S .within))
-      ∙ ap (λ (k : ℕ). take k (gone ++ rest)) n
-      ∙ take-append-add gone rest (l .count - l .held)
-      ∙ ap (λ (f : List ℕ). gone ++ f)
-      (sym (free-behind (heldSlots l) rest (l .held) (held-length l S long) (S .within))
-      ∙ ap (λ (o : List ℕ). drop (l .held) (take (l .count) o)) (take-append-drop (l .held) (l .order)))

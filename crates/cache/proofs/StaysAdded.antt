@@ -6,18 +6,17 @@ use mathlib.Core.List.{List, [], _∷_, _++_, map, append-assoc, append-nil}
 use Prim.Native.Nat.{ℕ, zero, suc, _+_, _*_, _-_, _≤_, _<_}
 use native.Mathlib.Omega.{arith}
 use borrow.Author.Tests.{ltb-false, leb-false}
-use lib.Dec.{leb, ltb}
+use lib.Dec.{leb}
 use lib.IntN.{natAbs}
-use lib.ListN.{length, take, drop, set, length-append, length-map, length-replicate, List·getD-append}
+use lib.ListN.{length, take, drop, set, length-map, length-replicate}
 use lib.Seq.{getD-set-other, length-take-le}
-use Rattle.lists.specs.Lists.{All, nil, cons, all}
+use Rattle.lists.specs.Lists.{All, nil, cons}
 use Rattle.lists.proofs.Bools.{and-left, and-right, and-both, or-left, or-right, clash}
 use Rattle.lists.proofs.Lists.{All-head, All-tail, All-map, All-append, All-take, map-append}
 use Rattle.meaning.specs.Grammar as G
 use Rattle.meaning.specs.Grammar.{items, Sentence, sentence}
 use Rattle.meaning.specs.Limits.{most-items, most-tables, most-queries, most-updates}
-use Rattle.meaning.specs.Names.{Schema, noSchema}
-use Rattle.meaning.specs.Resolve.{parameterCount}
+use Rattle.meaning.specs.Names.{Schema}
 use Rattle.meaning.specs.Cells.{areasSize}
 use Rattle.meaning.specs.Statement.{statementOf}
 use Rattle.meaning.specs.Plain.{Plain, schemas, cellsLeft, noPlace, addConditions, lowestOf}
@@ -28,14 +27,11 @@ use Rattle.statement.specs.declared.Update.{Update}
 use Rattle.statement.specs.declared.Statement.{Statement}
 use Rattle.statement.specs.Catalog.{nameOfStruct, schemaOf, schemasOf, rowless, catalog}
 use Rattle.statement.specs.Compiled.{noQuery, structOf, textConditions, structOfText, settled, compiledOf}
-use Rattle.statement.specs.Sound.{usedColumns, settingOperands, soundTable, soundTables, soundCondition, soundForm, columnsAt, soundQuery, soundUpdate, TableStructFits}
+use Rattle.statement.specs.Sound.{usedColumns, soundTable, soundTables, soundQuery, soundUpdate, TableStructFits}
 use Rattle.statement.proofs.Compiles.{schemas-are}
 use Rattle.statement.proofs.SoundCompiled.{SoundStatement, compiled-sound}
 use Rattle.statement.proofs.SoundTable.{table-parts}
-use Rattle.statement.proofs.SoundQuery as Q
-use Rattle.statement.proofs.SoundQuery.{query-parts, parts-query}
-use Rattle.statement.proofs.SoundUpdate as U
-use Rattle.statement.proofs.SoundUpdate.{update-parts, parts-update}
+use Rattle.soundness.proofs.Laws.{query-before, update-before}
 use Rattle.slots.specs.declared.Key.{Key}
 use Rattle.slots.specs.Keys.{slotKey}
 use Rattle.cache.specs.declared.State.{State}
@@ -206,44 +202,6 @@ tables-more before (a ∷ ts) t h k =
     (tables-more (before ++ (schemaOf a ∷ [])) ts t (and-right (soundTable before a) _ h)
     (subst (λ (us : List Schema). soundTable us t ≡ true) (sym (append-assoc before (schemaOf a ∷ []) (map schemaOf ts))) k))
 
--- statements beside more tables
-module _ (ts us : List Schema) where
-  abbrev more : List Schema
-  more = ts ++ us
-
-  columns-stay : (i : ℕ) → i < length ts → columnsAt more i ≡ columnsAt ts i
-  columns-stay i h = ap (λ (t : Schema). length (t .columns)) (List·getD-append ts us noSchema i h)
-
-  there-more : (i : ℕ) → i < length ts → i < length more
-  there-more i h = omega (arith, length-append ts us)
-
-  query-more : (q : Query) → soundQuery ts q ≡ true → soundQuery more q ≡ true
-  query-more q h =
-      let P : Q.Parts ts q = query-parts ts q h in
-      let e : columnsAt more (q .table) ≡ columnsAt ts (q .table) = columns-stay (q .table) (P .there) in
-      parts-query more q (record {
-        there = there-more (q .table) (P .there);
-        some-selected = P .some-selected;
-        few-selected = P .few-selected;
-        selected-below = ap (λ (n : ℕ). all (λ (i : ℕ). ltb i n) (take (q .count) (q .selected))) e ∙ P .selected-below;
-        condition-sound = ap (λ (n : ℕ). soundCondition n 0 (q .condition)) e ∙ P .condition-sound;
-        parameters-are = P .parameters-are;
-        few-parameters = P .few-parameters;
-      })
-
-  update-more : (u : Update) → soundUpdate ts u ≡ true → soundUpdate more u ≡ true
-  update-more u h =
-      let P : U.Parts ts u = update-parts ts u h in
-      let e : columnsAt more (u .table) ≡ columnsAt ts (u .table) = columns-stay (u .table) (P .there) in
-      parts-update more u (record {
-        there = there-more (u .table) (P .there);
-        form-sound = ap (λ (n : ℕ). soundForm (u .form) n u) e ∙ P .form-sound;
-        values-numbered = P .values-numbered;
-        condition-sound = ap (λ (n : ℕ). soundCondition n (parameterCount (settingOperands u)) (u .condition)) e ∙ P .condition-sound;
-        parameters-are = P .parameters-are;
-        few-parameters = P .few-parameters;
-      })
-
 module _ (s : State) (T : Typed s) (S : Sound s) (t : Table) (ok : soundTable (schemasIn s) t ≡ true) (place : s .«table_count» < most-tables)
     (room : t .count * t .capacity ≤ s .cells - areasSize (schemasIn s)) (empty : t .rows ≡ 0) where
   abbrev created : State
@@ -270,10 +228,10 @@ module _ (s : State) (T : Typed s) (S : Sound s) (t : Table) (ok : soundTable (s
     tables = ap (soundTables []) used-more ∙ tables-more [] (usedTables s) t (S .tables) ok;
     queries =
         subst (λ (ts : List Schema). All (λ (q : Query). soundQuery ts q ≡ true) (usedQueries s)) (sym schemas-more)
-        (All-map (query-more (schemasIn s) (schemaOf t ∷ [])) (S .queries));
+        (All-map (query-before (schemasIn s) (schemaOf t ∷ [])) (S .queries));
     updates =
         subst (λ (ts : List Schema). All (λ (u : Update). soundUpdate ts u ≡ true) (usedUpdates s)) (sym schemas-more)
-        (All-map (update-more (schemasIn s) (schemaOf t ∷ [])) (S .updates));
+        (All-map (update-before (schemasIn s) (schemaOf t ∷ [])) (S .updates));
     lengths = All-map (λ x L. record { least = L .least; most = L .most }) (S .lengths);
     keys = All-map (λ x K. record { there = K .there; values = K .values }) (S .keys);
     once = S .once;

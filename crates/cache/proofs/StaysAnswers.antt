@@ -1,40 +1,29 @@
 -- The kept answers of a sound state stay sound: where one is found and its slot moves to the front, where a new one takes the last slot, and where some are dropped.
 -- Assumes nothing.
-use mathlib.Core.Path.{_≡_, refl, sym, ap, ap₂, _∙_, subst}
+use mathlib.Core.Path.{_≡_, refl, sym, ap, subst}
 use mathlib.Core.Logic.{_≢_}
 use mathlib.Core.Bool.{Bool, false, not}
-use mathlib.Core.List.{List, [], _∷_, _++_, map, append-nil}
-use Prim.Native.Nat.{ℕ, zero, suc, _+_, _*_, _≤_, _<_}
+use mathlib.Core.List.{List, [], _∷_, _++_, append-nil}
+use Prim.Native.Nat.{ℕ, _*_, _≤_, _<_}
 use native.Mathlib.Decide.{decLt}
 use native.Mathlib.Omega.{arith}
-use lib.ListN.{length, drop, getD, set}
+use lib.ListN.{length, getD, set}
 use lib.Seq.{getD-set-same, getD-set-other}
-use Rattle.lists.specs.Lists.{All, cons, keep, from}
+use Rattle.lists.specs.Lists.{All, cons}
 use Rattle.lists.proofs.Lists.{All-map, All-both, All-left, All-keep}
 use Rattle.lists.proofs.Moved.{Moved, moved-All}
-use Rattle.meaning.specs.Limits.{most-slots, least-slot-bytes}
+use Rattle.meaning.specs.Limits.{least-slot-bytes}
 use Rattle.slots.specs.declared.Key.{Key}
 use Rattle.slots.specs.declared.SlotList.{SlotList}
 use Rattle.slots.specs.Keys.{noKey, keyRead, slotKey, heldTwice}
-use Rattle.slots.specs.Order.{heldSlots, frontOf, takenOf, isMarked, dropOf}
+use Rattle.slots.specs.Order.{heldSlots, frontOf, takenOf, dropBy}
 use Rattle.slots.proofs.Laws as L
 use Rattle.slots.proofs.Laws.{held-front, front-sound, drop-held, drop-sound, TakenFree, TakenHeld, taken-is, taken-sound, taken-below, taken-free, taken-held}
 use Rattle.slots.proofs.HeldLaws.{front-once, drop-once, put-once}
 use Rattle.cache.specs.declared.State.{State}
-use Rattle.cache.specs.Calls.{withCache, putIn, dropBy}
+use Rattle.cache.specs.Calls.{withCache, putIn}
 use Rattle.cache.specs.Means.{Typed}
-use Rattle.cache.proofs.Sounds.{KeySound, Sound, held-below}
-use Rattle.cache.proofs.Parts.{keep-same}
-
--- ---- lists
-
-mark-from : (p : ℕ → Bool) (i n x : ℕ) → x < n → getD (map p (from i n)) x false ≡ p (i + x)
-mark-from p i zero x h = absurd (omega arith)
-mark-from p i (suc n) zero h = let e : i ≡ i + 0 = omega arith in ap p e
-mark-from p i (suc n) (suc x) h = let e : suc i + x ≡ i + suc x = omega arith in mark-from p (suc i) n x (omega arith) ∙ ap p e
-
-mark-at : (p : ℕ → Bool) (x : ℕ) → x < most-slots → isMarked (map p (from 0 most-slots)) x ≡ p x
-mark-at p x h = let e : 0 + x ≡ x = omega arith in mark-from p 0 most-slots x h ∙ ap p e
+use Rattle.cache.proofs.Sounds.{KeySound, Sound}
 
 dropped-count : (p : ℕ → Bool) (l : SlotList) → dropBy p l .count ≡ l .count
 unfolding dropBy
@@ -109,31 +98,15 @@ module _ (s : State) (S : Sound s) where
   -- ---- "Drops put held slots first and free ones after, each in the order they had."
 
   module _ (T : Typed s) (p : ℕ → Bool) where
-    -- the same as a drop of slots that are marked
-    abbrev marks : List Bool
-    marks = map p (from 0 most-slots)
-
-    marked : All (λ (x : ℕ). p x ≡ isMarked marks x) (heldSlots (s .slots))
-    marked = All-map (λ x h. sym (mark-at p x (omega (arith, S .slots .few)))) (held-below s S)
-
-    pub dropped-is : dropBy p (s .slots) ≡ dropOf (s .slots) marks
-    unfolding dropBy dropOf
-    dropped-is =
-        ap₂ (λ (a b : List ℕ). record { order = a ++ b ++ drop (s .slots .held) (s .slots .order); held = length a; count = s .slots .count })
-        (keep-same (λ x. not (p x)) (λ x. not (isMarked marks x)) (All-map (λ x e. ap not e) marked)) (keep-same p (isMarked marks) marked)
-
-    held-left : heldSlots (dropBy p (s .slots)) ≡ keep (λ (x : ℕ). not (isMarked marks x)) (heldSlots (s .slots))
-    held-left = ap heldSlots dropped-is ∙ drop-held (s .slots) marks
-
     pub drop-stays : Sound (withCache s (dropBy p (s .slots)) (s .keys) (s .lengths))
     drop-stays =
-        let left : ℕ → Bool = λ (x : ℕ). not (isMarked marks x) in
+        let left : ℕ → Bool = λ (x : ℕ). not (p x) in
         answers-sound (dropBy p (s .slots)) (s .keys) (s .lengths) (record {
           count-same = dropped-count p (s .slots);
-          slots-sound = subst L.Sound (sym dropped-is) (drop-sound (s .slots) marks (S .slots) (T .order-64));
-          lengths-fit = rw held-left (All-keep left (λ x h e. h) (answers .lengths-fit));
-          keys-sound = rw held-left (All-keep left (λ x h e. h) (answers .keys-sound));
-          once = ap (heldTwice (s .keys)) dropped-is ∙ drop-once (s .keys) (s .slots) marks (answers .once);
+          slots-sound = drop-sound (s .slots) p (S .slots) (T .order-64);
+          lengths-fit = rw (drop-held (s .slots) p) (All-keep left (λ x h e. h) (answers .lengths-fit));
+          keys-sound = rw (drop-held (s .slots) p) (All-keep left (λ x h e. h) (answers .keys-sound));
+          once = drop-once (s .keys) (s .slots) p (answers .once);
         })
 
   -- ---- "A new record that fits a slot takes the last slot and moves it to the front."

@@ -30,7 +30,7 @@ use Rattle.statement.specs.declared.Table.{Table}
 use Rattle.statement.specs.declared.Setting.{Setting}
 use Rattle.statement.specs.declared.Statement.{Statement}
 use Rattle.statement.specs.Catalog.{catalog}
-use Rattle.statement.specs.Compiled.{padded, nameStruct, noName, noTable, valueStruct, operandStruct, comparisonStruct, noComparison, stepOf, conditionStruct, noQuery, settingStruct, noSetting, placedFrom, noUpdate, refusedBy, structOf, textConditions, structOfText, settled, compiledOf}
+use Rattle.statement.specs.Compiled.{padded, nameStruct, noName, noTable, valueStruct, operandStruct, comparisonStruct, noComparison, stepOf, conditionStruct, noQuery, newValue, settingStruct, noSetting, placedFrom, noUpdate, refusedBy, structOf, textConditions, structOfText, settled, compiledOf}
 use Rattle.statement.specs.Sound.{ValueFits, OperandFits, ComparisonFits, ConditionFits, QueryFits, UpdateFits, NameFits, TableStructFits}
 use Rattle.statement.proofs.SoundNames.{Limits, limits-of}
 use Rattle.statement.proofs.SoundSettings.{placed-length, settings-length}
@@ -75,14 +75,14 @@ Small v = outside32 v ≡ false
 
 value-fits : (m : ℕ) (v : Given) → Small v → ValueFits (valueStruct (numbered m v))
 value-fits m (G.constant z) h = not-false (isWithin32 z) h
-value-fits m mark h = tt
+value-fits m mark h = refl
 
 module _ (columns : List Name) where
   -- an operand, and the constants of those behind it
   operand-fits : (m : ℕ) (t : Term) (ts : List Term) → All Small (termGivens (t ∷ ts)) → OperandFits (operandStruct (operandOf columns m t)) × All Small (termGivens ts)
-  operand-fits m (G.column n) ts h = (tt, h)
+  operand-fits m (G.column n) ts h = (refl, h)
   operand-fits m (given (G.constant z)) ts h = (not-false (isWithin32 z) (All-head h), All-tail h)
-  operand-fits m (given mark) ts h = (tt, All-tail h)
+  operand-fits m (given mark) ts h = (refl, All-tail h)
 
   comparisons-fit : (m : ℕ) (ns : List (Node Term)) → All Small (termGivens (sides (leaves ns))) → All ComparisonFits (map comparisonStruct (leaves (resolveNodes columns m ns)))
   comparisons-fit m [] h = nil
@@ -94,11 +94,11 @@ module _ (columns : List Name) where
   comparisons-fit m (anyOf ∷ ns) h = comparisons-fit m ns h
 
   settings-fit : (m : ℕ) (ss : List (Name × Given)) → All Small (map (λ (s : Name × Given). s .1) ss)
-      → All (λ (s : Setting). ValueFits (s .value)) (map settingStruct (settings columns m ss))
+      → All (λ (s : Setting). ValueFits (newValue s)) (map settingStruct (settings columns m ss))
   settings-fit m [] h = nil
   settings-fit m (s ∷ ss) h = cons (value-fits m (s .1) (All-head h)) (settings-fit (m + markIn (s .1)) ss (All-tail h))
 
-values-fit : (i m : ℕ) (vs : List Given) → All Small vs → All (λ (s : Setting). ValueFits (s .value)) (map settingStruct (placedFrom i (numberedAll m vs)))
+values-fit : (i m : ℕ) (vs : List Given) → All Small vs → All (λ (s : Setting). ValueFits (newValue s)) (map settingStruct (placedFrom i (numberedAll m vs)))
 values-fit i m [] h = nil
 values-fit i m (v ∷ vs) h = cons (value-fits m v (All-head h)) (values-fit (suc i) (m + markIn v) vs (All-tail h))
 
@@ -149,8 +149,8 @@ name-fits n h = padded-length 12 0 n h
 -- ---- the five forms
 
 -- the settings of an update
-settings-fitting : (ss : List (ℕ × M.Value)) → length ss ≤ most-items → All (λ (s : Setting). ValueFits (s .value)) (map settingStruct ss)
-    → (length (padded 8 noSetting (map settingStruct ss)) ≡ 8) × All (λ (s : Setting). ValueFits (s .value)) (padded 8 noSetting (map settingStruct ss))
+settings-fitting : (ss : List (ℕ × M.Value)) → length ss ≤ most-items → All (λ (s : Setting). ValueFits (newValue s)) (map settingStruct ss)
+    → (length (padded 8 noSetting (map settingStruct ss)) ≡ 8) × All (λ (s : Setting). ValueFits (newValue s)) (padded 8 noSetting (map settingStruct ss))
 settings-fitting ss h a = (padded-length 8 noSetting (map settingStruct ss) (omega (arith, length-map ss settingStruct)), All-padded 8 noSetting refl a)
 
 sentence-fits : (ts : List Schema) (s : Sentence) → pastLimit s ≡ false → Fitting (structOf (statementOf ts s))

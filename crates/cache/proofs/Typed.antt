@@ -1,14 +1,13 @@
 -- What the types of a state say stays so: it holds of an opening's, and after each call. Assumes nothing.
 use mathlib.Core.Path.{_≡_, refl, _∙_}
-use mathlib.Core.Bool.{Bool, true, not}
-use mathlib.Core.List.{List, _++_}
-use Prim.Native.Nat.{ℕ, _+_, _-_}
+use mathlib.Core.Bool.{true}
+use mathlib.Core.List.{List}
+use Prim.Native.Nat.{ℕ, _-_}
 use native.Mathlib.Omega.{arith}
 use lib.IntN.{ℤ, pos}
-use lib.ListN.{length, take, drop, replicate, length-append, length-take, length-drop, length-set}
-use Rattle.lists.specs.Lists.{All, keep}
+use lib.ListN.{length, take, replicate, length-take, length-set}
+use Rattle.lists.specs.Lists.{All}
 use Rattle.lists.proofs.Lists.{All-getD}
-use Rattle.lists.proofs.Moved.{parted-length}
 use Rattle.lists.proofs.Places.{All-set}
 use Rattle.lists.proofs.Written.{length-written}
 use Rattle.meaning.specs.Plain.{Opening}
@@ -21,11 +20,12 @@ use Rattle.slots.specs.declared.Key.{Key}
 use Rattle.slots.specs.declared.SlotList.{SlotList}
 use Rattle.slots.specs.declared.Taken.{Taken}
 use Rattle.slots.specs.Keys.{noKey, keyOf}
-use Rattle.slots.specs.Order.{heldSlots, frontOf, isOpen, takenOf, openOf as slotsOpen}
+use Rattle.slots.specs.Order.{frontOf, isOpen, takenOf, openOf as slotsOpen}
 use Rattle.slots.proofs.Fronts.{front-length}
+use Rattle.slots.proofs.Laws.{drop-length}
 use Rattle.cache.specs.declared.State.{State}
 use Rattle.cache.specs.Sound.{opening}
-use Rattle.cache.specs.Calls.{emptyState, addedTable, addedQuery, addedUpdate, compiledBeside, recordAt, isMatched, withCache, putIn, tableAt, updateAt, dropBy, withRows, withChange, updateDone}
+use Rattle.cache.specs.Calls.{emptyState, addedTable, addedQuery, addedUpdate, compiledBeside, recordAt, isMatched, withCache, putIn, tableAt, updateAt, withRows, withChange, updateDone}
 use Rattle.cache.specs.Means.{Typed}
 use Rattle.cache.specs.Run.{Store, Start, openingOf, opened, Call, add, ask, update, flush, step}
 use Rattle.cache.proofs.StaysCases.{by-cond, by-opened, by-add, by-ask, by-update, by-flush}
@@ -56,15 +56,6 @@ opened-typed o = by-opened Typed o (empty-typed (opening 0 0 0 8)) (λ e. empty-
 taken-length : (l : SlotList) → length (takenOf l .slots .order) ≡ length (l .order)
 unfolding takenOf frontOf
 taken-length l = by-cond (λ (t : Taken). length (t .slots .order) ≡ length (l .order)) (isOpen l) _ _ (λ e. front-length (l .count - 1) (l .order)) (λ e. refl)
-
-pub dropped-length : (p : ℕ → Bool) (l : SlotList) → length (dropBy p l .order) ≡ length (l .order)
-unfolding dropBy
-dropped-length p l =
-    let left : List ℕ = keep (λ (x : ℕ). not (p x)) (heldSlots l) in
-    let gone : List ℕ = keep p (heldSlots l) in
-    let rest : List ℕ = drop (l .held) (l .order) in
-    let e : length left + length gone ≡ length (heldSlots l) = parted-length p (heldSlots l) in
-    omega (arith, length-append (left ++ gone) rest, length-append left gone, length-append left (gone ++ rest), length-append gone rest, length-take (l .held) (l .order), length-drop (l .held) (l .order))
 
 key-long : (q : ℕ) (vs : List ℤ) → length (keyOf q vs .values) ≡ 8
 unfolding keyOf
@@ -173,7 +164,7 @@ step-typed s (ask n vs buffer) T =
 step-typed s (update n vs) T =
     let st : State = s .state in
     by-update Typed s T n vs
-    (λ a. change-typed st T (updateAt st n .table) _ _ (rows-typed st T (updateAt st n .table) _) (dropped-length (isMatched st (updateAt st n) vs) (st .slots)))
+    (λ a. change-typed st T (updateAt st n .table) _ _ (rows-typed st T (updateAt st n .table) _) (drop-length (st .slots) (isMatched st (updateAt st n) vs)))
 step-typed s flush T =
     let st : State = s .state in
-    by-flush Typed s T (cache-typed st T _ (st .keys) (st .lengths) (dropped-length (λ x. true) (st .slots)) refl refl (T .keys-fit))
+    by-flush Typed s T (cache-typed st T _ (st .keys) (st .lengths) (drop-length (st .slots) (λ x. true)) refl refl (T .keys-fit))

@@ -25,11 +25,11 @@ use Rattle.statement.proofs.SoundUpdate.{update-parts}
 use Rattle.table.specs.Changed.{changeOf, cellsAfter}
 use Rattle.table.specs.declared.changes.Changed.{Changed}
 use Rattle.slots.specs.declared.SlotList.{SlotList}
-use Rattle.slots.specs.Order.{heldSlots, dropOf}
+use Rattle.slots.specs.Order.{heldSlots, dropBy, dropOf}
 use Rattle.cache.specs.declared.State.{State}
 use Rattle.cache.specs.Sound.{usedTables, soundState}
 use Rattle.cache.specs.Marks.{marksOf}
-use Rattle.cache.specs.Calls.{unfit, tableAt, startOf, updateAt, isFull, Updates, updates, updateConditions, updateRefusal, isMatched, dropBy, withRows, withChange, updateRefused, updateDone, updateOf}
+use Rattle.cache.specs.Calls.{unfit, tableAt, startOf, updateAt, isFull, Updates, updates, updateConditions, updateRefusal, isMatched, withRows, withChange, updateRefused, updateDone, updateOf}
 use Rattle.cache.proofs.Sounds.{schemasIn, Sound, sound-is, All-first}
 use Rattle.cache.proofs.Settled.{settled-refused, settled-done, fit-is}
 use Rattle.cache.proofs.DropsMarked.{drop-marked, drop-fewer, drop-count, marks-matched}
@@ -141,17 +141,20 @@ module _ (s : State) (h : soundState s ≡ true) (long : length (s .slots .order
   held-few : s .slots .held ≤ length (s .slots .order)
   held-few = omega (arith, S .slots .few, S .slots .within)
 
-  dropped : left ≡ dropOf (s .slots) (marksOf (s .keys) (s .slots) (s .queries) (s .«query_count») u values)
+  abbrev marks : List Bool
+  marks = marksOf (s .keys) (s .slots) (s .queries) (s .«query_count») u values
+
+  dropped : left ≡ dropOf (s .slots) marks
   dropped = l ∙ ap (dropOf (s .slots)) g
 
   pub left-fewer : left .held ≤ s .slots .held
-  left-fewer = rw dropped (drop-fewer test (s .slots) _ (marks-matched s u values S) held-few)
+  left-fewer = rw dropped (drop-fewer test (s .slots) marks (marks-matched s u values S) held-few)
 
   left-is : left ≡ dropBy test (s .slots)
-  left-is = dropped ∙ drop-marked test (s .slots) _ (marks-matched s u values S)
+  left-is = dropped ∙ drop-marked test (s .slots) marks (marks-matched s u values S)
 
   fewer-is : s .slots .held - left .held ≡ count test (heldSlots (s .slots))
-  fewer-is = rw dropped (drop-count test (s .slots) _ (marks-matched s u values S) held-few)
+  fewer-is = rw dropped (drop-count test (s .slots) marks (marks-matched s u values S) held-few)
 
   pub updated-is : length (s .tables) ≡ most-tables → u .table < s .«table_count» → (cells after : List ℤ) (d : Table) (start : ℕ) (done : Changed)
       → let t = getD (s .tables) (u .table) d in

@@ -28,10 +28,11 @@ use Rattle.table.specs.Changed.{areaFits, fits, rowsBefore, changedOf, changeOf
 use Rattle.table.specs.declared.changes.Changed.{Changed}
 use Rattle.table.proofs.ChangedMeans.{fits-sound, change-count, change-means, changed-are, after-few, cells-length, rows-before, rows-behind}
 use Rattle.slots.specs.declared.SlotList.{SlotList}
+use Rattle.slots.specs.Order.{dropBy}
 use Rattle.cache.specs.declared.State.{State}
 use Rattle.cache.specs.Sound.{usedTables, areasOf, soundState}
 use Rattle.cache.specs.Means.{tablesFrom, Means, Typed}
-use Rattle.cache.specs.Calls.{startOf, tableAt, updates, updateAt, isFull, updateRefusal, isMatched, dropBy, withRows, withChange, updateRefused, updateDone, updateOf}
+use Rattle.cache.specs.Calls.{startOf, tableAt, updates, updateAt, isFull, updateRefusal, isMatched, withRows, withChange, updateRefused, updateDone, updateOf}
 use Rattle.cache.specs.Run.{Store, gotOf, stepUpdate, step}
 use Rattle.cache.specs.Run as R
 use Rattle.cache.specs.Demand.{lengthsLent}

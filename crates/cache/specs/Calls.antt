@@ -1,12 +1,12 @@
 -- What each call gives and leaves, on the state as the program has it: document 01, "The store and its calls", "Meaning", "Slots" and "Numbers for a call not
 -- taken". Each is one record: the result, with the state in it, and the lent memories. Assumes nothing: these are definitions.
-use mathlib.Core.Bool.{Bool, true, false, not, _&&_, _||_, cond}
-use mathlib.Core.List.{List, [], _∷_, _++_}
+use mathlib.Core.Bool.{Bool, false, not, _&&_, _||_, cond}
+use mathlib.Core.List.{List, [], _∷_}
 use Prim.Native.Nat.{ℕ, zero, suc, _+_, _*_}
 use lib.Dec.{eqb, leb, ltb}
 use lib.IntN.{ℤ, pos}
 use lib.ListN.{length, take, drop, getD, set, replicate}
-use Rattle.lists.specs.Lists.{keep, written, count}
+use Rattle.lists.specs.Lists.{written, count}
 use Rattle.meaning.specs.Limits.{most-tables, most-queries, most-updates}
 use Rattle.meaning.specs.Plain.{Opening, openingRefused, lowestOf}
 use Rattle.statement.specs.declared.Table.{Table}
@@ -23,7 +23,7 @@ use Rattle.slots.specs.declared.Found.the-variants.{At, Nothing}
 use Rattle.slots.specs.declared.SlotList.{SlotList}
 use Rattle.slots.specs.declared.Taken.{Taken}
 use Rattle.slots.specs.Keys.{noKey, valuesOf, keyOf, slotKey, findOf}
-use Rattle.slots.specs.Order.{heldSlots, openOf as slotsOpen, frontOf, takenOf}
+use Rattle.slots.specs.Order.{heldSlots, openOf as slotsOpen, frontOf, takenOf, dropBy, clearOf}
 use Rattle.cache.specs.declared.State.{State}
 use Rattle.cache.specs.declared.Opened.{Opened}
 use Rattle.cache.specs.declared.Added.{Added}
@@ -320,12 +320,6 @@ isMatched s u values x =
     let k = slotKey (s .keys) x in
     matchesStored (queryAt s (k .query)) u values (valuesOf k)
 
--- "Drops put held slots first and free ones after, each in the order they had": the held slots that pass the test are dropped
-unfoldable pub dropBy : (ℕ → Bool) → SlotList → SlotList
-dropBy p s =
-    let left = keep (λ (x : ℕ). not (p x)) (heldSlots s) in
-    record { order = left ++ keep p (heldSlots s) ++ drop (s .held) (s .order); held = length left; count = s .count }
-
 -- the table with so many rows in use
 abbrev pub withRows : Table → ℕ → Table
 withRows t n = record { name = t .name; columns = t .columns; count = t .count; capacity = t .capacity; rows = n }
@@ -373,7 +367,7 @@ updateOf s cells memory update values =
 -- ---- flush: "drop every kept answer"; 2
 
 abbrev pub emptied : State → State
-emptied s = withCache s (dropBy (λ x. true) (s .slots)) (s .keys) (s .lengths)
+emptied s = withCache s (clearOf (s .slots)) (s .keys) (s .lengths)
 
 unfoldable pub flushOf : State → ℕ → ℕ → Flushed
 flushOf s cells memory = cond (unfit s cells memory) (record { refusal = 2; state = s }) (record { refusal = 0; state = emptied s })

@@ -17,20 +17,20 @@ use Rattle.meaning.specs.Cells.{stored}
 use Rattle.meaning.specs.Pattern.{contradictory, class, entry}
 use Rattle.meaning.specs.Plain.{openingRefused, noPlace, Out, refused, added, answered, rows, flushed, aTable, aQuery, anUpdate}
 use Rattle.statement.specs.Compiled.{compiledOf, structOf}
-use Rattle.statement.specs.Sound.{conditionNodes, soundCondition, soundQuery, soundTable, soundUpdate}
+use Rattle.statement.specs.Sound.{conditionNodes, soundCondition, soundConditionOn, soundQuery, soundTable, soundUpdate}
 use Rattle.table.specs.Evaluated.{answerStored, meetsStored}
 use Rattle.table.specs.Changed.{areaFits, cellsAfter, changeOf, changedOf, countAfter, fits, rowsAfter}
 use Rattle.soundness.specs.Soundness.{tablesSound, queriesSound, updatesSound}
 use Rattle.pattern.specs.Stored.{allAny, clausesRead, isFormed, jointClauses, matchesStored, patternsStored, relevant}
 use Rattle.slots.specs.Keys.{sameKey, keyOf, slotHas, findOf, heldTwice}
-use Rattle.slots.specs.Order.{soundSlots, frontOf, takenOf, openOf as slotsOpen}
+use Rattle.slots.specs.Order.{soundSlots, frontOf, takenOf, dropBy, openOf as slotsOpen}
 use Rattle.cache.specs.Sound.{soundTables, soundAnswers, soundState}
-use Rattle.cache.specs.Calls.{settled, unfit, emptyState, openOf, addedBy, addRefusal, addOf, askRefusal, withCache, askCached, kept, keptMemory, recordAt, askNew, askOf, updateRefusal, isMatched, dropBy, withChange, updateDone, updateOf, flushOf}
+use Rattle.cache.specs.Calls.{settled, unfit, emptyState, openOf, addedBy, addRefusal, addOf, askRefusal, withCache, askCached, kept, keptMemory, recordAt, askNew, askOf, updateRefusal, isMatched, withChange, updateDone, updateOf, flushOf}
 use Rattle.cache.specs.Run.{Start, opened, Call, add, ask, update, flush, Seen, step, gets, gotOf}
 
 -- what the computations open
 unfoldable pub computing : Unit {0}
-unfolding isNameByte isWordByte decimal isName word negative tokenFrom firstToken scan tokens aCondition aSentence read pastLimit unknown taken miscounted statementOf body encode stored openingRefused noPlace compiledOf structOf conditionNodes soundCondition soundQuery soundTable soundUpdate answerStored meetsStored areaFits cellsAfter changeOf changedOf countAfter fits rowsAfter tablesSound queriesSound updatesSound contradictory class entry allAny clausesRead isFormed jointClauses matchesStored patternsStored relevant sameKey keyOf slotHas findOf heldTwice soundSlots frontOf takenOf slotsOpen soundTables soundAnswers soundState settled unfit emptyState openOf addedBy addRefusal addOf askRefusal withCache askCached kept keptMemory recordAt askNew askOf updateRefusal isMatched dropBy withChange updateDone updateOf flushOf step
+unfolding isNameByte isWordByte decimal isName word negative tokenFrom firstToken scan tokens aCondition aSentence read pastLimit unknown taken miscounted statementOf body encode stored openingRefused noPlace compiledOf structOf conditionNodes soundCondition soundConditionOn soundQuery soundTable soundUpdate answerStored meetsStored areaFits cellsAfter changeOf changedOf countAfter fits rowsAfter tablesSound queriesSound updatesSound contradictory class entry allAny clausesRead isFormed jointClauses matchesStored patternsStored relevant sameKey keyOf slotHas findOf heldTwice soundSlots frontOf takenOf slotsOpen soundTables soundAnswers soundState settled unfit emptyState openOf addedBy addRefusal addOf askRefusal withCache askCached kept keptMemory recordAt askNew askOf updateRefusal isMatched dropBy withChange updateDone updateOf flushOf step
 computing = tt
 
 -- 4,096 cells, 256 bytes of kept memory, 4 slots of 64 bytes

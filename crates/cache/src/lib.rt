@@ -7,6 +7,7 @@ use slots::Found;
 use slots::Key;
 use slots::SlotList;
 use table::Query;
+use table::Refusal;
 use table::Statement;
 use table::Table;
 use table::Update;
@@ -20,6 +21,7 @@ ghost use Rattle.cache.specs.Outcomes.{noPlace, noAnswer, outcomeOf, unf
 ghost use Rattle.cache.specs.Calls.{emptyState, opens, openOf, addRefused, addedTable, addedQuery, addedUpdate, hasPlace, addedBy, addOf, asks, askRefusal, askNew, askOf, updates, updateRefusal, updateDone, updateOf, flushOf};
 
 // The state. Entries past the counts, and of slots that hold nothing, do not matter.
+#[repr(C)]
 pub struct State {
     pub tables: [Table; Table::TABLES],
     pub queries: [Query; Query::QUERIES],
@@ -39,12 +41,14 @@ pub struct State {
 }
 
 // What opening gives: 1 where refused, or 0, and the state.
+#[repr(C)]
 pub struct Opened {
     pub refusal: u8,
     pub state: State,
 }
 
 // What adding gives: the refusal's number or 0, the kind (Statement::TABLE, QUERY, UPDATE; 0 where refused) and number of what was added, and the state.
+#[repr(C)]
 pub struct Added {
     pub refusal: u8,
     pub kind: u8,
@@ -53,15 +57,17 @@ pub struct Added {
 }
 
 // What a question gives: the refusal's number or 0; 1 for a cached answer; the rows scanned; the record's length; and the state.
+#[repr(C)]
 pub struct Asked {
     pub refusal: u8,
     pub cached: u8,
-    pub scanned: u16,
+    pub scanned: u32,
     pub length: usize,
     pub state: State,
 }
 
 // What an update gives: the refusal's number or 0; the rows inserted, matched or deleted; the cached answers that it invalidated; and the state.
+#[repr(C)]
 pub struct Updated {
     pub refusal: u8,
     pub rows: u16,
@@ -70,6 +76,7 @@ pub struct Updated {
 }
 
 // What a flush gives: the refusal's number or 0, and the state.
+#[repr(C)]
 pub struct Flushed {
     pub refusal: u8,
     pub state: State,
@@ -86,26 +93,9 @@ struct Place {
 struct Outcome {
     refusal: u8,
     cached: u8,
-    scanned: u16,
+    scanned: u32,
     length: usize,
     place: Place,
-}
-
-// The numbers of document 01 for a call not taken, as far as they are decided here.
-pub struct Refusal {}
-
-impl Refusal {
-    pub const OPENING: u8 = 1;
-
-    pub const STATE: u8 = 2;
-
-    pub const NO_STATEMENT: u8 = 10;
-
-    pub const VALUES: u8 = 11;
-
-    pub const FULL: u8 = 12;
-
-    pub const BUFFER: u8 = 13;
 }
 
 // No slot is taken.
@@ -175,7 +165,7 @@ fn ask_refusal(unfit: bool, count: u8, query: usize, parameters: u8, values: usi
         return Refusal::STATE;
     }
     if (count as usize) <= query {
-        return Refusal::NO_STATEMENT;
+        return Refusal::NUMBER;
     }
     if values != (parameters as usize) {
         return Refusal::VALUES;
@@ -549,7 +539,7 @@ impl State {
             return Refusal::STATE;
         }
         if (self.update_count as usize) <= update {
-            return Refusal::NO_STATEMENT;
+            return Refusal::NUMBER;
         }
         let list = self.updates;
         let u = list[update];
@@ -603,9 +593,9 @@ impl State {
                 state: self,
             };
         }
-        let mut slots = self.slots;
-        slots.held = 0;
-        self.slots = slots;
+        let slots = self.slots;
+        let free = slots.clear();
+        self.slots = free;
         Flushed {
             refusal: 0,
             state: self,

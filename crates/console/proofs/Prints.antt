@@ -210,11 +210,11 @@ module _ (bs : List ℕ) where
       go true = omega arith
       go false = omega arith
 
-  pub answer-short : (kept scanned : ℕ) → scanned < 65536 → length (answerText kept scanned bs) ≤ 65536
+  pub answer-short : (kept scanned : ℕ) → scanned < 4294967296 → length (answerText kept scanned bs) ≤ 65536
   unfolding answerText
   answer-short kept scanned h =
       simp length-append
-      (omega (arith, source-length kept, decimal-length 4 scanned (omega arith), rows-length (rowsThere bs), few-rows bs))
+      (omega (arith, source-length kept, decimal-length 9 scanned (omega arith), rows-length (rowsThere bs), few-rows bs))
 
 -- ---- a buffer that is long enough
 

@@ -1,4 +1,5 @@
 // What is printed: each line at the start of a lent buffer, as far as there is room. The result says how many bytes that is.
+use table::Statement;
 ghost use mathlib.Core.Path.{_≡_};
 ghost use mathlib.Core.List.{[], _∷_, _++_};
 ghost use Prim.Native.Nat.{_+_, _≤_};
@@ -151,10 +152,10 @@ pub fn write_added(out: &mut [u8], kind: u8, number: u8) -> usize
     ensures text { λ _. ⌜ now (out .exit) ≡ filled (now (out .entry)) 0 (addedText kind number) ⌝ }
 {
     let n = number as u64;
-    if kind == 1 {
+    if kind == Statement::TABLE {
         return put_line(out, b"table", n);
     }
-    if kind == 2 {
+    if kind == Statement::QUERY {
         return put_line(out, b"query", n);
     }
     put_line(out, b"update", n)
@@ -188,7 +189,7 @@ fn put_source(out: &mut [u8], cached: u8) -> usize
 }
 
 // An answer: kept or new, the rows read, and the rows of the record; of bytes that are no record, none.
-pub fn write_answer(out: &mut [u8], cached: u8, scanned: u16, bytes: &[u8]) -> usize
+pub fn write_answer(out: &mut [u8], cached: u8, scanned: u32, bytes: &[u8]) -> usize
     ensures result { λ r. ⌜ r ≡ filledTo (now (out .entry)) 0 (answerText cached scanned (now (bytes .entry))) ⌝ }
     ensures text { λ _. ⌜ now (out .exit) ≡ filled (now (out .entry)) 0 (answerText cached scanned (now (bytes .entry))) ⌝ }
 {

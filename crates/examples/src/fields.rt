@@ -1,7 +1,7 @@
 // A field of a state, changed by its name. The numbers say which entry and what it becomes; an entry past an array changes nothing.
-use crate::lines::number;
-use crate::lines::same;
 use cache::State;
+use script::number;
+use script::same;
 use slots::Key;
 use slots::SlotList;
 use table::Condition;

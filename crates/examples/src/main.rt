@@ -3,16 +3,16 @@
 // how much the next calls are lent, `ROW i` shows a row of the last answer, and `SLOTS` prints the order of use. `SET field n ..` changes a field of the state, and
 // `SPOIL field n ..` prints what a flush gives on a state changed so. A line that starts with `#` is a comment.
 mod fields; // a field of the state, changed by its name
-mod lines; // words and numbers of a line
 mod printing; // what is printed
 
 use cache::State;
-use lines::least;
-use lines::number;
-use lines::same;
+use script::least;
+use script::number;
+use script::same;
 use slots::SlotList;
 use table::Query;
 use table::Table;
+use token::Token;
 ghost use mathlib.Core.Path.{_≡_};
 ghost use lib.ListN.{length};
 
@@ -23,9 +23,6 @@ const MEMORY: usize = State::MEMORY + 1;
 
 // The bytes of the longest record: a head of eight, and four a value.
 const RECORD: usize = 8 + 4 * (Query::SELECTED * (Table::ROWS as usize));
-
-// The most numbers of a line.
-const NUMBERS: usize = 16;
 
 enum Command {
     Open,
@@ -106,7 +103,7 @@ fn add(state: State, text: &[u8], cells: &[i32], memory: &[u8]) -> State {
 }
 
 fn ask(state: State, n: &[i32], cells: &[i32], memory: &mut [u8], answer: &mut [u8]) -> State {
-    let values = lines::numbers_from(n, 2);
+    let values = script::numbers_from(n, 2);
     let asked = state.ask(cells, memory, number(n, 0), values, answer);
     if asked.refusal != 0 {
         printing::print_refused(asked.refusal);
@@ -117,7 +114,7 @@ fn ask(state: State, n: &[i32], cells: &[i32], memory: &mut [u8], answer: &mut [
 }
 
 fn update(state: State, n: &[i32], cells: &mut [i32], memory: &[u8]) -> State {
-    let values = lines::numbers_from(n, 1);
+    let values = script::numbers_from(n, 1);
     let updated = state.update(cells, memory, number(n, 0), values);
     if updated.refusal != 0 {
         printing::print_refused(updated.refusal);
@@ -135,8 +132,7 @@ fn flush(state: State, cells: &[i32], memory: &[u8]) -> State {
 
 // The state with the field changed that a text names.
 fn changed(state: State, text: &[u8], n: &[i32]) -> State {
-    let end = lines::find(text, 0, b' ');
-    fields::with_field(state, &text[0..end], n)
+    fields::with_field(state, script::part(text, 0, b' '), n)
 }
 
 fn spoil(state: State, text: &[u8], n: &[i32], cells: &[i32], memory: &[u8]) {
@@ -227,6 +223,15 @@ fn run_lent(
     s
 }
 
+// Where the numbers of a text start: behind the name at its start, if there is one.
+fn numbers_start(text: &[u8]) -> usize {
+    let t = token::next(text, 0);
+    if t.kind == Token::NAME {
+        return t.next;
+    }
+    0
+}
+
 fn run_line(
     store: Store,
     line: &[u8],
@@ -235,10 +240,10 @@ fn run_line(
     memory: &mut [u8],
     answer: &mut [u8],
 ) -> Store {
-    let end = lines::find(line, 0, b' ');
-    let command = command_named(&line[0..end]);
-    let text = lines::behind(line, end);
-    let count = lines::read_numbers(text, lines::numbers_start(text), numbers);
+    let word = script::part(line, 0, b' ');
+    let command = command_named(word);
+    let text = script::behind(line, word.len());
+    let count = script::read_numbers(text, numbers_start(text), numbers);
     let n = &numbers[0..count];
     let s = with_lengths(store, command, n);
     run_lent(s, command, text, n, cells, memory, answer)
@@ -273,17 +278,10 @@ fn run_all(
     let mut s = no_store(cells, memory);
     let mut at = 0;
     while at < input.len() {
-        let end = lines::find(input, at, b'\n');
-        let next = end + 1;
-        s = run_line(s, &input[at..end], numbers, cells, memory, answer);
-        at = next;
+        let line = script::part(input, at, b'\n');
+        s = run_line(s, line, numbers, cells, memory, answer);
+        at = script::next_line(input, at);
     }
-}
-
-fn no_numbers() -> [i32; NUMBERS]
-    ensures { λ r. ⌜ 16 ≡ length r ⌝ }
-{
-    [0; NUMBERS]
 }
 
 fn no_cells() -> [i32; CELLS]
@@ -306,7 +304,7 @@ fn no_record() -> [u8; RECORD]
 
 fn main() {
     let mut input = io::large_buffer();
-    let mut numbers = no_numbers();
+    let mut numbers = script::no_numbers();
     let mut cells = no_cells();
     let mut memory = no_memory();
     let mut answer = no_record();

@@ -65,6 +65,19 @@ module _ {A : Type 0} where
         ∙ drop-drop (a - (at + length ys)) (at + length ys) xs
         ∙ ap (λ (k : ℕ). drop k xs) e
 
+  -- what stands behind is written first, and then what stands before it
+  pub written-ahead : (xs ys zs : List A) → length ys + length zs ≤ length xs → written (written xs (length ys) zs) 0 ys ≡ written xs 0 (ys ++ zs)
+  written-ahead xs ys zs room =
+      let k : ℕ = length ys in
+      let rest : List A = drop (k + length zs) xs in
+      let z : 0 + k ≡ k = omega arith in
+      let n : k + length zs ≡ 0 + length (ys ++ zs) = simp length-append (omega arith) in
+      let d : drop (0 + k) (written xs k zs) ≡ zs ++ rest =
+      ap (λ (j : ℕ). drop j (written xs k zs)) z
+      ∙ ap (drop k) (append-assoc (take k xs) zs rest)
+      ∙ drop-at (take k xs) (zs ++ rest) k (length-take-le k xs (omega arith)) in
+      ap (λ (x : List A). ys ++ x) d ∙ sym (append-assoc ys zs rest) ∙ ap (λ (j : ℕ). (ys ++ zs) ++ drop j xs) n
+
   -- ---- two slots of so many places
 
   module _ (n size i : ℕ) (vs m : List A) (hi : i < n) (hm : n * size ≤ length m) (hv : length vs ≤ size) where

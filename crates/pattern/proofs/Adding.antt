@@ -20,7 +20,7 @@ use Rattle.meaning.specs.Statement as M
 use Rattle.meaning.specs.Pattern.{Joint}
 use Rattle.statement.specs.declared.Comparison.{Comparison}
 use Rattle.statement.specs.declared.Condition.{Condition}
-use Rattle.statement.specs.Places.{operatorAt}
+use Rattle.statement.specs.Operators.{operatorAt}
 use Rattle.statement.specs.Sound.{comparisonRead, usedComparisons}
 use Rattle.pattern.specs.Least.{Coded, codeOf, coded}
 use Rattle.pattern.specs.Masks.{select, comparisonsRead}

@@ -3,7 +3,7 @@
 use mathlib.Core.Bool.{Bool, true, false, cond}
 use mathlib.Core.List.{List, [], _∷_, map}
 use mathlib.Core.Path.{_≡_, refl, sym, ap, _∙_}
-use Prim.Native.Nat.{ℕ, zero, suc, _<_}
+use Prim.Native.Nat.{ℕ, zero, suc, _-_, _/_, _<_}
 use native.Mathlib.Omega.{arith}
 use lib.Dec.{eqb}
 use lib.IntN.{pos}
@@ -18,14 +18,14 @@ use Rattle.meaning.specs.Statement as M
 use Rattle.meaning.specs.Pattern.{Joint, column, constant, ofValue, ofUpdate, ofQuery, insertedColumn, setColumn, Clause, contradictory, pattern}
 use Rattle.meaning.proofs.Postfix.{clauses-have, sides-have}
 use Rattle.statement.specs.declared.Operand.{Operand}
-use Rattle.statement.specs.declared.Operand.the-variants.{Column, Constant, Parameter}
+use Rattle.statement.proofs.ByKind.{by-kind, by-kind-value}
 use Rattle.statement.specs.declared.Comparison.{Comparison}
 use Rattle.statement.specs.declared.Condition.{Condition}
 use Rattle.statement.specs.declared.Query.{Query}
 use Rattle.statement.specs.declared.Value.{Value}
-use Rattle.statement.specs.declared.Value.the-variants as Given
 use Rattle.statement.specs.declared.Setting.{Setting}
 use Rattle.statement.specs.declared.Update.{Update}
+use Rattle.statement.specs.Compiled.{leftSide, rightSide, newValue}
 use Rattle.statement.specs.Sound.{valueRead, operandRead, comparisonRead, noComparison, nodesRead, usedComparisons, usedSteps, conditionNodes, usedSettings, settingRead, settingsRead, settingValues}
 use Rattle.pattern.specs.Stored.{clausesRead, queryClauses, bothClauses, jointClauses, joint, patternStruct, noPattern, clausePattern}
 use Rattle.pattern.specs.Least.{coded, contradicts, leastEntry}
@@ -37,7 +37,7 @@ abbrev pub Both : {O : Type 0} → (O → Type 0) → C.Comparison O → Type 0
 Both P c = P (c .left) × P (c .right)
 
 abbrev pub BothSides : (Operand → Type 0) → Comparison → Type 0
-BothSides P c = P (c .left) × P (c .right)
+BothSides P c = P (leftSide c) × P (rightSide c)
 
 -- ---- a stored condition
 
@@ -62,9 +62,7 @@ module _ (P : Joint → Type 0) (none : P (constant (pos 0))) where
       All-image (map (renamed f)) (All-map (λ cs. All-image (renamed f)) (clauses-read {P = λ (k : C.Comparison M.Operand). P (f (k .left)) × P (f (k .right))} (p, p) c h))
 
   query-operand : (f : ℕ → Joint) → ((i : ℕ) → P (column i) → P (f i)) → (o : Operand) → P (ofQuery column (operandRead o)) → P (ofQuery f (operandRead o))
-  query-operand f g (Column i) p = g i p
-  query-operand f g (Constant z) p = p
-  query-operand f g (Parameter k) p = p
+  query-operand f g o = by-kind o (λ (x : M.Operand). P (ofQuery column x) → P (ofQuery f x)) (λ p. p) (λ p. p) (g (o .code / 2 - 1))
 
   set-has : {ss : List (ℕ × M.Value)} → All (λ (s : ℕ × M.Value). P (ofValue (s .1))) ss → (i : ℕ) (x : Joint) → P x → P (setColumn ss i x)
   set-has nil i x p = p
@@ -77,11 +75,11 @@ module _ (P : Joint → Type 0) (none : P (constant (pos 0))) where
   module _ (q : Query) (u : Update)
       (hq : All (BothSides (λ (o : Operand). P (ofQuery column (operandRead o)))) (usedComparisons (q .condition)))
       (hu : All (BothSides (λ (o : Operand). P (ofUpdate (operandRead o)))) (usedComparisons (u .condition)))
-      (hs : All (λ (s : Setting). P (ofValue (valueRead (s .value)))) (usedSettings u)) where
+      (hs : All (λ (s : Setting). P (ofValue (valueRead (newValue s)))) (usedSettings u)) where
     query-have : (f : ℕ → Joint) → ((i : ℕ) → P (column i) → P (f i)) → All (All (Both P)) (queryClauses f q)
     query-have f g =
         renamed-have (ofQuery f) none (q .condition)
-        (All-map (λ c p. (query-operand f g (c .left) (p .0), query-operand f g (c .right) (p .1))) hq)
+        (All-map (λ c p. (query-operand f g (leftSide c) (p .0), query-operand f g (rightSide c) (p .1))) hq)
 
     both-have : (f : ℕ → Joint) → ((i : ℕ) → P (column i) → P (f i)) → All (All (Both P)) (bothClauses u f q)
     both-have f g = All-pairs (renamed-have ofUpdate none (u .condition) hu) (query-have f g)
@@ -106,36 +104,28 @@ module _ (P : Joint → Type 0) (none : P (constant (pos 0))) where
 
 -- what the types of a struct's fields give
 abbrev pub OperandRoom : Operand → Type 0
-OperandRoom (Column i) = i < 256
-OperandRoom (Constant z) = isWithin32 z ≡ true
-OperandRoom (Parameter k) = k < 256
+OperandRoom o = (o .code < 256) × (isWithin32 (o .number) ≡ true)
 
 abbrev pub ValueRoom : Value → Type 0
-ValueRoom (Given.Constant z) = isWithin32 z ≡ true
-ValueRoom (Given.Parameter k) = k < 256
+ValueRoom v = (v .mark < 256) × (isWithin32 (v .number) ≡ true)
 
 query-fits : (o : Operand) → OperandRoom o → Fits (ofQuery column (operandRead o))
-query-fits (Column i) h = omega arith
-query-fits (Constant z) h = h
-query-fits (Parameter k) h = omega arith
+query-fits o (h, k) = by-kind o (λ (p : M.Operand). Fits (ofQuery column p)) k (omega arith) (omega arith)
 
 update-fits : (o : Operand) → OperandRoom o → Fits (ofUpdate (operandRead o))
-update-fits (Column i) h = omega arith
-update-fits (Constant z) h = h
-update-fits (Parameter k) h = omega arith
+update-fits o (h, k) = by-kind o (λ (p : M.Operand). Fits (ofUpdate p)) k (omega arith) (omega arith)
 
 value-fits : (v : Value) → ValueRoom v → Fits (ofValue (valueRead v))
-value-fits (Given.Constant z) h = h
-value-fits (Given.Parameter k) h = omega arith
+value-fits v (h, k) = by-kind-value v (λ (w : M.Value). Fits (ofValue w)) k (λ j e. omega arith)
 
 -- every operand of the joint clauses fits
 pub joint-fits : (q : Query) (u : Update) → All (BothSides OperandRoom) (q .condition .comparisons) → All (BothSides OperandRoom) (u .condition .comparisons)
-    → All (λ (s : Setting). ValueRoom (s .value)) (u .settings) → All (λ (cs : Clause). All Fits (sides cs)) (joint q u)
+    → All (λ (s : Setting). ValueRoom (newValue s)) (u .settings) → All (λ (cs : Clause). All Fits (sides cs)) (joint q u)
 joint-fits q u hq hu hs =
     joint-have Fits refl q u
-    (All-map (λ c p. (query-fits (c .left) (p .0), query-fits (c .right) (p .1))) (All-take (q .condition .count) hq))
-    (All-map (λ c p. (update-fits (c .left) (p .0), update-fits (c .right) (p .1))) (All-take (u .condition .count) hu))
-    (All-map (λ s p. value-fits (s .value) p) (All-take (u .count) hs))
+    (All-map (λ c p. (query-fits (leftSide c) (p .0), query-fits (rightSide c) (p .1))) (All-take (q .condition .count) hq))
+    (All-map (λ c p. (update-fits (leftSide c) (p .0), update-fits (rightSide c) (p .1))) (All-take (u .condition .count) hu))
+    (All-map (λ s p. value-fits (newValue s) p) (All-take (u .count) hs))
 
 -- ---- the pattern of a clause, by the least codes
 

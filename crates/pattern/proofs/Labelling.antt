@@ -19,7 +19,7 @@ use Rattle.meaning.specs.Operator.{Operator, eq, ne, lt, le, gt, ge}
 use Rattle.meaning.specs.Condition.{Comparison, renamed}
 use Rattle.meaning.specs.Pattern.{number, mark, anything}
 use Rattle.statement.specs.Compiled.{padded, markPlace}
-use Rattle.statement.specs.Places.{operatorAt}
+use Rattle.statement.specs.Operators.{operatorAt}
 use Rattle.pattern.specs.declared.Entry.the-variants.{Constant, Parameter, Any}
 use Rattle.pattern.specs.declared.Place.{Place}
 use Rattle.pattern.specs.declared.Pattern.{Pattern}

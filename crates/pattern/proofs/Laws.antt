@@ -32,7 +32,7 @@ use Rattle.meaning.proofs.Classes.{marks-have}
 use Rattle.meaning.proofs.Clauses.{clausesOf-replaced, joint-length}
 use Rattle.meaning.proofs.Postfix.{sides-in, postfix-where}
 use Rattle.meaning.proofs.Weakening.{any-clause, answer-stays}
-use Rattle.statement.specs.Compiled.{padded, formOfChange, settingsOfChange, whereOfChange}
+use Rattle.statement.specs.Compiled.{padded, leftSide, rightSide, newValue, formOfChange, settingsOfChange, whereOfChange}
 use Rattle.statement.specs.Sound.{valueRead, operandRead, usedComparisons, usedSettings, settingsRead, settingOperands, conditionNodes, columnsAt, soundQuery, soundUpdate, AgreesCondition, AgreesQuery, AgreesUpdate}
 use Rattle.statement.proofs.Assembled.{take-padded}
 use Rattle.statement.proofs.SoundSettings.{placed-values}
@@ -40,11 +40,10 @@ use Rattle.statement.proofs.SoundCondition.{agrees-clauses, condition-parts}
 use Rattle.statement.proofs.SoundQuery.{query-parts}
 use Rattle.statement.proofs.SoundUpdate.{update-parts}
 use Rattle.statement.specs.declared.Operand.{Operand}
-use Rattle.statement.specs.declared.Operand.the-variants.{Column, Constant, Parameter}
+use Rattle.statement.proofs.ByKind.{by-kind, by-kind-value}
 use Rattle.statement.specs.declared.Condition.{Condition}
 use Rattle.statement.specs.declared.Query.{Query}
 use Rattle.statement.specs.declared.Value.{Value}
-use Rattle.statement.specs.declared.Value.the-variants as Given
 use Rattle.statement.specs.declared.Update.{Update}
 use Rattle.table.specs.Evaluated.{answerStored}
 use Rattle.table.specs.Changed.{rowsAfter}
@@ -70,25 +69,20 @@ CountedEntry (mark k) = 1 ≤ k
 CountedEntry anything = Unit {0}
 
 query-counted : (o : Operand) → Counted (ofQuery column (operandRead o))
-query-counted (Column i) = tt
-query-counted (Constant z) = tt
-query-counted (Parameter k) = tt
+query-counted o = by-kind o (λ (p : M.Operand). Counted (ofQuery column p)) tt tt tt
 
 update-counted : (o : Operand) → Counted (ofUpdate (operandRead o))
-update-counted (Column i) = tt
-update-counted (Constant z) = tt
-update-counted (Parameter k) = omega arith
+update-counted o = by-kind o (λ (p : M.Operand). Counted (ofUpdate p)) tt (omega arith) tt
 
 value-counted : (v : Value) → Counted (ofValue (valueRead v))
-value-counted (Given.Constant z) = tt
-value-counted (Given.Parameter k) = omega arith
+value-counted v = by-kind-value v (λ (w : M.Value). Counted (ofValue w)) tt (λ k e. omega arith)
 
 pub joint-counted : (q : Query) (u : Update) → All (λ (cs : Clause). All Counted (sides cs)) (joint q u)
 joint-counted q u =
     joint-have Counted tt q u
-    (All-every (λ c. (query-counted (c .left), query-counted (c .right))) (usedComparisons (q .condition)))
-    (All-every (λ c. (update-counted (c .left), update-counted (c .right))) (usedComparisons (u .condition)))
-    (All-every (λ s. value-counted (s .value)) (usedSettings u))
+    (All-every (λ c. (query-counted (leftSide c), query-counted (rightSide c))) (usedComparisons (q .condition)))
+    (All-every (λ c. (update-counted (leftSide c), update-counted (rightSide c))) (usedComparisons (u .condition)))
+    (All-every (λ s. value-counted (newValue s)) (usedSettings u))
 
 entry-counted : (cs : Clause) → All Counted (sides cs) → (k : ℕ) → CountedEntry (entry cs k)
 unfolding entry class

@@ -1,8 +1,9 @@
 -- The numbers of operands, as the code finds them: constants, question marks, columns, and what VALUES and SET give for a column. Assumes nothing.
 use mathlib.Core.Path.{_≡_, refl, sym, ap, ap₂, subst, _∙_}
+use mathlib.Core.Logic.{_≢_}
 use mathlib.Core.Bool.{Bool, true, cond}
 use mathlib.Core.List.{List, [], _∷_, map}
-use Prim.Native.Nat.{ℕ, zero, suc, _+_, _≤_, _<_}
+use Prim.Native.Nat.{ℕ, zero, suc, _+_, _-_, _/_, _%_, _≤_, _<_}
 use native.Mathlib.Numerals.{add-one}
 use native.Mathlib.Omega.{arith}
 use lib.Dec.{eqb}
@@ -16,9 +17,10 @@ use Rattle.meaning.specs.Statement as M
 use Rattle.meaning.specs.Pattern.{Joint, column, constant, asked, given, ofValue, insertedColumn, setColumn}
 use Rattle.statement.specs.declared.Setting.{Setting}
 use Rattle.statement.specs.declared.Value.{Value}
-use Rattle.statement.specs.declared.Value.the-variants as Given
 use Rattle.statement.specs.declared.Operand.{Operand}
+use Rattle.statement.specs.Compiled.{newValue}
 use Rattle.statement.specs.Sound.{valueRead, operandRead, settingRead}
+use Rattle.statement.proofs.ByKind.{is-constant, is-column, is-mark, value-constant, value-mark}
 use Rattle.table.proofs.Copied.{pasted}
 use Rattle.pattern.specs.Least.{marks-from, asked-from, columns-from, constantCode}
 use Rattle.pattern.specs.Flat.{valuesOf, columnOf, markOf, operandOf, Coding, SetOnce, Readable, noClause}
@@ -39,16 +41,28 @@ asked-coding k n h e = record { is = omega arith; narrow = omega arith }
 pub constant-coding : (z : ℤ) (n : ℕ) → (n ≡ constantCode z) × (isWithin32 z ≡ true) → Coding (constant z) n
 constant-coding z n (e, w) = record { is = e; narrow = w }
 
--- ---- by the variant that a match found
+-- ---- by the code
 
-pub coding-constant : (v : Value) (z y : ℤ) (n : ℕ) → v ≡ Given.Constant z → y ≡ z → Coding (constant y) n → Coding (ofValue (valueRead v)) n
-coding-constant v z y n e q k = subst (λ (w : Value). Coding (ofValue (valueRead w)) n) (sym (e ∙ ap Given.Constant (sym q))) k
+pub coding-constant : (v : Value) (z : ℤ) (n : ℕ) → v .mark ≡ 0 → z ≡ v .number → Coding (constant z) n → Coding (ofValue (valueRead v)) n
+coding-constant v z n h e k = subst (λ (w : M.Value). Coding (ofValue w) n) (ap M.constant e ∙ sym (value-constant v h)) k
 
-pub coding-parameter : (v : Value) (k n : ℕ) → v ≡ Given.Parameter k → Coding (given (suc k)) n → Coding (ofValue (valueRead v)) n
-coding-parameter v k n e q = subst (λ (w : Value). Coding (ofValue (valueRead w)) n) (sym e) q
+pub coding-parameter : (v : Value) (n : ℕ) → v .mark ≢ 0 → v .mark < 256 → n ≡ marks-from + v .mark → Coding (ofValue (valueRead v)) n
+coding-parameter v n h k e =
+    let q : n ≡ marks-from + (v .mark - 1) + 1 = omega arith in
+    subst (λ (w : M.Value). Coding (ofValue w) n) (sym (value-mark v h)) (given-coding (v .mark - 1) n (omega arith) q)
 
-pub coding-operand : (r : ℕ) (ss : List (ℕ × M.Value)) (o p : Operand) (n : ℕ) → o ≡ p → Coding (operandOf r ss (operandRead p)) n → Coding (operandOf r ss (operandRead o)) n
-coding-operand r ss o p n e k = subst (λ (x : Operand). Coding (operandOf r ss (operandRead x)) n) (sym e) k
+module _ (r : ℕ) (ss : List (ℕ × M.Value)) (o : Operand) (n : ℕ) where
+  coding-operand : {p : M.Operand} → operandRead o ≡ p → Coding (operandOf r ss p) n → Coding (operandOf r ss (operandRead o)) n
+  coding-operand e k = subst (λ (x : M.Operand). Coding (operandOf r ss x) n) (sym e) k
+
+  pub operand-column : o .code % 2 ≢ 1 → o .code ≢ 0 → Coding (columnOf r ss (o .code / 2 - 1)) n → Coding (operandOf r ss (operandRead o)) n
+  operand-column h l k = coding-operand (is-column o h l) k
+
+  pub operand-constant : (z : ℤ) → o .code ≡ 0 → z ≡ o .number → Coding (constant z) n → Coding (operandOf r ss (operandRead o)) n
+  operand-constant z h e k = coding-operand (is-constant o h ∙ ap (λ (y : ℤ). M.value (M.constant y)) (sym e)) k
+
+  pub operand-mark : o .code % 2 ≡ 1 → Coding (markOf r (suc (o .code / 2))) n → Coding (operandOf r ss (operandRead o)) n
+  operand-mark h q = coding-operand (is-mark o h) q
 
 -- ---- by the role
 
@@ -95,12 +109,12 @@ module _ (settings : List Setting) (n : ℕ) where
     values-length : length (valuesOf ss) ≡ n
     values-length = length-map ss (λ (s : ℕ × M.Value). s .1) ∙ length-map (take n settings) settingRead ∙ taken
 
-    pub inserted-there : (i r : ℕ) (d : Setting) → i < n → Coding (ofValue (valueRead (getD settings i d .value))) r → Coding (insertedColumn (valuesOf ss) i) r
+    pub inserted-there : (i r : ℕ) (d : Setting) → i < n → Coding (ofValue (valueRead (newValue (getD settings i d)))) r → Coding (insertedColumn (valuesOf ss) i) r
     inserted-there i r d h k =
-        let e : getD (valuesOf ss) i (M.constant (pos 0)) ≡ valueRead (getD settings i d .value) =
+        let e : getD (valuesOf ss) i (M.constant (pos 0)) ≡ valueRead (newValue (getD settings i d)) =
         getD-map-in (λ (s : ℕ × M.Value). s .1) ss i (settingRead d) (M.constant (pos 0)) (omega (arith, length-map (take n settings) settingRead, taken))
         ∙ ap (λ (s : ℕ × M.Value). s .1) (getD-map-in settingRead (take n settings) i d (settingRead d) (omega (arith, taken)))
-        ∙ ap (λ (s : Setting). valueRead (s .value)) (getD-take n settings i d h) in
+        ∙ ap (λ (s : Setting). valueRead (newValue s)) (getD-take n settings i d h) in
         subst (λ (v : M.Value). Coding (ofValue v) r) (sym e) k
 
     pub inserted-past : (i : ℕ) → n ≤ i → Coding (insertedColumn (valuesOf ss) i) 2147483648
@@ -116,7 +130,7 @@ module _ (settings : List Setting) (n : ℕ) where
 
     pub set-more : (j code code′ i : ℕ) (d : Setting) → i < n → SetOnce (getD settings i d) j code code′ → Setting-on j code i → Setting-on j code′ (i + 1)
     set-more j code code′ i d h S T = record {
-      now-is = cond (eqb j (getD settings i d .column)) (ofValue (valueRead (getD settings i d .value))) (T .now-is);
+      now-is = cond (eqb j (getD settings i d .column)) (ofValue (valueRead (newValue (getD settings i d)))) (T .now-is);
       coding = S .follows (T .now-is) (T .coding);
       left = sym (ap (λ (l : List (ℕ × M.Value)). setColumn l j (T .now-is)) (ss-next i d h)) ∙ T .left;
     }
@@ -127,13 +141,13 @@ module _ (settings : List Setting) (n : ℕ) where
         subst (λ (x : Joint). Coding x code) (sym (ap (λ (l : List (ℕ × M.Value)). setColumn l j (T .now-is)) none) ∙ T .left) (T .coding)
 
 -- one setting
-pub once-set : (item : Setting) (j code r : ℕ) → item .column ≡ j → Coding (ofValue (valueRead (item .value))) r → SetOnce item j code r
+pub once-set : (item : Setting) (j code r : ℕ) → item .column ≡ j → Coding (ofValue (valueRead (newValue item))) r → SetOnce item j code r
 once-set item j code r e k =
-    record { follows = λ x q. subst (λ (b : Bool). Coding (cond b (ofValue (valueRead (item .value))) x) r) (sym (eq-eqb j (item .column) (sym e))) k }
+    record { follows = λ x q. subst (λ (b : Bool). Coding (cond b (ofValue (valueRead (newValue item))) x) r) (sym (eq-eqb j (item .column) (sym e))) k }
 
 pub once-left : (item : Setting) (j code : ℕ) → (item .column ≡ j → ⊥) → SetOnce item j code code
 once-left item j code ne =
-    record { follows = λ x q. subst (λ (b : Bool). Coding (cond b (ofValue (valueRead (item .value))) x) code) (sym (ne-eqb j (item .column) (λ e. ne (sym e)))) q }
+    record { follows = λ x q. subst (λ (b : Bool). Coding (cond b (ofValue (valueRead (newValue item))) x) code) (sym (ne-eqb j (item .column) (λ e. ne (sym e)))) q }
 
 -- ---- their numbers can be read
 

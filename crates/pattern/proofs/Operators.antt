@@ -1,35 +1,48 @@
--- Comparisons by their numbers: which join, which are strict, and what an `=` does. Assumes nothing.
-use mathlib.Core.Path.{_≡_, refl, ap}
+-- Comparisons by their numbers: which join, which are strict, and what an `=` does; the order of two numbers. Assumes nothing.
+use mathlib.Core.Path.{_≡_, refl, sym, ap, ap₂}
 use mathlib.Core.Logic.{_≢_}
-use mathlib.Core.Bool.{true, false, not, _&&_, _||_}
+use mathlib.Core.Bool.{Bool, true, false, not, _&&_, cond}
 use mathlib.Core.List.{List, [], _∷_, map}
-use Prim.Native.Nat.{ℕ, zero, suc, max}
+use Prim.Native.Nat.{ℕ, zero, suc, _≤_, _<_, max}
 use native.Mathlib.Omega.{arith}
 use lib.Dec.{eqb, ltb}
-use borrow.Author.Tests.{lt-ltb, ne-eqb}
+use borrow.Author.Tests.{lt-ltb, le-ltb, eq-eqb, ne-eqb}
+use lib.IntN.{pos}
 use Rattle.meaning.specs.Operator.{Operator, eq, ne, lt, le, gt, ge}
 use Rattle.meaning.specs.Pattern.{strict}
-use Rattle.statement.specs.Places.{operatorAt}
+use Rattle.statement.specs.Operators.{operatorAt, orderOf, truthBy}
 use Rattle.pattern.specs.Least.{joinLeast, clashes}
 use Rattle.pattern.specs.Flat.{isJoin}
 
-pub join-number : (k : ℕ) → (eqb k 0 || ltb 5 k) ≡ isJoin (operatorAt k)
+pub join-number : (k : ℕ) → eqb k 0 ≡ isJoin (operatorAt k)
 join-number zero = refl
 join-number (suc zero) = refl
 join-number (suc (suc zero)) = refl
 join-number (suc (suc (suc zero))) = refl
 join-number (suc (suc (suc (suc zero)))) = refl
 join-number (suc (suc (suc (suc (suc zero))))) = refl
-join-number (suc (suc (suc (suc (suc (suc k)))))) = rw (lt-ltb 5 (suc (suc (suc (suc (suc (suc k)))))) (omega arith), ne-eqb (suc (suc (suc (suc (suc (suc k)))))) 0 (λ e. omega arith))
+join-number (suc (suc (suc (suc (suc (suc k)))))) = ne-eqb (suc (suc (suc (suc (suc (suc k)))))) 0 (λ e. omega arith)
 
-pub not-strict : (k : ℕ) → k ≢ 1 → k ≢ 2 → k ≢ 4 → strict (operatorAt k) ≡ false
-not-strict zero a b c = refl
-not-strict (suc zero) a b c = absurd (a refl)
-not-strict (suc (suc zero)) a b c = absurd (b refl)
-not-strict (suc (suc (suc zero))) a b c = refl
-not-strict (suc (suc (suc (suc zero)))) a b c = absurd (c refl)
-not-strict (suc (suc (suc (suc (suc zero))))) a b c = refl
-not-strict (suc (suc (suc (suc (suc (suc k)))))) a b c = refl
+-- a comparison is strict if it does not hold of equal sides
+pub strict-is : (o : Operator) → not (truthBy o 1) ≡ strict o
+strict-is eq = refl
+strict-is ne = refl
+strict-is lt = refl
+strict-is le = refl
+strict-is gt = refl
+strict-is ge = refl
+
+-- ---- the order of two numbers
+
+module _ (a b : ℕ) where
+  pub order-less : a < b → 0 ≡ orderOf (pos a) (pos b)
+  order-less h = sym (ap (λ (t : Bool). cond t 0 (cond (eqb a b) 1 2)) (lt-ltb a b h))
+
+  pub order-equal : b ≤ a → a ≡ b → 1 ≡ orderOf (pos a) (pos b)
+  order-equal h e = sym (ap₂ (λ (s t : Bool). cond s 0 (cond t 1 2)) (le-ltb a b h) (eq-eqb a b e))
+
+  pub order-greater : b ≤ a → a ≢ b → 2 ≡ orderOf (pos a) (pos b)
+  order-greater h e = sym (ap₂ (λ (s t : Bool). cond s 0 (cond t 1 2)) (le-ltb a b h) (ne-eqb a b e))
 
 pub clash-is : (o : Operator) (a b : ℕ) → ((isJoin o && ltb (max a b) 4294967296) && not (eqb a b)) ≡ clashes o a b
 clash-is eq a b = refl

@@ -14,7 +14,7 @@ use Rattle.meaning.specs.Statement as M
 use Rattle.meaning.specs.Postfix.{top, runOn, clausesOfNodes}
 use Rattle.statement.specs.declared.Comparison.{Comparison}
 use Rattle.statement.specs.declared.Condition.{Condition}
-use Rattle.statement.specs.declared.Operand.the-variants.{Column}
+use Rattle.statement.specs.Compiled as Compiled
 use Rattle.statement.specs.Sound.{comparisonRead, nodesRead, usedComparisons, usedSteps, conditionNodes}
 use Rattle.pattern.specs.Stored.{clausesRead}
 use Rattle.pattern.specs.declared.masks.Clauses.{Clauses}
@@ -101,7 +101,7 @@ module _ (c : Condition) where
     next-below e = omega (arith, balanced-few (suc (length st)) rest (left-is 0 e), rest-length, R .counted)
 
     abbrev noneSuch : Comparison
-    noneSuch = record { left = Column 0; op = 0; right = Column 0 }
+    noneSuch = Compiled.noComparison
 
     next-is : getD (c .steps) i 0 ≡ 0 → drop q used ≡ getD used q noneSuch ∷ drop (q + 1) used
     next-is e =

@@ -15,8 +15,8 @@ use Rattle.meaning.specs.Statement as M
 use Rattle.statement.specs.declared.Condition.{Condition}
 use Rattle.statement.specs.declared.Setting.{Setting}
 use Rattle.statement.specs.Sound.{valueRead}
-use Rattle.statement.specs.Compiled.{padded}
-use Rattle.statement.specs.Places.{operatorAt}
+use Rattle.statement.specs.Compiled.{padded, newValue}
+use Rattle.statement.specs.Operators.{operatorAt}
 use Rattle.pattern.specs.Least.{marks-from, asked-from, codeOf, Coded, coded, least, clashesOn, fails, contradicts, entryOfCode, leastEntry}
 use Rattle.pattern.specs.Stored.{placeStruct, placed, patternStruct, noPattern}
 use Rattle.pattern.specs.declared.Entry.the-variants.{Any}
@@ -108,7 +108,7 @@ pub record Coding (x : Joint) (code : ℕ) : Type 0 where
 
 -- what one setting makes of the number of a column, or of what that was set to
 pub record SetOnce (item : Setting) (i code r : ℕ) : Type 0 where
-  pub follows : (x : Joint) → Coding x code → Coding (cond (eqb i (item .column)) (ofValue (valueRead (item .value))) x) r
+  pub follows : (x : Joint) → Coding x code → Coding (cond (eqb i (item .column)) (ofValue (valueRead (newValue item))) x) r
 
 -- the clause that a mask selects of a condition
 abbrev pub chosenOf : ℕ → List (ℕ × M.Value) → Condition → ℕ → Clause

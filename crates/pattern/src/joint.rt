@@ -54,16 +54,12 @@ impl Joined {
     }
 }
 
-// How many of the eight entries of an array a count says are in use.
-pub fn used(count: u8) -> usize
-    ensures { λ r. ⌜ r ≡ min count 8 ⌝ }
+// How many entries of an array of so many a count says are in use.
+pub fn used(count: u8, most: usize) -> usize
+    ensures { λ r. ⌜ r ≡ min count most ⌝ }
 {
     let n = count as usize;
-    if n < Condition::COMPARISONS {
-        n
-    } else {
-        Condition::COMPARISONS
-    }
+    if n < most { n } else { most }
 }
 
 // ---- operands
@@ -80,10 +76,10 @@ fn constant_code(z: i32) -> u64
 fn value_code(value: Value) -> u64
     ensures { λ r. ⌜ Coding (ofValue (valueRead value)) r ⌝ }
 {
-    match value {
-        Value::Constant(z) => constant_code(z),
-        Value::Parameter(k) => Labels::FROM_MARKS + (k as u64) + 1,
+    if value.mark == 0 {
+        return constant_code(value.number);
     }
+    Labels::FROM_MARKS + (value.mark as u64)
 }
 
 // What a column becomes in an INSERT: the value of its place, or 0 past the values.
@@ -94,7 +90,7 @@ fn inserted_code(settings: [Setting; Update::SETTINGS], n: usize, column: u8) ->
     let i = column as usize;
     if i < n {
         let item = settings[i];
-        let value = item.value;
+        let value = item.new_value();
         return value_code(value);
     }
     Labels::ZERO
@@ -105,7 +101,7 @@ fn set_once(item: Setting, column: u8, code: u64) -> u64
     ensures { λ r. ⌜ SetOnce item column code r ⌝ }
 {
     if item.column == column {
-        let value = item.value;
+        let value = item.new_value();
         return value_code(value);
     }
     code
@@ -155,11 +151,13 @@ fn operand_code(o: Operand, role: u8, settings: [Setting; Update::SETTINGS], n: 
     requires { ⌜ n ≤ 8 ⌝ }
     ensures { λ r. ⌜ Coding (operandOf role (map settingRead (take n settings)) (operandRead o)) r ⌝ }
 {
-    match o {
-        Operand::Column(i) => column_code(i, role, settings, n),
-        Operand::Constant(z) => constant_code(z),
-        Operand::Parameter(k) => mark_code(k, role),
+    if o.code % 2 == 1 {
+        return mark_code(o.code / 2, role);
     }
+    if o.code == 0 {
+        return constant_code(o.number);
+    }
+    column_code(o.code / 2 - 1, role, settings, n)
 }
 
 // ---- comparisons
@@ -185,8 +183,8 @@ pub fn add(
     let mut i: usize = 0;
     while i < (condition.count as usize) {
         let c = condition.comparisons[i];
-        let a = c.left;
-        let b = c.right;
+        let a = c.left_side();
+        let b = c.right_side();
         codes[2 * at] = operand_code(a, role, settings, given);
         codes[2 * at + 1] = operand_code(b, role, settings, given);
         numbers[at] = c.op;

@@ -3,6 +3,9 @@
 use super::Entry;
 use super::Pattern;
 use super::Place;
+use table::Comparison;
+use table::Condition;
+use table::Order;
 ghost use mathlib.Core.Path.{_≡_};
 ghost use mathlib.Core.Bool.{_||_};
 ghost use mathlib.Core.List.{map};
@@ -12,7 +15,7 @@ ghost use lib.ListN.{length};
 ghost use Rattle.lists.specs.Lists.{All, any};
 ghost use Rattle.meaning.specs.Operator.{truth};
 ghost use Rattle.meaning.specs.Pattern.{strict as strictOf};
-ghost use Rattle.statement.specs.Places.{operatorAt};
+ghost use Rattle.statement.specs.Operators.{operatorAt, orderOf};
 ghost use Rattle.pattern.specs.Least.{renameCode, joinLeast, clashes as clashOf, fails as failOf, codeConstant, entryOfCode};
 ghost use Rattle.pattern.specs.Stored.{entryStruct, noPattern};
 ghost use Rattle.pattern.specs.Flat.{isJoin, failing, clauseAt, Readable, Ready, Labelled, placesOf, codedPattern};
@@ -25,12 +28,12 @@ pub struct Labels {
 
 impl Labels {
     // Both sides of sixteen comparisons, and eight question marks of the query.
-    pub const OPERANDS: usize = 40;
+    pub const OPERANDS: usize = Labels::ASKED + Pattern::ENTRIES;
 
-    pub const COMPARISONS: usize = 16;
+    pub const COMPARISONS: usize = 2 * Condition::COMPARISONS;
 
     // Where the question marks start.
-    pub const ASKED: usize = 32;
+    pub const ASKED: usize = 2 * Labels::COMPARISONS;
 
     // The first number that is no constant; the first of the query's question marks; of columns.
     pub const FROM_MARKS: u64 = 4294967296;
@@ -75,11 +78,11 @@ fn relabel(labels: &mut [u64; Labels::OPERANDS], from: u64, to: u64)
     }
 }
 
-// Whether a comparison by this number is `=`. (So is one by a number past the operators.)
+// Whether a comparison by this number is `=`.
 fn is_join(op: u8) -> bool
     ensures { λ r. ⌜ r ≡ isJoin (operatorAt op) ⌝ }
 {
-    (op == 0) | (5 < op)
+    op == Comparison::EQ
 }
 
 // What a comparison whose sides have the labels a and b does to the labels.
@@ -127,26 +130,27 @@ fn label_all(codes: [u64; Labels::OPERANDS], ops: [u8; Labels::COMPARISONS], n: 
 fn strict(op: u8) -> bool
     ensures { λ r. ⌜ r ≡ strictOf (operatorAt op) ⌝ }
 {
-    match op {
-        1 => true,
-        2 => true,
-        4 => true,
-        _ => false,
+    !Comparison::truth(op, Order::EQUAL)
+}
+
+// How two numbers stand.
+fn order(a: u64, b: u64) -> u8
+    ensures { λ r. ⌜ r ≡ orderOf (pos a) (pos b) ⌝ }
+{
+    if a < b {
+        return Order::LESS;
     }
+    if a == b {
+        return Order::EQUAL;
+    }
+    Order::GREATER
 }
 
 // Whether two constants compare so, by their numbers.
 fn compare(op: u8, a: u64, b: u64) -> bool
     ensures { λ r. ⌜ r ≡ truth (operatorAt op) (pos a) (pos b) ⌝ }
 {
-    match op {
-        1 => a != b,
-        2 => a < b,
-        3 => a <= b,
-        4 => b < a,
-        5 => b <= a,
-        _ => a == b,
-    }
+    Comparison::truth(op, order(a, b))
 }
 
 // Whether a comparison cannot hold of its sides' labels.

@@ -62,8 +62,8 @@ impl Pattern {
         if !self.there {
             return false;
         }
-        let n = joint::used(self.count);
-        if n != joint::used(count) {
+        let n = joint::used(self.count, Pattern::ENTRIES);
+        if n != joint::used(count, Pattern::ENTRIES) {
             return false;
         }
         let entries = self.entries;

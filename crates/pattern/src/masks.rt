@@ -1,5 +1,6 @@
 // The clauses of a stored condition (rule 4), as masks: bit j of a mask says that comparison j is in the clause. One pass over the steps.
 use table::Condition;
+use table::Step;
 ghost use mathlib.Core.Path.{_≡_};
 ghost use mathlib.Core.Bool.{true};
 ghost use mathlib.Core.List.{map};
@@ -44,7 +45,7 @@ pub fn is_formed(condition: Condition) -> bool
     let mut i: usize = 0;
     while i + 1 < 2 * n {
         let step = condition.steps[i];
-        if step == 0 {
+        if step == Step::COMPARISON {
             depth += 1;
         } else {
             if depth < 2 {
@@ -182,10 +183,10 @@ impl Stack {
         requires { ⌜ Steps step self ⌝ }
         ensures { λ r. ⌜ r ≡ steppedOf step self ⌝ }
     {
-        if step == 0 {
+        if step == Step::COMPARISON {
             return self.pushed();
         }
-        if step == 1 {
+        if step == Step::AND {
             return self.both();
         }
         self.either()

@@ -94,7 +94,7 @@ pub fn all_any(query: Query) -> Pattern
     Pattern {
         there: true,
         entries,
-        count: joint::used(query.parameters) as u8,
+        count: joint::used(query.parameters, Pattern::ENTRIES) as u8,
     }
 }
 
@@ -107,7 +107,7 @@ fn inserted(query: Query, update: Update, mask: u8) -> Pattern
     let codes = start.codes;
     let ops = start.ops;
     let settings = update.settings;
-    let n = joint::used(update.count);
+    let n = joint::used(update.count, Update::SETTINGS);
     let condition = query.condition;
     let all = joint::add(
         codes,
@@ -121,7 +121,12 @@ fn inserted(query: Query, update: Update, mask: u8) -> Pattern
     );
     let sides = all.codes;
     let operators = all.ops;
-    labels::clause_pattern(sides, operators, all.count, joint::used(query.parameters))
+    labels::clause_pattern(
+        sides,
+        operators,
+        all.count,
+        joint::used(query.parameters, Pattern::ENTRIES),
+    )
 }
 
 // The pattern of a clause of the update and one of the query.
@@ -133,7 +138,7 @@ fn joined(query: Query, update: Update, given: u8, asked: u8, role: u8) -> Patte
     let codes = start.codes;
     let ops = start.ops;
     let settings = update.settings;
-    let n = joint::used(update.count);
+    let n = joint::used(update.count, Update::SETTINGS);
     let condition = update.condition;
     let first = joint::add(codes, ops, 0, condition, given, Joined::UPDATE, settings, n);
     let first_codes = first.codes;
@@ -151,7 +156,12 @@ fn joined(query: Query, update: Update, given: u8, asked: u8, role: u8) -> Patte
     );
     let sides = all.codes;
     let operators = all.ops;
-    labels::clause_pattern(sides, operators, all.count, joint::used(query.parameters))
+    labels::clause_pattern(
+        sides,
+        operators,
+        all.count,
+        joint::used(query.parameters, Pattern::ENTRIES),
+    )
 }
 
 // The pattern of pair k, the update's clause outer.

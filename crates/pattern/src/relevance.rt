@@ -4,6 +4,7 @@ use table::Condition;
 use table::Operand;
 use table::Query;
 use table::Setting;
+use table::Step;
 use table::Update;
 ghost use mathlib.Core.Path.{_≡_};
 ghost use mathlib.Core.List.{map};
@@ -68,11 +69,13 @@ fn names(o: Operand, columns: [u8; Update::SETTINGS], n: usize) -> bool
     requires { ⌜ n ≤ 8 ⌝ }
     ensures { λ r. ⌜ r ≡ namesAny (take n columns) (operandRead o) ⌝ }
 {
-    match o {
-        Operand::Column(i) => is_among(columns, n, i),
-        Operand::Constant(_) => false,
-        Operand::Parameter(_) => false,
+    if o.code % 2 == 1 {
+        return false;
     }
+    if o.code == 0 {
+        return false;
+    }
+    is_among(columns, n, o.code / 2 - 1)
 }
 
 // Whether a side of one of the first `count` comparisons is.
@@ -84,8 +87,8 @@ fn tests(condition: Condition, count: usize, columns: [u8; Update::SETTINGS], n:
     let mut i: usize = 0;
     while i < count {
         let c = condition.comparisons[i];
-        let left = c.left;
-        let right = c.right;
+        let left = c.left_side();
+        let right = c.right_side();
         found = found | names(left, columns, n) | names(right, columns, n);
         i += 1;
     }
@@ -103,11 +106,11 @@ fn one_if(b: bool) -> usize
 fn comparison_steps(condition: Condition) -> usize
     ensures { λ r. ⌜ r ≡ comparisonSteps (usedSteps condition) ⌝ }
 {
-    let n = joint::used(condition.count);
+    let n = joint::used(condition.count, Condition::COMPARISONS);
     let mut found: usize = 0;
     let mut i: usize = 0;
     while i + 1 < 2 * n {
-        found += one_if(condition.steps[i] == 0);
+        found += one_if(condition.steps[i] == Step::COMPARISON);
         i += 1;
     }
     found
@@ -119,14 +122,19 @@ fn touches(query: Query, update: Update) -> bool
 {
     let settings = update.settings;
     let columns = columns_of(settings);
-    let n = joint::used(update.count);
+    let n = joint::used(update.count, Update::SETTINGS);
     let selected = query.selected;
-    if selects(selected, joint::used(query.count), columns, n) {
+    if selects(
+        selected,
+        joint::used(query.count, Query::SELECTED),
+        columns,
+        n,
+    ) {
         return true;
     }
     let condition = query.condition;
     let asked = comparison_steps(condition);
-    let there = joint::used(condition.count);
+    let there = joint::used(condition.count, Condition::COMPARISONS);
     if asked < there {
         return tests(condition, asked, columns, n);
     }

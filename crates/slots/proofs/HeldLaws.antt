@@ -16,7 +16,7 @@ use Rattle.lists.proofs.Repeats.{distinct-repeats, distinct-map}
 use Rattle.meaning.specs.Limits.{most-slots}
 use Rattle.slots.specs.declared.Key.{Key}
 use Rattle.slots.specs.declared.SlotList.{SlotList}
-use Rattle.slots.specs.Order.{heldSlots, openOf, frontOf, takenOf, dropOf}
+use Rattle.slots.specs.Order.{heldSlots, openOf, frontOf, takenOf, dropBy}
 use Rattle.slots.specs.Keys.{keyRead, sameKey, noKey, slotKey, heldKeys, heldTwice}
 use Rattle.slots.proofs.KeyLaws.{read-other, not-twice, twice-not}
 use Rattle.slots.proofs.Laws.{Sound, held-front, drop-held, taken-below, taken-free, taken-held}
@@ -29,10 +29,10 @@ pub front-once : (keys : List Key) (s : SlotList) (p : ℕ) → p < s .held → 
 front-once keys s p h t =
     twice-not keys (frontOf s p) (moved-distinctBy (λ (x : ℕ). keyRead (slotKey keys x)) (held-front s p h) (not-twice keys s t))
 
-pub drop-once : (keys : List Key) (s : SlotList) (gone : List Bool) → heldTwice keys s ≡ false → heldTwice keys (dropOf s gone) ≡ false
-drop-once keys s gone t =
-    twice-not keys (dropOf s gone)
-    (subst (DistinctBy (λ (x : ℕ). keyRead (slotKey keys x))) (sym (drop-held s gone))
+pub drop-once : (keys : List Key) (s : SlotList) (p : ℕ → Bool) → heldTwice keys s ≡ false → heldTwice keys (dropBy p s) ≡ false
+drop-once keys s p t =
+    twice-not keys (dropBy p s)
+    (subst (DistinctBy (λ (x : ℕ). keyRead (slotKey keys x))) (sym (drop-held s p))
     (distinct-keep (λ (x : ℕ). keyRead (slotKey keys x)) _ (heldSlots s) (not-twice keys s t)))
 
 -- a key put at the slot that was taken

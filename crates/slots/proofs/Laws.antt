@@ -2,22 +2,22 @@
 -- before it in another order (`Moved`): so as many are counted, and what all of them have stays. Assumes nothing.
 use mathlib.Core.Path.{_≡_, refl, sym, ap, ap₂, subst, _∙_}
 use mathlib.Core.Logic.{_≢_}
-use mathlib.Core.Bool.{Bool, true, not}
+use mathlib.Core.Bool.{Bool, true, false, not}
 use mathlib.Core.List.{List, [], _∷_, _++_, append-assoc, append-nil}
 use Prim.Native.Nat.{ℕ, suc, _+_, _-_, _≤_, _<_, min}
 use native.Mathlib.Omega.{arith}
 use borrow.Author.Tests.{le-leb, leb-true, lt-ltb, ltb-true, eqb-false, ne-eqb}
 use lib.Dec.{leb, ltb, eqb}
-use lib.ListN.{length, take, drop, getD, length-append, length-drop, take-append-drop, drop-of-length-le}
+use lib.ListN.{length, take, drop, getD, length-append, length-take, length-drop, take-append-drop, drop-of-length-le}
 use lib.Seq.{take-at, take-all, take-suc, take-take, take-add, take-append-add, drop-at, drop-append-le, length-take-le}
 use Rattle.lists.specs.Lists.{All, Distinct, all, keep, count, repeats, from}
 use Rattle.lists.proofs.Bools.{and-left, and-right, and-both, not-true}
-use Rattle.lists.proofs.Lists.{All-head, All-map, All-take, all-true, all-of}
+use Rattle.lists.proofs.Lists.{All-head, All-map, All-take, All-every, all-true, all-of, keep-all}
 use Rattle.lists.proofs.Moved.{Moved, moved-last, moved-parted, parted-length, moved-All, moved-distinct, from-once, from-below, take-from}
 use Rattle.lists.proofs.Repeats.{repeats-distinct, distinct-repeats}
 use Rattle.meaning.specs.Limits.{most-slots}
 use Rattle.slots.specs.declared.SlotList.{SlotList}
-use Rattle.slots.specs.Order.{slotsOf, heldSlots, freeSlots, soundSlots, openOf, front, frontOf, lastTaken, takenOf, isMarked, dropOf}
+use Rattle.slots.specs.Order.{slotsOf, heldSlots, freeSlots, soundSlots, openOf, front, frontOf, lastTaken, takenOf, dropBy, clearOf}
 use Rattle.slots.proofs.Fronts.{front-at, take-front, drop-front, front-moved, front-length}
 use Rattle.slots.proofs.KeyLaws.{FoundAt, found-inside}
 use Rattle.slots.proofs.Moves.{taken-some}
@@ -257,24 +257,31 @@ module _ (s : SlotList) (S : Sound s) (long : length (s .order) ≡ most-slots) 
         apart = subst (λ t. All (λ x. x ≢ t .slot) others) (sym taken-is) others-apart;
       }
 
--- ---- marked slots dropped
+-- ---- slots dropped
 
-module _ (s : SlotList) (gone : List Bool) where
+module _ (s : SlotList) (p : ℕ → Bool) where
   abbrev stay : List ℕ
-  stay = keep (λ (x : ℕ). not (isMarked gone x)) (heldSlots s)
+  stay = keep (λ (x : ℕ). not (p x)) (heldSlots s)
 
   abbrev leave : List ℕ
-  leave = keep (isMarked gone) (heldSlots s)
+  leave = keep p (heldSlots s)
 
-  pub drop-held : heldSlots (dropOf s gone) ≡ stay
-  unfolding dropOf
+  pub drop-held : heldSlots (dropBy p s) ≡ stay
+  unfolding dropBy
   drop-held = ap (take (length stay)) (append-assoc stay leave (drop (s .held) (s .order))) ∙ take-at stay (leave ++ drop (s .held) (s .order)) (length stay) refl
+
+  pub drop-length : length (dropBy p s .order) ≡ length (s .order)
+  unfolding dropBy
+  drop-length =
+      let rest : List ℕ = drop (s .held) (s .order) in
+      let a : length ((stay ++ leave) ++ rest) ≡ length (stay ++ leave) + length rest = length-append (stay ++ leave) rest in
+      omega (arith, length-append stay leave, parted-length p (heldSlots s), length-take (s .held) (s .order), length-drop (s .held) (s .order))
 
   module _ (S : Sound s) (long : length (s .order) ≡ most-slots) where
     -- those that stay held and those that are dropped, by their number
-    pub drop-count : dropOf s gone .held + count (isMarked gone) (heldSlots s) ≡ s .held
-    unfolding dropOf
-    drop-count = parted-length (isMarked gone) (heldSlots s) ∙ held-length s S long
+    pub drop-count : dropBy p s .held + count p (heldSlots s) ≡ s .held
+    unfolding dropBy
+    drop-count = parted-length p (heldSlots s) ∙ held-length s S long
 
     free-rest : freeSlots s ≡ take (s .count - s .held) (drop (s .held) (s .order))
     free-rest =
@@ -283,29 +290,38 @@ module _ (s : SlotList) (gone : List Bool) where
         ∙ ap (drop (s .held)) (take-add (s .held) (s .count - s .held) (s .order))
         ∙ drop-at (heldSlots s) (take (s .count - s .held) (drop (s .held) (s .order))) (s .held) (held-length s S long)
 
-    pub drop-slots : slotsOf (dropOf s gone) ≡ stay ++ (leave ++ freeSlots s)
-    unfolding dropOf
+    pub drop-slots : slotsOf (dropBy p s) ≡ stay ++ (leave ++ freeSlots s)
+    unfolding dropBy
     drop-slots =
-        let n : s .count ≡ length stay + (length leave + (s .count - s .held)) = omega (arith, S .within, parted-length (isMarked gone) (heldSlots s), held-length s S long) in
+        let n : s .count ≡ length stay + (length leave + (s .count - s .held)) = omega (arith, S .within, parted-length p (heldSlots s), held-length s S long) in
         ap₂ take n (append-assoc stay leave (drop (s .held) (s .order)))
         ∙ take-append-add stay (leave ++ drop (s .held) (s .order)) (length leave + (s .count - s .held))
         ∙ ap (λ (l : List ℕ). stay ++ l) (take-append-add leave (drop (s .held) (s .order)) (s .count - s .held) ∙ ap (λ (l : List ℕ). leave ++ l) (sym free-rest))
 
-    pub drop-free : freeSlots (dropOf s gone) ≡ leave ++ freeSlots s
-    unfolding dropOf
+    pub drop-free : freeSlots (dropBy p s) ≡ leave ++ freeSlots s
+    unfolding dropBy
     drop-free = ap (drop (length stay)) drop-slots ∙ drop-at stay (leave ++ freeSlots s) (length stay) refl
 
-    pub slots-drop : Moved (slotsOf s) (slotsOf (dropOf s gone))
+    pub slots-drop : Moved (slotsOf s) (slotsOf (dropBy p s))
     slots-drop =
-        subst (λ (l : List ℕ). Moved l (slotsOf (dropOf s gone))) (sym (held-free s (S .within)))
-        (subst (λ (l : List ℕ). Moved (heldSlots s ++ freeSlots s) l) (sym drop-slots) (moved-parted (isMarked gone) (heldSlots s) (freeSlots s)))
+        subst (λ (l : List ℕ). Moved l (slotsOf (dropBy p s))) (sym (held-free s (S .within)))
+        (subst (λ (l : List ℕ). Moved (heldSlots s ++ freeSlots s) l) (sym drop-slots) (moved-parted p (heldSlots s) (freeSlots s)))
 
-    pub drop-size : length (dropOf s gone .order) ≡ most-slots
-    unfolding dropOf
-    drop-size =
-        let a : length ((stay ++ leave) ++ drop (s .held) (s .order)) ≡ length (stay ++ leave) + length (drop (s .held) (s .order)) = length-append (stay ++ leave) (drop (s .held) (s .order)) in
-        omega (arith, length-append stay leave, length-drop (s .held) (s .order), parted-length (isMarked gone) (heldSlots s), held-length s S long, S .few, S .within)
+    pub drop-sound : Sound (dropBy p s)
+    unfolding dropBy
+    drop-sound = sound-moved s (dropBy p s) S refl (omega (arith, drop-count, S .within)) slots-drop
 
-    pub drop-sound : Sound (dropOf s gone)
-    unfolding dropOf
-    drop-sound = sound-moved s (dropOf s gone) S refl (omega (arith, drop-count, S .within)) slots-drop
+-- ---- every slot dropped
+
+keep-none : {A : Type 0} (l : List A) → keep (λ (x : A). false) l ≡ []
+keep-none [] = refl
+keep-none (x ∷ l) = keep-none l
+
+-- none is held, and the order stays
+pub clear-is : (s : SlotList) → record { order = s .order; held = 0; count = s .count } ≡ clearOf s
+unfolding dropBy
+clear-is s =
+    let order : s .order ≡ keep (λ (x : ℕ). false) (heldSlots s) ++ keep (λ (x : ℕ). true) (heldSlots s) ++ drop (s .held) (s .order) =
+    sym (ap₂ (λ (a b : List ℕ). a ++ b ++ drop (s .held) (s .order)) (keep-none (heldSlots s)) (keep-all (λ (x : ℕ). true) (All-every (λ x. refl) (heldSlots s)))
+    ∙ take-append-drop (s .held) (s .order)) in
+    ap₂ (λ (o k : List ℕ). record { order = o; held = length k; count = s .count }) order (sym (keep-none (heldSlots s)))

@@ -15,7 +15,7 @@ use Rattle.lists.proofs.Walks.{take-min}
 use Rattle.lists.proofs.Written.{written-append}
 use Rattle.slots.specs.declared.SlotList.{SlotList}
 use Rattle.slots.specs.declared.order.Run.{Run}
-use Rattle.slots.specs.Order.{heldSlots, frontOf, lastTaken, noneTaken, isOpen, takenOf, isMarked, hasMark, appended, dropOf}
+use Rattle.slots.specs.Order.{heldSlots, frontOf, lastTaken, noneTaken, isOpen, takenOf, isMarked, hasMark, appended, dropBy, dropOf}
 
 -- ---- the last slot taken
 
@@ -74,7 +74,7 @@ pub dropped : (s : SlotList) (gone : List Bool) (n : ℕ) (a b : Run) → length
     → a ≡ appended (record { places = s .order; len = 0 }) (keep (hasMark gone false) (take n (s .order)))
     → b ≡ appended a (keep (hasMark gone true) (take n (s .order)))
     → record { order = b .places; held = a .len; count = s .count } ≡ dropOf s gone
-unfolding dropOf appended
+unfolding dropBy appended
 dropped s gone n a b long is ea eb =
     let K : List ℕ → List ℕ = keep (λ (x : ℕ). not (isMarked gone x)) in
     let t : take n (s .order) ≡ heldSlots s = ap (λ (k : ℕ). take k (s .order)) is ∙ take-min (s .held) 64 (s .order) long in

@@ -8,7 +8,7 @@ use lib.ListN.{replicate}
 use Rattle.slots.specs.declared.Key.{Key}
 use Rattle.slots.specs.declared.SlotList.{SlotList}
 use Rattle.slots.specs.declared.Found.the-variants.{At, Nothing}
-use Rattle.slots.specs.Order.{soundSlots, openOf, frontOf, takenOf, dropOf}
+use Rattle.slots.specs.Order.{soundSlots, openOf, frontOf, takenOf, dropBy, dropOf, clearOf}
 use Rattle.slots.specs.Keys.{keyOf, sameKey, slotHas, findOf, heldTwice}
 
 -- ---- the order of use; the last number of each list is no slot
@@ -35,8 +35,13 @@ taken = refl
 
 -- slots 1 and 3 dropped: 0 stays held, they come behind it in their order, and then the free one
 pub dropped : dropOf four (false ∷ true ∷ false ∷ true ∷ []) ≡ listed (0 ∷ 3 ∷ 1 ∷ 2 ∷ 9 ∷ []) 1 4
-unfolding dropOf
+unfolding dropBy
 dropped = refl
+
+-- every one dropped: all are free, in their order
+pub cleared : clearOf four ≡ listed (3 ∷ 1 ∷ 0 ∷ 2 ∷ 9 ∷ []) 0 4
+unfolding dropBy
+cleared = refl
 
 -- sound ones; a slot twice; one that is not there; more held than there are
 pub sound : map soundSlots (openOf 64 ∷ four ∷ listed (0 ∷ 1 ∷ 0 ∷ []) 0 3 ∷ listed (0 ∷ 3 ∷ 1 ∷ []) 0 3 ∷ listed (0 ∷ 1 ∷ []) 2 1 ∷ openOf 65 ∷ [])

@@ -63,11 +63,20 @@ takenOf s = cond (isOpen s) (lastTaken s) (noneTaken s)
 abbrev pub isMarked : List Bool → ℕ → Bool
 isMarked marks x = getD marks x false
 
--- "Drops put held slots first and free ones after, each in the order they had": of the held slots those that are not marked, then those that are, then the others
-unfoldable pub dropOf : SlotList → List Bool → SlotList
-dropOf s gone =
-    let kept = keep (λ (x : ℕ). not (isMarked gone x)) (heldSlots s) in
-    record { order = kept ++ keep (isMarked gone) (heldSlots s) ++ drop (s .held) (s .order); held = length kept; count = s .count }
+-- "Drops put held slots first and free ones after, each in the order they had": of the held slots those that do not pass the test, then those that do, which are
+-- free then, then the others
+unfoldable pub dropBy : (ℕ → Bool) → SlotList → SlotList
+dropBy p s =
+    let kept = keep (λ (x : ℕ). not (p x)) (heldSlots s) in
+    record { order = kept ++ keep p (heldSlots s) ++ drop (s .held) (s .order); held = length kept; count = s .count }
+
+-- the marked ones
+abbrev pub dropOf : SlotList → List Bool → SlotList
+dropOf s gone = dropBy (isMarked gone) s
+
+-- "flush (drop every kept answer)"
+abbrev pub clearOf : SlotList → SlotList
+clearOf s = dropBy (λ x. true) s
 
 -- ---- parts of the code
 

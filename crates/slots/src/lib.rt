@@ -4,10 +4,11 @@ mod twice; // fingerprints of keys, and whether a key is held twice
 mod values; // the values of a key
 
 ghost use mathlib.Core.Path.{_≡_};
-ghost use Rattle.slots.specs.Order.{soundSlots, openOf, frontOf, takenOf, dropOf};
+ghost use Rattle.slots.specs.Order.{soundSlots, openOf, frontOf, takenOf, dropOf, clearOf};
 ghost use Rattle.slots.specs.Keys.{keyOf, sameKey, findOf, heldTwice};
 
 // A question's number with its values: the first `count`. What stands behind them is not looked at.
+#[repr(C)]
 pub struct Key {
     pub query: u8,
     pub count: u8,
@@ -15,6 +16,7 @@ pub struct Key {
 }
 
 // The slots, the most recently used first: of the first `count` places the first `held` hold an answer. What stands behind `count` is no slot and stays.
+#[repr(C)]
 pub struct SlotList {
     pub order: [u8; SlotList::SLOTS],
     pub held: u8,
@@ -149,6 +151,18 @@ impl SlotList {
         Self {
             order: places,
             held: kept.len as u8,
+            count: self.count,
+        }
+    }
+
+    // Every held slot is dropped: all are free, in the order they had.
+    pub fn clear(self) -> Self
+        ensures { λ r. ⌜ r ≡ clearOf self ⌝ }
+    {
+        let order = self.order;
+        Self {
+            order,
+            held: 0,
             count: self.count,
         }
     }

@@ -5,7 +5,7 @@ use mathlib.Core.List.{List, [], _∷_, map}
 use Prim.Native.Nat.{ℕ, zero, suc, _+_, _-_, _*_, _≤_, _<_}
 use native.Mathlib.Omega.{arith}
 use borrow.Author.Tests.{le-leb, lt-leb}
-use lib.Dec.{eqb, leb, ltb, eqb·suc-suc}
+use lib.Dec.{eqb, leb, ltb}
 use lib.ListN.{length, take}
 use lib.Seq.{length-take-le}
 use Rattle.lists.specs.Lists.{all}
@@ -15,28 +15,14 @@ use Rattle.meaning.specs.Postfix.{Node, leaf, allOf, anyOf, leaves, balancedOn,
 use Rattle.meaning.specs.Statement as M
 use Rattle.meaning.specs.Resolve.{markInOperand, parameterCount, isNumbered, numberedOn, numberedFrom, isBelow, columnsBelow}
 use Rattle.meaning.specs.Limits.{most-comparisons, most-marks}
-use Rattle.statement.specs.Built.{markInSide}
-use Rattle.statement.specs.Sound.{operandRead, comparisonRead, usedSteps, usedComparisons, conditionNodes, conditionMarks, soundCondition}
-use Rattle.statement.specs.declared.Operand.{Operand}
-use Rattle.statement.specs.declared.Operand.the-variants.{Column, Constant, Parameter}
+use Rattle.statement.specs.Compiled.{leftSide, rightSide}
+use Rattle.statement.specs.Sound.{operandRead, comparisonRead, usedSteps, usedComparisons, conditionNodes, conditionMarks, soundCondition, soundConditionOn}
 use Rattle.statement.specs.declared.Comparison.{Comparison}
 use Rattle.statement.specs.declared.Condition.{Condition}
 use Rattle.statement.proofs.Stored.{read-length, read-leaves}
-use Rattle.soundness.specs.Parts.{stepsOn, sideFits, comparisonFits, comparisonMarks, comparisonsOn, conditionOn}
+use Rattle.soundness.specs.Parts.{stepsOn, comparisonFits, comparisonMarks, comparisonsOn}
 use Rattle.soundness.proofs.Tests.{interchange}
 use Rattle.soundness.proofs.Steps.{steps-postfix}
-
--- ---- sides
-
-side-mark : (o : Operand) → markInSide o ≡ markInOperand (operandRead o)
-side-mark (Column i) = refl
-side-mark (Constant z) = refl
-side-mark (Parameter k) = refl
-
-side-is : (columns m : ℕ) (o : Operand) → sideFits columns m o ≡ (isBelow columns (operandRead o) && isNumbered m (operandRead o))
-side-is columns m (Column i) = sym (and-true (ltb i columns))
-side-is columns m (Constant z) = refl
-side-is columns m (Parameter k) = sym (eqb·suc-suc k m)
 
 -- ---- comparisons as they are read
 
@@ -54,15 +40,13 @@ asked columns m p cs =
 module _ (columns : ℕ) where
   fits-is : (m : ℕ) (c : Comparison)
       → comparisonFits columns m c
-      ≡ (ltb (c .op) 6 && ((isBelow columns (operandRead (c .left)) && isBelow columns (operandRead (c .right)))
-      && (isNumbered m (operandRead (c .left)) && isNumbered (m + markInOperand (operandRead (c .left))) (operandRead (c .right)))))
+      ≡ (ltb (c .op) 6 && ((isBelow columns (operandRead (leftSide c)) && isBelow columns (operandRead (rightSide c)))
+      && (isNumbered m (operandRead (leftSide c)) && isNumbered (m + markInOperand (operandRead (leftSide c))) (operandRead (rightSide c)))))
   fits-is m c =
-      let a = operandRead (c .left) in
-      let b = operandRead (c .right) in
+      let a = operandRead (leftSide c) in
+      let b = operandRead (rightSide c) in
       let m′ = m + markInOperand a in
-      ap₂ (λ (x y : Bool). (ltb (c .op) 6 && x) && y) (side-is columns m (c .left))
-      (ap (λ (k : ℕ). sideFits columns (m + k) (c .right)) (side-mark (c .left)) ∙ side-is columns m′ (c .right))
-      ∙ sym (and-assoc (ltb (c .op) 6) (isBelow columns a && isNumbered m a) (isBelow columns b && isNumbered m′ b))
+      sym (and-assoc (ltb (c .op) 6) (isBelow columns a && isNumbered m a) (isBelow columns b && isNumbered m′ b))
       ∙ ap (λ (x : Bool). ltb (c .op) 6 && x) (interchange (isBelow columns a) (isNumbered m a) (isBelow columns b) (isNumbered m′ b))
 
   grouped : (o w k o′ w′ k′ e : Bool) → ((o && (w && k)) && (o′ && (w′ && (k′ && e)))) ≡ ((o && o′) && ((w && w′) && ((k && k′) && e)))
@@ -73,12 +57,12 @@ module _ (columns : ℕ) where
   comparisons-asked : (m p : ℕ) (cs : List Comparison) → comparisonsOn columns m p cs ≡ asked columns m p cs
   comparisons-asked m p [] = let e : m ≡ m + 0 = omega arith in ap (eqb p) e
   comparisons-asked m p (c ∷ cs) =
-      let a : M.Operand = operandRead (c .left) in
-      let b : M.Operand = operandRead (c .right) in
+      let a : M.Operand = operandRead (leftSide c) in
+      let b : M.Operand = operandRead (rightSide c) in
       let m′ : ℕ = m + markInOperand a in
       let m″ : ℕ = m′ + markInOperand b in
       let os : List M.Operand = operands cs in
-      let e : m + comparisonMarks c ≡ m″ = omega (arith, side-mark (c .left), side-mark (c .right)) in
+      let e : m + comparisonMarks c ≡ m″ = omega arith in
       let f : m″ + parameterCount os ≡ m + (markInOperand a + (markInOperand b + parameterCount os)) = omega arith in
       ap₂ _&&_ (fits-is m c) (ap (λ (k : ℕ). comparisonsOn columns k p cs) e ∙ comparisons-asked m″ p cs)
       ∙ grouped (ltb (c .op) 6) (isBelow columns a && isBelow columns b) (isNumbered m a && isNumbered m′ b)
@@ -135,8 +119,8 @@ module _ (columns m p : ℕ) (c : Condition) where
   abbrev others : Bool
   others = all (λ (s : ℕ). ltb s 3) ss && (operators cs && (isPostfix nodes && (columnsBelow columns nodes && numberedFrom m nodes)))
 
-  pub condition-long : 8 < c .count → false ≡ conditionOn columns m p c
-  unfolding conditionOn soundCondition
+  pub condition-long : 8 < c .count → false ≡ soundConditionOn columns m p c
+  unfolding soundConditionOn soundCondition
   condition-long h =
       sym (ap (λ (b : Bool). (b && others) && (eqb p (m + conditionMarks c) && leb p most-marks)) (lt-leb (c .count) most-comparisons h))
 
@@ -152,8 +136,8 @@ module _ (columns m p : ℕ) (c : Condition) where
     unfolding conditionNodes
     steps-tell = steps-postfix ss cs
 
-    pub condition-short : ((leb p most-marks && stepsOn 0 ss) && comparisonsOn columns m p cs) ≡ conditionOn columns m p c
-    unfolding conditionOn soundCondition
+    pub condition-short : ((leb p most-marks && stepsOn 0 ss) && comparisonsOn columns m p cs) ≡ soundConditionOn columns m p c
+    unfolding soundConditionOn soundCondition
     condition-short =
         ap₂ (λ (x y : Bool). (leb p most-marks && x) && y) steps-tell (comparisons-asked columns m p cs)
         ∙ told (leb p most-marks) (all (λ (s : ℕ). ltb s 3) ss) (isPostfix nodes) (operators cs)
@@ -165,7 +149,7 @@ module _ (columns m p : ℕ) (c : Condition) where
         ∙ ap (λ (b : Bool). (b && others) && (eqb p (m + conditionMarks c) && leb p most-marks)) (sym (le-leb (c .count) most-comparisons few))
 
     -- none of them
-    pub condition-none : c .count ≡ 0 → (leb p most-marks && eqb p m) ≡ conditionOn columns m p c
+    pub condition-none : c .count ≡ 0 → (leb p most-marks && eqb p m) ≡ soundConditionOn columns m p c
     condition-none e =
         ap (λ (b : Bool). b && eqb p m) (sym (and-true (leb p most-marks)))
         ∙ ap (λ (n : ℕ). (leb p most-marks && stepsOn 0 (take (2 * n - 1) (c .steps))) && comparisonsOn columns m p (take n (c .comparisons))) (sym e)

@@ -1,17 +1,22 @@
 -- Comparisons by the number of the next parameter alone: past all numbers where one does not fit. Assumes nothing.
 use mathlib.Core.Path.{_≡_, refl, sym, ap, _∙_}
+use mathlib.Core.Logic.{_≢_}
 use mathlib.Core.Bool.{Bool, true, false, cond, _&&_}
 use mathlib.Core.List.{List, [], _∷_}
-use Prim.Native.Nat.{ℕ, _+_, _*_, _≤_, _<_}
+use Prim.Native.Nat.{ℕ, suc, _+_, _*_, _-_, _/_, _%_, _≤_, _<_}
 use native.Mathlib.Omega.{arith}
-use borrow.Author.Tests.{leb-true, ltb-true, ltb-false, ne-eqb}
+use borrow.Author.Tests.{eqb-true, eqb-false, leb-true, ltb-true, ltb-false, lt-ltb, le-ltb, eq-eqb, ne-eqb}
 use lib.Dec.{eqb, leb, ltb}
 use lib.ListN.{length, getD}
 use Rattle.lists.proofs.Bools.{and-left, and-right, clash}
+use Rattle.meaning.specs.Statement as M
+use Rattle.meaning.specs.Resolve.{markInOperand, isNumbered, isBelow}
 use Rattle.statement.specs.Built.{markInSide}
+use Rattle.statement.specs.Compiled.{leftSide, rightSide}
 use Rattle.statement.specs.declared.Operand.{Operand}
-use Rattle.statement.specs.declared.Operand.the-variants.{Column, Constant, Parameter}
 use Rattle.statement.specs.declared.Comparison.{Comparison}
+use Rattle.statement.proofs.ByKind.{is-constant, is-column, is-mark}
+use Rattle.statement.proofs.Parts.{mark-few}
 use Rattle.statement.proofs.Walks.{rest, rest-cons, rest-none}
 use Rattle.soundness.specs.Parts.{sideFits, comparisonFits, comparisonMarks, comparisonsOn, afterSide, afterSides, afterComparison, afterAll}
 
@@ -27,29 +32,48 @@ module _ (columns : ℕ) where
   -- ---- sides
 
   side-up : (m : ℕ) (o : Operand) → m ≤ afterSide columns m o
-  side-up m (Column i) = cond-up (ltb i columns) m m (m + 64) (omega arith) (omega arith)
-  side-up m (Constant z) = omega arith
-  side-up m (Parameter k) = cond-up (eqb k m) m (m + 1) (m + 64) (omega arith) (omega arith)
+  side-up m o = cond-up (sideFits columns m o) m (m + markInSide o) (m + 64) (omega arith) (omega arith)
 
   pub side-top : (m : ℕ) (o : Operand) → afterSide columns m o ≤ m + 64
-  side-top m (Column i) = cond-top (ltb i columns) (m + 64) m (m + 64) (omega arith) (omega arith)
-  side-top m (Constant z) = omega arith
-  side-top m (Parameter k) = cond-top (eqb k m) (m + 64) (m + 1) (m + 64) (omega arith) (omega arith)
+  side-top m o = cond-top (sideFits columns m o) (m + 64) (m + markInSide o) (m + 64) (omega (arith, mark-few o)) (omega arith)
 
   side-yes : (m : ℕ) (o : Operand) → sideFits columns m o ≡ true → afterSide columns m o ≡ m + markInSide o
-  side-yes m (Column i) h = let e : m ≡ m + 0 = omega arith in ap (λ (b : Bool). cond b m (m + 64)) h ∙ e
-  side-yes m (Constant z) h = let e : m ≡ m + 0 = omega arith in e
-  side-yes m (Parameter k) h = ap (λ (b : Bool). cond b (m + 1) (m + 64)) h
+  side-yes m o h = ap (λ (b : Bool). cond b (m + markInSide o) (m + 64)) h
 
   side-no : (m : ℕ) (o : Operand) → sideFits columns m o ≡ false → afterSide columns m o ≡ m + 64
-  side-no m (Column i) h = ap (λ (b : Bool). cond b m (m + 64)) h
-  side-no m (Constant z) h = clash refl h
-  side-no m (Parameter k) h = ap (λ (b : Bool). cond b (m + 1) (m + 64)) h
+  side-no m o h = ap (λ (b : Bool). cond b (m + markInSide o) (m + 64)) h
+
+  -- by its kind
+  abbrev readAfter : ℕ → M.Operand → ℕ
+  readAfter m p = cond (isBelow columns p && isNumbered m p) (m + markInOperand p) (m + 64)
+
+  module _ (m : ℕ) (o : Operand) where
+    pub mark-next : o .code % 2 ≡ 1 → o .code ≡ 2 * m + 1 → m + 1 ≡ afterSide columns m o
+    mark-next h q =
+        let e : suc (o .code / 2) ≡ suc m = omega arith in
+        sym (ap (readAfter m) (is-mark o h) ∙ ap (λ (b : Bool). cond b (m + 1) (m + 64)) (eq-eqb (suc (o .code / 2)) (suc m) e))
+
+    pub mark-other : o .code % 2 ≡ 1 → o .code ≢ 2 * m + 1 → m + 64 ≡ afterSide columns m o
+    mark-other h q = sym (ap (readAfter m) (is-mark o h) ∙ ap (λ (b : Bool). cond b (m + 1) (m + 64)) (ne-eqb (suc (o .code / 2)) (suc m) (λ r. q (omega arith))))
+
+    pub column-in : o .code % 2 ≢ 1 → o .code ≤ 2 * columns → m ≡ afterSide columns m o
+    column-in h k = go (eqb (o .code) 0) refl
+      where
+        go : (b : Bool) → eqb (o .code) 0 ≡ b → m ≡ afterSide columns m o
+        go true e = let z : m ≡ m + 0 = omega arith in z ∙ sym (ap (readAfter m) (is-constant o (eqb-true (o .code) 0 e)))
+        go false e =
+            let z : m ≡ m + 0 = omega arith in
+            let n : o .code ≢ 0 = eqb-false (o .code) 0 e in
+            z ∙ sym (ap (readAfter m) (is-column o h n) ∙ ap (λ (b : Bool). cond (b && true) (m + 0) (m + 64)) (lt-ltb (o .code / 2 - 1) columns (omega arith)))
+
+    pub column-out : o .code % 2 ≢ 1 → 2 * columns < o .code → m + 64 ≡ afterSide columns m o
+    column-out h k =
+        sym (ap (readAfter m) (is-column o h (λ e. omega arith)) ∙ ap (λ (b : Bool). cond (b && true) (m + 0) (m + 64)) (le-ltb (o .code / 2 - 1) columns (omega arith)))
 
   -- ---- a comparison
 
   sides-up : (m : ℕ) (c : Comparison) → m ≤ afterSides columns m c
-  sides-up m c = omega (arith, side-up m (c .left), side-up (afterSide columns m (c .left)) (c .right))
+  sides-up m c = omega (arith, side-up m (leftSide c), side-up (afterSide columns m (leftSide c)) (rightSide c))
 
   comparison-up : (m : ℕ) (c : Comparison) → m ≤ afterComparison columns m c
   unfolding afterComparison
@@ -58,31 +82,31 @@ module _ (columns : ℕ) where
   pub comparison-top : (m : ℕ) (c : Comparison) → afterComparison columns m c ≤ m + 192
   unfolding afterComparison
   comparison-top m c =
-      let t : afterSides columns m c ≤ m + 128 = omega (arith, side-top m (c .left), side-top (afterSide columns m (c .left)) (c .right)) in
+      let t : afterSides columns m c ≤ m + 128 = omega (arith, side-top m (leftSide c), side-top (afterSide columns m (leftSide c)) (rightSide c)) in
       cond-top (ltb (c .op) 6) (m + 192) (afterSides columns m c) (afterSides columns m c + 64) (omega arith) (omega arith)
 
   comparison-yes : (m : ℕ) (c : Comparison) → comparisonFits columns m c ≡ true → afterComparison columns m c ≡ m + comparisonMarks c
   unfolding afterComparison
   comparison-yes m c h =
-      let l : Bool = sideFits columns m (c .left) in
+      let l : Bool = sideFits columns m (leftSide c) in
       let both : (ltb (c .op) 6 && l) ≡ true = and-left (ltb (c .op) 6 && l) _ h in
-      let e : afterSide columns m (c .left) ≡ m + markInSide (c .left) = side-yes m (c .left) (and-right (ltb (c .op) 6) l both) in
-      let f : afterSides columns m c ≡ (m + markInSide (c .left)) + markInSide (c .right) =
-      ap (λ (k : ℕ). afterSide columns k (c .right)) e ∙ side-yes (m + markInSide (c .left)) (c .right) (and-right (ltb (c .op) 6 && l) _ h) in
+      let e : afterSide columns m (leftSide c) ≡ m + markInSide (leftSide c) = side-yes m (leftSide c) (and-right (ltb (c .op) 6) l both) in
+      let f : afterSides columns m c ≡ (m + markInSide (leftSide c)) + markInSide (rightSide c) =
+      ap (λ (k : ℕ). afterSide columns k (rightSide c)) e ∙ side-yes (m + markInSide (leftSide c)) (rightSide c) (and-right (ltb (c .op) 6 && l) _ h) in
       let g : afterSides columns m c ≡ m + comparisonMarks c = omega arith in
       ap (λ (b : Bool). cond b (afterSides columns m c) (afterSides columns m c + 64)) (and-left (ltb (c .op) 6) l both) ∙ g
 
   comparison-no : (m : ℕ) (c : Comparison) → comparisonFits columns m c ≡ false → m + 64 ≤ afterComparison columns m c
   unfolding afterComparison
-  comparison-no m c h = go (ltb (c .op) 6) (sideFits columns m (c .left)) (sideFits columns (m + markInSide (c .left)) (c .right)) refl refl h
+  comparison-no m c h = go (ltb (c .op) 6) (sideFits columns m (leftSide c)) (sideFits columns (m + markInSide (leftSide c)) (rightSide c)) refl refl h
     where
-      go : (o l r : Bool) → sideFits columns m (c .left) ≡ l → sideFits columns (m + markInSide (c .left)) (c .right) ≡ r → ((o && l) && r) ≡ false
+      go : (o l r : Bool) → sideFits columns m (leftSide c) ≡ l → sideFits columns (m + markInSide (leftSide c)) (rightSide c) ≡ r → ((o && l) && r) ≡ false
           → m + 64 ≤ cond o (afterSides columns m c) (afterSides columns m c + 64)
       go false l r e f q = omega (arith, sides-up m c)
-      go true false r e f q = omega (arith, side-no m (c .left) e, side-up (afterSide columns m (c .left)) (c .right))
+      go true false r e f q = omega (arith, side-no m (leftSide c) e, side-up (afterSide columns m (leftSide c)) (rightSide c))
       go true true false e f q =
-          let t : afterSides columns m c ≡ (m + markInSide (c .left)) + 64 =
-          ap (λ (k : ℕ). afterSide columns k (c .right)) (side-yes m (c .left) e) ∙ side-no (m + markInSide (c .left)) (c .right) f in
+          let t : afterSides columns m c ≡ (m + markInSide (leftSide c)) + 64 =
+          ap (λ (k : ℕ). afterSide columns k (rightSide c)) (side-yes m (leftSide c) e) ∙ side-no (m + markInSide (leftSide c)) (rightSide c) f in
           omega arith
       go true true true e f q = clash refl q
 

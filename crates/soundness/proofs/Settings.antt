@@ -6,7 +6,7 @@ use Prim.Native.Nat.{ℕ, zero, suc, _+_, _≤_, _<_}
 use native.Mathlib.Numerals.{add-one}
 use native.Mathlib.Omega.{arith}
 use borrow.Author.Tests.{leb-true, eqb-true, ne-eqb}
-use lib.Dec.{eqb, leb, ltb, eqb·suc-suc}
+use lib.Dec.{eqb, leb, ltb}
 use lib.ListN.{length, getD, take, length-take}
 use lib.Seq.{length-take-le}
 use Rattle.lists.specs.Lists.{any, all, repeats, from}
@@ -16,29 +16,25 @@ use Rattle.meaning.specs.Statement as M
 use Rattle.meaning.specs.Statement.{value}
 use Rattle.meaning.specs.Resolve.{markInOperand, parameterCount, isNumbered, numberedOn}
 use Rattle.statement.specs.Built.{markInValue}
-use Rattle.statement.specs.Sound.{valueRead, settingRead, usedSettings, settingColumns, settingOperands, soundForm}
+use Rattle.statement.specs.Compiled.{newValue}
+use Rattle.statement.specs.Sound.{valueBy, valueRead, settingRead, usedSettings, settingColumns, settingOperands, soundForm, soundConditionOn, soundUpdateOn}
 use Rattle.statement.specs.declared.Value.{Value}
-use Rattle.statement.specs.declared.Value.the-variants as Given
 use Rattle.statement.specs.declared.Setting.{Setting}
 use Rattle.statement.specs.declared.Update.{Update}
+use Rattle.statement.proofs.Parts.{mark-value-few}
 use Rattle.statement.proofs.Walks.{rest, rest-cons, rest-none}
 use Rattle.soundness.specs.declared.statements.Numbered.{Numbered}
-use Rattle.soundness.specs.Parts.{ifSo, sameColumn, conditionOn, formFits, columnFits, valueFits, settingsFit, settingMarks, settingsOn, updateOn}
+use Rattle.soundness.specs.Parts.{ifSo, sameColumn, formFits, columnFits, valueFits, settingFits, settingsFit, settingMarks, settingsOn}
 use Rattle.soundness.proofs.Tests.{interchange, counted}
 
--- ---- values
+-- ---- a value, as the code tests it
 
-pub value-marks : (v : Value) → markInValue v ≤ 1
-value-marks (Given.Constant z) = omega arith
-value-marks (Given.Parameter k) = omega arith
-
-value-mark : (v : Value) → markInValue v ≡ markInOperand (value (valueRead v))
-value-mark (Given.Constant z) = refl
-value-mark (Given.Parameter k) = refl
-
-value-is : (m : ℕ) (v : Value) → valueFits m v ≡ isNumbered m (value (valueRead v))
-value-is m (Given.Constant z) = refl
-value-is m (Given.Parameter k) = sym (eqb·suc-suc k m)
+pub value-test : (v : Value) (m : ℕ) → (eqb (v .mark) 0 || eqb (v .mark) (m + 1)) ≡ valueFits m v
+value-test v m = go (v .mark)
+  where
+    go : (n : ℕ) → (eqb n 0 || eqb n (m + 1)) ≡ isNumbered m (value (valueBy n (v .number)))
+    go zero = refl
+    go (suc k) = ap₂ (λ (b : Bool) (j : ℕ). b || eqb (suc k) j) (ne-eqb (suc k) 0 (λ e. omega arith)) (add-one m)
 
 -- ---- the loop: the settings left tell, and have the marks left
 
@@ -53,15 +49,15 @@ module _ (form columns n : ℕ) (ss : List Setting) where
   settled-start = record { within = omega arith; bound = omega arith; left = refl; marks = omega arith }
 
   module _ (ok : Bool) (next i : ℕ) (P : Settled ok next i) where
-    pub settled-more : n ≤ length ss → (d : Setting) (a b : Bool) (k : ℕ) → i < n → a ≡ columnFits form columns i (getD ss i d .column) → b ≡ valueFits next (getD ss i d .value)
-        → k ≡ markInValue (getD ss i d .value) → Settled (ok && (a && b)) (next + k) (i + 1)
+    pub settled-more : n ≤ length ss → (d : Setting) (a b : Bool) (k : ℕ) → i < n → a ≡ columnFits form columns i (getD ss i d .column) → b ≡ valueFits next (newValue (getD ss i d))
+        → k ≡ markInValue (newValue (getD ss i d)) → Settled (ok && (a && b)) (next + k) (i + 1)
     settled-more l d a b k h e f g =
         let s : Setting = getD ss i d in
         let r : rest n i ss ≡ s ∷ rest n (i + 1) ss = rest-cons n i ss d l h in
-        let m : settingMarks (rest n i ss) ≡ markInValue (s .value) + settingMarks (rest n (i + 1) ss) = ap settingMarks r in
+        let m : settingMarks (rest n i ss) ≡ markInValue (newValue s) + settingMarks (rest n (i + 1) ss) = ap settingMarks r in
         record {
           within = omega arith;
-          bound = omega (arith, P .bound, value-marks (s .value));
+          bound = omega (arith, P .bound, mark-value-few (newValue s));
           left =
               sym (and-assoc ok (a && b) (settingsFit form columns (i + 1) (next + k) (rest n (i + 1) ss)))
               ∙ ap₂ (λ (t : Bool) (j : ℕ). ok && (t && settingsFit form columns (i + 1) (next + j) (rest n (i + 1) ss))) (ap₂ _&&_ e f) g
@@ -89,11 +85,11 @@ operandsRead ss = map value (map (λ (s : ℕ × M.Value). s .1) (map settingRea
 
 marks-are : (ss : List Setting) → settingMarks ss ≡ parameterCount (operandsRead ss)
 marks-are [] = refl
-marks-are (s ∷ ss) = ap₂ _+_ (value-mark (s .value)) (marks-are ss)
+marks-are (s ∷ ss) = ap (λ (n : ℕ). markInValue (newValue s) + n) (marks-are ss)
 
 marks-few : (ss : List Setting) → settingMarks ss ≤ length ss
 marks-few [] = omega arith
-marks-few (s ∷ ss) = omega (arith, value-marks (s .value), marks-few ss)
+marks-few (s ∷ ss) = omega (arith, mark-value-few (newValue s), marks-few ss)
 
 pub next-few : (n : ℕ) (ss : List Setting) → n ≤ 8 → settingMarks (take n ss) ≤ 8
 next-few n ss h = omega (arith, marks-few (take n ss), length-take n ss)
@@ -118,10 +114,9 @@ module _ (form columns : ℕ) where
   fit-is : (i m : ℕ) (ss : List Setting) → settingsFit form columns i m ss ≡ (columnsFit i ss && numberedOn m (operandsRead ss))
   fit-is i m [] = refl
   fit-is i m (s ∷ ss) =
-      ap₂ _&&_ (ap (λ (b : Bool). columnFits form columns i (s .column) && b) (value-is m (s .value)))
-      (ap (λ (k : ℕ). settingsFit form columns (i + 1) (m + k) ss) (value-mark (s .value)) ∙ fit-is (i + 1) (m + markInOperand (value (valueRead (s .value)))) ss)
-      ∙ interchange (columnFits form columns i (s .column)) (isNumbered m (value (valueRead (s .value))))
-      (columnsFit (i + 1) ss) (numberedOn (m + markInOperand (value (valueRead (s .value)))) (operandsRead ss))
+      ap (λ (b : Bool). settingFits form columns i m s && b) (fit-is (i + 1) (m + markInValue (newValue s)) ss)
+      ∙ interchange (columnFits form columns i (s .column)) (isNumbered m (value (valueRead (newValue s))))
+      (columnsFit (i + 1) ss) (numberedOn (m + markInOperand (value (valueRead (newValue s)))) (operandsRead ss))
 
 columns-insert : (columns i : ℕ) (ss : List Setting) → columnsFit 0 columns i ss ≡ eqList eqb (columnsRead ss) (from i (length ss))
 columns-insert columns i [] = refl
@@ -184,10 +179,9 @@ module _ (columns : ℕ) (u : Update) where
     settings-few (suc (suc (suc k))) h = clash h (form-none (suc (suc (suc k))) (omega arith))
 
     update-yes : formed (u .form) ≡ true
-        → ((settingsFit (u .form) columns 0 0 ss && distinct (u .form)) && conditionOn columns (settingMarks ss) (u .parameters) (u .condition)) ≡ updateOn columns u
-    unfolding updateOn conditionOn
+        → ((settingsFit (u .form) columns 0 0 ss && distinct (u .form)) && soundConditionOn columns (settingMarks ss) (u .parameters) (u .condition)) ≡ soundUpdateOn columns u
     update-yes h =
-        let c : ℕ → Bool = λ k. conditionOn columns k (u .parameters) (u .condition) in
+        let c : ℕ → Bool = λ k. soundConditionOn columns k (u .parameters) (u .condition) in
         let f : Bool = columnsFit (u .form) columns 0 ss in
         let n : Bool = numberedOn 0 (settingOperands u) in
         let d : Bool = distinct (u .form) in
@@ -198,16 +192,15 @@ module _ (columns : ℕ) (u : Update) where
 
     -- by what its parts tell
     pub update-told : formed (u .form) ≡ true → (r : Numbered) (k : ℕ) (d b : Bool) → r ≡ settingsOn (u .form) columns ss → k ≡ ifSo (eqb (u .form) 1) (u .count)
-        → d ≡ not (repeats sameColumn (take k (u .settings))) → b ≡ conditionOn columns (r .next) (u .parameters) (u .condition)
-        → ((r .ok && d) && b) ≡ updateOn columns u
+        → d ≡ not (repeats sameColumn (take k (u .settings))) → b ≡ soundConditionOn columns (r .next) (u .parameters) (u .condition)
+        → ((r .ok && d) && b) ≡ soundUpdateOn columns u
     update-told h r k d b e f g i =
         ap₂ (λ (x y : Bool). (x && y) && b) (ap (λ (n : Numbered). n .ok) e) (g ∙ ap (λ (n : ℕ). not (repeats sameColumn (take n (u .settings)))) f)
         ∙ ap (λ (x : Bool). (settingsFit (u .form) columns 0 0 ss && distinct (u .form)) && x)
-        (i ∙ ap (λ (n : Numbered). conditionOn columns (n .next) (u .parameters) (u .condition)) e)
+        (i ∙ ap (λ (n : Numbered). soundConditionOn columns (n .next) (u .parameters) (u .condition)) e)
         ∙ update-yes h
 
-  pub update-no : formed (u .form) ≡ false → false ≡ updateOn columns u
-  unfolding updateOn conditionOn
+  pub update-no : formed (u .form) ≡ false → false ≡ soundUpdateOn columns u
   update-no h =
-      ap (λ (t : Bool). t && (numberedOn 0 (settingOperands u) && conditionOn columns (parameterCount (settingOperands u)) (u .parameters) (u .condition)))
+      ap (λ (t : Bool). t && (numberedOn 0 (settingOperands u) && soundConditionOn columns (parameterCount (settingOperands u)) (u .parameters) (u .condition)))
       (sym (form-no (u .form) h))

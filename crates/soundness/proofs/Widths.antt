@@ -6,22 +6,21 @@ use Prim.Native.Nat.{ℕ, zero, suc, _+_, _-_, _≤_, _<_, min}
 use native.Mathlib.Nat.{le-of-suc-le-suc, not-suc-le-zero}
 use native.Mathlib.Omega.{arith}
 use borrow.Author.Tests.{ltb-true}
-use lib.Dec.{eqb, leb, ltb}
+use lib.Dec.{leb, ltb}
 use lib.ListN.{length, getD, take, set, replicate, length-map, length-take}
 use lib.Seq.{take-all}
 use Rattle.lists.specs.Lists.{All, nil, cons, all}
 use Rattle.lists.proofs.Lists.{All-getD}
 use Rattle.lists.proofs.Places.{All-set}
-use Rattle.meaning.specs.Limits.{most-marks}
 use Rattle.meaning.specs.Names.{Schema}
 use Rattle.statement.specs.Catalog.{schemaOf, schemasOf}
 use Rattle.statement.specs.Compiled.{padded}
-use Rattle.statement.specs.Sound.{soundCondition, conditionMarks, columnsAt, soundQuery, soundUpdate}
+use Rattle.statement.specs.Sound.{columnsAt, soundConditionOn, soundQueryOn, soundUpdateOn, soundQuery, soundUpdate}
 use Rattle.statement.specs.declared.Table.{Table}
 use Rattle.statement.specs.declared.Query.{Query}
 use Rattle.statement.specs.declared.Update.{Update}
 use Rattle.statement.proofs.Walks.{take-min, rest, length-first, map-rest, map-none, Fills, fills-start, fills-more, fills-end}
-use Rattle.soundness.specs.Parts.{widthOf, Widths, conditionOn, queryOn, updateOn}
+use Rattle.soundness.specs.Parts.{widthOf, Widths}
 use Rattle.soundness.proofs.Tests.{counted}
 
 -- ---- the loop: the widths left are to be written
@@ -76,10 +75,10 @@ beside false x y e = refl
 
 -- a statement as the loop tests it
 abbrev pub queryAt : ℕ → List ℕ → Query → Bool
-queryAt there widths q = ltb (q .table) there && queryOn (getD widths (q .table) 0) q
+queryAt there widths q = ltb (q .table) there && soundQueryOn (getD widths (q .table) 0) q
 
 abbrev pub updateAt : ℕ → List ℕ → Update → Bool
-updateAt there widths u = ltb (u .table) there && updateOn (getD widths (u .table) 0) u
+updateAt there widths u = ltb (u .table) there && soundUpdateOn (getD widths (u .table) 0) u
 
 pub width-small : (ts : List Table) (widths : List ℕ) → Widths ts widths → (w i : ℕ) → w ≡ getD widths i 0 → w ≤ 8
 width-small ts widths W w i h = let s : getD widths i 0 ≤ 8 = All-getD i 0 (omega arith) (W .1) in omega arith
@@ -99,16 +98,16 @@ module _ (tables : List Table) (used there : ℕ) (eight : length tables ≡ 8) 
   tables-many = length-map (take used tables) schemaOf ∙ length-take used tables ∙ ap (min used) eight ∙ sym e
 
   query-beside : (q : Query) → queryAt there widths q ≡ soundQuery (schemasOf tables used) q
-  unfolding soundQuery queryOn
+  unfolding soundQuery
   query-beside q =
-      beside (ltb (q .table) there) _ _ (λ h. ap (λ (w : ℕ). queryOn w q) (width-is (q .table) (ltb-true (q .table) there h)))
-      ∙ ap (λ (n : ℕ). ltb (q .table) n && queryOn (columnsAt (schemasOf tables used) (q .table)) q) (sym tables-many)
+      beside (ltb (q .table) there) _ _ (λ h. ap (λ (w : ℕ). soundQueryOn w q) (width-is (q .table) (ltb-true (q .table) there h)))
+      ∙ ap (λ (n : ℕ). ltb (q .table) n && soundQueryOn (columnsAt (schemasOf tables used) (q .table)) q) (sym tables-many)
 
   update-beside : (u : Update) → updateAt there widths u ≡ soundUpdate (schemasOf tables used) u
-  unfolding soundUpdate updateOn
+  unfolding soundUpdate
   update-beside u =
-      beside (ltb (u .table) there) _ _ (λ h. ap (λ (w : ℕ). updateOn w u) (width-is (u .table) (ltb-true (u .table) there h)))
-      ∙ ap (λ (n : ℕ). ltb (u .table) n && updateOn (columnsAt (schemasOf tables used) (u .table)) u) (sym tables-many)
+      beside (ltb (u .table) there) _ _ (λ h. ap (λ (w : ℕ). soundUpdateOn w u) (width-is (u .table) (ltb-true (u .table) there h)))
+      ∙ ap (λ (n : ℕ). ltb (u .table) n && soundUpdateOn (columnsAt (schemasOf tables used) (u .table)) u) (sym tables-many)
 
   pub queries-beside : (qs : List Query) → all (queryAt there widths) qs ≡ all (soundQuery (schemasOf tables used)) qs
   queries-beside qs = ap (λ (p : Query → Bool). all p qs) (λ i q. query-beside q i)
@@ -122,13 +121,8 @@ module _ (columns : ℕ) (q : Query) where
   abbrev below : Bool
   below = all (λ (i : ℕ). ltb i columns) (take (q .count) (q .selected))
 
-  pub query-no : (leb 1 (q .count) && leb (q .count) 8) ≡ false → false ≡ queryOn columns q
-  unfolding queryOn
+  pub query-no : (leb 1 (q .count) && leb (q .count) 8) ≡ false → false ≡ soundQueryOn columns q
   query-no h = counted (q .count) false _ h
 
-  pub query-yes : (leb 1 (q .count) && leb (q .count) 8) ≡ true → (below && conditionOn columns 0 (q .parameters) (q .condition)) ≡ queryOn columns q
-  unfolding queryOn conditionOn
-  query-yes h =
-      let e : 0 + conditionMarks (q .condition) ≡ conditionMarks (q .condition) = omega arith in
-      ap (λ (k : ℕ). below && (soundCondition columns 0 (q .condition) && (eqb (q .parameters) k && leb (q .parameters) most-marks))) e
-      ∙ counted (q .count) true _ h
+  pub query-yes : (leb 1 (q .count) && leb (q .count) 8) ≡ true → (below && soundConditionOn columns 0 (q .parameters) (q .condition)) ≡ soundQueryOn columns q
+  query-yes h = counted (q .count) true _ h

@@ -1,5 +1,5 @@
 -- The parts of the tests, as the code takes them: names as numbers, steps by the depth of the stack, comparisons and settings by the number of the next
--- parameter, statements by how many columns their table has. proofs/Tables, Comparisons, Widths and Settings show that they are the tests of crate `statement`.
+-- parameter, tables by how many columns they have. proofs/Tables, Comparisons, Widths and Settings show that they are the tests of crate `statement`.
 -- Assumes nothing: these are definitions.
 use mathlib.Core.Path.{_≡_}
 use mathlib.Core.Bool.{Bool, true, not, _&&_, cond}
@@ -9,24 +9,20 @@ use lib.Dec.{eqb, leb, ltb}
 use lib.ListN.{length, take}
 use Rattle.lists.specs.Lists.{All, all, repeats, from}
 use Rattle.meaning.specs.Tokens.{isDigit, isSmall, isNameByte}
-use Rattle.meaning.specs.Limits.{most-items, most-marks, most-rows}
+use Rattle.meaning.specs.Limits.{most-items, most-rows}
 use Rattle.meaning.specs.Names.{sameName}
-use Rattle.meaning.specs.Resolve.{parameterCount, numberedOn}
+use Rattle.meaning.specs.Resolve.{isNumbered, isBelow}
+use Rattle.meaning.specs.Statement.{value}
 use Rattle.statement.specs.Built.{markInValue, markInSide}
 use Rattle.statement.specs.Catalog.{nameOfStruct, schemaOf}
-use Rattle.statement.specs.Compiled.{padded}
-use Rattle.statement.specs.Sound.{usedColumns, soundName, soundCondition, conditionMarks, soundForm, settingOperands}
+use Rattle.statement.specs.Compiled.{padded, leftSide, rightSide, newValue}
+use Rattle.statement.specs.Sound.{valueRead, operandRead, usedColumns, soundName}
 use Rattle.statement.specs.declared.Name.{Name}
 use Rattle.statement.specs.declared.Table.{Table}
 use Rattle.statement.specs.declared.Operand.{Operand}
-use Rattle.statement.specs.declared.Operand.the-variants.{Column, Constant, Parameter}
 use Rattle.statement.specs.declared.Comparison.{Comparison}
-use Rattle.statement.specs.declared.Condition.{Condition}
-use Rattle.statement.specs.declared.Query.{Query}
 use Rattle.statement.specs.declared.Value.{Value}
-use Rattle.statement.specs.declared.Value.the-variants as Given
 use Rattle.statement.specs.declared.Setting.{Setting}
-use Rattle.statement.specs.declared.Update.{Update}
 use Rattle.soundness.specs.declared.statements.Numbered.{Numbered}
 
 -- ---- names as numbers
@@ -78,15 +74,13 @@ stepsOn k (s ∷ ss) = not (eqb (depthAfter k s) 0) && stepsOn (depthAfter k s) 
 -- ---- comparisons, where m parameters stand before
 
 abbrev pub sideFits : ℕ → ℕ → Operand → Bool
-sideFits columns m (Column i) = ltb i columns
-sideFits columns m (Constant z) = true
-sideFits columns m (Parameter k) = eqb k m
+sideFits columns m o = isBelow columns (operandRead o) && isNumbered m (operandRead o)
 
 abbrev pub comparisonFits : ℕ → ℕ → Comparison → Bool
-comparisonFits columns m c = (ltb (c .op) 6 && sideFits columns m (c .left)) && sideFits columns (m + markInSide (c .left)) (c .right)
+comparisonFits columns m c = (ltb (c .op) 6 && sideFits columns m (leftSide c)) && sideFits columns (m + markInSide (leftSide c)) (rightSide c)
 
 abbrev pub comparisonMarks : Comparison → ℕ
-comparisonMarks c = markInSide (c .left) + markInSide (c .right)
+comparisonMarks c = markInSide (leftSide c) + markInSide (rightSide c)
 
 -- each fits, and with their parameters there are p
 abbrev pub comparisonsOn : ℕ → ℕ → ℕ → List Comparison → Bool
@@ -95,12 +89,10 @@ comparisonsOn columns m p (c ∷ cs) = comparisonFits columns m c && comparisons
 
 -- the number of the next parameter, where m is the next before: 64 more, which is past all, where a part does not fit
 abbrev pub afterSide : ℕ → ℕ → Operand → ℕ
-afterSide columns m (Column i) = cond (ltb i columns) m (m + 64)
-afterSide columns m (Constant z) = m
-afterSide columns m (Parameter k) = cond (eqb k m) (m + 1) (m + 64)
+afterSide columns m o = cond (sideFits columns m o) (m + markInSide o) (m + 64)
 
 abbrev pub afterSides : ℕ → ℕ → Comparison → ℕ
-afterSides columns m c = afterSide columns (afterSide columns m (c .left)) (c .right)
+afterSides columns m c = afterSide columns (afterSide columns m (leftSide c)) (rightSide c)
 
 unfoldable pub afterComparison : ℕ → ℕ → Comparison → ℕ
 afterComparison columns m c = cond (ltb (c .op) 6) (afterSides columns m c) (afterSides columns m c + 64)
@@ -109,20 +101,7 @@ abbrev pub afterAll : ℕ → ℕ → List Comparison → ℕ
 afterAll columns m [] = m
 afterAll columns m (c ∷ cs) = afterAll columns (afterComparison columns m c) cs
 
--- a condition, and there are p parameters with its own
-unfoldable pub conditionOn : ℕ → ℕ → ℕ → Condition → Bool
-conditionOn columns m p c = soundCondition columns m c && (eqb p (m + conditionMarks c) && leb p most-marks)
-
--- ---- a question of a table of so many columns
-
-unfoldable pub queryOn : ℕ → Query → Bool
-queryOn columns q =
-    leb 1 (q .count)
-    && (leb (q .count) most-items
-    && (all (λ (i : ℕ). ltb i columns) (take (q .count) (q .selected))
-    && (soundCondition columns 0 (q .condition) && (eqb (q .parameters) (conditionMarks (q .condition)) && leb (q .parameters) most-marks))))
-
--- ---- an update of a table of so many columns
+-- ---- settings, where the table has so many columns
 
 abbrev pub ifSo : Bool → ℕ → ℕ
 ifSo b n = cond b n 0
@@ -140,27 +119,19 @@ abbrev pub columnFits : ℕ → ℕ → ℕ → ℕ → Bool
 columnFits form columns i c = cond (eqb form 0) (eqb c i) (ltb c columns)
 
 abbrev pub valueFits : ℕ → Value → Bool
-valueFits m (Given.Constant z) = true
-valueFits m (Given.Parameter k) = eqb k m
+valueFits m v = isNumbered m (value (valueRead v))
 
 abbrev pub settingFits : ℕ → ℕ → ℕ → ℕ → Setting → Bool
-settingFits form columns i m s = columnFits form columns i (s .column) && valueFits m (s .value)
+settingFits form columns i m s = columnFits form columns i (s .column) && valueFits m (newValue s)
 
 -- settings from the i-th on, where m parameters stand before
 abbrev pub settingsFit : ℕ → ℕ → ℕ → ℕ → List Setting → Bool
 settingsFit form columns i m [] = true
-settingsFit form columns i m (s ∷ ss) = settingFits form columns i m s && settingsFit form columns (i + 1) (m + markInValue (s .value)) ss
+settingsFit form columns i m (s ∷ ss) = settingFits form columns i m s && settingsFit form columns (i + 1) (m + markInValue (newValue s)) ss
 
 abbrev pub settingMarks : List Setting → ℕ
 settingMarks [] = 0
-settingMarks (s ∷ ss) = markInValue (s .value) + settingMarks ss
+settingMarks (s ∷ ss) = markInValue (newValue s) + settingMarks ss
 
 abbrev pub settingsOn : ℕ → ℕ → List Setting → Numbered
 settingsOn form columns ss = record { ok = settingsFit form columns 0 0 ss; next = settingMarks ss }
-
-unfoldable pub updateOn : ℕ → Update → Bool
-updateOn columns u =
-    soundForm (u .form) columns u
-    && (numberedOn 0 (settingOperands u)
-    && (soundCondition columns (parameterCount (settingOperands u)) (u .condition)
-    && (eqb (u .parameters) (parameterCount (settingOperands u) + conditionMarks (u .condition)) && leb (u .parameters) most-marks)))

@@ -3,17 +3,13 @@ use table::Comparison;
 use table::Condition;
 use table::Operand;
 use table::Statement;
+use table::Step;
 ghost use mathlib.Core.Path.{_≡_};
 ghost use mathlib.Core.Bool.{cond};
 ghost use Prim.Native.Nat.{_-_, _*_, _≤_, _<_};
 ghost use lib.ListN.{take, drop};
-ghost use Rattle.soundness.specs.Parts.{depthAfter, stepsOn, afterSide, afterComparison, afterAll, conditionOn};
-
-// How many operators there are: = <> < <= > >=
-const OPERATORS: u8 = 6;
-
-// How many kinds of steps: the next comparison, AND, OR
-const KINDS: u8 = 3;
+ghost use Rattle.statement.specs.Sound.{soundConditionOn};
+ghost use Rattle.soundness.specs.Parts.{depthAfter, stepsOn, afterSide, afterComparison, afterAll};
 
 // ---- steps
 
@@ -22,10 +18,10 @@ fn stepped(depth: u8, step: u8) -> u8
     requires { ⌜ depth < 255 ⌝ }
     ensures { λ r. ⌜ r ≡ depthAfter depth step ⌝ }
 {
-    if step == 0 {
+    if step == Step::COMPARISON {
         return depth + 1;
     }
-    if (step < KINDS) & (2 <= depth) {
+    if (step < Step::KINDS) & (2 <= depth) {
         depth - 1
     } else {
         0
@@ -60,10 +56,17 @@ fn after_side(o: Operand, columns: u8, m: u32) -> u32
     requires { ⌜ m ≤ 8192 ⌝ }
     ensures { λ r. ⌜ r ≡ afterSide columns m o ⌝ }
 {
-    match o {
-        Operand::Column(i) => { if i < columns { m } else { m + MISFIT } }
-        Operand::Constant(_) => m,
-        Operand::Parameter(k) => { if (k as u32) == m { m + 1 } else { m + MISFIT } }
+    if o.code % 2 == 1 {
+        return if (o.code as u32) == 2 * m + 1 {
+            m + 1
+        } else {
+            m + MISFIT
+        };
+    }
+    if (o.code as u32) <= 2 * (columns as u32) {
+        m
+    } else {
+        m + MISFIT
     }
 }
 
@@ -72,11 +75,11 @@ fn after_comparison(c: Comparison, columns: u8, m: u32) -> u32
     requires { ⌜ m ≤ 4096 ⌝ }
     ensures { λ r. ⌜ r ≡ afterComparison columns m c ⌝ }
 {
-    let a = c.left;
-    let b = c.right;
+    let a = c.left_side();
+    let b = c.right_side();
     let left = after_side(a, columns, m);
     let right = after_side(b, columns, left);
-    if c.op < OPERATORS {
+    if c.op < Comparison::OPERATORS {
         right
     } else {
         right + MISFIT
@@ -140,7 +143,7 @@ fn after_comparisons(
 // Whether a condition is sound, where m parameters stand before it and there are so many in all.
 pub fn is_sound(c: Condition, columns: u8, m: u8, parameters: u8) -> bool
     requires { ⌜ m ≤ 8 ⌝ }
-    ensures { λ r. ⌜ r ≡ conditionOn columns m parameters c ⌝ }
+    ensures { λ r. ⌜ r ≡ soundConditionOn columns m parameters c ⌝ }
 {
     let n = c.count as usize;
     if Condition::COMPARISONS < n {

@@ -12,7 +12,8 @@ ghost use lib.Dec.{ltb};
 ghost use lib.ListN.{getD, take};
 ghost use Rattle.lists.specs.Lists.{all, repeats};
 ghost use Rattle.statement.specs.Built.{markInValue};
-ghost use Rattle.soundness.specs.Parts.{widthOf, Widths, ifSo, sameColumn, queryOn, formFits, columnFits, valueFits, settingsOn, updateOn};
+ghost use Rattle.statement.specs.Sound.{soundQueryOn, soundUpdateOn};
+ghost use Rattle.soundness.specs.Parts.{widthOf, Widths, ifSo, sameColumn, formFits, columnFits, valueFits, settingsOn};
 
 // ---- how many columns the tables have
 
@@ -67,7 +68,7 @@ fn are_below(selected: [u8; Query::SELECTED], n: usize, columns: u8) -> bool
 
 // Whether a question is sound, where its table has so many columns.
 pub fn query_is_sound(q: Query, columns: u8) -> bool
-    ensures { λ r. ⌜ r ≡ queryOn columns q ⌝ }
+    ensures { λ r. ⌜ r ≡ soundQueryOn columns q ⌝ }
 {
     let n = q.count as usize;
     if (1 <= n) & (n <= Query::SELECTED) {
@@ -115,20 +116,14 @@ fn column_fits(form: u8, columns: u8, i: usize, column: u8) -> bool
 fn value_fits(v: Value, m: u8) -> bool
     ensures { λ r. ⌜ r ≡ valueFits m v ⌝ }
 {
-    match v {
-        Value::Constant(_) => true,
-        Value::Parameter(k) => k == m,
-    }
+    (v.mark == 0) | ((v.mark as u16) == (m as u16) + 1)
 }
 
 // How many parameters a value has.
 fn marks_in(v: Value) -> u8
     ensures { λ r. ⌜ (r ≡ markInValue v) × (r ≤ 1) ⌝ }
 {
-    match v {
-        Value::Constant(_) => 0,
-        Value::Parameter(_) => 1,
-    }
+    if v.mark == 0 { 0 } else { 1 }
 }
 
 // Whether settings are sound, and the number of the next parameter.
@@ -152,7 +147,7 @@ fn settings_are_sound(
     let mut i = 0;
     while i < n {
         let s = settings[i];
-        let value = s.value;
+        let value = s.new_value();
         ok = ok & (column_fits(form, columns, i, s.column) & value_fits(value, next));
         next += marks_in(value);
         i += 1;
@@ -184,7 +179,7 @@ fn are_distinct(settings: [Setting; Update::SETTINGS], n: usize) -> bool
 // Whether an update is sound, where its table has so many columns.
 pub fn update_is_sound(u: Update, columns: u8) -> bool
     requires { ⌜ columns ≤ 8 ⌝ }
-    ensures { λ r. ⌜ r ≡ updateOn columns u ⌝ }
+    ensures { λ r. ⌜ r ≡ soundUpdateOn columns u ⌝ }
 {
     let condition = u.condition;
     if form_fits(u.form, u.count, columns, condition.count) {

@@ -16,14 +16,15 @@ use Rattle.meaning.specs.Names.{Schema, noSchema, sameName, has, position, tabl
 use Rattle.meaning.specs.Cells.{areasSize}
 use Rattle.statement.specs.declared.Name.{Name}
 use Rattle.statement.specs.declared.Table.{Table}
+use Rattle.statement.specs.declared.names.Scope.{Scope}
 use Rattle.statement.specs.declared.Condition.{Condition}
 use Rattle.statement.specs.declared.Setting.{Setting}
 use Rattle.statement.specs.declared.Statement.{Statement}
 use Rattle.statement.specs.declared.sentences.Entry.{Entry}
-use Rattle.statement.specs.declared.build.Settings.{Settings}
+use Rattle.statement.specs.declared.assembling.Settings.{Settings}
 use Rattle.statement.specs.Places.{nameOn, givenOn, nodesOn}
 use Rattle.statement.specs.Sentences.{namesOn, givensOn}
-use Rattle.statement.specs.Catalog.{nameOfStruct, namesOf, schemaOf, schemasOf}
+use Rattle.statement.specs.Catalog.{nameOfStruct, namesOf, scopeNames, scopeOf, schemaOf, schemasOf}
 use Rattle.statement.specs.Compiled.{padded, nameStruct, noName, noSetting, conditionStruct, created, asked, changing, refusedBy, settled}
 use Rattle.statement.specs.Built.{lowestBy, placesOf, shortName, rowsOn, settingsOn, conditionBelow, placesBelow, Fits, listedOn, conditionOn, unknownOn, tableOn, selectOn, insertOn, setsOn, updateOn, deleteOn, formOn, numberOn, besideOn}
 use Rattle.statement.proofs.Left.{length-items}
@@ -213,11 +214,11 @@ module _ (s ls ps : List ℕ) (e : Entry) (tables : List Table) (used queries up
       let k : length (schemasOf tables used) ≤ numberOn s e (schemasOf tables used) = omega (arith, number-is) in
       rw (le-ltb (numberOn s e (schemasOf tables used)) (length (schemasOf tables used)) k) q
 
-  pub beside-some : (r : Statement) (d : Table) → i < n → r ≡ formOn s ls ps e (namesOf (getD tables i d .columns) (getD tables i d .count)) i queries updates
+  pub beside-some : (r : Statement) (d : Table) (scope : Scope) → i < n → scope ≡ scopeOf (getD tables i d) → r ≡ formOn s ls ps e (scopeNames scope) i queries updates
       → r ≡ besideOn s ls ps e (schemasOf tables used) queries updates
-  beside-some r d h q =
+  beside-some r d scope h f q =
       let j : ℕ = numberOn s e (schemasOf tables used) in
       let k : j < length (schemasOf tables used) = omega (arith, number-is) in
-      let c : namesOf (getD tables i d .columns) (getD tables i d .count) ≡ getD (schemasOf tables used) j noSchema .columns =
-      ap (λ (m : ℕ). namesOf (getD tables m d .columns) (getD tables m d .count)) number-is ∙ ap (λ (t : Schema). t .columns) (sym (schema-at tables used j d k)) in
+      let c : scopeNames scope ≡ getD (schemasOf tables used) j noSchema .columns =
+      ap scopeNames f ∙ ap (λ (m : ℕ). scopeNames (scopeOf (getD tables m d))) number-is ∙ ap (λ (t : Schema). t .columns) (sym (schema-at tables used j d k)) in
       rw (lt-ltb j (length (schemasOf tables used)) k) (q ∙ ap₂ (λ (x : List (List ℕ)) (m : ℕ). formOn s ls ps e x m queries updates) c number-is)

@@ -19,10 +19,12 @@ use Rattle.meaning.specs.Limits.{most-depth, markCount, termGivens}
 use Rattle.meaning.proofs.Readers.{aToken-some, aToken-none, then-some, then-none}
 use Rattle.token.specs.declared.Token.{Token}
 use Rattle.token.specs.Tokens.{kindOf, operatorNumber, tokenAt}
-use Rattle.statement.specs.Places.{termOn, nodeOn, nodesOn, operatorAt}
-use Rattle.statement.specs.Reading.{tokenPast, past, isOperand, isComparison, marksAt, oppositeOf, termPast, withSides, withNode, PutsNode, Stands, Found, Meets}
+use Rattle.statement.specs.Operators.{operatorAt, oppositeOf}
+use Rattle.statement.specs.Places.{termOn, nodeOn, nodesOn}
+use Rattle.statement.specs.Reading.{tokenPast, past, isOperand, isComparison, marksAt, termPast, withSides, withNode, PutsNode, Stands, Found, Meets}
 use Rattle.statement.specs.declared.conditions.Cursor.{Cursor}
-use Rattle.statement.proofs.Operands.{append-marks, termOf, term-reader, term-none, IsTerm, is-term, operator-back, operator-few, opposite-is, opposite-few, no-operator, is-operator}
+use Rattle.statement.proofs.OperatorLaws.{operator-back, operator-few, opposite-is, opposite-few}
+use Rattle.statement.proofs.Operands.{append-marks, termOf, term-reader, term-none, IsTerm, is-term, no-operator, is-operator}
 use Rattle.statement.proofs.Steps.{Look, ended, seen, look, stands-there, name-length}
 
 -- ---- an operand

@@ -3,7 +3,7 @@ use mathlib.Core.Path.{_≡_, refl, sym, ap, ap₂, _∙_}
 use mathlib.Core.Bool.{Bool, true, false, not, _||_, cond}
 use mathlib.Core.Option.{Option, none, some}
 use mathlib.Core.List.{List, [], _∷_, _++_, map}
-use Prim.Native.Nat.{ℕ, suc, _-_, _*_, _≤_, _<_}
+use Prim.Native.Nat.{ℕ, suc, _+_, _-_, _*_, _/_, _≤_, _<_}
 use native.Mathlib.Omega.{arith}
 use borrow.Author.Tests.{lt-ltb, le-ltb, ltb-false}
 use lib.Dec.{eqb, ltb, leb}
@@ -11,7 +11,7 @@ use lib.IntN.{ℤ, natAbs}
 use lib.ListN.{length, take, drop, length-map, length-replicate}
 use Rattle.lists.specs.Lists.{any, repeats, from}
 use Rattle.lists.proofs.Bools.{or-left, or-right, clash}
-use Rattle.meaning.specs.Condition.{Where, operandsIn}
+use Rattle.meaning.specs.Condition.{Where, comparisonsIn, operandsIn}
 use Rattle.meaning.specs.Postfix.{Node, nodesIn, leaves}
 use Rattle.meaning.specs.Tokens as T
 use Rattle.meaning.specs.Tokens.{Name}
@@ -29,10 +29,11 @@ use Rattle.statement.specs.declared.Table.{Table}
 use Rattle.statement.specs.declared.Statement.{Statement}
 use Rattle.statement.specs.declared.sentences.Entry.{Entry}
 use Rattle.statement.specs.Places.{nameOn, nodesOn}
-use Rattle.statement.specs.Sentences.{givensOn, Entered, Noted}
+use Rattle.statement.specs.Sentences.{givensOn, overOn, Entered, Noted}
+use Rattle.statement.proofs.SentenceLimits.{nodes-compared}
 use Rattle.statement.specs.Catalog.{schemasOf, rowless, catalog}
 use Rattle.statement.specs.Compiled.{padded, tableStruct, noSetting, conditionStruct, settingStruct, placedFrom, created, asked, changing, refusedBy, structOf, structOfText, settled, compiledOf}
-use Rattle.statement.specs.Built.{lowestBy, placesOf, shortName, shortNames, shortGiven, shortNodes, rowsIn, rowsOn, settingsFrom, Fits, listedOn, conditionOn, unknownOn, tableOn, selectOn, insertOn, setsOn, updateOn, deleteOn, overOn, formOn, besideOn}
+use Rattle.statement.specs.Built.{lowestBy, placesOf, shortName, shortNames, shortGiven, shortNodes, rowsIn, rowsOn, settingsFrom, Fits, listedOn, conditionOn, unknownOn, tableOn, selectOn, insertOn, setsOn, updateOn, deleteOn, formOn, besideOn}
 use Rattle.statement.proofs.Found.{has-ltb}
 use Rattle.statement.proofs.Assembled.{form-select, form-insert, form-update, form-delete}
 use Rattle.statement.proofs.Limited.{inside-rows, short-table, short-listed, short-tested, within-listed, within-tested, whole-name, whole-names, whole-givens, whole-nodes, whole-rows}
@@ -61,11 +62,14 @@ module _ (s ls ps : List ℕ) (e : Entry) (x : Sentence) (E : Entered s ls ps e 
     listed-few : e .listed ≤ 8
     listed-few = ltb-false 8 (e .listed) (or-left (ltb 8 (e .listed)) _ (or-right (e .c .over) _ h))
 
-    marked : (ltb 8 (e .c .marks) || ltb 15 (e .c .nodes)) ≡ false
+    marked : (ltb 8 (e .c .marks) || ltb 8 ((e .c .nodes + 1) / 2)) ≡ false
     marked = or-right (ltb 8 (e .listed)) _ (or-right (e .c .over) _ h)
 
     nodes-few : e .c .nodes ≤ 15
-    nodes-few = ltb-false 15 (e .c .nodes) (or-right (ltb 8 (e .c .marks)) _ marked)
+    nodes-few =
+        let k : (e .c .nodes + 1) / 2 ≤ 8 = ltb-false 8 ((e .c .nodes + 1) / 2) (or-right (ltb 8 (e .c .marks)) _ marked) in
+        let l : length (comparisonsIn (whereOf x)) ≤ 8 = omega (arith, E .nodes-are, nodes-compared (whereOf x)) in
+        omega (arith, E .nodes-are, few-nodes (whereOf x) .1 l)
 
     pub fits-read : Fits s ps e
     fits-read = record {

@@ -18,6 +18,8 @@ use Rattle.meaning.specs.Limits.{markIn, termColumns}
 use Rattle.meaning.specs.Names.{has, position}
 use Rattle.meaning.specs.Statement.{numbered, numberedAll, settings, operandOf, comparisonOf, markInTerm}
 use Rattle.meaning.specs.Resolve.{marksPast, resolveNodes}
+use Rattle.meaning.specs.Resolve.{isBelow}
+use Rattle.statement.proofs.ByKind.{column-read, parameter-read}
 use Rattle.statement.specs.declared.Setting.{Setting}
 use Rattle.statement.specs.declared.Comparison.{Comparison}
 use Rattle.statement.specs.Compiled.{operandStruct, comparisonStruct, noComparison, conditionStruct, settingStruct, placedFrom}
@@ -36,9 +38,9 @@ module _ (columns : List Name) where
   places-known (n ∷ ns) = ap₂ _&&_ (has-ltb columns n ∙ sym (not-not (has columns n))) (places-known ns) ∙ not-or (not (has columns n)) (lacks columns ns)
 
   side-known : (m : ℕ) (t : Term) → operandBelow (length columns) (operandStruct (operandOf columns m t)) ≡ not (lacks columns (termColumns (t ∷ [])))
-  side-known m (G.column n) = has-ltb columns n ∙ sym (not-not (has columns n)) ∙ ap not (sym (or-false (not (has columns n))))
+  side-known m (G.column n) = ap (isBelow (length columns)) (column-read (position columns n)) ∙ has-ltb columns n ∙ sym (not-not (has columns n)) ∙ ap not (sym (or-false (not (has columns n))))
   side-known m (G.given (G.constant z)) = refl
-  side-known m (G.given G.mark) = refl
+  side-known m (G.given G.mark) = ap (isBelow (length columns)) (parameter-read m)
 
   sides-known : (m : ℕ) (c : C.Comparison Term) (ts : List Term)
       → (sidesBelow (length columns) (comparisonStruct (comparisonOf columns m c)) && not (lacks columns (termColumns ts))) ≡ not (lacks columns (termColumns (c .left ∷ c .right ∷ ts)))

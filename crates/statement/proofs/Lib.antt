@@ -1,3 +1,4 @@
+pub mod OperatorLaws
 pub mod Nodes
 pub mod Operands
 pub mod Steps
@@ -27,6 +28,7 @@ pub mod Sets
 pub mod Resolving
 pub mod Assembled
 pub mod Limited
+pub mod ByKind
 pub mod Known
 pub mod Compiles
 pub mod Named

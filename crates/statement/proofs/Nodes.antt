@@ -9,8 +9,9 @@ use lib.Dec.{ltb}
 use lib.ListN.{length, set, drop}
 use Rattle.meaning.specs.Limits.{most-depth}
 use Rattle.token.specs.declared.Token.{Token}
+use Rattle.statement.specs.Operators.{oppositeOf}
 use Rattle.statement.specs.Places.{nodeOn, nodesOn}
-use Rattle.statement.specs.Reading.{past, marksAt, oppositeOf, withSides, PutsNode}
+use Rattle.statement.specs.Reading.{past, marksAt, withSides, PutsNode}
 use Rattle.statement.specs.declared.conditions.Cursor.{Cursor}
 
 -- three times a number, which antt computes

@@ -1,24 +1,24 @@
 -- Operands and operators, by the kind of their tokens. Assumes nothing.
-use mathlib.Core.Path.{_≡_, refl, sym, ap, subst, _∙_}
+use mathlib.Core.Path.{_≡_, refl, ap, _∙_}
 use mathlib.Core.Bool.{Bool, true, false, not, cond, _&&_, _||_}
 use mathlib.Core.Option.{Option, none, some}
 use mathlib.Core.List.{List, [], _∷_, _++_}
-use Prim.Native.Nat.{ℕ, zero, suc, _+_, _-_, _≤_, _<_}
+use Prim.Native.Nat.{ℕ, _+_, _-_, _≤_, _<_}
 use native.Mathlib.Omega.{arith}
 use lib.ListN.{length}
-use lib.Dec.{leb, eqb, ltb}
-use borrow.Author.Tests.{leb-true, lt-leb, le-leb, le-ltb}
+use lib.Dec.{leb, ltb}
+use borrow.Author.Tests.{leb-true, lt-leb, le-leb}
 use Rattle.lists.proofs.Bools.{and-left, and-right, and-both, clash}
-use Rattle.meaning.specs.Operator.{Operator, eq, ne, lt, le, gt, ge, opposite}
-use Rattle.meaning.specs.Condition.{Comparison, comparisons, sides}
+use Rattle.meaning.specs.Operator.{Operator}
+use Rattle.meaning.specs.Condition.{Comparison, sides}
 use Rattle.meaning.specs.Tokens as T
 use Rattle.meaning.specs.Tokens.{Token, keyword, name, operator, comma, lparen, rparen, other}
-use Rattle.meaning.specs.Grammar.{Given, constant, mark, Term, column, given, aToken, aTerm, nameOf, operatorOf}
-use Rattle.meaning.specs.Limits.{isWithin32, markIn, markCount, termGivens}
-use Rattle.meaning.proofs.Readers.{aToken-some, aToken-none}
-use Rattle.token.specs.Tokens.{kindOf, operatorNumber, keywordNumber}
-use Rattle.statement.specs.Places.{tokenOn, termOn, operatorAt}
-use Rattle.statement.specs.Reading.{tokenPast, isOperand, isComparison, marksAt, oppositeOf, termPast}
+use Rattle.meaning.specs.Grammar.{constant, mark, Term, column, given, aToken, aTerm, operatorOf}
+use Rattle.meaning.specs.Limits.{isWithin32, markCount, termGivens}
+use Rattle.token.specs.Tokens.{kindOf, operatorNumber}
+use Rattle.statement.specs.Places.{tokenOn, termOn}
+use Rattle.statement.specs.Reading.{tokenPast, isOperand, isComparison, marksAt, termPast}
+use Rattle.statement.proofs.OperatorLaws.{operator-few}
 
 -- ---- question marks
 
@@ -110,43 +110,6 @@ is-term rparen start next l e = clash e refl
 is-term other start next l e = clash e refl
 
 -- ---- operators
-
-pub operator-back : (o : Operator) → operatorAt (operatorNumber o) ≡ o
-operator-back eq = refl
-operator-back ne = refl
-operator-back lt = refl
-operator-back le = refl
-operator-back gt = refl
-operator-back ge = refl
-
-pub operator-few : (o : Operator) → operatorNumber o < 6
-operator-few eq = omega arith
-operator-few ne = omega arith
-operator-few lt = omega arith
-operator-few le = omega arith
-operator-few gt = omega arith
-operator-few ge = omega arith
-
--- the array of opposites agrees with the table of rule 4
-pub opposite-is : (k : ℕ) → k < 6 → operatorAt (oppositeOf k) ≡ opposite (operatorAt k)
-unfolding oppositeOf
-opposite-is zero h = refl
-opposite-is (suc zero) h = refl
-opposite-is (suc (suc zero)) h = refl
-opposite-is (suc (suc (suc zero))) h = refl
-opposite-is (suc (suc (suc (suc zero)))) h = refl
-opposite-is (suc (suc (suc (suc (suc zero))))) h = refl
-opposite-is (suc (suc (suc (suc (suc (suc k)))))) h = absurd (omega arith)
-
-pub opposite-few : (k : ℕ) → k < 6 → oppositeOf k < 6
-unfolding oppositeOf
-opposite-few zero h = omega arith
-opposite-few (suc zero) h = omega arith
-opposite-few (suc (suc zero)) h = omega arith
-opposite-few (suc (suc (suc zero))) h = omega arith
-opposite-few (suc (suc (suc (suc zero)))) h = omega arith
-opposite-few (suc (suc (suc (suc (suc zero))))) h = omega arith
-opposite-few (suc (suc (suc (suc (suc (suc k)))))) h = absurd (omega arith)
 
 pub no-operator : (t : Token) → isComparison (kindOf t) ≡ false → operatorOf t ≡ none
 no-operator (keyword k) e = refl

@@ -2,7 +2,7 @@
 use mathlib.Core.Path.{_≡_, refl, sym, ap, _∙_}
 use mathlib.Core.Bool.{true, false}
 use mathlib.Core.List.{List}
-use Prim.Native.Nat.{ℕ, zero, suc, _+_, _≤_, _<_}
+use Prim.Native.Nat.{ℕ, _+_, _≤_, _<_}
 use native.Mathlib.Omega.{arith}
 use borrow.Author.Tests.{ltb-false}
 use lib.Dec.{T}
@@ -14,16 +14,18 @@ use Rattle.lists.proofs.Bools.{clash}
 use Rattle.meaning.specs.Grammar as G
 use Rattle.meaning.specs.Grammar.{Given, Term}
 use Rattle.meaning.specs.Limits.{markIn}
-use Rattle.meaning.specs.Statement as S
+use Rattle.meaning.specs.Names.{position}
+use Rattle.meaning.specs.Statement as M
 use Rattle.meaning.specs.Condition.{renamed}
-use Rattle.meaning.specs.Statement.{numbered, markInTerm, operandOf, comparisonOf}
-use Rattle.token.specs.Tokens.{operatorNumber}
+use Rattle.meaning.specs.Statement.{column, value, constant, parameter, numbered, markInTerm, operandOf, comparisonOf}
+use Rattle.meaning.specs.Resolve.{markInOperand}
 use Rattle.statement.specs.declared.Operand.{Operand}
-use Rattle.statement.specs.declared.Operand.the-variants.{Column, Constant, Parameter}
 use Rattle.statement.specs.declared.Value.{Value}
-use Rattle.statement.specs.declared.Value.the-variants.{Constant as ConstantValue, Parameter as ParameterValue}
-use Rattle.statement.specs.Places.{termOn, operatorAt}
-use Rattle.statement.specs.Compiled.{valueStruct, operandStruct, comparisonStruct}
+use Rattle.statement.specs.Sound.{valueRead, operandRead}
+use Rattle.statement.proofs.OperatorLaws.{operator-number}
+use Rattle.statement.proofs.ByKind.{column-read, parameter-read}
+use Rattle.statement.specs.Places.{termOn}
+use Rattle.statement.specs.Compiled.{valueStruct, operandStruct, comparisonWith, comparisonStruct}
 use Rattle.statement.specs.Built.{rowsIn, shortGiven, shortTerm, markInValue, markInSide, comparisonOn}
 
 -- ---- rows
@@ -47,14 +49,16 @@ rows-fit (negsuc n) h k = clash refl h
 
 -- ---- marks
 
+mark-read : (o : M.Operand) → markInOperand o ≤ 1
+mark-read (column i) = omega arith
+mark-read (value (constant z)) = omega arith
+mark-read (value (parameter k)) = omega arith
+
 pub mark-few : (o : Operand) → markInSide o ≤ 1
-mark-few (Column i) = omega arith
-mark-few (Constant z) = omega arith
-mark-few (Parameter k) = omega arith
+mark-few o = mark-read (operandRead o)
 
 pub mark-value-few : (v : Value) → markInValue v ≤ 1
-mark-value-few (ConstantValue z) = omega arith
-mark-value-few (ParameterValue k) = omega arith
+mark-value-few v = mark-read (value (valueRead v))
 
 pub mark-one : (v : Given) → markIn v ≤ 1
 mark-one (G.constant z) = omega arith
@@ -65,9 +69,9 @@ mark-given m (G.constant z) = refl
 mark-given m G.mark = refl
 
 pub mark-side : (columns : List (List ℕ)) (m : ℕ) (t : Term) → markInSide (operandStruct (operandOf columns m t)) ≡ markInTerm t
-mark-side columns m (G.column n) = refl
+mark-side columns m (G.column n) = ap markInOperand (column-read (position columns n))
 mark-side columns m (G.given (G.constant z)) = refl
-mark-side columns m (G.given G.mark) = refl
+mark-side columns m (G.given G.mark) = ap markInOperand (parameter-read m)
 
 pub short-mark : (v : Given) → markIn (shortGiven v) ≡ markIn v
 short-mark (G.constant z) = refl
@@ -77,24 +81,15 @@ pub short-mark-term : (t : Term) → markInTerm (shortTerm t) ≡ markInTerm t
 short-mark-term (G.column n) = refl
 short-mark-term (G.given v) = short-mark v
 
--- ---- operators
-
-pub operator-number : (k : ℕ) → k < 6 → operatorNumber (operatorAt k) ≡ k
-operator-number zero h = refl
-operator-number (suc zero) h = refl
-operator-number (suc (suc zero)) h = refl
-operator-number (suc (suc (suc zero))) h = refl
-operator-number (suc (suc (suc (suc zero)))) h = refl
-operator-number (suc (suc (suc (suc (suc zero))))) h = refl
-operator-number (suc (suc (suc (suc (suc (suc k)))))) h = absurd (omega arith)
+-- ---- comparisons
 
 -- a comparison of sides made one after the other
 pub comparison-made : (s : List ℕ) (columns : List (List ℕ)) (op left right m n : ℕ) (a b : Operand) → op < 6
     → a ≡ operandStruct (operandOf columns m (shortTerm (termOn s left))) → n ≡ m + markInSide a
     → b ≡ operandStruct (operandOf columns n (shortTerm (termOn s right)))
-    → record { left = a; op = op; right = b } ≡ comparisonStruct (comparisonOf columns m (renamed shortTerm (comparisonOn s op left right)))
+    → comparisonWith a op b ≡ comparisonStruct (comparisonOf columns m (renamed shortTerm (comparisonOn s op left right)))
 comparison-made s columns op left right m n a b h ea en eb =
     let t = shortTerm (termOn s left) in
     let q : n ≡ m + markInTerm t = en ∙ ap (λ (k : ℕ). m + k) (ap markInSide ea ∙ mark-side columns m t) in
     let r : b ≡ operandStruct (operandOf columns (m + markInTerm t) (shortTerm (termOn s right))) = eb ∙ ap (λ (k : ℕ). operandStruct (operandOf columns k (shortTerm (termOn s right)))) q in
-    λ i. record { left = ea i; op = sym (operator-number op h) i; right = r i }
+    λ i. comparisonWith (ea i) (sym (operator-number op h) i) (r i)

@@ -15,7 +15,7 @@ use Rattle.meaning.specs.Tokens.{tokens, keyword, lparen, rparen, NOT, AND, OR}
 use Rattle.meaning.specs.Grammar.{Term, Reader, then, _>>=_, _>>_, done, fails, passing, expect, aComparison, aCondition}
 use Rattle.meaning.proofs.Readers.{begins, passing-yes, passing-stops, expect-here}
 use Rattle.meaning.proofs.Decides.{reads-not, reads-open, reads-compare, reads-and, reads-or}
-use Rattle.statement.specs.Places.{nodeOn, nodesOn}
+use Rattle.statement.specs.Places.{andCode, orCode, nodeOn, nodesOn}
 use Rattle.statement.specs.Reading.{movedTo, withNode, PutsNode, Stands, conditionPast, marksIn, Found, Meets, rank, Reads, Passed, Passes, Closes}
 use Rattle.statement.specs.declared.conditions.Cursor.{Cursor}
 use Rattle.statement.proofs.Operands.{marks-of-both}
@@ -143,10 +143,10 @@ pub record Chain (lo hi : Level) (k : T.Token) (wrap : Condition Term lo → Con
   pub node-is : (s : List ℕ) (p : Bool) → nodeOn s (number p) 0 0 ≡ node p
 
 abbrev pub andNumber : Bool → ℕ
-andNumber p = cond p 6 7
+andNumber p = cond p andCode orCode
 
 abbrev pub orNumber : Bool → ℕ
-orNumber p = cond p 7 6
+orNumber p = cond p orCode andCode
 
 pub ands : Chain atom conjunction (keyword AND) alone both andNumber joinAll
 ands =

@@ -14,8 +14,8 @@ use Rattle.meaning.specs.Grammar.{Term}
 use Rattle.meaning.specs.Statement.{markInTerm, comparisonOf}
 use Rattle.meaning.specs.Resolve.{marksPast, resolveNodes}
 use Rattle.statement.specs.declared.Comparison.{Comparison}
-use Rattle.statement.specs.Places.{nodeOn, nodesOn}
-use Rattle.statement.specs.Compiled.{padded, comparisonStruct, noComparison, stepOf, conditionStruct}
+use Rattle.statement.specs.Places.{andCode, nodeOn, nodesOn}
+use Rattle.statement.specs.Compiled.{padded, leftSide, rightSide, comparisonStruct, noComparison, stepOf, conditionStruct}
 use Rattle.statement.specs.Built.{shortTerm, shortNodes, markInSide, comparisonOn}
 use Rattle.statement.proofs.Walks.{Fills, fills-start, fills-more, fills-end}
 use Rattle.statement.proofs.Left.{nodesLeft, nodes-all, nodeHere, nodes-cons, nodes-none}
@@ -46,9 +46,9 @@ node-comparison : (s : List ℕ) (k a b : ℕ) → k < 6 → nodeOn s k a b ≡ 
 node-comparison s k a b h = rw (lt-ltb k 6 h)
 
 made-joined : (columns : List (List ℕ)) (m : ℕ) (s : List ℕ) (k a b : ℕ) (ns : List (Node Term)) → 6 ≤ k → made columns m (nodeOn s k a b ∷ ns) ≡ made columns m ns
-made-joined columns m s k a b ns h = ap (λ (x : Node Term). made columns m (x ∷ ns)) e ∙ go (eqb k 6)
+made-joined columns m s k a b ns h = ap (λ (x : Node Term). made columns m (x ∷ ns)) e ∙ go (eqb k andCode)
   where
-    e : nodeOn s k a b ≡ cond (eqb k 6) allOf anyOf
+    e : nodeOn s k a b ≡ cond (eqb k andCode) allOf anyOf
     e = rw (le-ltb k 6 h)
 
     go : (t : Bool) → made columns m (cond t allOf anyOf ∷ ns) ≡ made columns m ns
@@ -93,12 +93,12 @@ module _ (s ps : List ℕ) (columns : List (List ℕ)) (n marks : ℕ) where
     resolving-room h = omega (arith, R .counted, ap (λ (ns : List (Node Term)). length (leaves ns)) (left-comparison h))
 
     pub resolving-more : op < 6 → (c : Comparison) (j : ℕ) → c ≡ comparisonStruct (comparisonOf columns m (renamed shortTerm here))
-        → j ≡ markInSide (c .left) + markInSide (c .right)
+        → j ≡ markInSide (leftSide c) + markInSide (rightSide c)
         → {out′ : List Comparison} {found′ m′ : ℕ} → out′ ≡ set out found c → found′ ≡ found + 1 → m′ ≡ m + j → Resolving out′ found′ m′ (i + 1)
     resolving-more h c j ec ej eo ef em =
         let x = renamed shortTerm here in
-        let a : markInSide (c .left) ≡ markInTerm (x .left) = ap (λ (d : Comparison). markInSide (d .left)) ec ∙ mark-side columns m (x .left) in
-        let b : markInSide (c .right) ≡ markInTerm (x .right) = ap (λ (d : Comparison). markInSide (d .right)) ec ∙ mark-side columns (m + markInTerm (x .left)) (x .right) in
+        let a : markInSide (leftSide c) ≡ markInTerm (x .left) = ap (λ (d : Comparison). markInSide (leftSide d)) ec ∙ mark-side columns m (x .left) in
+        let b : markInSide (rightSide c) ≡ markInTerm (x .right) = ap (λ (d : Comparison). markInSide (rightSide d)) ec ∙ mark-side columns (m + markInTerm (x .left)) (x .right) in
         let p : marksPast m x ≡ m + j = omega arith in
         let q = left-comparison h in
         let w : made columns m (nodesLeft s n i ps) ≡ c ∷ made columns (m + j) (nodesLeft s n (i + 1) ps) =
@@ -106,7 +106,7 @@ module _ (s ps : List ℕ) (columns : List (List ℕ)) (n marks : ℕ) where
         rw (eo, ef, em)
         (record {
           within = omega arith;
-          few = omega (arith, R .few, mark-few (c .left), mark-few (c .right));
+          few = omega (arith, R .few, mark-few (leftSide c), mark-few (rightSide c));
           counted = omega (arith, R .counted, ap (λ (ns : List (Node Term)). length (leaves ns)) q);
           fills = fills-more _ out found _ _ _ w (R .fills);
         })

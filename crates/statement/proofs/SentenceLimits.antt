@@ -1,19 +1,20 @@
--- A sentence is past a limit exactly if one of its parts is by itself, or there are too many items, question marks or nodes. Assumes nothing.
+-- A sentence is past a limit exactly if one of its parts is by itself, or there are too many items, question marks or comparisons. Assumes nothing.
 use mathlib.Core.Path.{_≡_, refl, sym, ap, _∙_}
 use mathlib.Core.Bool.{Bool, true, false, _||_, or-comm, or-assoc, or-false, or-self}
 use mathlib.Core.List.{List, [], _∷_, _++_}
-use Prim.Native.Nat.{ℕ, suc, _+_, _*_, _<_, max}
+use Prim.Native.Nat.{ℕ, _+_, _/_, _<_, max}
 use native.Mathlib.Nat.{add-zero, zero-add}
 use native.Mathlib.Omega.{arith}
 use borrow.Author.Tests.{ltb-true, ltb-false, lt-ltb}
 use lib.Dec.{ltb}
-use lib.ListN.{length, length-append, length-map}
+use lib.ListN.{length, length-map}
 use Rattle.lists.specs.Lists.{any}
 use Rattle.lists.proofs.Lists.{any-append}
 use Rattle.meaning.specs.Condition.{Comparison, Level, Condition, compare, negate, group, alone, both, single, either, Where, always, under, comparisons, sides, comparisonsIn, operandsIn, depth, depthIn, atom}
-use Rattle.meaning.specs.Postfix.{nodes, nodesIn}
+use Rattle.meaning.specs.Postfix.{nodesIn}
 use Rattle.meaning.specs.Grammar.{Term, column, given, items, Sentence, table, select, insert, update, delete}
 use Rattle.meaning.specs.Limits.{most-items, most-marks, most-comparisons, most-depth, tableNamed, listColumns, listGivens, whereOf, termGivens, termColumns, givens, markCount, outside32, rowsOutside, manyItems, manyMarks, manyComparisons, pastLimit}
+use Rattle.meaning.proofs.Postfix.{nodes-count}
 use Rattle.statement.specs.Reading.{termPast, conditionPast}
 use Rattle.statement.specs.Sentences.{isLongName, listPast, wherePast, listLength}
 
@@ -47,19 +48,10 @@ more-than-max n d a b = go (ltb n (d + a)) refl
 
 -- ---- conditions
 
--- two nodes for each comparison but one
-pub nodes-count : {l : Level} (p : Bool) (t : Condition Term l) → suc (length (nodes p t)) ≡ 2 * length (comparisons t)
-nodes-count p (compare c) = refl
-nodes-count p (negate t) = nodes-count _ t
-nodes-count p (group t) = nodes-count p t
-nodes-count p (alone t) = nodes-count p t
-nodes-count p (both t u) = simp length-append (omega (arith, nodes-count p t, nodes-count p u))
-nodes-count p (single t) = nodes-count p t
-nodes-count p (either t u) = simp length-append (omega (arith, nodes-count p t, nodes-count p u))
-
-pub many-nodes : (w : Where Term) → ltb 15 (length (nodesIn w)) ≡ ltb most-comparisons (length (comparisonsIn w))
-many-nodes always = refl
-many-nodes (under t) = let e = nodes-count true t in same-test 15 (length (nodes true t)) 8 (length (comparisons t)) (λ h. omega arith) (λ h. omega arith)
+-- the comparisons of a condition, from its nodes
+pub nodes-compared : (w : Where Term) → (length (nodesIn w) + 1) / 2 ≡ length (comparisonsIn w)
+nodes-compared always = refl
+nodes-compared (under t) = omega (arith, nodes-count true t)
 
 pub sides-append : (cs ds : List (Comparison Term)) → sides (cs ++ ds) ≡ sides cs ++ sides ds
 sides-append [] ds = refl
@@ -131,7 +123,7 @@ module _ (items rows marks compared deep named columns values tested asked : Boo
 
 -- past a limit by itself, or too many of something
 pub past-limit : (x : Sentence)
-    → pastLimit x ≡ (ownPast x || (ltb most-items (listLength x) || (ltb most-marks (markCount (givens x)) || ltb 15 (length (nodesIn (whereOf x))))))
+    → pastLimit x ≡ (ownPast x || (ltb most-items (listLength x) || (ltb most-marks (markCount (givens x)) || ltb most-comparisons ((length (nodesIn (whereOf x)) + 1) / 2))))
 unfolding pastLimit
 past-limit x =
     let w = whereOf x in
@@ -140,7 +132,7 @@ past-limit x =
       any-append isLongName (listColumns x) (termColumns (operandsIn w)),
       any-append outside32 (listGivens x) (termGivens (operandsIn w)),
       where-past w,
-      many-nodes w,
+      nodes-compared w,
     )
     (in-order (ltb most-items (listLength x)) (rowsOutside x) (manyMarks x) (manyComparisons x) (ltb most-depth (depthIn w)) (isLongName (tableNamed x))
     (any isLongName (listColumns x)) (any outside32 (listGivens x)) (any isLongName (termColumns (operandsIn w))) (any outside32 (termGivens (operandsIn w))))

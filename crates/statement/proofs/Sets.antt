@@ -13,9 +13,9 @@ use Rattle.meaning.specs.Limits.{markIn, markCount}
 use Rattle.meaning.specs.Statement.{numbered}
 use Rattle.statement.specs.declared.Value.{Value}
 use Rattle.statement.specs.declared.Setting.{Setting}
-use Rattle.statement.specs.Places.{givenOn, nodeOn, nodesOn}
+use Rattle.statement.specs.Places.{givenOn, andCode, nodeOn, nodesOn}
 use Rattle.statement.specs.Sentences.{givensOn}
-use Rattle.statement.specs.Compiled.{padded, valueStruct, noSetting, stepOf}
+use Rattle.statement.specs.Compiled.{padded, valueStruct, settingWith, noSetting, stepOf}
 use Rattle.statement.specs.Built.{shortGiven, markInValue, settingsFrom, settingsOn, comparisonOn, stepIn}
 use Rattle.statement.proofs.Walks.{rest, rest-cons, rest-none, Fills, fills-start, fills-more, fills-end}
 use Rattle.statement.proofs.Left.{itemsLeft, items-all, items-cons, items-none}
@@ -54,14 +54,14 @@ module _ (s ls columns : List ℕ) (n : ℕ) where
 
   pub set-more : n ≤ length columns → (all : List Setting) (marks i mark : ℕ) (value : Value) → i < n
       → value ≡ valueStruct (numbered marks (shortGiven (givenOn s (getD ls (2 * i + 1) 0)))) → mark ≡ markInValue value → SetUp all marks i
-      → SetUp (set all i (record { column = getD columns i 0; value = value })) (marks + mark) (i + 1)
+      → SetUp (set all i (settingWith (getD columns i 0) value)) (marks + mark) (i + 1)
   set-more h all marks i mark value k ev em S =
       let v : Given = givenOn s (getD ls (2 * i + 1) 0) in
       let q : givensLeft i ≡ v ∷ givensLeft (i + 1) = items-cons (λ a b. givenOn s b) n i ls k in
       let m : mark ≡ markIn v = em ∙ ap markInValue ev ∙ mark-given marks (shortGiven v) ∙ short-mark v in
-      let w : settingsLeft marks i ≡ record { column = getD columns i 0; value = value } ∷ settingsLeft (marks + mark) (i + 1) =
+      let w : settingsLeft marks i ≡ settingWith (getD columns i 0) value ∷ settingsLeft (marks + mark) (i + 1) =
       ap₂ (λ (cs : List ℕ) (vs : List Given). settingsFrom marks cs (map shortGiven vs)) (rest-cons n i columns 0 h k) q
-      ∙ ap₂ (λ (x : Value) (j : ℕ). record { column = getD columns i 0; value = x } ∷ settingsFrom (marks + j) (rest n (i + 1) columns) (map shortGiven (givensLeft (i + 1))))
+      ∙ ap₂ (λ (x : Value) (j : ℕ). settingWith (getD columns i 0) x ∷ settingsFrom (marks + j) (rest n (i + 1) columns) (map shortGiven (givensLeft (i + 1))))
       (sym ev) (short-mark v ∙ sym m) in
       record {
         within = omega arith;
@@ -81,7 +81,7 @@ module _ (s ls columns : List ℕ) (n : ℕ) where
 -- ---- steps
 
 pub step-node : (s : List ℕ) (k a b : ℕ) → stepOf (nodeOn s k a b) ≡ stepIn k
-step-node s k a b = go (ltb k 6) (eqb k 6) (comparisonOn s k a b)
+step-node s k a b = go (ltb k 6) (eqb k andCode) (comparisonOn s k a b)
   where
     go : (x y : Bool) (c : Comparison Term) → stepOf (cond x (leaf c) (cond y allOf anyOf)) ≡ cond x 0 (cond y 1 2)
     go true y c = refl

@@ -35,8 +35,9 @@ use Rattle.statement.specs.declared.Table.{Table}
 use Rattle.statement.specs.declared.Comparison.{Comparison}
 use Rattle.statement.specs.declared.Statement.{Statement}
 use Rattle.statement.proofs.Compiles.{schemas-are}
-use Rattle.statement.proofs.Operands.{operator-back}
+use Rattle.statement.proofs.OperatorLaws.{operator-back}
 use Rattle.statement.proofs.Stored.{map-twice, where-count}
+use Rattle.statement.proofs.ByKind.{column-read, parameter-read}
 use Rattle.statement.proofs.Assembled.{take-padded}
 use Rattle.statement.proofs.Values.{name-back}
 use Rattle.statement.proofs.SoundTable.{source-table}
@@ -47,10 +48,10 @@ use Rattle.statement.proofs.Named.{sentence-named}
 -- ---- conditions: what is stored is read back, where the question marks are counted from 1
 
 operand-back : (m : ℕ) (o : M.Operand) → isNumbered m o ≡ true → operandRead (operandStruct o) ≡ o
-operand-back m (column i) h = refl
+operand-back m (column i) h = column-read i
 operand-back m (value (constant z)) h = refl
 operand-back m (value (parameter zero)) h = let e : 0 ≡ suc m = eqb-true 0 (suc m) h in absurd (omega arith)
-operand-back m (value (parameter (suc k))) h = refl
+operand-back m (value (parameter (suc k))) h = parameter-read k
 
 comparison-back : (m n : ℕ) (c : C.Comparison M.Operand) → isNumbered m (c .left) ≡ true → isNumbered n (c .right) ≡ true → comparisonRead (comparisonStruct c) ≡ c
 comparison-back m n c h k = λ i. record {
@@ -257,3 +258,13 @@ module _ (text : List ℕ) (tables : List Table) (used queries updates cells : �
       let s : SoundStatement (schemas store) done = text-sound (sentence text) refl (clear 2 (textConditions store text) refl .0 clear-all) in
       let t : SoundStatement (schemasOf tables used) done = subst (λ ts. SoundStatement ts done) (schemas-are tables used queries updates cells) s in
       subst (λ n. SoundStatement (schemasOf tables used) (settled n done)) (sym clear-all) t
+
+  -- and it is the struct of the text's sentence
+  pub compiled-is : (s : Sentence) → sentence text ≡ some s → compiledOf text tables used queries updates cells .refusal ≡ 0
+      → compiledOf text tables used queries updates cells ≡ structOf (statementOf (schemasOf tables used) s)
+  unfolding compiledOf
+  compiled-is s e h =
+      let done : Statement = structOfText (schemas store) (sentence text) in
+      ap (λ (n : ℕ). settled n done) (unrefused (lowestOf (textConditions store text)) done h)
+      ∙ ap (structOfText (schemas store)) e
+      ∙ ap (λ (ts : List Schema). structOf (statementOf ts s)) (schemas-are tables used queries updates cells)

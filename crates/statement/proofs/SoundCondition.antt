@@ -2,10 +2,10 @@
 use mathlib.Core.Path.{_≡_, sym, ap, _∙_, subst}
 use mathlib.Core.Bool.{true, false, not}
 use mathlib.Core.List.{List, map}
-use Prim.Native.Nat.{ℕ, _*_, _-_, _≤_}
+use Prim.Native.Nat.{ℕ, _+_, _*_, _-_, _≤_}
 use native.Mathlib.Omega.{arith}
-use borrow.Author.Tests.{leb-true, le-leb}
-use lib.Dec.{leb, ltb}
+use borrow.Author.Tests.{leb-true, le-leb, eqb-true, eq-eqb}
+use lib.Dec.{eqb, leb, ltb}
 use lib.IntN.{ℤ}
 use lib.ListN.{length}
 use lib.Seq.{length-take-le}
@@ -18,13 +18,13 @@ use Rattle.meaning.specs.Postfix.{Node, nodesIn, leaves, isPostfix, truthOf, cl
 use Rattle.meaning.specs.Resolve.{operandConstants, parameterCount, numberedFrom, columnsBelow}
 use Rattle.meaning.specs.Tokens.{Name}
 use Rattle.meaning.specs.Grammar.{Term}
-use Rattle.meaning.specs.Limits.{most-comparisons, termGivens, termColumns, markCount, isWithin32, outside32}
+use Rattle.meaning.specs.Limits.{most-marks, most-comparisons, termGivens, termColumns, markCount, isWithin32, outside32}
 use Rattle.meaning.specs.Names.{sameName, has}
 use Rattle.meaning.specs.Statement as M
 use Rattle.meaning.specs.Statement.{resolvedWhere}
 use Rattle.meaning.proofs.Postfix.{sides-in, leaves-in, truth-postfix, clauses-postfix}
 use Rattle.meaning.proofs.Resolve.{Source, where-source, where-passes, outside-constants, resolve-where, resolve-marks, resolve-leaves}
-use Rattle.statement.specs.Sound.{comparisonRead, usedComparisons, usedSteps, conditionNodes, soundCondition, conditionMarks, AgreesCondition, ConditionFits}
+use Rattle.statement.specs.Sound.{comparisonRead, usedComparisons, usedSteps, conditionNodes, soundCondition, conditionMarks, soundConditionOn, AgreesCondition, ConditionFits}
 use Rattle.statement.specs.Compiled.{stepOf}
 use Rattle.token.specs.Tokens.{operatorNumber}
 use Rattle.statement.specs.declared.Comparison.{Comparison}
@@ -74,6 +74,28 @@ module _ (columns m : ℕ) (c : Condition) where
   parts-condition P =
       and-both (leb (c .count) most-comparisons) _ (le-leb (c .count) most-comparisons (P .few))
       (and-both _ _ (P .steps) (and-both _ _ (P .operators) (and-both _ _ (P .postfix) (and-both _ _ (P .below) (P .numbered)))))
+
+-- with the number of all question marks
+pub record PartsOn (columns m p : ℕ) (c : Condition) : Type 0 where
+  pub sound : soundCondition columns m c ≡ true
+  pub parameters : p ≡ m + conditionMarks c
+  pub few : p ≤ most-marks
+
+module _ (columns m p : ℕ) (c : Condition) where
+  pub on-parts : soundConditionOn columns m p c ≡ true → PartsOn columns m p c
+  unfolding soundConditionOn
+  on-parts h =
+      let k = and-right (soundCondition columns m c) _ h in
+      record {
+        sound = and-left (soundCondition columns m c) _ h;
+        parameters = eqb-true p (m + conditionMarks c) (and-left (eqb p (m + conditionMarks c)) _ k);
+        few = leb-true p most-marks (and-right (eqb p (m + conditionMarks c)) _ k);
+      }
+
+  pub parts-on : PartsOn columns m p c → soundConditionOn columns m p c ≡ true
+  unfolding soundConditionOn
+  parts-on P =
+      and-both _ _ (P .sound) (and-both (eqb p (m + conditionMarks c)) _ (eq-eqb p (m + conditionMarks c) (P .parameters)) (le-leb p most-marks (P .few)))
 
 -- ---- a WHERE of which the condition comes
 

@@ -5,8 +5,8 @@ use mathlib.Core.Bool.{Bool, true, false, not, _||_}
 use mathlib.Core.List.{List, [], _++_, map}
 use Prim.Native.Nat.{ℕ, _≤_, _<_}
 use native.Mathlib.Omega.{arith}
-use borrow.Author.Tests.{ltb-true, lt-ltb, ltb-false, le-ltb, leb-true, le-leb, eqb-true, eq-eqb}
-use lib.Dec.{eqb, leb, ltb}
+use borrow.Author.Tests.{ltb-true, lt-ltb, ltb-false, le-ltb, leb-true, le-leb}
+use lib.Dec.{leb, ltb}
 use lib.ListN.{length, getD, take, length-map}
 use lib.Seq.{length-take-le}
 use Rattle.lists.specs.Lists.{any, all}
@@ -24,7 +24,7 @@ use Rattle.meaning.proofs.Names.{has-position}
 use Rattle.meaning.proofs.Resolved.{items-some}
 use Rattle.statement.specs.Sound.{soundCondition, conditionMarks, columnsAt, soundQuery, Passes, AgreesCondition, AgreesQuery, FromQuery, TablesFit, QueryFits}
 use Rattle.statement.specs.declared.Query.{Query}
-use Rattle.statement.proofs.SoundCondition.{Sourced, condition-source, source-marks, source-condition}
+use Rattle.statement.proofs.SoundCondition.{on-parts, parts-on, Sourced, condition-source, source-marks, source-condition}
 use Rattle.statement.proofs.SoundNames.{or-none, listed, Limits, limits-kept, limits-of, namesAt, names-known, names-back, positions-below, there-fits, there-place, there-columns, there-known, there-named, there-short, known-append}
 
 -- ---- the test and its parts
@@ -46,15 +46,15 @@ module _ (ts : List Schema) (q : Query) where
       let h₂ = and-right (leb 1 (q .count)) _ h₁ in
       let h₃ = and-right (leb (q .count) most-items) _ h₂ in
       let h₄ = and-right (all (λ (i : ℕ). ltb i (columnsAt ts (q .table))) (take (q .count) (q .selected))) _ h₃ in
-      let h₅ = and-right (soundCondition (columnsAt ts (q .table)) 0 (q .condition)) _ h₄ in
+      let C = on-parts (columnsAt ts (q .table)) 0 (q .parameters) (q .condition) h₄ in
       record {
         there = ltb-true (q .table) (length ts) (and-left (ltb (q .table) (length ts)) _ h₀);
         some-selected = leb-true 1 (q .count) (and-left (leb 1 (q .count)) _ h₁);
         few-selected = leb-true (q .count) most-items (and-left (leb (q .count) most-items) _ h₂);
         selected-below = and-left (all (λ (i : ℕ). ltb i (columnsAt ts (q .table))) (take (q .count) (q .selected))) _ h₃;
-        condition-sound = and-left (soundCondition (columnsAt ts (q .table)) 0 (q .condition)) _ h₄;
-        parameters-are = eqb-true (q .parameters) (conditionMarks (q .condition)) (and-left (eqb (q .parameters) (conditionMarks (q .condition))) _ h₅);
-        few-parameters = leb-true (q .parameters) most-marks (and-right (eqb (q .parameters) (conditionMarks (q .condition))) _ h₅);
+        condition-sound = C .sound;
+        parameters-are = omega (arith, C .parameters);
+        few-parameters = C .few;
       }
 
   pub parts-query : Parts ts q → soundQuery ts q ≡ true
@@ -64,9 +64,8 @@ module _ (ts : List Schema) (q : Query) where
       (and-both (leb 1 (q .count)) _ (le-leb 1 (q .count) (P .some-selected))
       (and-both (leb (q .count) most-items) _ (le-leb (q .count) most-items (P .few-selected))
       (and-both _ _ (P .selected-below)
-      (and-both _ _ (P .condition-sound)
-      (and-both (eqb (q .parameters) (conditionMarks (q .condition))) _ (eq-eqb (q .parameters) (conditionMarks (q .condition)) (P .parameters-are))
-      (le-leb (q .parameters) most-marks (P .few-parameters)))))))
+      (parts-on (columnsAt ts (q .table)) 0 (q .parameters) (q .condition)
+      (record { sound = P .condition-sound; parameters = omega (arith, P .parameters-are); few = P .few-parameters })))))
 
 -- ---- a question that passes comes of a sentence
 

@@ -21,10 +21,10 @@ use Rattle.meaning.specs.Statement.{value, constant, parameter, numberedAll, se
 use Rattle.meaning.proofs.Names.{same-is, position-is}
 use Rattle.meaning.proofs.Resolve.{same-name, position-at}
 use Rattle.statement.specs.Sound.{valueRead, settingRead, ValueFits}
-use Rattle.statement.specs.Compiled.{placedFrom}
+use Rattle.statement.specs.Compiled.{newValue, placedFrom}
 use Rattle.statement.specs.declared.Value.{Value}
-use Rattle.statement.specs.declared.Value.the-variants as Stored
 use Rattle.statement.specs.declared.Setting.{Setting}
+use Rattle.statement.proofs.ByKind.{by-kind-value}
 use Rattle.statement.proofs.SoundNames.{or-none}
 
 -- ---- values
@@ -61,13 +61,12 @@ numbered-marks m (mark ∷ gs) = ap (λ i. 1 + i) (numbered-marks (m + 1) gs)
 
 -- constants of settings that fit have 32 bits
 value-small : (v : Value) → ValueFits v → outside32 (givenAt (valueRead v)) ≡ false
-value-small (Stored.Constant z) f = ap not f
-value-small (Stored.Parameter k) f = refl
+value-small v f = by-kind-value v (λ (w : M.Value). outside32 (givenAt w) ≡ false) (ap not f) (λ k e. refl)
 
-pub values-small : {ss : List Setting} → All (λ (s : Setting). ValueFits (s .value)) ss
+pub values-small : {ss : List Setting} → All (λ (s : Setting). ValueFits (newValue s)) ss
     → any outside32 (map givenAt (map (λ (s : ℕ × M.Value). s .1) (map settingRead ss))) ≡ false
 values-small nil = refl
-values-small (cons {x = s} f h) = or-none (outside32 (givenAt (valueRead (s .value)))) _ (value-small (s .value) f) (values-small h)
+values-small (cons {x = s} f h) = or-none (outside32 (givenAt (valueRead (newValue s)))) _ (value-small (newValue s) f) (values-small h)
 
 -- ---- settings as columns and values
 

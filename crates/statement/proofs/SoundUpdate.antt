@@ -30,7 +30,7 @@ use Rattle.statement.specs.Compiled.{placedFrom}
 use Rattle.statement.specs.declared.Condition.{Condition}
 use Rattle.statement.specs.declared.Update.{Update}
 use Rattle.statement.proofs.Stored.{map-twice}
-use Rattle.statement.proofs.SoundCondition.{Sourced, condition-source, source-marks, source-condition}
+use Rattle.statement.proofs.SoundCondition.{on-parts, parts-on, Sourced, condition-source, source-marks, source-condition}
 use Rattle.statement.proofs.SoundNames.{or-none, listed, Limits, limits-kept, limits-of, namesAt, names-known, names-back, positions-below, there-fits, there-place, there-columns, there-known, there-named, there-short, known-append}
 use Rattle.statement.proofs.SoundSettings.{marks-append, givenAt, values-back, values-marks, values-numbered, numbered-marks, values-small, same-pairs, placed-columns, placed-values, placed-length, settings-columns, settings-values, settings-length, setAt, names-different, places-different}
 
@@ -45,23 +45,20 @@ pub record Parts (ts : List Schema) (u : Update) : Type 0 where
   pub few-parameters : u .parameters ≤ most-marks
 
 module _ (ts : List Schema) (u : Update) where
-  abbrev marks : ℕ
-  marks = parameterCount (settingOperands u) + conditionMarks (u .condition)
-
   pub update-parts : soundUpdate ts u ≡ true → Parts ts u
   unfolding soundUpdate
   update-parts h₀ =
       let h₁ = and-right (ltb (u .table) (length ts)) _ h₀ in
       let h₂ = and-right (soundForm (u .form) (columnsAt ts (u .table)) u) _ h₁ in
       let h₃ = and-right (numberedOn 0 (settingOperands u)) _ h₂ in
-      let h₄ = and-right (soundCondition (columnsAt ts (u .table)) (parameterCount (settingOperands u)) (u .condition)) _ h₃ in
+      let C = on-parts (columnsAt ts (u .table)) (parameterCount (settingOperands u)) (u .parameters) (u .condition) h₃ in
       record {
         there = ltb-true (u .table) (length ts) (and-left (ltb (u .table) (length ts)) _ h₀);
         form-sound = and-left (soundForm (u .form) (columnsAt ts (u .table)) u) _ h₁;
         values-numbered = and-left (numberedOn 0 (settingOperands u)) _ h₂;
-        condition-sound = and-left (soundCondition (columnsAt ts (u .table)) (parameterCount (settingOperands u)) (u .condition)) _ h₃;
-        parameters-are = eqb-true (u .parameters) marks (and-left (eqb (u .parameters) marks) _ h₄);
-        few-parameters = leb-true (u .parameters) most-marks (and-right (eqb (u .parameters) marks) _ h₄);
+        condition-sound = C .sound;
+        parameters-are = C .parameters;
+        few-parameters = C .few;
       }
 
   pub parts-update : Parts ts u → soundUpdate ts u ≡ true
@@ -70,8 +67,8 @@ module _ (ts : List Schema) (u : Update) where
       and-both (ltb (u .table) (length ts)) _ (lt-ltb (u .table) (length ts) (P .there))
       (and-both _ _ (P .form-sound)
       (and-both _ _ (P .values-numbered)
-      (and-both _ _ (P .condition-sound)
-      (and-both (eqb (u .parameters) marks) _ (eq-eqb (u .parameters) marks (P .parameters-are)) (le-leb (u .parameters) most-marks (P .few-parameters))))))
+      (parts-on (columnsAt ts (u .table)) (parameterCount (settingOperands u)) (u .parameters) (u .condition)
+      (record { sound = P .condition-sound; parameters = P .parameters-are; few = P .few-parameters }))))
 
 -- a condition with no comparison is an absent WHERE
 none-agrees : (c : Condition) → c .count ≡ 0 → AgreesCondition c always

@@ -9,7 +9,6 @@ use lib.Dec.{ltb}
 use lib.ListN.{length}
 use Rattle.lists.specs.Lists.{All, nil, cons, all}
 use Rattle.lists.proofs.Bools.{and-left, and-right, and-both}
-use Rattle.meaning.specs.Operator.{Operator, eq, ne, lt, le, gt, ge}
 use Rattle.meaning.specs.Condition as C
 use Rattle.meaning.specs.Condition.{Where, always, under, sides, comparisonsIn}
 use Rattle.meaning.specs.Postfix.{Node, leaf, allOf, anyOf, nodesIn, leaves}
@@ -17,13 +16,13 @@ use Rattle.meaning.specs.Resolve.{operandConstants}
 use Rattle.meaning.specs.Limits.{isWithin32}
 use Rattle.meaning.specs.Statement as M
 use Rattle.meaning.proofs.Postfix.{nodes-count}
-use Rattle.statement.specs.Places.{operatorAt}
 use Rattle.statement.specs.Sound.{operandRead, comparisonRead, nodesRead, OperandFits, ComparisonFits}
-use Rattle.statement.specs.Compiled.{stepOf}
+use Rattle.statement.specs.Compiled.{leftSide, rightSide, stepOf}
 use Rattle.token.specs.Tokens.{operatorNumber}
 use Rattle.statement.specs.declared.Operand.{Operand}
-use Rattle.statement.specs.declared.Operand.the-variants.{Column, Constant, Parameter}
 use Rattle.statement.specs.declared.Comparison.{Comparison}
+use Rattle.statement.proofs.OperatorLaws.{operator-few, operator-number}
+use Rattle.statement.proofs.ByKind.{by-kind}
 
 -- ---- tests of all members, from what each has
 
@@ -41,23 +40,6 @@ map-twice f g (x ∷ l) = ap (λ r. g (f x) ∷ r) (map-twice f g l)
 
 -- ---- operators and steps by their numbers
 
-pub operator-back : (k : ℕ) → k < 6 → operatorNumber (operatorAt k) ≡ k
-operator-back zero h = refl
-operator-back (suc zero) h = refl
-operator-back (suc (suc zero)) h = refl
-operator-back (suc (suc (suc zero))) h = refl
-operator-back (suc (suc (suc (suc zero)))) h = refl
-operator-back (suc (suc (suc (suc (suc zero))))) h = refl
-operator-back (suc (suc (suc (suc (suc (suc k)))))) h = absurd (omega arith)
-
-pub operator-below : (o : Operator) → operatorNumber o < 6
-operator-below eq = omega arith
-operator-below ne = omega arith
-operator-below lt = omega arith
-operator-below le = omega arith
-operator-below gt = omega arith
-operator-below ge = omega arith
-
 pub steps-below : {O : Type 0} (ns : List (Node O)) → all (λ (s : ℕ). ltb s 3) (map stepOf ns) ≡ true
 steps-below [] = refl
 steps-below (leaf c ∷ ns) = steps-below ns
@@ -66,7 +48,7 @@ steps-below (anyOf ∷ ns) = steps-below ns
 
 pub operators-below : (cs : List (C.Comparison M.Operand)) → all (λ (k : ℕ). ltb k 6) (map (λ (c : C.Comparison M.Operand). operatorNumber (c .op)) cs) ≡ true
 operators-below [] = refl
-operators-below (c ∷ cs) = and-both (ltb (operatorNumber (c .op)) 6) _ (lt-ltb (operatorNumber (c .op)) 6 (operator-below (c .op))) (operators-below cs)
+operators-below (c ∷ cs) = and-both (ltb (operatorNumber (c .op)) 6) _ (lt-ltb (operatorNumber (c .op)) 6 (operator-few (c .op))) (operators-below cs)
 
 -- ---- what is read
 
@@ -101,20 +83,18 @@ pub read-operators : (cs : List Comparison) → all (λ (c : Comparison). ltb (c
 read-operators [] h = refl
 read-operators (c ∷ cs) h =
     let b : c .op < 6 = ltb-true (c .op) 6 (and-left (ltb (c .op) 6) (all (λ (c : Comparison). ltb (c .op) 6) cs) h) in
-    ap₂ (λ k r. k ∷ r) (sym (operator-back (c .op) b)) (read-operators cs (and-right (ltb (c .op) 6) (all (λ (c : Comparison). ltb (c .op) 6) cs) h))
+    ap₂ (λ k r. k ∷ r) (sym (operator-number (c .op) b)) (read-operators cs (and-right (ltb (c .op) 6) (all (λ (c : Comparison). ltb (c .op) 6) cs) h))
 
 -- constants of comparisons that fit have 32 bits
 operand-constants : (o : Operand) (os : List M.Operand) → OperandFits o → All (λ z. isWithin32 z ≡ true) (operandConstants os)
     → All (λ z. isWithin32 z ≡ true) (operandConstants (operandRead o ∷ os))
-operand-constants (Column i) os f h = h
-operand-constants (Constant z) os f h = cons f h
-operand-constants (Parameter k) os f h = h
+operand-constants o os f h = by-kind o (λ (p : M.Operand). All (λ z. isWithin32 z ≡ true) (operandConstants (p ∷ os))) (cons f h) h h
 
 pub read-constants : {cs : List Comparison} → All ComparisonFits cs → All (λ z. isWithin32 z ≡ true) (operandConstants (sides (map comparisonRead cs)))
 read-constants nil = nil
 read-constants (cons {x = c} {xs = cs} f h) =
-    operand-constants (c .left) (operandRead (c .right) ∷ sides (map comparisonRead cs)) (f .0)
-    (operand-constants (c .right) (sides (map comparisonRead cs)) (f .1) (read-constants h))
+    operand-constants (leftSide c) (operandRead (rightSide c) ∷ sides (map comparisonRead cs)) (f .0)
+    (operand-constants (rightSide c) (sides (map comparisonRead cs)) (f .1) (read-constants h))
 
 -- 2n - 1 nodes for the n comparisons of a WHERE, none for none
 pub where-count : {O : Type 0} (w : Where O) → length (nodesIn w) ≡ 2 * length (comparisonsIn w) - 1

@@ -4,9 +4,11 @@ use mathlib.Core.Logic.{_≢_}
 use mathlib.Core.Bool.{true, false}
 use mathlib.Core.Option.{Option, none, some}
 use mathlib.Core.List.{List, _∷_}
-use Prim.Native.Nat.{ℕ, _+_, _-_, _≤_, _<_, min}
+use Prim.Native.Nat.{ℕ, _+_, _*_, _-_, _≤_, _<_, min}
 use native.Mathlib.Decide.{decLe}
 use native.Mathlib.Omega.{arith}
+use native.Mathlib.Numerals.{add-one}
+use lib.IntN.{pos}
 use lib.ListN.{length, getD, replicate, take, drop, length-take, length-drop}
 use lib.Seq.{take-append-seam, take-take, take-all, getD-drop}
 use Rattle.meaning.specs.Grammar as G
@@ -16,8 +18,6 @@ use Rattle.meaning.specs.Statement.{numbered, operandOf}
 use Rattle.token.specs.declared.Token.{Token}
 use Rattle.token.specs.Tokens.{tokenAt}
 use Rattle.token.proofs.Laws.{start-next, next-inside}
-use Rattle.statement.specs.declared.Operand.the-variants.{Column, Constant, Parameter}
-use Rattle.statement.specs.declared.Value.the-variants.{Constant as ConstantValue, Parameter as ParameterValue}
 use Rattle.statement.specs.Places.{tokenOn, nameOn, givenOn, termOn, orEmpty, orGiven}
 use Rattle.statement.specs.Catalog.{nameOfStruct}
 use Rattle.statement.specs.Compiled.{padded, nameStruct, noName, valueStruct, operandStruct}
@@ -54,11 +54,11 @@ module _ (s : List ℕ) (p : ℕ) (r : Token) (e : r ≡ tokenAt s p) where
   mark-is : isConstant (r .kind) ≡ false → shortGiven (givenOn s p) ≡ G.mark
   mark-is h = ap shortGiven (mark-there s p (sym (ap (λ (t : Token). isConstant (t .kind)) e) ∙ h))
 
-  pub value-constant : (m : ℕ) → isConstant (r .kind) ≡ true → ConstantValue (r .value) ≡ valueStruct (numbered m (shortGiven (givenOn s p)))
+  pub value-constant : (m : ℕ) → isConstant (r .kind) ≡ true → record { mark = 0; number = r .value } ≡ valueStruct (numbered m (shortGiven (givenOn s p)))
   value-constant m h = ap (λ (v : Given). valueStruct (numbered m v)) (sym (given-is h))
 
-  pub value-mark : (m : ℕ) → isConstant (r .kind) ≡ false → ParameterValue m ≡ valueStruct (numbered m (shortGiven (givenOn s p)))
-  value-mark m h = ap (λ (v : Given). valueStruct (numbered m v)) (sym (mark-is h))
+  pub value-mark : (m : ℕ) → isConstant (r .kind) ≡ false → record { mark = m + 1; number = pos 0 } ≡ valueStruct (numbered m (shortGiven (givenOn s p)))
+  value-mark m h = ap (λ (k : ℕ). record { mark = k; number = pos 0 }) (add-one m) ∙ ap (λ (v : Given). valueStruct (numbered m v)) (sym (mark-is h))
 
   pub rows-there : rowsIn (r .value) ≡ rowsOn s p
   rows-there = ap rowsIn (ap (λ (t : Token). t .value) e ∙ value-there s p)
@@ -69,7 +69,7 @@ module _ (s : List ℕ) (p : ℕ) (r : Token) (e : r ≡ tokenAt s p) where
     side : Option (List ℕ) → Term
     side o = shortTerm (orGiven (givenOn s p) o)
 
-    pub operand-column : r .kind ≡ 2 → Column (position columns (shortName (bytes r))) ≡ operandStruct (operandOf columns m (shortTerm (termOn s p)))
+    pub operand-column : r .kind ≡ 2 → record { code = 2 * position columns (shortName (bytes r)) + 2; number = pos 0 } ≡ operandStruct (operandOf columns m (shortTerm (termOn s p)))
     unfolding side
     operand-column h = ap (λ (o : Option (List ℕ)). operandStruct (operandOf columns m (side o))) (sym (is-name h))
 
@@ -77,10 +77,10 @@ module _ (s : List ℕ) (p : ℕ) (r : Token) (e : r ≡ tokenAt s p) where
     unfolding side
     side-given h = ap side (no-name h)
 
-    pub operand-constant : r .kind ≢ 2 → isConstant (r .kind) ≡ true → Constant (r .value) ≡ operandStruct (operandOf columns m (shortTerm (termOn s p)))
+    pub operand-constant : r .kind ≢ 2 → isConstant (r .kind) ≡ true → record { code = 0; number = r .value } ≡ operandStruct (operandOf columns m (shortTerm (termOn s p)))
     operand-constant h k = ap (λ (t : Term). operandStruct (operandOf columns m t)) (sym (side-given h ∙ ap G.given (given-is k)))
 
-    pub operand-mark : r .kind ≢ 2 → isConstant (r .kind) ≡ false → Parameter m ≡ operandStruct (operandOf columns m (shortTerm (termOn s p)))
+    pub operand-mark : r .kind ≢ 2 → isConstant (r .kind) ≡ false → record { code = 2 * m + 1; number = pos 0 } ≡ operandStruct (operandOf columns m (shortTerm (termOn s p)))
     operand-mark h k = ap (λ (t : Term). operandStruct (operandOf columns m t)) (sym (side-given h ∙ ap G.given (mark-is k)))
 
 -- ---- the bytes of a name, at most twelve

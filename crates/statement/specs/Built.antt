@@ -1,6 +1,6 @@
 -- What the functions that put statements together make of noted places. Assumes nothing: these are definitions.
 use mathlib.Core.Path.{_≡_}
-use mathlib.Core.Bool.{Bool, true, false, not, _&&_, _||_, cond}
+use mathlib.Core.Bool.{Bool, false, not, _&&_, _||_, cond}
 use mathlib.Core.List.{List, [], _∷_, map}
 use Prim.Native.Nat.{ℕ, _+_, _-_, _*_, _≤_}
 use lib.Dec.{eqb, ltb, leb}
@@ -12,26 +12,26 @@ use Rattle.meaning.specs.Condition as C
 use Rattle.meaning.specs.Condition.{renamed}
 use Rattle.meaning.specs.Postfix.{Node, leaf, allOf, anyOf, leaves}
 use Rattle.meaning.specs.Grammar.{Given, constant, mark, Term, column, given}
-use Rattle.meaning.specs.Limits.{isWithin32, markIn, markCount}
+use Rattle.meaning.specs.Limits.{most-items, most-marks, most-comparisons, isWithin32, markIn, markCount}
 use Rattle.meaning.specs.Names.{Schema, noSchema, sameName, has, position, tableNames}
-use Rattle.meaning.specs.Statement.{numbered}
-use Rattle.meaning.specs.Resolve.{resolveNodes}
+use Rattle.meaning.specs.Statement.{numbered, value}
+use Rattle.meaning.specs.Resolve.{resolveNodes, markInOperand, isBelow}
 use Rattle.meaning.specs.Cells.{areasSize}
 use Rattle.meaning.specs.Plain.{lowestOf}
 use Rattle.token.specs.Tokens.{valueOf}
-use Rattle.statement.specs.Places.{tokenOn, nameOn, termOn, operatorAt, nodesOn}
+use Rattle.statement.specs.Operators.{operatorAt}
+use Rattle.statement.specs.Places.{tokenOn, nameOn, termOn, andCode, nodesOn}
 use Rattle.statement.specs.Sentences.{namesOn, givensOn}
-use Rattle.statement.specs.Compiled.{padded, tableStruct, valueStruct, noSetting, stepOf, conditionStruct, created, asked, changing, refusedBy, settled}
+use Rattle.statement.specs.Compiled.{padded, tableStruct, valueStruct, leftSide, rightSide, settingWith, noSetting, stepOf, conditionStruct, created, asked, changing, refusedBy, settled}
+use Rattle.statement.specs.Sound.{valueRead, operandRead}
 use Rattle.statement.specs.declared.Operand.{Operand}
-use Rattle.statement.specs.declared.Operand.the-variants.{Column, Constant, Parameter}
 use Rattle.statement.specs.declared.Comparison.{Comparison}
 use Rattle.statement.specs.declared.Condition.{Condition}
 use Rattle.statement.specs.declared.Value.{Value}
-use Rattle.statement.specs.declared.Value.the-variants.{Constant as ConstantValue, Parameter as ParameterValue}
 use Rattle.statement.specs.declared.Setting.{Setting}
 use Rattle.statement.specs.declared.Statement.{Statement}
 use Rattle.statement.specs.declared.sentences.Entry.{Entry}
-use Rattle.statement.specs.declared.build.Settings.{Settings}
+use Rattle.statement.specs.declared.assembling.Settings.{Settings}
 
 -- the lowest of 6 to 9 whose condition holds, or 0
 abbrev pub lowestBy : Bool → Bool → Bool → Bool → ℕ
@@ -81,14 +81,13 @@ rowsOn s p = rowsIn (valueOf (tokenOn s p))
 -- ---- settings
 
 abbrev pub markInValue : Value → ℕ
-markInValue (ConstantValue z) = 0
-markInValue (ParameterValue k) = 1
+markInValue v = markInOperand (value (valueRead v))
 
 -- values for columns, where m marks stand before
 abbrev pub settingsFrom : ℕ → List ℕ → List Given → List Setting
 settingsFrom m [] vs = []
 settingsFrom m (c ∷ cs) [] = []
-settingsFrom m (c ∷ cs) (v ∷ vs) = record { column = c; value = valueStruct (numbered m v) } ∷ settingsFrom (m + markIn v) cs vs
+settingsFrom m (c ∷ cs) (v ∷ vs) = settingWith c (valueStruct (numbered m v)) ∷ settingsFrom (m + markIn v) cs vs
 
 abbrev pub settingsOn : List ℕ → List Given → Settings
 settingsOn cs vs = record { all = padded 8 noSetting (settingsFrom 0 cs (map shortGiven vs)); marks = markCount vs }
@@ -96,15 +95,13 @@ settingsOn cs vs = record { all = padded 8 noSetting (settingsFrom 0 cs (map sho
 -- ---- conditions
 
 abbrev pub markInSide : Operand → ℕ
-markInSide (Column i) = 0
-markInSide (Constant z) = 0
-markInSide (Parameter k) = 1
+markInSide o = markInOperand (operandRead o)
 
 abbrev pub comparisonOn : List ℕ → ℕ → ℕ → ℕ → C.Comparison Term
 comparisonOn s k a b = record { left = termOn s a; op = operatorAt k; right = termOn s b }
 
 abbrev pub stepIn : ℕ → ℕ
-stepIn k = cond (ltb k 6) 0 (cond (eqb k 6) 1 2)
+stepIn k = cond (ltb k 6) 0 (cond (eqb k andCode) 1 2)
 
 -- the steps of the nodes that are noted, in a text or another
 abbrev pub StepsAre : ℕ → List ℕ → List ℕ → Type 0
@@ -112,12 +109,10 @@ StepsAre n places r = (s : List ℕ) → r ≡ padded 15 0 (map stepOf (nodesOn 
 
 -- columns below a limit
 abbrev pub operandBelow : ℕ → Operand → Bool
-operandBelow n (Column i) = ltb i n
-operandBelow n (Constant z) = true
-operandBelow n (Parameter k) = true
+operandBelow n o = isBelow n (operandRead o)
 
 abbrev pub sidesBelow : ℕ → Comparison → Bool
-sidesBelow n c = operandBelow n (c .left) && operandBelow n (c .right)
+sidesBelow n c = operandBelow n (leftSide c) && operandBelow n (rightSide c)
 
 abbrev pub conditionBelow : ℕ → Condition → Bool
 conditionBelow n c = all (sidesBelow n) (take (c .count) (c .comparisons))
@@ -129,10 +124,10 @@ placesBelow n at = all (λ (i : ℕ). ltb i n) at
 
 -- what was noted is within the limits
 pub record Fits (s ps : List ℕ) (e : Entry) : Type 0 where
-  pub listed : e .listed ≤ 8
-  pub marks : e .c .marks ≤ 8
+  pub listed : e .listed ≤ most-items
+  pub marks : e .c .marks ≤ most-marks
   pub nodes : e .c .nodes ≤ 15
-  pub comparisons : length (leaves (nodesOn s (e .c .nodes) ps)) ≤ 8
+  pub comparisons : length (leaves (nodesOn s (e .c .nodes) ps)) ≤ most-comparisons
 
 -- the names of its list, and its condition where m marks stand before it
 abbrev pub listedOn : List ℕ → List ℕ → Entry → List (List ℕ)
@@ -210,10 +205,6 @@ deleteOn s ps e columns i updates =
       parameters = e .c .marks;
       condition = conditionOn s ps e columns 0;
     }))
-
--- past a limit
-abbrev pub overOn : Entry → Bool
-overOn e = e .c .over || (ltb 8 (e .listed) || (ltb 8 (e .c .marks) || ltb 15 (e .c .nodes)))
 
 -- a question or an update, by its form
 abbrev pub formOn : List ℕ → List ℕ → List ℕ → Entry → List (List ℕ) → ℕ → ℕ → ℕ → Statement

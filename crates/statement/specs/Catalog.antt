@@ -7,6 +7,7 @@ use Rattle.meaning.specs.Plain as P
 use Rattle.meaning.specs.Plain.{Plain, noQuery, noUpdate}
 use Rattle.statement.specs.declared.Name.{Name}
 use Rattle.statement.specs.declared.Table.{Table}
+use Rattle.statement.specs.declared.names.Scope.{Scope}
 
 -- a name is its first `len` bytes
 abbrev pub nameOfStruct : Name → List ℕ
@@ -14,6 +15,13 @@ nameOfStruct n = take (n .len) (n .bytes)
 
 abbrev pub namesOf : List Name → ℕ → List (List ℕ)
 namesOf names count = map nameOfStruct (take count names)
+
+-- the columns that a statement may name, and those of a table
+abbrev pub scopeNames : Scope → List (List ℕ)
+scopeNames s = namesOf (s .columns) (s .count)
+
+abbrev pub scopeOf : Table → Scope
+scopeOf t = record { columns = t .columns; count = t .count }
 
 -- what a table's TABLE text says
 abbrev pub schemaOf : Table → Schema

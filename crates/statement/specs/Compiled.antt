@@ -2,7 +2,7 @@
 use mathlib.Core.Bool.{Bool}
 use mathlib.Core.Option.{Option, none, some}
 use mathlib.Core.List.{List, [], _∷_, _++_, map}
-use Prim.Native.Nat.{ℕ, zero, suc, _-_}
+use Prim.Native.Nat.{ℕ, zero, suc, _+_, _*_, _-_}
 use lib.IntN.{pos}
 use lib.ListN.{length, drop, replicate}
 use Rattle.meaning.specs.Condition as C
@@ -18,12 +18,10 @@ use Rattle.statement.specs.Catalog.{catalog}
 use Rattle.statement.specs.declared.Name.{Name}
 use Rattle.statement.specs.declared.Table.{Table}
 use Rattle.statement.specs.declared.Operand.{Operand}
-use Rattle.statement.specs.declared.Operand.the-variants.{Column, Constant, Parameter}
 use Rattle.statement.specs.declared.Comparison.{Comparison}
 use Rattle.statement.specs.declared.Condition.{Condition}
 use Rattle.statement.specs.declared.Query.{Query}
 use Rattle.statement.specs.declared.Value.{Value}
-use Rattle.statement.specs.declared.Value.the-variants.{Constant as ConstantValue, Parameter as ParameterValue}
 use Rattle.statement.specs.declared.Setting.{Setting}
 use Rattle.statement.specs.declared.Update.{Update}
 use Rattle.statement.specs.declared.Statement.{Statement}
@@ -54,25 +52,35 @@ noTable = tableStruct (record { name = []; columns = []; capacity = 0 })
 
 -- ---- conditions
 
--- question marks are counted from 0
+-- question marks are counted from 0; a number that is not used is 0
 abbrev pub markPlace : ℕ → ℕ
 markPlace zero = zero
 markPlace (suc k) = k
 
 abbrev pub valueStruct : S.Value → Value
-valueStruct (S.constant z) = ConstantValue z
-valueStruct (S.parameter k) = ParameterValue (markPlace k)
+valueStruct (S.constant z) = record { mark = 0; number = z }
+valueStruct (S.parameter k) = record { mark = suc (markPlace k); number = pos 0 }
 
 abbrev pub operandStruct : S.Operand → Operand
-operandStruct (S.column i) = Column i
-operandStruct (S.value (S.constant z)) = Constant z
-operandStruct (S.value (S.parameter k)) = Parameter (markPlace k)
+operandStruct (S.value (S.constant z)) = record { code = 0; number = z }
+operandStruct (S.value (S.parameter k)) = record { code = 2 * markPlace k + 1; number = pos 0 }
+operandStruct (S.column i) = record { code = 2 * i + 2; number = pos 0 }
+
+-- a comparison holds its operands' codes and numbers
+abbrev pub comparisonWith : Operand → ℕ → Operand → Comparison
+comparisonWith a op b = record { op = op; left = a .code; right = b .code; «left_number» = a .number; «right_number» = b .number }
+
+abbrev pub leftSide : Comparison → Operand
+leftSide c = record { code = c .left; number = c .«left_number» }
+
+abbrev pub rightSide : Comparison → Operand
+rightSide c = record { code = c .right; number = c .«right_number» }
 
 abbrev pub comparisonStruct : C.Comparison S.Operand → Comparison
-comparisonStruct c = record { left = operandStruct (c .left); op = operatorNumber (c .op); right = operandStruct (c .right) }
+comparisonStruct c = comparisonWith (operandStruct (c .left)) (operatorNumber (c .op)) (operandStruct (c .right))
 
 abbrev pub noComparison : Comparison
-noComparison = record { left = Constant (pos 0); op = 0; right = Constant (pos 0) }
+noComparison = comparisonWith (operandStruct (S.value (S.constant (pos 0)))) 0 (operandStruct (S.value (S.constant (pos 0))))
 
 abbrev pub stepOf : {A : Type 0} → Node A → ℕ
 stepOf (leaf c) = 0
@@ -102,11 +110,18 @@ noQuery = queryStruct (record { table = 0; selected = []; condition = always; pa
 
 -- ---- updates
 
+-- a setting holds its value's mark and number
+abbrev pub settingWith : ℕ → Value → Setting
+settingWith i v = record { column = i; mark = v .mark; number = v .number }
+
+abbrev pub newValue : Setting → Value
+newValue s = record { mark = s .mark; number = s .number }
+
 abbrev pub settingStruct : ℕ × S.Value → Setting
-settingStruct s = record { column = s .0; value = valueStruct (s .1) }
+settingStruct s = settingWith (s .0) (valueStruct (s .1))
 
 abbrev pub noSetting : Setting
-noSetting = record { column = 0; value = ConstantValue (pos 0) }
+noSetting = settingWith 0 (valueStruct (S.constant (pos 0)))
 
 -- the values of an INSERT, each with its place
 abbrev pub placedFrom : ℕ → List S.Value → List (ℕ × S.Value)

@@ -1,9 +1,9 @@
 -- Texts beside a table t of the columns a and b with 3 rows, which takes all cells, and what they compile to. Assumes nothing: each holds by computing.
 use mathlib.Core.Path.{_≡_, refl}
 use mathlib.Core.List.{List, [], _∷_}
-use Prim.Native.Nat.{ℕ}
+use Prim.Native.Nat.{ℕ, _+_, _*_}
 use Prim.Native.String.{String}
-use lib.IntN.{pos}
+use lib.IntN.{ℤ, pos}
 use Rattle.lists.specs.Lists.{bytes}
 use Rattle.meaning.specs.Tokens.{isNameByte, isWordByte, decimal, isName, word, negative, tokenFrom, firstToken, scan, tokens}
 use Rattle.meaning.specs.Grammar.{aCondition, aSentence, read}
@@ -11,9 +11,8 @@ use Rattle.meaning.specs.Limits.{pastLimit}
 use Rattle.meaning.specs.Names.{unknown, taken, miscounted}
 use Rattle.meaning.specs.Statement.{statementOf}
 use Rattle.meaning.specs.Plain.{otherLengths, noPlace}
-use Rattle.statement.specs.Compiled.{padded, tableStruct, noComparison, noSetting, asked, changing, refusedBy, structOf, compiledOf}
-use Rattle.statement.specs.declared.Operand.the-variants.{Column, Constant, Parameter}
-use Rattle.statement.specs.declared.Value.the-variants.{Constant as ConstantValue, Parameter as ParameterValue}
+use Rattle.statement.specs.Compiled.{padded, tableStruct, comparisonWith, noComparison, noSetting, asked, changing, refusedBy, structOf, compiledOf}
+use Rattle.statement.specs.declared.Operand.{Operand}
 use Rattle.statement.specs.declared.Table.{Table}
 use Rattle.statement.specs.declared.Statement.{Statement}
 
@@ -24,6 +23,15 @@ computing = tt
 
 abbrev t : Table
 t = tableStruct (record { name = bytes "t"; columns = bytes "a" ∷ bytes "b" ∷ []; capacity = 3 })
+
+abbrev constant : ℤ → Operand
+constant z = record { code = 0; number = z }
+
+abbrev parameter : ℕ → Operand
+parameter k = record { code = 2 * k + 1; number = pos 0 }
+
+abbrev column : ℕ → Operand
+column i = record { code = 2 * i + 2; number = pos 0 }
 
 abbrev compiled : String → Statement
 compiled text = compiledOf (bytes text) (t ∷ []) 1 0 0 6
@@ -38,7 +46,7 @@ select-b :
       parameters = 1;
       condition = record {
         comparisons = padded 8 noComparison
-            (record { left = Column 0; op = 1; right = Constant (pos 1) } ∷ record { left = Column 1; op = 5; right = Parameter 0 } ∷ []);
+            (comparisonWith (column 0) 1 (constant (pos 1)) ∷ comparisonWith (column 1) 5 (parameter 0) ∷ []);
         steps = padded 15 0 (0 ∷ 0 ∷ 2 ∷ []);
         count = 2;
       };
@@ -52,11 +60,11 @@ update-b-a :
     ≡ changing (record {
       form = 1;
       table = 0;
-      settings = padded 8 noSetting (record { column = 1; value = ParameterValue 0 } ∷ record { column = 0; value = ConstantValue (pos 5) } ∷ []);
+      settings = padded 8 noSetting (record { column = 1; mark = 1; number = pos 0 } ∷ record { column = 0; mark = 0; number = pos 5 } ∷ []);
       count = 2;
       parameters = 2;
       condition = record {
-        comparisons = padded 8 noComparison (record { left = Parameter 1; op = 0; right = Column 0 } ∷ []);
+        comparisons = padded 8 noComparison (comparisonWith (parameter 1) 0 (column 0) ∷ []);
         steps = padded 15 0 (0 ∷ []);
         count = 1;
       };

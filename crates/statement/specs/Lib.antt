@@ -1,3 +1,4 @@
+pub mod Operators
 pub mod Places
 pub mod Reading
 pub mod Sentences

@@ -1,18 +1,16 @@
 -- What stands at a place of a text: the code notes where the tokens of a sentence start, and these definitions say what it has noted.
 -- Assumes nothing: these are definitions.
-use mathlib.Core.Bool.{Bool, true, false, cond}
+use mathlib.Core.Bool.{cond}
 use mathlib.Core.Option.{Option, none, some}
 use mathlib.Core.List.{List, [], _∷_}
 use Prim.Native.Nat.{ℕ, zero, suc}
 use lib.Dec.{ltb, eqb}
-use lib.IntN.{ℤ, pos}
+use lib.IntN.{ℤ}
 use lib.ListN.{drop, getD}
-use Rattle.meaning.specs.Operator.{Operator, eq, ne, lt, le, gt, ge}
-use Rattle.meaning.specs.Condition.{Comparison}
 use Rattle.meaning.specs.Postfix.{Node, leaf, allOf, anyOf}
-use Rattle.meaning.specs.Tokens as T
 use Rattle.meaning.specs.Tokens.{Name, Token, other, firstToken}
 use Rattle.meaning.specs.Grammar.{Given, constant, mark, Term, column, given, nameOf, constantOf}
+use Rattle.statement.specs.Operators.{operatorAt}
 
 -- the token that starts at a place, or `other`
 abbrev pub first : Option (Token × List ℕ) → Token
@@ -44,16 +42,16 @@ orGiven v (some n) = column n
 abbrev pub termOn : List ℕ → ℕ → Term
 termOn s p = orGiven (givenOn s p) (nameOf (tokenOn s p))
 
--- the six operators by their numbers
-abbrev pub operators : List Operator
-operators = eq ∷ ne ∷ lt ∷ le ∷ gt ∷ ge ∷ []
+-- the codes of AND and OR, far from the operators' numbers
+abbrev pub andCode : ℕ
+andCode = 256
 
-abbrev pub operatorAt : ℕ → Operator
-operatorAt k = getD operators k eq
+abbrev pub orCode : ℕ
+orCode = 257
 
--- a node by its number and the places of its sides: 0 to 5 a comparison, 6 AND, 7 OR
+-- a node by its code and the places of its sides: a comparison by its operator's number, AND, or OR
 abbrev pub nodeOn : List ℕ → ℕ → ℕ → ℕ → Node Term
-nodeOn s k a b = cond (ltb k 6) (leaf (record { left = termOn s a; op = operatorAt k; right = termOn s b })) (cond (eqb k 6) allOf anyOf)
+nodeOn s k a b = cond (ltb k 6) (leaf (record { left = termOn s a; op = operatorAt k; right = termOn s b })) (cond (eqb k andCode) allOf anyOf)
 
 -- the first n nodes that are noted, three numbers a node
 abbrev pub nodesOn : List ℕ → ℕ → List ℕ → List (Node Term)

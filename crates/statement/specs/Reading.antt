@@ -3,14 +3,14 @@ use mathlib.Core.Path.{_≡_}
 use mathlib.Core.Bool.{Bool, true, false, _&&_, _||_, cond}
 use mathlib.Core.Option.{Option, none, some}
 use mathlib.Core.List.{List, [], _∷_, _++_}
-use Prim.Native.Nat.{ℕ, suc, _+_, _-_, _*_, _≤_, _<_}
+use Prim.Native.Nat.{ℕ, _+_, _-_, _*_, _≤_, _<_}
 use lib.Dec.{leb, ltb, eqb}
-use lib.ListN.{length, drop, getD}
-use Rattle.meaning.specs.Condition.{Comparison, Level, atom, conjunction, disjunction, Condition, compare, negate, group, alone, both, single, either, comparisons, sides}
-use Rattle.meaning.specs.Postfix.{Node, nodes}
+use lib.ListN.{length, drop}
+use Rattle.meaning.specs.Condition.{Level, atom, conjunction, disjunction, Condition, compare, negate, group, alone, both, single, either, comparisons, sides}
+use Rattle.meaning.specs.Postfix.{nodes}
 use Rattle.meaning.specs.Tokens as T
 use Rattle.meaning.specs.Tokens.{tokens, rparen}
-use Rattle.meaning.specs.Grammar.{Given, Term, column, given, expect, aCondition}
+use Rattle.meaning.specs.Grammar.{Term, column, given, expect, aCondition}
 use Rattle.meaning.specs.Limits.{most-name, most-depth, outside32, termGivens, markCount}
 use Rattle.token.specs.declared.Token.{Token}
 use Rattle.statement.specs.Places.{nodeOn, nodesOn}
@@ -36,10 +36,6 @@ isComparison kind = leb 9 kind && leb kind 14
 -- how many question marks
 abbrev pub marksAt : ℕ → ℕ
 marksAt kind = cond (eqb kind 5) 1 0
-
--- the comparison that holds where k does not: = <>, < >=, <= >
-unfoldable pub oppositeOf : ℕ → ℕ
-oppositeOf k = cond (ltb k 6) (getD (1 ∷ 0 ∷ 5 ∷ 4 ∷ 3 ∷ 2 ∷ []) k 0) k
 
 -- ---- cursors
 

@@ -4,7 +4,7 @@ use mathlib.Core.Path.{_≡_}
 use mathlib.Core.Bool.{Bool, true, false, not, _&&_, _||_, cond}
 use mathlib.Core.Option.{Option, none, some}
 use mathlib.Core.List.{List, [], _∷_, _++_, map}
-use Prim.Native.Nat.{ℕ, zero, suc, _+_, _-_, _*_, _≤_, _<_}
+use Prim.Native.Nat.{ℕ, zero, suc, _+_, _-_, _*_, _/_, _≤_, _<_}
 use lib.Dec.{leb, ltb, eqb}
 use lib.IntN.{ℤ, pos}
 use lib.ListN.{length, drop, getD, set}
@@ -15,7 +15,7 @@ use Rattle.meaning.specs.Postfix.{nodesIn}
 use Rattle.meaning.specs.Tokens as T
 use Rattle.meaning.specs.Tokens.{Name, Token, tokens}
 use Rattle.meaning.specs.Grammar.{Given, Term, items, Sentence, table, select, insert, update, delete, Reader, expect, constantOf, aToken, aName, aGiven, aSetting, aList, aWhere, aDelete, aSentence}
-use Rattle.meaning.specs.Limits.{most-name, most-rows, most-items, tableNamed, whereOf, termGivens, markCount, givens, outside32, pastLimit}
+use Rattle.meaning.specs.Limits.{most-name, most-rows, most-items, most-marks, most-comparisons, tableNamed, whereOf, termGivens, markCount, givens, outside32, pastLimit}
 use Rattle.token.specs.Tokens.{kindOf}
 use Rattle.statement.specs.Places.{tokenOn, nameOn, givenOn, nodesOn}
 use Rattle.statement.specs.Reading.{Stands, conditionPast}
@@ -197,6 +197,10 @@ listLength (insert t vs) = length (items vs)
 listLength (update t ss w) = length (items ss)
 listLength (delete t w) = 0
 
+-- past a limit by a part of its own, or by too many items, question marks or comparisons; a condition of n nodes has (n + 1) / 2 comparisons
+abbrev pub overOn : Entry → Bool
+overOn r = r .c .over || (ltb most-items (r .listed) || (ltb most-marks (r .c .marks) || ltb most-comparisons ((r .c .nodes + 1) / 2)))
+
 -- a TABLE's ROWS stands at p
 abbrev pub RowsAt : List ℕ → ℕ → Sentence → Type 0
 RowsAt s p (table t cs z) = tokenOn s p ≡ T.constant z
@@ -225,7 +229,7 @@ GivensAt s n ls (delete t w) = Unit {0}
 pub record Entered (s ls ps : List ℕ) (r : Entry) (x : Sentence) : Type 0 where
   pub ok : r .c .ok ≡ true
   pub form : r .form ≡ formOf x
-  pub past : pastLimit x ≡ (r .c .over || (ltb 8 (r .listed) || (ltb 8 (r .c .marks) || ltb 15 (r .c .nodes))))
+  pub past : pastLimit x ≡ overOn r
   pub table : nameOn s (r .table) ≡ tableNamed x
   pub rows : RowsAt s (r .rows) x
   pub listed-are : r .listed ≡ listLength x

@@ -2,17 +2,17 @@
 -- rest"). How its used entries are read, the tests of it, and what it is to be the compiled form of a sentence: proofs/SoundQuery, SoundUpdate and SoundTable
 -- show that the tests hold of those forms alone. Entries past the counts do not matter. Assumes nothing: these are definitions.
 use mathlib.Core.Path.{_≡_}
-use mathlib.Core.Bool.{Bool, true, false, not, _&&_}
+use mathlib.Core.Bool.{Bool, true, false, not, _&&_, cond}
 use mathlib.Core.List.{List, [], _∷_, _++_, map}
-use Prim.Native.Nat.{ℕ, zero, suc, _+_, _*_, _-_, _≤_}
+use Prim.Native.Nat.{ℕ, zero, suc, _+_, _*_, _-_, _/_, _%_, _≤_}
 use lib.Dec.{eqb, leb, ltb}
-use lib.IntN.{pos}
+use lib.IntN.{ℤ, pos}
 use lib.ListN.{length, getD, take}
 use Rattle.lists.specs.Lists.{All, all, repeats, from}
 use Rattle.lists.specs.Tests.{eqList}
-use Rattle.meaning.specs.Operator.{Operator, eq, ne, lt, le, gt, ge}
+use Rattle.meaning.specs.Operator.{eq}
 use Rattle.meaning.specs.Condition as C
-use Rattle.meaning.specs.Condition.{Where, always, sides, comparisonsIn}
+use Rattle.meaning.specs.Condition.{Where, sides, comparisonsIn}
 use Rattle.meaning.specs.Postfix.{Node, leaf, allOf, anyOf, nodesIn, leaves, isPostfix}
 use Rattle.meaning.specs.Resolve.{parameterCount, numberedOn, numberedFrom, columnsBelow}
 use Rattle.meaning.specs.Tokens.{isName}
@@ -20,20 +20,18 @@ use Rattle.meaning.specs.Grammar.{Sentence}
 use Rattle.meaning.specs.Limits.{most-items, most-rows, most-marks, most-comparisons, most-name, tableNamed, columnsNamed, isWithin32, pastLimit}
 use Rattle.meaning.specs.Names.{Schema, noSchema, sameName, has, tableNames, unknown, taken, miscounted}
 use Rattle.meaning.specs.Statement as M
-use Rattle.meaning.specs.Statement.{column, value, constant, parameter, insert, delete, update, creates, asks, changes, statementOf}
-use Rattle.statement.specs.Places.{operatorAt}
+use Rattle.meaning.specs.Statement.{column, value, constant, parameter, creates, asks, changes, statementOf}
+use Rattle.statement.specs.Operators.{operatorAt}
 use Rattle.statement.specs.Catalog.{nameOfStruct, schemaOf}
-use Rattle.statement.specs.Compiled.{stepOf, formOfChange, settingsOfChange, whereOfChange}
+use Rattle.statement.specs.Compiled.{leftSide, rightSide, newValue, stepOf, formOfChange, settingsOfChange, whereOfChange}
 use Rattle.token.specs.Tokens.{operatorNumber}
 use Rattle.statement.specs.declared.Name.{Name}
 use Rattle.statement.specs.declared.Table.{Table}
 use Rattle.statement.specs.declared.Operand.{Operand}
-use Rattle.statement.specs.declared.Operand.the-variants.{Column, Constant, Parameter}
 use Rattle.statement.specs.declared.Comparison.{Comparison}
 use Rattle.statement.specs.declared.Condition.{Condition}
 use Rattle.statement.specs.declared.Query.{Query}
 use Rattle.statement.specs.declared.Value.{Value}
-use Rattle.statement.specs.declared.Value.the-variants as Given
 use Rattle.statement.specs.declared.Setting.{Setting}
 use Rattle.statement.specs.declared.Update.{Update}
 
@@ -42,18 +40,23 @@ use Rattle.statement.specs.declared.Update.{Update}
 abbrev pub usedColumns : Table → List Name
 usedColumns t = take (t .count) (t .columns)
 
--- parameters are counted from 0; document 01 numbers question marks from 1
+-- a value by its mark: 0 the constant z, else that question mark; document 01 numbers question marks from 1
+abbrev pub valueBy : ℕ → ℤ → M.Value
+valueBy zero z = constant z
+valueBy (suc k) z = parameter (suc k)
+
+-- an operand by its code: 0 the constant z, 2 k + 1 parameter k counted from 0, 2 i + 2 column i
+abbrev pub operandBy : ℕ → ℤ → M.Operand
+operandBy n z = cond (eqb n 0) (value (constant z)) (cond (eqb (n % 2) 1) (value (parameter (suc (n / 2)))) (column (n / 2 - 1)))
+
 abbrev pub valueRead : Value → M.Value
-valueRead (Given.Constant z) = constant z
-valueRead (Given.Parameter k) = parameter (suc k)
+valueRead v = valueBy (v .mark) (v .number)
 
 abbrev pub operandRead : Operand → M.Operand
-operandRead (Column i) = column i
-operandRead (Constant z) = value (constant z)
-operandRead (Parameter k) = value (parameter (suc k))
+operandRead o = operandBy (o .code) (o .number)
 
 abbrev pub comparisonRead : Comparison → C.Comparison M.Operand
-comparisonRead c = record { left = operandRead (c .left); op = operatorAt (c .op); right = operandRead (c .right) }
+comparisonRead c = record { left = operandRead (leftSide c); op = operatorAt (c .op); right = operandRead (rightSide c) }
 
 abbrev pub noComparison : C.Comparison M.Operand
 noComparison = record { left = value (constant (pos 0)); op = eq; right = value (constant (pos 0)) }
@@ -80,7 +83,7 @@ abbrev pub usedSettings : Update → List Setting
 usedSettings u = take (u .count) (u .settings)
 
 abbrev pub settingRead : Setting → ℕ × M.Value
-settingRead s = (s .column, valueRead (s .value))
+settingRead s = (s .column, valueRead (newValue s))
 
 abbrev pub settingsRead : Update → List (ℕ × M.Value)
 settingsRead u = map settingRead (usedSettings u)
@@ -130,18 +133,16 @@ soundCondition columns m c =
 abbrev pub conditionMarks : Condition → ℕ
 conditionMarks c = parameterCount (sides (leaves (conditionNodes c)))
 
-abbrev pub columnsAt : List Schema → ℕ → ℕ
-columnsAt ts i = length (getD ts i noSchema .columns)
+-- a statement's condition, where with its own question marks there are p
+unfoldable pub soundConditionOn : ℕ → ℕ → ℕ → Condition → Bool
+soundConditionOn columns m p c = soundCondition columns m c && (eqb p (m + conditionMarks c) && leb p most-marks)
 
--- a question beside the tables that there are
-unfoldable pub soundQuery : List Schema → Query → Bool
-soundQuery ts q =
-    ltb (q .table) (length ts)
-    && (leb 1 (q .count)
+-- a question of a table of so many columns
+abbrev pub soundQueryOn : ℕ → Query → Bool
+soundQueryOn columns q =
+    leb 1 (q .count)
     && (leb (q .count) most-items
-    && (all (λ (i : ℕ). ltb i (columnsAt ts (q .table))) (take (q .count) (q .selected))
-    && (soundCondition (columnsAt ts (q .table)) 0 (q .condition)
-    && (eqb (q .parameters) (conditionMarks (q .condition)) && leb (q .parameters) most-marks)))))
+    && (all (λ (i : ℕ). ltb i columns) (take (q .count) (q .selected)) && soundConditionOn columns 0 (q .parameters) (q .condition)))
 
 -- the settings of an INSERT, an UPDATE or a DELETE of a table of so many columns
 abbrev pub soundForm : ℕ → ℕ → Update → Bool
@@ -153,14 +154,21 @@ soundForm (suc zero) columns u =
 soundForm (suc (suc zero)) columns u = eqb (u .count) 0
 soundForm (suc (suc (suc k))) columns u = false
 
--- an update beside the tables that there are: question marks of VALUES or SET stand before those of the condition
+-- an update of a table of so many columns: question marks of VALUES or SET stand before those of the condition
+abbrev pub soundUpdateOn : ℕ → Update → Bool
+soundUpdateOn columns u =
+    soundForm (u .form) columns u
+    && (numberedOn 0 (settingOperands u) && soundConditionOn columns (parameterCount (settingOperands u)) (u .parameters) (u .condition))
+
+-- both beside the tables that there are
+abbrev pub columnsAt : List Schema → ℕ → ℕ
+columnsAt ts i = length (getD ts i noSchema .columns)
+
+unfoldable pub soundQuery : List Schema → Query → Bool
+soundQuery ts q = ltb (q .table) (length ts) && soundQueryOn (columnsAt ts (q .table)) q
+
 unfoldable pub soundUpdate : List Schema → Update → Bool
-soundUpdate ts u =
-    ltb (u .table) (length ts)
-    && (soundForm (u .form) (columnsAt ts (u .table)) u
-    && (numberedOn 0 (settingOperands u)
-    && (soundCondition (columnsAt ts (u .table)) (parameterCount (settingOperands u)) (u .condition)
-    && (eqb (u .parameters) (parameterCount (settingOperands u) + conditionMarks (u .condition)) && leb (u .parameters) most-marks))))
+soundUpdate ts u = ltb (u .table) (length ts) && soundUpdateOn (columnsAt ts (u .table)) u
 
 -- ---- the compiled form of a sentence
 
@@ -240,16 +248,13 @@ pub record TablesFit (ts : List Schema) : Type 0 where
 
 -- what the structs' types give: lengths of arrays, and 32 bits of constants
 abbrev pub ValueFits : Value → Type 0
-ValueFits (Given.Constant z) = isWithin32 z ≡ true
-ValueFits (Given.Parameter k) = Unit {0}
+ValueFits v = isWithin32 (v .number) ≡ true
 
 abbrev pub OperandFits : Operand → Type 0
-OperandFits (Column i) = Unit {0}
-OperandFits (Constant z) = isWithin32 z ≡ true
-OperandFits (Parameter k) = Unit {0}
+OperandFits o = isWithin32 (o .number) ≡ true
 
 abbrev pub ComparisonFits : Comparison → Type 0
-ComparisonFits c = OperandFits (c .left) × OperandFits (c .right)
+ComparisonFits c = OperandFits (leftSide c) × OperandFits (rightSide c)
 
 pub record ConditionFits (c : Condition) : Type 0 where
   pub eight : length (c .comparisons) ≡ 8
@@ -262,7 +267,7 @@ pub record QueryFits (q : Query) : Type 0 where
 
 pub record UpdateFits (u : Update) : Type 0 where
   pub eight : length (u .settings) ≡ 8
-  pub constants : All (λ (s : Setting). ValueFits (s .value)) (u .settings)
+  pub constants : All (λ (s : Setting). ValueFits (newValue s)) (u .settings)
   pub condition-fits : ConditionFits (u .condition)
 
 abbrev pub NameFits : Name → Type 0

@@ -1,7 +1,9 @@
 // Conditions: the readers of OR, AND and single conditions call each other in a cycle, and the text that remains gets shorter. They note each comparison and
 // each AND and OR in an array that is lent down the cycle, in postfix order with NOT pushed to the comparisons; what goes in and out by value is a cursor.
+use super::Comparison;
 use super::Condition;
 use super::Name;
+use super::operators;
 use token::Token;
 ghost use mathlib.Core.Path.{_≡_};
 ghost use mathlib.Core.Bool.{true, cond};
@@ -12,7 +14,8 @@ ghost use Rattle.meaning.specs.Limits.{most-text};
 ghost use Rattle.meaning.specs.Grammar.{aComparison};
 ghost use Rattle.meaning.specs.Tokens.{tokens};
 ghost use Rattle.token.specs.Tokens.{tokenAt};
-ghost use Rattle.statement.specs.Reading.{past, isOperand, isComparison, oppositeOf, withSides, PutsNode, Stands, Meets, Reads, Closes};
+ghost use Rattle.statement.specs.Operators.{oppositeOf};
+ghost use Rattle.statement.specs.Reading.{past, isOperand, isComparison, withSides, PutsNode, Stands, Meets, Reads, Closes};
 
 // Where a reader stands in a text, and what it has counted: nodes of the condition, question marks. `over` says that a limit was passed by a name, a constant or
 // the depth; a reader that failed is not `ok`.
@@ -27,6 +30,12 @@ pub struct Cursor {
 impl Cursor {
     // The numbers that are noted of a condition: three a node.
     pub const PLACES: usize = 3 * Condition::STEPS;
+    // A node's code: that of a comparison is its operator, below these; those of AND and OR lie far from them.
+    pub const OPERATORS: u16 = Comparison::OPERATORS as u16;
+
+    pub const AND: u16 = 256;
+
+    pub const OR: u16 = 257;
 }
 
 // ---- tokens
@@ -59,15 +68,6 @@ fn is_comparison(kind: u8) -> bool
     (Token::EQ <= kind) & (kind <= Token::GE)
 }
 
-const OPPOSITES: [u8; 6] = [1, 0, 5, 4, 3, 2];
-
-// The comparison that holds exactly where the other does not.
-fn opposite(op: u8) -> u8
-    ensures { λ r. ⌜ r ≡ oppositeOf op ⌝ }
-{
-    if op < 6 { OPPOSITES[op as usize] } else { op }
-}
-
 // ---- nodes
 
 // How many numbers there is room for.
@@ -77,7 +77,7 @@ fn room(places: [u16; Cursor::PLACES]) -> usize
     places.len()
 }
 
-// A node at the end: a comparison (0 to 5) with the places of its sides, AND (6) or OR (7). Past the last place none is noted, but it is counted.
+// A node at the end: a comparison by its operator with the places of its sides, or AND or OR. Past the last place none is noted, but it is counted.
 fn put(places: &mut [u16; Cursor::PLACES], c: Cursor, node: u16, left: u16, right: u16) -> Cursor
     requires { ⌜ c .nodes < most-text ⌝ }
     ensures { λ r. ⌜ PutsNode (now (places .entry)) c node left right (now (places .exit)) r ⌝ }
@@ -118,7 +118,7 @@ fn put_comparison(
     d.over = c.over | ((Condition::DEPTH < depth) | (is_past(a) | is_past(b)));
     d.marks = c.marks + (either(a.kind == Token::MARK, 1, 0) + either(b.kind == Token::MARK, 1, 0));
     d.at = b.next as u16;
-    let node = either(positive, op as u16, opposite(op) as u16);
+    let node = either(positive, op as u16, operators::opposite(op) as u16);
     put(places, d, node, a.start as u16, b.start as u16)
 }
 
@@ -148,7 +148,7 @@ pub fn read_or(
     if !p.ok {
         return p;
     }
-    put(places, p, either(positive, 7, 6), 0, 0)
+    put(places, p, either(positive, Cursor::OR, Cursor::AND), 0, 0)
 }
 
 // A condition of ANDs.
@@ -175,7 +175,7 @@ fn read_and(
     if !p.ok {
         return p;
     }
-    put(places, p, either(positive, 6, 7), 0, 0)
+    put(places, p, either(positive, Cursor::AND, Cursor::OR), 0, 0)
 }
 
 // A condition in parentheses, whose inside is read: the closing one.

@@ -34,8 +34,10 @@ pub struct Entry {
 }
 
 impl Entry {
-    // The numbers that are noted of a list: two an item.
-    pub const LIST: usize = 2 * Table::COLUMNS;
+    // Room for the items of a list, whichever of the limits is its own, and for the numbers that are noted of it: two an item.
+    pub const ITEMS: usize = Table::COLUMNS;
+
+    pub const LIST: usize = 2 * Entry::ITEMS;
 
     pub const TABLE: u8 = 0;
 
@@ -171,7 +173,7 @@ fn room(list: [u16; Entry::LIST]) -> usize
     list.len()
 }
 
-// An item at the end of the list, by the places of its name and its value. Past the eighth none is noted, but it is counted.
+// An item at the end of the list, by the places of its name and its value. Past the last place none is noted, but it is counted.
 fn put_item(list: &mut [u16; Entry::LIST], listed: u16, name: u16, value: u16) -> u16
     requires { ⌜ listed ≤ most-text ⌝ }
     ensures { λ r. ⌜ (r ≡ listed + 1) × PutsItem (now (list .entry)) listed name value (now (list .exit)) ⌝ }
@@ -405,7 +407,7 @@ fn read_form(
     c.ok = false;
     Entry {
         c,
-        form: 0,
+        form: Entry::TABLE,
         table: 0,
         rows: 0,
         listed: 0,

@@ -11,6 +11,7 @@ use lib.Seq.{drop-cons, getD-take, length-take-le}
 use Rattle.meaning.specs.Statement as M
 use Rattle.meaning.specs.Meaning.{valueOf, assigned}
 use Rattle.statement.specs.declared.Setting.{Setting}
+use Rattle.statement.specs.Compiled.{newValue}
 use Rattle.statement.specs.Sound.{valueRead, settingRead}
 use Rattle.table.specs.Changed.{rowOf}
 
@@ -24,22 +25,22 @@ module _ (vs : List ℤ) (settings : List Setting) (n : ℕ) (long : n ≤ lengt
       let len : length (take n settings) ≤ i = simp length-take (omega arith) in
       ap (λ (l : List Setting). made vs l row) (drop-of-length-le (take n settings) len)
 
-  pub assign-next : (d : Setting) (i : ℕ) (row row′ : List ℤ) (v : ℤ) → i < n → v ≡ valueOf vs (valueRead (getD settings i d .value)) → row′ ≡ set row (getD settings i d .column) v
+  pub assign-next : (d : Setting) (i : ℕ) (row row′ : List ℤ) (v : ℤ) → i < n → v ≡ valueOf vs (valueRead (newValue (getD settings i d))) → row′ ≡ set row (getD settings i d .column) v
       → made vs (drop (i + 1) (take n settings)) row′ ≡ made vs (drop i (take n settings)) row
   assign-next d i row row′ v hn ev er =
       let len : i < length (take n settings) = simp length-take (omega arith) in
       let e : getD (take n settings) i d ≡ getD settings i d = getD-take n settings i d hn in
-      let m : row′ ≡ set row (getD (take n settings) i d .column) (valueOf vs (valueRead (getD (take n settings) i d .value))) =
+      let m : row′ ≡ set row (getD (take n settings) i d .column) (valueOf vs (valueRead (newValue (getD (take n settings) i d)))) =
       er
       ∙ ap (λ (x : ℤ). set row (getD settings i d .column) x) ev
-      ∙ ap (λ (s : Setting). set row (s .column) (valueOf vs (valueRead (s .value)))) (sym e) in
+      ∙ ap (λ (s : Setting). set row (s .column) (valueOf vs (valueRead (newValue s)))) (sym e) in
       ap₂ (λ (k : ℕ) (r : List ℤ). made vs (drop k (take n settings)) r) (add-one i) m
       ∙ sym (ap (λ (l : List Setting). made vs l row) (drop-cons (take n settings) i d len))
 
 -- the row of an INSERT, value by value
 module _ (vs : List ℤ) where
   abbrev valueIn : Setting → ℤ
-  valueIn s = valueOf vs (valueRead (s .value))
+  valueIn s = valueOf vs (valueRead (newValue s))
 
   row-is : (ss : List Setting) → rowOf ss vs ≡ map valueIn ss
   row-is [] = refl

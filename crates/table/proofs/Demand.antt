@@ -5,6 +5,7 @@
 -- Assumes nothing.
 use mathlib.Core.Path.{_≡_, refl, sym, ap, _∙_, subst}
 use mathlib.Core.Bool.{Bool, true, false, not, cond}
+use mathlib.Core.Option.{some}
 use mathlib.Core.List.{List, [], map}
 use Prim.Native.Nat.{ℕ, zero, suc, _+_, _≤_}
 use native.Mathlib.Omega.{arith}
@@ -21,7 +22,10 @@ use Rattle.meaning.specs.Demand.{Is32, IsRow, ReadsBack}
 use Rattle.meaning.specs.Limits.{most-items, most-rows}
 use Rattle.meaning.specs.Meaning.{Row, cell, answer}
 use Rattle.meaning.specs.Cells.{rowsIn}
-use Rattle.meaning.specs.Names.{Schema, sameName, has, tableNames}
+use Rattle.meaning.specs.Grammar as G
+use Rattle.meaning.specs.Grammar.{Sentence, items, sentence}
+use Rattle.meaning.specs.Names.{Schema, sameName, has, tableNames, columnsOf, position}
+use Rattle.meaning.specs.Statement.{settingMarks, resolvedWhere, statementOf}
 use Rattle.meaning.proofs.Cells.{rows-length}
 use Rattle.meaning.proofs.Within32.{Row32}
 use Rattle.answer.specs.Answer.{put}
@@ -29,11 +33,14 @@ use Rattle.answer.proofs.Buffers.{put-fits}
 use Rattle.answer.proofs.Laws.{buffer-reads-back}
 use Rattle.statement.specs.declared.Query.{Query}
 use Rattle.statement.specs.declared.Table.{Table}
-use Rattle.statement.specs.Catalog.{nameOfStruct}
-use Rattle.statement.specs.Sound.{QueryFits, soundName, usedColumns, soundQuery, soundTable}
-use Rattle.table.specs.Demand.{leaves, Askable, SelectReadsBack, SelectMeans, RowsRead, Demands}
+use Rattle.statement.specs.declared.Statement.{Statement}
+use Rattle.statement.specs.Catalog.{nameOfStruct, schemasOf}
+use Rattle.statement.specs.Compiled.{structOf, compiledOf}
+use Rattle.statement.proofs.SoundCompiled.{query-agrees, update-agrees, compiled-is}
+use Rattle.statement.specs.Sound.{AgreesCondition, QueryFits, soundName, usedColumns, soundQuery, soundTable}
+use Rattle.table.specs.Demand.{leaves, Askable, SelectReadsBack, SelectMeans, RowsRead, PositionsFound, RowTestMeans, Demands}
 use Rattle.table.specs.Evaluated.{meetsStored, rowCells, rowsUsed, selectedStored, answerStored, recordStored, selectedBy, selectedIn}
-use Rattle.table.proofs.Means.{answer-means}
+use Rattle.table.proofs.Means.{meets-where, answer-means}
 
 All-drop : {A : Type 0} {P : A → Type 0} {l : List A} (n : ℕ) → All P l → All P (drop n l)
 All-drop zero h = h
@@ -93,9 +100,9 @@ module _ (q : Query) (vs : List ℤ) (rows : List Row) where
   pub put-reads-back : (out : List ℕ) → 1 ≤ length (take (q .count) (q .selected)) → length (take (q .count) (q .selected)) ≤ most-items → length rows ≤ most-rows → All Row32 rows
       → length (recordStored q vs rows) ≤ length out
       → ReadsBack (put out 0 (recordStored q vs rows)) (length (take (q .count) (q .selected))) (answerStored q vs rows)
-  put-reads-back out some few most h fits =
+  put-reads-back out least few most h fits =
       subst (λ (bs : List ℕ). ReadsBack bs (length (take (q .count) (q .selected))) (answerStored q vs rows)) (sym (put-fits out 0 (recordStored q vs rows) (omega arith)))
-      (buffer-reads-back out (length (take (q .count) (q .selected))) (answerStored q vs rows) some few (omega (arith, listed-few)) (listed-rows h))
+      (buffer-reads-back out (length (take (q .count) (q .selected))) (answerStored q vs rows) least few (omega (arith, listed-few)) (listed-rows h))
 
 -- ---- the claims
 
@@ -130,5 +137,32 @@ sound-askable q t ts others cells Q s k h narrow =
 pub rows-read : RowsRead
 rows-read q t start cells vs out h e = taken out (rowsUsed t start cells) (recordStored q vs (rowsUsed t start cells)) e .1 ∙ used-all t start cells h
 
+-- ---- request A.3
+
+pub positions-found : PositionsFound
+unfolding structOf statementOf
+positions-found text tables used queries updates cells h =
+    record {
+      selected = λ cs t w e. subst (λ (r : Statement). take (r .query .count) (r .query .selected) ≡ map (position (columnsOf ts t)) (items cs)) (sym (is _ e)) (query-agrees ts (G.select cs t w) _ refl .selected-are);
+      asked = λ cs t w e. subst (λ (r : Statement). AgreesCondition (r .query .condition) (resolvedWhere (columnsOf ts t) 0 w)) (sym (is _ e)) (query-agrees ts (G.select cs t w) _ refl .condition-is);
+      updated = λ t ss w e. subst (λ (r : Statement). AgreesCondition (r .update .condition) (resolvedWhere (columnsOf ts t) (settingMarks (items ss)) w)) (sym (is _ e)) (update-agrees ts (G.update t ss w) _ refl .condition-is);
+      deleted = λ t w e. subst (λ (r : Statement). AgreesCondition (r .update .condition) (resolvedWhere (columnsOf ts t) 0 w)) (sym (is _ e)) (update-agrees ts (G.delete t w) _ refl .condition-is);
+    }
+  where
+    ts : List Schema
+    ts = schemasOf tables used
+
+    is : (s : Sentence) → sentence text ≡ some s → compiledOf text tables used queries updates cells ≡ structOf (statementOf (schemasOf tables used) s)
+    is s e = compiled-is text tables used queries updates cells s e h
+
+pub row-test-means : RowTestMeans
+row-test-means c vs targets places numbers start P w A row short = P .says row short ∙ meets-where c w A vs row
+
 pub demands : Demands
-demands = record { select-reads-back = select-reads-back; select-means = select-means; rows-read = rows-read }
+demands = record {
+  select-reads-back = select-reads-back;
+  select-means = select-means;
+  rows-read = rows-read;
+  positions-found = positions-found;
+  row-test-means = row-test-means;
+}

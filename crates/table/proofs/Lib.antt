@@ -5,10 +5,11 @@ pub mod Updating
 pub mod Deleting
 pub mod Fitting
 pub mod Signs
-pub mod Stack
-pub mod Running
+pub mod Linking
+pub mod Means
+pub mod Tested
+pub mod Preparing
 pub mod ChangedMeans
 pub mod Selecting
 pub mod Answered
-pub mod Means
 pub mod Demand

@@ -1,19 +1,16 @@
 -- Comparisons of signed numbers as the machine makes them: `==` compares the bits, and `<` reads the numbers back from them. Assumes nothing.
-use Prim.Native.Nat.{ℕ, zero, suc, _-_, _^_}
+use Prim.Native.Nat.{ℕ, suc, _-_, _^_}
 use mathlib.Core.Path.{_≡_, refl, ap₂}
-use mathlib.Core.Logic.{_≢_}
 use mathlib.Core.Bool.{Bool, true, false}
 use native.Mathlib.Omega.{arith}
 use borrow.Author.Tests.{eq-eqb, ne-eqb, eqb-true, eqb-false}
 use lib.Dec.{eqb}
 use lib.IntN.{ℤ, pos, negsuc}
-use lib.Signed.{ltZ, leZ}
+use lib.Signed.{ltZ}
 use mir.Syntax.{w32}
 use mir.Val.{SFits, ofZ, toZ}
 use mir.Facts.{toZ-ofZ}
 use Rattle.lists.specs.Tests.{eqZ}
-use Rattle.meaning.specs.Operator.{eq}
-use Rattle.statement.specs.Places.{operatorAt}
 
 -- two tests of equal outcome
 eqb-same : (m n a b : ℕ) → (m ≡ n → a ≡ b) → (a ≡ b → m ≡ n) → eqb m n ≡ eqb a b
@@ -33,16 +30,3 @@ eq-bits (negsuc a) (negsuc b) p q = eqb-same (2 ^ 32 - suc a) (2 ^ 32 - suc b) a
 -- an order of the numbers that are read back is that of the numbers
 pub lt-bits : (a b : ℤ) → SFits w32 a → SFits w32 b → ltZ (toZ w32 (ofZ w32 a)) (toZ w32 (ofZ w32 b)) ≡ ltZ a b
 lt-bits a b p q = ap₂ ltZ (toZ-ofZ p) (toZ-ofZ q)
-
-pub le-bits : (a b : ℤ) → SFits w32 a → SFits w32 b → leZ (toZ w32 (ofZ w32 a)) (toZ w32 (ofZ w32 b)) ≡ leZ a b
-le-bits a b p q = ap₂ leZ (toZ-ofZ p) (toZ-ofZ q)
-
--- a number that is not one of 1 to 5 is that of `=`
-pub else-eq : (k : ℕ) → k ≢ 1 → k ≢ 2 → k ≢ 3 → k ≢ 4 → k ≢ 5 → operatorAt k ≡ eq
-else-eq zero a b c d e = refl
-else-eq (suc zero) a b c d e = absurd (a refl)
-else-eq (suc (suc zero)) a b c d e = absurd (b refl)
-else-eq (suc (suc (suc zero))) a b c d e = absurd (c refl)
-else-eq (suc (suc (suc (suc zero)))) a b c d e = absurd (d refl)
-else-eq (suc (suc (suc (suc (suc zero))))) a b c d e = absurd (e refl)
-else-eq (suc (suc (suc (suc (suc (suc k)))))) a b c d e = refl

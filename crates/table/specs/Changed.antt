@@ -10,13 +10,13 @@ use lib.ListN.{length, drop}
 use Rattle.lists.specs.Lists.{keep, count}
 use Rattle.meaning.specs.Statement as M
 use Rattle.meaning.specs.Meaning.{Row, newRow, assigned}
-use Rattle.meaning.specs.Cells.{rowsIn, areaOf, stored, withArea}
+use Rattle.meaning.specs.Cells.{areaOf, stored, withArea}
 use Rattle.meaning.specs.Limits.{most-items}
 use Rattle.statement.specs.declared.Setting.{Setting}
 use Rattle.statement.specs.declared.Table.{Table}
 use Rattle.statement.specs.declared.Update.{Update}
 use Rattle.statement.specs.Sound.{settingRead, settingsRead, settingValues}
-use Rattle.table.specs.Evaluated.{meetsStored}
+use Rattle.table.specs.Evaluated.{meetsStored, areaRows}
 use Rattle.table.specs.declared.changes.Changed.{Changed}
 
 -- ---- rows
@@ -64,7 +64,7 @@ pub record ChangeFits (form settings columns used size : ℕ) : Type 0 where
 
 -- the rows in use, in the area that starts there
 abbrev pub rowsBefore : Table → ℕ → List ℤ → List Row
-rowsBefore t start cells = rowsIn (t .count) (t .rows) (drop start cells)
+rowsBefore t start cells = areaRows (t .count) (t .rows) (drop start cells)
 
 -- what is counted, and the rows in use then
 unfoldable pub changedOf : ℕ → Update → List ℤ → List Row → Changed

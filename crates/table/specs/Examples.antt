@@ -1,5 +1,6 @@
 -- Questions and updates of a table t of the columns a and b with 3 rows of which 2 are in use, (7, 120) and (8, -2147483648). Assumes nothing: each holds by computing.
 use mathlib.Core.Path.{_≡_, refl}
+use mathlib.Core.Bool.{Bool, true, false}
 use mathlib.Core.List.{List, [], _∷_, map}
 use Prim.Native.Nat.{ℕ}
 use Prim.Native.String.{String}
@@ -21,11 +22,12 @@ use Rattle.statement.specs.Compiled.{nameStruct, structOf, compiledOf}
 use Rattle.statement.specs.Sound.{conditionNodes}
 use Rattle.table.specs.Changed.{rowsAfter, countAfter, areaFits, fits, changedOf, cellsAfter}
 use Rattle.table.specs.Evaluated.{meetsStored, rowsUsed, answerStored, recordStored, selectedIn}
+use Rattle.table.specs.Tests.{nextAt, passes}
 use Rattle.table.specs.declared.listing.Selected.{Selected}
 
 -- what the computations open
 computing : Unit {0}
-unfolding isNameByte isWordByte decimal isName word negative tokenFrom firstToken scan tokens aCondition aSentence read pastLimit unknown taken miscounted statementOf otherLengths noPlace structOf compiledOf conditionNodes meetsStored answerStored body encode stored rowsAfter countAfter areaFits fits changedOf cellsAfter
+unfolding isNameByte isWordByte decimal isName word negative tokenFrom firstToken scan tokens aCondition aSentence read pastLimit unknown taken miscounted statementOf otherLengths noPlace structOf compiledOf conditionNodes meetsStored answerStored body encode stored rowsAfter countAfter areaFits fits changedOf cellsAfter nextAt passes
 computing = tt
 
 abbrev t : Table
@@ -79,6 +81,34 @@ vacated = refl
 pub inserted : changed "INSERT INTO t VALUES (1, 2)" ≡ pos 7 ∷ pos 120 ∷ pos 8 ∷ low ∷ pos 1 ∷ pos 2 ∷ []
 unfolding computing
 inserted = refl
+
+-- ---- the test of a row on numbers alone (request A.3)
+
+-- as WHERE a = 7 AND b > 100 is prepared: comparison 0 leads on to 1 where its sides are equal, comparison 1 is met where the left side is greater
+abbrev both : Row → Bool
+both r = passes (9 ∷ 1 ∷ 9 ∷ 9 ∷ 9 ∷ 8 ∷ []) (0 ∷ 65535 ∷ 1 ∷ 65535 ∷ []) (pos 0 ∷ pos 7 ∷ pos 0 ∷ pos 100 ∷ []) 0 r
+
+-- as WHERE a = 7 OR b > 100 is
+abbrev either : Row → Bool
+either r = passes (1 ∷ 8 ∷ 1 ∷ 9 ∷ 9 ∷ 8 ∷ []) (0 ∷ 65535 ∷ 1 ∷ 65535 ∷ []) (pos 0 ∷ pos 7 ∷ pos 0 ∷ pos 100 ∷ []) 0 r
+
+pub both-tested : map both ((pos 7 ∷ pos 120 ∷ []) ∷ (pos 7 ∷ pos 100 ∷ []) ∷ (pos 8 ∷ pos 120 ∷ []) ∷ (pos 8 ∷ low ∷ []) ∷ []) ≡ true ∷ false ∷ false ∷ false ∷ []
+unfolding computing
+both-tested = refl
+
+pub either-tested : map either ((pos 7 ∷ pos 120 ∷ []) ∷ (pos 7 ∷ pos 100 ∷ []) ∷ (pos 8 ∷ pos 120 ∷ []) ∷ (pos 8 ∷ low ∷ []) ∷ []) ≡ true ∷ true ∷ true ∷ false ∷ []
+unfolding computing
+either-tested = refl
+
+-- no comparison: it begins where it is met
+pub absent-tested : passes [] [] [] 8 (pos 8 ∷ low ∷ []) ≡ true
+unfolding computing
+absent-tested = refl
+
+-- column b is the second place
+pub positions : compiled "SELECT b FROM t WHERE b = 7" .query .selected ≡ 1 ∷ 0 ∷ 0 ∷ 0 ∷ 0 ∷ 0 ∷ 0 ∷ 0 ∷ []
+unfolding computing
+positions = refl
 
 -- 12 bytes of one row, of two rows read; 11 bytes are too few
 pub just-fits : said "SELECT b FROM t WHERE a = 7" 12 ≡ record { refusal = 0; scanned = 2; length = 12 }

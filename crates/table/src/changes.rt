@@ -13,11 +13,12 @@ ghost use lib.Dec.{leb};
 ghost use lib.IntN.{pos};
 ghost use lib.ListN.{length, take, drop, replicate};
 ghost use Rattle.lists.specs.Lists.{keep, count};
-ghost use Rattle.meaning.specs.Cells.{rowsIn, stored};
+ghost use Rattle.meaning.specs.Cells.{stored};
 ghost use Rattle.meaning.specs.Limits.{most-items};
 ghost use Rattle.meaning.specs.Meaning.{valueOf, assigned};
 ghost use Rattle.statement.specs.Sound.{valueRead, settingRead};
-ghost use Rattle.table.specs.Evaluated.{meetsStored};
+ghost use Rattle.table.specs.Tests.{longest};
+ghost use Rattle.table.specs.Evaluated.{meetsStored, areaRows};
 ghost use Rattle.table.specs.Changed.{rowOf, settled, rowsAfter, areaFits, formFits, ChangeFits, changedOf, changeOf, cellsAfter};
 
 // What an update did: how many rows it inserted, matched or deleted, and how many are in use now.
@@ -32,16 +33,10 @@ pub struct Changed {
 fn value_of(value: Value, values: &[i32]) -> i32
     ensures { λ r. ⌜ r ≡ valueOf (now (values .entry)) (valueRead value) ⌝ }
 {
-    match value {
-        Value::Constant(z) => z,
-        Value::Parameter(k) => {
-            if (k as usize) < values.len() {
-                values[k as usize]
-            } else {
-                0
-            }
-        }
+    if value.mark == 0 {
+        return value.number;
     }
+    rows::number_at(values, value.mark - 1)
 }
 
 // Writes a row behind the first n.
@@ -53,13 +48,13 @@ fn insert_row(
     values: &[i32],
 )
     requires { ⌜ (columns ≤ most-items) × (n * columns + columns ≤ length (now area)) ⌝ }
-    ensures { λ _. ⌜ now (area .exit) ≡ stored (now (area .entry)) (n * columns) (rowsIn columns n (now (area .entry)) ++ (rowOf (take columns settings) (now (values .entry)) ∷ [])) ⌝ }
+    ensures { λ _. ⌜ now (area .exit) ≡ stored (now (area .entry)) (n * columns) (areaRows columns n (now (area .entry)) ++ (rowOf (take columns settings) (now (values .entry)) ∷ [])) ⌝ }
 {
     let start = (n as usize) * columns;
     let mut i = 0;
     while i < columns {
         let item = settings[i];
-        let value = item.value;
+        let value = item.new_value();
         let at = start + i;
         area[at] = value_of(value, values);
         i += 1;
@@ -77,7 +72,7 @@ fn assign(row: &mut [i32], settings: [Setting; Update::SETTINGS], n: usize, valu
     while i < n {
         let item = settings[i];
         let column = item.column as usize;
-        let value = item.value;
+        let value = item.new_value();
         let z = value_of(value, values);
         if column < row.len() {
             row[column] = z;
@@ -115,28 +110,22 @@ fn update_rows(
     n: usize,
     values: &[i32],
 ) -> u16
-    requires { ⌜ (used * columns ≤ length (now area)) × (n ≤ most-items) ⌝ }
-    ensures count { λ r. ⌜ r ≡ count (meetsStored condition (now (values .entry))) (rowsIn columns used (now (area .entry))) ⌝ }
-    ensures cells { λ _. ⌜ now (area .exit) ≡ stored (now (area .entry)) (used * columns) (map (settled (meetsStored condition (now (values .entry))) (assigned (map settingRead (take n settings)) (now (values .entry)))) (rowsIn columns used (now (area .entry)))) ⌝ }
+    requires { ⌜ (columns ≤ longest) × (used * columns ≤ length (now area)) × (n ≤ most-items) ⌝ }
+    ensures count { λ r. ⌜ r ≡ count (meetsStored condition (now (values .entry))) (areaRows columns used (now (area .entry))) ⌝ }
+    ensures cells { λ _. ⌜ now (area .exit) ≡ stored (now (area .entry)) (used * columns) (map (settled (meetsStored condition (now (values .entry))) (assigned (map settingRead (take n settings)) (now (values .entry)))) (areaRows columns used (now (area .entry)))) ⌝ }
 {
-    let m = rows::used(condition.count, Condition::COMPARISONS);
+    let test = rows::prepare(condition, values);
+    let targets = test.targets;
+    let places = test.places;
+    let numbers = test.numbers;
+    let begin = test.start;
     let mut at = 0;
     let mut left = used;
     let mut found: u16 = 0;
     while 0 < left {
         let end = at + columns;
-        let mut s = 1;
-        let mut next: usize = 0;
-        let mut i: usize = 0;
-        while i + 1 < 2 * m {
-            let step = condition.steps[i];
-            let there = next < m;
-            let c = condition.comparisons[rows::if_so(there, next)];
-            s = rows::stepped(s, step, there, c, &area[at..end], values);
-            next += rows::if_so(step == 0, 1);
-            i += 1;
-        }
-        found += update_row(&mut area[at..end], s % 2 == 1, settings, n, values);
+        let met = rows::meets(&targets, &places, &numbers, begin, &area[at..end]);
+        found += update_row(&mut area[at..end], met, settings, n, values);
         at = end;
         left -= 1;
     }
@@ -176,29 +165,23 @@ fn delete_rows(
     condition: Condition,
     values: &[i32],
 ) -> u16
-    requires { ⌜ used * columns ≤ length (now area) ⌝ }
-    ensures count { λ r. ⌜ r ≡ count (meetsStored condition (now (values .entry))) (rowsIn columns used (now (area .entry))) ⌝ }
-    ensures cells { λ _. ⌜ now (area .exit) ≡ stored (now (area .entry)) (used * columns) (keep (λ r. not (meetsStored condition (now (values .entry)) r)) (rowsIn columns used (now (area .entry)))) ⌝ }
+    requires { ⌜ (columns ≤ longest) × (used * columns ≤ length (now area)) ⌝ }
+    ensures count { λ r. ⌜ r ≡ count (meetsStored condition (now (values .entry))) (areaRows columns used (now (area .entry))) ⌝ }
+    ensures cells { λ _. ⌜ now (area .exit) ≡ stored (now (area .entry)) (used * columns) (keep (λ r. not (meetsStored condition (now (values .entry)) r)) (areaRows columns used (now (area .entry)))) ⌝ }
 {
-    let m = rows::used(condition.count, Condition::COMPARISONS);
+    let test = rows::prepare(condition, values);
+    let targets = test.targets;
+    let places = test.places;
+    let numbers = test.numbers;
+    let begin = test.start;
     let mut from = 0;
     let mut to = 0;
     let mut left = used;
     let mut gone: u16 = 0;
     while 0 < left {
         let end = from + columns;
-        let mut s = 1;
-        let mut next: usize = 0;
-        let mut i: usize = 0;
-        while i + 1 < 2 * m {
-            let step = condition.steps[i];
-            let there = next < m;
-            let c = condition.comparisons[rows::if_so(there, next)];
-            s = rows::stepped(s, step, there, c, &area[from..end], values);
-            next += rows::if_so(step == 0, 1);
-            i += 1;
-        }
-        if s % 2 == 1 {
+        let met = rows::meets(&targets, &places, &numbers, begin, &area[from..end]);
+        if met {
             gone += 1;
         } else {
             move_row(area, from, to, columns);
@@ -234,7 +217,7 @@ fn form_fits(update: Update, table: Table) -> bool
     if Update::SETTINGS < (update.count as usize) {
         return false;
     }
-    if update.form == 0 {
+    if update.form == Update::INSERT {
         return (table.rows < table.capacity) & (update.count == table.count);
     }
     true
@@ -248,26 +231,24 @@ fn change_area(
     update: Update,
     values: &[i32],
 ) -> Changed
-    requires { ⌜ ChangeFits (update .form) (update .count) columns used (length (now area)) ⌝ }
-    ensures counted { λ r. ⌜ r ≡ changedOf (update .form) update (now (values .entry)) (rowsIn columns used (now (area .entry))) ⌝ }
-    ensures cells { λ _. ⌜ now (area .exit) ≡ stored (now (area .entry)) (used * columns) (rowsAfter (update .form) update (now (values .entry)) (rowsIn columns used (now (area .entry)))) ⌝ }
+    requires { ⌜ (columns ≤ longest) × ChangeFits (update .form) (update .count) columns used (length (now area)) ⌝ }
+    ensures counted { λ r. ⌜ r ≡ changedOf (update .form) update (now (values .entry)) (areaRows columns used (now (area .entry))) ⌝ }
+    ensures cells { λ _. ⌜ now (area .exit) ≡ stored (now (area .entry)) (used * columns) (rowsAfter (update .form) update (now (values .entry)) (areaRows columns used (now (area .entry)))) ⌝ }
 {
-    if update.form == 0 {
-        let settings = update.settings;
+    let condition = update.condition;
+    let settings = update.settings;
+    if update.form == Update::INSERT {
         insert_row(area, columns, used, settings, values);
         return Changed {
             count: 1,
             rows: used + 1,
         };
     }
-    if update.form == 1 {
+    if update.form == Update::UPDATE {
         let n = update.count as usize;
-        let settings = update.settings;
-        let condition = update.condition;
         let count = update_rows(area, columns, used, condition, settings, n, values);
         return Changed { count, rows: used };
     }
-    let condition = update.condition;
     let count = delete_rows(area, columns, used, condition, values);
     Changed {
         count,

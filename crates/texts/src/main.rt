@@ -1,7 +1,10 @@
 // Compiles statement texts, a line of standard input each, beside the tables that the lines before it made, and prints what each comes to. A line that is
 // just an exclamation mark empties the store. There are 5,000 cells.
-ghost use Prim.Native.Nat.{_≤_};
-ghost use lib.ListN.{length};
+use script::least;
+use script::print;
+use script::print_item;
+use script::print_line;
+use script::print_signed;
 use statement::Comparison;
 use statement::Condition;
 use statement::Name;
@@ -9,11 +12,10 @@ use statement::Operand;
 use statement::Query;
 use statement::Setting;
 use statement::Statement;
+use statement::Step;
 use statement::Table;
 use statement::Update;
 use statement::Value;
-
-const OUT: i32 = 1;
 
 const CELLS: u32 = 5000;
 
@@ -44,57 +46,36 @@ fn empty() -> Store {
     }
 }
 
-fn print(text: &[u8]) {
-    io::write_all(OUT, text);
-}
-
-fn print_number(n: u64) {
-    print(b" ");
-    io::print_decimal(OUT, n);
-}
-
 fn print_byte(n: u8) {
-    print_number(n as u64);
-}
-
-// The sum of a signed number and 2 to the 31.
-fn raised(z: i32) -> u64 {
-    ((z as i64) + 2147483648) as u64
-}
-
-fn print_signed(z: i32) {
-    let n = raised(z);
-    if n < 2147483648 {
-        print(b"-");
-        io::print_decimal(OUT, 2147483648 - n);
-    } else {
-        io::print_decimal(OUT, n - 2147483648);
-    }
+    print_item(b" ", n as u64);
 }
 
 fn print_parameter(k: u8) {
-    print(b"?");
-    io::print_decimal(OUT, (k as u64) + 1);
+    print_item(b"?", (k as u64) + 1);
 }
 
 fn print_column(i: u8) {
-    print(b"c");
-    io::print_decimal(OUT, i as u64);
+    print_item(b"c", i as u64);
 }
 
 fn print_operand(o: Operand) {
-    match o {
-        Operand::Column(i) => print_column(i),
-        Operand::Constant(z) => print_signed(z),
-        Operand::Parameter(k) => print_parameter(k),
+    if o.code % 2 == 1 {
+        print_parameter(o.code / 2);
+        return;
     }
+    if o.code == 0 {
+        print_signed(o.number);
+        return;
+    }
+    print_column(o.code / 2 - 1);
 }
 
 fn print_value(v: Value) {
-    match v {
-        Value::Constant(z) => print_signed(z),
-        Value::Parameter(k) => print_parameter(k),
+    if v.mark == 0 {
+        print_signed(v.number);
+        return;
     }
+    print_parameter(v.mark - 1);
 }
 
 fn print_operator(op: u8) {
@@ -110,18 +91,11 @@ fn print_operator(op: u8) {
 
 fn print_comparison(c: Comparison) {
     print(b" ");
-    let left = c.left;
+    let left = c.left_side();
     print_operand(left);
     print_operator(c.op);
-    let right = c.right;
+    let right = c.right_side();
     print_operand(right);
-}
-
-// The lesser of two counts.
-fn least(count: usize, most: usize) -> usize
-    ensures { λ r. ⌜ r ≤ most ⌝ }
-{
-    if count < most { count } else { most }
 }
 
 // Prints a step of a condition, `printed` of whose comparisons are printed; how many are afterwards.
@@ -130,7 +104,7 @@ fn print_step(
     comparisons: [Comparison; Condition::COMPARISONS],
     printed: usize,
 ) -> usize {
-    if step == 0 {
+    if step == Step::COMPARISON {
         if printed < Condition::COMPARISONS {
             let c = comparisons[printed];
             print_comparison(c);
@@ -138,7 +112,7 @@ fn print_step(
         }
         return printed;
     }
-    if step == 1 {
+    if step == Step::AND {
         print(b" and");
     } else {
         print(b" or");
@@ -169,8 +143,7 @@ fn print_condition(c: Condition) {
 }
 
 fn print_marks(n: u8) {
-    print(b" marks");
-    print_byte(n);
+    print_item(b" marks ", n as u64);
 }
 
 fn print_selected(selected: [u8; Query::SELECTED], count: u8) {
@@ -181,8 +154,7 @@ fn print_selected(selected: [u8; Query::SELECTED], count: u8) {
 }
 
 fn print_query(q: Query) {
-    print(b" on");
-    print_byte(q.table);
+    print_item(b" on ", q.table as u64);
     print(b" selects");
     let selected = q.selected;
     print_selected(selected, q.count);
@@ -197,7 +169,7 @@ fn print_setting(s: Setting, columns: bool) {
         print_column(s.column);
         print(b"=");
     }
-    let value = s.value;
+    let value = s.new_value();
     print_value(value);
 }
 
@@ -211,18 +183,15 @@ fn print_settings(settings: [Setting; Update::SETTINGS], count: u8, columns: boo
 fn print_update(u: Update) {
     let settings = u.settings;
     if u.form == Update::INSERT {
-        print(b" insert");
-        print_byte(u.table);
+        print_item(b" insert ", u.table as u64);
         print(b" values");
         print_settings(settings, u.count, false);
     } else if u.form == Update::UPDATE {
-        print(b" update");
-        print_byte(u.table);
+        print_item(b" update ", u.table as u64);
         print(b" sets");
         print_settings(settings, u.count, true);
     } else {
-        print(b" delete");
-        print_byte(u.table);
+        print_item(b" delete ", u.table as u64);
     }
     print_marks(u.parameters);
     let condition = u.condition;
@@ -230,65 +199,62 @@ fn print_update(u: Update) {
 }
 
 fn print_table(t: Table) {
-    print(b" columns");
-    print_byte(t.count);
-    print(b" rows");
-    print_number(t.capacity as u64);
+    print_item(b" columns ", t.count as u64);
+    print_item(b" rows ", t.capacity as u64);
+}
+
+// One more, up to a limit.
+fn one_more(n: u8, most: u8) -> u8 {
+    if n < most { n + 1 } else { n }
+}
+
+fn with_table(mut s: Store, t: Table) -> Store {
+    let i = s.used as usize;
+    if i < Table::TABLES {
+        s.tables[i] = t;
+        s.used = s.used + 1;
+    }
+    s
 }
 
 // The store with what a statement adds.
-fn added(s: Store, st: Statement) -> Store {
-    let mut next = s;
+fn added(mut s: Store, st: Statement) -> Store {
     if st.kind == Statement::TABLE {
-        let used = s.used as usize;
-        if used < Table::TABLES {
-            let t = st.table;
-            next.tables[used] = t;
-            next.used = s.used + 1;
-        }
-    } else if st.kind == Statement::QUERY {
-        if (s.queries as usize) < Query::QUERIES {
-            next.queries = s.queries + 1;
-        }
-    } else if st.kind == Statement::UPDATE {
-        if (s.updates as usize) < Update::UPDATES {
-            next.updates = s.updates + 1;
-        }
+        return with_table(s, st.table);
     }
-    next
+    if st.kind == Statement::QUERY {
+        s.queries = one_more(s.queries, Query::QUERIES as u8);
+        return s;
+    }
+    s.updates = one_more(s.updates, Update::UPDATES as u8);
+    s
 }
 
 fn print_statement(s: Store, st: Statement) {
     if st.kind == Statement::TABLE {
-        print(b"table");
-        print_byte(s.used);
+        print_item(b"table ", s.used as u64);
         let t = st.table;
         print_table(t);
     } else if st.kind == Statement::QUERY {
-        print(b"query");
-        print_byte(s.queries);
+        print_item(b"query ", s.queries as u64);
         let q = st.query;
         print_query(q);
     } else {
-        print(b"update");
-        print_byte(s.updates);
+        print_item(b"update ", s.updates as u64);
         let u = st.update;
         print_update(u);
     }
 }
 
-fn run(s: Store, text: &[u8]) -> Store {
-    if text.len() == 1 {
-        if text[0] == b'!' {
-            return empty();
-        }
-    }
+fn compile(s: Store, text: &[u8]) -> Statement {
     let tables = s.tables;
-    let st = Statement::compile(text, tables, s.used, s.queries, s.updates, CELLS);
+    Statement::compile(text, tables, s.used, s.queries, s.updates, CELLS)
+}
+
+// Prints what a statement comes to; the store with it.
+fn keep(s: Store, st: Statement) -> Store {
     if st.refusal != 0 {
-        print(b"refused");
-        print_byte(st.refusal);
-        print(b"\n");
+        print_line(b"refused ", st.refusal as u64);
         return s;
     }
     print_statement(s, st);
@@ -296,28 +262,19 @@ fn run(s: Store, text: &[u8]) -> Store {
     added(s, st)
 }
 
-// Where the line that starts at `at` ends.
-fn line_end(input: &[u8], at: usize) -> usize
-    requires { ⌜ at ≤ length (now input) ⌝ }
-    ensures { λ r. ⌜ (at ≤ r) × (r ≤ length (now (input .entry))) ⌝ }
-{
-    let mut i = at;
-    while i < input.len() {
-        if input[i] == b'\n' {
-            return i;
-        }
-        i += 1;
+fn run(s: Store, text: &[u8]) -> Store {
+    if script::same(text, b"!") {
+        return empty();
     }
-    i
+    keep(s, compile(s, text))
 }
 
 fn run_all(input: &[u8]) {
     let mut s = empty();
     let mut at = 0;
     while at < input.len() {
-        let end = line_end(input, at);
-        s = run(s, &input[at..end]);
-        at = end + 1;
+        s = run(s, script::part(input, at, b'\n'));
+        at = script::next_line(input, at);
     }
 }
 

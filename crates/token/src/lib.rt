@@ -36,9 +36,7 @@ impl Token {
     pub const OPEN: u8 = 7;
 
     pub const CLOSE: u8 = 8;
-    // The first of the six comparisons: = <> < <= > >=
-    pub const COMPARISON: u8 = 9;
-
+    // The operators: = <> < <= > >=
     pub const EQ: u8 = 9;
 
     pub const NE: u8 = 10;

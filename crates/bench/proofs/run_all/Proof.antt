@@ -1,4 +1,4 @@
--- `bench::run_all` is safe and ends. The measure is what is left of the script. Assumes nothing.
+-- `bench::run_all` is safe and ends. The measure is what is left of the input. Assumes nothing.
 use Prim.Native.Nat.{_-_}
 use mathlib.Core.Path.{_≡_}
 use borrow.Author.Needs.{needs}
@@ -7,8 +7,7 @@ use Rattle.bench.proofs.run_all.Statement.{statement}
 use Rattle.bench.proofs.run_all.Tie as tie
 
 abbrev Inv-loop : tie.InvT-loop
-Inv-loop input plan₀ values₀ cells₀ memory₀ answer₀ s₀ at₀ plan values cells memory answer s at =
-    (length values ≡ length values₀) × (length cells ≡ length cells₀) × (length memory ≡ length memory₀) × (length answer ≡ length answer₀)
+Inv-loop input plan₀ values₀ cells₀ memory₀ answer₀ s₀ at₀ plan values cells memory answer s at = (length values ≡ length values₀) × (length cells ≡ length cells₀) × (length memory ≡ length memory₀) × (length answer ≡ length answer₀)
 
 abbrev μ-loop : tie.MeasureT-loop
 μ-loop input plan₀ values₀ cells₀ memory₀ answer₀ s₀ at₀ plan values cells memory answer s at = length input - at
@@ -19,14 +18,11 @@ no-store-requires c κs = search needs
 loop-holds : tie.Need-loop-holds Inv-loop μ-loop
 loop-holds c = search needs
 
-find-requires : tie.Need-find-requires Inv-loop μ-loop
-find-requires c κs = search needs
-
-add-next : tie.Need-add-next Inv-loop μ-loop
-add-next c = search needs
-
 run-line-requires : tie.Need-run-line-requires Inv-loop μ-loop
 run-line-requires c κs = search needs
+
+next-line-requires : tie.Need-next-line-requires Inv-loop μ-loop
+next-line-requires c κs = search needs
 
 loop-less : tie.Need-loop-less Inv-loop μ-loop
 loop-less c = search needs
@@ -57,9 +53,8 @@ run-all-spec =
     μ-loop
     no-store-requires
     loop-holds
-    find-requires
-    add-next
     run-line-requires
+    next-line-requires
     loop-less
     loop-again
     same-length

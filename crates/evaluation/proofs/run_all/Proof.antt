@@ -7,11 +7,10 @@ use Rattle.evaluation.proofs.run_all.Statement.{statement}
 use Rattle.evaluation.proofs.run_all.Tie as tie
 
 abbrev Inv-loop : tie.InvT-loop
-Inv-loop input cells₀ values₀ out₀ s₀ at₀ cells values out s at =
-    (length cells ≡ length cells₀) × (length values ≡ length values₀) × (length out ≡ length out₀)
+Inv-loop input numbers₀ cells₀ out₀ s₀ at₀ numbers cells out s at = (length numbers ≡ length numbers₀) × (length cells ≡ length cells₀) × (length out ≡ length out₀)
 
 abbrev μ-loop : tie.MeasureT-loop
-μ-loop input cells₀ values₀ out₀ s₀ at₀ cells values out s at = length input - at
+μ-loop input numbers₀ cells₀ out₀ s₀ at₀ numbers cells out s at = length input - at
 
 empty-requires : tie.Need-empty-requires Inv-loop μ-loop
 empty-requires c κs = search needs
@@ -19,23 +18,14 @@ empty-requires c κs = search needs
 loop-holds : tie.Need-loop-holds Inv-loop μ-loop
 loop-holds c = search needs
 
-line-end-requires : tie.Need-line-end-requires Inv-loop μ-loop
-line-end-requires c κs = search needs
-
-sub-run : tie.Need-sub-run Inv-loop μ-loop
-sub-run c = search needs
-
-part-run-start : tie.Need-part-run-start Inv-loop μ-loop
-part-run-start c = search needs
-
-part-run-end : tie.Need-part-run-end Inv-loop μ-loop
-part-run-end c = search needs
+part-requires : tie.Need-part-requires Inv-loop μ-loop
+part-requires c κs = search needs
 
 run-requires : tie.Need-run-requires Inv-loop μ-loop
 run-requires c κs = search needs
 
-add-at : tie.Need-add-at Inv-loop μ-loop
-add-at c = search needs
+next-line-requires : tie.Need-next-line-requires Inv-loop μ-loop
+next-line-requires c κs = search needs
 
 loop-less : tie.Need-loop-less Inv-loop μ-loop
 loop-less c = search needs
@@ -63,12 +53,9 @@ run-all-spec =
     μ-loop
     empty-requires
     loop-holds
-    line-end-requires
-    sub-run
-    part-run-start
-    part-run-end
+    part-requires
     run-requires
-    add-at
+    next-line-requires
     loop-less
     loop-again
     same-length

@@ -7,8 +7,7 @@ use Rattle.examples.proofs.run_all.Statement.{statement}
 use Rattle.examples.proofs.run_all.Tie as tie
 
 abbrev Inv-loop : tie.InvT-loop
-Inv-loop input numbers₀ cells₀ memory₀ answer₀ s₀ at₀ numbers cells memory answer s at =
-    (length numbers ≡ length numbers₀) × (length cells ≡ length cells₀) × (length memory ≡ length memory₀) × (length answer ≡ length answer₀)
+Inv-loop input numbers₀ cells₀ memory₀ answer₀ s₀ at₀ numbers cells memory answer s at = (length numbers ≡ length numbers₀) × (length cells ≡ length cells₀) × (length memory ≡ length memory₀) × (length answer ≡ length answer₀)
 
 abbrev μ-loop : tie.MeasureT-loop
 μ-loop input numbers₀ cells₀ memory₀ answer₀ s₀ at₀ numbers cells memory answer s at = length input - at
@@ -19,23 +18,14 @@ no-store-requires c κs = search needs
 loop-holds : tie.Need-loop-holds Inv-loop μ-loop
 loop-holds c = search needs
 
-find-requires : tie.Need-find-requires Inv-loop μ-loop
-find-requires c κs = search needs
-
-add-next : tie.Need-add-next Inv-loop μ-loop
-add-next c = search needs
-
-sub-run-line : tie.Need-sub-run-line Inv-loop μ-loop
-sub-run-line c = search needs
-
-part-run-line-start : tie.Need-part-run-line-start Inv-loop μ-loop
-part-run-line-start c = search needs
-
-part-run-line-end : tie.Need-part-run-line-end Inv-loop μ-loop
-part-run-line-end c = search needs
+part-requires : tie.Need-part-requires Inv-loop μ-loop
+part-requires c κs = search needs
 
 run-line-requires : tie.Need-run-line-requires Inv-loop μ-loop
 run-line-requires c κs = search needs
+
+next-line-requires : tie.Need-next-line-requires Inv-loop μ-loop
+next-line-requires c κs = search needs
 
 loop-less : tie.Need-loop-less Inv-loop μ-loop
 loop-less c = search needs
@@ -66,12 +56,9 @@ run-all-spec =
     μ-loop
     no-store-requires
     loop-holds
-    find-requires
-    add-next
-    sub-run-line
-    part-run-line-start
-    part-run-line-end
+    part-requires
     run-line-requires
+    next-line-requires
     loop-less
     loop-again
     same-length

@@ -21,9 +21,12 @@ is-unfit-requires c κs = search needs
 returns : tie.Need-returns
 returns c = flush-refused (c .before .before .before .before .args .self) _ _ _ (unfit-told (c .before)) (c .if1 .taken)
 
+clear-requires : tie.Need-clear-requires
+clear-requires c κs = search needs
+
 returns-2 : tie.Need-returns-2
 unfolding withCache
-returns-2 c = flush-done (c .before .before .before .before .before .args .self) _ _ _ (unfit-told (c .before .before)) (c .before .if1 .left)
+returns-2 c = flush-done (c .before .before .before .before .before .before .args .self) _ _ _ (unfit-told (c .before .before .before)) (c .before .before .if1 .left) (c .clear .result) (c .clear .ensures)
 
 pub flush-spec : {M : Type 1} → statement M
-flush-spec = tie.close (tie.spec is-sound-requires is-unfit-requires returns returns-2)
+flush-spec = tie.close (tie.spec is-sound-requires is-unfit-requires returns clear-requires returns-2)

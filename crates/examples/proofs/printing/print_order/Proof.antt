@@ -13,11 +13,11 @@ abbrev μ-loop : tie.MeasureT-loop
 loop-holds : tie.Need-loop-holds Inv-loop μ-loop
 loop-holds c = search needs
 
-array-read-print-byte : tie.Need-array-read-print-byte Inv-loop μ-loop
-array-read-print-byte c = search needs
+array-read-print-slot : tie.Need-array-read-print-slot Inv-loop μ-loop
+array-read-print-slot c = search needs
 
-print-byte-requires : tie.Need-print-byte-requires Inv-loop μ-loop
-print-byte-requires c κs = search needs
+print-slot-requires : tie.Need-print-slot-requires Inv-loop μ-loop
+print-slot-requires c κs = search needs
 
 add-i : tie.Need-add-i Inv-loop μ-loop
 add-i c = search needs
@@ -38,8 +38,8 @@ print-order-spec =
     Inv-loop
     μ-loop
     loop-holds
-    array-read-print-byte
-    print-byte-requires
+    array-read-print-slot
+    print-slot-requires
     add-i
     loop-less
     loop-again

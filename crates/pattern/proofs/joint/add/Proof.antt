@@ -1,18 +1,19 @@
 -- `add` meets its contract. The invariant, `Adding`: the clause so far, with what the rest of the mask selects of the comparisons left, is the clause that is wanted. The
 -- measure is the comparisons left. Assumes nothing.
 use Prim.Native.Nat.{_-_, _≤_}
-use mathlib.Core.Path.{_≡_, refl}
+use mathlib.Core.Path.{_≡_, refl, subst}
 use mathlib.Core.List.{map}
 use native.Mathlib.Omega.{arith}
 use borrow.Author.Needs.{needs}
 use lib.ListN.{length, take, getD, length-map}
 use Rattle.meaning.specs.Condition as C
 use Rattle.meaning.specs.Statement as M
+use Rattle.statement.specs.declared.Operand.{Operand}
 use Rattle.statement.specs.declared.Comparison.{Comparison}
-use Rattle.statement.specs.declared.Operand.the-variants.{Column}
-use Rattle.statement.specs.Sound.{comparisonRead, settingRead}
+use Rattle.statement.specs.Compiled as Compiled
+use Rattle.statement.specs.Sound.{operandRead, comparisonRead, settingRead}
 use Rattle.pattern.specs.Masks.{comparisonsRead}
-use Rattle.pattern.specs.Flat.{operandOf}
+use Rattle.pattern.specs.Flat.{operandOf, Coding}
 use Rattle.pattern.proofs.Adding.{Adding, add-start, add-more, add-done, read-length, read-at}
 use Rattle.pattern.proofs.joint.add.Statement.{statement}
 use Rattle.pattern.proofs.joint.add.Tie as tie
@@ -43,8 +44,14 @@ mul-c c = omega arith
 element-copy-out-c : tie.Need-element-copy-out-c Inv-loop μ-loop
 element-copy-out-c c = omega arith
 
+left-side-requires : tie.Need-left-side-requires Inv-loop μ-loop
+left-side-requires c κs = search needs
+
+right-side-requires : tie.Need-right-side-requires Inv-loop μ-loop
+right-side-requires c κs = search needs
+
 operand-code-requires : tie.Need-operand-code-requires Inv-loop μ-loop
-operand-code-requires c κs = c .before .before .before .pre .1
+operand-code-requires c κs = c .before .before .before .before .before .pre .1
 
 mul-codes : tie.Need-mul-codes Inv-loop μ-loop
 mul-codes c = omega arith
@@ -56,7 +63,7 @@ array-write-codes : tie.Need-array-write-codes Inv-loop μ-loop
 array-write-codes c = omega arith
 
 operand-code-requires-2 : tie.Need-operand-code-requires-2 Inv-loop μ-loop
-operand-code-requires-2 c κs = c .before .before .before .before .pre .1
+operand-code-requires-2 c κs = c .before .before .before .before .before .before .pre .1
 
 mul-codes-3 : tie.Need-mul-codes-3 Inv-loop μ-loop
 mul-codes-3 c = omega arith
@@ -87,17 +94,20 @@ loop-less c = omega arith
 
 loop-again : tie.Need-loop-again Inv-loop μ-loop
 loop-again c =
-    let s = c .before .before .before .before .before in
-    let l = c .before .before .before .before .loop in
+    let s = c .before .before .before .before .before .before .before in
+    let l = c .before .before .before .before .before .before .loop in
     let a = s .args in
-    let d : Comparison = record { left = Column 0; op = 0; right = Column 0 } in
+    let d : Comparison = Compiled.noComparison in
     let x : C.Comparison M.Operand = comparisonRead (getD (a .t4 .comparisons) (l .i) d) in
+    let f = operandOf (a .role) (map settingRead (take (a .given) (a .settings))) in
     let few = s .pre .2 in
-    let h = c .before .before .before .loop-test .taken in (
+    let h = c .before .before .before .before .before .loop-test .taken in (
       omega arith,
       l .inv .1,
-      add-more (operandOf (a .role) (map settingRead (take (a .given) (a .settings)))) (comparisonsRead (a .t4)) (a .start) (a .ops) (a .n) (a .mask) (l .codes) (l .numbers) (l .at) (l .left) (l .i) (l .inv .2)
-          x (omega (arith, read-length (a .t4) (l .inv .1) few)) (read-at (a .t4) (l .inv .1) few (l .i) d x h) (s .pre .0) (omega arith) _ _ _ (c .before .operand-code .ensures) (c .operand-code2 .ensures) refl,
+      add-more f (comparisonsRead (a .t4)) (a .start) (a .ops) (a .n) (a .mask) (l .codes) (l .numbers) (l .at) (l .left) (l .i) (l .inv .2)
+          x (omega (arith, read-length (a .t4) (l .inv .1) few)) (read-at (a .t4) (l .inv .1) few (l .i) d x h) (s .pre .0) (omega arith) _ _ _
+          (subst (λ (o : Operand). Coding (f (operandRead o)) (c .before .operand-code .result)) (c .before .before .before .left-side .ensures) (c .before .operand-code .ensures))
+          (subst (λ (o : Operand). Coding (f (operandRead o)) (c .operand-code2 .result)) (c .before .before .right-side .ensures) (c .operand-code2 .ensures)) refl,
     )
 
 returns : tie.Need-returns Inv-loop μ-loop
@@ -121,6 +131,8 @@ add-spec =
     cast-loop
     mul-c
     element-copy-out-c
+    left-side-requires
+    right-side-requires
     operand-code-requires
     mul-codes
     mul-codes-2

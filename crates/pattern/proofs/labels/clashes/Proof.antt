@@ -3,7 +3,7 @@ use mathlib.Core.Path.{_∙_, ap₂}
 use mathlib.Core.Bool.{Bool, not, _&&_}
 use Prim.Native.Nat.{ℕ}
 use lib.Dec.{eqb, ltb}
-use Rattle.statement.specs.Places.{operatorAt}
+use Rattle.statement.specs.Operators.{operatorAt}
 use Rattle.pattern.proofs.Operators.{clash-is}
 use borrow.Author.Needs.{needs}
 use Rattle.pattern.proofs.labels.clashes.Statement.{statement}

@@ -3,7 +3,7 @@ use Prim.Native.Nat.{ℕ}
 use mathlib.Core.Path.{sym, ap, ap₂, _∙_}
 use mathlib.Core.List.{map}
 use borrow.Author.Needs.{needs}
-use Rattle.statement.specs.Places.{operatorAt}
+use Rattle.statement.specs.Operators.{operatorAt}
 use Rattle.pattern.specs.Least.{renameCode}
 use Rattle.pattern.proofs.Operators.{joins-labels, leaves-labels}
 use borrow.Author.Needs.{needs}

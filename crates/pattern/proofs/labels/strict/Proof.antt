@@ -1,21 +1,17 @@
 -- `strict` meets its contract. Assumes nothing.
-use mathlib.Core.Path.{sym}
-use Rattle.pattern.proofs.Operators.{not-strict}
+use mathlib.Core.Path.{ap, _∙_}
+use mathlib.Core.Bool.{not}
 use borrow.Author.Needs.{needs}
+use Rattle.statement.specs.Operators.{operatorAt}
+use Rattle.pattern.proofs.Operators.{strict-is}
 use Rattle.pattern.proofs.labels.strict.Statement.{statement}
 use Rattle.pattern.proofs.labels.strict.Tie as tie
 
+truth-requires : tie.Need-truth-requires
+truth-requires c κs = search needs
+
 returns : tie.Need-returns
-returns c = search needs
-
-returns-2 : tie.Need-returns-2
-returns-2 c = search needs
-
-returns-3 : tie.Need-returns-3
-returns-3 c = search needs
-
-returns-4 : tie.Need-returns-4
-returns-4 c = let r = c .match .rest in sym (not-strict (c .before .args .op) (r .0 .0 .1) (r .0 .1) (r .1))
+returns c = ap not (c .truth .ensures) ∙ strict-is (operatorAt (c .before .args .op))
 
 pub strict-spec : {M : Type 1} → statement M
-strict-spec = tie.close (tie.spec returns returns-2 returns-3 returns-4)
+strict-spec = tie.close (tie.spec truth-requires returns)

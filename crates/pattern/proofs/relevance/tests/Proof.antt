@@ -11,9 +11,11 @@ use lib.Seq.{getD-take}
 use Rattle.lists.proofs.Bools.{or-assoc}
 use Rattle.meaning.specs.Condition as C
 use Rattle.meaning.specs.Statement as M
+use Rattle.statement.specs.declared.Operand.{Operand}
 use Rattle.statement.specs.declared.Comparison.{Comparison}
-use Rattle.statement.specs.declared.Operand.the-variants.{Column}
-use Rattle.statement.specs.Sound.{comparisonRead}
+use Rattle.statement.specs.Compiled as Compiled
+use Rattle.statement.specs.Sound.{operandRead, comparisonRead}
+use Rattle.pattern.specs.Relevance.{namesAny}
 use Rattle.pattern.proofs.Mapped.{getD-map-in}
 use Rattle.pattern.proofs.Searching.{Seeking, seek-more, seek-done}
 use Rattle.pattern.proofs.Relevant.{testsAny, tests-are}
@@ -38,6 +40,12 @@ mul-c c = omega arith
 element-copy-out-c : tie.Need-element-copy-out-c Inv-loop μ-loop
 element-copy-out-c c = omega arith
 
+left-side-requires : tie.Need-left-side-requires Inv-loop μ-loop
+left-side-requires c κs = search needs
+
+right-side-requires : tie.Need-right-side-requires Inv-loop μ-loop
+right-side-requires c κs = search needs
+
 names-requires : tie.Need-names-requires Inv-loop μ-loop
 names-requires c κs = search needs
 
@@ -52,19 +60,20 @@ loop-less c = omega arith
 
 loop-again : tie.Need-loop-again Inv-loop μ-loop
 loop-again c =
-    let a = c .before .before .before .before .before .args in
-    let l = c .before .before .before .before .loop in
+    let a = c .before .before .before .before .before .before .before .args in
+    let l = c .before .before .before .before .before .before .loop in
     let cs = take (a .count) (a .t1 .comparisons) in
-    let d : Comparison = record { left = Column 0; op = 0; right = Column 0 } in
+    let d : Comparison = Compiled.noComparison in
+    let named : Operand → Bool = λ o. namesAny (take (a .n) (a .columns)) (operandRead o) in
     let x : C.Comparison M.Operand = comparisonRead (getD (a .t1 .comparisons) (l .i) d) in
     let n : length cs ≡ min (a .count) (length (a .t1 .comparisons)) = length-take (a .count) (a .t1 .comparisons) in
     let m : length (map comparisonRead cs) ≡ length cs = length-map cs comparisonRead in
     let e : getD (map comparisonRead cs) (l .i) x ≡ x =
-    getD-map-in comparisonRead cs (l .i) d x (omega arith) ∙ ap comparisonRead (getD-take (a .count) (a .t1 .comparisons) (l .i) d (c .before .before .before .loop-test .taken)) in (
+    getD-map-in comparisonRead cs (l .i) d x (omega arith) ∙ ap comparisonRead (getD-take (a .count) (a .t1 .comparisons) (l .i) d (c .before .before .before .before .before .loop-test .taken)) in (
       omega arith,
       l .inv .1,
       seek-more (testsAny (take (a .n) (a .columns))) (map comparisonRead cs) (l .i) x (l .found) _ (testsAny (take (a .n) (a .columns)) x) (omega arith)
-          (sym (or-assoc (l .found) (c .before .names .result) (c .names2 .result)) ∙ ap₂ (λ (p q : Bool). l .found || (p || q)) (c .before .names .ensures) (c .names2 .ensures))
+          (sym (or-assoc (l .found) (c .before .names .result) (c .names2 .result)) ∙ ap₂ (λ (p q : Bool). l .found || (p || q)) (c .before .names .ensures ∙ ap named (c .before .before .before .left-side .ensures)) (c .names2 .ensures ∙ ap named (c .before .before .right-side .ensures)))
           (ap (testsAny (take (a .n) (a .columns))) (sym e)) (l .inv .2),
     )
 
@@ -86,6 +95,8 @@ tests-spec =
     loop-holds
     mul-c
     element-copy-out-c
+    left-side-requires
+    right-side-requires
     names-requires
     names-requires-2
     add-i

@@ -44,7 +44,7 @@ returns : tie.Need-returns
 returns c =
     let s = c .before .before .before .before .before .before .before .args in
     let o : length (s .self .order) ≡ 64 = search needs in
-    dropped _ _ _ _ _ o (c .before .before .before .before .before .least .ensures) (c .before .before .before .gather .ensures) (c .before .before .gather2 .ensures)
+    dropped (s .self) (s .gone) _ _ _ o (c .before .before .before .before .before .least .ensures) (c .before .before .before .gather .ensures) (c .before .before .gather2 .ensures)
 
 pub drop-spec : {M : Type 1} → statement M
 drop-spec =

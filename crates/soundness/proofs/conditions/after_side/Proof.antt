@@ -1,70 +1,58 @@
--- `after_side` meets its contract. Assumes nothing.
+-- `after_side` meets its contract: each return knows what the operand's code is. Assumes nothing.
 use borrow.Author.Needs.{needs}
-use mathlib.Core.Path.{sym, ap, _∙_}
-use mathlib.Core.Bool.{Bool, cond}
-use Prim.Native.Nat.{_+_}
-use borrow.Author.Tests.{lt-ltb, le-ltb, eq-eqb, ne-eqb}
-use Rattle.soundness.specs.Parts.{afterSide}
+use Rattle.soundness.proofs.Numbering.{column-in, column-out, mark-next, mark-other}
 use Rattle.soundness.proofs.conditions.after_side.Statement.{statement}
 use Rattle.soundness.proofs.conditions.after_side.Tie as tie
-
-enum-known-o : tie.Need-enum-known-o
-enum-known-o c = search needs
-
-add-result : tie.Need-add-result
-add-result c = search needs
-
-enum-told : tie.Need-enum-told
-enum-told c = search needs
-
-enum-known-o-2 : tie.Need-enum-known-o-2
-enum-known-o-2 c = search needs
 
 cast-if2 : tie.Need-cast-if2
 cast-if2 c = search needs
 
+mul-if2 : tie.Need-mul-if2
+mul-if2 c = search needs
+
+add-if2 : tie.Need-add-if2
+add-if2 c = search needs
+
+add-result : tie.Need-add-result
+add-result c = search needs
+
 add-result-2 : tie.Need-add-result-2
 add-result-2 c = search needs
+
+returns : tie.Need-returns
+returns c = let a = c .before .before .before .before .args in mark-next (a .columns) (a .m) (a .o) (c .before .before .if1 .taken) (c .if2 .taken)
+
+returns-2 : tie.Need-returns-2
+returns-2 c = let a = c .before .before .before .before .args in mark-other (a .columns) (a .m) (a .o) (c .before .before .if1 .taken) (c .if2 .left)
+
+cast-if3 : tie.Need-cast-if3
+cast-if3 c = search needs
+
+mul-if3 : tie.Need-mul-if3
+mul-if3 c = search needs
 
 add-result-3 : tie.Need-add-result-3
 add-result-3 c = search needs
 
-returns : tie.Need-returns
-returns c =
-    let a = c .before .before .before .before .args in
-    ap (λ (b : Bool). cond b (a .m) (a .m + 64)) (sym (lt-ltb _ _ (c .if1 .taken))) ∙ ap (afterSide (a .columns) (a .m)) (sym (c .before .before .o .given .1))
-
-returns-2 : tie.Need-returns-2
-returns-2 c =
-    let a = c .before .before .before .before .args in
-    ap (λ (b : Bool). cond b (a .m) (a .m + 64)) (sym (le-ltb _ _ (c .if1 .left))) ∙ ap (afterSide (a .columns) (a .m)) (sym (c .before .before .o .given .1))
-
 returns-3 : tie.Need-returns-3
-returns-3 c = search needs
+returns-3 c = let a = c .before .before .before .before .args in column-in (a .columns) (a .m) (a .o) (c .before .before .if1 .left) (c .if3 .taken)
 
 returns-4 : tie.Need-returns-4
-returns-4 c =
-    let a = c .before .before .before .before .args in
-    ap (λ (b : Bool). cond b (a .m + 1) (a .m + 64)) (sym (eq-eqb _ _ (c .if2 .taken))) ∙ ap (afterSide (a .columns) (a .m)) (sym (c .before .before .o2 .given .1))
-
-returns-5 : tie.Need-returns-5
-returns-5 c =
-    let a = c .before .before .before .before .args in
-    ap (λ (b : Bool). cond b (a .m + 1) (a .m + 64)) (sym (ne-eqb _ _ (c .if2 .left))) ∙ ap (afterSide (a .columns) (a .m)) (sym (c .before .before .o2 .given .1))
+returns-4 c = let a = c .before .before .before .before .args in column-out (a .columns) (a .m) (a .o) (c .before .before .if1 .left) (c .if3 .left)
 
 pub after-side-spec : {M : Type 1} → statement M
 after-side-spec =
     tie.close
     (tie.spec
-    enum-known-o
-    add-result
-    enum-told
-    enum-known-o-2
     cast-if2
+    mul-if2
+    add-if2
+    add-result
     add-result-2
-    add-result-3
     returns
     returns-2
+    cast-if3
+    mul-if3
+    add-result-3
     returns-3
-    returns-4
-    returns-5)
+    returns-4)

@@ -38,6 +38,9 @@ mul-t c = search needs
 array-copy-out-t : tie.Need-array-copy-out-t
 array-copy-out-t c = search needs
 
+scope-of-requires : tie.Need-scope-of-requires
+scope-of-requires c κs = search needs
+
 form-requires : tie.Need-form-requires
 form-requires c κs = search needs
 
@@ -46,7 +49,7 @@ returns-2 c =
     let d = c .before .before .before .before in
     let a = d .before .before .before .before .before .args in
     beside-some (a .text .now) (a .list) (a .places) (a .e) (a .t5) (a .used) (a .queries) (a .updates) _ _ _
-    (d .before .before .name-at .ensures) (d .before .find-table .ensures) (d .table-count .ensures .0) _ _ (c .before .before .before .if1 .left) (c .form .ensures)
+    (d .before .before .name-at .ensures) (d .before .find-table .ensures) (d .table-count .ensures .0) _ _ _ (c .before .before .before .if1 .left) (c .before .scope-of .ensures) (c .form .ensures)
 
 pub beside-spec : {M : Type 1} → statement M
 beside-spec =
@@ -62,5 +65,6 @@ beside-spec =
     cast-t
     mul-t
     array-copy-out-t
+    scope-of-requires
     form-requires
     returns-2)

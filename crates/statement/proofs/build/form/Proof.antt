@@ -1,6 +1,6 @@
 -- `form` meets its contract. Assumes nothing.
 use borrow.Author.Needs.{needs}
-use Rattle.statement.specs.Catalog.{namesOf}
+use Rattle.statement.specs.Catalog.{scopeNames}
 use Rattle.statement.proofs.Assembled.{form-select, form-insert, form-update, form-delete}
 use Rattle.statement.proofs.build.form.Statement.{statement}
 use Rattle.statement.proofs.build.form.Tie as tie
@@ -11,7 +11,7 @@ select-requires c κs = search needs
 returns : tie.Need-returns
 returns c =
     let a = c .before .before .before .before .args in
-    form-select (a .text .now) (a .list) (a .places) (a .e) (namesOf (a .columns) (a .count)) (a .table) (a .queries) (a .updates) _ (c .select .ensures) (c .before .if1 .taken)
+    form-select (a .text .now) (a .list) (a .places) (a .e) (scopeNames (a .scope)) (a .table) (a .queries) (a .updates) _ (c .select .ensures) (c .before .if1 .taken)
 
 insert-requires : tie.Need-insert-requires
 insert-requires c κs = search needs
@@ -19,7 +19,7 @@ insert-requires c κs = search needs
 returns-2 : tie.Need-returns-2
 returns-2 c =
     let a = c .before .before .before .before .before .before .args in
-    form-insert (a .text .now) (a .list) (a .places) (a .e) (namesOf (a .columns) (a .count)) (a .table) (a .queries) (a .updates) _ (c .insert .ensures) (c .before .before .before .if1 .left) (c .before .if2 .taken)
+    form-insert (a .text .now) (a .list) (a .places) (a .e) (scopeNames (a .scope)) (a .table) (a .queries) (a .updates) _ (c .insert .ensures) (c .before .before .before .if1 .left) (c .before .if2 .taken)
 
 update-requires : tie.Need-update-requires
 update-requires c κs = search needs
@@ -27,7 +27,7 @@ update-requires c κs = search needs
 returns-3 : tie.Need-returns-3
 returns-3 c =
     let a = c .before .before .before .before .before .before .before .before .args in
-    form-update (a .text .now) (a .list) (a .places) (a .e) (namesOf (a .columns) (a .count)) (a .table) (a .queries) (a .updates) _ (c .update .ensures) (c .before .before .before .before .before .if1 .left) (c .before .before .before .if2 .left) (c .before .if3 .taken)
+    form-update (a .text .now) (a .list) (a .places) (a .e) (scopeNames (a .scope)) (a .table) (a .queries) (a .updates) _ (c .update .ensures) (c .before .before .before .before .before .if1 .left) (c .before .before .before .if2 .left) (c .before .if3 .taken)
 
 delete-requires : tie.Need-delete-requires
 delete-requires c κs = search needs
@@ -35,7 +35,7 @@ delete-requires c κs = search needs
 returns-4 : tie.Need-returns-4
 returns-4 c =
     let a = c .before .before .before .before .before .before .before .before .args in
-    form-delete (a .text .now) (a .list) (a .places) (a .e) (namesOf (a .columns) (a .count)) (a .table) (a .queries) (a .updates) _ (c .delete .ensures) (c .before .before .before .before .before .if1 .left) (c .before .before .before .if2 .left) (c .before .if3 .left)
+    form-delete (a .text .now) (a .list) (a .places) (a .e) (scopeNames (a .scope)) (a .table) (a .queries) (a .updates) _ (c .delete .ensures) (c .before .before .before .before .before .if1 .left) (c .before .before .before .if2 .left) (c .before .if3 .left)
 
 pub form-spec : {M : Type 1} → statement M
 form-spec =

@@ -3,7 +3,7 @@ use borrow.Author.Needs.{needs}
 use mathlib.Core.Path.{refl, ap}
 use native.Mathlib.Omega.{arith}
 use lib.ListN.{take}
-use Rattle.statement.specs.declared.build.Settings.{Settings}
+use Rattle.statement.specs.declared.assembling.Settings.{Settings}
 use Rattle.statement.proofs.Assembled.{sets-few, condition-few, update-made}
 use Rattle.statement.proofs.build.update.Statement.{statement}
 use Rattle.statement.proofs.build.update.Tie as tie

@@ -1,4 +1,4 @@
--- `table::conditions::closed` meets its contract. Assumes nothing.
+-- `conditions::closed` meets its contract. Assumes nothing.
 use mathlib.Core.Path.{refl}
 use native.Mathlib.Omega.{arith}
 use borrow.Author.Tests.{not-true, not-false}

@@ -1,4 +1,4 @@
--- `table::conditions::is_past` meets its contract. Assumes nothing.
+-- `conditions::is_past` meets its contract. Assumes nothing.
 use Rattle.statement.specs.Reading.{tokenPast}
 use borrow.Author.Needs.{needs}
 use Rattle.statement.proofs.conditions.is_past.Statement.{statement}

@@ -1,4 +1,4 @@
--- `table::conditions::put` meets its contract. Assumes nothing.
+-- `conditions::put` meets its contract. Assumes nothing.
 use mathlib.Core.Path.{refl}
 use native.Mathlib.Omega.{arith}
 use Rattle.statement.proofs.Nodes.{noted}

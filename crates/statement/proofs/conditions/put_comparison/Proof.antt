@@ -1,4 +1,4 @@
--- `table::conditions::put_comparison` meets its contract. Assumes nothing.
+-- `conditions::put_comparison` meets its contract. Assumes nothing.
 use native.Mathlib.Omega.{arith}
 use lib.Dec.{eqb}
 use Rattle.statement.proofs.Nodes.{few, put-sides}

@@ -1,4 +1,4 @@
--- `table::conditions::read_comparison` meets its contract. Assumes nothing.
+-- `conditions::read_comparison` meets its contract. Assumes nothing.
 use mathlib.Core.Path.{_≡_, refl, sym, _∙_}
 use mathlib.Core.Bool.{true}
 use native.Mathlib.Omega.{arith}

@@ -1,4 +1,4 @@
--- `table::sentences::expect` meets its contract.
+-- `sentences::expect` meets its contract.
 -- Assumes nothing.
 use mathlib.Core.Path.{refl}
 use native.Mathlib.Omega.{arith}

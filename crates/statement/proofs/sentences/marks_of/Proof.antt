@@ -1,4 +1,4 @@
--- `table::sentences::marks_of` meets its contract.
+-- `sentences::marks_of` meets its contract.
 -- Assumes nothing.
 use borrow.Author.Tests.{eq-eqb, ne-eqb}
 use Rattle.statement.proofs.sentences.marks_of.Statement.{statement}

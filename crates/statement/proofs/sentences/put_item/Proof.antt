@@ -1,4 +1,4 @@
--- `table::sentences::put_item` meets its contract.
+-- `sentences::put_item` meets its contract.
 -- Assumes nothing.
 use mathlib.Core.Path.{refl}
 use native.Mathlib.Omega.{arith}

@@ -1,4 +1,4 @@
--- `table::sentences::read_item` meets its contract.
+-- `sentences::read_item` meets its contract.
 -- Assumes nothing.
 use mathlib.Core.Path.{refl}
 use native.Mathlib.Omega.{arith}

@@ -1,4 +1,4 @@
--- `table::sentences::read_rows` meets its contract.
+-- `sentences::read_rows` meets its contract.
 -- Assumes nothing.
 use mathlib.Core.Path.{refl, sym, _∙_}
 use native.Mathlib.Omega.{arith}

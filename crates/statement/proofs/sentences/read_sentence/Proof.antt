@@ -1,4 +1,4 @@
--- `table::sentences::read_sentence` meets its contract.
+-- `sentences::read_sentence` meets its contract.
 -- Assumes nothing.
 use mathlib.Core.Path.{refl}
 use borrow.Author.Tests.{not-true, not-false}

@@ -10,8 +10,11 @@ use lib.ListN.{length, take, drop, set, getD, length-set}
 use lib.Seq.{set-out}
 use mir.Syntax.{w32}
 use mir.Val.{toZ, ofZ}
+use Rattle.meaning.specs.Meaning.{valueOf}
+use Rattle.statement.specs.declared.Value.{Value}
 use Rattle.statement.specs.declared.Setting.{Setting}
-use Rattle.statement.specs.declared.Value.the-variants.{Constant}
+use Rattle.statement.specs.Compiled.{noSetting}
+use Rattle.statement.specs.Sound.{valueRead}
 use Rattle.table.proofs.Assigning.{made, assign-done, assign-next}
 use Rattle.table.proofs.changes.assign.Statement.{statement}
 use Rattle.table.proofs.changes.assign.Tie as tie
@@ -35,6 +38,9 @@ array-copy-out-item c = omega arith
 cast-column : tie.Need-cast-column Inv-loop μ-loop
 cast-column c = search needs
 
+new-value-requires : tie.Need-new-value-requires Inv-loop μ-loop
+new-value-requires c κs = search needs
+
 value-of-requires : tie.Need-value-of-requires Inv-loop μ-loop
 value-of-requires c κs = search needs
 
@@ -52,15 +58,15 @@ loop-less c = omega arith
 
 loop-again : tie.Need-loop-again Inv-loop μ-loop
 loop-again c =
-    let s = c .before .before .before .before .before .before in
-    let l = c .before .before .before .before .before .loop in
-    let a : Setting = getD (s .args .t2) (l .i) (record { column = 0; value = Constant (pos 0) }) in
+    let s = c .before .before .before .before .before .before .before in
+    let l = c .before .before .before .before .before .before .loop in
+    let a : Setting = getD (s .args .t2) (l .i) (noSetting) in
     let v : ℤ = toZ w32 (ofZ w32 (c .before .value-of .result)) in
     let e : c .if1 .row ≡ set (l .row) (a .column) v = ⊎-elim (λ w. w .1) (λ w. w .1 ∙ sym (set-out (l .row) (a .column) v (w .0 .left))) (c .if1 .came) in (
       omega arith,
       ap length e ∙ simp length-set (l .inv .1),
       l .inv .2,
-      assign-next (s .args .values .now) (s .args .t2) (s .args .n) (omega arith) _ (l .i) (l .row) (c .if1 .row) v (omega arith) (search needs ∙ c .before .value-of .ensures) e ∙ l .inv .3,
+      assign-next (s .args .values .now) (s .args .t2) (s .args .n) (omega arith) _ (l .i) (l .row) (c .if1 .row) v (omega arith) (search needs ∙ c .before .value-of .ensures ∙ ap (λ (x : Value). valueOf (s .args .values .now) (valueRead x)) (c .before .before .new-value .ensures)) e ∙ l .inv .3,
     )
 
 same-length : tie.Need-same-length Inv-loop μ-loop
@@ -81,6 +87,7 @@ assign-spec =
     mul-item
     array-copy-out-item
     cast-column
+    new-value-requires
     value-of-requires
     mul-z
     slice-set-from-z

@@ -67,7 +67,8 @@ change-area-requires : tie.Need-change-area-requires
 change-area-requires c κs =
     let s = c .before .before .before .before .before .before .before .args in
     let k : s .table .capacity ≤ 65535 = search needs in
-    change-fits (s .update) (s .table) (s .start) (s .cells .now) (s .values .now) (area-yes (c .before .before)) (form-yes (c .before .before)) (s .start + s .table .count * s .table .capacity - s .start) (omega arith) k
+    let w : s .table .count ≤ 255 = search needs in
+    (omega arith, change-fits (s .update) (s .table) (s .start) (s .cells .now) (s .values .now) (area-yes (c .before .before)) (form-yes (c .before .before)) (s .start + s .table .count * s .table .capacity - s .start) (omega arith) k)
 
 same-length : tie.Need-same-length
 same-length c = search needs

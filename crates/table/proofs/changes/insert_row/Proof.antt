@@ -11,8 +11,11 @@ use mir.Val.{toZ, ofZ}
 use lib.ListN.{length, take, drop, getD, length-set}
 use lib.Seq.{paste, paste-zero, take-all}
 use Rattle.meaning.proofs.Cells.{insert-stored}
+use Rattle.meaning.specs.Meaning.{valueOf}
+use Rattle.statement.specs.declared.Value.{Value}
 use Rattle.statement.specs.declared.Setting.{Setting}
-use Rattle.statement.specs.declared.Value.the-variants.{Constant}
+use Rattle.statement.specs.Compiled.{noSetting}
+use Rattle.statement.specs.Sound.{valueRead}
 use Rattle.table.specs.Changed.{rowOf}
 use Rattle.table.proofs.Assigning.{row-long, row-at}
 use Rattle.table.proofs.Copied.{pasted}
@@ -43,6 +46,9 @@ array-copy-out-item c = omega arith
 add-at : tie.Need-add-at Inv-loop μ-loop
 add-at c = omega arith
 
+new-value-requires : tie.Need-new-value-requires Inv-loop μ-loop
+new-value-requires c κs = search needs
+
 value-of-requires : tie.Need-value-of-requires Inv-loop μ-loop
 value-of-requires c κs = search needs
 
@@ -60,13 +66,13 @@ loop-less c = omega arith
 
 loop-again : tie.Need-loop-again Inv-loop μ-loop
 loop-again c =
-    let s = c .before .before .before .before in
-    let l = c .before .before .before .loop in
+    let s = c .before .before .before .before .before in
+    let l = c .before .before .before .before .loop in
     let row : List ℤ = rowOf (take (s .args .columns) (s .args .t4)) (s .args .values .now) in
     let long : length row ≡ s .args .columns = row-long (s .args .values .now) (s .args .t4) (s .args .columns) (l .inv .3) (s .pre .0) in
     let v : ℤ = toZ w32 (ofZ w32 (c .value-of .result)) in
-    let d : Setting = record { column = 0; value = Constant (pos 0) } in
-    let e : v ≡ getD row (l .i) (pos 0) = search needs ∙ c .value-of .ensures ∙ sym (row-at (s .args .values .now) (s .args .t4) (s .args .columns) (l .i) d (omega arith)) in (
+    let d : Setting = noSetting in
+    let e : v ≡ getD row (l .i) (pos 0) = search needs ∙ c .value-of .ensures ∙ ap (λ (x : Value). valueOf (s .args .values .now) (valueRead x)) (c .before .new-value .ensures) ∙ sym (row-at (s .args .values .now) (s .args .t4) (s .args .columns) (l .i) d (omega arith)) in (
       omega arith,
       simp length-set (omega arith),
       pasted (s .args .area .now) (s .args .n * s .args .columns) row (l .i) (pos 0) (l .area) (s .args .n * s .args .columns + l .i) v (omega arith) (omega arith) (l .inv .2) refl e,
@@ -98,6 +104,7 @@ insert-row-spec =
     loop-holds
     mul-item
     array-copy-out-item
+    new-value-requires
     add-at
     value-of-requires
     mul-t14

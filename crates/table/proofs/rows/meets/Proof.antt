@@ -1,38 +1,64 @@
--- `meets` meets its contract, by what its callees ensure. Assumes nothing.
-use mathlib.Core.Path.{_≡_, ap₂, _∙_}
-use mathlib.Core.Bool.{Bool}
-use lib.IntN.{ℤ}
-use mir.Syntax.{w32}
-use mir.Val.{toZ, ofZ}
-use Rattle.meaning.specs.Operator.{Operator, truth}
-use Rattle.meaning.specs.Meaning.{operandValue}
-use Rattle.statement.specs.Places.{operatorAt}
-use Rattle.statement.specs.Sound.{operandRead}
+-- `meets` meets its contract. The invariant: from comparison i one arrives where one does from the start (`Walking`); the measure is the comparisons left. Assumes nothing.
+use Prim.Native.Nat.{_-_}
+use native.Mathlib.Omega.{arith}
 use borrow.Author.Needs.{needs}
+use Rattle.table.specs.Tests.{met}
+use Rattle.table.proofs.Tested.{Walking, walk-start, walk-on, walk-more, walk-done, tests-row}
 use Rattle.table.proofs.rows.meets.Statement.{statement}
 use Rattle.table.proofs.rows.meets.Tie as tie
 
-through : (r : Bool) (o : Operator) (x y a b : ℤ) → r ≡ truth o x y → x ≡ a → y ≡ b → r ≡ truth o a b
-through r o x y a b e p q = e ∙ ap₂ (truth o) p q
+abbrev Inv-loop : tie.InvT-loop
+Inv-loop targets places numbers start row i₀ i = Walking targets places numbers start row i
 
-value-of-requires : tie.Need-value-of-requires
-value-of-requires c κs = search needs
+abbrev μ-loop : tie.MeasureT-loop
+μ-loop targets places numbers start row i₀ i = met - i
 
-value-of-requires-2 : tie.Need-value-of-requires-2
-value-of-requires-2 c κs = search needs
+loop-holds : tie.Need-loop-holds Inv-loop μ-loop
+loop-holds c = walk-start _ _ _ _ _
 
-compare-requires : tie.Need-compare-requires
-compare-requires c κs = search needs
+cast-loop : tie.Need-cast-loop Inv-loop μ-loop
+cast-loop c = search needs
 
-returns : tie.Need-returns
-returns c =
+next-of-requires : tie.Need-next-of-requires Inv-loop μ-loop
+next-of-requires c κs = c .loop-test .taken
+
+cast-i : tie.Need-cast-i Inv-loop μ-loop
+cast-i c = search needs
+
+loop-less : tie.Need-loop-less Inv-loop μ-loop
+loop-less c =
     let a = c .before .before .before .args in
-    through (c .compare .result) (operatorAt (a .c .op)) (toZ w32 (ofZ w32 (c .before .before .value-of .result))) (toZ w32 (ofZ w32 (c .before .value-of2 .result)))
-    (operandValue (a .row .now) (a .values .now) (operandRead (a .c .left)))
-    (operandValue (a .row .now) (a .values .now) (operandRead (a .c .right)))
-    (c .compare .ensures)
-    (search needs ∙ c .before .before .value-of .ensures)
-    (search needs ∙ c .before .value-of2 .ensures)
+    let l = c .before .before .loop in
+    let t = c .before .loop-test .taken in
+    omega (arith, c .next-of .ensures, walk-on (a .targets .now) (a .places .now) (a .numbers .now) (a .start) (a .row .now) (l .i) (l .inv) (c .before .before .before .pre) t)
+
+loop-again : tie.Need-loop-again Inv-loop μ-loop
+loop-again c =
+    let a = c .before .before .before .args in
+    let l = c .before .before .loop in
+    walk-more (a .targets .now) (a .places .now) (a .numbers .now) (a .start) (a .row .now) (l .i) (l .inv) (c .before .before .before .pre) (c .before .loop-test .taken) _ (c .next-of .ensures)
+
+cast-result : tie.Need-cast-result Inv-loop μ-loop
+cast-result c = search needs
+
+returns : tie.Need-returns Inv-loop μ-loop
+returns c =
+    let a = c .before .before .args in
+    let l = c .before .loop in
+    let e = walk-done (a .targets .now) (a .places .now) (a .numbers .now) (a .start) (a .row .now) (l .i) (l .inv) (c .loop-test .left) in
+    (e, tests-row (a .targets .now) (a .places .now) (a .numbers .now) (a .start) (a .row .now) _ e)
 
 pub meets-spec : {M : Type 1} → statement M
-meets-spec = tie.close (tie.spec value-of-requires value-of-requires-2 compare-requires returns)
+meets-spec =
+    tie.close
+    (tie.spec
+    Inv-loop
+    μ-loop
+    loop-holds
+    cast-loop
+    next-of-requires
+    cast-i
+    loop-less
+    loop-again
+    cast-result
+    returns)
