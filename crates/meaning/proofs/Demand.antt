@@ -1,5 +1,9 @@
 -- The claims of specs/Demand, all proved. Assumes nothing.
 use Rattle.meaning.specs.Demand.{Demands}
+use Rattle.meaning.proofs.Stream.{first-then-rest}
+use Rattle.meaning.proofs.Spelling.{has-text}
+use Rattle.meaning.proofs.Numbering.{marks-numbered}
+use Rattle.meaning.proofs.Limits.{within-exactly-if}
 use Rattle.meaning.proofs.Accepted.{lowest-number, refused-changes-nothing, reads-exactly, one-sentence, accepted-exactly-if, accepted-is-added}
 use Rattle.meaning.proofs.Record.{record-reads-back}
 use Rattle.meaning.proofs.Within32.{answer-reads-back}
@@ -11,6 +15,10 @@ demands = record {
   refused-changes-nothing = refused-changes-nothing;
   reads-exactly = reads-exactly;
   one-sentence = one-sentence;
+  first-then-rest = first-then-rest;
+  has-text = has-text;
+  marks-numbered = marks-numbered;
+  within-exactly-if = within-exactly-if;
   accepted-exactly-if = accepted-exactly-if;
   accepted-is-added = accepted-is-added;
   record-reads-back = record-reads-back;

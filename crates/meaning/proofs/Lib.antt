@@ -2,8 +2,11 @@ pub mod Readers
 pub mod Decides
 pub mod Stream
 pub mod Accepted
+pub mod Numbering
+pub mod Spelling
 pub mod Names
 pub mod Resolved
+pub mod Limits
 pub mod WellFormed
 pub mod Within32
 pub mod Keeps

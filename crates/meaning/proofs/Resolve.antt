@@ -29,7 +29,7 @@ use Rattle.meaning.proofs.Postfix.{sides-nodes, sides-in, leaves-in, po
 
 -- ---- the marks passed
 
-term-marks : (t : Term) (ts : List Term) → markCount (termGivens (t ∷ ts)) ≡ markInTerm t + markCount (termGivens ts)
+pub term-marks : (t : Term) (ts : List Term) → markCount (termGivens (t ∷ ts)) ≡ markInTerm t + markCount (termGivens ts)
 term-marks (G.column n) ts = omega arith
 term-marks (given v) ts = refl
 

@@ -16,6 +16,7 @@ use Rattle.lists.specs.Lists.{bytes, all, takeWhile, dropWhile}
 use Rattle.lists.proofs.Bools.{and-left, and-right}
 use Rattle.lists.proofs.Runs.{take-yes, drop-yes, drop-short, drop-twice, drop-all}
 use Rattle.meaning.specs.Tokens.{Token, isWordByte, isSpace, isMinus, word, negative, signs, behindPrefix, signIn, tokenFrom, tokenHere, firstToken, scan, tokens}
+use Rattle.meaning.specs.Demand.{tokensFrom, FirstThenRest}
 use Rattle.meaning.proofs.Readers.{some-none, some-same}
 
 -- ---- the token at a byte that is no space: a word, a minus and a word, or a sign
@@ -125,6 +126,13 @@ pub tokens-some : (s : List ℕ) (t : Token) (left : List ℕ) → firstToken s 
 tokens-some s t left e =
     let h = first-shorter s t left e in
     sym (scan-enough (suc (length s)) s (omega arith)) ∙ scan-some (length s) s t left e ∙ ap (λ ts. t ∷ ts) (scan-enough (length s) left (omega arith))
+
+pub first-then-rest : FirstThenRest
+first-then-rest s = go (firstToken s) refl
+  where
+    go : (o : Option (Token × List ℕ)) → firstToken s ≡ o → tokens s ≡ tokensFrom o
+    go none e = tokens-none s e
+    go (some x) e = tokens-some s (x .0) (x .1) e
 
 -- ---- spaces
 

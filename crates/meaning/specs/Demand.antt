@@ -3,19 +3,21 @@
 use mathlib.Core.Path.{_≡_}
 use mathlib.Core.Logic.{_↔_, _≢_}
 use mathlib.Core.Bool.{Bool, true, false, _&&_}
-use mathlib.Core.Option.{some}
-use mathlib.Core.List.{List, [], _++_}
-use Prim.Native.Nat.{ℕ, _≤_, _<_}
+use mathlib.Core.Option.{Option, none, some}
+use mathlib.Core.List.{List, [], _∷_, _++_, map}
+use Prim.Native.Nat.{ℕ, suc, _≤_, _<_}
 use lib.Dec.{eqb}
-use lib.IntN.{ℤ}
+use lib.IntN.{ℤ, pos, negsuc}
 use lib.ListN.{length, getD}
-use Rattle.lists.specs.Lists.{All, any}
-use Rattle.meaning.specs.Tokens.{tokens}
-use Rattle.meaning.specs.Grammar.{Sentence, spell, sentence}
+use Rattle.lists.specs.Lists.{All, any, all, from}
+use Rattle.meaning.specs.Condition.{comparisonsIn, operandsIn, depthIn}
+use Rattle.meaning.specs.Tokens.{Token, isName, firstToken, tokens}
+use Rattle.meaning.specs.Grammar as G
+use Rattle.meaning.specs.Grammar.{Given, items, Sentence, spell, sentence}
 use Rattle.meaning.specs.Key.{Key}
-use Rattle.meaning.specs.Limits.{most-text, most-items, most-rows, isWithin32, pastLimit}
-use Rattle.meaning.specs.Names.{unknown, taken, miscounted}
-use Rattle.meaning.specs.Statement.{Value, Query, Change, insert, delete, update, Update, statementOf}
+use Rattle.meaning.specs.Limits.{most-text, most-items, most-rows, tableNamed, rowsOf, whereOf, columnsNamed, givens, markCount, isWithin32, pastLimit}
+use Rattle.meaning.specs.Names.{Schema, unknown, taken, miscounted}
+use Rattle.meaning.specs.Statement.{Value, constant, parameter, Operand, column, value, Query, Change, insert, delete, update, Update, Statement, creates, asks, changes, statementOf}
 use Rattle.meaning.specs.Meaning.{Row, answer, changed}
 use Rattle.meaning.specs.Record.{encode, isRecord, columnsIn, rowCount, rowRefusal, rowPart, numbersOf}
 use Rattle.meaning.specs.Pattern.{matters, matches}
@@ -48,6 +50,82 @@ ReadsExactly = (text : List ℕ) (s : Sentence) → (sentence text ≡ some s) �
 
 abbrev pub OneSentence : Type 0
 OneSentence = (s t : Sentence) → spell s ≡ spell t → s ≡ t
+
+-- "A run of letters, digits and underscores is one word, and a sign is the longest that fits; spaces (byte 32) may stand between any two and at both ends":
+-- the tokens of a text are its first token and then the tokens of the text after it
+abbrev pub tokensFrom : Option (Token × List ℕ) → List Token
+tokensFrom none = []
+tokensFrom (some x) = x .0 ∷ tokens (x .1)
+
+abbrev pub FirstThenRest : Type 0
+FirstThenRest = (text : List ℕ) → tokens text ≡ tokensFrom (firstToken text)
+
+-- "A name is a small letter, then small letters, digits or underscores. A constant is an optional minus and digits": a sentence has a text exactly if its
+-- names are such, whatever its constants are
+abbrev pub HasText : Type 0
+HasText = (s : Sentence) → (all isName (tableNamed s ∷ columnsNamed s) ≡ true) ↔ ((text : List ℕ) × (tokens text ≡ spell s))
+
+-- "Question marks are numbered from 1, left to right.": those of VALUES or SET, then those of WHERE, are 1, 2 and on, up to the number of them
+abbrev pub valueMarks : List Value → List ℕ
+valueMarks [] = []
+valueMarks (constant z ∷ vs) = valueMarks vs
+valueMarks (parameter k ∷ vs) = k ∷ valueMarks vs
+
+abbrev pub operandMarks : List Operand → List ℕ
+operandMarks [] = []
+operandMarks (column i ∷ os) = operandMarks os
+operandMarks (value (constant z) ∷ os) = operandMarks os
+operandMarks (value (parameter k) ∷ os) = k ∷ operandMarks os
+
+abbrev pub changeMarks : Change → List ℕ
+changeMarks (insert vs) = valueMarks vs
+changeMarks (delete g) = operandMarks (operandsIn g)
+changeMarks (update ss g) = valueMarks (map (λ (s : ℕ × Value). s .1) ss) ++ operandMarks (operandsIn g)
+
+abbrev pub Numbered : Statement → Type 0
+Numbered (creates t) = Unit {0}
+Numbered (asks q) = operandMarks (operandsIn (q .condition)) ≡ from 1 (q .parameters)
+Numbered (changes u) = changeMarks (u .change) ≡ from 1 (u .parameters)
+
+abbrev pub MarksNumbered : Type 0
+MarksNumbered = (ts : List Schema) (s : Sentence) → Numbered (statementOf ts s)
+
+-- refusal 5: "past a limit, from columns to name in that table, or a constant outside 32 bits": the table of limits, row by row
+abbrev pub Between : ℕ → ℕ → ℕ → Type 0
+Between least most n = (least ≤ n) × (n ≤ most)
+
+-- how many columns a table has, are selected, or set; how many values are inserted; DELETE has no list
+abbrev pub listLengths : Sentence → List ℕ
+listLengths (G.table t cs z) = length (items cs) ∷ []
+listLengths (G.select cs t w) = length (items cs) ∷ []
+listLengths (G.insert t vs) = length (items vs) ∷ []
+listLengths (G.update t ss w) = length (items ss) ∷ []
+listLengths (G.delete t w) = []
+
+abbrev pub RowsWithin : ℤ → Type 0
+RowsWithin (pos n) = Between 1 512 n
+RowsWithin (negsuc n) = ⊥
+
+-- "The constant -2147483648 is taken and 2147483648 is not."; `negsuc n` is -(n + 1)
+abbrev pub ConstantWithin : ℤ → Type 0
+ConstantWithin (pos n) = n ≤ 2147483647
+ConstantWithin (negsuc n) = suc n ≤ 2147483648
+
+abbrev pub GivenWithin : Given → Type 0
+GivenWithin (G.constant z) = ConstantWithin z
+GivenWithin G.mark = Unit {0}
+
+pub record WithinLimits (s : Sentence) : Type 0 where
+  pub lists : All (Between 1 8) (listLengths s)
+  pub rows : All RowsWithin (rowsOf s)
+  pub marks : markCount (givens s) ≤ 8
+  pub comparisons : length (comparisonsIn (whereOf s)) ≤ 8
+  pub depth : depthIn (whereOf s) ≤ 8
+  pub names : All (λ n. length n ≤ 12) (tableNamed s ∷ columnsNamed s)
+  pub constants : All GivenWithin (givens s)
+
+abbrev pub WithinExactlyIf : Type 0
+WithinExactlyIf = (s : Sentence) → (pastLimit s ≡ false) ↔ WithinLimits s
 
 -- no condition of refusals 2 to 9 holds
 pub record Acceptable (lent : Lengths) (p : Plain) (text : List ℕ) (s : Sentence) : Type 0 where
@@ -132,6 +210,10 @@ pub record Demands : Type 0 where
   pub refused-changes-nothing : RefusedChangesNothing
   pub reads-exactly : ReadsExactly
   pub one-sentence : OneSentence
+  pub first-then-rest : FirstThenRest
+  pub has-text : HasText
+  pub marks-numbered : MarksNumbered
+  pub within-exactly-if : WithinExactlyIf
   pub accepted-exactly-if : AcceptedExactlyIf
   pub accepted-is-added : AcceptedIsAdded
   pub record-reads-back : RecordReadsBack

@@ -9,18 +9,19 @@ use lib.IntN.{ℤ, pos}
 use lib.Dec.{ltb}
 use lib.ListN.{getD}
 use Rattle.lists.specs.Lists.{bytes, all, All, nil, cons}
+use Rattle.meaning.specs.Condition.{countOf}
 use Rattle.meaning.specs.Tokens.{isNameByte, isWordByte, decimal, isName, word, negative, tokenFrom, firstToken, scan, tokens}
 use Rattle.meaning.specs.Grammar.{aCondition, aSentence, read}
 use Rattle.meaning.specs.Limits.{pastLimit}
 use Rattle.meaning.specs.Names.{unknown, taken, miscounted}
-use Rattle.meaning.specs.Statement.{statementOf}
+use Rattle.meaning.specs.Statement.{Change, insert, delete, update, statementOf}
 use Rattle.meaning.specs.Meaning.{Row, answer, changed, rowsChanged}
 use Rattle.meaning.specs.Record.{body, encode}
 use Rattle.meaning.specs.Pattern.{Pattern, number, mark, anything, jointClauses, jointCount, most-clauses, class, contradictory, entry, patterns, matches}
 use Rattle.meaning.specs.Plain.{Lengths, Plain, tableAt, queryAt, updateAt, recordOf, openingRefused, opened, Call, add, ask, change, otherLengths, noPlace, full, refusal, Out, refused, added, answered, rows, flushed, addedText, changedBy, rowsBy, step, after, outs}
 
 -- what the computations open
-computing : Unit {0}
+unfoldable pub computing : Unit {0}
 unfolding isNameByte isWordByte decimal isName word negative tokenFrom firstToken scan tokens aCondition aSentence read pastLimit unknown taken miscounted statementOf answer changed rowsChanged jointClauses class contradictory entry patterns matches body encode recordOf openingRefused otherLengths noPlace full refusal addedText changedBy rowsBy
 computing = tt
 
@@ -34,12 +35,21 @@ start = opened (record { lent = six; slots = 0; slotBytes = 8 })
 -- what a row of the table says of a store that has the table S and the texts: of its first question and first update
 pub data Outcome : Type 0 where
   patterns-are : List Pattern → Outcome
+  counts-are : ℕ → ℕ → List Pattern → Outcome
   next-refused : Call → ℕ → Outcome
   lists : List Row → Outcome
   next-record : Call → List ℕ → Outcome
 
+-- the clause count of an update
+abbrev changeCount : Change → ℕ
+changeCount (insert os) = 1
+changeCount (delete g) = countOf g
+changeCount (update ss g) = countOf g
+
 abbrev Says : Plain → Outcome → Type 0
 Says p (patterns-are ps) = patterns (queryAt p 0) (updateAt p 0) ≡ ps
+Says p (counts-are m n ps) =
+    (changeCount (updateAt p 0 .change) ≡ m) × (countOf (queryAt p 0 .condition) ≡ n) × (patterns (queryAt p 0) (updateAt p 0) ≡ ps)
 Says p (next-refused c n) = step six p c .1 ≡ refused n
 Says p (lists rs) = answer (queryAt p 0) [] (tableAt p 0 .rows) ≡ rs
 Says p (next-record c r) = step six p c .1 ≡ answered r
@@ -58,7 +68,7 @@ Q = "SELECT level FROM stage WHERE site = ?"
 abbrev adds : Example → List Call
 adds e = map (λ (t : String). add (bytes t)) (S ∷ e .texts)
 
-abbrev isTaken : Out → Bool
+abbrev pub isTaken : Out → Bool
 isTaken (refused n) = false
 isTaken (added k n) = true
 isTaken (answered r) = true
@@ -71,6 +81,10 @@ Holds e = (all isTaken (outs six start (adds e ++ e .calls)) ≡ true) × Says (
 
 abbrev pair : String → String → List Pattern → Example
 pair q u ps = record { texts = q ∷ u ∷ []; calls = []; outcome = patterns-are ps }
+
+-- a pair of which the update has 4 clauses and the question 16
+abbrev four-sixteen : String → String → List Pattern → Example
+four-sixteen q u ps = record { texts = q ∷ u ∷ []; calls = []; outcome = counts-are 4 16 ps }
 
 -- the values of a call
 abbrev numbers : List ℕ → List ℤ
@@ -115,9 +129,9 @@ examples =
       outcome = lists (numbers (1 ∷ 0 ∷ []) ∷ []);
     }
     -- *DELETE, counts 4 and 16
-    ∷ pair sixteen delete-four ((mark 1 ∷ anything ∷ []) ∷ (anything ∷ mark 3 ∷ []) ∷ (anything ∷ mark 4 ∷ []) ∷ (mark 2 ∷ anything ∷ []) ∷ [])
+    ∷ four-sixteen sixteen delete-four ((mark 1 ∷ anything ∷ []) ∷ (anything ∷ mark 3 ∷ []) ∷ (anything ∷ mark 4 ∷ []) ∷ (mark 2 ∷ anything ∷ []) ∷ [])
     -- *UPDATE, counts 4 and 16
-    ∷ pair sixteen update-four ((anything ∷ anything ∷ []) ∷ [])
+    ∷ four-sixteen sixteen update-four ((anything ∷ anything ∷ []) ∷ [])
     ∷ []
 
 -- row k of a table, counted from 0
@@ -158,11 +172,11 @@ starred-7 = (refl, refl)
 
 starred-8 : Holds (row examples 8)
 unfolding computing
-starred-8 = (refl, refl)
+starred-8 = (refl, (refl, refl, refl))
 
 starred-9 : Holds (row examples 9)
 unfolding computing
-starred-9 = (refl, refl)
+starred-9 = (refl, (refl, refl, refl))
 
 pub starred : All Holds examples
 starred =
@@ -178,7 +192,7 @@ starred =
     (cons starred-9
     nil)))))))))
 
--- the counts of the last two rows, and of the ninth a key that it spares and one that it drops
+-- the joint counts of the last two rows, and of the ninth a key that it spares and one that it drops
 module _ (q u : String) where
   abbrev pairStore : Plain
   pairStore = after six start (adds (pair q u []))

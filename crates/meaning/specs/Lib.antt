@@ -15,3 +15,4 @@ pub mod Pattern
 pub mod Plain
 pub mod Demand
 pub mod Examples
+pub mod Edges

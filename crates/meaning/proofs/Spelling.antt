@@ -1,0 +1,425 @@
+-- The demand of specs/Demand about the sentences that have a text: tokens written one after another, each after a space, are the tokens of that text, if
+-- their names are names; and the names among the tokens of a text are names. Assumes nothing.
+use mathlib.Core.Path.{_≡_, refl, sym, ap, ap₂, subst, _∙_}
+use mathlib.Core.Bool.{Bool, true, false, _&&_, cond, and-true, and-false, or-true, false≢true}
+use mathlib.Core.Option.{Option, none, some}
+use mathlib.Core.List.{List, [], _∷_, _++_, map}
+use Prim.Native.Nat.{ℕ, zero, suc, _+_, _*_, _-_, _/_, _%_, _≤_}
+use Prim.Native.String.{String}
+use native.Mathlib.Nat.{le-refl}
+use native.Mathlib.Omega.{arith}
+use borrow.Author.Tests.{le-leb, leb-true, lt-leb, eqb-true}
+use lib.Dec.{leb, eqb}
+use lib.IntN.{pos, negsuc, negℤ}
+use lib.ListN.{length}
+use Rattle.lists.specs.Lists.{bytes, all, takeWhile, dropWhile}
+use Rattle.lists.specs.Tests.{eqList}
+use Rattle.lists.proofs.Bools.{and-assoc, and-left, and-right, and-both, clash}
+use Rattle.lists.proofs.Lists.{all-append}
+use Rattle.lists.proofs.Runs.{Ends, run-unique, drop-no}
+use Rattle.meaning.specs.Operator.{eq, ne, lt, le, gt, ge}
+use Rattle.meaning.specs.Condition.{Comparison, Level, Condition, compare, negate, group, alone, both, single, either, comparisons, sides, Where, always, under, operandsIn}
+use Rattle.meaning.specs.Tokens.{Keyword, TABLE, ROWS, SELECT, FROM, WHERE, INSERT, INTO, VALUES, UPDATE, SET, DELETE, AND, OR, NOT, Name, Token, keyword, name, constant, operator, mark, comma, lparen, rparen, other, isDigit, isSmall, isNameByte, isWordByte, isSpace, isMinus, decimalOn, decimal, isName, keywords, keywordIn, word, negative, signs, behindPrefix, signIn, tokenFrom, tokenHere, firstToken, scan, tokens}
+use Rattle.meaning.specs.Grammar as G
+use Rattle.meaning.specs.Grammar.{Given, Term, given, Listed, last, next, items, Sentence, givenToken, termToken, spellName, spellGiven, spellSetting, spellList, spellCondition, spellWhere, spell}
+use Rattle.meaning.specs.Limits.{tableNamed, termColumns, columnsNamed}
+use Rattle.meaning.specs.Demand.{HasText}
+use Rattle.meaning.proofs.Readers.{some-none, some-same}
+use Rattle.meaning.proofs.Postfix.{sides-append}
+use Rattle.meaning.proofs.Stream.{from-word, from-minus, from-sign, sign-here, sign-later, scan-none, scan-some, tokens-some}
+
+-- a name among tokens is a name
+abbrev isNamed : Token → Bool
+isNamed (keyword k) = true
+isNamed (name n) = isName n
+isNamed (constant z) = true
+isNamed (operator o) = true
+isNamed mark = true
+isNamed comma = true
+isNamed lparen = true
+isNamed rparen = true
+isNamed other = true
+
+-- ---- digits of a number, with leading zeros
+
+digits : ℕ → ℕ → List ℕ
+digits zero n = 48 ∷ []
+digits (suc k) n = digits k (n / 10) ++ ((48 + n % 10) ∷ [])
+
+decimal-last : (m : ℕ) (ds : List ℕ) (d : ℕ) → decimalOn m (ds ++ (d ∷ [])) ≡ decimalOn m ds * 10 + (d - 48)
+decimal-last m [] d = refl
+decimal-last m (e ∷ ds) d = decimal-last (m * 10 + (e - 48)) ds d
+
+digits-decimal : (k n : ℕ) → n ≤ k → decimal (digits k n) ≡ n
+unfolding digits decimal
+digits-decimal zero n h = omega arith
+digits-decimal (suc k) n h =
+    decimal-last 0 (digits k (n / 10)) (48 + n % 10)
+    ∙ ap (λ (m : ℕ). m * 10 + ((48 + n % 10) - 48)) (digits-decimal k (n / 10) (omega arith))
+    ∙ omega arith
+
+digit-is : (d : ℕ) → d ≤ 9 → isDigit (48 + d) ≡ true
+digit-is d h = and-both (leb 48 (48 + d)) (leb (48 + d) 57) (le-leb 48 (48 + d) (omega arith)) (le-leb (48 + d) 57 (omega arith))
+
+digits-all : (k n : ℕ) → all isDigit (digits k n) ≡ true
+unfolding digits
+digits-all zero n = refl
+digits-all (suc k) n =
+    all-append isDigit (digits k (n / 10)) ((48 + n % 10) ∷ [])
+    ∙ and-both (all isDigit (digits k (n / 10))) (isDigit (48 + n % 10) && true) (digits-all k (n / 10)) (and-true (isDigit (48 + n % 10)) ∙ digit-is (n % 10) (omega arith))
+
+-- ---- words
+
+-- there is a byte
+abbrev isThere : List ℕ → Bool
+isThere [] = false
+isThere (b ∷ w) = true
+
+-- the bytes are one word, of that token
+pub record Word (w : List ℕ) (t : Token) : Type 0 where
+  pub letters : all isWordByte w ≡ true
+  pub there : isThere w ≡ true
+  pub means : word w ≡ t
+
+keywordText : Keyword → String
+keywordText TABLE = "TABLE"
+keywordText ROWS = "ROWS"
+keywordText SELECT = "SELECT"
+keywordText FROM = "FROM"
+keywordText WHERE = "WHERE"
+keywordText INSERT = "INSERT"
+keywordText INTO = "INTO"
+keywordText VALUES = "VALUES"
+keywordText UPDATE = "UPDATE"
+keywordText SET = "SET"
+keywordText DELETE = "DELETE"
+keywordText AND = "AND"
+keywordText OR = "OR"
+keywordText NOT = "NOT"
+
+keyword-word : (k : Keyword) → Word (bytes (keywordText k)) (keyword k)
+unfolding keywordText word isName isNameByte isWordByte
+keyword-word TABLE = record { letters = refl; there = refl; means = refl }
+keyword-word ROWS = record { letters = refl; there = refl; means = refl }
+keyword-word SELECT = record { letters = refl; there = refl; means = refl }
+keyword-word FROM = record { letters = refl; there = refl; means = refl }
+keyword-word WHERE = record { letters = refl; there = refl; means = refl }
+keyword-word INSERT = record { letters = refl; there = refl; means = refl }
+keyword-word INTO = record { letters = refl; there = refl; means = refl }
+keyword-word VALUES = record { letters = refl; there = refl; means = refl }
+keyword-word UPDATE = record { letters = refl; there = refl; means = refl }
+keyword-word SET = record { letters = refl; there = refl; means = refl }
+keyword-word DELETE = record { letters = refl; there = refl; means = refl }
+keyword-word AND = record { letters = refl; there = refl; means = refl }
+keyword-word OR = record { letters = refl; there = refl; means = refl }
+keyword-word NOT = record { letters = refl; there = refl; means = refl }
+
+-- a digit, a name's byte: a word's byte
+name-byte : (b : ℕ) → isNameByte b ≡ true → isWordByte b ≡ true
+unfolding isWordByte
+name-byte b h = rw h
+
+digit-byte : (b : ℕ) → isDigit b ≡ true → isWordByte b ≡ true
+unfolding isWordByte isNameByte
+digit-byte b h = rw (h, or-true (isSmall b))
+
+small-byte : (b : ℕ) → isSmall b ≡ true → isWordByte b ≡ true
+unfolding isWordByte isNameByte
+small-byte b h = rw h
+
+small-no-digit : (b : ℕ) → isSmall b ≡ true → isDigit b ≡ false
+small-no-digit b h =
+    let k = leb-true 97 b (and-left (leb 97 b) (leb b 122) h) in
+    let e : leb b 57 ≡ false = lt-leb b 57 (omega arith) in
+    ap (λ (c : Bool). leb 48 b && c) e ∙ and-false (leb 48 b)
+
+all-implies : {A : Type 0} (p q : A → Bool) → ((x : A) → p x ≡ true → q x ≡ true) → (xs : List A) → all p xs ≡ true → all q xs ≡ true
+all-implies p q f [] h = refl
+all-implies p q f (x ∷ xs) h =
+    and-both (q x) (all q xs) (f x (and-left (p x) (all p xs) h)) (all-implies p q f xs (and-right (p x) (all p xs) h))
+
+name-word : (n : Name) → isName n ≡ true → Word n (name n)
+unfolding isName word
+name-word [] h = absurd (false≢true h)
+name-word (b ∷ w) h =
+    let s : isSmall b ≡ true = and-left (isSmall b) (all isNameByte w) h in
+    record {
+      letters = and-both (isWordByte b) (all isWordByte w) (small-byte b s) (all-implies isNameByte isWordByte name-byte w (and-right (isSmall b) (all isNameByte w) h));
+      there = refl;
+      means = rw (small-no-digit b s) (rw h refl);
+    }
+
+last-there : (w : List ℕ) (b : ℕ) → isThere (w ++ (b ∷ [])) ≡ true
+last-there [] b = refl
+last-there (c ∷ w) b = refl
+
+digits-there : (k n : ℕ) → isThere (digits k n) ≡ true
+unfolding digits
+digits-there zero n = refl
+digits-there (suc k) n = last-there (digits k (n / 10)) (48 + n % 10)
+
+digits-word : (n : ℕ) → Word (digits n n) (constant (pos n))
+unfolding word
+digits-word n = record {
+  letters = all-implies isDigit isWordByte digit-byte (digits n n) (digits-all n n);
+  there = digits-there n n;
+  means = rw (digits-all n n) (ap (λ (m : ℕ). constant (pos m)) (digits-decimal n n (le-refl n)));
+}
+
+digits-negative : (n : ℕ) (ds : List ℕ) → all isDigit ds ≡ true → isThere ds ≡ true → decimal ds ≡ suc n → negative ds ≡ constant (negsuc n)
+unfolding negative
+digits-negative n [] h k e = absurd (false≢true k)
+digits-negative n (d ∷ ds) h k e = rw h (ap (λ (m : ℕ). constant (negℤ (pos m))) e)
+
+-- ---- the first token of a text that begins with a space
+
+no-space : (b : ℕ) → isWordByte b ≡ true → isSpace b ≡ false
+unfolding isWordByte isNameByte
+no-space b h = go (isSpace b) refl
+  where
+    go : (c : Bool) → isSpace b ≡ c → c ≡ false
+    go true e = clash h (ap isWordByte (eqb-true b 32 e))
+    go false e = refl
+
+first-word : (w : List ℕ) (t : Token) (more : List ℕ) → Word w t → Ends isWordByte more → firstToken (32 ∷ (w ++ more)) ≡ some (t, more)
+unfolding firstToken
+first-word [] t more W e = absurd (false≢true (W .there))
+first-word (b ∷ w) t more W e =
+    let h : isWordByte b ≡ true = and-left (isWordByte b) (all isWordByte w) (W .letters) in
+    let u = run-unique isWordByte w more (and-right (isWordByte b) (all isWordByte w) (W .letters)) e in
+    ap tokenHere (drop-no isSpace b (w ++ more) (no-space b h))
+    ∙ ap some (from-word b (w ++ more) h ∙ ap₂ (λ v r. (word (b ∷ v), r)) (u .0) (u .1) ∙ ap (λ (x : Token). (x, more)) (W .means))
+
+first-minus : (w more : List ℕ) (t : Token) → all isWordByte w ≡ true → negative w ≡ t → Ends isWordByte more → firstToken (32 ∷ 45 ∷ (w ++ more)) ≡ some (t, more)
+unfolding firstToken isWordByte isNameByte
+first-minus w more t h n e =
+    let u = run-unique isWordByte w more h e in
+    ap some (from-minus 45 (w ++ more) refl refl ∙ ap₂ (λ v r. (negative v, r)) (u .0) (u .1) ∙ ap (λ (x : Token). (x, more)) n)
+
+-- ---- tokens written one after another, each after a space; a byte that is no sentence stands for `other`
+
+written : Token → List ℕ
+written (keyword k) = bytes (keywordText k)
+written (name n) = n
+written (constant (pos n)) = digits n n
+written (constant (negsuc n)) = 45 ∷ digits (suc n) (suc n)
+written (operator eq) = bytes "="
+written (operator ne) = bytes "<>"
+written (operator lt) = bytes "<"
+written (operator le) = bytes "<="
+written (operator gt) = bytes ">"
+written (operator ge) = bytes ">="
+written mark = bytes "?"
+written comma = bytes ","
+written lparen = bytes "("
+written rparen = bytes ")"
+written other = bytes "!"
+
+textOf : List Token → List ℕ
+textOf [] = []
+textOf (t ∷ ts) = 32 ∷ (written t ++ textOf ts)
+
+text-ends : (ts : List Token) → Ends isWordByte (textOf ts)
+unfolding textOf isWordByte isNameByte
+text-ends [] = tt
+text-ends (t ∷ ts) = refl
+
+first-written : (t : Token) (ts : List Token) → isNamed t ≡ true → firstToken (textOf (t ∷ ts)) ≡ some (t, textOf ts)
+unfolding written textOf firstToken tokenFrom isWordByte isNameByte
+first-written (keyword k) ts h = first-word (bytes (keywordText k)) (keyword k) (textOf ts) (keyword-word k) (text-ends ts)
+first-written (name n) ts h = first-word n (name n) (textOf ts) (name-word n h) (text-ends ts)
+first-written (constant (pos n)) ts h = first-word (digits n n) (constant (pos n)) (textOf ts) (digits-word n) (text-ends ts)
+first-written (constant (negsuc n)) ts h =
+    let ds : List ℕ = digits (suc n) (suc n) in
+    first-minus ds (textOf ts) (constant (negsuc n)) (all-implies isDigit isWordByte digit-byte ds (digits-all (suc n) (suc n)))
+    (digits-negative n ds (digits-all (suc n) (suc n)) (digits-there (suc n) (suc n)) (digits-decimal (suc n) (suc n) (le-refl (suc n)))) (text-ends ts)
+first-written (operator eq) ts h = refl
+first-written (operator ne) ts h = refl
+first-written (operator lt) [] h = refl
+first-written (operator lt) (t ∷ ts) h = refl
+first-written (operator le) ts h = refl
+first-written (operator gt) [] h = refl
+first-written (operator gt) (t ∷ ts) h = refl
+first-written (operator ge) ts h = refl
+first-written mark ts h = refl
+first-written comma ts h = refl
+first-written lparen ts h = refl
+first-written rparen ts h = refl
+first-written other ts h = refl
+
+-- they are the tokens of that text
+tokens-written : (ts : List Token) → all isNamed ts ≡ true → tokens (textOf ts) ≡ ts
+unfolding textOf tokens scan
+tokens-written [] h = refl
+tokens-written (t ∷ ts) h =
+    tokens-some (textOf (t ∷ ts)) t (textOf ts) (first-written t ts (and-left (isNamed t) (all isNamed ts) h))
+    ∙ ap (λ (us : List Token). t ∷ us) (tokens-written ts (and-right (isNamed t) (all isNamed ts) h))
+
+-- ---- the names among the tokens of a text are names
+
+named-keyword : (ks : List (String × Keyword)) (w : List ℕ) → isNamed (keywordIn ks w) ≡ true
+named-keyword [] w = refl
+named-keyword (k ∷ ks) w = go (eqList eqb w (bytes (k .0))) (named-keyword ks w)
+  where
+    go : (b : Bool) → isNamed (keywordIn ks w) ≡ true → isNamed (cond b (keyword (k .1)) (keywordIn ks w)) ≡ true
+    go true h = refl
+    go false h = h
+
+named-word : (w : List ℕ) → isNamed (word w) ≡ true
+unfolding word
+named-word w = go (all isDigit w) (isName w) refl
+  where
+    go : (d n : Bool) → isName w ≡ n → isNamed (cond d (constant (pos (decimal w))) (cond n (name w) (keywordIn keywords w))) ≡ true
+    go true n e = refl
+    go false true e = e
+    go false false e = named-keyword keywords w
+
+named-negative : (w : List ℕ) → isNamed (negative w) ≡ true
+unfolding negative
+named-negative [] = refl
+named-negative (b ∷ w) = go (all isDigit (b ∷ w))
+  where
+    go : (d : Bool) → isNamed (cond d (constant (negℤ (pos (decimal (b ∷ w))))) other) ≡ true
+    go true = refl
+    go false = refl
+
+named-sign : (xs : List (String × Token)) (b : ℕ) (s : List ℕ) → all (λ (x : String × Token). isNamed (x .1)) xs ≡ true → isNamed (signIn xs b s .0) ≡ true
+named-sign [] b s h = refl
+named-sign (x ∷ xs) b s h =
+    go (behindPrefix (bytes (x .0)) (b ∷ s)) refl (named-sign xs b s (and-right (isNamed (x .1)) (all (λ (x : String × Token). isNamed (x .1)) xs) h))
+  where
+    go : (o : Option (List ℕ)) → behindPrefix (bytes (x .0)) (b ∷ s) ≡ o → isNamed (signIn xs b s .0) ≡ true → isNamed (signIn (x ∷ xs) b s .0) ≡ true
+    go none e ih = rw (sign-later x xs b s e) ih
+    go (some left) e ih = rw (sign-here x xs b s left e) (and-left (isNamed (x .1)) (all (λ (x : String × Token). isNamed (x .1)) xs) h)
+
+named-from : (b : ℕ) (s : List ℕ) → isNamed (tokenFrom b s .0) ≡ true
+named-from b s = go (isWordByte b) (isMinus b) refl refl
+  where
+    go : (w m : Bool) → isWordByte b ≡ w → isMinus b ≡ m → isNamed (tokenFrom b s .0) ≡ true
+    go true m e f = rw (from-word b s e) (named-word (b ∷ takeWhile isWordByte s))
+    go false true e f = rw (from-minus b s e f) (named-negative (takeWhile isWordByte s))
+    go false false e f = rw (from-sign b s e f) (named-sign signs b s refl)
+
+named-first : (s : List ℕ) (x : Token × List ℕ) → firstToken s ≡ some x → isNamed (x .0) ≡ true
+unfolding firstToken
+named-first s x e = go (dropWhile isSpace s) e
+  where
+    go : (us : List ℕ) → tokenHere us ≡ some x → isNamed (x .0) ≡ true
+    go [] q = some-none (sym q)
+    go (b ∷ us) q = subst (λ (y : Token × List ℕ). isNamed (y .0) ≡ true) (some-same q) (named-from b us)
+
+named-scan : (n : ℕ) (s : List ℕ) → all isNamed (scan n s) ≡ true
+unfolding scan
+named-scan zero s = refl
+named-scan (suc n) s = go (firstToken s) refl (λ (us : List ℕ). named-scan n us)
+  where
+    go : (o : Option (Token × List ℕ)) → firstToken s ≡ o → ((us : List ℕ) → all isNamed (scan n us) ≡ true) → all isNamed (scan (suc n) s) ≡ true
+    go none e ih = ap (all isNamed) (scan-none n s e)
+    go (some x) e ih =
+        ap (all isNamed) (scan-some n s (x .0) (x .1) e)
+        ∙ and-both (isNamed (x .0)) (all isNamed (scan n (x .1))) (named-first s x e) (ih (x .1))
+
+named-tokens : (s : List ℕ) → all isNamed (tokens s) ≡ true
+unfolding tokens
+named-tokens s = named-scan (length s) s
+
+-- ---- the names among the tokens of a sentence are its table's and columns'
+
+swap : (a b c : Bool) → (a && (b && c)) ≡ (b && (a && c))
+swap true b c = refl
+swap false true c = refl
+swap false false c = refl
+
+all-map : {A B : Type 0} (f : A → B) (p : B → Bool) (xs : List A) → all (λ (x : A). p (f x)) xs ≡ all p (map f xs)
+all-map f p [] = refl
+all-map f p (x ∷ xs) = ap (λ (b : Bool). p (f x) && b) (all-map f p xs)
+
+named-given : (v : Given) → isNamed (givenToken v) ≡ true
+named-given (G.constant z) = refl
+named-given G.mark = refl
+
+module _ {A : Type 0} (item : A → List Token → List Token) (good : A → Bool)
+    (one : (x : A) (more : List Token) → all isNamed (item x more) ≡ (good x && all isNamed more)) where
+  named-list : (xs : Listed A) (more : List Token) → all isNamed (spellList item xs more) ≡ (all good (items xs) && all isNamed more)
+  named-list (last x) more = one x more ∙ and-assoc (good x) true (all isNamed more)
+  named-list (next x xs) more =
+      one x (comma ∷ spellList item xs more)
+      ∙ ap (λ (b : Bool). good x && b) (named-list xs more)
+      ∙ and-assoc (good x) (all good (items xs)) (all isNamed more)
+
+named-setting : (s : Name × Given) (more : List Token) → all isNamed (spellSetting s more) ≡ (isName (s .0) && all isNamed more)
+named-setting s more = ap (λ (b : Bool). isName (s .0) && (b && all isNamed more)) (named-given (s .1))
+
+named-givens : (vs : Listed Given) (more : List Token) → all isNamed (spellList spellGiven vs more) ≡ all isNamed more
+named-givens (last v) more = ap (λ (b : Bool). b && all isNamed more) (named-given v)
+named-givens (next v vs) more = ap (λ (b : Bool). b && all isNamed (spellList spellGiven vs more)) (named-given v) ∙ named-givens vs more
+
+named-term : (t : Term) (ts : List Term) (b : Bool) → (isNamed (termToken t) && (all isName (termColumns ts) && b)) ≡ (all isName (termColumns (t ∷ ts)) && b)
+named-term (G.column n) ts b = and-assoc (isName n) (all isName (termColumns ts)) b
+named-term (given (G.constant z)) ts b = refl
+named-term (given G.mark) ts b = refl
+
+columns-append : (xs ys : List Term) → termColumns (xs ++ ys) ≡ termColumns xs ++ termColumns ys
+columns-append [] ys = refl
+columns-append (G.column n ∷ xs) ys = ap (λ (r : List Name). n ∷ r) (columns-append xs ys)
+columns-append (given v ∷ xs) ys = columns-append xs ys
+
+-- the columns of comparisons are names
+abbrev namesIn : List (Comparison Term) → Bool
+namesIn cs = all isName (termColumns (sides cs))
+
+names-append : (cs ds : List (Comparison Term)) → namesIn (cs ++ ds) ≡ (namesIn cs && namesIn ds)
+names-append cs ds =
+    ap (λ (ts : List Term). all isName (termColumns ts)) (sides-append cs ds)
+    ∙ ap (all isName) (columns-append (sides cs) (sides ds))
+    ∙ all-append isName (termColumns (sides cs)) (termColumns (sides ds))
+
+named-two : (cs ds : List (Comparison Term)) (a b c : Bool) → a ≡ (namesIn cs && b) → b ≡ (namesIn ds && c) → a ≡ (namesIn (cs ++ ds) && c)
+named-two cs ds a b c h k =
+    h ∙ ap (λ (x : Bool). namesIn cs && x) k ∙ and-assoc (namesIn cs) (namesIn ds) c ∙ ap (λ (x : Bool). x && c) (sym (names-append cs ds))
+
+named-condition : {l : Level} (c : Condition Term l) (more : List Token) → all isNamed (spellCondition c more) ≡ (namesIn (comparisons c) && all isNamed more)
+named-condition (compare c) more =
+    ap (λ (b : Bool). isNamed (termToken (c .left)) && b) (named-term (c .right) [] (all isNamed more))
+    ∙ named-term (c .left) (c .right ∷ []) (all isNamed more)
+named-condition (negate c) more = named-condition c more
+named-condition (group c) more = named-condition c (rparen ∷ more)
+named-condition (alone c) more = named-condition c more
+named-condition (both c d) more =
+    named-two (comparisons c) (comparisons d) (all isNamed (spellCondition (both c d) more)) (all isNamed (spellCondition d more)) (all isNamed more)
+    (named-condition c (keyword AND ∷ spellCondition d more)) (named-condition d more)
+named-condition (single c) more = named-condition c more
+named-condition (either c d) more =
+    named-two (comparisons c) (comparisons d) (all isNamed (spellCondition (either c d) more)) (all isNamed (spellCondition d more)) (all isNamed more)
+    (named-condition c (keyword OR ∷ spellCondition d more)) (named-condition d more)
+
+named-where : (w : Where Term) → all isNamed (spellWhere w) ≡ all isName (termColumns (operandsIn w))
+named-where always = refl
+named-where (under c) = named-condition c [] ∙ and-true (namesIn (comparisons c))
+
+named-sentence : (s : Sentence) → all isNamed (spell s) ≡ all isName (tableNamed s ∷ columnsNamed s)
+unfolding spell
+named-sentence (G.table t cs z) =
+    ap (λ (b : Bool). isName t && b)
+    (named-list spellName isName (λ n more. refl) cs (rparen ∷ keyword ROWS ∷ constant z ∷ []) ∙ sym (all-append isName (items cs) []))
+named-sentence (G.select cs t w) =
+    named-list spellName isName (λ n more. refl) cs (keyword FROM ∷ name t ∷ spellWhere w)
+    ∙ ap (λ (b : Bool). all isName (items cs) && (isName t && b)) (named-where w)
+    ∙ swap (all isName (items cs)) (isName t) (all isName (termColumns (operandsIn w)))
+    ∙ ap (λ (b : Bool). isName t && b) (sym (all-append isName (items cs) (termColumns (operandsIn w))))
+named-sentence (G.insert t vs) = ap (λ (b : Bool). isName t && b) (named-givens vs (rparen ∷ []))
+named-sentence (G.update t ss w) =
+    let columns : List Name = map (λ (s : Name × Given). s .0) (items ss) in
+    ap (λ (b : Bool). isName t && b)
+    (named-list spellSetting (λ (s : Name × Given). isName (s .0)) named-setting ss (spellWhere w)
+    ∙ ap₂ _&&_ (all-map (λ (s : Name × Given). s .0) isName (items ss)) (named-where w)
+    ∙ sym (all-append isName columns (termColumns (operandsIn w))))
+named-sentence (G.delete t w) = ap (λ (b : Bool). isName t && b) (named-where w)
+
+-- ---- the claim
+
+pub has-text : HasText
+has-text s = (
+  (λ h. (textOf (spell s), tokens-written (spell s) (named-sentence s ∙ h))),
+  (λ x. sym (named-sentence s) ∙ ap (all isNamed) (sym (x .1)) ∙ named-tokens (x .0)),
+)

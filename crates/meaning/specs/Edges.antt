@@ -1,0 +1,663 @@
+-- The edges of document 01, "Limits", "Statement texts" and "Numbers for a call not taken": texts, each with the number that adding it gives, or 0 where it
+-- is taken, by computation. Each limit stands at its last good value and one past it. Assumes nothing.
+use mathlib.Core.Path.{_≡_, refl}
+use mathlib.Core.Bool.{true}
+use mathlib.Core.List.{List, [], _∷_, _++_, map}
+use Prim.Native.Nat.{ℕ}
+use Prim.Native.String.{String}
+use lib.ListN.{replicate}
+use Rattle.lists.specs.Lists.{bytes, all, All, nil, cons}
+use Rattle.meaning.specs.Plain.{Lengths, Plain, opened, Call, add, refusal, after, outs}
+use Rattle.meaning.specs.Examples.{computing, isTaken}
+
+-- a text and its number
+abbrev pub Edge : Type 0
+Edge = List ℕ × ℕ
+
+-- a store of so many cells, the texts added to it before, and then what each of other texts gets
+pub record Group : Type 0 where
+  pub cells : ℕ
+  pub before : List String
+  pub edges : List Edge
+
+abbrev lengths : Group → Lengths
+lengths g = record { cells = g .cells; memory = 0 }
+
+abbrev begun : Group → Plain
+begun g = opened (record { lent = lengths g; slots = 0; slotBytes = 8 })
+
+abbrev adds : Group → List Call
+adds g = map (λ (t : String). add (bytes t)) (g .before)
+
+abbrev store : Group → Plain
+store g = after (lengths g) (begun g) (adds g)
+
+abbrev numbers : Group → List ℕ
+numbers g = map (λ (e : Edge). refusal (lengths g) (store g) (add (e .0))) (g .edges)
+
+-- the texts before are taken, and the others get their numbers
+pub record Holds (g : Group) : Type 0 where
+  pub taken : all isTaken (outs (lengths g) (begun g) (adds g)) ≡ true
+  pub numbers-are : numbers g ≡ map (λ (e : Edge). e .1) (g .edges)
+
+abbrev edge : String → ℕ → Edge
+edge t n = (bytes t, n)
+
+-- a text, a byte in its middle, and the rest
+abbrev around : String → ℕ → String → ℕ → Edge
+around t b u n = (bytes t ++ (b ∷ bytes u), n)
+
+-- so many spaces and a text
+abbrev spaced : ℕ → String → ℕ → Edge
+spaced k t n = (replicate k 32 ++ bytes t, n)
+
+-- an empty store of all cells; a table of two columns; a table of eight
+abbrev first : List Edge → Group
+first es = record { cells = 32768; before = []; edges = es }
+
+abbrev two : List Edge → Group
+two es = record { cells = 2; before = "TABLE t (a, b) ROWS 1" ∷ []; edges = es }
+
+abbrev eight : List Edge → Group
+eight es = record { cells = 8; before = "TABLE t (a, b, c, d, e, f, g, h) ROWS 1" ∷ []; edges = es }
+
+-- ---- limits
+
+-- "columns a table, selected, or set; values inserted: 1 to 8"; "No list is empty."
+abbrev pub columns : Group
+columns = first (
+    edge "TABLE t (a, b, c, d, e, f, g, h) ROWS 1" 0
+    ∷ edge "TABLE t (a, b, c, d, e, f, g, h, i) ROWS 1" 5
+    ∷ edge "TABLE t () ROWS 1" 4
+    ∷ [])
+
+abbrev pub lists : Group
+lists = eight (
+    edge "SELECT a, a, a, a, a, a, a, a FROM t" 0
+    ∷ edge "SELECT a, a, a, a, a, a, a, a, a FROM t" 5
+    ∷ edge "SELECT FROM t" 4
+    ∷ edge "UPDATE t SET a = 1, b = 1, c = 1, d = 1, e = 1, f = 1, g = 1, h = 1" 0
+    ∷ edge "UPDATE t SET a = 1, b = 1, c = 1, d = 1, e = 1, f = 1, g = 1, h = 1, a = 1" 5
+    ∷ edge "UPDATE t SET WHERE a = 1" 4
+    ∷ edge "INSERT INTO t VALUES (1, 2, 3, 4, 5, 6, 7, 8)" 0
+    ∷ edge "INSERT INTO t VALUES (1, 2, 3, 4, 5, 6, 7, 8, 9)" 5
+    ∷ edge "INSERT INTO t VALUES ()" 4
+    ∷ [])
+
+-- "ROWS of a table: 1 to 512"; "ROWS takes a constant."
+abbrev pub rows : Group
+rows = first (
+    edge "TABLE t (a) ROWS 0" 5
+    ∷ edge "TABLE t (a) ROWS 1" 0
+    ∷ edge "TABLE t (a) ROWS 512" 0
+    ∷ edge "TABLE t (a) ROWS 513" 5
+    ∷ edge "TABLE t (a) ROWS -0" 5
+    ∷ edge "TABLE t (a) ROWS -1" 5
+    ∷ edge "TABLE t (a) ROWS 0512" 0
+    ∷ edge "TABLE t (a) ROWS 99999999999" 5
+    ∷ edge "TABLE t (a) ROWS ?" 4
+    ∷ edge "TABLE t (a) ROWS a" 4
+    ∷ [])
+
+-- "question marks: 8", of the whole statement
+abbrev pub marks : Group
+marks = eight (
+    edge "INSERT INTO t VALUES (?, ?, ?, ?, ?, ?, ?, ?)" 0
+    ∷ edge "UPDATE t SET a = ?, b = ?, c = ?, d = ? WHERE a = ? AND b = ? AND c = ? AND d = ?" 0
+    ∷ edge "UPDATE t SET a = ?, b = ?, c = ?, d = ? WHERE a = ? AND b = ? AND c = ? AND ? = ?" 5
+    ∷ edge "UPDATE t SET a = ?, b = ?, c = ?, d = ?, e = ?, f = ?, g = ?, h = ?" 0
+    ∷ edge "UPDATE t SET a = ?, b = ?, c = ?, d = ?, e = ?, f = ?, g = ?, h = ? WHERE ? = 1" 5
+    ∷ edge "SELECT a FROM t WHERE ? = ? AND ? = ? OR ? = ? AND ? = ?" 0
+    ∷ edge "SELECT a FROM t WHERE ? = ? AND ? = ? OR ? = ? AND ? = ? OR a = ?" 5
+    ∷ edge "DELETE FROM t WHERE ? = ? AND ? = ? OR ? = ? AND ? = ?" 0
+    ∷ edge "DELETE FROM t WHERE ? = ? AND ? = ? OR ? = ? AND ? = ? AND ? = a" 5
+    ∷ [])
+
+-- "comparisons: 8"
+abbrev pub comparisons : Group
+comparisons = eight (
+    edge "SELECT a FROM t WHERE a = 1 AND b = 1 AND c = 1 AND d = 1 AND e = 1 AND f = 1 AND g = 1 AND h = 1" 0
+    ∷ edge "SELECT a FROM t WHERE a = 1 AND b = 1 AND c = 1 AND d = 1 AND e = 1 AND f = 1 AND g = 1 AND h = 1 AND a = 1" 5
+    ∷ edge "DELETE FROM t WHERE a = 1 OR b = 1 OR c = 1 OR d = 1 OR e = 1 OR f = 1 OR g = 1 OR h = 1" 0
+    ∷ edge "DELETE FROM t WHERE a = 1 OR b = 1 OR c = 1 OR d = 1 OR e = 1 OR f = 1 OR g = 1 OR h = 1 OR a = 1" 5
+    ∷ edge "UPDATE t SET a = 1 WHERE (a = 1 OR b = 1 OR c = 1) AND NOT (d = 1 OR e = 1) AND f = 1 AND (g = 1 OR h = 1)" 0
+    ∷ edge "UPDATE t SET a = 1 WHERE (a = 1 OR b = 1 OR c = 1) AND NOT (d = 1 OR e = 1) AND f = 1 AND (g = 1 OR h = 1 OR 1 < 2)" 5
+    ∷ [])
+
+-- "parentheses and NOTs around a comparison: 8", of the deepest comparison
+abbrev pub depths : Group
+depths = two (
+    edge "DELETE FROM t WHERE ((((((((a = 1))))))))" 0
+    ∷ edge "DELETE FROM t WHERE (((((((((a = 1)))))))))" 5
+    ∷ edge "DELETE FROM t WHERE NOT NOT NOT NOT NOT NOT NOT NOT a = 1" 0
+    ∷ edge "DELETE FROM t WHERE NOT NOT NOT NOT NOT NOT NOT NOT NOT a = 1" 5
+    ∷ edge "DELETE FROM t WHERE NOT (NOT (NOT (NOT (a = 1))))" 0
+    ∷ edge "DELETE FROM t WHERE NOT (NOT (NOT (NOT (NOT a = 1))))" 5
+    ∷ edge "DELETE FROM t WHERE NOT (NOT (NOT (NOT ((a = 1)))))" 5
+    ∷ [])
+
+abbrev pub beside : Group
+beside = two (
+    edge "SELECT a FROM t WHERE ((((((((a = 1)))))))) AND NOT NOT NOT NOT NOT NOT NOT NOT b = 1" 0
+    ∷ edge "SELECT a FROM t WHERE a = 1 OR b = 1 AND (((((((((a = 1)))))))))" 5
+    ∷ edge "UPDATE t SET a = 1 WHERE NOT NOT NOT NOT NOT NOT NOT NOT NOT b = 1 OR a = 1" 5
+    ∷ edge "DELETE FROM t WHERE ((((((((a = 1 AND b = 1))))))))" 0
+    ∷ edge "DELETE FROM t WHERE ((((((((a = 1 AND NOT b = 1))))))))" 5
+    ∷ edge "DELETE FROM t WHERE (((((((((a = 1) OR b = 1))))))))" 5
+    ∷ [])
+
+-- eight comparisons, each eight deep, and then one more
+abbrev pub deepest : Group
+deepest = two (
+    edge "SELECT a FROM t WHERE ((((((((a=1))))))))AND((((((((b=1))))))))AND((((((((a=1))))))))AND((((((((b=1))))))))AND((((((((a=1))))))))AND((((((((b=1))))))))AND((((((((a=1))))))))AND((((((((b=1))))))))" 0
+    ∷ edge "SELECT a FROM t WHERE ((((((((a=1))))))))AND((((((((b=1))))))))AND((((((((a=1))))))))AND((((((((b=1))))))))AND((((((((a=1))))))))AND((((((((b=1))))))))AND((((((((a=1))))))))AND((((((((b=1))))))))OR a=1" 5
+    ∷ [])
+
+-- "name: 12 bytes"
+abbrev pub names : Group
+names = first (
+    edge "TABLE abcdefghijkl (a) ROWS 1" 0
+    ∷ edge "TABLE abcdefghijklm (a) ROWS 1" 5
+    ∷ edge "TABLE t (a, abcdefghijkl) ROWS 1" 0
+    ∷ edge "TABLE t (a, abcdefghijklm) ROWS 1" 5
+    ∷ edge "TABLE t (abcdefghijklm, a) ROWS 1" 5
+    ∷ [])
+
+abbrev pub named : Group
+named = two (
+    edge "DELETE FROM abcdefghijkl" 6
+    ∷ edge "DELETE FROM abcdefghijklm" 5
+    ∷ edge "SELECT a, abcdefghijklm FROM t" 5
+    ∷ edge "SELECT a FROM abcdefghijklm" 5
+    ∷ edge "INSERT INTO abcdefghijklm VALUES (1)" 5
+    ∷ edge "UPDATE t SET abcdefghijklm = 1" 5
+    ∷ edge "UPDATE abcdefghijklm SET a = 1" 5
+    ∷ edge "DELETE FROM t WHERE a = 1 OR 1 = abcdefghijkl" 6
+    ∷ edge "DELETE FROM t WHERE a = 1 OR 1 = abcdefghijklm" 5
+    ∷ [])
+
+-- "a constant outside 32 bits"; "The constant -2147483648 is taken and 2147483648 is not."
+abbrev pub constants : Group
+constants = two (
+    edge "DELETE FROM t WHERE a = -2147483648" 0
+    ∷ edge "DELETE FROM t WHERE a = -2147483649" 5
+    ∷ edge "DELETE FROM t WHERE 2147483647 = a" 0
+    ∷ edge "DELETE FROM t WHERE 2147483648 = a" 5
+    ∷ edge "INSERT INTO t VALUES (-2147483648, 2147483647)" 0
+    ∷ edge "INSERT INTO t VALUES (-2147483649, ?)" 5
+    ∷ edge "INSERT INTO t VALUES (?, 2147483648)" 5
+    ∷ edge "UPDATE t SET a = -2147483648, b = 2147483647" 0
+    ∷ edge "UPDATE t SET a = -2147483649" 5
+    ∷ edge "UPDATE t SET a = 2147483648" 5
+    ∷ [])
+
+-- "statement text: 256 bytes"; "text over 256 bytes"
+abbrev pub texts : Group
+texts = first (
+    spaced 238 "TABLE t (a) ROWS 1" 0
+    ∷ spaced 239 "TABLE t (a) ROWS 1" 3
+    ∷ spaced 256 "" 4
+    ∷ spaced 257 "" 3
+    ∷ spaced 0 "" 4
+    ∷ [])
+
+-- ---- words and signs
+
+-- "A run of letters, digits and underscores is one word"; "Capital words are keywords."
+abbrev pub words : Group
+words = first (
+    edge "TABLE a_b (c_, d__1, e2) ROWS 1" 0
+    ∷ edge "TABLE _a (b) ROWS 1" 4
+    ∷ edge "TABLE a (_) ROWS 1" 4
+    ∷ edge "TABLE 1a (b) ROWS 1" 4
+    ∷ edge "TABLE aB (b) ROWS 1" 4
+    ∷ edge "TABLE A (b) ROWS 1" 4
+    ∷ edge "TABLE table (select) ROWS 1" 0
+    ∷ edge "table t (a) ROWS 1" 4
+    ∷ edge "TABLE TABLE (a) ROWS 1" 4
+    ∷ edge "TABLE t (a) ROW 1" 4
+    ∷ edge "TABLE t (a) ROWS_ 1" 4
+    ∷ [])
+
+-- "spaces (byte 32) may stand between any two and at both ends"
+abbrev pub spaces : Group
+spaces = first (
+    edge "TABLE t(a,b)ROWS 1" 0
+    ∷ edge "  TABLE  t ( a , b )  ROWS  1  " 0
+    ∷ edge "TABLEt (a) ROWS 1" 4
+    ∷ edge "TABLE t (a) ROWS3" 4
+    ∷ edge "TABLE t (a) ROWS-3" 5
+    ∷ edge "TABLE t (a) ROWS1" 4
+    ∷ [])
+
+-- "Other bytes are no sentence."
+abbrev pub others : Group
+others = first (
+    around "TABLE" 9 "t (a) ROWS 1" 4
+    ∷ around "TABLE t (a)" 9 " ROWS 1" 4
+    ∷ around "TABLE t (a) ROWS 1" 9 "" 4
+    ∷ around "" 9 "TABLE t (a) ROWS 1" 4
+    ∷ around "TABLE t (a)" 0 "ROWS 1" 4
+    ∷ around "TABLE t (a)" 10 "ROWS 1" 4
+    ∷ around "TABLE t (a)" 13 "ROWS 1" 4
+    ∷ around "TABLE t (a)" 31 "ROWS 1" 4
+    ∷ around "TABLE t (a)" 33 "ROWS 1" 4
+    ∷ around "TABLE t (a)" 127 "ROWS 1" 4
+    ∷ around "TABLE t (a)" 128 "ROWS 1" 4
+    ∷ around "TABLE t (a)" 160 "ROWS 1" 4
+    ∷ around "TABLE t (a)" 255 "ROWS 1" 4
+    ∷ around "TABLE t" 225 " (a) ROWS 1" 4
+    ∷ around "TABLE t (a) ROWS 1" 160 "" 4
+    ∷ edge "TABLE t (a) ROWS 1;" 4
+    ∷ [])
+
+-- "A constant is an optional minus and digits, not followed by a letter or underscore; leading zeros are allowed", and no space "between a minus and its digits"
+abbrev pub digits : Group
+digits = two (
+    edge "DELETE FROM t WHERE a = 007" 0
+    ∷ edge "DELETE FROM t WHERE a = -0" 0
+    ∷ edge "DELETE FROM t WHERE a = -00" 0
+    ∷ edge "DELETE FROM t WHERE a = -0000000002147483648" 0
+    ∷ edge "DELETE FROM t WHERE a = 0000000002147483648" 5
+    ∷ edge "DELETE FROM t WHERE a = 5_" 4
+    ∷ edge "DELETE FROM t WHERE a = 1a" 4
+    ∷ edge "DELETE FROM t WHERE a = 1A" 4
+    ∷ edge "DELETE FROM t WHERE a = -5_" 4
+    ∷ edge "DELETE FROM t WHERE a = -1a" 4
+    ∷ edge "DELETE FROM t WHERE a = - 3" 4
+    ∷ edge "DELETE FROM t WHERE a = --3" 4
+    ∷ edge "DELETE FROM t WHERE a = -" 4
+    ∷ edge "DELETE FROM t WHERE a = -a" 4
+    ∷ edge "DELETE FROM t WHERE a = -?" 4
+    ∷ edge "DELETE FROM t WHERE a = +3" 4
+    ∷ edge "DELETE FROM t WHERE a = 3.0" 4
+    ∷ [])
+
+-- "a sign is the longest that fits", and no space is needed beside it
+abbrev pub signs : Group
+signs = two (
+    edge "DELETE FROM t WHERE-3=a" 0
+    ∷ edge "DELETE FROM t WHERE a<-5" 0
+    ∷ edge "DELETE FROM t WHERE a-3" 4
+    ∷ edge "DELETE FROM t WHERE a=<1" 4
+    ∷ edge "DELETE FROM t WHERE a=>1" 4
+    ∷ edge "DELETE FROM t WHERE a< >1" 4
+    ∷ edge "DELETE FROM t WHERE a< =1" 4
+    ∷ edge "DELETE FROM t WHERE a> =1" 4
+    ∷ edge "DELETE FROM t WHERE a><1" 4
+    ∷ edge "DELETE FROM t WHERE a==1" 4
+    ∷ edge "DELETE FROM t WHERE a!=1" 4
+    ∷ edge "DELETE FROM t WHERE a=1 AND a<>1 AND a<1 AND a<=1 AND a>1 AND a>=1" 0
+    ∷ edge "DELETE FROM t WHERE a=?AND b=1" 0
+    ∷ edge "DELETE FROM t WHERE a=3AND b=1" 4
+    ∷ edge "DELETE FROM t WHERE (a=1)AND(b=1)OR NOT(a=b)" 0
+    ∷ edge "INSERT INTO t VALUES(1,2)" 0
+    ∷ [])
+
+-- ---- forms
+
+-- "A comparison has two operands, each a column, constant or `?`"; "a condition in parentheses may again hold AND, OR and NOT"
+abbrev pub conditions : Group
+conditions = two (
+    edge "DELETE FROM t WHERE ? = ?" 0
+    ∷ edge "DELETE FROM t WHERE 3 < 2" 0
+    ∷ edge "DELETE FROM t WHERE a = a" 0
+    ∷ edge "DELETE FROM t WHERE NOT NOT a = 1" 0
+    ∷ edge "DELETE FROM t WHERE NOT (a = 1 OR NOT (b = 1 AND a < b))" 0
+    ∷ edge "DELETE FROM t WHERE (a) = 1" 4
+    ∷ edge "DELETE FROM t WHERE a" 4
+    ∷ edge "DELETE FROM t WHERE a = " 4
+    ∷ edge "DELETE FROM t WHERE NOT" 4
+    ∷ edge "DELETE FROM t WHERE ()" 4
+    ∷ edge "DELETE FROM t WHERE (a = 1" 4
+    ∷ edge "DELETE FROM t WHERE a = 1)" 4
+    ∷ edge "DELETE FROM t WHERE a = 1 AND" 4
+    ∷ edge "DELETE FROM t WHERE a = 1 AND OR b = 1" 4
+    ∷ edge "DELETE FROM t WHERE a = 1 NOT b = 1" 4
+    ∷ edge "DELETE FROM t WHERE a = 1 b = 1" 4
+    ∷ edge "DELETE FROM t WHERE a = b = 1" 4
+    ∷ edge "DELETE FROM t WHERE" 4
+    ∷ [])
+
+-- the five forms; "SET takes a constant or `?` on the right"
+abbrev pub forms : Group
+forms = two (
+    edge "SELECT a, b, a FROM t" 0
+    ∷ edge "SELECT * FROM t" 4
+    ∷ edge "SELECT a b FROM t" 4
+    ∷ edge "SELECT a, FROM t" 4
+    ∷ edge "SELECT 1 FROM t" 4
+    ∷ edge "SELECT a FROM t, t" 4
+    ∷ edge "INSERT INTO t VALUES (?, 5)" 0
+    ∷ edge "INSERT INTO t VALUES (a, 5)" 4
+    ∷ edge "INSERT INTO t VALUES 1, 5" 4
+    ∷ edge "INSERT INTO t VALUES (1, 5) WHERE a = 1" 4
+    ∷ edge "UPDATE t SET a = ?, b = 4" 0
+    ∷ edge "UPDATE t SET a = b" 4
+    ∷ edge "UPDATE t SET a < 1" 4
+    ∷ edge "UPDATE t SET 1 = a" 4
+    ∷ edge "UPDATE t SET (a = 1)" 4
+    ∷ edge "DELETE FROM t" 0
+    ∷ edge "DELETE a FROM t" 4
+    ∷ edge "DELETE t" 4
+    ∷ edge "DELETE FROM t t" 4
+    ∷ [])
+
+-- ---- the lowest number
+
+-- 4 before 5, 5 before 6 to 8, 6 before 7
+abbrev pub before : Group
+before = two (
+    edge "TABLE u (a) ROWS 0 x" 4
+    ∷ edge "DELETE FROM t WHERE a = 2147483648 AND" 4
+    ∷ edge "SELECT abcdefghijklm FROM t t" 4
+    ∷ edge "INSERT INTO nil VALUES (1, 2, 3, 4, 5, 6, 7, 8, 9)" 5
+    ∷ edge "INSERT INTO nil VALUES (1, 2, 3)" 6
+    ∷ edge "INSERT INTO t VALUES (1, 2, 3, 4, 5, 6, 7, 8, 9)" 5
+    ∷ edge "INSERT INTO t VALUES (2147483648)" 5
+    ∷ edge "TABLE t (a) ROWS 513" 5
+    ∷ edge "TABLE u (a, a) ROWS 0" 5
+    ∷ edge "UPDATE t SET c = 1, c = 2" 6
+    ∷ edge "UPDATE t SET a = 1, a = 2 WHERE c = 1" 6
+    ∷ edge "UPDATE nil SET a = 1, a = 2" 6
+    ∷ edge "UPDATE t SET a = 1, a = 2147483648" 5
+    ∷ [])
+
+-- 6: "table or column unknown"
+abbrev pub unknown : Group
+unknown = two (
+    edge "DELETE FROM nil" 6
+    ∷ edge "SELECT a FROM nil" 6
+    ∷ edge "SELECT a, c FROM t" 6
+    ∷ edge "SELECT t FROM t" 6
+    ∷ edge "UPDATE t SET c = 1" 6
+    ∷ edge "UPDATE nil SET a = 1" 6
+    ∷ edge "INSERT INTO nil VALUES (1, 2)" 6
+    ∷ edge "DELETE FROM t WHERE 1 = 1 OR c = 1" 6
+    ∷ edge "UPDATE t SET a = 1 WHERE a = c" 6
+    ∷ edge "DELETE FROM a" 6
+    ∷ edge "DELETE FROM tt" 6
+    ∷ edge "DELETE FROM t_1" 6
+    ∷ [])
+
+-- 7: "table name taken, or column twice in TABLE or SET"
+abbrev pub twice : Group
+twice = two (
+    edge "TABLE t (c) ROWS 1" 7
+    ∷ edge "TABLE u (a, a) ROWS 1" 7
+    ∷ edge "TABLE u (a, b, a) ROWS 1" 7
+    ∷ edge "TABLE u (c, a, a) ROWS 1" 7
+    ∷ edge "UPDATE t SET a = 1, a = 1" 7
+    ∷ edge "UPDATE t SET a = 1, b = 2, a = ?" 7
+    ∷ edge "UPDATE t SET b = ?, a = 1, a = 2 WHERE a = 1" 7
+    ∷ edge "UPDATE t SET b = 1, a = 1" 0
+    ∷ edge "SELECT a, a FROM t" 0
+    ∷ [])
+
+-- 8: "INSERT values not one a column"
+abbrev pub counted : Group
+counted = two (
+    edge "INSERT INTO t VALUES (1)" 8
+    ∷ edge "INSERT INTO t VALUES (1, 2)" 0
+    ∷ edge "INSERT INTO t VALUES (1, 2, 3)" 8
+    ∷ edge "INSERT INTO t VALUES (?, ?, ?)" 8
+    ∷ [])
+
+-- 9: "too few cells left": "the opening's less columns × ROWS of each table"
+abbrev pub cells-enough : Group
+cells-enough = record { cells = 6; before = []; edges = edge "TABLE t (a, b) ROWS 3" 0 ∷ edge "TABLE t (a, b, c) ROWS 2" 0 ∷ edge "TABLE t (a) ROWS 7" 9 ∷ edge "TABLE t (a, b) ROWS 4" 9 ∷ [] }
+
+abbrev pub cells-short : Group
+cells-short = record { cells = 5; before = []; edges = edge "TABLE t (a, b) ROWS 3" 9 ∷ edge "TABLE t (a) ROWS 5" 0 ∷ [] }
+
+abbrev pub cells-left : Group
+cells-left = record {
+  cells = 13;
+  before = "TABLE t (a, b) ROWS 3" ∷ "TABLE u (a) ROWS 2" ∷ [];
+  edges = edge "TABLE v (a) ROWS 5" 0 ∷ edge "TABLE v (a) ROWS 6" 9 ∷ edge "TABLE u (a) ROWS 6" 7 ∷ edge "DELETE FROM u" 0 ∷ [];
+}
+
+-- 9: "no table or statement place": "a ninth table", a seventeenth question or update; 7 before 9, and 8 before 9
+abbrev tables : String → List String
+tables last = "TABLE a (a) ROWS 1" ∷ "TABLE b (a) ROWS 1" ∷ "TABLE c (a) ROWS 1" ∷ "TABLE d (a) ROWS 1" ∷ "TABLE e (a) ROWS 1" ∷ "TABLE f (a) ROWS 1" ∷ "TABLE g (a) ROWS 1" ∷ last ∷ []
+
+abbrev pub eighth-table : Group
+eighth-table = record { cells = 32768; before = tables "SELECT a FROM a"; edges = edge "TABLE h (a) ROWS 1" 0 ∷ [] }
+
+abbrev pub ninth-table : Group
+ninth-table = record { cells = 32768; before = tables "TABLE h (a) ROWS 1"; edges = edge "TABLE i (a) ROWS 1" 9 ∷ edge "TABLE h (a) ROWS 1" 7 ∷ edge "TABLE i (a, a) ROWS 1" 7 ∷ edge "DELETE FROM h" 0 ∷ [] }
+
+abbrev many : ℕ → String → List String
+many n t = "TABLE t (a, b) ROWS 1" ∷ replicate n t
+
+abbrev question : String
+question = "SELECT a FROM t"
+
+abbrev pub sixteenth-question : Group
+sixteenth-question = record { cells = 2; before = many 15 question; edges = edge "SELECT a FROM t" 0 ∷ [] }
+
+abbrev pub seventeenth-question : Group
+seventeenth-question = record { cells = 2; before = many 16 question; edges = edge "SELECT b FROM t" 9 ∷ edge "SELECT c FROM t" 6 ∷ edge "DELETE FROM t" 0 ∷ [] }
+
+abbrev pub sixteenth-update : Group
+sixteenth-update = record {
+  cells = 2;
+  before = many 14 "DELETE FROM t" ++ ("INSERT INTO t VALUES (1, 2)" ∷ []);
+  edges = edge "UPDATE t SET a = 1" 0 ∷ edge "INSERT INTO t VALUES (1, 2)" 0 ∷ edge "DELETE FROM t" 0 ∷ [];
+}
+
+abbrev pub seventeenth-update : Group
+seventeenth-update = record {
+  cells = 2;
+  before = many 14 "DELETE FROM t" ++ ("INSERT INTO t VALUES (1, 2)" ∷ "UPDATE t SET a = 1" ∷ []);
+  edges =
+      edge "UPDATE t SET a = 1" 9
+      ∷ edge "INSERT INTO t VALUES (1, 2)" 9
+      ∷ edge "DELETE FROM t" 9
+      ∷ edge "INSERT INTO t VALUES (1)" 8
+      ∷ edge "UPDATE t SET a = 1, a = 2" 7
+      ∷ edge "SELECT a FROM t" 0
+      ∷ [];
+}
+
+-- ---- the table
+
+abbrev pub table : List Group
+table =
+    columns
+    ∷ lists
+    ∷ rows
+    ∷ marks
+    ∷ comparisons
+    ∷ depths
+    ∷ beside
+    ∷ deepest
+    ∷ names
+    ∷ named
+    ∷ constants
+    ∷ texts
+    ∷ words
+    ∷ spaces
+    ∷ others
+    ∷ digits
+    ∷ signs
+    ∷ conditions
+    ∷ forms
+    ∷ before
+    ∷ unknown
+    ∷ twice
+    ∷ counted
+    ∷ cells-enough
+    ∷ cells-short
+    ∷ cells-left
+    ∷ eighth-table
+    ∷ ninth-table
+    ∷ sixteenth-question
+    ∷ seventeenth-question
+    ∷ sixteenth-update
+    ∷ seventeenth-update
+    ∷ []
+
+columns-hold : Holds columns
+unfolding computing
+columns-hold = record { taken = refl; numbers-are = refl }
+
+lists-hold : Holds lists
+unfolding computing
+lists-hold = record { taken = refl; numbers-are = refl }
+
+rows-hold : Holds rows
+unfolding computing
+rows-hold = record { taken = refl; numbers-are = refl }
+
+marks-hold : Holds marks
+unfolding computing
+marks-hold = record { taken = refl; numbers-are = refl }
+
+comparisons-hold : Holds comparisons
+unfolding computing
+comparisons-hold = record { taken = refl; numbers-are = refl }
+
+depths-hold : Holds depths
+unfolding computing
+depths-hold = record { taken = refl; numbers-are = refl }
+
+beside-hold : Holds beside
+unfolding computing
+beside-hold = record { taken = refl; numbers-are = refl }
+
+deepest-hold : Holds deepest
+unfolding computing
+deepest-hold = record { taken = refl; numbers-are = refl }
+
+names-hold : Holds names
+unfolding computing
+names-hold = record { taken = refl; numbers-are = refl }
+
+named-hold : Holds named
+unfolding computing
+named-hold = record { taken = refl; numbers-are = refl }
+
+constants-hold : Holds constants
+unfolding computing
+constants-hold = record { taken = refl; numbers-are = refl }
+
+texts-hold : Holds texts
+unfolding computing
+texts-hold = record { taken = refl; numbers-are = refl }
+
+words-hold : Holds words
+unfolding computing
+words-hold = record { taken = refl; numbers-are = refl }
+
+spaces-hold : Holds spaces
+unfolding computing
+spaces-hold = record { taken = refl; numbers-are = refl }
+
+others-hold : Holds others
+unfolding computing
+others-hold = record { taken = refl; numbers-are = refl }
+
+digits-hold : Holds digits
+unfolding computing
+digits-hold = record { taken = refl; numbers-are = refl }
+
+signs-hold : Holds signs
+unfolding computing
+signs-hold = record { taken = refl; numbers-are = refl }
+
+conditions-hold : Holds conditions
+unfolding computing
+conditions-hold = record { taken = refl; numbers-are = refl }
+
+forms-hold : Holds forms
+unfolding computing
+forms-hold = record { taken = refl; numbers-are = refl }
+
+before-hold : Holds before
+unfolding computing
+before-hold = record { taken = refl; numbers-are = refl }
+
+unknown-hold : Holds unknown
+unfolding computing
+unknown-hold = record { taken = refl; numbers-are = refl }
+
+twice-hold : Holds twice
+unfolding computing
+twice-hold = record { taken = refl; numbers-are = refl }
+
+counted-hold : Holds counted
+unfolding computing
+counted-hold = record { taken = refl; numbers-are = refl }
+
+cells-enough-hold : Holds cells-enough
+unfolding computing
+cells-enough-hold = record { taken = refl; numbers-are = refl }
+
+cells-short-hold : Holds cells-short
+unfolding computing
+cells-short-hold = record { taken = refl; numbers-are = refl }
+
+cells-left-hold : Holds cells-left
+unfolding computing
+cells-left-hold = record { taken = refl; numbers-are = refl }
+
+eighth-table-hold : Holds eighth-table
+unfolding computing
+eighth-table-hold = record { taken = refl; numbers-are = refl }
+
+ninth-table-hold : Holds ninth-table
+unfolding computing
+ninth-table-hold = record { taken = refl; numbers-are = refl }
+
+sixteenth-question-hold : Holds sixteenth-question
+unfolding computing
+sixteenth-question-hold = record { taken = refl; numbers-are = refl }
+
+seventeenth-question-hold : Holds seventeenth-question
+unfolding computing
+seventeenth-question-hold = record { taken = refl; numbers-are = refl }
+
+sixteenth-update-hold : Holds sixteenth-update
+unfolding computing
+sixteenth-update-hold = record { taken = refl; numbers-are = refl }
+
+seventeenth-update-hold : Holds seventeenth-update
+unfolding computing
+seventeenth-update-hold = record { taken = refl; numbers-are = refl }
+
+pub all-hold : All Holds table
+all-hold =
+    cons columns-hold
+    (cons lists-hold
+    (cons rows-hold
+    (cons marks-hold
+    (cons comparisons-hold
+    (cons depths-hold
+    (cons beside-hold
+    (cons deepest-hold
+    (cons names-hold
+    (cons named-hold
+    (cons constants-hold
+    (cons texts-hold
+    (cons words-hold
+    (cons spaces-hold
+    (cons others-hold
+    (cons digits-hold
+    (cons signs-hold
+    (cons conditions-hold
+    (cons forms-hold
+    (cons before-hold
+    (cons unknown-hold
+    (cons twice-hold
+    (cons counted-hold
+    (cons cells-enough-hold
+    (cons cells-short-hold
+    (cons cells-left-hold
+    (cons eighth-table-hold
+    (cons ninth-table-hold
+    (cons sixteenth-question-hold
+    (cons seventeenth-question-hold
+    (cons sixteenth-update-hold
+    (cons seventeenth-update-hold
+    nil)))))))))))))))))))))))))))))))
