@@ -16,7 +16,8 @@ use Rattle.slots.specs.declared.Found.the-variants.{At, Nothing}
 use Rattle.cache.specs.declared.State.{State}
 use Rattle.cache.specs.declared.Asked.{Asked}
 use Rattle.cache.specs.Calls.{settled, Asks, asks, askRefusal, cachedLength, askCached, recordAt, askNew, askFound, foundIn, askOf}
-use Rattle.cache.specs.Run.{Store, openingOf, opened, Call, add, ask, update, flush, Got, Seen, step, gets, plainCall, bufferOf, gotOf, plainGets}
+use Rattle.cache.specs.Run.{Store, openingOf, opened, Call, add, ask, update, flush, Got, Seen, step, after, gets, plainCall, bufferOf, gotOf, plainGets}
+use Rattle.cache.specs.Means.{tablesIn}
 use Rattle.cache.specs.Demand.{refusedWith}
 use Rattle.cache.proofs.Settled.{settled-refused}
 use Rattle.cache.proofs.Demand.{demands as of-store}
@@ -25,7 +26,7 @@ use Rattle.console.specs.Lines.{Command, commandOf}
 use Rattle.console.specs.Printed.{refusedText, answerText}
 use Rattle.console.specs.Desk.{textOf, bufferAfter, Answered, called, commanded, answeredOf, printedFor}
 use Rattle.console.proofs.Calling.{written-length}
-use Rattle.console.specs.Demand.{BadChangesNothing, refusalOf, RefusedChangesNothing, Unsaid, seenWith, plainCalled, plainCommanded, linesOf, plainPrinted, PrintsAsPlain, BufferDoesNotMatter, Demands}
+use Rattle.console.specs.Demand.{BadChangesNothing, refusalOf, RefusedChangesNothing, Unsaid, seenWith, plainCalled, plainCommanded, linesOf, plainPrinted, PrintsAsPlain, BufferDoesNotMatter, callsBy, callsFor, LinesMakeCalls, unsaidBy, seenAfter, saidOf, PrintsItsCalls, TablesAsPlain, AnewOnlyIf, Demands}
 
 -- ---- bad and refused lines
 
@@ -56,17 +57,6 @@ unfolding answeredOf
 refused-changes-nothing s buffer line h = command-refused s buffer (commandOf line) h
 
 -- ---- the calls of a list of lines
-
-abbrev callsBy : List ℕ → Command → List Call → List Call
-callsBy buffer (L.add text) cs = add text ∷ cs
-callsBy buffer (L.ask n zs) cs = ask n zs buffer ∷ cs
-callsBy buffer (L.change n zs) cs = update n zs ∷ cs
-callsBy buffer L.flush cs = flush ∷ cs
-callsBy buffer L.bad cs = cs
-
-abbrev callsFor : Store → List ℕ → List (List ℕ) → List Call
-callsFor s buffer [] = []
-callsFor s buffer (l ∷ ls) = callsBy buffer (commandOf l) (callsFor (answeredOf s buffer l .store) (answeredOf s buffer l .buffer) ls)
 
 abbrev gotsOf : Store → List Call → List Got
 gotsOf s cs = map (λ (x : Seen). x .got) (gets s cs)
@@ -127,9 +117,66 @@ module _ (lent : Lengths) where
         ap₂ (λ (t : List ℕ) (u : List (List ℕ)). t ∷ u) (k .text) (r .2 ∙ ap (λ (x : List ℕ). plainPrinted lent (b .store) x (r .0)) (k .buffers)),
       )
 
+  -- what is not said of a line is what its call gets
+  line-said : (s : Store) (p : Plain) (buffer : List ℕ) (c : Command) (cs : List Call) (h : Same s p (callsBy buffer c cs))
+      → (line-same s p buffer c cs h .unsaid ≡ unsaidBy c (gets s (callsBy buffer c cs))) × (gets (commanded s buffer c .store) cs ≡ seenAfter c (gets s (callsBy buffer c cs)))
+  unfolding line-same
+  line-said s p buffer (L.add text) cs h = (refl, refl)
+  line-said s p buffer (L.ask n zs) cs h = (refl, refl)
+  line-said s p buffer (L.change n zs) cs h = (refl, refl)
+  line-said s p buffer L.flush cs h = (refl, refl)
+  line-said s p buffer L.bad cs h = (refl, refl)
+
+  printed-said : (s : Store) (p : Plain) (buffer : List ℕ) (ls : List (List ℕ)) → Same s p (callsFor s buffer ls)
+      → printedFor s buffer ls ≡ plainPrinted lent p buffer (saidOf ls (gets s (callsFor s buffer ls)))
+  unfolding answeredOf
+  printed-said s p buffer [] h = refl
+  printed-said s p buffer (l ∷ ls) h =
+      let a = answeredOf s buffer l in
+      let cs = callsFor (a .store) (a .buffer) ls in
+      let k = line-same s p buffer (commandOf l) cs h in
+      let q = line-said s p buffer (commandOf l) cs h in
+      let b = plainCommanded lent p buffer (k .unsaid) (commandOf l) in
+      let xs = saidOf ls (gets (a .store) cs) in
+      ap₂ (λ (t : List ℕ) (u : List (List ℕ)). t ∷ u) (k .text)
+      (printed-said (a .store) (b .store) (a .buffer) ls (k .rest) ∙ ap (λ (x : List ℕ). plainPrinted lent (b .store) x xs) (k .buffers))
+      ∙ ap₂ (λ (u : Unsaid) (x : List Seen). plainPrinted lent p buffer ((l, u) ∷ saidOf ls x)) (q .0) (q .1)
+
 prints-as-plain : PrintsAsPlain
 prints-as-plain o buffer ls =
     printed-same (openingOf o .lent) (opened o) (P.opened (openingOf o)) buffer ls (of-store .same-as-plain o (callsFor (opened o) buffer ls) .0)
+
+-- ---- the calls that the lines make
+
+prints-its-calls : PrintsItsCalls
+prints-its-calls o buffer ls =
+    printed-said (openingOf o .lent) (opened o) (P.opened (openingOf o)) buffer ls (of-store .same-as-plain o (callsFor (opened o) buffer ls) .0)
+
+command-after : (s : Store) (buffer : List ℕ) (c : Command) (cs : List Call) → after s (callsBy buffer c cs) ≡ after (commanded s buffer c .store) cs
+command-after s buffer (L.add text) cs = refl
+command-after s buffer (L.ask n zs) cs = refl
+command-after s buffer (L.change n zs) cs = refl
+command-after s buffer L.flush cs = refl
+command-after s buffer L.bad cs = refl
+
+lines-make-calls : LinesMakeCalls
+unfolding answeredOf
+lines-make-calls s buffer [] = refl
+lines-make-calls s buffer (l ∷ ls) =
+    let a = answeredOf s buffer l in
+    lines-make-calls (a .store) (a .buffer) ls ∙ sym (command-after s buffer (commandOf l) (callsFor (a .store) (a .buffer) ls))
+
+tables-as-plain : TablesAsPlain
+tables-as-plain o buffer ls =
+    ap (λ (s : Store). tablesIn (s .state) (s .cells)) (lines-make-calls (opened o) buffer ls) ∙ of-store .same-as-plain o (callsFor (opened o) buffer ls) .1
+
+anew-only-if : AnewOnlyIf
+anew-only-if o buffer ls k lent h g =
+    let cs = callsFor (opened o) buffer ls in
+    let e = lines-make-calls (opened o) buffer ls in
+    of-store .anew-only-if o cs k lent
+    (subst (λ (s : Store). step s (ask (k .query) (k .values) lent) .1 .got .refusal ≡ 0) e h)
+    (subst (λ (s : Store). step s (ask (k .query) (k .values) lent) .1 .kept ≡ 0) e g)
 
 -- ---- an answer buffer of the same length
 
@@ -257,4 +304,8 @@ demands = record {
   refused-changes-nothing = refused-changes-nothing;
   prints-as-plain = prints-as-plain;
   buffer-does-not-matter = buffer-does-not-matter;
+  lines-make-calls = lines-make-calls;
+  prints-its-calls = prints-its-calls;
+  tables-as-plain = tables-as-plain;
+  anew-only-if = anew-only-if;
 }

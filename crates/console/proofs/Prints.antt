@@ -2,6 +2,7 @@
 --     decimal-back    a number's digits read back as that number, and are digits only
 --     value-back      a value's text is a value of a line, and the same
 --     answer-short    the text of an answer has at most 65,536 bytes
+--     text-short      and so has what is printed for any line
 --     all-printed     a buffer as long as a text holds all of it
 -- Assumes nothing.
 use mathlib.Core.Path.{_≡_, refl, sym, ap, ap₂, _∙_, subst}
@@ -26,8 +27,12 @@ use Rattle.meaning.specs.Tokens.{constant, isDigit, isNameByte, isWordByte, dec
 use Rattle.meaning.proofs.Stream.{from-word, from-minus}
 use Rattle.token.proofs.Words.{digit-word}
 use Rattle.console.specs.Room.{fitting, filled, filledTo}
-use Rattle.console.specs.Lines.{wholeToken, valueIn}
-use Rattle.console.specs.Printed.{digitsIn, decimalText, numberText, rowText, furtherText, rowsText, rowsThere, sourceWord, answerText}
+use Rattle.cache.specs.Calls.{settled}
+use Rattle.cache.specs.Run.{Store, Call, add, ask, update, flush, Seen, step}
+use Rattle.console.specs.Lines as L
+use Rattle.console.specs.Lines.{wholeToken, valueIn, Command, commandOf}
+use Rattle.console.specs.Printed.{digitsIn, decimalText, numberText, line, item, refusedText, addedText, updatedText, rowText, furtherText, rowsText, rowsThere, sourceWord, answerText}
+use Rattle.console.specs.Desk.{doneText, called, commanded, answeredOf}
 use Rattle.console.proofs.Digits.{digits-one, digits-more}
 use Rattle.console.proofs.Shown.{row-record, few-columns, few-rows}
 
@@ -215,6 +220,69 @@ module _ (bs : List ℕ) where
   answer-short kept scanned h =
       simp length-append
       (omega (arith, source-length kept, decimal-length 9 scanned (omega arith), rows-length (rowsThere bs), few-rows bs))
+
+-- ---- what is printed for a line, whatever the numbers in it
+
+digits-most : (k n : ℕ) → length (digitsIn k n) ≤ k
+digits-most zero n = omega arith
+digits-most (suc k) n = go (ltb n 10) (digits-most k (n / 10))
+  where
+    go : (b : Bool) → length (digitsIn k (n / 10)) ≤ k → length {A = ℕ} (elim b [ true ↦ (48 + n) ∷ [] | false ↦ digitsIn k (n / 10) ++ ((48 + n % 10) ∷ []) ]) ≤ suc k
+    go true h = omega arith
+    go false h = simp length-append (omega (arith, h))
+
+decimal-most : (n : ℕ) → length (decimalText n) ≤ 20
+unfolding decimalText
+decimal-most n = digits-most 20 n
+
+refused-short : (n : ℕ) → length (refusedText n) ≤ 65536
+unfolding refusedText
+refused-short n = simp length-append (omega (arith, decimal-most n))
+
+added-short : (kind n : ℕ) → length (addedText kind n) ≤ 65536
+unfolding addedText
+added-short kind n = go (eqb kind 1) (eqb kind 2)
+  where
+    go : (a b : Bool) → length (line (cond a (item "table" n) (cond b (item "query" n) (item "update" n)))) ≤ 65536
+    go true b = simp length-append (omega (arith, decimal-most n))
+    go false true = simp length-append (omega (arith, decimal-most n))
+    go false false = simp length-append (omega (arith, decimal-most n))
+
+updated-short : (rows drops : ℕ) → length (updatedText rows drops) ≤ 65536
+unfolding updatedText
+updated-short rows drops = simp length-append (omega (arith, decimal-most rows, decimal-most drops))
+
+shown-short : (bs : List ℕ) (kept scanned : ℕ) → length (answerText kept scanned bs) ≤ 65536
+unfolding answerText
+shown-short bs kept scanned =
+    simp length-append (omega (arith, source-length bs kept, decimal-most scanned, rows-length bs (rowsThere bs), few-rows bs))
+
+settled-short : (k : ℕ) (done refused : List ℕ) → length done ≤ 65536 → length refused ≤ 65536 → length (settled k done refused) ≤ 65536
+unfolding settled
+settled-short zero done refused h k = h
+settled-short (suc n) done refused h k = k
+
+done-short : (c : Call) (s : Seen) → length (doneText c s) ≤ 65536
+done-short (add text) s = added-short (s .got .kind) (s .got .number)
+done-short (ask n zs buffer) s = shown-short (take (s .got .length) (s .got .answer)) (s .kept) (s .scanned)
+done-short (update n zs) s = updated-short (s .got .rows) (s .drops)
+done-short flush s = omega arith
+
+call-short : (s : Store) (buffer : List ℕ) (c : Call) → length (called s buffer c .text) ≤ 65536
+call-short s buffer c =
+    let x = step s c .1 in
+    settled-short (x .got .refusal) (doneText c x) (refusedText (x .got .refusal)) (done-short c x) (refused-short (x .got .refusal))
+
+command-short : (s : Store) (buffer : List ℕ) (c : Command) → length (commanded s buffer c .text) ≤ 65536
+command-short s buffer (L.add text) = call-short s buffer (add text)
+command-short s buffer (L.ask n zs) = call-short s buffer (ask n zs buffer)
+command-short s buffer (L.change n zs) = call-short s buffer (update n zs)
+command-short s buffer L.flush = call-short s buffer flush
+command-short s buffer L.bad = omega arith
+
+pub text-short : (s : Store) (buffer line : List ℕ) → length (answeredOf s buffer line .text) ≤ 65536
+unfolding answeredOf
+text-short s buffer line = command-short s buffer (commandOf line)
 
 -- ---- a buffer that is long enough
 

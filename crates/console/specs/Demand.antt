@@ -6,8 +6,12 @@ use mathlib.Core.List.{List, [], _∷_}
 use Prim.Native.Nat.{ℕ}
 use lib.ListN.{length}
 use Rattle.meaning.specs.Plain as P
-use Rattle.meaning.specs.Plain.{Lengths, Plain}
-use Rattle.cache.specs.Run.{Store, Start, openingOf, opened, Call, add, ask, update, flush, Got, Seen, step, plainCall, bufferOf, gotOf}
+use Rattle.meaning.specs.Plain.{Lengths, Plain, recordOf}
+use Rattle.meaning.specs.Key.{Key, sameKey}
+use Rattle.trace.specs.History.{Ground}
+use Rattle.cache.specs.Means.{tablesIn}
+use Rattle.cache.specs.Run.{Store, Start, openingOf, opened, Call, add, ask, update, flush, Got, Seen, step, after, gets, plainCall, bufferOf, gotOf, plainAfter}
+use Rattle.cache.specs.Demand.{slotCount, slotSize, past}
 use Rattle.console.specs.Lines as L
 use Rattle.console.specs.Lines.{Command, commandOf}
 use Rattle.console.specs.Printed.{badText, refusedText}
@@ -81,6 +85,74 @@ PrintsAsPlain = (o : Start) (buffer : List ℕ) (ls : List (List ℕ))
 abbrev pub BufferDoesNotMatter : Type 0
 BufferDoesNotMatter = (o : Start) (b c : List ℕ) (ls : List (List ℕ)) → length b ≡ length c → printedFor (opened o) b ls ≡ printedFor (opened o) c ls
 
+-- ---- the calls that a list of lines makes: one each, but a bad line makes none
+
+abbrev pub callsBy : List ℕ → Command → List Call → List Call
+callsBy buffer (L.add text) cs = add text ∷ cs
+callsBy buffer (L.ask n zs) cs = ask n zs buffer ∷ cs
+callsBy buffer (L.change n zs) cs = update n zs ∷ cs
+callsBy buffer L.flush cs = flush ∷ cs
+callsBy buffer L.bad cs = cs
+
+abbrev pub callsFor : Store → List ℕ → List (List ℕ) → List Call
+callsFor s buffer [] = []
+callsFor s buffer (l ∷ ls) = callsBy buffer (commandOf l) (callsFor (answeredOf s buffer l .store) (answeredOf s buffer l .buffer) ls)
+
+-- the store and the answer buffer after a list of lines
+abbrev pub storeAfter : Store → List ℕ → List (List ℕ) → Store
+storeAfter s buffer [] = s
+storeAfter s buffer (l ∷ ls) = storeAfter (answeredOf s buffer l .store) (answeredOf s buffer l .buffer) ls
+
+abbrev pub LinesMakeCalls : Type 0
+LinesMakeCalls = (s : Store) (buffer : List ℕ) (ls : List (List ℕ)) → storeAfter s buffer ls ≡ after s (callsFor s buffer ls)
+
+-- each line with what is not said of it, by what its call gets
+abbrev pub unsaidIn : List Seen → Unsaid
+unsaidIn [] = record { kept = 0; scanned = 0; drops = 0 }
+unsaidIn (x ∷ xs) = record { kept = x .kept; scanned = x .scanned; drops = x .drops }
+
+abbrev pub tail : List Seen → List Seen
+tail [] = []
+tail (x ∷ xs) = xs
+
+abbrev pub unsaidBy : Command → List Seen → Unsaid
+unsaidBy (L.add text) xs = unsaidIn xs
+unsaidBy (L.ask n zs) xs = unsaidIn xs
+unsaidBy (L.change n zs) xs = unsaidIn xs
+unsaidBy L.flush xs = unsaidIn xs
+unsaidBy L.bad xs = unsaidIn []
+
+abbrev pub seenAfter : Command → List Seen → List Seen
+seenAfter (L.add text) xs = tail xs
+seenAfter (L.ask n zs) xs = tail xs
+seenAfter (L.change n zs) xs = tail xs
+seenAfter L.flush xs = tail xs
+seenAfter L.bad xs = xs
+
+abbrev pub saidOf : List (List ℕ) → List Seen → List (List ℕ × Unsaid)
+saidOf [] xs = []
+saidOf (l ∷ ls) xs = (l, unsaidBy (commandOf l) xs) ∷ saidOf ls (seenAfter (commandOf l) xs)
+
+-- kept or new, rows read and drops are those of the calls
+abbrev pub plainPrintedFor : Start → List ℕ → List (List ℕ) → List (List ℕ)
+plainPrintedFor o buffer ls =
+    plainPrinted (openingOf o .lent) (P.opened (openingOf o)) buffer (saidOf ls (gets (opened o) (callsFor (opened o) buffer ls)))
+
+abbrev pub PrintsItsCalls : Type 0
+PrintsItsCalls = (o : Start) (buffer : List ℕ) (ls : List (List ℕ)) → printedFor (opened o) buffer ls ≡ plainPrintedFor o buffer ls
+
+-- "after the list the tables hold the same rows as that store's"
+abbrev pub TablesAsPlain : Type 0
+TablesAsPlain = (o : Start) (buffer : List ℕ) (ls : List (List ℕ))
+    → tablesIn (storeAfter (opened o) buffer ls .state) (storeAfter (opened o) buffer ls .cells) ≡ plainAfter o (callsFor (opened o) buffer ls) .tables
+
+-- "a question with its values is worked out anew only if ..": of a question after a list of lines
+abbrev pub AnewOnlyIf : Type 0
+AnewOnlyIf = (o : Start) (buffer : List ℕ) (ls : List (List ℕ)) (k : Key) (lent : List ℕ)
+    → step (storeAfter (opened o) buffer ls) (ask (k .query) (k .values) lent) .1 .got .refusal ≡ 0
+    → step (storeAfter (opened o) buffer ls) (ask (k .query) (k .values) lent) .1 .kept ≡ 0
+    → Ground sameKey (slotCount o) (slotSize o) (recordOf (plainAfter o (callsFor (opened o) buffer ls)) k) k (past o (callsFor (opened o) buffer ls))
+
 -- ---- all of these
 
 pub record Demands : Type 0 where
@@ -88,3 +160,7 @@ pub record Demands : Type 0 where
   pub refused-changes-nothing : RefusedChangesNothing
   pub prints-as-plain : PrintsAsPlain
   pub buffer-does-not-matter : BufferDoesNotMatter
+  pub lines-make-calls : LinesMakeCalls
+  pub prints-its-calls : PrintsItsCalls
+  pub tables-as-plain : TablesAsPlain
+  pub anew-only-if : AnewOnlyIf

@@ -1,1 +1,3 @@
-pub mod Printing
+-- Feeding is for readers, Turning for the proofs of the functions.
+pub mod Feeding
+pub mod Turning

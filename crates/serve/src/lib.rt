@@ -3,8 +3,13 @@ use cache::State;
 use console::Gathered;
 use console::Line;
 ghost use mathlib.Core.Path.{_≡_};
+ghost use mathlib.Core.Bool.{true};
+ghost use mathlib.Core.List.{[]};
 ghost use Prim.Native.Nat.{_≤_, _<_};
-ghost use lib.ListN.{length};
+ghost use lib.ListN.{length, take};
+ghost use Rattle.cache.specs.Run.{opened};
+ghost use Rattle.serve.specs.Input.{most-held, fed};
+ghost use Rattle.serve.specs.Turns.{most-printed, storeOf, sessionOf, startOf, between, Gathers, Answers, Feeds, Finishes, Whole, readsLeft, Reads, Ends, Runs, Serves};
 
 // The store that document 01's `desk` opens, and the bytes that it lends for answers.
 pub struct Desk {}
@@ -27,17 +32,21 @@ const HELD: usize = Line::BYTES + 1;
 // The most reads of an input: a loop must end, and no run lives to see this one end so.
 const MOST_READS: u64 = 18446744073709551615;
 
-// The state after some lines; the bytes that are held of the next one; where the piece of the input goes on; whether what was printed
-// could be written; and how many reads are left, 0 at the end of the input.
+// The state after some lines; the bytes that are held of the next one; where the piece of the input goes on; how many bytes at the start of the buffer
+// for text are of the last bytes used up; whether all could be written; how many bytes were read last; and how many reads are left, 0 at the end of the input.
 struct Served {
     state: State,
     held: usize,
     next: usize,
+    printed: usize,
     written: bool,
+    got: usize,
     left: u64,
 }
 
-// Answers a line.
+// ---- without input or output
+
+// Answers a line, and puts its text at the start of `out`.
 fn answer_line(
     served: Served,
     cells: &mut [i32],
@@ -45,28 +54,30 @@ fn answer_line(
     answer: &mut [u8],
     line: &[u8],
     out: &mut [u8],
-    output: i32,
 ) -> Served
-    ensures { λ r. ⌜ (r .held ≡ 0) × (r .next ≡ served .next) ⌝ }
+    requires { ⌜ most-printed ≤ length (now out) ⌝ }
+    ensures numbers { λ r. ⌜ (r .held ≡ 0) × (r .next ≡ served .next) × (r .printed ≤ length (now (out .entry))) ⌝ }
+    ensures answers { λ r. ⌜ Answers (sessionOf (served .state) (now (cells .entry)) (now (memory .entry)) (now (answer .entry)) (now (line .entry))) (sessionOf (r .state) (now (cells .exit)) (now (memory .exit)) (now (answer .exit)) []) (take (r .printed) (now (out .exit))) ⌝ }
 {
     let state = served.state;
     let reply = console::respond(state, cells, memory, answer, line, out);
-    let n = reply.length;
-    let written = io::write_all(output, &out[0..n]);
-    let next = reply.state;
+    let after = reply.state;
     Served {
-        state: next,
+        state: after,
         held: 0,
         next: served.next,
-        written,
+        printed: reply.length,
+        written: served.written,
+        got: served.got,
         left: served.left,
     }
 }
 
 // Gathers a line on: at least a byte of the piece is used up, and what is held stays within the line's place.
 fn gather_on(piece: &[u8], at: usize, line: &mut [u8], held: usize) -> Gathered
-    requires { ⌜ (at < length (now piece)) × (held ≤ length (now line)) ⌝ }
-    ensures { λ r. ⌜ (at < r .next) × (r .held ≤ length (now (line .entry))) ⌝ }
+    requires { ⌜ (at < length (now piece)) × (held ≤ length (now line)) × (length (now line) ≡ most-held) ⌝ }
+    ensures numbers { λ r. ⌜ (at < r .next) × (r .next ≤ length (now (piece .entry))) × (r .held ≤ length (now (line .entry))) ⌝ }
+    ensures bytes { λ r. ⌜ Gathers (now (piece .entry)) at (take held (now (line .entry))) (r .next) (take (r .held) (now (line .exit))) (r .ended) ⌝ }
 {
     console::gather(piece, at, line, held)
 }
@@ -80,20 +91,83 @@ fn answer_on(
     piece: &[u8],
     line: &mut [u8],
     out: &mut [u8],
-    output: i32,
 ) -> Served
-    requires { ⌜ (served .next < length (now piece)) × (served .held ≤ length (now line)) ⌝ }
-    ensures { λ r. ⌜ (served .next < r .next) × (r .held ≤ length (now (line .entry))) ⌝ }
+    requires { ⌜ (served .next < length (now piece)) × (served .held ≤ length (now line)) × (length (now line) ≡ most-held) × (most-printed ≤ length (now out)) ⌝ }
+    ensures numbers { λ r. ⌜ (served .next < r .next) × (r .next ≤ length (now (piece .entry))) × (r .held ≤ length (now (line .entry))) × (r .printed ≤ length (now (out .entry))) ⌝ }
+    ensures feeds { λ r. ⌜ Feeds (sessionOf (served .state) (now (cells .entry)) (now (memory .entry)) (now (answer .entry)) (take (served .held) (now (line .entry)))) (between (served .next) (r .next) (now (piece .entry))) (sessionOf (r .state) (now (cells .exit)) (now (memory .exit)) (now (answer .exit)) (take (r .held) (now (line .exit)))) (take (r .printed) (now (out .exit))) ⌝ }
 {
     let mut s = served;
     let g = gather_on(piece, s.next, line, s.held);
     let held = g.held;
     s.held = held;
     s.next = g.next;
+    s.printed = 0;
     if g.ended {
-        let text = &line[0..held];
-        return answer_line(s, cells, memory, answer, text, out, output);
+        return answer_line(s, cells, memory, answer, &line[0..held], out);
     }
+    s
+}
+
+// Answers a last line that no newline ends, if it has a byte.
+fn finish(
+    served: Served,
+    cells: &mut [i32],
+    memory: &mut [u8],
+    answer: &mut [u8],
+    line: &[u8],
+    out: &mut [u8],
+) -> Served
+    requires { ⌜ (served .held ≤ length (now line)) × (most-printed ≤ length (now out)) ⌝ }
+    ensures numbers { λ r. ⌜ r .printed ≤ length (now (out .entry)) ⌝ }
+    ensures finishes { λ r. ⌜ Finishes (sessionOf (served .state) (now (cells .entry)) (now (memory .entry)) (now (answer .entry)) (take (served .held) (now (line .entry)))) (sessionOf (r .state) (now (cells .exit)) (now (memory .exit)) (now (answer .exit)) []) (take (r .printed) (now (out .exit))) ⌝ }
+{
+    let held = served.held;
+    if 0 < held {
+        return answer_line(served, cells, memory, answer, &line[0..held], out);
+    }
+    let mut s = served;
+    s.printed = 0;
+    s
+}
+
+// ---- with output
+
+// How many bytes were handed to `write`, and whether all could be written.
+struct Printed {
+    bytes: usize,
+    written: bool,
+}
+
+fn print(text: &[u8], output: i32) -> Printed
+    ensures { λ r. ⌜ r .bytes ≡ length (now (text .entry)) ⌝ }
+{
+    let written = io::write_all(output, text);
+    Printed {
+        bytes: text.len(),
+        written,
+    }
+}
+
+// Gathers a line on, and if it ends answers it and writes what is printed for it.
+fn answer_next(
+    served: Served,
+    cells: &mut [i32],
+    memory: &mut [u8],
+    answer: &mut [u8],
+    piece: &[u8],
+    line: &mut [u8],
+    out: &mut [u8],
+    output: i32,
+) -> Served
+    requires { ⌜ (served .next < length (now piece)) × (served .held ≤ length (now line)) × (length (now line) ≡ most-held) × (most-printed ≤ length (now out)) ⌝ }
+    ensures numbers { λ r. ⌜ (served .next < r .next) × (r .next ≤ length (now (piece .entry))) × (r .held ≤ length (now (line .entry))) ⌝ }
+    ensures feeds { λ r. ⌜ Feeds (sessionOf (served .state) (now (cells .entry)) (now (memory .entry)) (now (answer .entry)) (take (served .held) (now (line .entry)))) (between (served .next) (r .next) (now (piece .entry))) (sessionOf (r .state) (now (cells .exit)) (now (memory .exit)) (now (answer .exit)) (take (r .held) (now (line .exit)))) (take (r .printed) (now (out .exit))) ⌝ }
+{
+    let mut s = answer_on(served, cells, memory, answer, piece, line, out);
+    let n = s.printed;
+    let put = print(&out[0..n], output);
+    s.printed = put.bytes;
+    s.written = put.written;
     s
 }
 
@@ -108,8 +182,9 @@ fn answer_piece(
     out: &mut [u8],
     output: i32,
 ) -> Served
-    requires { ⌜ served .held ≤ length (now line) ⌝ }
-    ensures { λ r. ⌜ r .held ≤ length (now (line .entry)) ⌝ }
+    requires { ⌜ (served .held ≤ length (now line)) × (length (now line) ≡ most-held) × (most-printed ≤ length (now out)) ⌝ }
+    ensures numbers { λ r. ⌜ (r .held ≤ length (now (line .entry))) × (r .next ≤ length (now (piece .entry))) × Whole (r .written) (r .next) (length (now (piece .entry))) ⌝ }
+    ensures session { λ r. ⌜ sessionOf (r .state) (now (cells .exit)) (now (memory .exit)) (now (answer .exit)) (take (r .held) (now (line .exit))) ≡ fed (sessionOf (served .state) (now (cells .entry)) (now (memory .entry)) (now (answer .entry)) (take (served .held) (now (line .entry)))) (take (r .next) (now (piece .entry))) ⌝ }
 {
     let mut s = served;
     s.next = 0;
@@ -117,18 +192,28 @@ fn answer_piece(
         if !s.written {
             break;
         }
-        let next = answer_on(s, cells, memory, answer, piece, line, out, output);
+        let next = answer_next(s, cells, memory, answer, piece, line, out, output);
         s = next;
     }
     s
 }
 
-// How many reads are left after one: none if nothing more can be written.
-fn reads_left(left: u64, written: bool) -> u64
-    requires { ⌜ 0 < left ⌝ }
-    ensures { λ r. ⌜ r < left ⌝ }
+// ---- with input
+
+// Reads a piece of the input: how many bytes there are, 0 at its end.
+fn read_some(input: i32, piece: &mut [u8]) -> usize
+    ensures { λ r. ⌜ r ≤ length (now (piece .exit)) ⌝ }
 {
-    if written { left - 1 } else { 0 }
+    io::count(libc::read(input, piece), piece)
+}
+
+// How many reads are left after one that got `got` bytes: none at the end of the input, nor if nothing more can be written.
+fn reads_left(left: u64, got: usize, written: bool) -> u64
+    requires { ⌜ 0 < left ⌝ }
+    ensures less { λ r. ⌜ r < left ⌝ }
+    ensures exact { λ r. ⌜ r ≡ readsLeft left got written ⌝ }
+{
+    if written & (0 < got) { left - 1 } else { 0 }
 }
 
 // Reads a piece of the input, and answers the lines that end in it.
@@ -143,18 +228,15 @@ fn answer_read(
     input: i32,
     output: i32,
 ) -> Served
-    requires { ⌜ (served .held ≤ length (now line)) × (0 < served .left) ⌝ }
-    ensures { λ r. ⌜ (r .held ≤ length (now (line .entry))) × (r .left < served .left) ⌝ }
+    requires { ⌜ (served .held ≤ length (now line)) × (length (now line) ≡ most-held) × (most-printed ≤ length (now out)) × (0 < served .left) ⌝ }
+    ensures numbers { λ r. ⌜ (r .held ≤ length (now (line .entry))) × (r .left < served .left) × (r .left ≡ readsLeft (served .left) (r .got) (r .written)) × Whole (r .written) (r .next) (r .got) ⌝ }
+    ensures session { λ r. ⌜ sessionOf (r .state) (now (cells .exit)) (now (memory .exit)) (now (answer .exit)) (take (r .held) (now (line .exit))) ≡ fed (sessionOf (served .state) (now (cells .entry)) (now (memory .entry)) (now (answer .entry)) (take (served .held) (now (line .entry)))) (take (r .next) (now (piece .exit))) ⌝ }
 {
-    let n = io::count(libc::read(input, piece), piece);
-    if n == 0 {
-        let mut end = served;
-        end.left = 0;
-        return end;
-    }
+    let n = read_some(input, piece);
     let got = &piece[0..n];
     let mut s = answer_piece(served, cells, memory, answer, got, line, out, output);
-    let left = reads_left(served.left, s.written);
+    let left = reads_left(served.left, n, s.written);
+    s.got = n;
     s.left = left;
     s
 }
@@ -171,8 +253,9 @@ fn answer_all(
     input: i32,
     output: i32,
 ) -> Served
-    requires { ⌜ served .held ≤ length (now line) ⌝ }
-    ensures { λ r. ⌜ r .held ≤ length (now (line .entry)) ⌝ }
+    requires { ⌜ (served .held ≤ length (now line)) × (length (now line) ≡ most-held) × (most-printed ≤ length (now out)) ⌝ }
+    ensures numbers { λ r. ⌜ r .held ≤ length (now (line .entry)) ⌝ }
+    ensures reads { λ r. ⌜ Reads (sessionOf (served .state) (now (cells .entry)) (now (memory .entry)) (now (answer .entry)) (take (served .held) (now (line .entry)))) (sessionOf (r .state) (now (cells .exit)) (now (memory .exit)) (now (answer .exit)) (take (r .held) (now (line .exit)))) ⌝ }
 {
     let mut s = served;
     while 0 < s.left {
@@ -182,7 +265,7 @@ fn answer_all(
     s
 }
 
-// Answers a last line that no newline ends, if it has a byte.
+// Answers a last line that no newline ends, and writes what is printed for it.
 fn answer_last(
     served: Served,
     cells: &mut [i32],
@@ -191,13 +274,101 @@ fn answer_last(
     line: &[u8],
     out: &mut [u8],
     output: i32,
-)
-    requires { ⌜ served .held ≤ length (now line) ⌝ }
+) -> Served
+    requires { ⌜ (served .held ≤ length (now line)) × (most-printed ≤ length (now out)) ⌝ }
+    ensures { λ r. ⌜ Finishes (sessionOf (served .state) (now (cells .entry)) (now (memory .entry)) (now (answer .entry)) (take (served .held) (now (line .entry)))) (sessionOf (r .state) (now (cells .exit)) (now (memory .exit)) (now (answer .exit)) []) (take (r .printed) (now (out .exit))) ⌝ }
 {
-    let held = served.held;
-    if served.written & (0 < held) {
-        answer_line(served, cells, memory, answer, &line[0..held], out, output);
+    let mut s = finish(served, cells, memory, answer, line, out);
+    let n = s.printed;
+    let p = print(&out[0..n], output);
+    s.printed = p.bytes;
+    s.written = p.written;
+    s
+}
+
+// Answers a last line, as long as what is printed can be written.
+fn answer_end(
+    served: Served,
+    cells: &mut [i32],
+    memory: &mut [u8],
+    answer: &mut [u8],
+    line: &[u8],
+    out: &mut [u8],
+    output: i32,
+) -> Served
+    requires { ⌜ (served .held ≤ length (now line)) × (most-printed ≤ length (now out)) ⌝ }
+    ensures { λ r. ⌜ Ends (served .written) (sessionOf (served .state) (now (cells .entry)) (now (memory .entry)) (now (answer .entry)) (take (served .held) (now (line .entry)))) (r .written) (sessionOf (r .state) (now (cells .exit)) (now (memory .exit)) (now (answer .exit)) []) ⌝ }
+{
+    if served.written {
+        return answer_last(served, cells, memory, answer, line, out, output);
     }
+    served
+}
+
+// Answers the lines of an input, a last one that no newline ends among them.
+fn answer_input(
+    served: Served,
+    cells: &mut [i32],
+    memory: &mut [u8],
+    answer: &mut [u8],
+    piece: &mut [u8],
+    line: &mut [u8],
+    out: &mut [u8],
+    input: i32,
+    output: i32,
+) -> Served
+    requires { ⌜ (served .held ≤ length (now line)) × (length (now line) ≡ most-held) × (most-printed ≤ length (now out)) ⌝ }
+    ensures { λ r. ⌜ Runs (sessionOf (served .state) (now (cells .entry)) (now (memory .entry)) (now (answer .entry)) (take (served .held) (now (line .entry)))) (r .written) (sessionOf (r .state) (now (cells .exit)) (now (memory .exit)) (now (answer .exit)) []) ⌝ }
+{
+    let last = answer_all(
+        served,
+        cells,
+        memory,
+        answer,
+        piece,
+        line,
+        out,
+        input,
+        output,
+    );
+    answer_end(last, cells, memory, answer, line, out, output)
+}
+
+// ---- the store that is opened
+
+fn open(cells: &mut [i32], memory: &mut [u8]) -> Served
+    ensures numbers { λ r. ⌜ (r .held ≡ 0) × (r .written ≡ true) ⌝ }
+    ensures store { λ r. ⌜ storeOf (r .state) (now (cells .exit)) (now (memory .exit)) ≡ opened (startOf (now (cells .entry)) (now (memory .entry))) ⌝ }
+{
+    let opened = State::open(cells, memory, Desk::SLOTS, Desk::SLOT_BYTES);
+    let state = opened.state;
+    Served {
+        state,
+        held: 0,
+        next: 0,
+        printed: 0,
+        written: true,
+        got: 0,
+        left: MOST_READS,
+    }
+}
+
+// Opens a store, and answers the lines of an input until it ends or nothing more can be written.
+fn run(
+    cells: &mut [i32],
+    memory: &mut [u8],
+    answer: &mut [u8],
+    piece: &mut [u8],
+    line: &mut [u8],
+    out: &mut [u8],
+    input: i32,
+    output: i32,
+) -> Served
+    requires { ⌜ (length (now cells) ≡ 4096) × (length (now memory) ≡ 256) × (length (now answer) ≡ 65536) × (length (now line) ≡ most-held) × (most-printed ≤ length (now out)) ⌝ }
+    ensures { λ r. ⌜ Serves (startOf (now (cells .entry)) (now (memory .entry))) (now (answer .entry)) (r .written) (sessionOf (r .state) (now (cells .exit)) (now (memory .exit)) (now (answer .exit)) []) ⌝ }
+{
+    let s = open(cells, memory);
+    answer_input(s, cells, memory, answer, piece, line, out, input, output)
 }
 
 fn no_cells() -> [i32; Desk::CELLS]
@@ -212,6 +383,12 @@ fn no_memory() -> [u8; Desk::MEMORY]
     [0; Desk::MEMORY]
 }
 
+fn no_answer() -> [u8; Desk::ANSWER]
+    ensures { λ r. ⌜ 65536 ≡ length r ⌝ }
+{
+    [0; Desk::ANSWER]
+}
+
 fn no_line() -> [u8; HELD]
     ensures { λ r. ⌜ 513 ≡ length r ⌝ }
 {
@@ -222,21 +399,11 @@ fn no_line() -> [u8; HELD]
 pub fn serve(input: i32, output: i32) {
     let mut cells = no_cells();
     let mut memory = no_memory();
-    let mut answer = io::large_buffer();
+    let mut answer = no_answer();
     let mut piece = io::large_buffer();
     let mut line = no_line();
     let mut out = io::large_buffer();
-    let opened = State::open(&mut cells, &mut memory, Desk::SLOTS, Desk::SLOT_BYTES);
-    let state = opened.state;
-    let s = Served {
-        state,
-        held: 0,
-        next: 0,
-        written: true,
-        left: MOST_READS,
-    };
-    let last = answer_all(
-        s,
+    run(
         &mut cells,
         &mut memory,
         &mut answer,
@@ -244,15 +411,6 @@ pub fn serve(input: i32, output: i32) {
         &mut line,
         &mut out,
         input,
-        output,
-    );
-    answer_last(
-        last,
-        &mut cells,
-        &mut memory,
-        &mut answer,
-        &line,
-        &mut out,
         output,
     );
 }

@@ -1,19 +1,11 @@
 -- `serve::answer_read` answers the lines of what is read, with fewer reads left. Assumes nothing.
+use Rattle.serve.proofs.Turning.{read-part, read-whole}
 use borrow.Author.Needs.{needs}
 use Rattle.serve.proofs.answer_read.Statement.{statement}
 use Rattle.serve.proofs.answer_read.Tie as tie
 
-read-requires : tie.Need-read-requires
-read-requires c κs = search needs
-
-count-requires : tie.Need-count-requires
-count-requires c κs = search needs
-
-same-length : tie.Need-same-length
-same-length c = search needs
-
-returns : tie.Need-returns
-returns c = search needs
+read-some-requires : tie.Need-read-some-requires
+read-some-requires c κs = search needs
 
 sub-got : tie.Need-sub-got
 sub-got c = search needs
@@ -28,7 +20,10 @@ answer-piece-requires : tie.Need-answer-piece-requires
 answer-piece-requires c κs = search needs
 
 reads-left-requires : tie.Need-reads-left-requires
-reads-left-requires c κs = c .before .before .before .before .before .before .before .before .before .before .before .before .before .before .before .before .before .before .before .before .before .before .before .before .before .before .before .before .before .pre .1
+reads-left-requires c κs = c .before .before .before .before .before .before .before .before .before .before .before .before .before .before .before .before .before .before .before .before .before .before .before .before .before .before .pre .3
+
+same-length : tie.Need-same-length
+same-length c = search needs
 
 same-length-2 : tie.Need-same-length-2
 same-length-2 c = search needs
@@ -45,29 +40,29 @@ same-length-5 c = search needs
 same-length-6 : tie.Need-same-length-6
 same-length-6 c = search needs
 
-same-length-7 : tie.Need-same-length-7
-same-length-7 c = search needs
-
-returns-2 : tie.Need-returns-2
-returns-2 c = search needs
+returns : tie.Need-returns
+returns c =
+    let n = c .before .before .before .before .before .before .before .before .before .before .before .before .before .before .before .before .before .before .before .before .read-some in
+    let r = c .before .before .before .before .before .before .before .before .before .before .answer-piece in
+    let m = r .ensures .0 in (
+      (m .0, c .reads-left .ensures .0, c .reads-left .ensures .1, read-whole _ (n .result) (r .result .next) (r .result .written) (n .ensures) (m .2)),
+      read-part _ _ _ (n .result) (r .result .next) (m .1) (r .ensures .1),
+    )
 
 pub answer-read-spec : {M : Type 1} → statement M
 answer-read-spec =
     tie.close
     (tie.spec
-    read-requires
-    count-requires
-    same-length
-    returns
+    read-some-requires
     sub-got
     part-got-start
     part-got-end
     answer-piece-requires
     reads-left-requires
+    same-length
     same-length-2
     same-length-3
     same-length-4
     same-length-5
     same-length-6
-    same-length-7
-    returns-2)
+    returns)
