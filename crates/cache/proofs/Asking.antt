@@ -1,5 +1,6 @@
 -- A question whose answer is not kept gets from a sound state what it gets from the plain store. Assumes nothing.
 use mathlib.Core.Path.{_≡_, refl, sym, ap, _∙_, subst}
+use mathlib.Core.Logic.{_≢_}
 use mathlib.Core.Bool.{Bool, true, false, not, _&&_, cond}
 use mathlib.Core.List.{List}
 use Prim.Native.Nat.{ℕ, zero, suc, _<_}
@@ -11,13 +12,14 @@ use Rattle.meaning.specs.Key.{Key}
 use Rattle.meaning.specs.Meaning.{answer}
 use Rattle.meaning.specs.Record.{encode}
 use Rattle.meaning.specs.Plain as P
-use Rattle.meaning.specs.Plain.{Plain, recordOf, ask, refused, answered, guard, orElse, refusal}
+use Rattle.meaning.specs.Plain.{Plain, recordOf, ask, Out, refused, answered, guard, orElse, refusal}
 use Rattle.lists.specs.Lists.{written}
 use Rattle.meaning.proofs.Accepted.{key-asked}
 use Rattle.trace.specs.Model.{askRefusal as plainRefusal, shortRefusal}
 use Rattle.trace.proofs.Laws.{firstOf, ask-refusal}
 use Rattle.statement.specs.Sound.{AgreesQuery}
 use Rattle.table.proofs.Means.{record-means}
+use Rattle.slots.specs.declared.Found.{Found}
 use Rattle.slots.specs.declared.Found.the-variants.{Nothing}
 use Rattle.slots.specs.declared.SlotList.{SlotList}
 use Rattle.slots.specs.declared.Key.{Key as Stored}
@@ -26,13 +28,14 @@ use Rattle.slots.specs.Keys.{keyOf}
 use Rattle.cache.specs.declared.State.{State}
 use Rattle.cache.specs.Sound.{queryAt, soundState}
 use Rattle.cache.specs.Means.{Means, Typed}
-use Rattle.cache.specs.Calls.{Asks, asks, askRefused, askRefusal, withCache, fitsSlot, putIn, kept, keptMemory, rowsAt, recordAt, askNew, askFound, foundIn, askOf}
+use Rattle.cache.specs.Calls.{settled, Asks, asks, askRefused, askRefusal, withCache, fitsSlot, putIn, kept, keptMemory, rowsAt, recordAt, askNew, askFound, foundIn, askOf}
 use Rattle.cache.specs.Run.{Store, stepAsk, step}
 use Rattle.cache.specs.Run as R
-use Rattle.cache.specs.Demand.{lengthsLent}
+use Rattle.cache.specs.Demand.{answerLength, lengthsLent}
 use Rattle.cache.proofs.Sounds.{Sound, sound-is}
 use Rattle.cache.proofs.Standing.{query-table}
 use Rattle.cache.proofs.Meanings.{table-at, query-count, query-agrees}
+use Rattle.cache.proofs.Refusals.{found-number}
 use Rattle.cache.proofs.Refused.{Same, settled-same, same-else, unfit-is}
 
 -- other kept answers, the same plain store
@@ -126,15 +129,42 @@ module _ (s : Store) (p : Plain) (T : Typed (s .state)) (h : soundState (s .stat
       go true = (refl, m)
       go false = (refl, kept-means (s .state) (s .cells) p m (keyOf n vs) (recordAt (s .state) (s .cells) n vs))
 
-  pub ask-same : foundIn (s .state) n vs ≡ Nothing → Same buffer (step s (R.ask n vs buffer)) (P.step (lengthsLent s) p (ask key (length buffer)))
+  abbrev found : Found → Asks
+  found f = askFound f (s .state) (s .cells) (s .memory) buffer n vs
+
+  abbrev answeredPlain : Plain × Out
+  answeredPlain = guard (shortRefusal (length buffer) (recordOf p key)) p refused (p, answered (recordOf p key))
+
+  -- refused before the answer is looked for, or by what is found
+  ask-by : (plainRefusal (lengthsLent s) p key ≡ 0 → Same buffer (stepAsk s (found (foundIn (s .state) n vs))) answeredPlain)
+      → Same buffer (step s (R.ask n vs buffer)) (P.step (lengthsLent s) p (ask key (length buffer)))
   unfolding step askOf
-  ask-same anew =
-      let short : ℕ = shortRefusal (length buffer) (recordOf p key) in
+  ask-by d =
       subst (Same buffer (step s (R.ask n vs buffer)))
-      (guard-first (plainRefusal (lengthsLent s) p key) short p refused (p, answered (recordOf p key))
+      (guard-first (plainRefusal (lengthsLent s) p key) (shortRefusal (length buffer) (recordOf p key)) p refused (p, answered (recordOf p key))
       ∙ ap (λ k. guard k p refused (p, answered (recordOf p key))) (sym (ask-refusal (lengthsLent s) p key (length buffer))))
-      (settled-same (stepAsk s) (askFound (foundIn (s .state) n vs) (s .state) (s .cells) (s .memory) buffer n vs)
-      (λ k. asks (askRefused (s .state) k) (s .memory) buffer) buffer s p (guard short p refused (p, answered (recordOf p key))) m (λ k. refl) _ _ ask-number
-      (λ z. subst (λ f. Same buffer (stepAsk s (askFound f (s .state) (s .cells) (s .memory) buffer n vs)) (guard short p refused (p, answered (recordOf p key))))
-      (sym anew)
-      (new-same (subst (λ k. n < k) (query-count (s .state) T S (s .cells) p m) (key-asked (lengthsLent s) p key z .there)))))
+      (settled-same (stepAsk s) (found (foundIn (s .state) n vs)) (λ k. asks (askRefused (s .state) k) (s .memory) buffer) buffer s p answeredPlain m (λ k. refl) _ _ ask-number d)
+
+  -- no slot holds it
+  pub ask-same : foundIn (s .state) n vs ≡ Nothing → Same buffer (step s (R.ask n vs buffer)) (P.step (lengthsLent s) p (ask key (length buffer)))
+  ask-same anew =
+      ask-by (λ z. subst (λ f. Same buffer (stepAsk s (found f)) answeredPlain) (sym anew)
+      (new-same (subst (λ k. n < k) (query-count (s .state) T S (s .cells) p m) (key-asked (lengthsLent s) p key z .there))))
+
+  -- what is found is refused by 13 alone
+  found-short : (f : Found) → found f .result .refusal ≢ 0 → found f .result .refusal ≢ 13 → ⊥
+  found-short f = go (ltb (length buffer) (answerLength s n vs f)) (found-number s n vs buffer f)
+    where
+      go : (b : Bool) → found f .result .refusal ≡ orElse b 13 0 → found f .result .refusal ≢ 0 → found f .result .refusal ≢ 13 → ⊥
+      go true e a c = c e
+      go false e a c = a e
+
+  -- a number other than 13 is given before that
+  pub ask-refused-same : step s (R.ask n vs buffer) .1 .got .refusal ≢ 0 → step s (R.ask n vs buffer) .1 .got .refusal ≢ 13
+      → Same buffer (step s (R.ask n vs buffer)) (P.step (lengthsLent s) p (ask key (length buffer)))
+  unfolding step askOf settled
+  ask-refused-same a b =
+      ask-by (λ z.
+      let e : step s (R.ask n vs buffer) .1 .got .refusal ≡ found (foundIn (s .state) n vs) .result .refusal =
+      ap (λ k. stepAsk s (settled k (found (foundIn (s .state) n vs)) (asks (askRefused (s .state) k) (s .memory) buffer)) .1 .got .refusal) (ask-number ∙ z) in
+      absurd (found-short (foundIn (s .state) n vs) (λ i. a (e ∙ i)) (λ i. b (e ∙ i))))

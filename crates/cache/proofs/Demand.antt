@@ -27,7 +27,12 @@ use Rattle.trace.specs.Demand as D
 use Rattle.trace.proofs.Demand.{demands as on-model}
 use Rattle.cache.specs.Sound.{opening}
 use Rattle.cache.specs.Run.{Start, openingOf, opened, Call, add, ask, update, flush, Got, Seen, step, after, plainCall, gotOf, plainAfter}
-use Rattle.cache.specs.Demand.{SameAsPlain, slotCount, slotSize, past, nextAsk, AnewOnlyIf, KeptOtherwise, RowsRead, Values32, AnswerReadsBack, Demands}
+use Rattle.cache.specs.Means.{Means}
+use Rattle.cache.specs.Demand.{SameAsPlain, slotCount, slotSize, past, nextAsk, AnewOnlyIf, ThirdDemand, StandsInList, DropsInList, KeptOtherwise, RowsRead, Values32, AnswerReadsBack, Demands}
+use Rattle.cache.proofs.SoundMeans.{sound-exactly-if}
+use Rattle.cache.proofs.Openings.{opens-exactly-if, opening-taken, opening-refused, flush-drops-all}
+use Rattle.cache.proofs.Accepting.{accepted-exactly-if}
+use Rattle.cache.proofs.Answers.{new-answer, kept-answer}
 use Rattle.cache.proofs.Refusals.{lowest-number, refused-changes-nothing}
 use Rattle.cache.proofs.StaysSound.{opens-sound, stays-sound}
 use Rattle.cache.proofs.Standing.{stands-for-plain}
@@ -145,6 +150,23 @@ rows-read o cs k buffer e z = go (ask-seen (openingOf o .lent) (T.slotSize (open
     go (inr (inr y)) =
         next o cs k buffer .scanned ∙ y ∙ ap (λ (p : Plain). P.rowsAsked p (k .query)) (on-model .same-as-plain (startOf o) (map plainCall cs) .1)
 
+-- ---- the list as a whole
+
+pub third-demand : ThirdDemand
+third-demand o cs = record {
+  same = same-as-plain o cs .0;
+  tables = same-as-plain o cs .1;
+  anew = λ before k buffer behind e. anew-only-if o before k buffer;
+}
+
+pub stands-in-list : StandsInList
+stands-in-list o cs =
+    subst (Means (after (opened o) cs .state) (after (opened o) cs .cells)) (on-model .same-as-plain (startOf o) (map plainCall cs) .1) (follows o cs .means)
+
+pub drops-in-list : DropsInList
+drops-in-list o cs n us =
+    drops-exactly-matched patterns-mean (after (opened o) cs) n us (plainAfter o cs) (follows o cs .typed) (follows o cs .sound) (stands-in-list o cs)
+
 pub answer-reads-back : AnswerReadsBack
 answer-reads-back o cs v k buffer e =
     let a = next-answer o cs k buffer e in
@@ -158,13 +180,24 @@ pub demands : Demands
 demands = record {
   lowest-number = lowest-number;
   refused-changes-nothing = refused-changes-nothing;
+  opens-exactly-if = opens-exactly-if;
+  opening-taken = opening-taken;
+  opening-refused = opening-refused;
+  sound-exactly-if = sound-exactly-if;
   opens-sound = opens-sound;
   stays-sound = stays-sound;
+  accepted-exactly-if = accepted-exactly-if;
   stands-for-plain = stands-for-plain;
   does-as-plain = does-as-plain;
+  new-answer = new-answer;
+  kept-answer = kept-answer;
   drops-exactly-matched = drops-exactly-matched patterns-mean;
+  flush-drops-all = flush-drops-all;
+  third-demand = third-demand;
   same-as-plain = same-as-plain;
   anew-only-if = anew-only-if;
+  stands-in-list = stands-in-list;
+  drops-in-list = drops-in-list;
   kept-otherwise = kept-otherwise;
   rows-read = rows-read;
   answer-reads-back = answer-reads-back;

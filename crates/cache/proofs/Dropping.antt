@@ -23,12 +23,12 @@ use Rattle.slots.specs.Keys.{keyRead, slotKey, heldKeys, valuesOf}
 use Rattle.slots.specs.Order.{heldSlots, dropBy}
 use Rattle.slots.proofs.Laws.{drop-held}
 use Rattle.cache.specs.declared.State.{State}
-use Rattle.cache.specs.Sound.{queryAt}
+use Rattle.cache.specs.Sound.{queryAt, schemasIn}
 use Rattle.cache.specs.Means.{Means, Typed}
 use Rattle.cache.specs.Calls.{settled, updates, updateAt, updateRefusal, isMatched, withChange, updateRefused, updateDone, updateOf}
 use Rattle.cache.specs.Run.{Store, Seen, stepUpdate, step}
 use Rattle.cache.specs.Demand.{keysHeld, DropsExactlyMatched}
-use Rattle.cache.proofs.Sounds.{schemasIn, Sound, sound-is, query-at, update-at}
+use Rattle.cache.proofs.Sounds.{Sound, sound-is, query-at, update-at}
 use Rattle.cache.proofs.Meanings.{query-agrees, update-agrees}
 use Rattle.cache.proofs.Updating.{update-number, update-there}
 use Rattle.cache.proofs.Parts.{keep-same}

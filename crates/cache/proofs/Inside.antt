@@ -18,10 +18,10 @@ use Rattle.slots.specs.declared.Taken.{Taken}
 use Rattle.slots.specs.Order.{lastTaken, noneTaken, isOpen, takenOf}
 use Rattle.slots.proofs.Laws.{taken-below}
 use Rattle.cache.specs.declared.State.{State}
-use Rattle.cache.specs.Sound.{usedTables}
+use Rattle.cache.specs.Sound.{usedTables, schemasIn}
 use Rattle.cache.specs.Calls.{cachedLength}
 use Rattle.cache.specs.Outcomes.{Room}
-use Rattle.cache.proofs.Sounds.{schemasIn, Sound, All-first, HeldSound, slot-room, held-sound}
+use Rattle.cache.proofs.Sounds.{Sound, All-first, HeldSound, slot-room, held-sound}
 
 -- ---- the table of a query
 

@@ -1,5 +1,6 @@
 pub mod Parts
 pub mod Sounds
+pub mod SoundMeans
 pub mod Tested
 pub mod Settled
 pub mod Copies
@@ -34,5 +35,8 @@ pub mod Model
 pub mod Finds
 pub mod Caches
 pub mod Meets
+pub mod Openings
+pub mod Accepting
+pub mod Answers
 pub mod Follows
 pub mod Demand

@@ -15,10 +15,10 @@ use Rattle.statement.specs.declared.Update.{Update}
 use Rattle.statement.specs.Compiled.{noTable, noQuery, noUpdate}
 use Rattle.statement.specs.Sound.{AgreesQuery, AgreesUpdate}
 use Rattle.cache.specs.declared.State.{State}
-use Rattle.cache.specs.Sound.{usedTables, areasOf, queryAt}
+use Rattle.cache.specs.Sound.{usedTables, areasOf, queryAt, schemasIn}
 use Rattle.cache.specs.Means.{Means, Typed}
 use Rattle.cache.specs.Calls.{startOf, tableAt, updateAt}
-use Rattle.cache.proofs.Sounds.{schemasIn, Sound, schemas-long}
+use Rattle.cache.proofs.Sounds.{Sound, schemas-long}
 use Rattle.cache.proofs.Areas.{schemas-from, tableIn, table-from}
 use Rattle.cache.proofs.Standing.{compiled-length, compiled-at, few-tables, few-queries, few-updates}
 

@@ -110,10 +110,10 @@ module _ (s : Store) (p : Plain) (Ty : Typed (s .state)) (h : soundState (s .sta
   below = All-map (λ x l. omega (arith, S .slots .few)) (held-below (s .state) S)
 
   module _ (A : Asked (lengthsLent s) p (asKey n vs)) where
-    there : n < s .state .«query_count»
+    pub there : n < s .state .«query_count»
     there = subst (λ k. n < k) (query-count (s .state) Ty S (s .cells) p m) (A .there)
 
-    few-values : length vs ≤ most-marks
+    pub few-values : length vs ≤ most-marks
     few-values =
         let e : length vs ≡ queryAt (s .state) n .parameters =
         A .values ∙ sym (query-agrees (s .state) Ty S (s .cells) p m n there .parameters-are) in
@@ -142,7 +142,7 @@ module _ (s : Store) (p : Plain) (Ty : Typed (s .state)) (h : soundState (s .sta
         (s .memory) (written buffer 0 (bytesAt (s .state) (s .memory) x)))
 
     module _ (i : ℕ) (F : FoundAt (slotHas (s .state .keys) (keyOf n vs)) (heldSlots (s .state .slots)) i) where
-      place : getD (s .state .slots .order) i 0 ≡ F .slot
+      pub place : getD (s .state .slots .order) i 0 ≡ F .slot
       place =
           sym (getD-take (s .state .slots .held) (s .state .slots .order) i 0 (found-inside (s .state .slots) _ i F))
           ∙ ap (λ (l : List ℕ). getD l i 0) (F .split)

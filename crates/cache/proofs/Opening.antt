@@ -11,9 +11,9 @@ use lib.Seq.{take-all, take-suc-set}
 use Rattle.lists.proofs.Bools.{not-true, not-false}
 use Rattle.meaning.specs.Plain.{Opening, openingRefused}
 use Rattle.cache.specs.declared.State.{State}
-use Rattle.cache.specs.Sound.{opening}
+use Rattle.cache.specs.Sound.{opening, OpeningWithin}
 use Rattle.cache.specs.Calls.{emptyState, opens, openOf}
-use Rattle.cache.proofs.Sounds.{SizesFit, sizes-fit}
+use Rattle.cache.proofs.Sounds.{sizes-fit}
 
 -- ---- a list of which the first i are d
 
@@ -48,7 +48,7 @@ module _ (cells : List ℤ) (memory : List ℕ) (slots bytes : ℕ) (fit : Bool)
   abbrev sizes : Opening
   sizes = opening (length cells) (length memory) slots bytes
 
-  pub open-fits : fit ≡ true → SizesFit sizes
+  pub open-fits : fit ≡ true → OpeningWithin sizes
   open-fits h = sizes-fit sizes (not-true (openingRefused sizes) (sym tested ∙ h))
 
   pub open-refused : fit ≡ false → (s : State) → s ≡ emptyState (opening 0 0 0 8) → opens (record { refusal = 1; state = s }) cells memory ≡ openOf cells memory slots bytes

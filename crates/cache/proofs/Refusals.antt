@@ -157,7 +157,7 @@ module _ (s : Store) (query : ℕ) (values : List ℤ) (buffer : List ℕ) where
   askedNumber r = r .result .refusal
 
   -- 13, or none
-  found-number : (f : Found) → answerFound f .result .refusal ≡ orElse (ltb (length buffer) (answerLength s query values f)) 13 0
+  pub found-number : (f : Found) → answerFound f .result .refusal ≡ orElse (ltb (length buffer) (answerLength s query values f)) 13 0
   unfolding askCached askNew
   found-number (At p) = cond-number askedNumber refuseAsk (λ n. refl) 13 (ltb (length buffer) (cachedLength there p)) _ refl
   found-number Nothing = cond-number askedNumber refuseAsk (λ n. refl) 13 (ltb (length buffer) (length (recordAt there (s .cells) query values))) _ refl

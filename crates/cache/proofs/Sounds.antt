@@ -32,19 +32,11 @@ use Rattle.slots.specs.Keys.{slotKey, heldKeys, sameKey, heldTwice}
 use Rattle.slots.specs.Order.{heldSlots}
 use Rattle.slots.proofs.Laws as L
 use Rattle.cache.specs.declared.State.{State}
-use Rattle.cache.specs.Sound.{opening, soundSizes, soundCounts, usedTables, areasOf, soundAreas, rowsFit, soundRows, lengthAt, lengthFits, soundLengths, queryAt, soundKey, soundKeys, soundTables, soundAnswers, soundState}
+use Rattle.cache.specs.Sound.{opening, soundSizes, soundCounts, usedTables, areasOf, soundAreas, rowsFit, soundRows, lengthAt, lengthFits, soundLengths, queryAt, soundKey, soundKeys, soundTables, soundAnswers, soundState, usedQueries, usedUpdates, OpeningWithin, KeyFits, schemasIn, sizesOf}
 use Rattle.cache.specs.Calls.{tableAt, updateAt}
-use Rattle.cache.specs.Means.{usedQueries, usedUpdates, Typed}
+use Rattle.cache.specs.Means.{Typed}
 
 -- ---- "its sizes pass refusal 1"
-
-pub record SizesFit (o : Opening) : Type 0 where
-  pub few-cells : o .lent .cells ≤ most-cells
-  pub few-memory : o .lent .memory ≤ most-memory
-  pub few-slots : o .slots ≤ most-slots
-  pub least-bytes : least-slot-bytes ≤ o .slotBytes
-  pub most-bytes : o .slotBytes ≤ most-slot-bytes
-  pub room : o .slots * o .slotBytes ≤ o .lent .memory
 
 module _ (o : Opening) where
   abbrev manyCells : Bool
@@ -62,7 +54,7 @@ module _ (o : Opening) where
   abbrev longSlots : Bool
   longSlots = ltb most-slot-bytes (o .slotBytes)
 
-  pub sizes-fit : openingRefused o ≡ false → SizesFit o
+  pub sizes-fit : openingRefused o ≡ false → OpeningWithin o
   unfolding openingRefused
   sizes-fit h₁ =
       let h₂ = or-right manyCells _ h₁ in
@@ -78,7 +70,7 @@ module _ (o : Opening) where
         room = ltb-false (o .lent .memory) (o .slots * o .slotBytes) (or-right longSlots _ h₅);
       }
 
-  pub fit-sizes : SizesFit o → openingRefused o ≡ false
+  pub fit-sizes : OpeningWithin o → openingRefused o ≡ false
   unfolding openingRefused
   fit-sizes F =
       or-none manyCells _ (le-ltb most-cells (o .lent .cells) (F .few-cells))
@@ -90,22 +82,13 @@ module _ (o : Opening) where
 
 -- ---- the state
 
--- what the tables' TABLE texts say
-abbrev pub schemasIn : State → List Schema
-schemasIn s = schemasOf (s .tables) (s .«table_count»)
-
 -- the length of the answer in the slot x
 pub record LengthSound (s : State) (x : ℕ) : Type 0 where
   pub least : least-slot-bytes ≤ lengthAt s x
   pub most : lengthAt s x ≤ s .«slot_bytes»
 
--- "each key has an existing question and its number of values"
-pub record KeySound (s : State) (k : Key) : Type 0 where
-  pub there : k .query < s .«query_count»
-  pub values : k .count ≡ queryAt s (k .query) .parameters
-
 pub record Sound (s : State) : Type 0 where
-  pub sizes : SizesFit (opening (s .cells) (s .memory) (s .slots .count) (s .«slot_bytes»))
+  pub sizes : OpeningWithin (sizesOf s)
   pub few-tables : s .«table_count» ≤ most-tables
   pub few-queries : s .«query_count» ≤ most-queries
   pub few-updates : s .«update_count» ≤ most-updates
@@ -115,7 +98,7 @@ pub record Sound (s : State) : Type 0 where
   pub queries : All (λ (q : Query). soundQuery (schemasIn s) q ≡ true) (usedQueries s)
   pub updates : All (λ (u : Update). soundUpdate (schemasIn s) u ≡ true) (usedUpdates s)
   pub lengths : All (LengthSound s) (heldSlots (s .slots))
-  pub keys : All (λ (x : ℕ). KeySound s (slotKey (s .keys) x)) (heldSlots (s .slots))
+  pub keys : All (λ (x : ℕ). KeyFits s (slotKey (s .keys) x)) (heldSlots (s .slots))
   pub once : repeats sameKey (heldKeys (s .keys) (s .slots)) ≡ false
   pub slots : L.Sound (s .slots)
 
@@ -133,13 +116,13 @@ module _ (s : State) where
   is-length x L =
       and-both (leb least-slot-bytes (lengthAt s x)) _ (le-leb least-slot-bytes (lengthAt s x) (L .least)) (le-leb (lengthAt s x) (s .«slot_bytes») (L .most))
 
-  key-is : (k : Key) → soundKey s k ≡ true → KeySound s k
+  key-is : (k : Key) → soundKey s k ≡ true → KeyFits s k
   key-is k e = record {
     there = ltb-true (k .query) (s .«query_count») (and-left (ltb (k .query) (s .«query_count»)) _ e);
     values = eqb-true (k .count) (queryAt s (k .query) .parameters) (and-right (ltb (k .query) (s .«query_count»)) _ e);
   }
 
-  is-key : (k : Key) → KeySound s k → soundKey s k ≡ true
+  is-key : (k : Key) → KeyFits s k → soundKey s k ≡ true
   is-key k K =
       and-both (ltb (k .query) (s .«query_count»)) _ (lt-ltb (k .query) (s .«query_count») (K .there))
       (eq-eqb (k .count) (queryAt s (k .query) .parameters) (K .values))
@@ -170,7 +153,7 @@ module _ (s : State) where
       let answers₁ = and-right (soundLengths s) _ answers in
       let keys = and-left (soundKeys s) _ answers₁ in
       record {
-        sizes = sizes-fit (opening (s .cells) (s .memory) (s .slots .count) (s .«slot_bytes»)) (not-true _ (and-left (soundSizes s) _ h));
+        sizes = sizes-fit (sizesOf s) (not-true _ (and-left (soundSizes s) _ h));
         few-tables = leb-true (s .«table_count») most-tables (and-left (leb (s .«table_count») most-tables) _ counts);
         few-queries = leb-true (s .«query_count») most-queries (and-left (leb (s .«query_count») most-queries) _ few);
         few-updates = leb-true (s .«update_count») most-updates (and-right (leb (s .«query_count») most-queries) _ few);
@@ -209,7 +192,7 @@ module _ (s : State) where
     pub is-sound : soundState s ≡ true
     unfolding soundState
     is-sound =
-        and-both (soundSizes s) _ (ap not (fit-sizes (opening (s .cells) (s .memory) (s .slots .count) (s .«slot_bytes»)) (S .sizes)))
+        and-both (soundSizes s) _ (ap not (fit-sizes (sizesOf s) (S .sizes)))
         (and-both (soundCounts s) _
         (and-both (leb (s .«table_count») most-tables) _ (le-leb (s .«table_count») most-tables (S .few-tables))
         (and-both (leb (s .«query_count») most-queries) _ (le-leb (s .«query_count») most-queries (S .few-queries))
@@ -228,7 +211,7 @@ All-first {P = P} n l i d h k a =
 pub record HeldSound (s : State) (x : ℕ) : Type 0 where
   pub slot : x < s .slots .count
   pub long : LengthSound s x
-  pub key : KeySound s (slotKey (s .keys) x)
+  pub key : KeyFits s (slotKey (s .keys) x)
   pub ends : x * s .«slot_bytes» + lengthAt s x ≤ s .memory
 
 module _ (s : State) (S : Sound s) where

@@ -1,7 +1,7 @@
 -- Every sound state stands for a plain store: its tables are read off the state and the cells, and each question and update is the compiled form of a sentence's
 -- statement. Assumes nothing.
 use mathlib.Core.Path.{_≡_, refl, sym, ap, _∙_, subst}
-use mathlib.Core.List.{List, [], _∷_, _++_}
+use mathlib.Core.List.{List, [], _∷_, _++_, map, map-append}
 use Prim.Native.Nat.{ℕ, zero, suc, _+_, _*_, _≤_, _<_}
 use native.Mathlib.Nat.{le-of-suc-le-suc, not-suc-le-zero}
 use native.Mathlib.Omega.{arith}
@@ -13,22 +13,25 @@ use Rattle.lists.proofs.Lists.{All-map, All-both, All-take}
 use Rattle.lists.proofs.Places.{All-at}
 use Rattle.meaning.specs.Limits.{most-items}
 use Rattle.meaning.specs.Names.{Schema}
+use Rattle.meaning.specs.Grammar.{Sentence}
 use Rattle.meaning.specs.Statement as M
-use Rattle.meaning.specs.Plain.{Plain}
+use Rattle.meaning.specs.Statement.{creates, asks, changes, statementOf}
+use Rattle.meaning.specs.Plain.{Plain, schemas}
 use Rattle.statement.specs.declared.Table.{Table}
 use Rattle.statement.specs.Catalog.{schemaOf, nameOfStruct}
 use Rattle.statement.specs.Compiled.{noTable}
-use Rattle.statement.specs.Sound.{usedColumns, columnsAt, AgreesQuery, AgreesUpdate, FromQuery, FromUpdate, TableStructFits}
-use Rattle.statement.proofs.SoundQuery.{query-parts, query-sound}
-use Rattle.statement.proofs.SoundUpdate.{update-parts, update-sound}
+use Rattle.statement.specs.Sound.{usedColumns, columnsAt, Passes, AgreesQuery, AgreesUpdate, AgreesTable, FromTable, TableStructFits}
+use Rattle.statement.proofs.SoundQuery.{query-parts}
+use Rattle.statement.proofs.SoundUpdate.{update-parts}
 use Rattle.cache.specs.declared.State.{State}
-use Rattle.cache.specs.Sound.{usedTables, areasOf, queryAt}
+use Rattle.cache.specs.Sound.{usedTables, areasOf, queryAt, usedQueries, usedUpdates, schemasIn, IsSound}
 use Rattle.cache.specs.Means as L
-use Rattle.cache.specs.Means.{tablesIn, usedQueries, usedUpdates, Compiled, Means, Typed}
+use Rattle.cache.specs.Means.{tablesIn, Compiled, Means, Typed}
 use Rattle.cache.specs.Calls.{startOf, tableAt, updateAt}
-use Rattle.cache.specs.Demand.{StandsForPlain}
-use Rattle.cache.proofs.Sounds.{schemasIn, Sound, sound-is, schemas-long, tables-fit, query-at, update-at, All-first}
-use Rattle.cache.proofs.Areas.{area-within}
+use Rattle.cache.specs.Demand.{FromSentences, StandsForPlain}
+use Rattle.cache.proofs.Sounds.{Sound, sound-is, schemas-long, tables-fit, query-at, update-at, All-first}
+use Rattle.cache.proofs.SoundMeans.{sentence-holds}
+use Rattle.cache.proofs.Areas.{area-within, schemas-from}
 use Rattle.cache.proofs.StaysAdded.{columns-few}
 
 -- ---- lists of which each member is the compiled form of the other's
@@ -47,10 +50,21 @@ module _ {A B : Type 0} {R : A → B → Type 0} where
   compiled-more L.nil r = L.cons r L.nil
   compiled-more (L.cons q c) r = L.cons q (compiled-more c r)
 
-  -- where each has a form, there is a list of them
-  pub compiled-of : {xs : List A} → All (λ x. (y : B) × R x y) xs → (ys : List B) × Compiled R xs ys
-  compiled-of nil = ([], L.nil)
-  compiled-of (cons r h) = let c = compiled-of h in (r .0 ∷ c .0, L.cons (r .1) (c .1))
+  -- where each has a form with a property, there is a list of them
+  pub compiled-of : {Q : B → Type 0} {xs : List A} → All (λ x. (y : B) × R x y × Q y) xs → (ys : List B) × Compiled R xs ys × All Q ys
+  compiled-of nil = ([], L.nil, nil)
+  compiled-of (cons r h) = let c = compiled-of h in (r .0 ∷ c .0, L.cons (r .1) (c .1), cons (r .2) (c .2))
+
+-- a list of images that is split is that of a split list
+map-split : {A B : Type 0} (f : A → B) (l : List A) (before : List B) (y : B) (behind : List B) → map f l ≡ before ++ y ∷ behind
+    → (a : List A) × (x : A) × (b : List A) × (l ≡ a ++ x ∷ b) × (map f a ≡ before) × (f x ≡ y) × (map f b ≡ behind)
+map-split f [] [] y behind e = absurd (omega (arith, ap length e))
+map-split f [] (z ∷ before) y behind e = absurd (omega (arith, ap length e))
+map-split f (x ∷ l) [] y behind e = ([], x, l, refl, refl, cc, cc)
+map-split f (x ∷ l) (z ∷ before) y behind e =
+    let r = map-split f l before y behind cc in
+    let h : f x ≡ z = cc in
+    (x ∷ r .0, r .1, r .2, ap (λ t. x ∷ t) (r .3), (λ j. h j ∷ r .4 j), r .5, r .6)
 
 -- ---- the columns of a table in use
 
@@ -102,33 +116,60 @@ module _ (s : State) (T : Typed s) (S : Sound s) where
   update-table i h =
       subst (λ (n : ℕ). updateAt s i .table < n) (schemas-long s T S) (update-parts (schemasIn s) (updateAt s i) (update-at s T S i h) .there)
 
-  -- ---- the plain store
+-- ---- the plain store
 
-  queries-from : (ys : List M.Query) × Compiled AgreesQuery (usedQueries s) ys
-  queries-from =
-      compiled-of
-      (All-map
-      (λ q e. let f : FromQuery (schemasIn s) q = query-sound (schemasIn s) (tables-fit s T S) q (e .0) .0 (e .1) in (f .statement, f .agrees))
-      (All-both (All-take (s .«query_count») (T .queries-fit)) (S .queries)))
+-- a stored table that is the compiled form of a schema has it
+agrees-schema : (t : Table) (r : Schema) → AgreesTable t r → r ≡ schemaOf t
+agrees-schema t r A = λ j. record { name = sym (A .name-is) j; columns = sym (A .columns-are) j; capacity = sym (A .capacity-is) j }
 
-  updates-from : (ys : List M.Update) × Compiled AgreesUpdate (usedUpdates s) ys
-  updates-from =
-      compiled-of
-      (All-map
-      (λ u e. let f : FromUpdate (schemasIn s) u = update-sound (schemasIn s) (tables-fit s T S) u (e .0) .0 (e .1) in (f .statement, f .agrees))
-      (All-both (All-take (s .«update_count») (T .updates-fit)) (S .updates)))
+module _ (s : State) (cells : List ℤ) (I : IsSound s) where
+  -- a statement of a sentence that passes
+  abbrev Asks : M.Query → Type 0
+  Asks q = (x : Sentence) × Passes (schemasIn s) x × (statementOf (schemasIn s) x ≡ asks q)
 
-  stands-for : (cells : List ℤ) → (p : Plain) × Means s cells p
-  stands-for cells = (
-    record {
-      lengths = record { cells = s .cells; memory = s .memory };
-      tables = tablesIn s cells;
-      queries = queries-from .0;
-      updates = updates-from .0;
-    },
+  abbrev Changes : M.Update → Type 0
+  Changes u = (x : Sentence) × Passes (schemasIn s) x × (statementOf (schemasIn s) x ≡ changes u)
+
+  queries-from : (ys : List M.Query) × Compiled AgreesQuery (usedQueries s) ys × All Asks ys
+  queries-from = compiled-of (All-map (λ q f. (f .statement, f .agrees, (f .sentence, f .passes, f .says))) (I .queries))
+
+  updates-from : (ys : List M.Update) × Compiled AgreesUpdate (usedUpdates s) ys × All Changes ys
+  updates-from = compiled-of (All-map (λ u f. (f .statement, f .agrees, (f .sentence, f .passes, f .says))) (I .updates))
+
+  abbrev plain : Plain
+  plain = record {
+    lengths = record { cells = s .cells; memory = s .memory };
+    tables = tablesIn s cells;
+    queries = queries-from .0;
+    updates = updates-from .0;
+  }
+
+  schemas-same : schemas plain ≡ schemasIn s
+  schemas-same = schemas-from 0 (usedTables s) cells
+
+  table-from : (before : List Schema) (t : Schema) (behind : List Schema) → schemas plain ≡ before ++ t ∷ behind
+      → (x : Sentence) × Passes (before ++ behind) x × (statementOf (before ++ behind) x ≡ creates t)
+  table-from before t behind e =
+      let r = map-split schemaOf (usedTables s) before t behind (sym schemas-same ∙ e) in
+      let f : FromTable (map schemaOf (r .0 ++ r .2)) (r .1) = I .tables (r .0) (r .1) (r .2) (r .3) in
+      let others : map schemaOf (r .0 ++ r .2) ≡ before ++ behind = map-append schemaOf (r .0) (r .2) ∙ (λ j. r .4 j ++ r .6 j) in
+      let here : f .schema ≡ t = agrees-schema (r .1) (f .schema) (f .agrees) ∙ r .5 in (
+        f .sentence,
+        subst (λ ts. Passes ts (f .sentence)) others (f .passes),
+        ap (λ ts. statementOf ts (f .sentence)) (sym others) ∙ f .says ∙ ap creates here,
+      )
+
+  stands-for : (p : Plain) × Means s cells p × FromSentences p
+  stands-for = (
+    plain,
     record { cells-are = refl; memory-is = refl; tables-are = refl; queries-are = queries-from .1; updates-are = updates-from .1 },
+    record {
+      tables = table-from;
+      queries = subst (λ ts. All (λ q. (x : Sentence) × Passes ts x × (statementOf ts x ≡ asks q)) (queries-from .0)) (sym schemas-same) (queries-from .2);
+      updates = subst (λ ts. All (λ u. (x : Sentence) × Passes ts x × (statementOf ts x ≡ changes u)) (updates-from .0)) (sym schemas-same) (updates-from .2);
+    },
   )
 
 -- a sound state stands for a plain store
 pub stands-for-plain : StandsForPlain
-stands-for-plain s T h = stands-for (s .state) T (sound-is (s .state) h) (s .cells)
+stands-for-plain s T h = stands-for (s .state) (s .cells) (sentence-holds (s .state) T h)

@@ -35,11 +35,11 @@ use Rattle.soundness.proofs.Laws.{query-before, update-before}
 use Rattle.slots.specs.declared.Key.{Key}
 use Rattle.slots.specs.Keys.{slotKey}
 use Rattle.cache.specs.declared.State.{State}
-use Rattle.cache.specs.Sound.{usedTables, areasOf, queryAt}
+use Rattle.cache.specs.Sound.{usedTables, areasOf, queryAt, usedQueries, usedUpdates, schemasIn, KeyFits}
 use Rattle.cache.specs.Calls.{addedTable, addedQuery, addedUpdate, compiledBeside}
-use Rattle.cache.specs.Means.{usedQueries, usedUpdates, Typed}
+use Rattle.cache.specs.Means.{Typed}
 use Rattle.cache.specs.Run.{Store, add, step}
-use Rattle.cache.proofs.Sounds.{Sound, KeySound, schemasIn}
+use Rattle.cache.proofs.Sounds.{Sound}
 use Rattle.cache.proofs.StaysCases.{by-add}
 use Rattle.cache.proofs.Parts.{take-more}
 
@@ -130,7 +130,7 @@ module _ (s : State) (T : Typed s) (S : Sound s) where
     abbrev asking : State
     asking = addedQuery s q .state
 
-    key-stays : (k : Key) → KeySound s k → KeySound asking k
+    key-stays : (k : Key) → KeyFits s k → KeyFits asking k
     key-stays k K =
         let other : queryAt asking (k .query) ≡ queryAt s (k .query) =
         getD-set-other (s .queries) (s .«query_count») (k .query) q noQuery (λ e. omega (arith, K .there)) in

@@ -20,10 +20,11 @@ use Rattle.slots.specs.Order.{heldSlots, frontOf, takenOf, dropBy}
 use Rattle.slots.proofs.Laws as L
 use Rattle.slots.proofs.Laws.{held-front, front-sound, drop-held, drop-sound, TakenFree, TakenHeld, taken-is, taken-sound, taken-below, taken-free, taken-held}
 use Rattle.slots.proofs.HeldLaws.{front-once, drop-once, put-once}
+use Rattle.cache.specs.Sound.{KeyFits}
 use Rattle.cache.specs.declared.State.{State}
 use Rattle.cache.specs.Calls.{withCache, putIn}
 use Rattle.cache.specs.Means.{Typed}
-use Rattle.cache.proofs.Sounds.{KeySound, Sound}
+use Rattle.cache.proofs.Sounds.{Sound}
 
 dropped-count : (p : ℕ → Bool) (l : SlotList) → dropBy p l .count ≡ l .count
 unfolding dropBy
@@ -35,7 +36,7 @@ pub record Answers (s : State) (slots : SlotList) (keys : List Key) (lengths : L
   pub count-same : slots .count ≡ s .slots .count
   pub slots-sound : L.Sound slots
   pub lengths-fit : All (λ (x : ℕ). (least-slot-bytes ≤ getD lengths x 0) × (getD lengths x 0 ≤ s .«slot_bytes»)) (heldSlots slots)
-  pub keys-sound : All (λ (x : ℕ). KeySound s (slotKey keys x)) (heldSlots slots)
+  pub keys-sound : All (λ (x : ℕ). KeyFits s (slotKey keys x)) (heldSlots slots)
   pub once : heldTwice keys slots ≡ false
 
 pub answers-are : (s : State) → Sound s → Answers s (s .slots) (s .keys) (s .lengths)
@@ -138,7 +139,7 @@ module _ (s : State) (S : Sound s) where
     last-below : last < s .slots .count
     last-below = taken-below (s .slots) (S .slots) (T .order-64) some
 
-    module _ (key : Key) (r : List ℕ) (ok : KeySound s key) (least : least-slot-bytes ≤ length r) (most : length r ≤ s .«slot_bytes»)
+    module _ (key : Key) (r : List ℕ) (ok : KeyFits s key) (least : least-slot-bytes ≤ length r) (most : length r ≤ s .«slot_bytes»)
         (new : All (λ (x : ℕ). keyRead (slotKey (s .keys) x) ≢ keyRead key) (heldSlots (s .slots))) where
       abbrev keys′ : List Key
       keys′ = set (s .keys) last key
@@ -173,7 +174,7 @@ module _ (s : State) (S : Sound s) where
         lengths-fit = rw (O .held)
             (cons (subst Fit (sym length-here) (least, most)) (still-have O (λ x h L. subst Fit (sym (length-there x h)) L) (answers .lengths-fit)));
         keys-sound = rw (O .held)
-            (cons (subst (KeySound s) (sym key-here) ok) (still-have O (λ x h K. subst (KeySound s) (sym (key-there x h)) K) (answers .keys-sound)));
+            (cons (subst (KeyFits s) (sym key-here) ok) (still-have O (λ x h K. subst (KeyFits s) (sym (key-there x h)) K) (answers .keys-sound)));
         once = put-once (s .keys) (s .slots) key (S .slots) (T .order-64) some (T .keys-64) (answers .once) new;
       }
 

@@ -23,11 +23,11 @@ use Rattle.slots.specs.Order.{heldSlots, isOpen, takenOf}
 use Rattle.slots.proofs.KeyLaws.{has-other, found-below, found-nothing}
 use Rattle.slots.proofs.Moves.{open-is, taken-none}
 use Rattle.cache.specs.declared.State.{State}
-use Rattle.cache.specs.Sound.{queryAt}
+use Rattle.cache.specs.Sound.{queryAt, schemasIn, KeyFits}
 use Rattle.cache.specs.Calls.{askConditions, askRefusal, fitsSlot, recordAt, foundIn}
 use Rattle.cache.specs.Means.{Typed}
 use Rattle.cache.specs.Run.{Store, ask, step}
-use Rattle.cache.proofs.Sounds.{KeySound, Sound, schemasIn, held-below, query-at}
+use Rattle.cache.proofs.Sounds.{Sound, held-below, query-at}
 use Rattle.cache.proofs.StaysCases.{by-ask}
 use Rattle.cache.proofs.StaysAnswers.{front-stays, put-stays}
 
@@ -62,7 +62,7 @@ module _ (s : Store) (query : ℕ) (values : List ℤ) (buffer : List ℕ) (T : 
     values-many =
         eqb-true (length values) (queryAt st query .parameters) (not-false (eqb (length values) (queryAt st query .parameters)) (All-head (All-tail (All-tail clear-all))))
 
-    pub key-sound : KeySound st (keyOf query values)
+    pub key-sound : KeyFits st (keyOf query values)
     unfolding keyOf
     key-sound =
         let few : queryAt st query .parameters ≤ 8 = query-parts (schemasIn st) (queryAt st query) (query-at st T S query query-there) .few-parameters in

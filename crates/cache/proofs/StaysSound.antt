@@ -7,12 +7,12 @@ use Rattle.meaning.specs.Plain.{Opening}
 use Rattle.slots.specs.Order.{openOf as slotsOpen}
 use Rattle.slots.proofs.Laws.{open-sound}
 use Rattle.cache.specs.declared.State.{State}
-use Rattle.cache.specs.Sound.{opening, soundState}
+use Rattle.cache.specs.Sound.{opening, soundState, OpeningWithin}
 use Rattle.cache.specs.Calls.{emptyState}
 use Rattle.cache.specs.Means.{Typed}
 use Rattle.cache.specs.Run.{Store, openingOf, Call, add, ask, update, flush, step}
 use Rattle.cache.specs.Demand.{OpensSound, StaysSound}
-use Rattle.cache.proofs.Sounds.{SizesFit, sizes-fit, Sound, sound-is, is-sound}
+use Rattle.cache.proofs.Sounds.{sizes-fit, Sound, sound-is, is-sound}
 use Rattle.cache.proofs.StaysCases.{by-opened, by-flush}
 use Rattle.cache.proofs.StaysAdded.{add-stays}
 use Rattle.cache.proofs.StaysAnswers.{drop-stays}
@@ -21,7 +21,7 @@ use Rattle.cache.proofs.StaysUpdated.{update-stays}
 
 -- ---- an opening
 
-empty-sound : (o : Opening) → SizesFit o → Sound (emptyState o)
+empty-sound : (o : Opening) → OpeningWithin o → Sound (emptyState o)
 unfolding emptyState slotsOpen
 empty-sound o F = record {
   sizes = F;
@@ -40,7 +40,7 @@ empty-sound o F = record {
 }
 
 -- what a refused opening gives
-none-fit : SizesFit (opening 0 0 0 8)
+none-fit : OpeningWithin (opening 0 0 0 8)
 none-fit = record {
   few-cells = omega arith;
   few-memory = omega arith;

@@ -24,11 +24,11 @@ use Rattle.table.specs.declared.changes.Changed.{Changed}
 use Rattle.table.proofs.ChangedMeans.{after-few}
 use Rattle.slots.specs.Order.{dropBy}
 use Rattle.cache.specs.declared.State.{State}
-use Rattle.cache.specs.Sound.{usedTables, areasOf}
+use Rattle.cache.specs.Sound.{usedTables, areasOf, usedQueries, usedUpdates, schemasIn}
 use Rattle.cache.specs.Calls.{withCache, startOf, tableAt, updateAt, updateConditions, updateRefusal, isMatched, withRows, withChange, updateDone}
-use Rattle.cache.specs.Means.{usedQueries, usedUpdates, Typed}
+use Rattle.cache.specs.Means.{Typed}
 use Rattle.cache.specs.Run.{Store, update, step}
-use Rattle.cache.proofs.Sounds.{Sound, schemasIn, rows-at, update-at, schemas-long}
+use Rattle.cache.proofs.Sounds.{Sound, rows-at, update-at, schemas-long}
 use Rattle.cache.proofs.StaysCases.{by-cond, by-update}
 use Rattle.cache.proofs.StaysCompiled.{no-update}
 use Rattle.cache.proofs.StaysAnswers.{drop-stays}

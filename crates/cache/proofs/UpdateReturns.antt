@@ -27,10 +27,10 @@ use Rattle.table.specs.declared.changes.Changed.{Changed}
 use Rattle.slots.specs.declared.SlotList.{SlotList}
 use Rattle.slots.specs.Order.{heldSlots, dropBy, dropOf}
 use Rattle.cache.specs.declared.State.{State}
-use Rattle.cache.specs.Sound.{usedTables, soundState}
+use Rattle.cache.specs.Sound.{usedTables, soundState, schemasIn}
 use Rattle.cache.specs.Marks.{marksOf}
 use Rattle.cache.specs.Calls.{unfit, tableAt, startOf, updateAt, isFull, Updates, updates, updateConditions, updateRefusal, isMatched, withRows, withChange, updateRefused, updateDone, updateOf}
-use Rattle.cache.proofs.Sounds.{schemasIn, Sound, sound-is, All-first}
+use Rattle.cache.proofs.Sounds.{Sound, sound-is, All-first}
 use Rattle.cache.proofs.Settled.{settled-refused, settled-done, fit-is}
 use Rattle.cache.proofs.DropsMarked.{drop-marked, drop-fewer, drop-count, marks-matched}
 

@@ -30,14 +30,14 @@ use Rattle.table.proofs.ChangedMeans.{fits-sound, change-count, change-means, c
 use Rattle.slots.specs.declared.SlotList.{SlotList}
 use Rattle.slots.specs.Order.{dropBy}
 use Rattle.cache.specs.declared.State.{State}
-use Rattle.cache.specs.Sound.{usedTables, areasOf, soundState}
+use Rattle.cache.specs.Sound.{usedTables, areasOf, soundState, schemasIn}
 use Rattle.cache.specs.Means.{tablesFrom, Means, Typed}
 use Rattle.cache.specs.Calls.{startOf, tableAt, updates, updateAt, isFull, updateRefusal, isMatched, withRows, withChange, updateRefused, updateDone, updateOf}
 use Rattle.cache.specs.Run.{Store, gotOf, stepUpdate, step}
 use Rattle.cache.specs.Run as R
 use Rattle.cache.specs.Demand.{lengthsLent}
 use Rattle.cache.proofs.Areas.{tableIn, rows-used, tables-set}
-use Rattle.cache.proofs.Sounds.{schemasIn, Sound, sound-is, rows-at, update-at}
+use Rattle.cache.proofs.Sounds.{Sound, sound-is, rows-at, update-at}
 use Rattle.cache.proofs.Standing.{few-tables, few-updates, update-table, few-columns, columns-at, area-inside}
 use Rattle.cache.proofs.Meanings.{table-at, update-count, update-agrees}
 use Rattle.cache.proofs.Refused.{Same, settled-same, same-else, unfit-is, lengths-same}

@@ -1,29 +1,36 @@
 -- The user's three demands, about the calls as the program makes them: `Calls` is what the contracts of the code say that it gives and leaves. Each claim stands below
 -- its sentence, and is proved in proofs/Demand. Assumes nothing: these are definitions.
 use mathlib.Core.Path.{_≡_}
-use mathlib.Core.Logic.{_≢_}
+use mathlib.Core.Logic.{_≢_, _⊎_, _↔_}
 use mathlib.Core.Bool.{Bool, true, false, not, _&&_, cond}
 use mathlib.Core.List.{List, [], _∷_, _++_, map}
-use Prim.Native.Nat.{ℕ, _<_}
+use Prim.Native.Nat.{ℕ, _+_, _*_, _≤_, _<_}
 use lib.Dec.{eqb, ltb}
-use lib.IntN.{ℤ}
-use lib.ListN.{length}
-use Rattle.lists.specs.Lists.{All, any, keep, count}
+use lib.IntN.{ℤ, pos, natAbs}
+use lib.ListN.{length, getD, replicate}
+use Rattle.lists.specs.Lists.{All, any, keep, count, from, written}
 use Rattle.meaning.specs.Key.{Key, sameKey}
-use Rattle.meaning.specs.Demand.{ReadsBack, Is32, rowsListed}
+use Rattle.meaning.specs.Demand.{WithinLimits, ReadsBack, Is32, rowsListed}
+use Rattle.meaning.specs.Tokens.{tokens}
+use Rattle.meaning.specs.Grammar as G
+use Rattle.meaning.specs.Grammar.{items, Sentence, spell}
+use Rattle.meaning.specs.Names.{Schema, unknown, taken, miscounted}
+use Rattle.meaning.specs.Statement.{creates, asks, changes, statementOf}
 use Rattle.meaning.specs.Plain as P
-use Rattle.meaning.specs.Plain.{Plain, openingRefused, recordOf, matchesKey}
+use Rattle.meaning.specs.Plain.{Plain, schemas, Opening, openingRefused, recordOf, matchesKey}
 use Rattle.trace.specs.History.{Event, history, fits, Answered, hits, since, Filled, Ground}
 use Rattle.statement.specs.Catalog.{catalog}
 use Rattle.statement.specs.Compiled.{textConditions}
+use Rattle.statement.specs.Sound.{Passes}
 use Rattle.slots.specs.declared.Found.{Found}
 use Rattle.slots.specs.declared.Found.the-variants.{At, Nothing}
-use Rattle.slots.specs.Keys.{keyRead, heldKeys}
+use Rattle.slots.specs.Keys.{keyRead, slotKey}
+use Rattle.slots.specs.Order.{slotsOf}
 use Rattle.cache.specs.declared.State.{State}
-use Rattle.cache.specs.Sound.{soundState}
+use Rattle.cache.specs.Sound.{opening, sizesOf, usedTables, schemasIn, areasOf, lengthAt, keysIn, OpeningWithin, IsSound, soundState}
 use Rattle.cache.specs.Means.{tablesIn, Means, Typed}
-use Rattle.cache.specs.Calls.{unfit, askConditions, cachedLength, foundIn, recordAt, updateConditions}
-use Rattle.cache.specs.Run.{Store, Start, openingOf, opened, Call, add, ask, update, flush, Seen, step, after, gets, plainCall, bufferOf, gotOf, plainAfter, plainGets}
+use Rattle.cache.specs.Calls.{unfit, askConditions, cachedLength, bytesAt, foundIn, recordAt, updateConditions}
+use Rattle.cache.specs.Run.{Store, Start, openingOf, openedBy, opened, Call, add, ask, update, flush, Seen, step, after, gets, plainCall, bufferOf, gotOf, plainAfter, plainGets}
 
 -- ---- Demand 1: "If a call brings a text, number, state or lent memory that the store can't take, it gives the refusal number of document 01 and changes nothing. Every
 -- other call ends with its work done." That each call ends, and touches no place outside the lent memories, is what it means for the code to be proved.
@@ -69,7 +76,39 @@ refusedWith n buffer = record {
 abbrev pub RefusedChangesNothing : Type 0
 RefusedChangesNothing = (s : Store) (c : Call) → step s c .1 .got .refusal ≢ 0 → step s c ≡ (s, refusedWith (step s c .1 .got .refusal) (bufferOf c))
 
--- ---- soundness: an opening, taken or refused, gives a sound state, and every call leaves a sound state sound
+-- ---- opening: "1: opening outside the limits, or slots × bytes over the kept memory", and no other number
+
+abbrev pub OpensExactlyIf : Type 0
+OpensExactlyIf = (o : Start) → (openedBy o .result .refusal ≡ 0) ↔ OpeningWithin (openingOf o)
+
+-- a state without tables, statements or kept answers, of these sizes: "The order of use is one list of slots, at first 0, 1, 2 and on."
+pub record Fresh (s : State) (o : Opening) : Type 0 where
+  pub no-tables : s .«table_count» ≡ 0
+  pub no-queries : s .«query_count» ≡ 0
+  pub no-updates : s .«update_count» ≡ 0
+  pub none-held : s .slots .held ≡ 0
+  pub sizes : sizesOf s ≡ o
+  pub order : slotsOf (s .slots) ≡ from 0 (o .slots)
+
+-- "Opening fills both memories with zeros."
+abbrev pub OpeningTaken : Type 0
+OpeningTaken = (o : Start) → openedBy o .result .refusal ≡ 0
+    → Fresh (opened o .state) (openingOf o)
+    × (opened o .cells ≡ replicate (length (o .cells)) (pos 0))
+    × (opened o .memory ≡ replicate (length (o .memory)) 0)
+
+-- "State and lent memories come back as they came .. a refused opening gives a state without tables, statements, slots or memory, its bytes a slot 8."
+abbrev pub OpeningRefused : Type 0
+OpeningRefused = (o : Start) → openedBy o .result .refusal ≢ 0
+    → (openedBy o .result .refusal ≡ 1)
+    × Fresh (opened o .state) (opening 0 0 0 8)
+    × (opened o .cells ≡ o .cells)
+    × (opened o .memory ≡ o .memory)
+
+-- ---- soundness: the test that every call makes is document 01's sentence; an opening, taken or refused, gives a sound state, and every call leaves a sound state sound
+
+abbrev pub SoundExactlyIf : Type 0
+SoundExactlyIf = (s : State) → Typed s → (soundState s ≡ true) ↔ IsSound s
 
 abbrev pub OpensSound : Type 0
 OpensSound = (o : Start) → soundState (opened o .state) ≡ true
@@ -77,19 +116,57 @@ OpensSound = (o : Start) → soundState (opened o .state) ≡ true
 abbrev pub StaysSound : Type 0
 StaysSound = (s : Store) (c : Call) → Typed (s .state) → soundState (s .state) ≡ true → soundState (step s c .0 .state) ≡ true
 
--- ---- Demand 2, of every sound state, reached from an opening or not: there is a plain store that it stands for. A text, an update and a flush, and a question whose
--- answer is not kept, get on the state what they get on that store; and what the call leaves stands for what the plain store is then.
+-- ---- Demand 2: "A text is accepted exactly if no refusal condition of document 01 holds.", of the program's `add`, beside every state of its type
+
+-- 9: "no table or statement place, or too few cells left"; what there has to be
+abbrev pub HasPlace : State → Sentence → Type 0
+HasPlace s (G.table t cs z) = (s .«table_count» < 8) × (areasOf (usedTables s) + length (items cs) * natAbs z ≤ s .cells)
+HasPlace s (G.select cs t w) = s .«query_count» < 16
+HasPlace s (G.insert t vs) = s .«update_count» < 16
+HasPlace s (G.update t ss w) = s .«update_count» < 16
+HasPlace s (G.delete t w) = s .«update_count» < 16
+
+pub record Accepted (s : Store) (text : List ℕ) (x : Sentence) : Type 0 where
+  -- 2
+  pub sound : IsSound (s .state)
+  pub cells-lent : length (s .cells) ≡ s .state .cells
+  pub memory-lent : length (s .memory) ≡ s .state .memory
+  -- 3
+  pub short : length text ≤ 256
+  -- 4
+  pub spelled : tokens text ≡ spell x
+  -- 5
+  pub within : WithinLimits x
+  -- 6, 7, 8, beside the tables that there are
+  pub known : unknown (schemasIn (s .state)) x ≡ false
+  pub fresh : taken (schemasIn (s .state)) x ≡ false
+  pub counted : miscounted (schemasIn (s .state)) x ≡ false
+  -- 9
+  pub place : HasPlace (s .state) x
+
+abbrev pub AcceptedExactlyIf : Type 0
+AcceptedExactlyIf = (s : Store) (text : List ℕ) → Typed (s .state) → (step s (add text) .1 .got .refusal ≡ 0) ↔ ((x : Sentence) × Accepted s text x)
+
+-- ---- Demand 2, of every sound state, reached from an opening or not: there is a plain store that it stands for, whose tables and statements are those of sentences
+-- that refusals 4 to 8 let pass. A text, an update and a flush, and a question whose answer is not kept, get on the state what they get on that store; and what the call
+-- leaves stands for what the plain store is then.
+
+pub record FromSentences (p : Plain) : Type 0 where
+  pub tables : (before : List Schema) (t : Schema) (behind : List Schema) → schemas p ≡ before ++ t ∷ behind
+      → (x : Sentence) × Passes (before ++ behind) x × (statementOf (before ++ behind) x ≡ creates t)
+  pub queries : All (λ q. (x : Sentence) × Passes (schemas p) x × (statementOf (schemas p) x ≡ asks q)) (p .queries)
+  pub updates : All (λ u. (x : Sentence) × Passes (schemas p) x × (statementOf (schemas p) x ≡ changes u)) (p .updates)
 
 abbrev pub StandsForPlain : Type 0
-StandsForPlain = (s : Store) → Typed (s .state) → soundState (s .state) ≡ true → (p : Plain) × Means (s .state) (s .cells) p
+StandsForPlain = (s : Store) → Typed (s .state) → soundState (s .state) ≡ true → (p : Plain) × Means (s .state) (s .cells) p × FromSentences p
 
 abbrev pub lengthsLent : Store → P.Lengths
 lengthsLent s = record { cells = length (s .cells); memory = length (s .memory) }
 
--- no slot holds the answer
+-- no slot holds the answer, or the call is refused before that is looked for (13 goes by the kept length)
 abbrev pub Anew : Store → Call → Type 0
 Anew s (add text) = Unit {0}
-Anew s (ask n vs buffer) = foundIn (s .state) n vs ≡ Nothing
+Anew s (ask n vs buffer) = (foundIn (s .state) n vs ≡ Nothing) ⊎ ((step s (ask n vs buffer) .1 .got .refusal ≢ 0) × (step s (ask n vs buffer) .1 .got .refusal ≢ 13))
 Anew s (update n vs) = Unit {0}
 Anew s flush = Unit {0}
 
@@ -98,15 +175,41 @@ DoesAsPlain = (s : Store) (c : Call) (p : Plain) → Typed (s .state) → soundS
     → (step s c .1 .got ≡ gotOf (bufferOf c) (P.step (lengthsLent s) p (plainCall c) .1))
     × Means (step s c .0 .state) (step s c .0 .cells) (P.step (lengthsLent s) p (plainCall c) .0)
 
+-- "A new answer .. holds exactly the rows, in order, that the SQL meaning set down there gives, and its record reads back as those rows", and "rows read (.. else the
+-- table's row count)": on every sound state. Cells have 32 bits, as their type says
+abbrev pub NewAnswer : Type 0
+NewAnswer = (s : Store) (p : Plain) (k : Key) (buffer : List ℕ) → Typed (s .state) → soundState (s .state) ≡ true → Means (s .state) (s .cells) p → All Is32 (s .cells)
+    → let r : Seen = step s (ask (k .query) (k .values) buffer) .1 in
+    r .got .refusal ≡ 0 → r .kept ≡ 0
+    → ReadsBack (r .got .answer) (length (P.queryAt p (k .query) .selected)) (rowsListed p k) × (r .scanned ≡ P.rowsAsked p (k .query))
+
+-- "In a sound state not reached from an opening, a kept answer is its slot's bytes.": those of the slot that has the key; no row is read
+pub record ItsSlotsBytes (s : Store) (k : Key) (buffer : List ℕ) (r : Seen) : Type 0 where
+  pub slot : ℕ
+  pub held : (i : ℕ) × (i < s .state .slots .held) × (getD (s .state .slots .order) i 0 ≡ slot)
+  pub key-is : keyRead (slotKey (s .state .keys) slot) ≡ k
+  pub length-is : r .got .length ≡ lengthAt (s .state) slot
+  pub answer-is : r .got .answer ≡ written buffer 0 (bytesAt (s .state) (s .memory) slot)
+  pub none-read : r .scanned ≡ 0
+
+abbrev pub KeptAnswer : Type 0
+KeptAnswer = (s : Store) (k : Key) (buffer : List ℕ) → Typed (s .state) → soundState (s .state) ≡ true
+    → let r : Seen = step s (ask (k .query) (k .values) buffer) .1 in
+    r .got .refusal ≡ 0 → r .kept ≢ 0 → ItsSlotsBytes s k buffer r
+
 -- "The kept answers an update drops are exactly those matched by the patterns"
 abbrev pub keysHeld : Store → List Key
-keysHeld s = map keyRead (heldKeys (s .state .keys) (s .state .slots))
+keysHeld s = keysIn (s .state)
 
 abbrev pub DropsExactlyMatched : Type 0
 DropsExactlyMatched = (s : Store) (n : ℕ) (us : List ℤ) (p : Plain) → Typed (s .state) → soundState (s .state) ≡ true → Means (s .state) (s .cells) p
     → step s (update n us) .1 .got .refusal ≡ 0
     → (keysHeld (step s (update n us) .0) ≡ keep (λ (k : Key). not (matchesKey p n us k)) (keysHeld s))
     × (step s (update n us) .1 .drops ≡ count (matchesKey p n us) (keysHeld s))
+
+-- "flush (drop every kept answer)"; "Drops put held slots first and free ones after, each in the order they had."
+abbrev pub FlushDropsAll : Type 0
+FlushDropsAll = (s : Store) → step s flush .1 .got .refusal ≡ 0 → (keysHeld (step s flush .0) ≡ []) × (step s flush .0 .state .slots .order ≡ s .state .slots .order)
 
 -- ---- Demand 3: "For every opening and every list of calls after it (adding, asking, updating, flushing), refused ones included, each given the state that the last one
 -- returned and the opening's memories as it left them, which only the store writes: every call gets the refusal number, the statement's kind and number, the record and
@@ -137,6 +240,33 @@ nextAsk o cs k buffer = step (after (opened o) cs) (ask (k .query) (k .values) b
 abbrev pub AnewOnlyIf : Type 0
 AnewOnlyIf = (o : Start) (cs : List Call) (k : Key) (buffer : List ℕ) → nextAsk o cs k buffer .got .refusal ≡ 0 → nextAsk o cs k buffer .kept ≡ 0
     → Ground sameKey (slotCount o) (slotSize o) (recordOf (plainAfter o cs) k) k (past o cs)
+
+-- All of demand 3, as one claim about the whole list
+pub record Demand3 (o : Start) (cs : List Call) : Type 0 where
+  -- "every call gets the refusal number, the statement's kind and number, the record and the count of rows inserted, matched or deleted that the same call gets from the
+  -- plain store of document 01, which keeps no answer"
+  pub same : map (λ (x : Seen). x .got) (gets (opened o) cs) ≡ plainGets (openingOf o .lent) (P.opened (openingOf o)) cs
+  -- "and after the list the tables hold the same rows as that store's"
+  pub tables : tablesIn (after (opened o) cs .state) (after (opened o) cs .cells) ≡ plainAfter o cs .tables
+  -- "In every such list a question with its values is worked out anew only if ..": each question of the list, behind the calls before it
+  pub anew : (before : List Call) (k : Key) (buffer : List ℕ) (behind : List Call) → cs ≡ before ++ ask (k .query) (k .values) buffer ∷ behind
+      → nextAsk o before k buffer .got .refusal ≡ 0 → nextAsk o before k buffer .kept ≡ 0
+      → Ground sameKey (slotCount o) (slotSize o) (recordOf (plainAfter o before) k) k (past o before)
+
+abbrev pub ThirdDemand : Type 0
+ThirdDemand = (o : Start) (cs : List Call) → Demand3 o cs
+
+-- Demand 2 in such a list: the plain store of the list is the one that the state stands for, and the kept answers that an update drops are those that it matches there
+abbrev pub StandsInList : Type 0
+StandsInList = (o : Start) (cs : List Call) → Means (after (opened o) cs .state) (after (opened o) cs .cells) (plainAfter o cs)
+
+abbrev pub DropsInList : Type 0
+DropsInList = (o : Start) (cs : List Call) (n : ℕ) (us : List ℤ)
+    → let s : Store = after (opened o) cs in
+    let p : Plain = plainAfter o cs in
+    step s (update n us) .1 .got .refusal ≡ 0
+    → (keysHeld (step s (update n us) .0) ≡ keep (λ (k : Key). not (matchesKey p n us k)) (keysHeld s))
+    × (step s (update n us) .1 .drops ≡ count (matchesKey p n us) (keysHeld s))
 
 -- The converse, by the slot rules: a question that was answered before, whose record fits, with no matching update or flush since, and with fewer different others than
 -- there are slots answered since with records that fit, is kept.
@@ -169,13 +299,24 @@ AnswerReadsBack = (o : Start) (cs : List Call) → All Values32 cs → (k : Key)
 pub record Demands : Type 0 where
   pub lowest-number : LowestNumber
   pub refused-changes-nothing : RefusedChangesNothing
+  pub opens-exactly-if : OpensExactlyIf
+  pub opening-taken : OpeningTaken
+  pub opening-refused : OpeningRefused
+  pub sound-exactly-if : SoundExactlyIf
   pub opens-sound : OpensSound
   pub stays-sound : StaysSound
+  pub accepted-exactly-if : AcceptedExactlyIf
   pub stands-for-plain : StandsForPlain
   pub does-as-plain : DoesAsPlain
+  pub new-answer : NewAnswer
+  pub kept-answer : KeptAnswer
   pub drops-exactly-matched : DropsExactlyMatched
+  pub flush-drops-all : FlushDropsAll
+  pub third-demand : ThirdDemand
   pub same-as-plain : SameAsPlain
   pub anew-only-if : AnewOnlyIf
+  pub stands-in-list : StandsInList
+  pub drops-in-list : DropsInList
   pub kept-otherwise : KeptOtherwise
   pub rows-read : RowsRead
   pub answer-reads-back : AnswerReadsBack

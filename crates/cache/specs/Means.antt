@@ -17,7 +17,7 @@ use Rattle.statement.specs.Sound.{AgreesQuery, AgreesUpdate, QueryFits, UpdateF
 use Rattle.table.specs.Evaluated.{rowsUsed}
 use Rattle.slots.specs.declared.Key.{Key}
 use Rattle.cache.specs.declared.State.{State}
-use Rattle.cache.specs.Sound.{usedTables}
+use Rattle.cache.specs.Sound.{usedTables, usedQueries, usedUpdates}
 
 -- the tables, the area of the first of them starting there: what its TABLE text says, and its rows
 abbrev pub tablesFrom : ℕ → List Table → List ℤ → List P.Table
@@ -26,12 +26,6 @@ tablesFrom start (t ∷ ts) cells = record { schema = schemaOf t; rows = rowsUse
 
 abbrev pub tablesIn : State → List ℤ → List P.Table
 tablesIn s cells = tablesFrom 0 (usedTables s) cells
-
-abbrev pub usedQueries : State → List Query
-usedQueries s = take (s .«query_count») (s .queries)
-
-abbrev pub usedUpdates : State → List Update
-usedUpdates s = take (s .«update_count») (s .updates)
 
 -- as many, and each the compiled form of the other
 pub data Compiled {A B : Type 0} (R : A → B → Type 0) : List A → List B → Type 0 where

@@ -33,8 +33,11 @@ openingOf o = opening (length (o .cells)) (length (o .memory)) (o .slots) (o .sl
 abbrev pub storeOf : Opens → Store
 storeOf r = record { state = r .result .state; cells = r .cells; memory = r .memory }
 
+abbrev pub openedBy : Start → Opens
+openedBy o = openOf (o .cells) (o .memory) (o .slots) (o .slotBytes)
+
 abbrev pub opened : Start → Store
-opened o = storeOf (openOf (o .cells) (o .memory) (o .slots) (o .slotBytes))
+opened o = storeOf (openedBy o)
 
 -- ---- the calls, with what is lent to each besides: a text; a question's number, values and answer buffer; an update's number and values
 

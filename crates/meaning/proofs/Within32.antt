@@ -145,13 +145,13 @@ after-32 lent p S (c ∷ cs) v = after-32 lent (step lent p c .0) (step-32 lent 
 -- ---- records
 
 -- the rows of an answer
-answer-rows : (q : Query) (vs : List ℤ) (rows : List Row) → All Row32 rows → All (IsRow (length (q .selected))) (answer q vs rows)
+pub answer-rows : (q : Query) (vs : List ℤ) (rows : List Row) → All Row32 rows → All (IsRow (length (q .selected))) (answer q vs rows)
 unfolding answer
 answer-rows q vs rows h =
     All-image (selected q)
     (All-keep (takes q vs) (λ r e t. (length-map (q .selected) (cell r), All-image (cell r) (All-every (λ i. All-getD i (pos 0) refl e) (q .selected)))) h)
 
-answer-few : (q : Query) (vs : List ℤ) (rows : List Row) → length (answer q vs rows) ≤ length rows
+pub answer-few : (q : Query) (vs : List ℤ) (rows : List Row) → length (answer q vs rows) ≤ length rows
 unfolding answer
 answer-few q vs rows = omega (arith, length-map (keep (takes q vs) rows) (selected q), length-keep (takes q vs) rows)
 

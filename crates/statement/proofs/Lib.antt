@@ -31,5 +31,4 @@ pub mod Limited
 pub mod ByKind
 pub mod Known
 pub mod Compiles
-pub mod Named
 pub mod SoundCompiled

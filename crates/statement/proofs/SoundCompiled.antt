@@ -24,7 +24,7 @@ use Rattle.meaning.specs.Statement as M
 use Rattle.meaning.specs.Statement.{column, value, constant, parameter, creates, asks, changes, numbered, numberedAll, settings, settingMarks, resolvedWhere, statementOf}
 use Rattle.meaning.specs.Plain as P
 use Rattle.meaning.specs.Plain.{Plain, schemas, addConditions, lowestOf}
-use Rattle.meaning.proofs.Accepted.{clear}
+use Rattle.meaning.proofs.Accepted.{clear, reads-exactly}
 use Rattle.meaning.proofs.Postfix.{leaves-in}
 use Rattle.meaning.proofs.Resolve.{resolve-where, resolve-numbered}
 use Rattle.statement.specs.Catalog.{nameOfStruct, schemasOf, rowless, catalog}
@@ -43,7 +43,6 @@ use Rattle.statement.proofs.Values.{name-back}
 use Rattle.statement.proofs.SoundTable.{source-table}
 use Rattle.statement.proofs.SoundQuery.{source-query}
 use Rattle.statement.proofs.SoundUpdate.{source-update}
-use Rattle.statement.proofs.Named.{sentence-named}
 
 -- ---- conditions: what is stored is read back, where the question marks are counted from 1
 
@@ -241,7 +240,7 @@ module _ (text : List ℕ) (tables : List Table) (used queries updates cells : �
       let a₆ = All-tail a₅ in
       let a₇ = All-tail a₆ in
       struct-sound (schemas store) s (record {
-        named = sentence-named text s e;
+        spelled = (text, reads-exactly text s .0 e);
         within = All-head a₅;
         known = All-head a₆;
         fresh = All-head a₇;

@@ -22,6 +22,7 @@ use Rattle.meaning.specs.Statement as M
 use Rattle.meaning.specs.Statement.{Statement, creates, asks, changes, resolvedWhere, statementOf}
 use Rattle.meaning.proofs.Names.{has-position}
 use Rattle.meaning.proofs.Resolved.{items-some}
+use Rattle.meaning.proofs.Spelling.{has-text}
 use Rattle.statement.specs.Sound.{soundCondition, conditionMarks, columnsAt, soundQuery, Passes, AgreesCondition, AgreesQuery, FromQuery, TablesFit, QueryFits}
 use Rattle.statement.specs.declared.Query.{Query}
 use Rattle.statement.proofs.SoundCondition.{on-parts, parts-on, Sourced, condition-source, source-marks, source-condition}
@@ -114,7 +115,7 @@ module _ (ts : List Schema) (T : TablesFit ts) (q : Query) (F : QueryFits q) (P 
   sentence-passes : Passes ts sentence
   unfolding unknown taken miscounted
   sentence-passes = record {
-    named = there-named ts T (q .table) (P .there) (columnsNamed sentence) named-known;
+    spelled = has-text sentence .0 (there-named ts T (q .table) (P .there) (columnsNamed sentence) named-known);
     within = limits-kept sentence limits;
     known = there-known ts T (q .table) (P .there) (columnsNamed sentence) named-known;
     fresh = refl;

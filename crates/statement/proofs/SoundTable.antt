@@ -22,6 +22,7 @@ use Rattle.meaning.specs.Limits.{most-items, most-rows, most-name}
 use Rattle.meaning.specs.Names.{Schema, sameName, has, tableNames, unknown, taken, miscounted}
 use Rattle.meaning.specs.Statement.{Statement, creates, asks, changes, statementOf}
 use Rattle.meaning.proofs.Resolved.{items-some}
+use Rattle.meaning.proofs.Spelling.{has-text}
 use Rattle.statement.specs.Catalog.{nameOfStruct, schemaOf}
 use Rattle.statement.specs.Sound.{usedColumns, soundName, soundTable, Passes, AgreesTable, FromTable, TableFits, NameFits, TableStructFits}
 use Rattle.statement.specs.declared.Name.{Name}
@@ -154,7 +155,7 @@ module _ (others : List Schema) (t : Table) (F : TableStructFits t) (P : Parts o
   sentence-passes : Passes others sentence
   unfolding unknown taken miscounted
   sentence-passes = record {
-    named = ap (λ ns. all isName (nameOfStruct (t .name) ∷ ns)) named ∙ all-of isName (sound-fits .names);
+    spelled = has-text sentence .0 (ap (λ ns. all isName (nameOfStruct (t .name) ∷ ns)) named ∙ all-of isName (sound-fits .names));
     within = limits-kept sentence limits;
     known = refl;
     fresh = or-none (has (tableNames others) (nameOfStruct (t .name))) _ (P .fresh) (ap (repeats sameName) (columns .1) ∙ P .different);
@@ -216,7 +217,7 @@ module _ (others : List Schema) (t : Table) where
       let ns : List T.Name = items cs in
       let long : any (λ (m : T.Name). ltb most-name (length m)) (n ∷ ns) ≡ false =
       ap (λ l. any (λ (m : T.Name). ltb most-name (length m)) (n ∷ l)) (sym (append-nil ns)) ∙ L .names-short in
-      let named : all isName (n ∷ ns) ≡ true = ap (λ l. all isName (n ∷ l)) (sym (append-nil ns)) ∙ P .named in
+      let named : all isName (n ∷ ns) ≡ true = ap (λ l. all isName (n ∷ l)) (sym (append-nil ns)) ∙ has-text s .1 (P .spelled) in
       let few : length ns ≤ most-items = ltb-false most-items (length ns) (or-left (ltb most-items (length ns)) _ (L .items-few)) in
       let inside : (leZ (pos 1) z && leZ z (pos most-rows)) ≡ true = not-false (leZ (pos 1) z && leZ z (pos most-rows)) (or-left (not (leZ (pos 1) z && leZ z (pos most-rows))) _ (L .rows-inside)) in
       let rows : (1 ≤ natAbs z) × (natAbs z ≤ most-rows) = rows-between z (and-left (leZ (pos 1) z) _ inside) (and-right (leZ (pos 1) z) _ inside) in

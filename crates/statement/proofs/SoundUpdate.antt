@@ -25,6 +25,7 @@ use Rattle.meaning.specs.Statement as M
 use Rattle.meaning.specs.Statement.{Statement, creates, asks, changes, insert, delete, update, value, numberedAll, settings, settingMarks, resolvedWhere, statementOf}
 use Rattle.meaning.proofs.Names.{has-position}
 use Rattle.meaning.proofs.Resolved.{items-some, numbered-length}
+use Rattle.meaning.proofs.Spelling.{has-text}
 use Rattle.statement.specs.Sound.{conditionNodes, usedSettings, settingRead, settingsRead, settingColumns, settingValues, settingOperands, soundCondition, conditionMarks, columnsAt, soundForm, soundUpdate, Passes, AgreesCondition, AgreesUpdate, FromUpdate, TableFits, TablesFit, UpdateFits}
 use Rattle.statement.specs.Compiled.{placedFrom}
 use Rattle.statement.specs.declared.Condition.{Condition}
@@ -156,7 +157,7 @@ module _ (ts : List Schema) (T : TablesFit ts) (u : Update) (F : UpdateFits u) (
     insert-passes : Passes ts insert-sentence
     unfolding unknown taken miscounted
     insert-passes = record {
-      named = there-named ts T (u .table) (P .there) [] refl;
+      spelled = has-text insert-sentence .0 (there-named ts T (u .table) (P .there) [] refl);
       within = limits-kept insert-sentence insert-limits;
       known = there-known ts T (u .table) (P .there) [] refl;
       fresh = refl;
@@ -265,7 +266,7 @@ module _ (ts : List Schema) (T : TablesFit ts) (u : Update) (F : UpdateFits u) (
     update-passes : Passes ts update-sentence
     unfolding unknown taken miscounted
     update-passes = record {
-      named = there-named ts T (u .table) (P .there) (columnsNamed update-sentence) update-known;
+      spelled = has-text update-sentence .0 (there-named ts T (u .table) (P .there) (columnsNamed update-sentence) update-known);
       within = limits-kept update-sentence update-limits;
       known = there-known ts T (u .table) (P .there) (columnsNamed update-sentence) update-known;
       fresh = ap (repeats sameName) set-names ∙ names-different (table .columns) (fits .different) (settingColumns u) update-below update-once;
@@ -337,7 +338,7 @@ module _ (ts : List Schema) (T : TablesFit ts) (u : Update) (F : UpdateFits u) (
     delete-passes : Passes ts delete-sentence
     unfolding unknown taken miscounted
     delete-passes = record {
-      named = there-named ts T (u .table) (P .there) (columnsNamed delete-sentence) (source .known);
+      spelled = has-text delete-sentence .0 (there-named ts T (u .table) (P .there) (columnsNamed delete-sentence) (source .known));
       within = limits-kept delete-sentence delete-limits;
       known = there-known ts T (u .table) (P .there) (columnsNamed delete-sentence) (source .known);
       fresh = refl;

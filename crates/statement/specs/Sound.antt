@@ -1,6 +1,6 @@
 -- What a stored table or statement may be: document 01, "The store and its calls" ("its tables and statements are such as refusals 4 to 8 let pass beside the
--- rest"). How its used entries are read, the tests of it, and what it is to be the compiled form of a sentence: proofs/SoundQuery, SoundUpdate and SoundTable
--- show that the tests hold of those forms alone. Entries past the counts do not matter. Assumes nothing: these are definitions.
+-- rest"). How its used entries are read, and what it is to be the compiled form of a sentence that passes (`FromTable`, `FromQuery`, `FromUpdate`): this is the
+-- definition. The tests after it are for the code. Entries past the counts do not matter. Assumes nothing: these are definitions.
 use mathlib.Core.Path.{_≡_}
 use mathlib.Core.Bool.{Bool, true, false, not, _&&_, cond}
 use mathlib.Core.List.{List, [], _∷_, _++_, map}
@@ -15,9 +15,9 @@ use Rattle.meaning.specs.Condition as C
 use Rattle.meaning.specs.Condition.{Where, sides, comparisonsIn}
 use Rattle.meaning.specs.Postfix.{Node, leaf, allOf, anyOf, nodesIn, leaves, isPostfix}
 use Rattle.meaning.specs.Resolve.{parameterCount, numberedOn, numberedFrom, columnsBelow}
-use Rattle.meaning.specs.Tokens.{isName}
-use Rattle.meaning.specs.Grammar.{Sentence}
-use Rattle.meaning.specs.Limits.{most-items, most-rows, most-marks, most-comparisons, most-name, tableNamed, columnsNamed, isWithin32, pastLimit}
+use Rattle.meaning.specs.Tokens.{isName, tokens}
+use Rattle.meaning.specs.Grammar.{Sentence, spell}
+use Rattle.meaning.specs.Limits.{most-items, most-rows, most-marks, most-comparisons, most-name, isWithin32, pastLimit}
 use Rattle.meaning.specs.Names.{Schema, noSchema, sameName, has, tableNames, unknown, taken, miscounted}
 use Rattle.meaning.specs.Statement as M
 use Rattle.meaning.specs.Statement.{column, value, constant, parameter, creates, asks, changes, statementOf}
@@ -98,7 +98,70 @@ settingValues u = map (λ (s : ℕ × M.Value). s .1) (settingsRead u)
 abbrev pub settingOperands : Update → List M.Operand
 settingOperands u = map value (settingValues u)
 
--- ---- tests
+-- ---- the compiled form of a sentence
+
+-- a sentence that refusals 4 to 8 let pass beside the tables: some text spells it (4), it is within the limits (5), its names are known (6) and not taken or twice (7),
+-- and it has a value for each column (8)
+pub record Passes (ts : List Schema) (s : Sentence) : Type 0 where
+  pub spelled : (text : List ℕ) × (tokens text ≡ spell s)
+  pub within : pastLimit s ≡ false
+  pub known : unknown ts s ≡ false
+  pub fresh : taken ts s ≡ false
+  pub counted : miscounted ts s ≡ false
+
+-- the stored condition is that WHERE in every used entry
+pub record AgreesCondition (c : Condition) (w : Where M.Operand) : Type 0 where
+  pub count-is : c .count ≡ length (comparisonsIn w)
+  pub steps-are : usedSteps c ≡ map stepOf (nodesIn w)
+  pub operators-are : map (λ (k : Comparison). k .op) (usedComparisons c) ≡ map (λ (k : C.Comparison M.Operand). operatorNumber (k .op)) (leaves (nodesIn w))
+  pub nodes-are : conditionNodes c ≡ nodesIn w
+
+pub record AgreesQuery (q : Query) (r : M.Query) : Type 0 where
+  pub table-is : q .table ≡ r .table
+  pub count-is : q .count ≡ length (r .selected)
+  pub selected-are : take (q .count) (q .selected) ≡ r .selected
+  pub parameters-are : q .parameters ≡ r .parameters
+  pub condition-is : AgreesCondition (q .condition) (r .condition)
+
+pub record AgreesUpdate (u : Update) (r : M.Update) : Type 0 where
+  pub form-is : u .form ≡ formOfChange (r .change)
+  pub table-is : u .table ≡ r .table
+  pub count-is : u .count ≡ length (settingsOfChange (r .change))
+  pub settings-are : settingsRead u ≡ settingsOfChange (r .change)
+  pub parameters-are : u .parameters ≡ r .parameters
+  pub condition-is : AgreesCondition (u .condition) (whereOfChange (r .change))
+
+pub record AgreesTable (t : Table) (r : Schema) : Type 0 where
+  pub name-length : t .name .len ≡ length (r .name)
+  pub name-is : nameOfStruct (t .name) ≡ r .name
+  pub count-is : t .count ≡ length (r .columns)
+  pub column-lengths : map (λ (n : Name). n .len) (usedColumns t) ≡ map length (r .columns)
+  pub columns-are : map nameOfStruct (usedColumns t) ≡ r .columns
+  pub capacity-is : t .capacity ≡ r .capacity
+
+-- a sentence that passes, and its statement, of which the struct is the compiled form
+pub record FromQuery (ts : List Schema) (q : Query) : Type 0 where
+  pub sentence : Sentence
+  pub passes : Passes ts sentence
+  pub statement : M.Query
+  pub says : statementOf ts sentence ≡ asks statement
+  pub agrees : AgreesQuery q statement
+
+pub record FromUpdate (ts : List Schema) (u : Update) : Type 0 where
+  pub sentence : Sentence
+  pub passes : Passes ts sentence
+  pub statement : M.Update
+  pub says : statementOf ts sentence ≡ changes statement
+  pub agrees : AgreesUpdate u statement
+
+pub record FromTable (others : List Schema) (t : Table) : Type 0 where
+  pub sentence : Sentence
+  pub passes : Passes others sentence
+  pub schema : Schema
+  pub says : statementOf others sentence ≡ creates schema
+  pub agrees : AgreesTable t schema
+
+-- ---- the tests of it, which the code computes: each holds exactly of the compiled forms (proofs/SoundTable, SoundQuery, SoundUpdate)
 
 -- 1 to 12 bytes that are a name
 abbrev pub soundName : Name → Bool
@@ -169,68 +232,6 @@ soundQuery ts q = ltb (q .table) (length ts) && soundQueryOn (columnsAt ts (q .t
 
 unfoldable pub soundUpdate : List Schema → Update → Bool
 soundUpdate ts u = ltb (u .table) (length ts) && soundUpdateOn (columnsAt ts (u .table)) u
-
--- ---- the compiled form of a sentence
-
--- a sentence that refusals 4 to 8 let pass beside the tables; of 4, that its names are names
-pub record Passes (ts : List Schema) (s : Sentence) : Type 0 where
-  pub named : all isName (tableNamed s ∷ columnsNamed s) ≡ true
-  pub within : pastLimit s ≡ false
-  pub known : unknown ts s ≡ false
-  pub fresh : taken ts s ≡ false
-  pub counted : miscounted ts s ≡ false
-
--- the stored condition is that WHERE in every used entry
-pub record AgreesCondition (c : Condition) (w : Where M.Operand) : Type 0 where
-  pub count-is : c .count ≡ length (comparisonsIn w)
-  pub steps-are : usedSteps c ≡ map stepOf (nodesIn w)
-  pub operators-are : map (λ (k : Comparison). k .op) (usedComparisons c) ≡ map (λ (k : C.Comparison M.Operand). operatorNumber (k .op)) (leaves (nodesIn w))
-  pub nodes-are : conditionNodes c ≡ nodesIn w
-
-pub record AgreesQuery (q : Query) (r : M.Query) : Type 0 where
-  pub table-is : q .table ≡ r .table
-  pub count-is : q .count ≡ length (r .selected)
-  pub selected-are : take (q .count) (q .selected) ≡ r .selected
-  pub parameters-are : q .parameters ≡ r .parameters
-  pub condition-is : AgreesCondition (q .condition) (r .condition)
-
-pub record AgreesUpdate (u : Update) (r : M.Update) : Type 0 where
-  pub form-is : u .form ≡ formOfChange (r .change)
-  pub table-is : u .table ≡ r .table
-  pub count-is : u .count ≡ length (settingsOfChange (r .change))
-  pub settings-are : settingsRead u ≡ settingsOfChange (r .change)
-  pub parameters-are : u .parameters ≡ r .parameters
-  pub condition-is : AgreesCondition (u .condition) (whereOfChange (r .change))
-
-pub record AgreesTable (t : Table) (r : Schema) : Type 0 where
-  pub name-length : t .name .len ≡ length (r .name)
-  pub name-is : nameOfStruct (t .name) ≡ r .name
-  pub count-is : t .count ≡ length (r .columns)
-  pub column-lengths : map (λ (n : Name). n .len) (usedColumns t) ≡ map length (r .columns)
-  pub columns-are : map nameOfStruct (usedColumns t) ≡ r .columns
-  pub capacity-is : t .capacity ≡ r .capacity
-
--- a sentence that passes, and its statement, of which the struct is the compiled form
-pub record FromQuery (ts : List Schema) (q : Query) : Type 0 where
-  pub sentence : Sentence
-  pub passes : Passes ts sentence
-  pub statement : M.Query
-  pub says : statementOf ts sentence ≡ asks statement
-  pub agrees : AgreesQuery q statement
-
-pub record FromUpdate (ts : List Schema) (u : Update) : Type 0 where
-  pub sentence : Sentence
-  pub passes : Passes ts sentence
-  pub statement : M.Update
-  pub says : statementOf ts sentence ≡ changes statement
-  pub agrees : AgreesUpdate u statement
-
-pub record FromTable (others : List Schema) (t : Table) : Type 0 where
-  pub sentence : Sentence
-  pub passes : Passes others sentence
-  pub schema : Schema
-  pub says : statementOf others sentence ≡ creates schema
-  pub agrees : AgreesTable t schema
 
 -- ---- what is given besides
 

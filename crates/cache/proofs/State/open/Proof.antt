@@ -3,8 +3,7 @@ use borrow.Author.Needs.{needs}
 use native.Mathlib.Omega.{arith}
 use borrow.Author.Tests.{not-true, not-false}
 use lib.ListN.{length}
-use Rattle.cache.specs.Sound.{opening}
-use Rattle.cache.proofs.Sounds.{SizesFit}
+use Rattle.cache.specs.Sound.{opening, OpeningWithin}
 use Rattle.cache.proofs.Opening.{open-fits, open-refused, open-done}
 use Rattle.cache.proofs.State.open.Statement.{statement}
 use Rattle.cache.proofs.State.open.Tie as tie
@@ -13,7 +12,7 @@ sizes-fit-requires : tie.Need-sizes-fit-requires
 sizes-fit-requires c κs = search needs
 
 -- the sizes of an opening that is not refused
-sizes : (c : tie.Else1) → let a = c .before .before .before .args in SizesFit (opening (length (a .cells .now)) (length (a .memory .now)) (a .slots) (a .slot-bytes))
+sizes : (c : tie.Else1) → let a = c .before .before .before .args in OpeningWithin (opening (length (a .cells .now)) (length (a .memory .now)) (a .slots) (a .slot-bytes))
 sizes c = let a = c .before .before .before .args in open-fits (a .cells .now) (a .memory .now) (a .slots) (a .slot-bytes) _ (c .before .sizes-fit .ensures) (not-false _ (c .if1 .left))
 
 cast-empty : tie.Need-cast-empty
