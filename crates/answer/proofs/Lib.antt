@@ -3,3 +3,4 @@ pub mod Signed
 pub mod Records
 pub mod Buffers
 pub mod Laws
+pub mod Demand
