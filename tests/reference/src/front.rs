@@ -16,6 +16,8 @@ pub struct Front {
     pub lent: (usize, usize),
     /// Calls: the buffer of the last ASK, while a ROW may follow it.
     pub buffer: Option<Vec<u8>>,
+    /// Calls: the buffer of the last ASK that was answered; at first without bytes.
+    last: Vec<u8>,
     /// Calls: a line came that this language does not fix (the comparison leaves such a script out).
     pub unfixed: bool,
 }
@@ -37,7 +39,7 @@ fn joined(values: &[i32]) -> String {
 fn rows_of(record: &[u8]) -> String {
     let (columns, rows) = record_shape(record).expect("an answer is a record");
     let shown: Vec<String> = (0..rows as u64).map(|i| joined(&values_of(show_row(record, i).unwrap()))).collect();
-    assert_eq!(record.len(), 8 + 4 * columns * rows);
+    assert!(record.len() >= 8 + 4 * columns * rows);
     if shown.is_empty() {
         String::from(":")
     } else {
@@ -70,11 +72,11 @@ impl Front {
             Mode::Desk => {
                 let (store, result) = Store::open(4_096, 256, 4, 64);
                 assert_eq!(result, Ok(()));
-                Front { mode, store, lent: (4_096, 256), buffer: None, unfixed: false }
+                Front { mode, store, lent: (4_096, 256), buffer: None, last: vec![], unfixed: false }
             }
             Mode::Calls => {
                 let (store, _) = Store::open(0, 0, 0, 0);
-                Front { mode, store, lent: (0, 0), buffer: None, unfixed: false }
+                Front { mode, store, lent: (0, 0), buffer: None, last: vec![], unfixed: false }
             }
         }
     }
@@ -149,8 +151,9 @@ impl Front {
     fn calls_line(&mut self, line: &[u8]) -> Option<Option<String>> {
         let words: Vec<&[u8]> = line.split(|&b| b == b' ').collect();
         if words[0] == b"ROW" && words.len() == 2 {
-            let bytes = self.buffer.as_ref()?;
-            return Some(Some(match show_row(bytes, digits(words[1], 2_147_483_647)?) {
+            // Behind anything but an answered ASK the language does not fix it; `examples` shows the last answer's row.
+            self.unfixed |= self.buffer.is_none();
+            return Some(Some(match show_row(&self.last, digits(words[1], 2_147_483_647)?) {
                 Ok(row) => format!("row : {}", joined(&values_of(row))),
                 Err(number) => refused(number),
             }));
@@ -183,6 +186,7 @@ impl Front {
                         let how = if answer.kept { "kept" } else { "new" };
                         let mut buffer = vec![0; length];
                         buffer[..answer.record.len()].copy_from_slice(&answer.record);
+                        self.last = buffer.clone();
                         self.buffer = Some(buffer);
                         let rows = rows_of(&answer.record);
                         format!("{how} read {} bytes {} {rows}", answer.rows_read, answer.record.len())
@@ -196,6 +200,18 @@ impl Front {
                 Some(Some(self.update(n, &values)))
             }
             b"FLUSH" if words.len() == 1 => Some(Some(self.flush())),
+            b"SPOIL" | b"SET" if words.len() >= 3 => {
+                self.unfixed = true;
+                let part = std::str::from_utf8(words[1]).ok()?;
+                let numbers = values(&words[2..])?;
+                if words[0] == b"SET" {
+                    return self.store.set(part, &numbers).map(|()| None);
+                }
+                let mut state = self.store.state();
+                state.spoil(part, &numbers)?;
+                let taken = state.is_sound() && self.lent == (state.cells, state.bytes);
+                Some(Some(if taken { String::from("flushed") } else { refused(2) }))
+            }
             b"SLOTS" if words.len() == 1 => {
                 let order: String = self.store.order.iter().map(|slot| format!(" {slot}")).collect();
                 Some(Some(format!("order{order} held {}", self.store.held)))

@@ -9,6 +9,8 @@ mod generate;
 mod meaning;
 mod pattern;
 mod plain;
+mod shown;
+mod sound;
 mod store;
 mod text;
 
@@ -21,6 +23,8 @@ const USAGE: &str = "usage: reference desk | calls                     (standard
        reference tally MODE LINES SEED ..         (how often each outcome occurs in the scripts of these seeds)
        reference compare MODE PROGRAM FIRST COUNT [LINES]
        reference bench FILE                       (the calls of a script of bench/, timed, without assertions)
+       reference texts CELLS                      (statement texts, and what each compiles to)
+       reference patterns                         (pairs of a question and an update, and their patterns)
 MODE is desk or calls";
 
 fn mode(word: &str) -> Option<Mode> {
@@ -45,16 +49,20 @@ fn main() {
 }
 
 /// Each line is answered before the next one is read.
-fn answer_lines(mode: Mode) -> std::io::Result<()> {
+fn answer_lines(mut answer: impl FnMut(&[u8]) -> Option<String>) {
+    let answered = answer_each(&mut answer);
+    answered.expect("standard input is read and standard output written");
+}
+
+fn answer_each(answer: &mut dyn FnMut(&[u8]) -> Option<String>) -> std::io::Result<()> {
     let mut input = std::io::stdin().lock();
     let mut out = std::io::stdout().lock();
-    let mut front = front::Front::new(mode);
     let mut line = Vec::new();
     while input.read_until(b'\n', &mut line)? > 0 {
         if line.last() == Some(&b'\n') {
             line.pop();
         }
-        if let Some(text) = front.line(&line) {
+        if let Some(text) = answer(&line) {
             out.write_all(format!("{text}\n").as_bytes())?;
             out.flush()?;
         }
@@ -67,8 +75,19 @@ fn act(words: &[&str]) -> Option<bool> {
     let length = |at: usize| words.get(at).map_or(Some(300), |w| w.parse().ok());
     match words {
         ["check"] => Some(check::check()),
+        ["texts", cells] => {
+            let mut texts = shown::Texts::new(cells.parse().ok()?);
+            answer_lines(|line| texts.line(line));
+            Some(true)
+        }
+        ["patterns"] => {
+            let mut pairs = shown::Pairs::default();
+            answer_lines(|line| pairs.line(line));
+            Some(true)
+        }
         [word] => {
-            answer_lines(mode(word)?).expect("standard input is read and standard output written");
+            let mut front = front::Front::new(mode(word)?);
+            answer_lines(|line| front.line(line));
             Some(true)
         }
         ["script", word, seed, ..] => {

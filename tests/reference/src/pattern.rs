@@ -16,7 +16,7 @@ pub type Pattern = Vec<Place>;
 
 /// An operand of a clause: marks of the question and of the update are told apart.
 #[derive(Clone, Copy, PartialEq, Debug)]
-enum Term {
+pub enum Term {
     Column(usize),
     Constant(i32),
     OfQuestion(usize),
@@ -36,7 +36,7 @@ fn opposite(relation: Relation) -> Relation {
     }
 }
 
-fn question_term(operand: Operand) -> Term {
+pub fn question_term(operand: Operand) -> Term {
     match operand {
         Operand::Column(c) => Term::Column(c),
         Operand::Constant(n) => Term::Constant(n),
@@ -53,7 +53,7 @@ fn update_term(operand: Operand) -> Term {
 }
 
 /// Rule 4: NOT pushed to the comparisons (so that no NOT is left), operands turned to terms.
-fn pushed(condition: &Condition<Operand>, negated: bool, term: &dyn Fn(Operand) -> Term) -> Condition<Term> {
+pub fn pushed(condition: &Condition<Operand>, negated: bool, term: &dyn Fn(Operand) -> Term) -> Condition<Term> {
     match condition {
         Condition::Compare(left, relation, right) => {
             let relation = if negated { opposite(*relation) } else { *relation };

@@ -5,22 +5,24 @@
 use crate::meaning::{holds, number, record};
 use crate::pattern::{agrees, patterns};
 use crate::plain::Plain;
+use crate::sound::{sizes_pass, State, TablePart};
 use crate::text::{Catalogue, Change, Statement};
 
 /// The question's number with its values.
 #[derive(Clone, PartialEq, Debug)]
 pub struct Key {
-    question: usize,
-    values: Vec<i32>,
+    pub question: usize,
+    pub values: Vec<i32>,
 }
 
 #[derive(Clone, Debug)]
-struct Kept {
-    key: Key,
-    length: usize,
+pub struct Kept {
+    pub key: Key,
+    pub length: usize,
 }
 
 /// What happened since the opening, for the four grounds.
+#[derive(Clone)]
 enum Event {
     Answered(Key),
     Updated(usize, Vec<i32>),
@@ -42,6 +44,7 @@ pub enum Ground {
     OtherKeys,
 }
 
+#[derive(Clone)]
 pub struct Store {
     slots: usize,
     pub slot_bytes: usize,
@@ -57,6 +60,8 @@ pub struct Store {
     kept: Vec<Option<Kept>>,
     plain: Plain,
     history: Vec<Event>,
+    /// A part of the state was set (`set`): it is none that an opening gave, and nothing is asserted of it.
+    was_set: bool,
     /// Why the last ask was worked out anew, how long its record was, and whether it took a held slot: counted for the
     /// report of what was tried.
     pub last_ground: Option<Ground>,
@@ -78,6 +83,7 @@ impl Store {
             kept: vec![None; slots],
             plain: Plain::open(cells, bytes),
             history: vec![],
+            was_set: false,
             last_ground: None,
             last_length: 0,
             last_evicted: false,
@@ -86,12 +92,7 @@ impl Store {
 
     /// A store and whether the opening was taken (else refusal 1).
     pub fn open(cells: u64, bytes: u64, slots: u64, slot_bytes: u64) -> (Store, Result<(), u8>) {
-        let within = cells <= 32_768
-            && bytes <= 262_144
-            && slots <= 64
-            && (8..=4_096).contains(&slot_bytes)
-            && slots * slot_bytes <= bytes;
-        if within {
+        if sizes_pass(cells, bytes, slots, slot_bytes) {
             (Store::made(cells as usize, bytes as usize, slots as usize, slot_bytes as usize), Ok(()))
         } else {
             (Store::made(0, 0, 0, 8), Err(1))
@@ -131,6 +132,9 @@ impl Store {
 
     pub fn add(&mut self, lent: (usize, usize), text: &[u8]) -> Result<(&'static str, usize), u8> {
         let result = self.add_here(lent, text);
+        if self.was_set {
+            return result;
+        }
         assert_eq!(result, self.plain.add(lent, text), "adding agrees with the plain store");
         self.check();
         result
@@ -148,6 +152,9 @@ impl Store {
     pub fn ask(&mut self, lent: (usize, usize), n: u64, values: &[i32], buffer: usize) -> Result<Answer, u8> {
         self.last_ground = None;
         self.last_evicted = false;
+        if self.was_set {
+            return self.ask_here(lent, n, values, buffer);
+        }
         let plain = self.plain.ask(lent, n, values, buffer);
         let result = self.ask_here(lent, n, values, buffer);
         match (&result, &plain) {
@@ -223,6 +230,9 @@ impl Store {
     /// The rows inserted, matched or deleted, and the kept answers dropped.
     pub fn update(&mut self, lent: (usize, usize), n: u64, values: &[i32]) -> Result<(usize, usize), u8> {
         let result = self.update_here(lent, n, values);
+        if self.was_set {
+            return result;
+        }
         let plain = self.plain.update(lent, n, values);
         assert_eq!(result.map(|(rows, _)| rows), plain, "an update agrees with the plain store");
         if result.is_ok() {
@@ -309,6 +319,9 @@ impl Store {
 
     pub fn flush(&mut self, lent: (usize, usize)) -> Result<(), u8> {
         let result = self.flush_here(lent);
+        if self.was_set {
+            return result;
+        }
         assert_eq!(result, self.plain.flush(lent), "a flush agrees with the plain store");
         if result.is_ok() {
             self.history.push(Event::Flushed);
@@ -322,6 +335,55 @@ impl Store {
         let all: Vec<usize> = (0..self.slots).collect();
         self.drop_slots(&all);
         Ok(())
+    }
+
+    // ------------------------------------------------------------ states by value
+
+    /// The state that was there before some calls, with the memories as they are now. For `bench.rs`.
+    pub fn take_back(&mut self, before: Store) {
+        let now = std::mem::replace(self, before);
+        self.cells = now.cells;
+        self.memory = now.memory;
+    }
+
+    /// The state, part by part.
+    pub fn state(&self) -> State {
+        let table = |number: usize| {
+            let table = &self.catalogue.tables[number];
+            Some(TablePart {
+                name: table.name.clone().into_bytes(),
+                columns: table.columns.iter().map(|c| c.clone().into_bytes()).collect(),
+                capacity: table.rows,
+                rows: self.counts[number],
+            })
+        };
+        State {
+            cells: self.cells.len(),
+            bytes: self.memory.len(),
+            slots: self.slots,
+            slot_bytes: self.slot_bytes,
+            tables: (0..self.catalogue.tables.len()).map(table).collect(),
+            questions: self.catalogue.questions.iter().cloned().map(Some).collect(),
+            updates: self.catalogue.updates.iter().cloned().map(Some).collect(),
+            kept: self.kept.clone(),
+            order: self.order.clone(),
+            held: self.held,
+        }
+    }
+
+    /// Sets a part of the state to what leaves it sound; `None`: no such part here, or not sound.
+    pub fn set(&mut self, part: &str, numbers: &[i32]) -> Option<()> {
+        let mut state = self.state();
+        state.spoil(part, numbers)?;
+        if !state.is_sound() || !["length", "keyvalue", "capacity"].contains(&part) {
+            return None;
+        }
+        for (table, part) in self.catalogue.tables.iter_mut().zip(state.tables.iter().flatten()) {
+            table.rows = part.capacity;
+        }
+        self.kept = state.kept;
+        self.was_set = true;
+        Some(())
     }
 
     // ------------------------------------------------------------ what is asserted
@@ -358,6 +420,7 @@ impl Store {
 
     /// The state is sound, the cells hold the plain store's rows, and every kept answer is the plain store's.
     fn check(&self) {
+        assert!(self.state().is_sound(), "the state is sound");
         let mut sorted = self.order.clone();
         sorted.sort_unstable();
         assert_eq!(sorted, (0..self.slots).collect::<Vec<_>>(), "the slot list names each slot once");

@@ -1,0 +1,224 @@
+//! Which states are sound, by document 01's sentence, for the lines SPOIL of the program `examples`. A line changes one
+//! part of a copy of the state. Parts are document 01's: what the program alone knows (its numbers for comparisons,
+//! connectives and forms of updates) is not here.
+
+use crate::store::Kept;
+use crate::text::{Change, Condition, Operand, Question, Update};
+use crate::text::{COMPARISONS, LIST, MARKS, NAME, QUESTIONS, ROWS, TABLES, UPDATES};
+
+#[derive(Clone)]
+pub struct TablePart {
+    pub name: Vec<u8>,
+    pub columns: Vec<Vec<u8>>,
+    /// ROWS, and the rows held.
+    pub capacity: usize,
+    pub rows: usize,
+}
+
+/// A count that was raised names places that hold nothing: `None`.
+#[derive(Clone)]
+pub struct State {
+    pub cells: usize,
+    pub bytes: usize,
+    pub slots: usize,
+    pub slot_bytes: usize,
+    pub tables: Vec<Option<TablePart>>,
+    pub questions: Vec<Option<Question>>,
+    pub updates: Vec<Option<Update>>,
+    /// By slot; those of the slot list's first `held` are held.
+    pub kept: Vec<Option<Kept>>,
+    pub order: Vec<usize>,
+    pub held: usize,
+}
+
+pub fn sizes_pass(cells: u64, bytes: u64, slots: u64, slot_bytes: u64) -> bool {
+    cells <= 32_768
+        && bytes <= 262_144
+        && slots <= 64
+        && (8..=4_096).contains(&slot_bytes)
+        && slots * slot_bytes <= bytes
+}
+
+fn is_name(name: &[u8]) -> bool {
+    (1..=NAME).contains(&name.len())
+        && name[0].is_ascii_lowercase()
+        && name.iter().all(|b| b.is_ascii_lowercase() || b.is_ascii_digit() || *b == b'_')
+}
+
+fn differ<T: PartialEq>(items: &[T]) -> bool {
+    (0..items.len()).all(|i| !items[..i].contains(&items[i]))
+}
+
+/// The operands of a condition, left to right.
+fn operands(condition: &Condition<Operand>) -> Vec<Operand> {
+    match condition {
+        Condition::Compare(left, _, right) => vec![*left, *right],
+        Condition::Not(inner) => operands(inner),
+        Condition::And(left, right) | Condition::Or(left, right) => [operands(left), operands(right)].concat(),
+    }
+}
+
+/// Columns are the table's, and marks are 1, 2 and on, as many as the statement says.
+fn operands_pass(all: &[Operand], columns: usize, marks: usize) -> bool {
+    let found: Vec<usize> = all.iter().filter_map(|o| if let Operand::Mark(m) = o { Some(*m) } else { None }).collect();
+    marks <= MARKS
+        && found == (1..=marks).collect::<Vec<_>>()
+        && all.iter().all(|o| if let Operand::Column(c) = o { *c < columns } else { true })
+}
+
+fn tested(condition: &Option<Condition<Operand>>) -> Vec<Operand> {
+    condition.as_ref().map_or(vec![], operands)
+}
+
+impl State {
+    fn width(&self, table: usize) -> Option<usize> {
+        self.tables.get(table)?.as_ref().map(|t| t.columns.len())
+    }
+
+    fn tables_pass(&self) -> bool {
+        let Some(tables) = self.tables.iter().map(Option::as_ref).collect::<Option<Vec<&TablePart>>>() else {
+            return false;
+        };
+        let table_passes = |t: &&TablePart| {
+            is_name(&t.name)
+                && (1..=LIST).contains(&t.columns.len())
+                && t.columns.iter().all(|c| is_name(c))
+                && differ(&t.columns)
+                && (1..=ROWS as usize).contains(&t.capacity)
+                && t.rows <= t.capacity
+        };
+        tables.len() <= TABLES
+            && tables.iter().all(table_passes)
+            && differ(&tables.iter().map(|t| &t.name).collect::<Vec<_>>())
+            && tables.iter().map(|t| t.columns.len() * t.capacity).sum::<usize>() <= self.cells
+    }
+
+    fn question_passes(&self, question: &Question) -> bool {
+        let all = tested(&question.condition);
+        self.width(question.table).is_some_and(|width| {
+            (1..=LIST).contains(&question.columns.len())
+                && question.columns.iter().all(|&c| c < width)
+                && all.len() <= 2 * COMPARISONS
+                && operands_pass(&all, width, question.marks)
+        })
+    }
+
+    fn update_passes(&self, update: &Update) -> bool {
+        let Some(width) = self.width(update.table) else {
+            return false;
+        };
+        let (changes, values) = match &update.change {
+            Change::Insert(values) => (values.len() == width, values.clone()),
+            Change::Set(sets) => {
+                let columns: Vec<usize> = sets.iter().map(|(column, _)| *column).collect();
+                let pass = (1..=LIST).contains(&sets.len()) && columns.iter().all(|&c| c < width) && differ(&columns);
+                (pass, sets.iter().map(|(_, value)| *value).collect())
+            }
+            Change::Delete => (true, vec![]),
+        };
+        let all = tested(&update.condition);
+        changes && all.len() <= 2 * COMPARISONS && operands_pass(&[values, all].concat(), width, update.marks)
+    }
+
+    fn slots_pass(&self) -> bool {
+        let mut sorted = self.order.clone();
+        sorted.sort_unstable();
+        if sorted != (0..self.slots).collect::<Vec<_>>() || self.held > self.slots {
+            return false;
+        }
+        let held: Option<Vec<&Kept>> = self.order[..self.held].iter().map(|&slot| self.kept[slot].as_ref()).collect();
+        held.is_some_and(|held| {
+            let answer_passes = |kept: &&Kept| {
+                let question = self.questions.get(kept.key.question).and_then(Option::as_ref);
+                (8..=self.slot_bytes).contains(&kept.length)
+                    && question.is_some_and(|question| question.marks == kept.key.values.len())
+            };
+            held.iter().all(answer_passes) && differ(&held.iter().map(|kept| &kept.key).collect::<Vec<_>>())
+        })
+    }
+
+    pub fn is_sound(&self) -> bool {
+        sizes_pass(self.cells as u64, self.bytes as u64, self.slots as u64, self.slot_bytes as u64)
+            && self.tables_pass()
+            && self.questions.len() <= QUESTIONS
+            && self.questions.iter().all(|q| q.as_ref().is_some_and(|q| self.question_passes(q)))
+            && self.updates.len() <= UPDATES
+            && self.updates.iter().all(|u| u.as_ref().is_some_and(|u| self.update_passes(u)))
+            && self.slots_pass()
+    }
+
+    /// Changes one part. What stands past a count, or in a free slot, is no part of the state: nothing changes. `None`:
+    /// no such part.
+    pub fn spoil(&mut self, part: &str, numbers: &[i32]) -> Option<()> {
+        let (&value, places) = numbers.split_last()?;
+        let places: Vec<usize> = places.iter().map(|&place| usize::try_from(place).ok()).collect::<Option<_>>()?;
+        if part == "keyvalue" {
+            let [slot, at] = places[..] else { return None };
+            put(some(&mut self.kept, slot).map(|kept| &mut kept.key.values), at, value);
+            return Some(());
+        }
+        let size = usize::try_from(value).ok()?;
+        let byte = u8::try_from(value).unwrap_or(0); // 0 is in no name
+        match (part, &places[..]) {
+            ("slots", []) => {
+                self.slots = size;
+                self.order.truncate(size);
+                self.kept.resize(size, None);
+            }
+            ("bytes", []) => self.slot_bytes = size,
+            ("cells", []) => self.cells = size,
+            ("memory", []) => self.bytes = size,
+            ("tables", []) => self.tables.resize(size, None),
+            ("queries", []) => self.questions.resize(size, None),
+            ("updates", []) => self.updates.resize(size, None),
+            ("held", []) => self.held = size,
+            ("order", &[at]) => put(Some(&mut self.order), at, size),
+            ("capacity", &[t]) => with(&mut self.tables, t, |table| table.capacity = size),
+            ("rows", &[t]) => with(&mut self.tables, t, |table| table.rows = size),
+            ("columns", &[t]) => with(&mut self.tables, t, |table| table.columns.resize(size, vec![])),
+            ("namelen", &[t]) => with(&mut self.tables, t, |table| table.name.resize(size, 0)),
+            ("name", &[t, at]) => with(&mut self.tables, t, |table| put(Some(&mut table.name), at, byte)),
+            ("column", &[t, c, at]) => with(&mut self.tables, t, |table| put(table.columns.get_mut(c), at, byte)),
+            ("qtable", &[q]) => with(&mut self.questions, q, |question| question.table = size),
+            ("qcount", &[q]) => with(&mut self.questions, q, |question| question.columns.resize(size, 0)),
+            ("qselected", &[q, at]) => with(&mut self.questions, q, |question| put(Some(&mut question.columns), at, size)),
+            ("qparameters", &[q]) => with(&mut self.questions, q, |question| question.marks = size),
+            ("utable", &[u]) => with(&mut self.updates, u, |update| update.table = size),
+            ("ucount", &[u]) => with(&mut self.updates, u, |update| match &mut update.change {
+                Change::Insert(values) => values.resize(size, Operand::Constant(0)),
+                Change::Set(sets) => sets.resize(size, (0, Operand::Constant(0))),
+                Change::Delete => {}
+            }),
+            ("ucolumn", &[u, at]) => with(&mut self.updates, u, |update| {
+                if let Change::Set(sets) = &mut update.change {
+                    if let Some((column, _)) = sets.get_mut(at) {
+                        *column = size;
+                    }
+                }
+            }),
+            ("uparameters", &[u]) => with(&mut self.updates, u, |update| update.marks = size),
+            ("length", &[slot]) => with(&mut self.kept, slot, |kept| kept.length = size),
+            ("key", &[slot]) => with(&mut self.kept, slot, |kept| kept.key.question = size),
+            ("keycount", &[slot]) => with(&mut self.kept, slot, |kept| kept.key.values.resize(size, 0)),
+            _ => return None,
+        }
+        Some(())
+    }
+}
+
+/// The place's thing, if it holds one.
+fn some<T>(places: &mut [Option<T>], at: usize) -> Option<&mut T> {
+    places.get_mut(at).and_then(Option::as_mut)
+}
+
+fn with<T>(places: &mut [Option<T>], at: usize, change: impl FnOnce(&mut T)) {
+    if let Some(thing) = some(places, at) {
+        change(thing);
+    }
+}
+
+fn put<T>(list: Option<&mut Vec<T>>, at: usize, value: T) {
+    if let Some(place) = list.and_then(|list| list.get_mut(at)) {
+        *place = value;
+    }
+}
