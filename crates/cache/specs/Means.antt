@@ -1,6 +1,6 @@
 -- Which plain store a state and its cells stand for: document 01, "The plain store". Its tables are read off the state and the cells; its statements agree with the stored
--- ones in every used entry, which fixes their table, columns, marks, truth and clauses. (That a sound state's statements are the compiled forms of sentences that refusals
--- 5 to 8 let pass is `query-from`, `update-from` and `table-from` in soundness/proofs/Laws.) Assumes nothing: these are definitions.
+-- ones in every used entry, which fixes their table, columns, marks, truth and clauses. That there are sentences behind them, which refusals 4 to 8 let pass, is claimed of every
+-- sound state (`Demand.StandsForPlain`). Assumes nothing: these are definitions.
 use mathlib.Core.Path.{_≡_}
 use mathlib.Core.List.{List, [], _∷_}
 use Prim.Native.Nat.{ℕ, _+_, _*_}
