@@ -33,3 +33,4 @@ pub mod Known
 pub mod Compiles
 pub mod Named
 pub mod SoundCompiled
+pub mod Demand
