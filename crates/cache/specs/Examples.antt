@@ -23,8 +23,9 @@ use Rattle.table.specs.Changed.{areaFits, cellsAfter, changeOf, changedOf, coun
 use Rattle.soundness.specs.Soundness.{tablesSound, queriesSound, updatesSound}
 use Rattle.pattern.specs.Stored.{allAny, clausesRead, isFormed, jointClauses, matchesStored, patternsStored, relevant}
 use Rattle.slots.specs.Keys.{sameKey, keyOf, slotHas, findOf, heldTwice}
-use Rattle.slots.specs.Order.{soundSlots, frontOf, takenOf, dropBy, openOf as slotsOpen}
-use Rattle.cache.specs.Sound.{soundTables, soundAnswers, soundState}
+use Rattle.slots.specs.Order.{slotsOf, soundSlots, frontOf, takenOf, dropBy, openOf as slotsOpen}
+use Rattle.cache.specs.Sound.{opening, soundTables, soundAnswers, soundState}
+use Rattle.cache.specs.declared.State.{State}
 use Rattle.cache.specs.Calls.{settled, unfit, emptyState, openOf, addedBy, addRefusal, addOf, askRefusal, withCache, askCached, kept, keptMemory, recordAt, askNew, askOf, updateRefusal, isMatched, withChange, updateDone, updateOf, flushOf}
 use Rattle.cache.specs.Run.{Start, opened, Call, add, ask, update, flush, Seen, step, gets, gotOf}
 
@@ -124,6 +125,21 @@ pub short-is : gets (opened desk) (texts
     ++ (new [] 0 ∷ new [] 0 ∷ new [] 0 ∷ new [] 0 ∷ line (9 ∷ 9 ∷ 9 ∷ []) (refused 13) 0 0 0 ∷ new [] 0 ∷ new [] 0 ∷ [])
 unfolding computing
 short-is = refl
+
+-- the same of one question, the order of use alone: two slots are held, each with a record of 8 bytes, and the one at place 1 is asked for
+abbrev two-held : State
+two-held = withCache (emptyState (opening 0 16 2 8)) (record { order = 0 ∷ 1 ∷ []; held = 2; count = 2 }) [] (8 ∷ 8 ∷ [])
+
+abbrev order-after : ℕ → List ℕ
+order-after n = slotsOf (askCached two-held (replicate 16 7) (replicate n 9) 1 .result .state .slots)
+
+pub short-stays : order-after 7 ≡ 0 ∷ 1 ∷ []
+unfolding computing
+short-stays = refl
+
+pub found-moves : order-after 8 ≡ 1 ∷ 0 ∷ []
+unfolding computing
+found-moves = refl
 
 -- "Dropping by the old row only" is a slip: a row moved to site 9 drops site 9's answer
 pub moved-is : gets (opened desk) (texts

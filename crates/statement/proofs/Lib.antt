@@ -32,3 +32,4 @@ pub mod ByKind
 pub mod Known
 pub mod Compiles
 pub mod SoundCompiled
+pub mod Demand

@@ -6,4 +6,5 @@ pub mod Catalog
 pub mod Compiled
 pub mod Built
 pub mod Sound
+pub mod Demand
 pub mod Examples
