@@ -152,6 +152,27 @@ ONE_ROW = line("Q", 0, 3, 1)
 EIGHTH = line("Q", 1, 3)
 
 
+# ---- two tables, for (f) and (g)
+
+def two_tables(rows):
+    """Two tables of so many rows each: readings, and the points of rating curves. A question pairs them by site and level, of one site or of all; no slot."""
+    adds = [
+        "O 0",
+        f"A TABLE stages (site, day, level) ROWS {rows}",
+        f"A TABLE points (site, level, flow) ROWS {rows}",
+        "A SELECT stages.day, points.flow FROM stages, points WHERE stages.site = ? AND points.site = stages.site AND points.level = stages.level",
+        "A SELECT stages.day, points.flow FROM stages, points WHERE stages.day >= ? AND points.site = stages.site AND points.level = stages.level",
+        "A INSERT INTO stages VALUES (?, ?, ?)",
+        "A INSERT INTO points VALUES (?, ?, ?)",
+    ]
+    readings = [line("U", 0, i % 8 + 1, i // 8 + 1, 10 * (i // 8)) for i in range(rows)]
+    return made(adds) + made(readings) + made([line("U", 1, i % 8 + 1, 10 * (i // 8), 7 * i) for i in range(rows)])
+
+
+PAIRED_SITE = line("Q", 0, 3)
+PAIRED_ALL = line("Q", 1, 1)
+
+
 # ---- conditions of no, one, four and eight comparisons, for (f)
 
 CONDITIONS = {

@@ -42,6 +42,7 @@ static void open_store(void) {
         fail("open");
     run_text("PRAGMA journal_mode = OFF");
     run_text("PRAGMA synchronous = OFF");
+    run_text("PRAGMA automatic_index = OFF");
 }
 
 // `TABLE name (a, b) ROWS n` becomes `CREATE TABLE name (a INTEGER, b INTEGER)`; the other texts are SQLite's too.

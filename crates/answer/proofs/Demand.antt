@@ -25,13 +25,13 @@ module _ (bs : List ℕ) where
       let h₃ = and-right (eqb (getD bs 4 0) 1) _ h₂ in
       let h₄ = and-right (leb 1 (columnsIn bs)) _ h₃ in
       let h₅ = and-right (leb (columnsIn bs) 8) _ h₄ in
-      let h₆ = and-right (leb (rowCount bs) 512) _ h₅ in
+      let h₆ = and-right (leb (rowCount bs) 65535) _ h₅ in
       let four : fourAt bs 0 ≡ rowCount bs * rowBytes bs + 4 = eqb-true (fourAt bs 0) (rowCount bs * rowBytes bs + 4) (and-left (eqb (fourAt bs 0) (rowCount bs * rowBytes bs + 4)) _ h₆) in
       let there : fourAt bs 0 + 4 ≤ length bs = leb-true (fourAt bs 0 + 4) (length bs) (and-right (eqb (fourAt bs 0) (rowCount bs * rowBytes bs + 4)) _ h₆) in
       record {
         version = eqb-true (getD bs 4 0) 1 (and-left (eqb (getD bs 4 0) 1) _ h₂);
         columns = (leb-true 1 (columnsIn bs) (and-left (leb 1 (columnsIn bs)) _ h₃), leb-true (columnsIn bs) 8 (and-left (leb (columnsIn bs) 8) _ h₄));
-        rows = leb-true (rowCount bs) 512 (and-left (leb (rowCount bs) 512) _ h₅);
+        rows = leb-true (rowCount bs) 65535 (and-left (leb (rowCount bs) 65535) _ h₅);
         length-agrees = omega (arith, four, rows-bytes);
         whole = omega (arith, there);
       }
@@ -43,7 +43,7 @@ module _ (bs : List ℕ) where
       (and-both (eqb (getD bs 4 0) 1) _ (eq-eqb (getD bs 4 0) 1 (R .version))
       (and-both (leb 1 (columnsIn bs)) _ (le-leb 1 (columnsIn bs) (R .columns .0))
       (and-both (leb (columnsIn bs) 8) _ (le-leb (columnsIn bs) 8 (R .columns .1))
-      (and-both (leb (rowCount bs) 512) _ (le-leb (rowCount bs) 512 (R .rows))
+      (and-both (leb (rowCount bs) 65535) _ (le-leb (rowCount bs) 65535 (R .rows))
       (and-both (eqb (fourAt bs 0) (rowCount bs * rowBytes bs + 4)) _
       (eq-eqb (fourAt bs 0) (rowCount bs * rowBytes bs + 4) (omega (arith, R .length-agrees, rows-bytes)))
       (le-leb (fourAt bs 0 + 4) (length bs) (omega (arith, R .whole))))))))
@@ -60,8 +60,8 @@ module _ (bs : List ℕ) where
   unfolding hasRow
   shown-there i = (
     (λ e.
-    let h : (isRecord bs && ltb i (rowCount bs)) ≡ true = there-zero (isRecord bs && ltb i (rowCount bs)) e in
-    (record-is (and-left (isRecord bs) _ h), ltb-true i (rowCount bs) (and-right (isRecord bs) _ h))),
+        let h : (isRecord bs && ltb i (rowCount bs)) ≡ true = there-zero (isRecord bs && ltb i (rowCount bs)) e in
+        (record-is (and-left (isRecord bs) _ h), ltb-true i (rowCount bs) (and-right (isRecord bs) _ h))),
     (λ R. ap numberBy (and-both (isRecord bs) _ (is-record (R .0)) (lt-ltb i (rowCount bs) (R .1)))),
   )
 

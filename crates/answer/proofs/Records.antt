@@ -10,7 +10,7 @@ use denote.Ref.{RefT, ptr, now}
 use lib.Dec.{leb, ltb, eqb}
 use lib.ListN.{length, take, drop, getD}
 use Rattle.lists.proofs.Bools.{and-left, and-right}
-use Rattle.meaning.specs.Limits.{most-items, most-rows}
+use Rattle.meaning.specs.Limits.{most-items, most-listed}
 use Rattle.meaning.specs.Record.{columnsIn, rowCount, rowBytes, fourAt, isRecord, hasRow, rowStart, rowPart}
 use Rattle.answer.specs.Answer.{past}
 
@@ -20,7 +20,7 @@ module _ (bs : List ℕ) where
   unfolding isRecord
   sized h =
       let t₅ = and-right (leb (columnsIn bs) most-items) _ (and-right (leb 1 (columnsIn bs)) _ (and-right (eqb (getD bs 4 0) 1) _ (and-right (leb 8 (length bs)) _ h))) in
-      let t₆ = and-right (leb (rowCount bs) most-rows) _ t₅ in
+      let t₆ = and-right (leb (rowCount bs) most-listed) _ t₅ in
       let z : fourAt bs 0 ≡ rowCount bs * rowBytes bs + 4 = eqb-true (fourAt bs 0) (rowCount bs * rowBytes bs + 4) (and-left _ (leb (fourAt bs 0 + 4) (length bs)) t₆) in
       let l : fourAt bs 0 + 4 ≤ length bs = leb-true (fourAt bs 0 + 4) (length bs) (and-right (eqb (fourAt bs 0) (rowCount bs * rowBytes bs + 4)) _ t₆) in
       let k : rowCount bs * rowBytes bs + 4 + 4 ≤ length bs = subst (λ (n : ℕ). n + 4 ≤ length bs) z l in

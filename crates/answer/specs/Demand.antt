@@ -8,15 +8,16 @@ use lib.ListN.{length, getD, take, drop}
 use Rattle.meaning.specs.Demand.{Between}
 use Rattle.meaning.specs.Record.{fourAt, columnsIn, rowCount, rowRefusal, rowStart, rowPart}
 
--- "Bytes are a record if version, columns (1 to 8), rows and length agree and the whole length is there; later bytes are ignored." Rows to 512
+-- "Bytes are a record if version, columns (1 to 8), rows and length agree and the whole length is there; later bytes are ignored."
+-- A.1: "Records may hold up to 65,535 rows, also where a row is shown."
 pub record IsRecord (bs : List ℕ) : Type 0 where
   pub version : getD bs 4 0 ≡ 1
   pub columns : Between 1 8 (columnsIn bs)
-  pub rows : rowCount bs ≤ 512
+  pub rows : rowCount bs ≤ 65535
   pub length-agrees : fourAt bs 0 ≡ 4 + 4 * (columnsIn bs * rowCount bs)
   pub whole : 4 + fourAt bs 0 ≤ length bs
 
--- 14: "bytes that are no record (rows to 512), or no such row", and only then; "Rows count from 0."
+-- 14: "bytes that are no record .., or no such row", and only then; "Rows count from 0."
 abbrev pub ShownExactlyIf : Type 0
 ShownExactlyIf = (bs : List ℕ) (i : ℕ) → (rowRefusal bs i ≡ 0) ↔ (IsRecord bs × (i < rowCount bs))
 

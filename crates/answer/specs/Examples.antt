@@ -13,9 +13,9 @@ head = refl
 pub whole : recordLength 2 3 ≡ 32
 whole = refl
 
--- 8 columns and 512 rows
-pub largest : header 8 512 ≡ 0 ∷ 0 ∷ 64 ∷ 4 ∷ 1 ∷ 8 ∷ 2 ∷ 0 ∷ []
-largest = refl
+-- 8 columns and 65,535 rows (A.1): 2,097,124 bytes follow the length
+pub largest : (header 8 65535 ≡ 0 ∷ 31 ∷ 255 ∷ 228 ∷ 1 ∷ 8 ∷ 255 ∷ 255 ∷ []) × (recordLength 8 65535 ≡ 2097128)
+largest = (refl, refl)
 
 -- 1, -1, and the ends of 32 bits
 pub values : numberBytes (pos 1 ∷ negℤ (pos 1) ∷ pos 2147483647 ∷ negℤ (pos 2147483648) ∷ [])

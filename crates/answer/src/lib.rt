@@ -15,10 +15,10 @@ pub struct Answer {}
 impl Answer {
     pub const VERSION: u8 = 1;
 
-    // The most columns and rows.
+    // The most columns and rows (65,535: request A.1).
     pub const COLUMNS: usize = 8;
 
-    pub const ROWS: usize = 512;
+    pub const ROWS: usize = 65535;
 
     // The bytes in front of the first row, and those of a value.
     pub const HEAD: usize = 8;

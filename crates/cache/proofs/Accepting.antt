@@ -78,6 +78,7 @@ module _ (s : State) (T : Typed s) (h : soundState s ≡ true) where
         omega (arith, n, left-is, S .areas),
       )
   place-is (G.select cs t w) e = below most-queries (length (beside .queries)) (s .«query_count») queries-there e
+  place-is (G.pair cs t u w) e = below most-queries (length (beside .queries)) (s .«query_count») queries-there e
   place-is (G.insert t vs) e = below most-updates (length (beside .updates)) (s .«update_count») updates-there e
   place-is (G.update t ss w) e = below most-updates (length (beside .updates)) (s .«update_count») updates-there e
   place-is (G.delete t w) e = below most-updates (length (beside .updates)) (s .«update_count») updates-there e
@@ -88,6 +89,7 @@ module _ (s : State) (T : Typed s) (h : soundState s ≡ true) where
       or-none (leb most-tables (length (beside .tables))) _ (is-below most-tables (length (beside .tables)) (s .«table_count») tables-there (p .0))
       (le-ltb (cellsLeft beside) (length (items cs) * natAbs z) (omega (arith, p .1, left-is)))
   is-place (G.select cs t w) p = is-below most-queries (length (beside .queries)) (s .«query_count») queries-there p
+  is-place (G.pair cs t u w) p = is-below most-queries (length (beside .queries)) (s .«query_count») queries-there p
   is-place (G.insert t vs) p = is-below most-updates (length (beside .updates)) (s .«update_count») updates-there p
   is-place (G.update t ss w) p = is-below most-updates (length (beside .updates)) (s .«update_count») updates-there p
   is-place (G.delete t w) p = is-below most-updates (length (beside .updates)) (s .«update_count») updates-there p
@@ -153,6 +155,7 @@ accepted-exactly-if s text T = (there, back)
             known = ap (λ (l : List Schema). unknown l x) (sym ts) ∙ t .1 .known;
             fresh = ap (λ (l : List Schema). taken l x) (sym ts) ∙ t .1 .fresh;
             counted = ap (λ (l : List Schema). miscounted l x) (sym ts) ∙ t .1 .counted;
+            different = t .1 .different;
             place = place-is (s .state) T h x (t .1 .place);
           },
         )
@@ -170,5 +173,6 @@ accepted-exactly-if s text T = (there, back)
           known = ap (λ (l : List Schema). unknown l x) ts ∙ A .known;
           fresh = ap (λ (l : List Schema). taken l x) ts ∙ A .fresh;
           counted = ap (λ (l : List Schema). miscounted l x) ts ∙ A .counted;
+          different = A .different;
           place = is-place (s .state) T h x (A .place);
         })))

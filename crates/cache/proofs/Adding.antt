@@ -16,7 +16,7 @@ use Rattle.meaning.specs.Grammar as G
 use Rattle.meaning.specs.Grammar.{items, Sentence, sentence}
 use Rattle.meaning.specs.Limits.{most-tables, most-queries, most-updates, tooLong, pastLimit}
 use Rattle.meaning.specs.Meaning.{Row}
-use Rattle.meaning.specs.Names.{Schema, unknown, taken, miscounted}
+use Rattle.meaning.specs.Names.{Schema, unknown, taken, miscounted, twice}
 use Rattle.meaning.specs.Statement as M
 use Rattle.meaning.specs.Statement.{Statement, creates, asks, changes, statementOf}
 use Rattle.meaning.specs.Plain as P
@@ -63,6 +63,7 @@ module _ (p q : Plain) (ts : schemas p ≡ schemas q) (qs : length (p .queries) 
       ap₂ (λ (n k : ℕ). leb most-tables n || ltb k (length (items cs) * natAbs z)) tables-many
       (ap₂ (λ (n : ℕ) (x : List Schema). n - areasSize x) cells ts)
   places-same (G.select cs t w) = ap (leb most-queries) qs
+  places-same (G.pair cs t u w) = ap (leb most-queries) qs
   places-same (G.insert t vs) = ap (leb most-updates) us
   places-same (G.update t ss w) = ap (leb most-updates) us
   places-same (G.delete t w) = ap (leb most-updates) us
@@ -77,6 +78,7 @@ module _ (p q : Plain) (ts : schemas p ≡ schemas q) (qs : length (p .queries) 
       ∷ (6, itsSentence (unknown x) (sentence text))
       ∷ (7, itsSentence (taken x) (sentence text))
       ∷ (8, itsSentence (miscounted x) (sentence text))
+      ∷ (15, itsSentence twice (sentence text))
       ∷ (9, itsSentence f (sentence text))
       ∷ [])
       ts (λ i s. places-same s i)
@@ -151,6 +153,7 @@ place-free : (p : Plain) (ts : List Schema) (s : Sentence) → noPlace p s ≡ f
 unfolding noPlace statementOf
 place-free p ts (G.table t cs z) h = leb-false most-tables (length (p .tables)) (or-left (leb most-tables (length (p .tables))) _ h)
 place-free p ts (G.select cs t w) h = leb-false most-queries (length (p .queries)) h
+place-free p ts (G.pair cs t u w) h = leb-false most-queries (length (p .queries)) h
 place-free p ts (G.insert t vs) h = leb-false most-updates (length (p .updates)) h
 place-free p ts (G.update t ss w) h = leb-false most-updates (length (p .updates)) h
 place-free p ts (G.delete t w) h = leb-false most-updates (length (p .updates)) h

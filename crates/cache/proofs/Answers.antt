@@ -3,50 +3,47 @@
 use mathlib.Core.Path.{_≡_, refl, sym, ap, _∙_, subst}
 use mathlib.Core.Logic.{_≢_, _⊎_, inl, inr}
 use mathlib.Core.Bool.{Bool, true, false, cond}
+use mathlib.Core.Option.{Option, none, some}
 use mathlib.Core.List.{List, [], _∷_, _++_}
 use Prim.Native.Nat.{ℕ, zero, suc, _+_, _≤_, _<_}
 use native.Mathlib.Omega.{arith}
+use borrow.Author.Tests.{ltb-false}
 use lib.Dec.{leb, ltb}
 use lib.IntN.{ℤ}
 use lib.ListN.{length, getD, drop}
 use Rattle.lists.specs.Lists.{All, nil, cons, written}
-use Rattle.lists.proofs.Bools.{and-left, and-right}
 use Rattle.lists.proofs.Lists.{All-take}
 use Rattle.meaning.specs.Key.{Key}
-use Rattle.meaning.specs.Limits.{most-rows}
-use Rattle.meaning.specs.Names.{Schema}
+use Rattle.meaning.specs.Limits.{most-listed}
+use Rattle.meaning.specs.Statement.{Second}
 use Rattle.meaning.specs.Cells.{rowsIn}
 use Rattle.meaning.specs.Meaning.{Row, answer}
 use Rattle.meaning.specs.Record.{encode}
 use Rattle.meaning.specs.Demand.{ReadsBack, Is32, rowsListed}
 use Rattle.meaning.specs.Plain as P
-use Rattle.meaning.specs.Plain.{Plain, recordOf}
+use Rattle.meaning.specs.Plain.{Plain, recordOf, orElse}
 use Rattle.meaning.proofs.Accepted.{Asked, key-asked}
-use Rattle.meaning.proofs.Cells.{rows-length}
 use Rattle.meaning.proofs.Record.{record-reads-back}
-use Rattle.meaning.proofs.Within32.{Row32, answer-rows, answer-few}
-use Rattle.statement.specs.declared.Table.{Table}
-use Rattle.statement.specs.Catalog.{schemaOf}
-use Rattle.statement.specs.Compiled.{noTable}
-use Rattle.statement.specs.Sound.{soundTable, soundTables, AgreesQuery}
-use Rattle.statement.proofs.SoundTable.{table-parts}
+use Rattle.meaning.proofs.Within32.{Row32, answer-rows, pairs-32}
+use Rattle.statement.specs.Sound.{secondRead, AgreesQuery}
 use Rattle.statement.proofs.SoundQuery.{query-parts}
 use Rattle.table.specs.Evaluated.{rowCells, areaRows}
+use Rattle.table.proofs.Means.{answer-means}
 use Rattle.slots.specs.declared.Found.{Found}
 use Rattle.slots.specs.declared.Found.the-variants.{At, Nothing}
 use Rattle.slots.specs.Keys.{keyOf, slotHas}
 use Rattle.slots.specs.Order.{heldSlots, frontOf}
 use Rattle.slots.proofs.KeyLaws.{key-few, has-key, FoundAt, found-at, found-inside}
 use Rattle.cache.specs.declared.State.{State}
-use Rattle.cache.specs.Sound.{usedTables, queryAt, soundState}
+use Rattle.cache.specs.Sound.{queryAt, soundState}
 use Rattle.cache.specs.Means.{Means, Typed}
-use Rattle.cache.specs.Calls.{settled, startOf, tableAt, Asks, asks, askRefused, askRefusal, withCache, bytesAt, cachedLength, askCached, kept, keptMemory, rowsAt, recordAt, askNew, askFound, foundIn, askOf}
+use Rattle.cache.specs.Calls.{settled, startOf, tableAt, Asks, asks, askRefused, askRefusal, withCache, bytesAt, cachedLength, askCached, rowsAt, rowsOver, rowsFor, recordAt, tooMany, newRefusal, newly, askNew, askFound, foundIn, askOf}
 use Rattle.cache.specs.Run.{Store, Seen, ask, stepAsk, step}
-use Rattle.cache.specs.Demand.{lengthsLent, NewAnswer, ItsSlotsBytes, KeptAnswer}
-use Rattle.cache.proofs.Sounds.{Sound, sound-is, rows-at, query-at, All-first}
-use Rattle.cache.proofs.Standing.{few-tables, query-table, stands-for-plain}
+use Rattle.cache.specs.Demand.{lengthsLent, ReadsRows, ReadsFor, NewAnswer, ItsSlotsBytes, KeptAnswer}
+use Rattle.cache.proofs.Sounds.{Sound, sound-is, query-at}
+use Rattle.cache.proofs.Standing.{stands-for-plain}
 use Rattle.cache.proofs.Meanings.{query-agrees}
-use Rattle.cache.proofs.Asking.{rows-asked, record-is, ask-number}
+use Rattle.cache.proofs.Asking.{rows-asked, read-asked, record-is, ask-number}
 use Rattle.cache.proofs.Meets.{there, few-values, place}
 
 -- ---- what an answer is, kept or new
@@ -65,26 +62,21 @@ module _ (s : Store) (n : ℕ) (vs : List ℤ) (buffer : List ℕ) where
       (s .memory)
       (written buffer 0 (bytesAt st (s .memory) (getD (st .slots .order) i 0)))
 
-  abbrev newly : Asks
-  newly = asks
-      (record {
-        refusal = 0;
-        cached = 0;
-        scanned = length (rowsAt st (s .cells) (queryAt st n .table));
-        length = length (recordAt st (s .cells) n vs);
-        state = kept st (keyOf n vs) (recordAt st (s .cells) n vs);
-      })
-      (keptMemory st (recordAt st (s .cells) n vs) (s .memory))
-      (written buffer 0 (recordAt st (s .cells) n vs))
-
   abbrev Answered : Store × Seen → Type 0
-  Answered r = (number ≡ 0) × (((i : ℕ) × (foundIn st n vs ≡ At i) × (r ≡ stepAsk s (keptAt i))) ⊎ ((foundIn st n vs ≡ Nothing) × (r ≡ stepAsk s newly)))
+  Answered r = (number ≡ 0) × (((i : ℕ) × (foundIn st n vs ≡ At i) × (r ≡ stepAsk s (keptAt i))) ⊎ ((foundIn st n vs ≡ Nothing) × (newRefusal st (s .cells) (length buffer) n vs ≡ 0) × (r ≡ stepAsk s (newly st (s .cells) (s .memory) buffer n vs))))
 
   -- 13, or done
   not-short : (b : Bool) (r : Asks) → stepAsk s (cond b (asks (askRefused st 13) (s .memory) buffer) r) .1 .got .refusal ≡ 0
       → stepAsk s (cond b (asks (askRefused st 13) (s .memory) buffer) r) ≡ stepAsk s r
   not-short true r z = absurd (omega arith)
   not-short false r z = refl
+
+  -- 16, 13, or done
+  not-refused : (k : ℕ) (r : Asks) → stepAsk s (settled k r (asks (askRefused st k) (s .memory) buffer)) .1 .got .refusal ≡ 0
+      → (k ≡ 0) × (stepAsk s (settled k r (asks (askRefused st k) (s .memory) buffer)) ≡ stepAsk s r)
+  unfolding settled
+  not-refused zero r z = (refl, refl)
+  not-refused (suc k) r z = absurd (omega arith)
 
   answered : step s (ask n vs buffer) .1 .got .refusal ≡ 0 → Answered (step s (ask n vs buffer))
   unfolding step askOf settled askCached askNew
@@ -95,7 +87,9 @@ module _ (s : Store) (n : ℕ) (vs : List ℤ) (buffer : List ℕ) where
 
       go : (k : ℕ) → number ≡ k → (f : Found) → foundIn st n vs ≡ f → by k f .1 .got .refusal ≡ 0 → Answered (by k f)
       go zero e (At i) g z = (e, inl (i, g, not-short (ltb (length buffer) (cachedLength st i)) (keptAt i) z))
-      go zero e Nothing g z = (e, inr (g, not-short (ltb (length buffer) (length (recordAt st (s .cells) n vs))) newly z))
+      go zero e Nothing g z =
+          let d = not-refused (newRefusal st (s .cells) (length buffer) n vs) (newly st (s .cells) (s .memory) buffer n vs) z in
+          (e, inr (g, d .0, d .1))
       go (suc k) e f g z = absurd (omega arith)
 
 -- ---- a new one
@@ -117,18 +111,9 @@ rows-32 s cells i h = go (leb (startOf s i + rowCells (tableAt s i)) (length cel
     go true = in-32 (tableAt s i .count) (tableAt s i .rows) (drop (startOf s i) cells) (All-drop (startOf s i) h)
     go false = nil
 
-rows-few : (s : State) (cells : List ℤ) (i : ℕ) → length (rowsAt s cells i) ≤ tableAt s i .rows
-rows-few s cells i = go (leb (startOf s i + rowCells (tableAt s i)) (length cells))
-  where
-    go : (b : Bool) → length (cond b (areaRows (tableAt s i .count) (tableAt s i .rows) (drop (startOf s i) cells)) []) ≤ tableAt s i .rows
-    go true = omega (arith, rows-length (tableAt s i .count) (tableAt s i .rows) (drop (startOf s i) cells))
-    go false = omega arith
-
--- each of sound tables has few rows
-capacity-few : (before : List Schema) (ts : List Table) → soundTables before ts ≡ true → All (λ (t : Table). t .capacity ≤ most-rows) ts
-capacity-few before [] h = nil
-capacity-few before (t ∷ ts) h =
-    cons (table-parts before t (and-left (soundTable before t) _ h) .few-rows) (capacity-few (before ++ (schemaOf t ∷ [])) ts (and-right (soundTable before t) _ h))
+over-32 : (s : State) (cells : List ℤ) (i : ℕ) (o : Option Second) → All Is32 cells → All Row32 (rowsOver s cells i o)
+over-32 s cells i none h = rows-32 s cells i h
+over-32 s cells i (some t) h = pairs-32 (rowsAt s cells i) (rowsAt s cells (t .table)) (rows-32 s cells i h) (rows-32 s cells (t .table) h)
 
 module _ (s : Store) (p : Plain) (T : Typed (s .state)) (h : soundState (s .state) ≡ true) (m : Means (s .state) (s .cells) p) (small : All Is32 (s .cells))
     (k : Key) (A : Asked (lengthsLent s) p k) where
@@ -136,7 +121,7 @@ module _ (s : Store) (p : Plain) (T : Typed (s .state)) (h : soundState (s .stat
   S = sound-is (s .state) h
 
   abbrev rows : List Row
-  rows = rowsAt (s .state) (s .cells) (queryAt (s .state) (k .query) .table)
+  rows = rowsFor (s .state) (s .cells) (queryAt (s .state) (k .query))
 
   here : k .query < s .state .«query_count»
   here = there s p T h m (k .query) (k .values) [] A
@@ -144,43 +129,51 @@ module _ (s : Store) (p : Plain) (T : Typed (s .state)) (h : soundState (s .stat
   agrees : AgreesQuery (queryAt (s .state) (k .query)) (P.queryAt p (k .query))
   agrees = query-agrees (s .state) T S (s .cells) p m (k .query) here
 
-  few-rows : length rows ≤ most-rows
-  few-rows =
-      let i : ℕ = queryAt (s .state) (k .query) .table in
-      let l : i < s .state .«table_count» = query-table (s .state) T S (k .query) here in
-      let c : tableAt (s .state) i .capacity ≤ most-rows =
-      All-first {P = λ (t : Table). t .capacity ≤ most-rows} (s .state .«table_count») (s .state .tables) i noTable (few-tables (s .state) T S) l
-      (capacity-few [] (usedTables (s .state)) (S .tables)) in
-      omega (arith, rows-few (s .state) (s .cells) i, rows-at (s .state) T S i l, c)
-
-  reads-back : (later : List ℕ) → ReadsBack (recordOf p k ++ later) (length (P.queryAt p (k .query) .selected)) (rowsListed p k)
-  unfolding recordOf
-  reads-back later =
+  reads-back : tooMany (s .state) (s .cells) (k .query) (k .values) ≡ false → (later : List ℕ) → ReadsBack (recordOf p k ++ later) (length (P.queryAt p (k .query) .selected)) (rowsListed p k)
+  unfolding recordOf tooMany
+  reads-back few later =
       let q = P.queryAt p (k .query) in
       let Q = query-parts _ (queryAt (s .state) (k .query)) (query-at (s .state) T S (k .query) here) in
       let n : queryAt (s .state) (k .query) .count ≡ length (q .selected) = agrees .count-is in
       subst (λ (l : List Row). ReadsBack (encode (length (q .selected)) (answer q (k .values) l) ++ later) (length (q .selected)) (answer q (k .values) l))
       (rows-asked (s .state) T S (s .cells) p m (k .query) here)
       (record-reads-back (length (q .selected)) (answer q (k .values) rows) later (omega (arith, Q .some-selected)) (omega (arith, Q .few-selected))
-      (omega (arith, answer-few q (k .values) rows, few-rows)) (answer-rows q (k .values) rows (rows-32 (s .state) (s .cells) (queryAt (s .state) (k .query) .table) small)))
+      (ltb-false most-listed (length (answer q (k .values) rows))
+      (ap (λ (l : List Row). ltb most-listed (length l)) (sym (answer-means (queryAt (s .state) (k .query)) q agrees (k .values) rows)) ∙ few))
+      (answer-rows q (k .values) rows
+      (over-32 (s .state) (s .cells) (queryAt (s .state) (k .query) .table) (secondRead (queryAt (s .state) (k .query))) small)))
+
+-- a number of 0 is not 16
+few-of : (many : Bool) (n : ℕ) → orElse many 16 n ≡ 0 → many ≡ false
+few-of true n e = absurd (omega arith)
+few-of false n e = refl
+
+-- the rows read, of one table or at most those of a pair
+pub reads-for : (p : Plain) (k : Key) {n : ℕ} → n ≡ P.rowsRead p k → ReadsFor p k n
+reads-for p k {n} e = go (P.queryAt p (k .query) .second) e
+  where
+    go : (o : Option Second) → n ≡ P.rowsReadOver (p .tables) (P.queryAt p (k .query)) o → ReadsRows (p .tables) (P.queryAt p (k .query) .table) o n
+    go none e = e
+    go (some t) e = omega (arith, e)
 
 pub new-answer : NewAnswer
+unfolding newRefusal
 new-answer s p k buffer T h m small e z = go (answered s (k .query) (k .values) buffer e)
   where
     go : Answered s (k .query) (k .values) buffer (step s (ask (k .query) (k .values) buffer))
         → ReadsBack (step s (ask (k .query) (k .values) buffer) .1 .got .answer) (length (P.queryAt p (k .query) .selected)) (rowsListed p k)
-        × (step s (ask (k .query) (k .values) buffer) .1 .scanned ≡ P.rowsAsked p (k .query))
+        × ReadsFor p k (step s (ask (k .query) (k .values) buffer) .1 .scanned)
     go (c, inl (i, f, r)) =
         let a : _≡_ {A = ℕ} 0 1 = sym z ∙ ap (λ (x : Store × Seen). x .1 .kept) r in
         absurd (omega arith)
-    go (c, inr (f, r)) =
+    go (c, inr (f, y, r)) =
         let A : Asked (lengthsLent s) p k = key-asked (lengthsLent s) p k (sym (ask-number s p T h m (k .query) (k .values) buffer) ∙ c) in
         let S : Sound (s .state) = sound-is (s .state) h in
         let l = here s p T h m small k A in (
           subst (λ (x : List ℕ). ReadsBack x (length (P.queryAt p (k .query) .selected)) (rowsListed p k))
-          (sym (ap (λ (x : Store × Seen). x .1 .got .answer) r ∙ ap (written buffer 0) (record-is (s .state) T S (s .cells) p m (k .query) l (k .values))))
-          (reads-back s p T h m small k A (drop (0 + length (recordOf p k)) buffer)),
-          ap (λ (x : Store × Seen). x .1 .scanned) r ∙ ap length (rows-asked (s .state) T S (s .cells) p m (k .query) l),
+              (sym (ap (λ (x : Store × Seen). x .1 .got .answer) r ∙ ap (written buffer 0) (record-is (s .state) T S (s .cells) p m (k .query) l (k .values))))
+              (reads-back s p T h m small k A (few-of (tooMany (s .state) (s .cells) (k .query) (k .values)) _ y) (drop (0 + length (recordOf p k)) buffer)),
+          reads-for p k (ap (λ (x : Store × Seen). x .1 .scanned) r ∙ read-asked (s .state) T S (s .cells) p m (k .query) l (k .values)),
         )
 
 -- ---- a kept one
@@ -203,4 +196,4 @@ kept-answer s k buffer T h e z = go (answered s (k .query) (k .values) buffer e)
           answer-is = ap (λ (x : Store × Seen). x .1 .got .answer) r ∙ ap (λ (x : ℕ). written buffer 0 (bytesAt (s .state) (s .memory) x)) at;
           none-read = ap (λ (x : Store × Seen). x .1 .scanned) r;
         }
-    go (c, inr (f, r)) = absurd (z (ap (λ (x : Store × Seen). x .1 .kept) r))
+    go (c, inr (f, y, r)) = absurd (z (ap (λ (x : Store × Seen). x .1 .kept) r))

@@ -5,8 +5,8 @@ use mathlib.Core.List.{List}
 use Prim.Native.Nat.{ℕ, _*_, _%_, _≤_, _<_}
 use native.Mathlib.Nat.{mod-eq-of-lt}
 use native.Mathlib.Omega.{arith}
-use borrow.Author.Tests.{leb-true, leb-false, lt-ltb, le-ltb}
-use lib.Dec.{leb, lit<}
+use borrow.Author.Tests.{leb-false, lt-ltb, ltb-false, le-ltb}
+use lib.Dec.{leb, ltb, lit<}
 use lib.IntN.{ℤ}
 use lib.ListN.{length, take, getD}
 use lib.Seq.{length-take-le}
@@ -15,13 +15,10 @@ use Rattle.lists.proofs.Bools.{and-right}
 use Rattle.lists.proofs.Places.{getD-inside}
 use Rattle.lists.proofs.Written.{length-written, written-there}
 use Rattle.meaning.specs.Limits.{most-queries, most-slots}
-use Rattle.answer.specs.Answer.{put}
-use Rattle.answer.proofs.Buffers.{put-fits, put-not}
+use Rattle.meaning.specs.Plain.{orElse}
 use Rattle.statement.specs.declared.Query.{Query}
-use Rattle.statement.specs.declared.Table.{Table}
-use Rattle.statement.specs.Compiled.{noTable, noQuery}
+use Rattle.statement.specs.Compiled.{noQuery}
 use Rattle.table.specs.declared.listing.Selected.{Selected}
-use Rattle.table.specs.Evaluated.{rowsUsed, recordStored, selectedBy, selectedIn}
 use Rattle.slots.specs.declared.Key.{Key}
 use Rattle.slots.specs.declared.Found.{Found}
 use Rattle.slots.specs.declared.Found.the-variants.{At, Nothing}
@@ -32,11 +29,11 @@ use Rattle.slots.specs.Order.{frontOf, takenOf}
 use Rattle.slots.proofs.KeyLaws.{found-below}
 use Rattle.cache.specs.declared.State.{State}
 use Rattle.cache.specs.declared.Asked.{Asked}
-use Rattle.cache.specs.Sound.{areasOf, queryAt}
-use Rattle.cache.specs.Calls.{unfit, Asks, asks, askRefused, askRefusal, withCache, bytesAt, cachedLength, askCached, kept, keptMemory, startOf, tableAt, rowsAt, recordAt, askNew, askFound, askOf}
+use Rattle.cache.specs.Sound.{queryAt}
+use Rattle.cache.specs.Calls.{unfit, Asks, asks, askRefused, askRefusal, withCache, bytesAt, cachedLength, askCached, kept, keptMemory, settled, recordAt, tooMany, newRefusal, newly, askNew, askFound, askOf}
 use Rattle.cache.specs.declared.Place.{Place}
 use Rattle.cache.specs.declared.Outcome.{Outcome}
-use Rattle.cache.specs.Outcomes.{askNumber, noPlace, noAnswer, placed, outcomeOf, takes, taking, placeOf, placeBytes}
+use Rattle.cache.specs.Outcomes.{askNumber, noPlace, noAnswer, placed, outcomeOf, WorksOut, takes, taking, placeOf, placeBytes}
 use Rattle.cache.proofs.Sounds.{sound-is}
 use Rattle.cache.proofs.Settled.{settled-refused, settled-done, Fit, fit-is, or-else-zero}
 
@@ -129,97 +126,51 @@ module _ (s : State) (r : List ℕ) (p : Place) (e : p ≡ placeOf (s .slots) (s
 
 -- ---- an answer worked out
 
-short-number : (b : Bool) (n m : ℕ) → (selectedBy b n m .refusal ≡ 0 → ⊥) → b ≡ false
-short-number true n m h = absurd (h refl)
-short-number false n m h = refl
+-- no number, and the record fits
+short-of : (many : Bool) (n m : ℕ) → orElse many 16 (orElse (ltb n m) 13 0) ≡ 0 → m ≤ n
+short-of true n m e = absurd (omega arith)
+short-of false n m e = go (ltb n m) refl e
+  where
+    go : (b : Bool) → ltb n m ≡ b → orElse b 13 0 ≡ 0 → m ≤ n
+    go true h z = absurd (omega arith)
+    go false h z = ltb-false n m h
 
-fits-number : (b : Bool) (n m : ℕ) → selectedBy b n m .refusal ≡ 0 → b ≡ true
-fits-number true n m h = refl
-fits-number false n m h = absurd (omega arith)
-
-module _ (s : State) (cells : List ℤ) (memory : List ℕ) (query : ℕ) (values : List ℤ) (answer : List ℕ) (d : Query) (e : Table)
-    (inside : query < length (s .queries)) (there : queryAt s query .table < length (s .tables)) where
-  -- the query and its table, as they are read
-  abbrev asked : Query
-  asked = getD (s .queries) query d
-
-  abbrev area : Table
-  area = getD (s .tables) (asked .table) e
-
-  pub query-is : asked ≡ queryAt s query
-  query-is = getD-inside (s .queries) query d noQuery inside
-
-  table-is : area ≡ tableAt s (queryAt s query .table)
-  table-is = ap (λ (q : Query). getD (s .tables) (q .table) e) query-is ∙ getD-inside (s .tables) (queryAt s query .table) e noTable there
-
-  abbrev rows : List (List ℤ)
-  rows = rowsAt s cells (queryAt s query .table)
-
+module _ (s : State) (cells : List ℤ) (memory : List ℕ) (query : ℕ) (values : List ℤ) (answer : List ℕ) (w : Selected) (new : List ℕ)
+    (W : WorksOut s cells query values answer w new) where
   abbrev rec : List ℕ
   rec = recordAt s cells query values
 
-  module _ (start : ℕ) (starts : start ≡ areasOf (take (asked .table) (s .tables))) where
-    rows-are : rowsUsed area start cells ≡ rows
-    rows-are = ap₂ (λ (t : Table) (n : ℕ). rowsUsed t n cells) table-is (starts ∙ ap (λ (q : Query). startOf s (q .table)) query-is)
+  pub new-short : (r : Asked) → (w .refusal ≡ 0 → ⊥) → r ≡ askRefused s (w .refusal) → asks r memory new ≡ askNew s cells memory answer query values
+  unfolding askNew
+  new-short r k f =
+      ap₂ (λ (x : Asked) (y : List ℕ). asks x memory y) f (W .stays k)
+      ∙ settled-refused (w .refusal) (newly s cells memory answer query values) (asks (askRefused s (w .refusal)) memory answer) k
+      ∙ ap (λ (n : ℕ). settled n (newly s cells memory answer query values) (asks (askRefused s n) memory answer)) (W .number)
 
-    rec-is : recordStored asked values (rowsUsed area start cells) ≡ rec
-    unfolding recordAt
-    rec-is = ap₂ (λ (q : Query) (l : List (List ℤ)). recordStored q values l) query-is rows-are
+  module _ (k : w .refusal ≡ 0) where
+    fits : length rec ≤ length answer
+    unfolding newRefusal
+    fits = short-of (tooMany s cells query values) (length answer) (length rec) (sym (W .number) ∙ k)
 
-    module _ (w : Selected) (new : List ℕ) (g : w ≡ selectedIn answer (rowsUsed area start cells) (recordStored asked values (rowsUsed area start cells)))
-        (h : new ≡ put answer 0 (recordStored asked values (rowsUsed area start cells))) where
-      given : w ≡ selectedIn answer rows rec
-      given = g ∙ ap₂ (selectedIn answer) rows-are rec-is
+    -- the record stands at the buffer's start
+    new-first : take (w .length) new ≡ rec
+    new-first = ap₂ take (W .size k) (W .bytes k) ∙ written-there answer 0 rec (omega (arith, fits))
 
-      stored : new ≡ put answer 0 rec
-      stored = h ∙ ap (put answer 0) rec-is
+    pub new-inside : w .length ≤ length new
+    new-inside =
+        let l : length new ≡ length answer = ap length (W .bytes k) ∙ length-written answer 0 rec (omega (arith, fits)) in
+        omega (arith, W .size k, fits)
 
-      number-is : w .refusal ≡ selectedIn answer rows rec .refusal
-      number-is = ap (λ (x : Selected). x .refusal) given
-
-      pub new-short : (r : Asked) → (w .refusal ≡ 0 → ⊥) → r ≡ askRefused s (w .refusal) → asks r memory new ≡ askNew s cells memory answer query values
-      unfolding askNew
-      new-short r k f =
-          let t : leb (length rec) (length answer) ≡ false = short-number _ (length rows) (length rec) (λ z. k (number-is ∙ z)) in
-          let u : length answer < length rec = leb-false (length rec) (length answer) t in
-          let n : w .refusal ≡ 13 = number-is ∙ ap (λ (b : Bool). selectedBy b (length rows) (length rec) .refusal) t in
-          rw (lt-ltb (length answer) (length rec) u) (ap₂ (λ (x : Asked) (y : List ℕ). asks x memory y) (f ∙ ap (askRefused s) n) (stored ∙ put-not answer 0 rec (omega arith)))
-
-      module _ (k : w .refusal ≡ 0) where
-        test : leb (length rec) (length answer) ≡ true
-        test = fits-number _ (length rows) (length rec) (sym number-is ∙ k)
-
-        fits : length rec ≤ length answer
-        fits = leb-true (length rec) (length answer) test
-
-        told : w ≡ selectedBy true (length rows) (length rec)
-        told = given ∙ ap (λ (b : Bool). selectedBy b (length rows) (length rec)) test
-
-        size-told : w .length ≡ length rec
-        size-told = ap (λ (x : Selected). x .length) told
-
-        new-is : new ≡ written answer 0 rec
-        new-is = stored ∙ put-fits answer 0 rec (omega (arith, fits))
-
-        -- the record stands at the buffer's start
-        new-first : take (w .length) new ≡ rec
-        new-first = ap₂ take size-told new-is ∙ written-there answer 0 rec (omega (arith, fits))
-
-        pub new-inside : w .length ≤ length new
-        new-inside =
-            let l : length new ≡ length answer = ap length new-is ∙ length-written answer 0 rec (omega (arith, fits)) in
-            omega (arith, size-told, fits)
-
-        pub new-done : (key : Key) (t : State) (after : List ℕ) → key ≡ keyOf query values → t ≡ kept s key (take (w .length) new)
-            → after ≡ keptMemory s (take (w .length) new) memory
-            → asks (record { refusal = 0; cached = 0; scanned = w .scanned; length = w .length; state = t }) after new ≡ askNew s cells memory answer query values
-        unfolding askNew
-        new-done key t after q f m =
-            let n : w .scanned ≡ length rows = ap (λ (x : Selected). x .scanned) told in
-            let z : t ≡ kept s (keyOf query values) rec = f ∙ ap₂ (kept s) q new-first in
-            let a : after ≡ keptMemory s rec memory = m ∙ ap (λ (l : List ℕ). keptMemory s l memory) new-first in
-            rw (le-ltb (length answer) (length rec) fits)
-            (λ i. asks (record { refusal = 0; cached = 0; scanned = n i; length = size-told i; state = z i }) (a i) (new-is i))
+    pub new-done : (key : Key) (t : State) (after : List ℕ) → key ≡ keyOf query values → t ≡ kept s key (take (w .length) new)
+        → after ≡ keptMemory s (take (w .length) new) memory
+        → asks (record { refusal = 0; cached = 0; scanned = w .scanned; length = w .length; state = t }) after new ≡ askNew s cells memory answer query values
+    unfolding askNew
+    new-done key t after q f m =
+        let z : t ≡ kept s (keyOf query values) rec = f ∙ ap₂ (kept s) q new-first in
+        let a : after ≡ keptMemory s rec memory = m ∙ ap (λ (l : List ℕ). keptMemory s l memory) new-first in
+        (λ i. asks (record { refusal = 0; cached = 0; scanned = W .read k i; length = W .size k i; state = z i }) (a i) (W .bytes k i))
+        ∙ settled-done (newRefusal s cells (length answer) query values) (newly s cells memory answer query values)
+        (asks (askRefused s (newRefusal s cells (length answer) query values)) memory answer) (sym (W .number) ∙ k)
 
 -- ---- the whole question
 

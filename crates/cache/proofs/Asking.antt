@@ -1,26 +1,29 @@
 -- A question whose answer is not kept gets from a sound state what it gets from the plain store. Assumes nothing.
-use mathlib.Core.Path.{_≡_, refl, sym, ap, _∙_, subst}
+use mathlib.Core.Path.{_≡_, refl, sym, ap, ap₂, _∙_, subst}
 use mathlib.Core.Logic.{_≢_}
 use mathlib.Core.Bool.{Bool, true, false, not, _&&_, cond}
+use mathlib.Core.Option.{Option, none, some}
 use mathlib.Core.List.{List}
-use Prim.Native.Nat.{ℕ, zero, suc, _<_}
+use Prim.Native.Nat.{ℕ, zero, suc, _+_, _*_, _<_}
 use borrow.Author.Tests.{leb-false}
 use lib.Dec.{eqb, leb, ltb}
 use lib.IntN.{ℤ}
 use lib.ListN.{length}
 use Rattle.meaning.specs.Key.{Key}
-use Rattle.meaning.specs.Meaning.{answer}
+use Rattle.meaning.specs.Limits.{most-listed}
+use Rattle.meaning.specs.Statement.{Second}
+use Rattle.meaning.specs.Meaning.{Row, answer}
 use Rattle.meaning.specs.Record.{encode}
 use Rattle.meaning.specs.Plain as P
 use Rattle.meaning.specs.Plain.{Plain, recordOf, ask, Out, refused, answered, guard, orElse, refusal}
-use Rattle.lists.specs.Lists.{written}
+use Rattle.lists.specs.Lists.{written, pairs}
 use Rattle.meaning.proofs.Accepted.{key-asked}
-use Rattle.trace.specs.Model.{askRefusal as plainRefusal, shortRefusal}
+use Rattle.trace.specs.Model.{askRefusal as plainRefusal, shortRefusal, newRefusal as plainNew}
 use Rattle.trace.proofs.Laws.{firstOf, ask-refusal}
-use Rattle.statement.specs.Sound.{AgreesQuery}
-use Rattle.table.proofs.Means.{record-means}
+use Rattle.statement.specs.Sound.{secondRead, AgreesQuery}
+use Rattle.table.proofs.Means.{answer-means, record-means}
 use Rattle.slots.specs.declared.Found.{Found}
-use Rattle.slots.specs.declared.Found.the-variants.{Nothing}
+use Rattle.slots.specs.declared.Found.the-variants.{At, Nothing}
 use Rattle.slots.specs.declared.SlotList.{SlotList}
 use Rattle.slots.specs.declared.Key.{Key as Stored}
 use Rattle.slots.specs.Order.{takenOf}
@@ -28,12 +31,12 @@ use Rattle.slots.specs.Keys.{keyOf}
 use Rattle.cache.specs.declared.State.{State}
 use Rattle.cache.specs.Sound.{queryAt, soundState}
 use Rattle.cache.specs.Means.{Means, Typed}
-use Rattle.cache.specs.Calls.{settled, Asks, asks, askRefused, askRefusal, withCache, fitsSlot, putIn, kept, keptMemory, rowsAt, recordAt, askNew, askFound, foundIn, askOf}
+use Rattle.cache.specs.Calls.{settled, Asks, asks, askRefused, askRefusal, withCache, cachedLength, fitsSlot, putIn, kept, rowsAt, rowsOver, rowsFor, readOver, readFor, recordAt, tooMany, newRefusal, newly, askNew, askFound, foundIn, askOf}
 use Rattle.cache.specs.Run.{Store, stepAsk, step}
 use Rattle.cache.specs.Run as R
-use Rattle.cache.specs.Demand.{answerLength, lengthsLent}
+use Rattle.cache.specs.Demand.{lengthsLent}
 use Rattle.cache.proofs.Sounds.{Sound, sound-is}
-use Rattle.cache.proofs.Standing.{query-table}
+use Rattle.cache.proofs.Standing.{query-table, SecondThere, sound-second}
 use Rattle.cache.proofs.Meanings.{table-at, query-count, query-agrees}
 use Rattle.cache.proofs.Refusals.{found-number}
 use Rattle.cache.proofs.Refused.{Same, settled-same, same-else, unfit-is}
@@ -64,18 +67,46 @@ module _ (s : State) (T : Typed s) (S : Sound s) (cells : List ℤ) (p : Plain) 
   agrees : AgreesQuery (queryAt s n) (P.queryAt p n)
   agrees = query-agrees s T S cells p m n there
 
-  -- the rows of its table are the plain store's
-  pub rows-asked : rowsAt s cells (queryAt s n .table) ≡ P.tableAt p (P.queryAt p n .table) .rows
-  rows-asked =
-      ap (λ (t : P.Table). t .rows) (sym (table-at s T S cells p m (queryAt s n .table) (query-table s T S n there)))
-      ∙ ap (λ i. P.tableAt p i .rows) (agrees .table-is)
+  -- the rows of a table in use are the plain store's
+  rows-there : (i : ℕ) → i < s .«table_count» → rowsAt s cells i ≡ P.rowsAt (p .tables) i
+  rows-there i h = ap (λ (t : P.Table). t .rows) (sym (table-at s T S cells p m i h))
+
+  first-rows : rowsAt s cells (queryAt s n .table) ≡ P.rowsAt (p .tables) (P.queryAt p n .table)
+  first-rows = rows-there (queryAt s n .table) (query-table s T S n there) ∙ ap (P.rowsAt (p .tables)) (agrees .table-is)
+
+  -- and so are those that it is over, one table or two, and how many it reads
+  over-same : (o : Option Second) → SecondThere s o → (rowsOver s cells (queryAt s n .table) o ≡ P.rowsOver (p .tables) (P.queryAt p n) o)
+      × (readOver s cells (queryAt s n .table) o ≡ P.rowsReadOver (p .tables) (P.queryAt p n) o)
+  over-same none h = (first-rows, ap length first-rows)
+  over-same (some t) h =
+      let b : rowsAt s cells (t .table) ≡ P.rowsAt (p .tables) (t .table) = rows-there (t .table) h in
+      (ap₂ pairs first-rows b, ap₂ (λ (x y : List Row). length x + length x * length y) first-rows b)
+
+  abbrev other : Option Second
+  other = secondRead (queryAt s n)
+
+  second-there : SecondThere s other
+  second-there = sound-second s T S n there
+
+  pub rows-asked : rowsFor s cells (queryAt s n) ≡ P.rowsFor p (P.queryAt p n)
+  rows-asked = over-same other second-there .0 ∙ ap (P.rowsOver (p .tables) (P.queryAt p n)) (agrees .second-is)
+
+  pub read-asked : (vs : List ℤ) → readFor s cells (queryAt s n) ≡ P.rowsRead p (record { query = n; values = vs })
+  read-asked vs = over-same other second-there .1 ∙ ap (P.rowsReadOver (p .tables) (P.queryAt p n)) (agrees .second-is)
 
   -- and so is the record
   pub record-is : (vs : List ℤ) → recordAt s cells n vs ≡ recordOf p (record { query = n; values = vs })
   unfolding recordAt recordOf
   record-is vs =
-      record-means (queryAt s n) (P.queryAt p n) agrees vs (rowsAt s cells (queryAt s n .table))
+      record-means (queryAt s n) (P.queryAt p n) agrees vs (rowsFor s cells (queryAt s n))
       ∙ ap (λ rows. encode (length (P.queryAt p n .selected)) (answer (P.queryAt p n) vs rows)) rows-asked
+
+  -- and whether it has too many rows
+  pub many-is : (vs : List ℤ) → tooMany s cells n vs ≡ P.tooMany p (record { query = n; values = vs })
+  unfolding tooMany P.tooMany
+  many-is vs =
+      ap (λ (l : List Row). ltb most-listed (length l))
+      (answer-means (queryAt s n) (P.queryAt p n) agrees vs (rowsFor s cells (queryAt s n)) ∙ ap (answer (P.queryAt p n) vs) rows-asked)
 
 -- ---- the whole call
 
@@ -103,37 +134,29 @@ module _ (s : Store) (p : Plain) (T : Typed (s .state)) (h : soundState (s .stat
       (query-agrees (s .state) T S (s .cells) p m n
       (subst (λ k. n < k) count (leb-false (length (p .queries)) n b)) .parameters-are)))
 
-  abbrev done : Asks
-  done = asks
-      (record {
-        refusal = 0;
-        cached = 0;
-        scanned = length (rowsAt (s .state) (s .cells) (queryAt (s .state) n .table));
-        length = length (recordAt (s .state) (s .cells) n vs);
-        state = kept (s .state) (keyOf n vs) (recordAt (s .state) (s .cells) n vs);
-      })
-      (keptMemory (s .state) (recordAt (s .state) (s .cells) n vs) (s .memory))
-      (written buffer 0 (recordAt (s .state) (s .cells) n vs))
+  -- 16 and 13
+  pub new-number : n < s .state .«query_count» → newRefusal (s .state) (s .cells) (length buffer) n vs ≡ plainNew p key (length buffer)
+  unfolding newRefusal
+  new-number there =
+      ap₂ (λ (many : Bool) (r : List ℕ). orElse many 16 (shortRefusal (length buffer) r))
+      (many-is (s .state) T S (s .cells) p m n there vs) (record-is (s .state) T S (s .cells) p m n there vs)
 
-  -- 13, or a new answer
+  -- 16, 13, or a new answer
   new-same : n < s .state .«query_count» → Same buffer (stepAsk s (askNew (s .state) (s .cells) (s .memory) buffer n vs))
-      (guard (shortRefusal (length buffer) (recordOf p key)) p refused (p, answered (recordOf p key)))
+      (guard (plainNew p key (length buffer)) p refused (p, answered (recordOf p key)))
   unfolding askNew
   new-same there =
-      subst (λ r. Same buffer (stepAsk s (askNew (s .state) (s .cells) (s .memory) buffer n vs)) (guard (shortRefusal (length buffer) r) p refused (p, answered r)))
+      settled-same (stepAsk s) (newly (s .state) (s .cells) (s .memory) buffer n vs) (λ k. asks (askRefused (s .state) k) (s .memory) buffer) buffer s p
+      (p, answered (recordOf p key)) m (λ k. refl) _ _ (new-number there)
+      (λ z. subst (λ r. Same buffer (stepAsk s (newly (s .state) (s .cells) (s .memory) buffer n vs)) (p, answered r))
       (record-is (s .state) T S (s .cells) p m n there vs)
-      (go (ltb (length buffer) (length (recordAt (s .state) (s .cells) n vs))))
-    where
-      go : (b : Bool) → Same buffer (stepAsk s (cond b (asks (askRefused (s .state) 13) (s .memory) buffer) done))
-          (guard (orElse b 13 0) p refused (p, answered (recordAt (s .state) (s .cells) n vs)))
-      go true = (refl, m)
-      go false = (refl, kept-means (s .state) (s .cells) p m (keyOf n vs) (recordAt (s .state) (s .cells) n vs))
+      (refl, kept-means (s .state) (s .cells) p m (keyOf n vs) (recordAt (s .state) (s .cells) n vs)))
 
   abbrev found : Found → Asks
   found f = askFound f (s .state) (s .cells) (s .memory) buffer n vs
 
   abbrev answeredPlain : Plain × Out
-  answeredPlain = guard (shortRefusal (length buffer) (recordOf p key)) p refused (p, answered (recordOf p key))
+  answeredPlain = guard (plainNew p key (length buffer)) p refused (p, answered (recordOf p key))
 
   -- refused before the answer is looked for, or by what is found
   ask-by : (plainRefusal (lengthsLent s) p key ≡ 0 → Same buffer (stepAsk s (found (foundIn (s .state) n vs))) answeredPlain)
@@ -141,7 +164,7 @@ module _ (s : Store) (p : Plain) (T : Typed (s .state)) (h : soundState (s .stat
   unfolding step askOf
   ask-by d =
       subst (Same buffer (step s (R.ask n vs buffer)))
-      (guard-first (plainRefusal (lengthsLent s) p key) (shortRefusal (length buffer) (recordOf p key)) p refused (p, answered (recordOf p key))
+      (guard-first (plainRefusal (lengthsLent s) p key) (plainNew p key (length buffer)) p refused (p, answered (recordOf p key))
       ∙ ap (λ k. guard k p refused (p, answered (recordOf p key))) (sym (ask-refusal (lengthsLent s) p key (length buffer))))
       (settled-same (stepAsk s) (found (foundIn (s .state) n vs)) (λ k. asks (askRefused (s .state) k) (s .memory) buffer) buffer s p answeredPlain m (λ k. refl) _ _ ask-number d)
 
@@ -151,20 +174,26 @@ module _ (s : Store) (p : Plain) (T : Typed (s .state)) (h : soundState (s .stat
       ask-by (λ z. subst (λ f. Same buffer (stepAsk s (found f)) answeredPlain) (sym anew)
       (new-same (subst (λ k. n < k) (query-count (s .state) T S (s .cells) p m) (key-asked (lengthsLent s) p key z .there))))
 
-  -- what is found is refused by 13 alone
-  found-short : (f : Found) → found f .result .refusal ≢ 0 → found f .result .refusal ≢ 13 → ⊥
-  found-short f = go (ltb (length buffer) (answerLength s n vs f)) (found-number s n vs buffer f)
+  -- a held answer is refused by 13 alone
+  held-short : (i : ℕ) → found (At i) .result .refusal ≢ 0 → found (At i) .result .refusal ≢ 13 → ⊥
+  held-short i = go (ltb (length buffer) (cachedLength (s .state) i)) (found-number s n vs buffer (At i))
     where
-      go : (b : Bool) → found f .result .refusal ≡ orElse b 13 0 → found f .result .refusal ≢ 0 → found f .result .refusal ≢ 13 → ⊥
+      go : (b : Bool) → found (At i) .result .refusal ≡ orElse b 13 0 → found (At i) .result .refusal ≢ 0 → found (At i) .result .refusal ≢ 13 → ⊥
       go true e a c = c e
       go false e a c = a e
 
-  -- a number other than 13 is given before that
+  refused-by : (i : ℕ) → foundIn (s .state) n vs ≡ At i → plainRefusal (lengthsLent s) p key ≡ 0
+      → step s (R.ask n vs buffer) .1 .got .refusal ≡ found (At i) .result .refusal
+  unfolding step askOf settled
+  refused-by i e z =
+      ap (λ k. stepAsk s (settled k (found (foundIn (s .state) n vs)) (asks (askRefused (s .state) k) (s .memory) buffer)) .1 .got .refusal) (ask-number ∙ z)
+      ∙ ap (λ f. found f .result .refusal) e
+
+  -- a number other than 13 is given before that, or of an answer worked out
   pub ask-refused-same : step s (R.ask n vs buffer) .1 .got .refusal ≢ 0 → step s (R.ask n vs buffer) .1 .got .refusal ≢ 13
       → Same buffer (step s (R.ask n vs buffer)) (P.step (lengthsLent s) p (ask key (length buffer)))
-  unfolding step askOf settled
-  ask-refused-same a b =
-      ask-by (λ z.
-      let e : step s (R.ask n vs buffer) .1 .got .refusal ≡ found (foundIn (s .state) n vs) .result .refusal =
-      ap (λ k. stepAsk s (settled k (found (foundIn (s .state) n vs)) (asks (askRefused (s .state) k) (s .memory) buffer)) .1 .got .refusal) (ask-number ∙ z) in
-      absurd (found-short (foundIn (s .state) n vs) (λ i. a (e ∙ i)) (λ i. b (e ∙ i))))
+  ask-refused-same a b = go (foundIn (s .state) n vs) refl
+    where
+      go : (f : Found) → foundIn (s .state) n vs ≡ f → Same buffer (step s (R.ask n vs buffer)) (P.step (lengthsLent s) p (ask key (length buffer)))
+      go Nothing e = ask-same e
+      go (At i) e = ask-by (λ z. absurd (held-short i (λ k. a (refused-by i e z ∙ k)) (λ k. b (refused-by i e z ∙ k))))

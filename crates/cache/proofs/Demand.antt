@@ -28,11 +28,11 @@ use Rattle.trace.proofs.Demand.{demands as on-model}
 use Rattle.cache.specs.Sound.{opening}
 use Rattle.cache.specs.Run.{Start, openingOf, opened, Call, add, ask, update, flush, Got, Seen, step, after, plainCall, gotOf, plainAfter}
 use Rattle.cache.specs.Means.{Means}
-use Rattle.cache.specs.Demand.{SameAsPlain, slotCount, slotSize, past, nextAsk, AnewOnlyIf, ThirdDemand, StandsInList, DropsInList, KeptOtherwise, RowsRead, Values32, AnswerReadsBack, Demands}
+use Rattle.cache.specs.Demand.{SameAsPlain, slotCount, slotSize, past, nextAsk, AnewOnlyIf, ReadsFor, ThirdDemand, StandsInList, DropsInList, KeptOtherwise, RowsRead, Values32, AnswerReadsBack, Demands}
 use Rattle.cache.proofs.SoundMeans.{sound-exactly-if}
 use Rattle.cache.proofs.Openings.{opens-exactly-if, opening-taken, opening-refused, flush-drops-all}
 use Rattle.cache.proofs.Accepting.{accepted-exactly-if}
-use Rattle.cache.proofs.Answers.{new-answer, kept-answer}
+use Rattle.cache.proofs.Answers.{new-answer, kept-answer, reads-for}
 use Rattle.cache.proofs.Refusals.{lowest-number, refused-changes-nothing}
 use Rattle.cache.proofs.StaysSound.{opens-sound, stays-sound}
 use Rattle.cache.proofs.Standing.{stands-for-plain}
@@ -54,7 +54,7 @@ ask-out : (lent : Lengths) (size : ℕ) (m : Model) (k : Key) (b : ℕ) → AskO
 ask-out lent size m k b = guard-out (T.askRefusal lent (m .store) k) m _ (go (find sameKey k (m .cache .held)))
   where
     go : (o : Option (Held Key × List (Held Key))) → AskOut (asked lent size m k b o .1 .out)
-    go none = guard-out (T.shortRefusal b (recordOf (m .store) k)) m _ (inr (_, refl))
+    go none = guard-out (T.newRefusal (m .store) k b) m _ (inr (_, refl))
     go (some w) = guard-out (T.shortRefusal b (slotBytes size (m .cache .memory) (w .0))) m _ (inr (_, refl))
 
 answer-of : (buffer : List ℕ) (o : Out) → AskOut o → (g : Got) → g ≡ gotOf buffer o → g .refusal ≡ 0 → (r : List ℕ) × (o ≡ answered r)
@@ -123,7 +123,7 @@ kept-otherwise o cs k buffer e asked fit hit few =
 
 -- what a question gets in the model: a refusal, a kept answer, or the rows of its table read
 abbrev AskSeen : Model → Key → T.Seen → Type 0
-AskSeen m k x = ((n : ℕ) × (x .out ≡ refused (suc n))) ⊎ ((x .kept ≡ 1) ⊎ (x .scanned ≡ P.rowsAsked (m .store) (k .query)))
+AskSeen m k x = ((n : ℕ) × (x .out ≡ refused (suc n))) ⊎ ((x .kept ≡ 1) ⊎ (x .scanned ≡ P.rowsRead (m .store) k))
 
 guard-seen : (n : ℕ) (m : Model) (k : Key) (q : Model × T.Seen) → AskSeen m k (q .1) → AskSeen m k (P.guard n m turned q .1)
 guard-seen zero m k q a = a
@@ -133,14 +133,14 @@ ask-seen : (lent : Lengths) (size : ℕ) (m : Model) (k : Key) (b : ℕ) → Ask
 ask-seen lent size m k b = guard-seen (T.askRefusal lent (m .store) k) m k _ (go (find sameKey k (m .cache .held)))
   where
     go : (o : Option (Held Key × List (Held Key))) → AskSeen m k (asked lent size m k b o .1)
-    go none = guard-seen (T.shortRefusal b (recordOf (m .store) k)) m k _ (inr (inr refl))
+    go none = guard-seen (T.newRefusal (m .store) k b) m k _ (inr (inr refl))
     go (some w) = guard-seen (T.shortRefusal b (slotBytes size (m .cache .memory) (w .0))) m k _ (inr (inl refl))
 
 pub rows-read : RowsRead
 rows-read o cs k buffer e z = go (ask-seen (openingOf o .lent) (T.slotSize (openingOf o)) (D.afterCalls (startOf o) (map plainCall cs)) k (length buffer))
   where
     go : AskSeen (D.afterCalls (startOf o) (map plainCall cs)) k (D.nextCall (startOf o) (map plainCall cs) (P.ask k (length buffer)))
-        → nextAsk o cs k buffer .scanned ≡ P.rowsAsked (plainAfter o cs) (k .query)
+        → ReadsFor (plainAfter o cs) k (nextAsk o cs k buffer .scanned)
     go (inl (n, y)) =
         let a : 0 ≡ suc n = sym e ∙ ap (λ (x : Got). x .refusal) (next o cs k buffer .got ∙ ap (gotOf buffer) y) in
         absurd (omega arith)
@@ -148,7 +148,8 @@ rows-read o cs k buffer e z = go (ask-seen (openingOf o .lent) (T.slotSize (open
         let a : _≡_ {A = ℕ} 0 1 = sym z ∙ next o cs k buffer .kept ∙ y in
         absurd (omega arith)
     go (inr (inr y)) =
-        next o cs k buffer .scanned ∙ y ∙ ap (λ (p : Plain). P.rowsAsked p (k .query)) (on-model .same-as-plain (startOf o) (map plainCall cs) .1)
+        reads-for (plainAfter o cs) k
+        (next o cs k buffer .scanned ∙ y ∙ ap (λ (p : Plain). P.rowsRead p k) (on-model .same-as-plain (startOf o) (map plainCall cs) .1))
 
 -- ---- the list as a whole
 

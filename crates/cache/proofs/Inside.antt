@@ -1,17 +1,18 @@
 -- What a sound state says of the places that a question reads and writes: its query and table, the slot at a held place, and the last slot. Assumes nothing.
-use mathlib.Core.Path.{_≡_, refl, _∙_}
+use mathlib.Core.Path.{_≡_, refl, sym, ap, _∙_, subst}
 use mathlib.Core.Bool.{Bool, true, false, cond}
-use Prim.Native.Nat.{ℕ, _+_, _*_, _≤_, _<_}
+use mathlib.Core.Option.{some}
+use Prim.Native.Nat.{ℕ, zero, suc, _+_, _-_, _*_, _≤_, _<_}
 use native.Mathlib.Omega.{arith}
-use borrow.Author.Tests.{leb-true}
-use lib.Dec.{leb}
+use borrow.Author.Tests.{leb-true, ltb-true}
+use lib.Dec.{leb, ltb}
 use lib.ListN.{length, getD, length-map}
 use lib.Seq.{length-take-le}
 use Rattle.lists.proofs.Bools.{and-left}
 use Rattle.meaning.specs.Limits.{most-memory, most-slots, most-tables, most-queries}
 use Rattle.statement.specs.declared.Query.{Query}
 use Rattle.statement.specs.Catalog.{schemaOf}
-use Rattle.statement.specs.Sound.{soundQuery}
+use Rattle.statement.specs.Sound.{columnsAt, secondBy, soundSecond, soundQuery}
 use Rattle.statement.proofs.SoundQuery.{query-parts}
 use Rattle.slots.specs.declared.SlotList.{SlotList}
 use Rattle.slots.specs.declared.Taken.{Taken}
@@ -25,15 +26,40 @@ use Rattle.cache.proofs.Sounds.{Sound, All-first, HeldSound, slot-room,
 
 -- ---- the table of a query
 
-pub query-table : (s : State) → Sound s → length (s .tables) ≡ most-tables → length (s .queries) ≡ most-queries → (i : ℕ) (d : Query) → i < s .«query_count»
-    → getD (s .queries) i d .table < most-tables
-query-table s S tables queries i d h =
-    let q : Query = getD (s .queries) i d in
-    let sound : soundQuery (schemasIn s) q ≡ true =
-    All-first {P = λ (x : Query). soundQuery (schemasIn s) x ≡ true} (s .«query_count») (s .queries) i d (omega (arith, S .few-queries)) h (S .queries) in
-    let there : q .table < length (schemasIn s) = query-parts (schemasIn s) q sound .there in
-    let long : length (schemasIn s) ≡ s .«table_count» = length-map (usedTables s) schemaOf ∙ length-take-le (s .«table_count») (s .tables) (omega (arith, S .few-tables)) in
-    omega (arith, S .few-tables)
+-- a number that is not 0 follows another
+pub behind-zero : (n : ℕ) → (n ≡ 0 → ⊥) → n ≡ suc (n - 1)
+behind-zero zero h = absurd (h refl)
+behind-zero (suc n) h = omega arith
+
+module _ (s : State) (S : Sound s) (tables : length (s .tables) ≡ most-tables) (queries : length (s .queries) ≡ most-queries) (i : ℕ) (d : Query) (h : i < s .«query_count») where
+  abbrev query : Query
+  query = getD (s .queries) i d
+
+  sound : soundQuery (schemasIn s) query ≡ true
+  sound = All-first {P = λ (x : Query). soundQuery (schemasIn s) x ≡ true} (s .«query_count») (s .queries) i d (omega (arith, S .few-queries)) h (S .queries)
+
+  long : length (schemasIn s) ≡ s .«table_count»
+  long = length-map (usedTables s) schemaOf ∙ length-take-le (s .«table_count») (s .tables) (omega (arith, S .few-tables))
+
+  pub query-there : query .table < s .«table_count»
+  query-there = subst (λ (n : ℕ). query .table < n) long (query-parts (schemasIn s) query sound .there)
+
+  pub query-table : query .table < most-tables
+  query-table = omega (arith, query-there, S .few-tables)
+
+  -- and its second one (A.1)
+  pub second-there : (k : ℕ) → query .second ≡ suc k → k < s .«table_count»
+  second-there k e =
+      let t : soundSecond (schemasIn s) (query .table) (columnsAt (schemasIn s) (query .table)) (some (record { table = k; start = query .start })) ≡ true =
+      ap (λ (n : ℕ). soundSecond (schemasIn s) (query .table) (columnsAt (schemasIn s) (query .table)) (secondBy n (query .start))) (sym e)
+      ∙ query-parts (schemasIn s) query sound .second-sound in
+      subst (λ (n : ℕ). k < n) long (ltb-true k (length (schemasIn s)) (and-left (ltb k (length (schemasIn s))) _ t))
+
+  pub second-used : (query .second ≡ 0 → ⊥) → query .second - 1 < s .«table_count»
+  second-used h = second-there (query .second - 1) (behind-zero (query .second) h)
+
+  pub second-table : (query .second ≡ 0 → ⊥) → query .second - 1 < most-tables
+  second-table h = omega (arith, second-used h, S .few-tables)
 
 -- ---- slots
 

@@ -8,6 +8,7 @@ pub mod Opening
 pub mod Placing
 pub mod Inside
 pub mod AskReturns
+pub mod Working
 pub mod Marks
 pub mod Marking
 pub mod DropsMarked

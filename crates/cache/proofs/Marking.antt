@@ -22,7 +22,9 @@ use Rattle.statement.specs.declared.Query.{Query}
 use Rattle.statement.specs.declared.Update.{Update}
 use Rattle.statement.specs.Compiled.{noQuery}
 use Rattle.pattern.specs.declared.Pattern.{Pattern}
-use Rattle.pattern.specs.Stored.{relevant, clauseTotal, patternAt, filledOf, agreesStored}
+use Rattle.pattern.specs.Relevance.{isRead}
+use Rattle.pattern.specs.Stored.{clauseTotal, patternAt, filledOf, agreesStored}
+use Rattle.pattern.proofs.Laws.{none-elsewhere}
 use Rattle.slots.specs.declared.Key.{Key}
 use Rattle.slots.specs.declared.SlotList.{SlotList}
 use Rattle.slots.specs.Keys.{valuesOf, slotKey}
@@ -191,15 +193,14 @@ module _ (keys : List Key) (n : ℕ) (order : List ℕ) (q : ℕ) (query : Query
 
 -- ---- the queries
 
--- a query of another table marks nothing
-other-total : (query : Query) (u : Update) → eqb (query .table) (u .table) ≡ false → clauseTotal query u ≡ 0
-unfolding clauseTotal relevant
-other-total query u e = rw e
+-- a query that reads another table marks nothing
+abbrev readsOf : Query → Update → Bool
+readsOf q u = isRead (q .table) (q .second) (u .table)
 
-other-marks : (keys : List Key) (s : SlotList) (q : ℕ) (query : Query) (u : Update) (us : List ℤ) (marks : List Bool) → eqb (query .table) (u .table) ≡ false
+other-marks : (keys : List Key) (s : SlotList) (q : ℕ) (query : Query) (u : Update) (us : List ℤ) (marks : List Bool) → readsOf query u ≡ false
     → queryMarks keys s q query u us marks ≡ marks
 other-marks keys s q query u us marks e =
-    ap (λ (k : ℕ). markedEach (map (λ (i : ℕ). agreesAt keys q (filledOf us (patternAt query u i))) (from 0 k)) (heldSlots s) marks) (other-total query u e)
+    ap (λ (k : ℕ). markedEach (map (λ (i : ℕ). agreesAt keys q (filledOf us (patternAt query u i))) (from 0 k)) (heldSlots s) marks) (none-elsewhere query u e)
 
 module _ (keys : List Key) (s : SlotList) (queries : List Query) (n : ℕ) (u : Update) (us : List ℤ) where
   pub record Queries (q : ℕ) (marks : List Bool) : Type 0 where
@@ -237,15 +238,15 @@ module _ (keys : List Key) (s : SlotList) (queries : List Query) (n : ℕ) (u : 
               ∙ (rw (holds true t) at turn-over);
         }
 
-    -- a query that holds no answer, or is of another table
-    pub queries-no : (d : Query) → length queries ≡ 16 → (isMarked found q && eqb (getD queries q d .table) (u .table)) ≡ false → Queries (q + 1) marks
-    queries-no d l t = record { within = omega arith; left = ap (marksOver keys s queries u us (from (q + 1) (n - (q + 1)))) (sym (go (isMarked found q) refl)) ∙ turn-over }
+    -- a query that holds no answer, or reads another table
+    pub queries-no : (d : Query) (same : Bool) → same ≡ readsOf (getD queries q d) u → length queries ≡ 16 → (isMarked found q && same) ≡ false → Queries (q + 1) marks
+    queries-no d same r l t = record { within = omega arith; left = ap (marksOver keys s queries u us (from (q + 1) (n - (q + 1)))) (sym (go (isMarked found q) refl)) ∙ turn-over }
       where
-        table-is : getD queries q d .table ≡ getD queries q noQuery .table
-        table-is = ap (λ (x : Query). x .table) (getD-inside queries q d noQuery (omega arith))
+        query-is : getD queries q d ≡ getD queries q noQuery
+        query-is = getD-inside queries q d noQuery (omega arith)
 
-        unlike : isMarked found q ≡ true → eqb (getD queries q noQuery .table) (u .table) ≡ false
-        unlike f = ap (λ (i : ℕ). eqb i (u .table)) (sym table-is) ∙ (rw f at t)
+        unlike : isMarked found q ≡ true → readsOf (getD queries q noQuery) u ≡ false
+        unlike f = ap (λ (x : Query). readsOf x u) (sym query-is) ∙ sym r ∙ (rw f at t)
 
         go : (b : Bool) → isMarked found q ≡ b → cond (holdsAnswer keys s q) (queryMarks keys s q (getD queries q noQuery) u us marks) marks ≡ marks
         go false f = rw (holds false f)

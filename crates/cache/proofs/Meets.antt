@@ -16,7 +16,7 @@ use Rattle.lists.proofs.Lists.{All-head, All-right, All-map, All-every, All-get
 use Rattle.meaning.specs.Key.{Key, sameKey}
 use Rattle.meaning.specs.Limits.{most-slots, most-marks}
 use Rattle.meaning.specs.Plain as P
-use Rattle.meaning.specs.Plain.{Lengths, Plain, otherLengths, refusal, recordOf, rowsAsked, matchesKey, Out, refused, answered, does, guard, orElse}
+use Rattle.meaning.specs.Plain.{Lengths, Plain, otherLengths, refusal, recordOf, rowsRead, matchesKey, Out, refused, answered, does, guard, orElse}
 use Rattle.meaning.proofs.Accepted.{Asked, key-asked}
 use Rattle.trace.specs.History.{fits}
 use Rattle.trace.specs.Slots.{Held, find, put}
@@ -36,12 +36,12 @@ use Rattle.cache.specs.declared.State.{State}
 use Rattle.cache.specs.declared.Added.{Added}
 use Rattle.cache.specs.Sound.{soundState, lengthAt, queryAt}
 use Rattle.cache.specs.Means.{Means, Typed}
-use Rattle.cache.specs.Calls.{settled, addedOf, addedBy, addRefusal, addOf, compiledBeside, addRefused, Asks, asks, askRefused, askRefusal, withCache, bytesAt, askCached, kept, recordAt, askNew, askFound, foundIn, askOf, Updates, updates, updateAt, updateRefused, updateRefusal, isMatched, withChange, updateDone, updateOf, unfit, emptied, flushOf}
+use Rattle.cache.specs.Calls.{settled, addedOf, addedBy, addRefusal, addOf, compiledBeside, addRefused, Asks, asks, askRefused, askRefusal, withCache, bytesAt, askCached, kept, recordAt, newRefusal, newly, askNew, askFound, foundIn, askOf, Updates, updates, updateAt, updateRefused, updateRefusal, isMatched, withChange, updateDone, updateOf, unfit, emptied, flushOf}
 use Rattle.cache.specs.Run.{Store, Call, add, ask, update, flush, Got, Seen, stepAsk, stepUpdate, stepFlush, step, plainCall, bufferOf, gotOf}
 use Rattle.cache.specs.Demand.{lengthsLent}
 use Rattle.cache.proofs.Sounds.{Sound, sound-is, held-below, held-sound, query-at}
 use Rattle.cache.proofs.Meanings.{query-count, query-agrees}
-use Rattle.cache.proofs.Asking.{cache-means, rows-asked, record-is, ask-number}
+use Rattle.cache.proofs.Asking.{cache-means, read-asked, record-is, ask-number, new-number}
 use Rattle.cache.proofs.Updating.{update-there}
 use Rattle.cache.proofs.Plainly.{does-as-plain}
 use Rattle.cache.proofs.Dropping.{MatchesMean, matched-is}
@@ -178,19 +178,17 @@ module _ (s : Store) (p : Plain) (Ty : Typed (s .state)) (h : soundState (s .sta
 
     -- the model's step, with the record x
     abbrev answeredNew : List ℕ → Model × T.Seen
-    answeredNew x =
-        guard (shortRefusal (length buffer) x) (modelOf s p) turned (
-          record { store = p; cache = put size (fits size x) (cacheOf (s .state) (s .memory)) (asKey n vs) x },
-          record { out = answered x; kept = 0; scanned = rowsAsked p n; drops = 0 },
-        )
+    answeredNew x = (
+      record { store = p; cache = put size (fits size x) (cacheOf (s .state) (s .memory)) (asKey n vs) x },
+      record { out = answered x; kept = 0; scanned = rowsRead p (asKey n vs); drops = 0 },
+    )
 
-    new-meets : Meets s buffer (stepAsk s (askNew (s .state) (s .cells) (s .memory) buffer n vs)) (answeredNew (recordOf p (asKey n vs)))
-    unfolding askNew withCache
-    new-meets =
+    newly-meets : Meets s buffer (stepAsk s (newly (s .state) (s .cells) (s .memory) buffer n vs)) (answeredNew (recordOf p (asKey n vs)))
+    unfolding withCache
+    newly-meets =
         let K = kept-is (s .state) Ty S (s .memory) (keyOf n vs) r in
-        subst (λ (x : List ℕ). Meets s buffer (stepAsk s (askNew (s .state) (s .cells) (s .memory) buffer n vs)) (answeredNew x))
+        subst (λ (x : List ℕ). Meets s buffer (stepAsk s (newly (s .state) (s .cells) (s .memory) buffer n vs)) (answeredNew x))
         (record-is (s .state) Ty S (s .cells) p m n there vs)
-        (short-meets (ltb (length buffer) (length r)) _ _
         (record {
           means = subst (λ (t : State). Means t (s .cells) p) (sym (K .3)) (cache-means (s .state) (s .cells) p m (K .0) (K .1) (K .2));
           cached =
@@ -201,8 +199,22 @@ module _ (s : Store) (p : Plain) (Ty : Typed (s .state)) (h : soundState (s .sta
           bytes-same = ap (λ (t : State). t .«slot_bytes») (K .3);
           got = refl;
           kept = refl;
-          scanned = ap length (rows-asked (s .state) Ty S (s .cells) p m n there);
-        }))
+          scanned = read-asked (s .state) Ty S (s .cells) p m n there vs;
+        })
+
+    -- 16, 13, or done
+    new-meets : Meets s buffer (stepAsk s (askNew (s .state) (s .cells) (s .memory) buffer n vs))
+        (guard (T.newRefusal p (asKey n vs) (length buffer)) (modelOf s p) turned (answeredNew (recordOf p (asKey n vs))))
+    unfolding askNew settled
+    new-meets =
+        subst (λ (k : ℕ). Meets s buffer (stepAsk s (askNew (s .state) (s .cells) (s .memory) buffer n vs)) (guard k (modelOf s p) turned (answeredNew (recordOf p (asKey n vs)))))
+        (new-number s p Ty h m n vs buffer there)
+        (go (newRefusal (s .state) (s .cells) (length buffer) n vs))
+      where
+        go : (k : ℕ) → Meets s buffer (stepAsk s (settled k (newly (s .state) (s .cells) (s .memory) buffer n vs) (asks (askRefused (s .state) k) (s .memory) buffer)))
+            (guard k (modelOf s p) turned (answeredNew (recordOf p (asKey n vs))))
+        go zero = newly-meets
+        go (suc k) = refused-meets s p m buffer (suc k)
 
     -- ---- by what is found
 

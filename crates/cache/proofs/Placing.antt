@@ -43,13 +43,16 @@ module _ (s : State) (p : Plain) (t : length (p .tables) ≡ s .«table_count»)
   sentence-place (G.select cs n w) h =
       let l = leb-false most-queries (length (p .queries)) h in
       lt-ltb (s .«query_count») most-queries (omega arith)
+  sentence-place (G.pair cs n m w) h =
+      let l = leb-false most-queries (length (p .queries)) h in
+      lt-ltb (s .«query_count») most-queries (omega arith)
   sentence-place (G.insert n vs) h = change-place h
   sentence-place (G.update n ss w) h = change-place h
   sentence-place (G.delete n w) h = change-place h
 
   text-place : (text : List ℕ) (o : Option Sentence) → All (λ c. c .1 ≡ false) (drop 1 (addConditions (p .lengths) p text o)) → hasPlace (structOfText (schemas p) o .kind) s ≡ true
   text-place text none a = clash refl (All-head (All-tail a))
-  text-place text (some x) a = sentence-place x (All-head (All-tail (All-tail (All-tail (All-tail (All-tail (All-tail a)))))))
+  text-place text (some x) a = sentence-place x (All-head (All-tail (All-tail (All-tail (All-tail (All-tail (All-tail (All-tail a))))))))
 
   settled-place : (text : List ℕ) (n : ℕ) → lowestOf (textConditions p text) ≡ n → T.settled n (structOfText (schemas p) (sentence text)) .refusal ≡ 0
       → hasPlace (T.settled n (structOfText (schemas p) (sentence text)) .kind) s ≡ true

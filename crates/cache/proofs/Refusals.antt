@@ -15,6 +15,7 @@ use Rattle.meaning.specs.Grammar.{Sentence, sentence}
 use Rattle.meaning.specs.Names.{Schema}
 use Rattle.meaning.specs.Statement.{Statement, creates, asks, changes, statementOf}
 use Rattle.meaning.specs.Plain.{orElse, lowestOf}
+use Rattle.meaning.specs.Demand.{rank}
 use Rattle.meaning.proofs.Accepted.{ascends, LowestIn, lowest-in}
 use Rattle.statement.specs.declared.Statement as D
 use Rattle.statement.specs.Catalog.{catalog}
@@ -24,9 +25,9 @@ use Rattle.slots.specs.declared.Found.the-variants.{At, Nothing}
 use Rattle.cache.specs.declared.State.{State}
 use Rattle.cache.specs.declared.Added.{Added}
 use Rattle.cache.specs.declared.Flushed.{Flushed}
-use Rattle.cache.specs.Calls.{settled, unfit, compiledBeside, addRefused, addedOf, addedBy, addRefusal, addOf, Asks, asks as asked, askRefused, askConditions, askRefusal, cachedLength, askCached, recordAt, askNew, askFound, foundIn, askOf, Updates, updates, updateRefused, updateAt, updateRefusal, updateDone, updateOf, emptied, flushOf}
+use Rattle.cache.specs.Calls.{settled, unfit, compiledBeside, addRefused, addedOf, addedBy, addRefusal, addOf, Asks, asks as asked, askRefused, askConditions, askRefusal, cachedLength, askCached, newConditions, newRefusal, newly, askNew, askFound, foundIn, askOf, Updates, updates, updateRefused, updateAt, updateRefusal, updateDone, updateOf, emptied, flushOf}
 use Rattle.cache.specs.Run.{Store, Call, add, ask, update, flush, stepAdd, stepAsk, stepUpdate, stepFlush, step}
-use Rattle.cache.specs.Demand.{answerLength, conditions, Lowest, LowestNumber, refusedWith, RefusedChangesNothing}
+use Rattle.cache.specs.Demand.{answerConditions, conditions, Lowest, LowestNumber, refusedWith, RefusedChangesNothing}
 
 -- ---- a call that is settled by a number
 
@@ -70,9 +71,10 @@ settled-zero (suc n) = refl
 lowest-append : (k : ℕ) (cs ds : List (ℕ × Bool)) → ascends k cs ≡ true → lowestOf (cs ++ ds) ≡ settled (lowestOf cs) (lowestOf ds) (lowestOf cs)
 unfolding settled
 lowest-append k [] ds a = refl
-lowest-append k (c ∷ cs) ds a = go (c .1) (c .0) (ltb-true k (c .0) (and-left (ltb k (c .0)) _ a)) (lowest-append (c .0) cs ds (and-right (ltb k (c .0)) _ a))
+lowest-append k (c ∷ cs) ds a =
+    go (c .1) (c .0) (ltb-true k (rank (c .0)) (and-left (ltb k (rank (c .0))) _ a)) (lowest-append (rank (c .0)) cs ds (and-right (ltb k (rank (c .0))) _ a))
   where
-    go : (b : Bool) (n : ℕ) → k < n → lowestOf (cs ++ ds) ≡ settled (lowestOf cs) (lowestOf ds) (lowestOf cs)
+    go : (b : Bool) (n : ℕ) → k < rank n → lowestOf (cs ++ ds) ≡ settled (lowestOf cs) (lowestOf ds) (lowestOf cs)
         → orElse b n (lowestOf (cs ++ ds)) ≡ settled (orElse b n (lowestOf cs)) (lowestOf ds) (orElse b n (lowestOf cs))
     go true zero h e = absurd (omega arith)
     go true (suc n) h e = refl
@@ -156,16 +158,20 @@ module _ (s : Store) (query : ℕ) (values : List ℤ) (buffer : List ℕ) where
   abbrev askedNumber : Asks → ℕ
   askedNumber r = r .result .refusal
 
-  -- 13, or none
-  pub found-number : (f : Found) → answerFound f .result .refusal ≡ orElse (ltb (length buffer) (answerLength s query values f)) 13 0
-  unfolding askCached askNew
+  -- 16, 13, or none
+  pub found-number : (f : Found) → answerFound f .result .refusal ≡ lowestOf (answerConditions s query values (length buffer) f)
+  unfolding askCached askNew newRefusal
   found-number (At p) = cond-number askedNumber refuseAsk (λ n. refl) 13 (ltb (length buffer) (cachedLength there p)) _ refl
-  found-number Nothing = cond-number askedNumber refuseAsk (λ n. refl) 13 (ltb (length buffer) (length (recordAt there (s .cells) query values))) _ refl
+  found-number Nothing =
+      settled-number askedNumber refuseAsk (λ n. refl) (newly there (s .cells) (s .memory) buffer query values) (lowestOf (newConditions there (s .cells) (length buffer) query values))
+      ∙ settled-zero (lowestOf (newConditions there (s .cells) (length buffer) query values))
 
   found-refused : (f : Found) → answerFound f .result .refusal ≢ 0 → answerFound f ≡ refuseAsk (answerFound f .result .refusal)
-  unfolding askCached askNew
+  unfolding askCached askNew newRefusal
   found-refused (At p) h = cond-refused askedNumber refuseAsk (λ n. refl) 13 (ltb (length buffer) (cachedLength there p)) _ refl h
-  found-refused Nothing h = cond-refused askedNumber refuseAsk (λ n. refl) 13 (ltb (length buffer) (length (recordAt there (s .cells) query values))) _ refl h
+  found-refused Nothing h =
+      settled-refused askedNumber refuseAsk (λ n. refl) (newly there (s .cells) (s .memory) buffer query values) (never refl)
+      (lowestOf (newConditions there (s .cells) (length buffer) query values)) h
 
   abbrev foundHere : Found
   foundHere = foundIn there query values
@@ -175,7 +181,8 @@ module _ (s : Store) (query : ℕ) (values : List ℤ) (buffer : List ℕ) where
   ask-number =
       settled-number askedNumber refuseAsk (λ n. refl) (answerFound foundHere) askNumber
       ∙ ap (λ (m : ℕ). settled askNumber m askNumber) (found-number foundHere)
-      ∙ sym (lowest-append 0 (askConditions there (length (s .cells)) (length (s .memory)) query (length values)) ((13, ltb (length buffer) (answerLength s query values foundHere)) ∷ []) refl)
+      ∙ sym (lowest-append 0 (askConditions there (length (s .cells)) (length (s .memory)) query (length values))
+      (answerConditions s query values (length buffer) foundHere) refl)
 
   ask-refused : step s (ask query values buffer) .1 .got .refusal ≢ 0
       → step s (ask query values buffer) ≡ (s, refusedWith (step s (ask query values buffer) .1 .got .refusal) buffer)
@@ -241,7 +248,11 @@ number-is s flush = flush-number s
 -- its numbers ascend
 pub ascending : (s : Store) (c : Call) → ascends 0 (conditions s c) ≡ true
 ascending s (add text) = refl
-ascending s (ask n vs buffer) = refl
+ascending s (ask n vs buffer) = go (foundIn (s .state) n vs)
+  where
+    go : (f : Found) → ascends 0 (askConditions (s .state) (length (s .cells)) (length (s .memory)) n (length vs) ++ answerConditions s n vs (length buffer) f) ≡ true
+    go (At p) = refl
+    go Nothing = refl
 ascending s (update n vs) = refl
 ascending s flush = refl
 

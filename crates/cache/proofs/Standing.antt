@@ -1,14 +1,19 @@
 -- Every sound state stands for a plain store: its tables are read off the state and the cells, and each question and update is the compiled form of a sentence's
 -- statement. Assumes nothing.
 use mathlib.Core.Path.{_≡_, refl, sym, ap, _∙_, subst}
+use mathlib.Core.Bool.{true}
+use mathlib.Core.Option.{Option, none, some}
 use mathlib.Core.List.{List, [], _∷_, _++_, map, map-append}
 use Prim.Native.Nat.{ℕ, zero, suc, _+_, _*_, _≤_, _<_}
 use native.Mathlib.Nat.{le-of-suc-le-suc, not-suc-le-zero}
 use native.Mathlib.Omega.{arith}
+use borrow.Author.Tests.{ltb-true}
+use lib.Dec.{ltb}
 use lib.IntN.{ℤ}
 use lib.ListN.{length, getD, take, length-map, List·getD-map}
 use lib.Seq.{length-take-le, getD-take, take-take}
 use Rattle.lists.specs.Lists.{All, nil, cons}
+use Rattle.lists.proofs.Bools.{and-left}
 use Rattle.lists.proofs.Lists.{All-map, All-both, All-take}
 use Rattle.lists.proofs.Places.{All-at}
 use Rattle.meaning.specs.Limits.{most-items}
@@ -20,7 +25,7 @@ use Rattle.meaning.specs.Plain.{Plain, schemas}
 use Rattle.statement.specs.declared.Table.{Table}
 use Rattle.statement.specs.Catalog.{schemaOf, nameOfStruct}
 use Rattle.statement.specs.Compiled.{noTable}
-use Rattle.statement.specs.Sound.{usedColumns, columnsAt, Passes, AgreesQuery, AgreesUpdate, AgreesTable, FromTable, TableStructFits}
+use Rattle.statement.specs.Sound.{usedColumns, columnsAt, secondRead, soundSecond, Passes, AgreesQuery, AgreesUpdate, AgreesTable, FromTable, TableStructFits}
 use Rattle.statement.proofs.SoundQuery.{query-parts}
 use Rattle.statement.proofs.SoundUpdate.{update-parts}
 use Rattle.cache.specs.declared.State.{State}
@@ -73,6 +78,11 @@ columns-length t F h = length-map (usedColumns t) nameOfStruct ∙ length-take-l
 
 -- ---- places in use
 
+-- A.1: a second table is one in use
+abbrev pub SecondThere : State → Option M.Second → Type 0
+SecondThere s none = Unit {0}
+SecondThere s (some t) = t .table < s .«table_count»
+
 module _ (s : State) (T : Typed s) (S : Sound s) where
   pub few-tables : s .«table_count» ≤ length (s .tables)
   few-tables = omega (arith, T .eight-tables, S .few-tables)
@@ -111,6 +121,15 @@ module _ (s : State) (T : Typed s) (S : Sound s) where
   pub query-table : (i : ℕ) → i < s .«query_count» → queryAt s i .table < s .«table_count»
   query-table i h =
       subst (λ (n : ℕ). queryAt s i .table < n) (schemas-long s T S) (query-parts (schemasIn s) (queryAt s i) (query-at s T S i h) .there)
+
+  -- and so is a question's second table
+  pub sound-second : (i : ℕ) → i < s .«query_count» → SecondThere s (secondRead (queryAt s i))
+  sound-second i h = go (secondRead (queryAt s i)) (query-parts (schemasIn s) (queryAt s i) (query-at s T S i h) .second-sound)
+    where
+      go : (o : Option M.Second) → soundSecond (schemasIn s) (queryAt s i .table) (columnsAt (schemasIn s) (queryAt s i .table)) o ≡ true → SecondThere s o
+      go none e = tt
+      go (some t) e =
+          subst (λ (n : ℕ). t .table < n) (schemas-long s T S) (ltb-true (t .table) (length (schemasIn s)) (and-left (ltb (t .table) (length (schemasIn s))) _ e))
 
   pub update-table : (i : ℕ) → i < s .«update_count» → updateAt s i .table < s .«table_count»
   update-table i h =

@@ -56,6 +56,15 @@ module _ (p : Plain) where
   abbrev PlacedIn : Statement → Type 0
   PlacedIn r = Placed (length (p .tables)) (length (p .queries)) (length (p .updates)) (areasSize (schemas p)) (p .lengths .cells) r
 
+  query-placed : (r : Statement) → r .kind ≡ 2 → leb most-queries (length (p .queries)) ≡ false → PlacedIn r
+  query-placed r k h = record {
+    table-place = λ e. absurd (omega arith);
+    table-room = λ e. absurd (omega arith);
+    table-empty = λ e. absurd (omega arith);
+    query-place = λ e. leb-false most-queries (length (p .queries)) h;
+    update-place = λ e. absurd (omega arith);
+  }
+
   update-placed : (r : Statement) → r .kind ≡ 3 → leb most-updates (length (p .updates)) ≡ false → PlacedIn r
   update-placed r k h = record {
     table-place = λ e. absurd (omega arith);
@@ -74,13 +83,8 @@ module _ (p : Plain) where
     query-place = λ e. absurd (omega arith);
     update-place = λ e. absurd (omega arith);
   }
-  sentence-placed (G.select cs t w) h = record {
-    table-place = λ e. absurd (omega arith);
-    table-room = λ e. absurd (omega arith);
-    table-empty = λ e. absurd (omega arith);
-    query-place = λ e. leb-false most-queries (length (p .queries)) h;
-    update-place = λ e. absurd (omega arith);
-  }
+  sentence-placed (G.select cs t w) h = query-placed _ refl h
+  sentence-placed (G.pair cs t u w) h = query-placed _ refl h
   sentence-placed (G.insert t vs) h = update-placed _ refl h
   sentence-placed (G.update t ss w) h = update-placed _ refl h
   sentence-placed (G.delete t w) h = update-placed _ refl h
@@ -91,7 +95,7 @@ module _ (text : List ℕ) (tables : List Table) (used queries updates cells : �
 
   text-placed : (o : Option Sentence) → All (λ c. c .1 ≡ false) (drop 1 (addConditions (store .lengths) store text o)) → PlacedIn store (structOfText (schemas store) o)
   text-placed none a = clash refl (All-head (All-tail a))
-  text-placed (some s) a = sentence-placed store s (All-head (All-tail (All-tail (All-tail (All-tail (All-tail (All-tail a)))))))
+  text-placed (some s) a = sentence-placed store s (All-head (All-tail (All-tail (All-tail (All-tail (All-tail (All-tail (All-tail a))))))))
 
   catalog-placed : (n : ℕ) → lowestOf (textConditions store text) ≡ n → settled n (structOfText (schemas store) (sentence text)) .refusal ≡ 0
       → PlacedIn store (settled n (structOfText (schemas store) (sentence text)))

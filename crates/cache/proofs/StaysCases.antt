@@ -18,7 +18,7 @@ use Rattle.cache.specs.declared.State.{State}
 use Rattle.cache.specs.declared.Added.{Added}
 use Rattle.cache.specs.declared.Flushed.{Flushed}
 use Rattle.cache.specs.Sound.{opening}
-use Rattle.cache.specs.Calls.{settled, unfit, emptyState, Opens, openOf, addedTable, addedQuery, addedUpdate, compiledBeside, addedOf, addedBy, addRefusal, addOf, Asks, askRefusal, withCache, cachedLength, askCached, fitsSlot, putIn, kept, recordAt, askNew, askFound, foundIn, askOf, Updates, updateAt, updateRefusal, updateDone, updateOf, emptied, flushOf}
+use Rattle.cache.specs.Calls.{settled, unfit, emptyState, Opens, openOf, addedTable, addedQuery, addedUpdate, compiledBeside, addedOf, addedBy, addRefusal, addOf, Asks, askRefusal, withCache, cachedLength, askCached, fitsSlot, putIn, kept, recordAt, newRefusal, askNew, askFound, foundIn, askOf, Updates, updateAt, updateRefusal, updateDone, updateOf, emptied, flushOf}
 use Rattle.cache.specs.Run.{Store, Start, openingOf, opened, add, ask, update, flush, step}
 
 module _ {X : Type 0} (Q : X → Type 0) where
@@ -97,8 +97,8 @@ module _ (P : State → Type 0) (s : Store) (before : P (s .state)) where
         go (At p) e a =
             by-cond (λ (r : Asks). P (r .result .state)) (ltb (length buffer) (cachedLength st p)) _ _ (λ h. before) (λ h. f p a e)
         go Nothing e a =
-            by-cond (λ (r : Asks). P (r .result .state)) (ltb (length buffer) (length answer)) _ _ (λ h. before)
-            (λ h. by-cond P (fitsSlot st answer && takenOf (st .slots) .there) _ _ (λ k. g a e k) (λ k. before))
+            by-settled (λ (r : Asks). P (r .result .state)) (newRefusal st (s .cells) (length buffer) query values) _ _
+            (λ h. by-cond P (fitsSlot st answer && takenOf (st .slots) .there) _ _ (λ k. g a e k) (λ k. before)) before
 
   pub by-update : (number : ℕ) (values : List ℤ)
       → (updateRefusal st (length (s .cells)) (length (s .memory)) number (length values) ≡ 0 → P (updateDone st (s .cells) (updateAt st number) values .result .state))

@@ -16,23 +16,26 @@ use Rattle.meaning.specs.Postfix.{Node, leaf, allOf, anyOf, nodesIn, leaves}
 use Rattle.meaning.specs.Resolve.{resolveNodes, marksPast}
 use Rattle.meaning.specs.Tokens.{Name}
 use Rattle.meaning.specs.Grammar as G
-use Rattle.meaning.specs.Grammar.{Given, mark, Term, given, items, Sentence, sentence}
-use Rattle.meaning.specs.Limits.{most-items, most-name, most-comparisons, tableNamed, listColumns, listGivens, columnsNamed, whereOf, termGivens, givens, markIn, outside32, isWithin32, pastLimit}
-use Rattle.meaning.specs.Names.{Schema, position, columnsOf}
+use Rattle.meaning.specs.Grammar.{Given, mark, Term, given, items, Dotted, Sentence, sentence}
+use Rattle.meaning.specs.Limits.{most-items, most-name, most-comparisons, listColumns, listGivens, allNames, whereOf, termGivens, givens, markIn, outside32, isWithin32, pastLimit}
+use Rattle.meaning.specs.Names.{Schema, position, columnsOf, pairPlace}
 use Rattle.meaning.specs.Statement as M
 use Rattle.meaning.specs.Statement.{constant, numbered, numberedAll, settings, settingMarks, operandOf, markInTerm, resolvedWhere, statementOf}
 use Rattle.meaning.specs.Plain.{Plain, schemas, addConditions, lowestOf}
 use Rattle.meaning.proofs.Accepted.{clear}
+use Rattle.meaning.proofs.Dotted.{bare-givens}
 use Rattle.meaning.proofs.Postfix.{sides-in, leaves-in}
 use Rattle.meaning.proofs.Resolve.{resolve-where, resolve-length, resolve-leaves}
 use Rattle.meaning.proofs.Resolved.{numbered-length}
+use Rattle.meaning.specs.Pattern.{placedFrom}
 use Rattle.statement.specs.declared.Table.{Table}
 use Rattle.statement.specs.declared.Setting.{Setting}
 use Rattle.statement.specs.declared.Statement.{Statement}
 use Rattle.statement.specs.Catalog.{catalog}
-use Rattle.statement.specs.Compiled.{padded, nameStruct, noName, noTable, valueStruct, operandStruct, comparisonStruct, noComparison, stepOf, conditionStruct, noQuery, newValue, settingStruct, noSetting, placedFrom, noUpdate, refusedBy, structOf, textConditions, structOfText, settled, compiledOf}
+use Rattle.statement.specs.Compiled.{padded, nameStruct, noName, noTable, valueStruct, operandStruct, comparisonStruct, noComparison, stepOf, conditionStruct, noQuery, newValue, settingStruct, noSetting, noUpdate, refusedBy, structOf, textConditions, structOfText, settled, compiledOf}
 use Rattle.statement.specs.Sound.{ValueFits, OperandFits, ComparisonFits, ConditionFits, QueryFits, UpdateFits, NameFits, TableStructFits}
 use Rattle.statement.proofs.SoundNames.{Limits, limits-of}
+use Rattle.statement.proofs.SoundPairs.{bare-count}
 use Rattle.statement.proofs.SoundSettings.{placed-length, settings-length}
 use Rattle.statement.proofs.Stored.{where-count}
 
@@ -77,14 +80,14 @@ value-fits : (m : ℕ) (v : Given) → Small v → ValueFits (valueStruct (numbe
 value-fits m (G.constant z) h = not-false (isWithin32 z) h
 value-fits m mark h = refl
 
-module _ (columns : List Name) where
+module _ {C : Type 0} (place : C → ℕ) where
   -- an operand, and the constants of those behind it
-  operand-fits : (m : ℕ) (t : Term) (ts : List Term) → All Small (termGivens (t ∷ ts)) → OperandFits (operandStruct (operandOf columns m t)) × All Small (termGivens ts)
+  operand-fits : (m : ℕ) (t : Term C) (ts : List (Term C)) → All Small (termGivens (t ∷ ts)) → OperandFits (operandStruct (operandOf place m t)) × All Small (termGivens ts)
   operand-fits m (G.column n) ts h = (refl, h)
   operand-fits m (given (G.constant z)) ts h = (not-false (isWithin32 z) (All-head h), All-tail h)
   operand-fits m (given mark) ts h = (refl, All-tail h)
 
-  comparisons-fit : (m : ℕ) (ns : List (Node Term)) → All Small (termGivens (sides (leaves ns))) → All ComparisonFits (map comparisonStruct (leaves (resolveNodes columns m ns)))
+  comparisons-fit : (m : ℕ) (ns : List (Node (Term C))) → All Small (termGivens (sides (leaves ns))) → All ComparisonFits (map comparisonStruct (leaves (resolveNodes place m ns)))
   comparisons-fit m [] h = nil
   comparisons-fit m (leaf c ∷ ns) h =
       let l = operand-fits m (c .left) (c .right ∷ sides (leaves ns)) h in
@@ -93,6 +96,26 @@ module _ (columns : List Name) where
   comparisons-fit m (allOf ∷ ns) h = comparisons-fit m ns h
   comparisons-fit m (anyOf ∷ ns) h = comparisons-fit m ns h
 
+  -- a WHERE, names resolved
+  where-fits : (m : ℕ) (w : Where (Term C)) → length (comparisonsIn w) ≤ most-comparisons → All Small (termGivens (operandsIn w))
+      → ConditionFits (conditionStruct (nodesIn (resolvedWhere place m w)))
+  where-fits m w few small =
+      let ns : List (Node M.Operand) = nodesIn (resolvedWhere place m w) in
+      let is : ns ≡ resolveNodes place m (nodesIn w) = resolve-where place m w in
+      let ls : length (leaves ns) ≡ length (leaves (nodesIn w)) = ap (λ (xs : List (Node M.Operand)). length (leaves xs)) is ∙ resolve-leaves place m (nodesIn w) in
+      let many : length (leaves (nodesIn w)) ≡ length (comparisonsIn w) = leaves-in w in
+      let size : length ns ≡ length (nodesIn w) = ap length is ∙ resolve-length place m (nodesIn w) in
+      let nodes : length (nodesIn w) ≡ 2 * length (comparisonsIn w) - 1 = where-count w in
+      record {
+        eight = padded-length 8 noComparison (map comparisonStruct (leaves ns)) (omega (arith, length-map (leaves ns) comparisonStruct));
+        fifteen = padded-length 15 0 (map stepOf ns) (omega (arith, length-map ns stepOf));
+        constants =
+            All-padded 8 noComparison (refl, refl)
+            (subst (λ (xs : List (Node M.Operand)). All ComparisonFits (map comparisonStruct (leaves xs))) (sym is)
+            (comparisons-fit m (nodesIn w) (subst (λ (ts : List (Term C)). All Small (termGivens ts)) (sym (sides-in w)) small)));
+      }
+
+module _ (columns : List Name) where
   settings-fit : (m : ℕ) (ss : List (Name × Given)) → All Small (map (λ (s : Name × Given). s .1) ss)
       → All (λ (s : Setting). ValueFits (newValue s)) (map settingStruct (settings columns m ss))
   settings-fit m [] h = nil
@@ -114,8 +137,8 @@ module _ (s : Sentence) (h : pastLimit s ≡ false) where
   few-givens : length (listGivens s) ≤ most-items
   few-givens = ltb-false most-items (length (listGivens s)) (or-right (ltb most-items (length (listColumns s))) _ (within .items-few))
 
-  short-names : All (λ (n : Name). length n ≤ most-name) (tableNamed s ∷ columnsNamed s)
-  short-names = All-map (λ n e. ltb-false most-name (length n) e) (any-false (λ (n : Name). ltb most-name (length n)) (tableNamed s ∷ columnsNamed s) (within .names-short))
+  short-names : All (λ (n : Name). length n ≤ most-name) (allNames s)
+  short-names = All-map (λ n e. ltb-false most-name (length n) e) (any-false (λ (n : Name). ltb most-name (length n)) (allNames s) (within .names-short))
 
   small-constants : All Small (listGivens s ++ termGivens (operandsIn (whereOf s)))
   small-constants = any-false outside32 (givens s) (within .constants-small)
@@ -123,25 +146,8 @@ module _ (s : Sentence) (h : pastLimit s ≡ false) where
   small-tested : All Small (termGivens (operandsIn (whereOf s)))
   small-tested = All-right (listGivens s) small-constants
 
-  -- its WHERE, names resolved
-  where-fits : (columns : List Name) (m : ℕ) → ConditionFits (conditionStruct (nodesIn (resolvedWhere columns m (whereOf s))))
-  where-fits columns m =
-      let w : Where Term = whereOf s in
-      let ns : List (Node M.Operand) = nodesIn (resolvedWhere columns m w) in
-      let is : ns ≡ resolveNodes columns m (nodesIn w) = resolve-where columns m w in
-      let few : length (comparisonsIn w) ≤ most-comparisons = ltb-false most-comparisons (length (comparisonsIn w)) (within .comparisons-few) in
-      let ls : length (leaves ns) ≡ length (leaves (nodesIn w)) = ap (λ (xs : List (Node M.Operand)). length (leaves xs)) is ∙ resolve-leaves columns m (nodesIn w) in
-      let many : length (leaves (nodesIn w)) ≡ length (comparisonsIn w) = leaves-in w in
-      let size : length ns ≡ length (nodesIn w) = ap length is ∙ resolve-length columns m (nodesIn w) in
-      let nodes : length (nodesIn w) ≡ 2 * length (comparisonsIn w) - 1 = where-count w in
-      record {
-        eight = padded-length 8 noComparison (map comparisonStruct (leaves ns)) (omega (arith, length-map (leaves ns) comparisonStruct));
-        fifteen = padded-length 15 0 (map stepOf ns) (omega (arith, length-map ns stepOf));
-        constants =
-            All-padded 8 noComparison (refl, refl)
-            (subst (λ (xs : List (Node M.Operand)). All ComparisonFits (map comparisonStruct (leaves xs))) (sym is)
-            (comparisons-fit columns m (nodesIn w) (subst (λ (ts : List Term). All Small (termGivens ts)) (sym (sides-in w)) small-tested)));
-      }
+  few-tested : length (comparisonsIn (whereOf s)) ≤ most-comparisons
+  few-tested = ltb-false most-comparisons (length (comparisonsIn (whereOf s))) (within .comparisons-few)
 
 name-fits : (n : Name) → length n ≤ most-name → NameFits (nameStruct n)
 name-fits n h = padded-length 12 0 n h
@@ -172,7 +178,20 @@ sentence-fits ts (G.select cs t w) h =
       table-fits = no-table;
       query-fits = record {
         eight = padded-length 8 0 at (omega (arith, length-map (items cs) (position (columnsOf ts t)), few-columns (G.select cs t w) h));
-        condition-fits = where-fits (G.select cs t w) h (columnsOf ts t) 0;
+        condition-fits = where-fits (position (columnsOf ts t)) 0 w (few-tested (G.select cs t w) h) (small-tested (G.select cs t w) h);
+      };
+      update-fits = no-update;
+    }
+sentence-fits ts (G.pair cs t u w) h =
+    let s : Sentence = G.pair cs t u w in
+    let place : Dotted → ℕ = pairPlace t (columnsOf ts t) u (columnsOf ts u) in
+    record {
+      table-fits = no-table;
+      query-fits = record {
+        eight = padded-length 8 0 (map place (items cs)) (omega (arith, length-map (items cs) place, length-map (items cs) (λ (c : Dotted). c .1), few-columns s h));
+        condition-fits =
+            where-fits place 0 w (subst (λ (n : ℕ). n ≤ most-comparisons) (bare-count w) (few-tested s h))
+            (subst (All Small) (bare-givens w) (small-tested s h));
       };
       update-fits = no-update;
     }
@@ -193,12 +212,12 @@ sentence-fits ts (G.update t ss w) h =
     record {
       table-fits = no-table;
       query-fits = no-query;
-      update-fits = record { eight = F .0; constants = F .1; condition-fits = where-fits s h (columnsOf ts t) (settingMarks (items ss)) };
+      update-fits = record { eight = F .0; constants = F .1; condition-fits = where-fits (position (columnsOf ts t)) (settingMarks (items ss)) w (few-tested s h) (small-tested s h) };
     }
 sentence-fits ts (G.delete t w) h = record {
   table-fits = no-table;
   query-fits = no-query;
-  update-fits = record { eight = refl; constants = All-replicate 8 noSetting refl; condition-fits = where-fits (G.delete t w) h (columnsOf ts t) 0 };
+  update-fits = record { eight = refl; constants = All-replicate 8 noSetting refl; condition-fits = where-fits (position (columnsOf ts t)) 0 w (few-tested (G.delete t w) h) (small-tested (G.delete t w) h) };
 }
 
 -- ---- any text

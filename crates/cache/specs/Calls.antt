@@ -1,20 +1,23 @@
 -- What each call gives and leaves, on the state as the program has it: document 01, "The store and its calls", "Meaning", "Slots" and "Numbers for a call not
 -- taken". Each is one record: the result, with the state in it, and the lent memories. Assumes nothing: these are definitions.
 use mathlib.Core.Bool.{Bool, false, not, _&&_, _||_, cond}
+use mathlib.Core.Option.{Option, none, some}
 use mathlib.Core.List.{List, [], _∷_}
 use Prim.Native.Nat.{ℕ, zero, suc, _+_, _*_}
 use lib.Dec.{eqb, leb, ltb}
 use lib.IntN.{ℤ, pos}
 use lib.ListN.{length, take, drop, getD, set, replicate}
-use Rattle.lists.specs.Lists.{written, count}
-use Rattle.meaning.specs.Limits.{most-tables, most-queries, most-updates}
+use Rattle.lists.specs.Lists.{written, count, pairs}
+use Rattle.meaning.specs.Limits.{most-tables, most-queries, most-updates, most-listed}
+use Rattle.meaning.specs.Statement.{Second}
 use Rattle.meaning.specs.Plain.{Opening, openingRefused, lowestOf}
 use Rattle.statement.specs.declared.Table.{Table}
 use Rattle.statement.specs.declared.Query.{Query}
 use Rattle.statement.specs.declared.Update.{Update}
 use Rattle.statement.specs.declared.Statement.{Statement}
 use Rattle.statement.specs.Compiled.{noTable, noQuery, noUpdate, compiledOf}
-use Rattle.table.specs.Evaluated.{rowsUsed, recordStored}
+use Rattle.statement.specs.Sound.{secondRead}
+use Rattle.table.specs.Evaluated.{rowsUsed, answerStored, recordStored}
 use Rattle.table.specs.Changed.{changeOf, cellsAfter}
 use Rattle.pattern.specs.Stored.{matchesStored}
 use Rattle.slots.specs.declared.Key.{Key}
@@ -172,7 +175,7 @@ addRefusal s cells memory text = cond (unfit s cells memory) 2 (compiledBeside s
 unfoldable pub addOf : State → ℕ → ℕ → List ℕ → Added
 addOf s cells memory text = settled (addRefusal s cells memory text) (addedBy s (compiledBeside s text)) (addRefused s (addRefusal s cells memory text))
 
--- ---- ask: 2, 10, 11, 13
+-- ---- ask: 2, 10, 11, 16, 13
 
 pub record Asks : Type 0 where
   pub result : Asked
@@ -255,25 +258,56 @@ tableAt s i = getD (s .tables) i noTable
 abbrev pub rowsAt : State → List ℤ → ℕ → List (List ℤ)
 rowsAt s cells i = rowsUsed (tableAt s i) (startOf s i) cells
 
+-- the rows that a question is over: those of its table, or the pairs of two (A.1: "Rows come in the first table's order, and for each in the second's.")
+abbrev pub rowsOver : State → List ℤ → ℕ → Option Second → List (List ℤ)
+rowsOver s cells i none = rowsAt s cells i
+rowsOver s cells i (some t) = pairs (rowsAt s cells i) (rowsAt s cells (t .table))
+
+abbrev pub rowsFor : State → List ℤ → Query → List (List ℤ)
+rowsFor s cells q = rowsOver s cells (q .table) (secondRead q)
+
+-- the rows that it reads: "the table's row count"; A.1 leaves the count of a pair free, "at most r1 + r1 × r2", and here it is that
+abbrev pub readOver : State → List ℤ → ℕ → Option Second → ℕ
+readOver s cells i none = length (rowsAt s cells i)
+readOver s cells i (some t) = length (rowsAt s cells i) + length (rowsAt s cells i) * length (rowsAt s cells (t .table))
+
+abbrev pub readFor : State → List ℤ → Query → ℕ
+readFor s cells q = readOver s cells (q .table) (secondRead q)
+
 -- the record of a question with its values
 unfoldable pub recordAt : State → List ℤ → ℕ → List ℤ → List ℕ
-recordAt s cells query values = recordStored (queryAt s query) values (rowsAt s cells (queryAt s query .table))
+recordAt s cells query values = recordStored (queryAt s query) values (rowsFor s cells (queryAt s query))
+
+-- 16: "an answer of more than 65,535 rows"
+unfoldable pub tooMany : State → List ℤ → ℕ → List ℤ → Bool
+tooMany s cells query values = ltb most-listed (length (answerStored (queryAt s query) values (rowsFor s cells (queryAt s query))))
+
+-- 16 and 13, of an answer worked out
+abbrev pub newConditions : State → List ℤ → ℕ → ℕ → List ℤ → List (ℕ × Bool)
+newConditions s cells buffer query values = (16, tooMany s cells query values) ∷ (13, ltb buffer (length (recordAt s cells query values))) ∷ []
+
+unfoldable pub newRefusal : State → List ℤ → ℕ → ℕ → List ℤ → ℕ
+newRefusal s cells buffer query values = lowestOf (newConditions s cells buffer query values)
 
 -- an answer worked out: "rows read (0 if kept, else the table's row count); the record at the answer buffer's start, whose later bytes stay"
-unfoldable pub askNew : State → List ℤ → List ℕ → List ℕ → ℕ → List ℤ → Asks
-askNew s cells memory answer query values =
+abbrev pub newly : State → List ℤ → List ℕ → List ℕ → ℕ → List ℤ → Asks
+newly s cells memory answer query values =
     let r = recordAt s cells query values in
-    cond (ltb (length answer) (length r)) (asks (askRefused s 13) memory answer)
-    (asks
+    asks
     (record {
       refusal = 0;
       cached = 0;
-      scanned = length (rowsAt s cells (queryAt s query .table));
+      scanned = readFor s cells (queryAt s query);
       length = length r;
       state = kept s (keyOf query values) r;
     })
     (keptMemory s r memory)
-    (written answer 0 r))
+    (written answer 0 r)
+
+unfoldable pub askNew : State → List ℤ → List ℕ → List ℕ → ℕ → List ℤ → Asks
+askNew s cells memory answer query values =
+    let n = newRefusal s cells (length answer) query values in
+    settled n (newly s cells memory answer query values) (asks (askRefused s n) memory answer)
 
 abbrev pub askFound : Found → State → List ℤ → List ℕ → List ℕ → ℕ → List ℤ → Asks
 askFound (At p) s cells memory answer query values = askCached s memory answer p

@@ -3,6 +3,7 @@
 use mathlib.Core.Path.{_≡_}
 use mathlib.Core.Logic.{_≢_, _⊎_, _↔_}
 use mathlib.Core.Bool.{Bool, true, false, not, _&&_, cond}
+use mathlib.Core.Option.{Option, none, some}
 use mathlib.Core.List.{List, [], _∷_, _++_, map}
 use Prim.Native.Nat.{ℕ, _+_, _*_, _≤_, _<_}
 use lib.Dec.{eqb, ltb}
@@ -10,12 +11,12 @@ use lib.IntN.{ℤ, pos, natAbs}
 use lib.ListN.{length, getD, replicate}
 use Rattle.lists.specs.Lists.{All, any, keep, count, from, written}
 use Rattle.meaning.specs.Key.{Key, sameKey}
-use Rattle.meaning.specs.Demand.{WithinLimits, ReadsBack, Is32, rowsListed}
+use Rattle.meaning.specs.Demand.{rank, WithinLimits, ReadsBack, Is32, rowsListed}
 use Rattle.meaning.specs.Tokens.{tokens}
 use Rattle.meaning.specs.Grammar as G
 use Rattle.meaning.specs.Grammar.{items, Sentence, spell}
-use Rattle.meaning.specs.Names.{Schema, unknown, taken, miscounted}
-use Rattle.meaning.specs.Statement.{creates, asks, changes, statementOf}
+use Rattle.meaning.specs.Names.{Schema, unknown, taken, miscounted, twice}
+use Rattle.meaning.specs.Statement.{Second, creates, asks, changes, statementOf}
 use Rattle.meaning.specs.Plain as P
 use Rattle.meaning.specs.Plain.{Plain, schemas, Opening, openingRefused, recordOf, matchesKey}
 use Rattle.trace.specs.History.{Event, history, fits, Answered, hits, since, Filled, Ground}
@@ -29,16 +30,17 @@ use Rattle.slots.specs.Order.{slotsOf}
 use Rattle.cache.specs.declared.State.{State}
 use Rattle.cache.specs.Sound.{opening, sizesOf, usedTables, schemasIn, areasOf, lengthAt, keysIn, OpeningWithin, IsSound, soundState}
 use Rattle.cache.specs.Means.{tablesIn, Means, Typed}
-use Rattle.cache.specs.Calls.{unfit, askConditions, cachedLength, bytesAt, foundIn, recordAt, updateConditions}
+use Rattle.cache.specs.Calls.{unfit, askConditions, cachedLength, bytesAt, newConditions, foundIn, updateConditions}
 use Rattle.cache.specs.Run.{Store, Start, openingOf, openedBy, opened, Call, add, ask, update, flush, Seen, step, after, gets, plainCall, bufferOf, gotOf, plainAfter, plainGets}
 
 -- ---- Demand 1: "If a call brings a text, number, state or lent memory that the store can't take, it gives the refusal number of document 01 and changes nothing. Every
 -- other call ends with its work done." That each call ends, and touches no place outside the lent memories, is what it means for the code to be proved.
 
--- the numbers that a call can get, each with its condition, on any state
-abbrev pub answerLength : Store → ℕ → List ℤ → Found → ℕ
-answerLength s n vs (At p) = cachedLength (s .state) p
-answerLength s n vs Nothing = length (recordAt (s .state) (s .cells) n vs)
+-- the numbers that a call can get, each with its condition, on any state, in the order in which they are looked for. An answer that is held is judged by its own length
+-- alone: 16 is none of its numbers
+abbrev pub answerConditions : Store → ℕ → List ℤ → ℕ → Found → List (ℕ × Bool)
+answerConditions s n vs buffer (At p) = (13, ltb buffer (cachedLength (s .state) p)) ∷ []
+answerConditions s n vs buffer Nothing = newConditions (s .state) (s .cells) buffer n vs
 
 abbrev pub conditions : Store → Call → List (ℕ × Bool)
 conditions s (add text) =
@@ -48,17 +50,17 @@ conditions s (add text) =
     text
 conditions s (ask n vs buffer) =
     askConditions (s .state) (length (s .cells)) (length (s .memory)) n (length vs)
-    ++ ((13, ltb (length buffer) (answerLength s n vs (foundIn (s .state) n vs))) ∷ [])
+    ++ answerConditions s n vs (length buffer) (foundIn (s .state) n vs)
 conditions s (update n vs) = updateConditions (s .state) (length (s .cells)) (length (s .memory)) n (length vs)
 conditions s flush = (2, unfit (s .state) (length (s .cells)) (length (s .memory))) ∷ []
 
 abbrev pub applies : Store → Call → ℕ → Bool
 applies s c n = any (λ (x : ℕ × Bool). eqb (x .0) n && x .1) (conditions s c)
 
--- "The lowest number that applies is given, and only then."
+-- "The lowest number that applies is given, and only then.": in the order in which they are looked for (`rank`)
 pub record Lowest (s : Store) (c : Call) (n : ℕ) : Type 0 where
   pub given : n ≢ 0 → applies s c n ≡ true
-  pub lower : (m : ℕ) → m < n → applies s c m ≡ false
+  pub lower : (m : ℕ) → rank m < rank n → applies s c m ≡ false
   pub only : n ≡ 0 → (m : ℕ) → applies s c m ≡ false
 
 abbrev pub LowestNumber : Type 0
@@ -122,6 +124,7 @@ StaysSound = (s : Store) (c : Call) → Typed (s .state) → soundState (s .stat
 abbrev pub HasPlace : State → Sentence → Type 0
 HasPlace s (G.table t cs z) = (s .«table_count» < 8) × (areasOf (usedTables s) + length (items cs) * natAbs z ≤ s .cells)
 HasPlace s (G.select cs t w) = s .«query_count» < 16
+HasPlace s (G.pair cs t u w) = s .«query_count» < 16
 HasPlace s (G.insert t vs) = s .«update_count» < 16
 HasPlace s (G.update t ss w) = s .«update_count» < 16
 HasPlace s (G.delete t w) = s .«update_count» < 16
@@ -141,6 +144,8 @@ pub record Accepted (s : Store) (text : List ℕ) (x : Sentence) : Type 0 where
   pub known : unknown (schemasIn (s .state)) x ≡ false
   pub fresh : taken (schemasIn (s .state)) x ≡ false
   pub counted : miscounted (schemasIn (s .state)) x ≡ false
+  -- 15, "looked for after 8"
+  pub different : twice x ≡ false
   -- 9
   pub place : HasPlace (s .state) x
 
@@ -163,7 +168,7 @@ StandsForPlain = (s : Store) → Typed (s .state) → soundState (s .state) ≡ 
 abbrev pub lengthsLent : Store → P.Lengths
 lengthsLent s = record { cells = length (s .cells); memory = length (s .memory) }
 
--- no slot holds the answer, or the call is refused before that is looked for (13 goes by the kept length)
+-- no slot holds the answer, or the call is refused before that is looked for (of a held one 13 goes by the kept length)
 abbrev pub Anew : Store → Call → Type 0
 Anew s (add text) = Unit {0}
 Anew s (ask n vs buffer) = (foundIn (s .state) n vs ≡ Nothing) ⊎ ((step s (ask n vs buffer) .1 .got .refusal ≢ 0) × (step s (ask n vs buffer) .1 .got .refusal ≢ 13))
@@ -175,13 +180,21 @@ DoesAsPlain = (s : Store) (c : Call) (p : Plain) → Typed (s .state) → soundS
     → (step s c .1 .got ≡ gotOf (bufferOf c) (P.step (lengthsLent s) p (plainCall c) .1))
     × Means (step s c .0 .state) (step s c .0 .cells) (P.step (lengthsLent s) p (plainCall c) .0)
 
--- "A new answer .. holds exactly the rows, in order, that the SQL meaning set down there gives, and its record reads back as those rows", and "rows read (.. else the
--- table's row count)": on every sound state. Cells have 32 bits, as their type says
+-- "rows read (.. else the table's row count)"; over two tables A.1 leaves the count free, "at most r1 + r1 × r2 for r1 and r2 rows"
+abbrev pub ReadsRows : List P.Table → ℕ → Option Second → ℕ → Type 0
+ReadsRows ts i none n = n ≡ length (P.rowsAt ts i)
+ReadsRows ts i (some s) n = n ≤ length (P.rowsAt ts i) + length (P.rowsAt ts i) * length (P.rowsAt ts (s .table))
+
+abbrev pub ReadsFor : Plain → Key → ℕ → Type 0
+ReadsFor p k n = ReadsRows (p .tables) (P.queryAt p (k .query) .table) (P.queryAt p (k .query) .second) n
+
+-- "A new answer .. holds exactly the rows, in order, that the SQL meaning set down there gives, and its record reads back as those rows", and the rows that it reads: on
+-- every sound state. Cells have 32 bits, as their type says
 abbrev pub NewAnswer : Type 0
 NewAnswer = (s : Store) (p : Plain) (k : Key) (buffer : List ℕ) → Typed (s .state) → soundState (s .state) ≡ true → Means (s .state) (s .cells) p → All Is32 (s .cells)
     → let r : Seen = step s (ask (k .query) (k .values) buffer) .1 in
     r .got .refusal ≡ 0 → r .kept ≡ 0
-    → ReadsBack (r .got .answer) (length (P.queryAt p (k .query) .selected)) (rowsListed p k) × (r .scanned ≡ P.rowsAsked p (k .query))
+    → ReadsBack (r .got .answer) (length (P.queryAt p (k .query) .selected)) (rowsListed p k) × ReadsFor p k (r .scanned)
 
 -- "In a sound state not reached from an opening, a kept answer is its slot's bytes.": those of the slot that has the key; no row is read
 pub record ItsSlotsBytes (s : Store) (k : Key) (buffer : List ℕ) (r : Seen) : Type 0 where
@@ -275,10 +288,10 @@ KeptOtherwise = (o : Start) (cs : List Call) (k : Key) (buffer : List ℕ) → n
     → fits (slotSize o) (recordOf (plainAfter o cs) k) ≡ true → any (hits k) (since sameKey k (past o cs)) ≡ false
     → ¬ Filled (slotSize o) (slotCount o) k (since sameKey k (past o cs)) → nextAsk o cs k buffer .kept ≡ 1
 
--- "rows read (0 if kept, else the table's row count)": of a question that is worked out anew, the rows that its table has on the plain store
+-- "rows read (0 if kept, else the table's row count)": of a question that is worked out anew, the rows that its table has on the plain store, or the bound of a pair
 abbrev pub RowsRead : Type 0
 RowsRead = (o : Start) (cs : List Call) (k : Key) (buffer : List ℕ) → nextAsk o cs k buffer .got .refusal ≡ 0 → nextAsk o cs k buffer .kept ≡ 0
-    → nextAsk o cs k buffer .scanned ≡ P.rowsAsked (plainAfter o cs) (k .query)
+    → ReadsFor (plainAfter o cs) k (nextAsk o cs k buffer .scanned)
 
 -- Demand 2, "A new answer, and under 3's premises a kept one, holds exactly the rows, in order, that the SQL meaning set down there gives, and its record reads back as
 -- those rows": the answer buffer of every question that is answered, with whatever stands behind the record.

@@ -10,7 +10,7 @@ use Rattle.lists.specs.Lists.{bytes}
 use Rattle.meaning.specs.Tokens.{isNameByte, isWordByte, decimal, isName, word, negative, tokenFrom, firstToken, scan, tokens}
 use Rattle.meaning.specs.Grammar.{aCondition, aSentence, read}
 use Rattle.meaning.specs.Limits.{pastLimit}
-use Rattle.meaning.specs.Names.{unknown, taken, miscounted}
+use Rattle.meaning.specs.Names.{unknown, taken, miscounted, twice}
 use Rattle.meaning.specs.Statement.{statementOf}
 use Rattle.meaning.specs.Record.{body, encode}
 use Rattle.meaning.specs.Cells.{stored}
@@ -21,17 +21,17 @@ use Rattle.statement.specs.Sound.{conditionNodes, soundCondition, soundConditio
 use Rattle.table.specs.Evaluated.{answerStored, meetsStored}
 use Rattle.table.specs.Changed.{areaFits, cellsAfter, changeOf, changedOf, countAfter, fits, rowsAfter}
 use Rattle.soundness.specs.Soundness.{tablesSound, queriesSound, updatesSound}
-use Rattle.pattern.specs.Stored.{allAny, clausesRead, isFormed, jointClauses, matchesStored, patternsStored, relevant}
+use Rattle.pattern.specs.Stored.{allAny, clausesRead, isFormed, jointClauses, matchesStored, patternsStored, relevant, startRead}
 use Rattle.slots.specs.Keys.{sameKey, keyOf, slotHas, findOf, heldTwice}
 use Rattle.slots.specs.Order.{slotsOf, soundSlots, frontOf, takenOf, dropBy, openOf as slotsOpen}
 use Rattle.cache.specs.Sound.{opening, soundTables, soundAnswers, soundState}
 use Rattle.cache.specs.declared.State.{State}
-use Rattle.cache.specs.Calls.{settled, unfit, emptyState, openOf, addedBy, addRefusal, addOf, askRefusal, withCache, askCached, kept, keptMemory, recordAt, askNew, askOf, updateRefusal, isMatched, withChange, updateDone, updateOf, flushOf}
+use Rattle.cache.specs.Calls.{settled, unfit, emptyState, openOf, addedBy, addRefusal, addOf, askRefusal, withCache, askCached, kept, keptMemory, recordAt, tooMany, newRefusal, askNew, askOf, updateRefusal, isMatched, withChange, updateDone, updateOf, flushOf}
 use Rattle.cache.specs.Run.{Start, opened, Call, add, ask, update, flush, Seen, step, gets, gotOf}
 
 -- what the computations open
 unfoldable pub computing : Unit {0}
-unfolding isNameByte isWordByte decimal isName word negative tokenFrom firstToken scan tokens aCondition aSentence read pastLimit unknown taken miscounted statementOf body encode stored openingRefused noPlace compiledOf structOf conditionNodes soundCondition soundConditionOn soundQuery soundTable soundUpdate answerStored meetsStored areaFits cellsAfter changeOf changedOf countAfter fits rowsAfter tablesSound queriesSound updatesSound contradictory class entry allAny clausesRead isFormed jointClauses matchesStored patternsStored relevant sameKey keyOf slotHas findOf heldTwice soundSlots frontOf takenOf slotsOpen soundTables soundAnswers soundState settled unfit emptyState openOf addedBy addRefusal addOf askRefusal withCache askCached kept keptMemory recordAt askNew askOf updateRefusal isMatched dropBy withChange updateDone updateOf flushOf step
+unfolding isNameByte isWordByte decimal isName word negative tokenFrom firstToken scan tokens aCondition aSentence read pastLimit unknown taken miscounted twice statementOf body encode stored openingRefused noPlace compiledOf structOf conditionNodes soundCondition soundConditionOn soundQuery soundTable soundUpdate answerStored meetsStored areaFits cellsAfter changeOf changedOf countAfter fits rowsAfter tablesSound queriesSound updatesSound contradictory class entry allAny clausesRead isFormed jointClauses matchesStored patternsStored relevant startRead sameKey keyOf slotHas findOf heldTwice soundSlots frontOf takenOf slotsOpen soundTables soundAnswers soundState settled unfit emptyState openOf addedBy addRefusal addOf askRefusal withCache askCached kept keptMemory recordAt tooMany newRefusal askNew askOf updateRefusal isMatched dropBy withChange updateDone updateOf flushOf step
 computing = tt
 
 -- 4,096 cells, 256 bytes of kept memory, 4 slots of 64 bytes

@@ -4,10 +4,12 @@ use mathlib.Core.Bool.{Bool, true, false, not, _&&_, _||_, cond}
 use mathlib.Core.List.{List, [], _∷_}
 use Prim.Native.Nat.{ℕ, _+_, _*_, _≤_, _<_}
 use lib.Dec.{eqb, leb, ltb}
+use lib.IntN.{ℤ}
 use lib.ListN.{length, set}
 use Rattle.lists.specs.Lists.{written}
 use Rattle.meaning.specs.Limits.{most-memory, most-slots, most-slot-bytes}
 use Rattle.meaning.specs.Plain.{lowestOf}
+use Rattle.table.specs.declared.listing.Selected.{Selected}
 use Rattle.slots.specs.declared.Key.{Key}
 use Rattle.slots.specs.declared.SlotList.{SlotList}
 use Rattle.slots.specs.declared.Taken.{Taken}
@@ -16,7 +18,8 @@ use Rattle.cache.specs.declared.State.{State}
 use Rattle.cache.specs.declared.Asked.{Asked}
 use Rattle.cache.specs.declared.Place.{Place}
 use Rattle.cache.specs.declared.Outcome.{Outcome}
-use Rattle.cache.specs.Calls.{asks, withCache, askCached}
+use Rattle.cache.specs.Sound.{queryAt}
+use Rattle.cache.specs.Calls.{asks, withCache, askCached, readFor, recordAt, newRefusal}
 
 -- 2, from what decides it: whether the state is sound, its opening's lengths, and the lengths lent
 abbrev pub unfitIf : Bool → ℕ → ℕ → ℕ → ℕ → Bool
@@ -47,6 +50,14 @@ outcomeOf s key o = record { refusal = o .refusal; cached = o .cached; scanned =
 -- the answer in the slot at place p of the order, whatever the key
 abbrev pub Caches : State → List ℕ → List ℕ → ℕ → Outcome → List ℕ → Type 0
 Caches s memory answer p o new = (key : Key) → asks (outcomeOf s key o) memory new ≡ askCached s memory answer p
+
+-- what working a question out says and leaves: 16, 13, or the record at the buffer's start
+pub record WorksOut (s : State) (cells : List ℤ) (query : ℕ) (values : List ℤ) (answer : List ℕ) (r : Selected) (new : List ℕ) : Type 0 where
+  pub number : r .refusal ≡ newRefusal s cells (length answer) query values
+  pub stays : (r .refusal ≡ 0 → ⊥) → new ≡ answer
+  pub read : r .refusal ≡ 0 → r .scanned ≡ readFor s cells (queryAt s query)
+  pub size : r .refusal ≡ 0 → r .length ≡ length (recordAt s cells query values)
+  pub bytes : r .refusal ≡ 0 → new ≡ written answer 0 (recordAt s cells query values)
 
 -- ---- a record that is kept
 

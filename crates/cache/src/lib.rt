@@ -8,6 +8,7 @@ use slots::Key;
 use slots::SlotList;
 use table::Query;
 use table::Refusal;
+use table::Selected;
 use table::Statement;
 use table::Table;
 use table::Update;
@@ -17,7 +18,7 @@ ghost use Prim.Native.Nat.{_≤_, _<_, _%_};
 ghost use lib.ListN.{length, take};
 ghost use Rattle.slots.specs.Keys.{keyOf};
 ghost use Rattle.cache.specs.Sound.{opening, parametersOf, soundCounts, soundTables, soundAnswers, soundState};
-ghost use Rattle.cache.specs.Outcomes.{noPlace, noAnswer, outcomeOf, unfitIf, askNumber, Caches, Room, placeOf, placeBytes};
+ghost use Rattle.cache.specs.Outcomes.{noPlace, noAnswer, outcomeOf, unfitIf, askNumber, Caches, WorksOut, Room, placeOf, placeBytes};
 ghost use Rattle.cache.specs.Calls.{emptyState, opens, openOf, addRefused, addedTable, addedQuery, addedUpdate, hasPlace, addedBy, addOf, asks, askRefusal, askNew, askOf, updates, updateRefusal, updateDone, updateOf, flushOf};
 
 // The state. Entries past the counts, and of slots that hold nothing, do not matter.
@@ -469,13 +470,8 @@ impl State {
         requires { ⌜ (soundState self ≡ true) × (query < self .«query_count») × (length (now memory) ≡ self .memory) × (key ≡ keyOf query (now values)) ⌝ }
         ensures { λ r. ⌜ asks (outcomeOf self key r) (now (memory .exit)) (now (answer .exit)) ≡ askNew self (now (cells .entry)) (now (memory .entry)) (now (answer .entry)) query (now (values .entry)) ⌝ }
     {
-        let queries = self.queries;
-        let tables = self.tables;
         let slots = self.slots;
-        let q = queries[query];
-        let t = tables[q.table as usize];
-        let start = sound::areas(tables, q.table as usize);
-        let done = table::select(q, t, start, cells, values, answer);
+        let done = self.work_out(cells, answer, query, values);
         if done.refusal != 0 {
             return not_answered(done.refusal, slots);
         }
@@ -487,6 +483,25 @@ impl State {
             length: done.length,
             place,
         }
+    }
+
+    // The record of a question over its table, or over its two.
+    fn work_out(self, cells: &[i32], answer: &mut [u8], query: usize, values: &[i32]) -> Selected
+        requires { ⌜ (soundState self ≡ true) × (query < self .«query_count») ⌝ }
+        ensures { λ r. ⌜ WorksOut self (now (cells .entry)) query (now (values .entry)) (now (answer .entry)) r (now (answer .exit)) ⌝ }
+    {
+        let queries = self.queries;
+        let tables = self.tables;
+        let q = queries[query];
+        let t = tables[q.table as usize];
+        let start = sound::areas(tables, q.table as usize);
+        if q.second == 0 {
+            return table::select(q, t, start, cells, values, answer);
+        }
+        let i = (q.second - 1) as usize;
+        let u = tables[i];
+        let beside = sound::areas(tables, i);
+        table::select_pair(q, t, start, u, beside, cells, values, answer)
     }
 
     // What a question gives, and the state after it.

@@ -99,7 +99,7 @@ pub fn matched(
     let mut q: u8 = 0;
     while q < n {
         let query = queries[q as usize];
-        let same = query.table == update.table;
+        let same = pattern::reads(query.table, query.second, update.table);
         if found[q as usize] & same {
             let next = mark_query(marks, keys, slots, q, query, update, values);
             marks = next;

@@ -1,22 +1,23 @@
 -- What each return of a command owes: the call's step, and its text printed. Assumes nothing.
 use mathlib.Core.Path.{_≡_, refl, ap, _∙_, subst, subst⁻¹}
 use mathlib.Core.Bool.{Bool, true, false, cond}
-use mathlib.Core.List.{List}
-use Prim.Native.Nat.{ℕ, zero, suc, _+_, _-_, _≤_}
+use mathlib.Core.List.{List, [], _∷_}
+use Prim.Native.Nat.{ℕ, zero, suc, _+_, _*_, _-_, _≤_}
 use native.Mathlib.Omega.{arith}
 use borrow.Author.Tests.{ltb-false}
 use lib.Dec.{ltb}
 use lib.IntN.{ℤ}
-use lib.ListN.{length, take, drop, getD, length-append, length-drop}
+use lib.ListN.{length, take, drop, getD, length-append, length-take, length-drop}
 use Rattle.lists.specs.Lists.{written}
+use Rattle.meaning.specs.Plain.{lowestOf}
 use Rattle.slots.specs.declared.Found.{Found}
 use Rattle.slots.specs.declared.Found.the-variants.{At, Nothing}
 use Rattle.cache.specs.declared.State.{State}
 use Rattle.cache.specs.declared.Added.{Added}
 use Rattle.cache.specs.declared.Flushed.{Flushed}
-use Rattle.cache.specs.Calls.{settled, addOf, Asks, askRefusal, bytesAt, cachedLength, askCached, recordAt, askNew, askFound, foundIn, askOf, Updates, updateOf, flushOf}
+use Rattle.cache.specs.Calls.{settled, addOf, Asks, asks, askRefused, askRefusal, bytesAt, cachedLength, askCached, recordAt, tooMany, newRefusal, askNew, askFound, foundIn, askOf, Updates, updateOf, flushOf}
 use Rattle.cache.specs.Run.{Store, Call, add, ask, update, flush, Seen, stepAdd, stepAsk, stepUpdate, stepFlush, step}
-use Rattle.cache.proofs.Settled.{settled-refused, settled-done}
+use Rattle.cache.proofs.Settled.{settled-refused, settled-done, or-else-zero}
 use Rattle.console.specs.Room.{filled, filledTo}
 use Rattle.console.specs.Printed.{refusedText, answerText}
 use Rattle.console.specs.Desk.{doneText, textOf, bufferAfter, Replies, replies}
@@ -80,39 +81,67 @@ module _ (s : State) (cells : List ℤ) (memory : List ℕ) where
   unfolding step
   flush-is a e = ap (stepFlush (storeOf s cells memory)) e
 
--- ---- the record of an answer lies in the answer buffer
+-- ---- the record of an answer lies in the answer buffer, which keeps its length
 
 pub written-length : (xs ys : List ℕ) → length (written xs 0 ys) ≡ length ys + (length xs - (0 + length ys))
 written-length xs ys = length-append ys (drop (0 + length ys) xs) ∙ ap (λ (k : ℕ). length ys + k) (length-drop (0 + length ys) xs)
 
-abbrev Inside : Asks → Type 0
-Inside a = a .result .length ≤ length (a .answer)
+pub record Inside (answer : List ℕ) (a : Asks) : Type 0 where
+  pub part : a .result .length ≤ length (a .answer)
+  pub long : length (a .answer) ≡ length answer
 
-fitting-inside : (n m : ℕ) (refused done : Asks) → Inside refused → (n ≤ m → Inside done) → Inside (cond (ltb m n) refused done)
-fitting-inside n m refused done r d = go (ltb m n) refl
+fitting-inside : (answer : List ℕ) (n : ℕ) (refused done : Asks) → Inside answer refused → (n ≤ length answer → Inside answer done)
+    → Inside answer (cond (ltb (length answer) n) refused done)
+fitting-inside answer n refused done r d = go (ltb (length answer) n) refl
   where
-    go : (b : Bool) → ltb m n ≡ b → Inside (cond b refused done)
+    go : (b : Bool) → ltb (length answer) n ≡ b → Inside answer (cond b refused done)
     go true e = r
-    go false e = d (ltb-false m n e)
+    go false e = d (ltb-false (length answer) n e)
 
 module _ (s : State) (cells : List ℤ) (memory : List ℕ) (number : ℕ) (values : List ℤ) (answer : List ℕ) where
-  cached-inside : (p : ℕ) → Inside (askCached s memory answer p)
+  refused-inside : (n : ℕ) → Inside answer (asks (askRefused s n) memory answer)
+  refused-inside n = record { part = omega arith; long = refl }
+
+  settled-inside : (n : ℕ) (done : Asks) → (n ≡ 0 → Inside answer done) → Inside answer (settled n done (asks (askRefused s n) memory answer))
+  unfolding settled
+  settled-inside zero done d = d refl
+  settled-inside (suc n) done d = refused-inside (suc n)
+
+  cached-inside : (p : ℕ) → Inside answer (askCached s memory answer p)
   unfolding askCached
-  cached-inside p = fitting-inside (cachedLength s p) (length answer) _ _ (omega arith) (λ h. omega (arith, written-length answer (bytesAt s memory (getD (s .slots .order) p 0))))
+  cached-inside p =
+      let bs = bytesAt s memory (getD (s .slots .order) p 0) in
+      let n : length bs ≤ cachedLength s p = omega (arith, length-take (cachedLength s p) (drop (getD (s .slots .order) p 0 * s .«slot_bytes») memory)) in
+      fitting-inside answer (cachedLength s p) _ _ (refused-inside 13)
+      (λ h. record { part = omega (arith, h, n, written-length answer bs); long = omega (arith, h, n, written-length answer bs) })
 
-  new-inside : Inside (askNew s cells memory answer number values)
+  -- an answer worked out that is not refused has room
+  new-fits : newRefusal s cells (length answer) number values ≡ 0 → length (recordAt s cells number values) ≤ length answer
+  unfolding newRefusal
+  new-fits e =
+      let n = length (recordAt s cells number values) in
+      let t = or-else-zero (tooMany s cells number values) 16 (lowestOf ((13, ltb (length answer) n) ∷ [])) (omega arith) e in
+      ltb-false (length answer) n (or-else-zero (ltb (length answer) n) 13 0 (omega arith) (t .1) .0)
+
+  new-inside : Inside answer (askNew s cells memory answer number values)
   unfolding askNew
-  new-inside = fitting-inside (length (recordAt s cells number values)) (length answer) _ _ (omega arith) (λ h. omega (arith, written-length answer (recordAt s cells number values)))
+  new-inside =
+      let r = recordAt s cells number values in
+      settled-inside (newRefusal s cells (length answer) number values) _
+      (λ e. record { part = omega (arith, new-fits e, written-length answer r); long = omega (arith, new-fits e, written-length answer r) })
 
-  found-inside : (f : Found) → Inside (askFound f s cells memory answer number values)
+  found-inside : (f : Found) → Inside answer (askFound f s cells memory answer number values)
   found-inside (At p) = cached-inside p
   found-inside Nothing = new-inside
 
-  settled-inside : (n : ℕ) (done refused : Asks) → Inside done → Inside refused → Inside (settled n done refused)
-  unfolding settled
-  settled-inside zero done refused d r = d
-  settled-inside (suc n) done refused d r = r
-
-  pub answer-inside : (a : Asks) → a ≡ askOf s cells memory number values answer → Inside a
+  pub asked-inside : Inside answer (askOf s cells memory number values answer)
   unfolding askOf
-  answer-inside a e = subst⁻¹ Inside e (settled-inside (askRefusal s (length cells) (length memory) number (length values)) _ _ (found-inside (foundIn s number values)) (omega arith))
+  asked-inside = settled-inside (askRefusal s (length cells) (length memory) number (length values)) _ (λ _. found-inside (foundIn s number values))
+
+  pub answer-inside : (a : Asks) → a ≡ askOf s cells memory number values answer → a .result .length ≤ length (a .answer)
+  answer-inside a e = subst⁻¹ (Inside answer) e asked-inside .part
+
+-- and so of a step
+pub step-long : (s : Store) (number : ℕ) (values : List ℤ) (answer : List ℕ) → length (step s (ask number values answer) .1 .got .answer) ≡ length answer
+unfolding step
+step-long s number values answer = asked-inside (s .state) (s .cells) (s .memory) number values answer .long

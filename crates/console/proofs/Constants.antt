@@ -20,7 +20,7 @@ use Rattle.lists.proofs.Lists.{All-map, all-true, all-of}
 use Rattle.lists.proofs.Runs.{drop-yes, drop-no, drop-short, drop-all, run-split}
 use Rattle.meaning.specs.Limits.{isWithin32}
 use Rattle.meaning.specs.Tokens as M
-use Rattle.meaning.specs.Tokens.{Keyword, keyword, name, constant, operator, mark, comma, lparen, rparen, other, isDigit, isNameByte, isWordByte, isSpace, isName, decimal, word, keywords, keywordIn, signs, behindPrefix, signIn, tokenFrom, tokenHere, firstToken}
+use Rattle.meaning.specs.Tokens.{Keyword, keyword, name, constant, operator, mark, comma, lparen, rparen, dot, other, isDigit, isNameByte, isWordByte, isSpace, isName, decimal, word, keywords, keywordIn, signs, behindPrefix, signIn, tokenFrom, tokenHere, firstToken}
 use Rattle.meaning.proofs.Stream.{from-word, from-sign, from-short, sign-here, sign-later}
 use Rattle.token.specs.declared.Token.{Token}
 use Rattle.token.specs.Tokens as N
@@ -46,6 +46,7 @@ constant-kind mark = refl
 constant-kind comma = refl
 constant-kind lparen = refl
 constant-kind rparen = refl
+constant-kind dot = refl
 constant-kind other = refl
 
 -- the test of the token that is read from the start of a word on
@@ -129,7 +130,7 @@ sign-none (x ∷ xs) (cons p h) b u = go (behindPrefix (bytes (x .0)) (b ∷ u))
 
 signs-none : (b : ℕ) (u : List ℕ) → constantIn (signIn signs b u .0) ≡ none
 signs-none b u =
-    sign-none signs (cons refl (cons refl (cons refl (cons refl (cons refl (cons refl (cons refl (cons refl (cons refl (cons refl nil)))))))))) b u
+    sign-none signs (cons refl (cons refl (cons refl (cons refl (cons refl (cons refl (cons refl (cons refl (cons refl (cons refl (cons refl nil))))))))))) b u
 
 keyword-none : (xs : List (String × Keyword)) (w : List ℕ) → constantIn (keywordIn xs w) ≡ none
 keyword-none [] w = refl

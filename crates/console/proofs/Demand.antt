@@ -15,7 +15,7 @@ use Rattle.slots.specs.declared.Found.{Found}
 use Rattle.slots.specs.declared.Found.the-variants.{At, Nothing}
 use Rattle.cache.specs.declared.State.{State}
 use Rattle.cache.specs.declared.Asked.{Asked}
-use Rattle.cache.specs.Calls.{settled, Asks, asks, askRefusal, cachedLength, askCached, recordAt, askNew, askFound, foundIn, askOf}
+use Rattle.cache.specs.Calls.{settled, Asks, asks, askRefusal, cachedLength, askCached, newRefusal, askNew, askFound, foundIn, askOf}
 use Rattle.cache.specs.Run.{Store, openingOf, opened, Call, add, ask, update, flush, Got, Seen, step, after, gets, plainCall, bufferOf, gotOf, plainGets}
 use Rattle.cache.specs.Means.{tablesIn}
 use Rattle.cache.specs.Demand.{refusedWith}
@@ -190,15 +190,15 @@ cond-alike true r d m k x y u v = record { results = refl; memories = refl }
 cond-alike false r d m k x y u v = record { results = refl; memories = refl }
 
 module _ (s : State) (cells : List ℤ) (memory : List ℕ) (n : ℕ) (zs : List ℤ) (b c : List ℕ) (e : length b ≡ length c) where
-  found-alike : (f : Found) → Alike (askFound f s cells memory b n zs) (askFound f s cells memory c n zs)
-  unfolding askCached askNew
-  found-alike (At p) = rw (← e) (cond-alike (ltb (length b) (cachedLength s p)) _ _ _ _ _ _ _ _)
-  found-alike Nothing = rw (← e) (cond-alike (ltb (length b) (length (recordAt s cells n zs))) _ _ _ _ _ _ _ _)
-
   settled-alike : (k : ℕ) (d : Asks) (f : Asks) → Alike d f → (r : Asked) → Alike (settled k d (asks r memory b)) (settled k f (asks r memory c))
   unfolding settled
   settled-alike zero d f a r = a
   settled-alike (suc k) d f a r = record { results = refl; memories = refl }
+
+  found-alike : (f : Found) → Alike (askFound f s cells memory b n zs) (askFound f s cells memory c n zs)
+  unfolding askCached askNew
+  found-alike (At p) = rw (← e) (cond-alike (ltb (length b) (cachedLength s p)) _ _ _ _ _ _ _ _)
+  found-alike Nothing = rw (← e) (settled-alike (newRefusal s cells (length b) n zs) _ _ (record { results = refl; memories = refl }) _)
 
   ask-alike : Alike (askOf s cells memory n zs b) (askOf s cells memory n zs c)
   unfolding askOf

@@ -1,8 +1,8 @@
 -- Laws of what is printed, for readers.
 --     decimal-back    a number's digits read back as that number, and are digits only
 --     value-back      a value's text is a value of a line, and the same
---     answer-short    the text of an answer has at most 65,536 bytes
---     text-short      and so has what is printed for any line
+--     answer-short    the text of an answer has at most 7 bytes for 2 of the answer's, and 33
+--     text-short      what is printed for a line has at most 262,144 bytes, where at most 65,536 are lent for answers
 --     all-printed     a buffer as long as a text holds all of it
 -- Assumes nothing.
 use mathlib.Core.Path.{_≡_, refl, sym, ap, ap₂, _∙_, subst}
@@ -10,6 +10,7 @@ use mathlib.Core.Bool.{Bool, true, false, cond}
 use mathlib.Core.Option.{none, some}
 use mathlib.Core.List.{List, [], _∷_, _++_, map, append-nil}
 use Prim.Native.Nat.{ℕ, zero, suc, _+_, _*_, _-_, _/_, _%_, _^_, _≤_, _<_}
+use native.Mathlib.Nat.{suc-mul}
 use native.Mathlib.Decide.{decLt}
 use native.Mathlib.Omega.{arith}
 use borrow.Author.Tests.{le-leb, leb-true, ltb-true, ltb-false}
@@ -22,7 +23,7 @@ use Rattle.lists.proofs.Bools.{and-left, and-right, and-both}
 use Rattle.lists.proofs.Lists.{All-map, all-append, all-true, all-of}
 use Rattle.lists.proofs.Runs.{run-split, drop-all}
 use Rattle.meaning.specs.Limits.{isWithin32}
-use Rattle.meaning.specs.Record.{numberOf, numbersOf, fourAt, rowBytes, hasRow, rowPart}
+use Rattle.meaning.specs.Record.{numberOf, numbersOf, fourAt, columnsIn, rowCount, rowBytes, isRecord, hasRow, rowPart}
 use Rattle.meaning.specs.Tokens.{constant, isDigit, isNameByte, isWordByte, decimalOn, decimal, word, negative, tokenFrom}
 use Rattle.meaning.proofs.Stream.{from-word, from-minus}
 use Rattle.token.proofs.Words.{digit-word}
@@ -31,10 +32,11 @@ use Rattle.cache.specs.Calls.{settled}
 use Rattle.cache.specs.Run.{Store, Call, add, ask, update, flush, Seen, step}
 use Rattle.console.specs.Lines as L
 use Rattle.console.specs.Lines.{wholeToken, valueIn, Command, commandOf}
-use Rattle.console.specs.Printed.{digitsIn, decimalText, numberText, line, item, refusedText, addedText, updatedText, rowText, furtherText, rowsText, rowsThere, sourceWord, answerText}
+use Rattle.console.specs.Printed.{digitsIn, decimalText, numberText, line, item, refusedText, addedText, updatedText, rowText, furtherText, rowsText, rowsShown, sourceWord, answerText}
 use Rattle.console.specs.Desk.{doneText, called, commanded, answeredOf}
 use Rattle.console.proofs.Digits.{digits-one, digits-more}
-use Rattle.console.proofs.Shown.{row-record, few-columns, few-rows}
+use Rattle.console.proofs.Shown.{limits}
+use Rattle.console.proofs.Calling.{step-long}
 
 -- ---- digits
 
@@ -184,42 +186,39 @@ row-length (a ∷ b ∷ c ∷ d ∷ l) =
     simp length-append (omega (arith, number-length n))
 
 module _ (bs : List ℕ) where
-  part-length : (i : ℕ) → length (rowPart bs i) ≤ 32
+  part-length : (i : ℕ) → length (rowPart bs i) ≤ rowBytes bs
   unfolding rowPart
-  part-length i = go (hasRow bs i) refl
+  part-length i = go (hasRow bs i)
     where
-      go : (b : Bool) → hasRow bs i ≡ b → length (take (cond b (rowBytes bs) 0) (drop (cond b (8 + i * rowBytes bs) 0) bs)) ≤ 32
-      go false e = omega arith
-      go true e = omega (arith, few-columns bs (row-record bs i e), length-take (rowBytes bs) (drop (8 + i * rowBytes bs) bs))
+      go : (b : Bool) → length (take (cond b (rowBytes bs) 0) (drop (cond b (8 + i * rowBytes bs) 0) bs)) ≤ rowBytes bs
+      go false = omega arith
+      go true = omega (arith, length-take (rowBytes bs) (drop (8 + i * rowBytes bs) bs))
 
   abbrev row : ℕ → List ℤ
   row i = numbersOf (rowPart bs i)
 
-  one-length : (i : ℕ) → length (rowText (row i)) ≤ 96
+  one-length : (i : ℕ) → length (rowText (row i)) ≤ 3 * rowBytes bs
   one-length i = omega (arith, row-length (rowPart bs i), part-length i)
 
-  further-length : (i n : ℕ) → length (furtherText (map row (from i n))) ≤ 98 * n
-  further-length i zero = omega arith
-  further-length i (suc n) =
-      let k : length (furtherText (map row (from (suc i) n))) ≤ 98 * n = further-length (suc i) n in
-      simp length-append (omega (arith, one-length i))
+  -- of each row 3 bytes for one of its own, and 2 for the stroke, which is half of what the row has at least
+  further-length : 1 ≤ columnsIn bs → (i n : ℕ) → 2 * length (furtherText (map row (from i n))) ≤ 7 * (n * rowBytes bs)
+  further-length h i zero = omega arith
+  further-length h i (suc n) =
+      let k : 2 * length (furtherText (map row (from (suc i) n))) ≤ 7 * (n * rowBytes bs) = further-length h (suc i) n in
+      simp length-append (omega (arith, one-length i, k, suc-mul n (rowBytes bs), h))
 
-  rows-length : (n : ℕ) → length (rowsText (map row (from 0 n))) ≤ 98 * n
-  rows-length zero = omega arith
-  rows-length (suc n) = simp length-append (omega (arith, one-length 0, further-length 1 n))
+  rows-length : 1 ≤ columnsIn bs → (n : ℕ) → 2 * length (rowsText (map row (from 0 n))) ≤ 7 * (n * rowBytes bs)
+  rows-length h zero = omega arith
+  rows-length h (suc n) =
+      let k : 2 * length (furtherText (map row (from 1 n))) ≤ 7 * (n * rowBytes bs) = further-length h 1 n in
+      simp length-append (omega (arith, one-length 0, k, suc-mul n (rowBytes bs), h))
 
-  source-length : (kept : ℕ) → length (sourceWord kept) ≤ 5
-  source-length kept = go (eqb kept 0)
+  shown-length : 2 * length (rowsText (rowsShown bs)) ≤ 7 * length bs
+  shown-length = go (isRecord bs) refl
     where
-      go : (b : Bool) → length (cond b (bytes "new ") (bytes "kept ")) ≤ 5
-      go true = omega arith
-      go false = omega arith
-
-  pub answer-short : (kept scanned : ℕ) → scanned < 4294967296 → length (answerText kept scanned bs) ≤ 65536
-  unfolding answerText
-  answer-short kept scanned h =
-      simp length-append
-      (omega (arith, source-length kept, decimal-length 9 scanned (omega arith), rows-length (rowsThere bs), few-rows bs))
+      go : (b : Bool) → isRecord bs ≡ b → 2 * length (rowsText (map row (from 0 (cond b (rowCount bs) 0)))) ≤ 7 * length bs
+      go false e = omega arith
+      go true e = let l = limits bs e in omega (arith, l .whole, rows-length (l .some) (rowCount bs))
 
 -- ---- what is printed for a line, whatever the numbers in it
 
@@ -235,54 +234,73 @@ decimal-most : (n : ℕ) → length (decimalText n) ≤ 20
 unfolding decimalText
 decimal-most n = digits-most 20 n
 
-refused-short : (n : ℕ) → length (refusedText n) ≤ 65536
+refused-short : (n : ℕ) → length (refusedText n) ≤ 64
 unfolding refusedText
 refused-short n = simp length-append (omega (arith, decimal-most n))
 
-added-short : (kind n : ℕ) → length (addedText kind n) ≤ 65536
+added-short : (kind n : ℕ) → length (addedText kind n) ≤ 64
 unfolding addedText
 added-short kind n = go (eqb kind 1) (eqb kind 2)
   where
-    go : (a b : Bool) → length (line (cond a (item "table" n) (cond b (item "query" n) (item "update" n)))) ≤ 65536
+    go : (a b : Bool) → length (line (cond a (item "table" n) (cond b (item "query" n) (item "update" n)))) ≤ 64
     go true b = simp length-append (omega (arith, decimal-most n))
     go false true = simp length-append (omega (arith, decimal-most n))
     go false false = simp length-append (omega (arith, decimal-most n))
 
-updated-short : (rows drops : ℕ) → length (updatedText rows drops) ≤ 65536
+updated-short : (rows drops : ℕ) → length (updatedText rows drops) ≤ 64
 unfolding updatedText
 updated-short rows drops = simp length-append (omega (arith, decimal-most rows, decimal-most drops))
 
-shown-short : (bs : List ℕ) (kept scanned : ℕ) → length (answerText kept scanned bs) ≤ 65536
+source-length : (kept : ℕ) → length (sourceWord kept) ≤ 5
+source-length kept = go (eqb kept 0)
+  where
+    go : (b : Bool) → length (cond b (bytes "new ") (bytes "kept ")) ≤ 5
+    go true = omega arith
+    go false = omega arith
+
+pub answer-short : (kept scanned : ℕ) (bs : List ℕ) → 2 * length (answerText kept scanned bs) ≤ 7 * length bs + 66
 unfolding answerText
-shown-short bs kept scanned =
-    simp length-append (omega (arith, source-length bs kept, decimal-most scanned, rows-length bs (rowsThere bs), few-rows bs))
+answer-short kept scanned bs = simp length-append (omega (arith, source-length kept, decimal-most scanned, shown-length bs))
 
-settled-short : (k : ℕ) (done refused : List ℕ) → length done ≤ 65536 → length refused ≤ 65536 → length (settled k done refused) ≤ 65536
+-- a text for n bytes that are lent for answers
+abbrev Short : ℕ → List ℕ → Type 0
+Short n text = 2 * length text ≤ 7 * n + 128
+
+settled-short : (n k : ℕ) (done refused : List ℕ) → Short n done → Short n refused → Short n (settled k done refused)
 unfolding settled
-settled-short zero done refused h k = h
-settled-short (suc n) done refused h k = k
+settled-short n zero done refused h i = h
+settled-short n (suc k) done refused h i = i
 
-done-short : (c : Call) (s : Seen) → length (doneText c s) ≤ 65536
-done-short (add text) s = added-short (s .got .kind) (s .got .number)
-done-short (ask n zs buffer) s = shown-short (take (s .got .length) (s .got .answer)) (s .kept) (s .scanned)
-done-short (update n zs) s = updated-short (s .got .rows) (s .drops)
-done-short flush s = omega arith
+-- a question's answer has no more bytes than the buffer, which keeps its length
+asked-short : (s : Seen) (n : ℕ) → length (s .got .answer) ≡ n → Short n (answerText (s .kept) (s .scanned) (take (s .got .length) (s .got .answer)))
+asked-short s n e =
+    let bs = take (s .got .length) (s .got .answer) in
+    omega (arith, e, length-take (s .got .length) (s .got .answer), answer-short (s .kept) (s .scanned) bs)
 
-call-short : (s : Store) (buffer : List ℕ) (c : Call) → length (called s buffer c .text) ≤ 65536
-call-short s buffer c =
+call-short : (s : Store) (buffer : List ℕ) (c : Call) (n : ℕ) → Short n (doneText c (step s c .1)) → Short n (called s buffer c .text)
+call-short s buffer c n h =
     let x = step s c .1 in
-    settled-short (x .got .refusal) (doneText c x) (refusedText (x .got .refusal)) (done-short c x) (refused-short (x .got .refusal))
+    settled-short n (x .got .refusal) (doneText c x) (refusedText (x .got .refusal)) h (omega (arith, refused-short (x .got .refusal)))
 
-command-short : (s : Store) (buffer : List ℕ) (c : Command) → length (commanded s buffer c .text) ≤ 65536
-command-short s buffer (L.add text) = call-short s buffer (add text)
-command-short s buffer (L.ask n zs) = call-short s buffer (ask n zs buffer)
-command-short s buffer (L.change n zs) = call-short s buffer (update n zs)
-command-short s buffer L.flush = call-short s buffer flush
+command-short : (s : Store) (buffer : List ℕ) (c : Command) → Short (length buffer) (commanded s buffer c .text)
+command-short s buffer (L.add text) =
+    let g = step s (add text) .1 .got in
+    call-short s buffer (add text) (length buffer) (omega (arith, added-short (g .kind) (g .number)))
+command-short s buffer (L.ask n zs) =
+    let c = ask n zs buffer in
+    call-short s buffer c (length buffer) (asked-short (step s c .1) (length buffer) (step-long s n zs buffer))
+command-short s buffer (L.change n zs) =
+    let x = step s (update n zs) .1 in
+    call-short s buffer (update n zs) (length buffer) (omega (arith, updated-short (x .got .rows) (x .drops)))
+command-short s buffer L.flush = call-short s buffer flush (length buffer) (omega arith)
 command-short s buffer L.bad = omega arith
 
-pub text-short : (s : Store) (buffer line : List ℕ) → length (answeredOf s buffer line .text) ≤ 65536
+text-length : (s : Store) (buffer line : List ℕ) → Short (length buffer) (answeredOf s buffer line .text)
 unfolding answeredOf
-text-short s buffer line = command-short s buffer (commandOf line)
+text-length s buffer line = command-short s buffer (commandOf line)
+
+pub text-short : (s : Store) (buffer line : List ℕ) → length buffer ≤ 65536 → length (answeredOf s buffer line .text) ≤ 262144
+text-short s buffer line h = omega (arith, h, text-length s buffer line)
 
 -- ---- a buffer that is long enough
 

@@ -2,16 +2,16 @@
 use mathlib.Core.Path.{_≡_, refl, sym, ap, _∙_}
 use mathlib.Core.Bool.{Bool, true, false, _&&_, cond}
 use mathlib.Core.List.{List, [], _∷_, _++_, map}
-use Prim.Native.Nat.{ℕ, suc, _+_, _-_, _^_, _≤_, _<_}
+use Prim.Native.Nat.{ℕ, suc, _+_, _*_, _-_, _^_, _≤_, _<_}
 use native.Mathlib.Omega.{arith}
-use borrow.Author.Tests.{eq-eqb, ne-eqb, lt-ltb, le-ltb, ltb-true, ltb-false, leb-true}
+use borrow.Author.Tests.{eq-eqb, ne-eqb, lt-ltb, le-ltb, eqb-true, ltb-true, ltb-false, leb-true}
 use lib.Dec.{leb, ltb, eqb}
 use lib.ListN.{length, drop, getD, length-drop}
 use Rattle.lists.specs.Lists.{bytes, from}
 use Rattle.lists.proofs.Bools.{and-left, and-right}
 use Rattle.lists.proofs.Walks.{from-cons, from-none}
-use Rattle.meaning.specs.Limits.{most-items, most-rows}
-use Rattle.meaning.specs.Record.{numberOf, numbersOf, fourAt, columnsIn, rowCount, isRecord, hasRow, rowPart, rowRefusal}
+use Rattle.meaning.specs.Limits.{most-items}
+use Rattle.meaning.specs.Record.{numberOf, numbersOf, fourAt, columnsIn, rowCount, rowBytes, isRecord, hasRow, rowPart, rowRefusal}
 use Rattle.token.proofs.Runs.{drop-here}
 use Rattle.console.specs.Printed.{sourceWord, line, item, addedText, decimalText, numberText, rowText, furtherText, rowsText, rowsThere, rowsShown}
 use Rattle.console.specs.Pieces.{rowsFrom}
@@ -84,29 +84,34 @@ module _ (l : List ℕ) (i : ℕ) where
 -- ---- the rows of a record
 
 module _ (bs : List ℕ) where
-  limits : isRecord bs ≡ true → (columnsIn bs ≤ most-items) × (rowCount bs ≤ most-rows)
+  -- the rows and columns of a record, and its length: 8 bytes stand before the rows
+  pub record Limits : Type 0 where
+    pub some : 1 ≤ columnsIn bs
+    pub rows : rowCount bs ≤ 65535
+    pub whole : rowCount bs * rowBytes bs + 8 ≤ length bs
+
+  pub limits : isRecord bs ≡ true → Limits
   unfolding isRecord
   limits h =
-      let t = and-right (leb 1 (columnsIn bs)) _ (and-right (eqb (getD bs 4 0) 1) _ (and-right (leb 8 (length bs)) _ h)) in (
-        leb-true (columnsIn bs) most-items (and-left (leb (columnsIn bs) most-items) _ t),
-        leb-true (rowCount bs) most-rows (and-left (leb (rowCount bs) most-rows) _ (and-right (leb (columnsIn bs) most-items) _ t)),
-      )
+      let c = and-right (eqb (getD bs 4 0) 1) _ (and-right (leb 8 (length bs)) _ h) in
+      let r = and-right (leb (columnsIn bs) most-items) _ (and-right (leb 1 (columnsIn bs)) _ c) in
+      let l = and-right (leb (rowCount bs) _) _ r in
+      let e : fourAt bs 0 ≡ rowCount bs * rowBytes bs + 4 = eqb-true (fourAt bs 0) (rowCount bs * rowBytes bs + 4) (and-left (eqb (fourAt bs 0) (rowCount bs * rowBytes bs + 4)) _ l) in
+      let n : fourAt bs 0 + 4 ≤ length bs = leb-true (fourAt bs 0 + 4) (length bs) (and-right (eqb (fourAt bs 0) (rowCount bs * rowBytes bs + 4)) _ l) in
+      record {
+        some = leb-true 1 (columnsIn bs) (and-left (leb 1 (columnsIn bs)) _ c);
+        rows = omega (arith, leb-true (rowCount bs) _ (and-left (leb (rowCount bs) _) _ r));
+        whole = omega (arith, e, n);
+      }
 
-  pub few-columns : isRecord bs ≡ true → columnsIn bs ≤ most-items
-  few-columns h = limits h .0
-
-  pub few-rows : rowsThere bs ≤ 512
+  pub few-rows : rowsThere bs ≤ 65535
   few-rows = go (isRecord bs) refl
     where
-      go : (b : Bool) → isRecord bs ≡ b → cond b (rowCount bs) 0 ≤ 512
+      go : (b : Bool) → isRecord bs ≡ b → cond b (rowCount bs) 0 ≤ 65535
       go false e = omega arith
-      go true e = limits e .1
+      go true e = limits e .rows
 
   module _ (i : ℕ) where
-    pub row-record : hasRow bs i ≡ true → isRecord bs ≡ true
-    unfolding hasRow
-    row-record h = and-left (isRecord bs) (ltb i (rowCount bs)) h
-
     -- what the refusal of row i says
     pub there : rowRefusal bs i ≡ 0 → i < rowsThere bs
     unfolding hasRow

@@ -12,7 +12,7 @@ use lib.ListN.{length, drop}
 use Rattle.lists.specs.Lists.{bytes, all, takeWhile, dropWhile}
 use Rattle.lists.specs.Tests.{eqList}
 use Rattle.meaning.specs.Limits.{isWithin32}
-use Rattle.meaning.specs.Tokens.{Token, keyword, name, constant, operator, mark, comma, lparen, rparen, other, isDigit, isSpace, decimal, behindPrefix, tokenHere}
+use Rattle.meaning.specs.Tokens.{Token, keyword, name, constant, operator, mark, comma, lparen, rparen, dot, other, isDigit, isSpace, decimal, behindPrefix, tokenHere}
 use Rattle.console.specs.declared.Line.{Line}
 use Rattle.console.specs.declared.Gathered.{Gathered}
 use Rattle.console.specs.Room.{filledTo}
@@ -80,6 +80,7 @@ constantIn mark = none
 constantIn comma = none
 constantIn lparen = none
 constantIn rparen = none
+constantIn dot = none
 constantIn other = none
 
 abbrev pub wholeToken : Token × List ℕ → Option ℤ

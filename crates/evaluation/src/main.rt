@@ -67,6 +67,8 @@ fn no_query() -> Query {
         selected: [0; Query::SELECTED],
         count: 0,
         parameters: 0,
+        second: 0,
+        start: 0,
         condition,
     }
 }
@@ -187,14 +189,29 @@ fn print_answer(bytes: &[u8]) {
     print(b"\n");
 }
 
+// The table of that number, or the first.
+fn table_at(tables: [Table; Table::TABLES], k: usize) -> Table {
+    if k < Table::TABLES {
+        tables[k]
+    } else {
+        tables[0]
+    }
+}
+
 fn ask(tables: [Table; Table::TABLES], q: Query, cells: &[i32], values: &[i32], out: &mut [u8]) {
     let k = q.table as usize;
-    if k < Table::TABLES {
-        let t = tables[k];
-        let start = area_start(tables, k);
+    let t = table_at(tables, k);
+    let start = area_start(tables, k);
+    if q.second == 0 {
         table::select(q, t, start, cells, values, out);
         print_answer(out);
+        return;
     }
+    let i = (q.second - 1) as usize;
+    let u = table_at(tables, i);
+    let beside = area_start(tables, i);
+    table::select_pair(q, t, start, u, beside, cells, values, out);
+    print_answer(out);
 }
 
 // The tables after an update.

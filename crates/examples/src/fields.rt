@@ -183,6 +183,16 @@ fn condition_with(mut c: Condition, name: &[u8], n: &[i32]) -> Condition {
     c
 }
 
+// The question with its second table changed, 255 for none, or the place of that table's first column.
+fn second_with(mut q: Query, name: &[u8], i: usize) -> Query {
+    if same(name, b"qsecond") {
+        q.second = low8(low8(i) as usize + 1);
+    } else if same(name, b"qstart") {
+        q.start = low8(i);
+    }
+    q
+}
+
 fn query_with(mut q: Query, name: &[u8], n: &[i32]) -> Query {
     let i = number(n, 1);
     if same(name, b"qtable") {
@@ -202,7 +212,7 @@ fn query_with(mut q: Query, name: &[u8], n: &[i32]) -> Query {
 fn with_query(mut s: State, name: &[u8], n: &[i32]) -> State {
     let i = number(n, 0);
     if i < Query::QUERIES {
-        let mut q = query_with(s.queries[i], name, n);
+        let mut q = second_with(query_with(s.queries[i], name, n), name, number(n, 1));
         let c = q.condition;
         q.condition = condition_with(c, name, n);
         s.queries[i] = q;

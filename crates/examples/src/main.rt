@@ -21,8 +21,10 @@ const CELLS: usize = State::CELLS + 1;
 
 const MEMORY: usize = State::MEMORY + 1;
 
-// The bytes of the longest record: a head of eight, and four a value.
-const RECORD: usize = 8 + 4 * (Query::SELECTED * (Table::ROWS as usize));
+// The most rows of a record, and the bytes of the longest one: a head of eight, and four a value.
+const ROWS: usize = 65535;
+
+const RECORD: usize = 8 + 4 * (Query::SELECTED * ROWS);
 
 enum Command {
     Open,
@@ -297,7 +299,7 @@ fn no_memory() -> [u8; MEMORY]
 }
 
 fn no_record() -> [u8; RECORD]
-    ensures { λ r. ⌜ 16392 ≡ length r ⌝ }
+    ensures { λ r. ⌜ 2097128 ≡ length r ⌝ }
 {
     [0; RECORD]
 }

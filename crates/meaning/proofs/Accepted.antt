@@ -19,7 +19,7 @@ use Rattle.meaning.specs.Grammar.{Sentence, sentence}
 use Rattle.meaning.specs.Key.{Key}
 use Rattle.meaning.specs.Limits.{most-text}
 use Rattle.meaning.specs.Plain.{Lengths, Plain, queryAt, updateAt, Call, add, ask, change, flush, otherLengths, full, addConditions, askConditions, changeConditions, conditions, orElse, lowestOf, refusal, refused, addedText, does, guard}
-use Rattle.meaning.specs.Demand.{LowestNumber, RefusedChangesNothing, ReadsExactly, OneSentence, Acceptable, AcceptedExactlyIf, AcceptedIsAdded}
+use Rattle.meaning.specs.Demand.{rank, LowestNumber, RefusedChangesNothing, ReadsExactly, OneSentence, Acceptable, AcceptedExactlyIf, AcceptedIsAdded}
 use Rattle.meaning.proofs.Decides.{decides, unique}
 
 -- ---- the lowest number that applies, in any list of numbers and conditions
@@ -28,28 +28,31 @@ use Rattle.meaning.proofs.Decides.{decides, unique}
 abbrev pub appliesIn : List (ℕ × Bool) → ℕ → Bool
 appliesIn cs n = any (λ (x : ℕ × Bool). eqb (x .0) n && x .1) cs
 
--- the numbers ascend, all above k
+-- the numbers stand in their order, all behind k
 abbrev pub ascends : ℕ → List (ℕ × Bool) → Bool
 ascends k [] = true
-ascends k (c ∷ cs) = ltb k (c .0) && ascends (c .0) cs
+ascends k (c ∷ cs) = ltb k (rank (c .0)) && ascends (rank (c .0)) cs
 
 module _ (k : ℕ) (c : ℕ × Bool) (cs : List (ℕ × Bool)) (a : ascends k (c ∷ cs) ≡ true) where
-  above : k < c .0
-  above = ltb-true k (c .0) (and-left (ltb k (c .0)) (ascends (c .0) cs) a)
+  above : k < rank (c .0)
+  above = ltb-true k (rank (c .0)) (and-left (ltb k (rank (c .0))) (ascends (rank (c .0)) cs) a)
 
-  later : ascends (c .0) cs ≡ true
-  later = and-right (ltb k (c .0)) (ascends (c .0) cs) a
+  later : ascends (rank (c .0)) cs ≡ true
+  later = and-right (ltb k (rank (c .0))) (ascends (rank (c .0)) cs) a
+
+behind : (n m : ℕ) → rank m < rank n → n ≡ m → ⊥
+behind n m h e = let d : rank n ≡ rank m = ap rank e in let z : ⊥ = absurd (omega (arith, d, h)) in z
 
 -- no number up to k applies
-none-below : (k : ℕ) (cs : List (ℕ × Bool)) → ascends k cs ≡ true → (m : ℕ) → m ≤ k → appliesIn cs m ≡ false
+none-below : (k : ℕ) (cs : List (ℕ × Bool)) → ascends k cs ≡ true → (m : ℕ) → rank m ≤ k → appliesIn cs m ≡ false
 none-below k [] a m h = refl
 none-below k (c ∷ cs) a m h =
-    let up : k < c .0 = above k c cs a in
-    rw (ne-eqb (c .0) m (λ e. omega arith)) (none-below (c .0) cs (later k c cs a) m (omega arith))
+    let up : k < rank (c .0) = above k c cs a in
+    rw (ne-eqb (c .0) m (λ e. behind (c .0) m (omega (arith, up, h)) e)) (none-below (rank (c .0)) cs (later k c cs a) m (omega (arith, up, h)))
 
 pub record LowestIn (cs : List (ℕ × Bool)) (n : ℕ) : Type 0 where
   pub given : n ≢ 0 → appliesIn cs n ≡ true
-  pub lower : (m : ℕ) → m < n → appliesIn cs m ≡ false
+  pub lower : (m : ℕ) → rank m < rank n → appliesIn cs m ≡ false
   pub only : n ≡ 0 → (m : ℕ) → appliesIn cs m ≡ false
 
 passed-by : (c : ℕ × Bool) (cs : List (ℕ × Bool)) → c .1 ≡ false → (m : ℕ) → appliesIn (c ∷ cs) m ≡ appliesIn cs m
@@ -58,19 +61,19 @@ passed-by c cs e m = ap (λ b. (eqb (c .0) m && b) || appliesIn cs m) e ∙ ap (
 -- of numbers that ascend from above 0, the first whose condition holds is the lowest that applies
 pub lowest-in : (k : ℕ) (cs : List (ℕ × Bool)) → ascends k cs ≡ true → LowestIn cs (lowestOf cs)
 lowest-in k [] a = record { given = λ h. absurd (h refl); lower = λ m h. refl; only = λ e m. refl }
-lowest-in k (c ∷ cs) a = go (c .1) refl (lowest-in (c .0) cs (later k c cs a))
+lowest-in k (c ∷ cs) a = go (c .1) refl (lowest-in (rank (c .0)) cs (later k c cs a))
   where
-    up : k < c .0
+    up : k < rank (c .0)
     up = above k c cs a
 
-    below : (m : ℕ) → m < c .0 → appliesIn (c ∷ cs) m ≡ false
-    below m h = rw (ne-eqb (c .0) m (λ e. omega arith)) (none-below (c .0) cs (later k c cs a) m (omega arith))
+    below : (m : ℕ) → rank m < rank (c .0) → appliesIn (c ∷ cs) m ≡ false
+    below m h = rw (ne-eqb (c .0) m (behind (c .0) m h)) (none-below (rank (c .0)) cs (later k c cs a) m (omega (arith, h)))
 
     go : (b : Bool) → c .1 ≡ b → LowestIn cs (lowestOf cs) → LowestIn (c ∷ cs) (orElse b (c .0) (lowestOf cs))
     go true e ih = record {
       given = λ h. rw (eq-eqb (c .0) (c .0) refl, e);
       lower = below;
-      only = λ q m. absurd (let z = up in omega arith);
+      only = λ q m. absurd (behind (c .0) 0 (omega (arith, up)) q);
     }
     go false e ih = record {
       given = λ h. passed-by c cs e (lowestOf cs) ∙ ih .given h;
@@ -81,13 +84,13 @@ lowest-in k (c ∷ cs) a = go (c .1) refl (lowest-in (c .0) cs (later k c cs a))
 -- 0 is given exactly if no condition holds
 pub clear : (k : ℕ) (cs : List (ℕ × Bool)) → ascends k cs ≡ true → (lowestOf cs ≡ 0) ↔ All (λ c. c .1 ≡ false) cs
 clear k [] a = ((λ e. nil), (λ h. refl))
-clear k (c ∷ cs) a = go (c .1) refl (clear (c .0) cs (later k c cs a))
+clear k (c ∷ cs) a = go (c .1) refl (clear (rank (c .0)) cs (later k c cs a))
   where
-    up : k < c .0
+    up : k < rank (c .0)
     up = above k c cs a
 
     go : (b : Bool) → c .1 ≡ b → (lowestOf cs ≡ 0) ↔ All (λ c. c .1 ≡ false) cs → (orElse b (c .0) (lowestOf cs) ≡ 0) ↔ All (λ c. c .1 ≡ false) (c ∷ cs)
-    go true e ih = ((λ q. absurd (let z = up in omega arith)), (λ h. clash e (All-head h)))
+    go true e ih = ((λ q. absurd (behind (c .0) 0 (omega (arith, up)) q)), (λ h. clash e (All-head h)))
     go false e ih = ((λ q. cons e (ih .0 q)), (λ h. ih .1 (All-tail h)))
 
 -- the numbers of a call ascend
@@ -146,13 +149,15 @@ module _ (lent : Lengths) (p : Plain) (text : List ℕ) where
           known = All-head h₆;
           fresh = All-head h₇;
           counted = All-head h₈;
-          place = All-head (All-tail h₈);
+          different = All-head (All-tail h₈);
+          place = All-head (All-tail (All-tail h₈));
         },
       )
 
   none-holds : (s : Sentence) → Acceptable lent p text s → All (λ c. c .1 ≡ false) (addConditions lent p text (some s))
   none-holds s h =
-      cons (h .lengths) (cons (le-ltb most-text (length text) (h .short)) (cons refl (cons (h .within) (cons (h .known) (cons (h .fresh) (cons (h .counted) (cons (h .place) nil)))))))
+      cons (h .lengths) (cons (le-ltb most-text (length text) (h .short)) (cons refl (cons (h .within)
+      (cons (h .known) (cons (h .fresh) (cons (h .counted) (cons (h .different) (cons (h .place) nil))))))))
 
   its-sentence : (s : Sentence) → Acceptable lent p text s → sentence text ≡ some s
   its-sentence s h = decides (tokens text) s .1 (h .spelled)

@@ -1,8 +1,8 @@
 -- The clauses of a condition say what it says, and rule 5 counts them (rules 4 and 5). Assumes nothing.
 use mathlib.Core.Path.{_≡_, refl, sym, ap, ap₂, _∙_}
 use mathlib.Core.Bool.{Bool, true, false, not, _&&_, _||_, or-false, and-true}
-use mathlib.Core.List.{_++_, map}
-use Prim.Native.Nat.{ℕ, _+_, _*_}
+use mathlib.Core.List.{List, [], _∷_, _++_, map}
+use Prim.Native.Nat.{ℕ, _+_, _*_, max}
 use native.Mathlib.Omega.{arith}
 use lib.IntN.{ℤ}
 use lib.Signed.{ltZ}
@@ -13,9 +13,9 @@ use Rattle.lists.proofs.Bools.{not-not, not-and, not-or, leZ-not}
 use Rattle.lists.proofs.Lists.{any-append, any-pairs, length-pairs, map-append}
 use Rattle.lists.proofs.Changed.{pairs-map}
 use Rattle.meaning.specs.Operator.{Operator, eq, ne, lt, le, gt, ge, truth, opposite}
-use Rattle.meaning.specs.Condition.{Level, Condition, compare, negate, group, alone, both, single, either, Where, always, under, holds, eval, evalWhere, meets, opposed, clauses, clausesOf, clauseCount, countOf, renamed, replaced, replacedIn}
+use Rattle.meaning.specs.Condition.{Comparison, Level, Condition, compare, negate, group, alone, both, single, either, Where, always, under, comparisons, sides, operandsIn, depth, holds, eval, evalWhere, meets, opposed, clauses, clausesOf, clauseCount, countOf, renamed, replaced, replacedIn}
 use Rattle.meaning.specs.Statement.{Operand, Query, Change, insert, delete, update}
-use Rattle.meaning.specs.Pattern.{Joint, column, ofQuery, ofUpdate, insertedColumn, setColumn, queryClauses, updateClauses, bothClauses, jointClauses, jointCount}
+use Rattle.meaning.specs.Pattern.{Joint, column, ofQuery, ofUpdate, moved, placedFrom, replacing, queryClauses, updateClauses, bothClauses, jointClauses, jointCount}
 
 -- ---- the table of opposites
 
@@ -133,6 +133,35 @@ module _ {O P : Type 0} (f : O → P) where
   countOf-replaced always = refl
   countOf-replaced (under c) = count-replaced true c
 
+  -- the comparisons, operands and depth of what it is put into
+  pub comparisons-replaced : {l : Level} (c : Condition O l) → comparisons (replaced f c) ≡ map (renamed f) (comparisons c)
+  comparisons-replaced (compare c) = refl
+  comparisons-replaced (negate c) = comparisons-replaced c
+  comparisons-replaced (group c) = comparisons-replaced c
+  comparisons-replaced (alone c) = comparisons-replaced c
+  comparisons-replaced (both c d) =
+      ap₂ _++_ (comparisons-replaced c) (comparisons-replaced d) ∙ sym (map-append (renamed f) (comparisons c) (comparisons d))
+  comparisons-replaced (single c) = comparisons-replaced c
+  comparisons-replaced (either c d) =
+      ap₂ _++_ (comparisons-replaced c) (comparisons-replaced d) ∙ sym (map-append (renamed f) (comparisons c) (comparisons d))
+
+  sides-replaced : (cs : List (Comparison O)) → sides (map (renamed f) cs) ≡ map f (sides cs)
+  sides-replaced [] = refl
+  sides-replaced (c ∷ cs) = ap (λ (l : List P). f (c .left) ∷ f (c .right) ∷ l) (sides-replaced cs)
+
+  pub operands-replaced : (w : Where O) → operandsIn (replacedIn f w) ≡ map f (operandsIn w)
+  operands-replaced always = refl
+  operands-replaced (under c) = ap sides (comparisons-replaced c) ∙ sides-replaced (comparisons c)
+
+  pub depth-replaced : {l : Level} (c : Condition O l) → depth (replaced f c) ≡ depth c
+  depth-replaced (compare c) = refl
+  depth-replaced (negate c) = ap (λ (n : ℕ). n + 1) (depth-replaced c)
+  depth-replaced (group c) = ap (λ (n : ℕ). n + 1) (depth-replaced c)
+  depth-replaced (alone c) = depth-replaced c
+  depth-replaced (both c d) = ap₂ max (depth-replaced c) (depth-replaced d)
+  depth-replaced (single c) = depth-replaced c
+  depth-replaced (either c d) = ap₂ max (depth-replaced c) (depth-replaced d)
+
   -- the clauses of a condition with replaced operands are its clauses with replaced operands
   pub clauses-replaced : {l : Level} (p : Bool) (c : Condition O l) → clauses p (replaced f c) ≡ map (map (renamed f)) (clauses p c)
   clauses-replaced true (compare c) = refl
@@ -161,16 +190,16 @@ module _ (q : Query) where
   query-length : (f : ℕ → Joint) → length (queryClauses f q) ≡ countOf (q .condition)
   query-length f = clausesOf-count (replacedIn (ofQuery f) (q .condition)) ∙ countOf-replaced (ofQuery f) (q .condition)
 
-  both-length : (g : Where Operand) (f : ℕ → Joint) → length (bothClauses g f q) ≡ countOf g * countOf (q .condition)
-  both-length g f =
-      length-pairs (updateClauses g) (queryClauses f q)
-      ∙ ap₂ _*_ (clausesOf-count (replacedIn ofUpdate g) ∙ countOf-replaced ofUpdate g) (query-length f)
+  both-length : (k : ℕ) (g : Where Operand) (f : ℕ → Joint) → length (bothClauses k g f q) ≡ countOf g * countOf (q .condition)
+  both-length k g f =
+      length-pairs (updateClauses k g) (queryClauses f q)
+      ∙ ap₂ _*_ (clausesOf-count (replacedIn (ofUpdate k) g) ∙ countOf-replaced (ofUpdate k) g) (query-length f)
 
   -- rule 5's number is the number of joint clauses
-  pub joint-length : (c : Change) → length (jointClauses q c) ≡ jointCount q c
+  pub joint-length : (k : ℕ) (c : Change) → length (jointClauses k q c) ≡ jointCount q c
   unfolding jointClauses
-  joint-length (insert os) = query-length (insertedColumn os)
-  joint-length (delete g) = both-length g column
-  joint-length (update ss g) =
-      length-append (bothClauses g column q) (bothClauses g (λ i. setColumn ss i (column i)) q)
-      ∙ ap₂ _+_ (both-length g column) (both-length g (λ i. setColumn ss i (column i))) ∙ omega arith
+  joint-length k (insert os) = query-length (replacing (placedFrom k os))
+  joint-length k (delete g) = both-length k g column
+  joint-length k (update ss g) =
+      length-append (bothClauses k g column q) (bothClauses k g (replacing (moved k ss)) q)
+      ∙ ap₂ _+_ (both-length k g column) (both-length k g (replacing (moved k ss))) ∙ omega arith

@@ -5,6 +5,7 @@ pub mod Accepted
 pub mod Numbering
 pub mod Spelling
 pub mod Names
+pub mod Dotted
 pub mod Resolved
 pub mod Limits
 pub mod WellFormed

@@ -16,8 +16,8 @@ use Rattle.lists.proofs.Lists.{All-head, All-map, any-none, any-false}
 use Rattle.meaning.specs.Condition.{comparisonsIn, depthIn}
 use Rattle.meaning.specs.Tokens.{Name}
 use Rattle.meaning.specs.Grammar as G
-use Rattle.meaning.specs.Grammar.{Given, items, Sentence}
-use Rattle.meaning.specs.Limits.{most-rows, most-name, tableNamed, rowsOf, whereOf, columnsNamed, givens, markCount, manyItems, rowsOutside, manyMarks, manyComparisons, deep, longName, isWithin32, outside32, pastLimit}
+use Rattle.meaning.specs.Grammar.{Given, items, Dotted, Sentence}
+use Rattle.meaning.specs.Limits.{most-rows, most-name, rowsOf, whereOf, allNames, givens, markCount, manyItems, rowsOutside, manyMarks, manyComparisons, deep, longName, isWithin32, outside32, pastLimit}
 use Rattle.meaning.specs.Demand.{Between, listLengths, RowsWithin, ConstantWithin, GivenWithin, WithinLimits, WithinExactlyIf}
 use Rattle.meaning.proofs.Resolved.{items-some}
 
@@ -69,6 +69,12 @@ lists-within (G.select cs t w) =
       (λ h. cons (items-some cs, ltb-false 8 n (or-left (ltb 8 n) false h)) nil),
       (λ h. or-none (ltb 8 n) false (le-ltb 8 n (All-head h .1)) refl),
     )
+lists-within (G.pair cs t u w) =
+    let n : ℕ = length (map (λ (c : Dotted). c .1) (items cs)) in
+    let e : n ≡ length (items cs) = length-map (items cs) (λ (c : Dotted). c .1) in (
+      (λ h. cons (items-some cs, subst (λ (n : ℕ). n ≤ 8) e (ltb-false 8 n (or-left (ltb 8 n) false h))) nil),
+      (λ h. or-none (ltb 8 n) false (le-ltb 8 n (subst (λ (n : ℕ). n ≤ 8) (sym e) (All-head h .1))) refl),
+    )
 lists-within (G.insert t vs) =
     let n : ℕ = length (items vs) in (
       (λ h. cons (items-some vs, ltb-false 8 n h) nil),
@@ -102,7 +108,7 @@ within-if s h =
       marks = most 8 (markCount (givens s)) .0 (or-left (manyMarks s) _ h₃);
       comparisons = most 8 (length (comparisonsIn (whereOf s))) .0 (or-left (manyComparisons s) _ h₄);
       depth = most 8 (depthIn (whereOf s)) .0 (or-left (deep s) _ h₅);
-      names = none-all (λ (n : Name). ltb most-name (length n)) (λ n. most 12 (length n)) (tableNamed s ∷ columnsNamed s) .0 (or-left (longName s) _ h₆);
+      names = none-all (λ (n : Name). ltb most-name (length n)) (λ n. most 12 (length n)) (allNames s) .0 (or-left (longName s) _ h₆);
       constants = none-all outside32 given-within (givens s) .0 (or-right (longName s) _ h₆);
     }
 
@@ -114,7 +120,7 @@ if-within s w =
     (or-none (manyMarks s) _ (most 8 (markCount (givens s)) .1 (w .marks))
     (or-none (manyComparisons s) _ (most 8 (length (comparisonsIn (whereOf s))) .1 (w .comparisons))
     (or-none (deep s) _ (most 8 (depthIn (whereOf s)) .1 (w .depth))
-    (or-none (longName s) _ (none-all (λ (n : Name). ltb most-name (length n)) (λ n. most 12 (length n)) (tableNamed s ∷ columnsNamed s) .1 (w .names))
+    (or-none (longName s) _ (none-all (λ (n : Name). ltb most-name (length n)) (λ n. most 12 (length n)) (allNames s) .1 (w .names))
     (none-all outside32 given-within (givens s) .1 (w .constants)))))))
 
 pub within-exactly-if : WithinExactlyIf

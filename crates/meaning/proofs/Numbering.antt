@@ -9,11 +9,12 @@ use Rattle.meaning.specs.Tokens.{Name}
 use Rattle.meaning.specs.Grammar as G
 use Rattle.meaning.specs.Grammar.{Given, mark, Term, given, items}
 use Rattle.meaning.specs.Limits.{termGivens, markIn, markCount}
-use Rattle.meaning.specs.Names.{columnsOf}
+use Rattle.meaning.specs.Names.{columnsOf, position, pairPlace}
 use Rattle.meaning.specs.Statement.{Value, constant, parameter, Operand, column, value, numbered, numberedAll, settings, markInTerm, operandOf, comparisonOf, resolved, resolvedWhere, settingMarks, statementOf}
 use Rattle.meaning.specs.Demand.{valueMarks, operandMarks, MarksNumbered}
 use Rattle.meaning.proofs.Postfix.{sides-append}
 use Rattle.meaning.proofs.Resolve.{term-marks}
+use Rattle.meaning.proofs.Dotted.{bare-givens}
 
 -- ---- numbers one after another, and the marks of two parts
 
@@ -37,7 +38,7 @@ count-append : (xs ys : List Given) → markCount (xs ++ ys) ≡ markCount xs + 
 count-append [] ys = omega arith
 count-append (v ∷ xs) ys = let h = count-append xs ys in omega arith
 
-givens-append : (xs ys : List Term) → termGivens (xs ++ ys) ≡ termGivens xs ++ termGivens ys
+givens-append : {C : Type 0} → (xs ys : List (Term C)) → termGivens (xs ++ ys) ≡ termGivens xs ++ termGivens ys
 givens-append [] ys = refl
 givens-append (G.column n ∷ xs) ys = givens-append xs ys
 givens-append (given v ∷ xs) ys = ap (λ (r : List Given). v ∷ r) (givens-append xs ys)
@@ -56,9 +57,9 @@ value-first : (m n : ℕ) (v : Given) (vs : List Value) → valueMarks vs ≡ fr
 value-first m n (G.constant z) vs h = no-mark m n (valueMarks vs) h
 value-first m n mark vs h = a-mark m n (valueMarks vs) h
 
-module _ (columns : List Name) where
-  operand-first : (m n : ℕ) (t : Term) (os : List Operand) → operandMarks os ≡ from (suc (m + markInTerm t)) n
-      → operandMarks (operandOf columns m t ∷ os) ≡ from (suc m) (markInTerm t + n)
+module _ {C : Type 0} (place : C → ℕ) where
+  operand-first : (m n : ℕ) (t : Term C) (os : List Operand) → operandMarks os ≡ from (suc (m + markInTerm t)) n
+      → operandMarks (operandOf place m t ∷ os) ≡ from (suc m) (markInTerm t + n)
   operand-first m n (G.column c) os h = no-mark m n (operandMarks os) h
   operand-first m n (given (G.constant z)) os h = no-mark m n (operandMarks os) h
   operand-first m n (given mark) os h = a-mark m n (operandMarks os) h
@@ -77,11 +78,11 @@ set-marks columns m (s ∷ ss) =
 
 -- ---- conditions
 
-abbrev marksIn : List (Comparison Term) → ℕ
+abbrev marksIn : {C : Type 0} → List (Comparison (Term C)) → ℕ
 marksIn cs = markCount (termGivens (sides cs))
 
 -- those of the first part, then those of the second
-joined : (m : ℕ) (cs ds : List (Comparison Term)) (xs ys : List (Comparison Operand)) → operandMarks (sides xs) ≡ from (suc m) (marksIn cs)
+joined : {C : Type 0} (m : ℕ) (cs ds : List (Comparison (Term C))) (xs ys : List (Comparison Operand)) → operandMarks (sides xs) ≡ from (suc m) (marksIn cs)
     → operandMarks (sides ys) ≡ from (suc (m + marksIn cs)) (marksIn ds) → operandMarks (sides (xs ++ ys)) ≡ from (suc m) (marksIn (cs ++ ds))
 joined m cs ds xs ys h k =
     let e : suc (m + marksIn cs) ≡ suc m + marksIn cs = omega arith in
@@ -93,29 +94,29 @@ joined m cs ds xs ys h k =
     ∙ sym (from-append (suc m) (marksIn cs) (marksIn ds))
     ∙ ap (from (suc m)) (sym n)
 
-module _ (columns : List Name) where
-  compared : (m : ℕ) (c : Comparison Term) → operandMarks (sides (comparisonOf columns m c ∷ [])) ≡ from (suc m) (marksIn (c ∷ []))
+module _ {C : Type 0} (place : C → ℕ) where
+  compared : (m : ℕ) (c : Comparison (Term C)) → operandMarks (sides (comparisonOf place m c ∷ [])) ≡ from (suc m) (marksIn (c ∷ []))
   compared m c =
       let n : marksIn (c ∷ []) ≡ markInTerm (c .left) + (markInTerm (c .right) + 0) =
       term-marks (c .left) (c .right ∷ []) ∙ ap (λ (k : ℕ). markInTerm (c .left) + k) (term-marks (c .right) []) in
-      operand-first columns m (markInTerm (c .right) + 0) (c .left) (operandOf columns (m + markInTerm (c .left)) (c .right) ∷ [])
-      (operand-first columns (m + markInTerm (c .left)) 0 (c .right) [] refl)
+      operand-first place m (markInTerm (c .right) + 0) (c .left) (operandOf place (m + markInTerm (c .left)) (c .right) ∷ [])
+      (operand-first place (m + markInTerm (c .left)) 0 (c .right) [] refl)
       ∙ ap (from (suc m)) (sym n)
 
-  tested : {l : Level} (m : ℕ) (c : Condition Term l) → operandMarks (sides (comparisons (resolved columns m c))) ≡ from (suc m) (marksIn (comparisons c))
+  tested : {l : Level} (m : ℕ) (c : Condition (Term C) l) → operandMarks (sides (comparisons (resolved place m c))) ≡ from (suc m) (marksIn (comparisons c))
   tested m (compare c) = compared m c
   tested m (negate c) = tested m c
   tested m (group c) = tested m c
   tested m (alone c) = tested m c
   tested m (both c d) =
       let n : ℕ = m + marksIn (comparisons c) in
-      joined m (comparisons c) (comparisons d) (comparisons (resolved columns m c)) (comparisons (resolved columns n d)) (tested m c) (tested n d)
+      joined m (comparisons c) (comparisons d) (comparisons (resolved place m c)) (comparisons (resolved place n d)) (tested m c) (tested n d)
   tested m (single c) = tested m c
   tested m (either c d) =
       let n : ℕ = m + marksIn (comparisons c) in
-      joined m (comparisons c) (comparisons d) (comparisons (resolved columns m c)) (comparisons (resolved columns n d)) (tested m c) (tested n d)
+      joined m (comparisons c) (comparisons d) (comparisons (resolved place m c)) (comparisons (resolved place n d)) (tested m c) (tested n d)
 
-  where-marks : (m : ℕ) (w : Where Term) → operandMarks (operandsIn (resolvedWhere columns m w)) ≡ from (suc m) (markCount (termGivens (operandsIn w)))
+  where-marks : (m : ℕ) (w : Where (Term C)) → operandMarks (operandsIn (resolvedWhere place m w)) ≡ from (suc m) (markCount (termGivens (operandsIn w)))
   where-marks m always = refl
   where-marks m (under c) = tested m c
 
@@ -124,12 +125,15 @@ module _ (columns : List Name) where
 pub marks-numbered : MarksNumbered
 unfolding statementOf
 marks-numbered ts (G.table t cs z) = tt
-marks-numbered ts (G.select cs t w) = where-marks (columnsOf ts t) 0 w
+marks-numbered ts (G.select cs t w) = where-marks (position (columnsOf ts t)) 0 w
+marks-numbered ts (G.pair cs t u w) =
+    where-marks (pairPlace t (columnsOf ts t) u (columnsOf ts u)) 0 w
+    ∙ ap (λ (vs : List Given). from 1 (markCount vs)) (sym (bare-givens w))
 marks-numbered ts (G.insert t vs) = value-marks 0 (items vs) ∙ ap (from 1) (sym (ap markCount (append-nil (items vs))))
 marks-numbered ts (G.update t ss w) =
     let n : ℕ = settingMarks (items ss) in
     let k : ℕ = markCount (termGivens (operandsIn w)) in
-    ap₂ _++_ (set-marks (columnsOf ts t) 0 (items ss)) (where-marks (columnsOf ts t) n w ∙ from-same (suc n) (1 + n) k k (omega arith) refl)
+    ap₂ _++_ (set-marks (columnsOf ts t) 0 (items ss)) (where-marks (position (columnsOf ts t)) n w ∙ from-same (suc n) (1 + n) k k (omega arith) refl)
     ∙ sym (from-append 1 n k)
     ∙ ap (from 1) (sym (count-append (map (λ (s : Name × Given). s .1) (items ss)) (termGivens (operandsIn w))))
-marks-numbered ts (G.delete t w) = where-marks (columnsOf ts t) 0 w
+marks-numbered ts (G.delete t w) = where-marks (position (columnsOf ts t)) 0 w

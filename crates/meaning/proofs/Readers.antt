@@ -144,6 +144,13 @@ module _ {A : Type 0} {before : List Token → List Token} {sp : A → List Toke
       at ts none e = subst (λ x. Spelled sp x (before ts)) (sym (either-second r q ts e)) (z .finds ts)
       at ts (some x) e = subst (λ x. Spelled sp x (before ts)) (sym (either-first r q ts x e)) (subst (λ x. Spelled sp x (before ts)) e (s .finds ts))
 
+  pub tested-sound : (f : List Token → Bool) {r q : Reader A} → Sound before sp r → Sound before sp q → Sound before sp (λ ts. elim (f ts) [ true ↦ r ts | false ↦ q ts ])
+  tested-sound f {r} {q} s z = record { finds = λ ts. at ts (f ts) }
+    where
+      at : (ts : List Token) (b : Bool) → Spelled sp (elim b [ true ↦ r ts | false ↦ q ts ]) (before ts)
+      at ts true = s .finds ts
+      at ts false = z .finds ts
+
   pub bind-sound : {C : Type 0} {sc : C → List Token → List Token} {r : Reader C} {k : C → Reader A} → Sound (λ ts. ts) sc r
       → ((c : C) → Sound (λ ts. before (sc c ts)) sp (k c)) → Sound before sp (r >>= k)
   bind-sound {C} {sc} {r} {k} s q = record { finds = λ ts. at ts (r ts) (s .finds ts) }

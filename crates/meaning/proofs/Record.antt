@@ -15,7 +15,7 @@ use Rattle.lists.specs.Lists.{All, nil, cons, flat}
 use Rattle.lists.proofs.Bools.{and-left, and-right, and-both}
 use Rattle.lists.proofs.Lists.{All-append, All-head, All-tail, All-map}
 use Rattle.lists.proofs.Places.{All-at, flat-length}
-use Rattle.meaning.specs.Limits.{most-items, most-rows, isWithin32}
+use Rattle.meaning.specs.Limits.{most-items, most-listed, isWithin32}
 use Rattle.meaning.specs.Meaning.{Row}
 use Rattle.meaning.specs.Record.{bitsOf, bytes4, bytes2, numberBytes, body, encode, fourAt, rowCount, rowBytes, isRecord, hasRow, rowPart, numberOf, numbersOf}
 use Rattle.meaning.specs.Demand.{ReadsBack, IsRow, RecordReadsBack}
@@ -54,7 +54,7 @@ four-back n h =
     let top : n / 256 / 256 / 256 % 256 ≡ n / 256 / 256 / 256 = omega arith in
     rw (b, c) (omega arith)
 
-two-back : (n : ℕ) → n ≤ most-rows → n / 256 % 256 * 256 + n % 256 ≡ n
+two-back : (n : ℕ) → n ≤ most-listed → n / 256 % 256 * 256 + n % 256 ≡ n
 two-back n h = omega arith
 
 -- the numbers of a row's bytes are those of the row
@@ -143,7 +143,7 @@ row-there c (r ∷ rs) later h (suc i) k =
     ∙ ap (drop (i * (4 * c))) (drop-at (numberBytes r) (numberBytes (flat rs) ++ later) (4 * c) l))
     ∙ row-there c rs later (All-tail h) i (omega arith)
 
-module _ (columns : ℕ) (rows : List Row) (later : List ℕ) (some : 1 ≤ columns) (few : columns ≤ most-items) (short : length rows ≤ most-rows) (are : All (IsRow columns) rows) where
+module _ (columns : ℕ) (rows : List Row) (later : List ℕ) (some : 1 ≤ columns) (few : columns ≤ most-items) (short : length rows ≤ most-listed) (are : All (IsRow columns) rows) where
   abbrev size : ℕ
   size = length (body columns rows)
 
@@ -164,7 +164,7 @@ module _ (columns : ℕ) (rows : List Row) (later : List ℕ) (some : 1 ≤ colu
   values-are : length (flat rows) ≡ length rows * columns
   values-are = flat-length columns rows wide
 
-  few-values : length rows * columns ≤ 512 * 8
+  few-values : length rows * columns ≤ most-listed * most-items
   few-values = mul-le-mul short few
 
   size-small : size < 2 ^ 32
@@ -191,7 +191,7 @@ module _ (columns : ℕ) (rows : List Row) (later : List ℕ) (some : 1 ≤ colu
   record-is =
       let t₇ : leb (fourAt shape 0 + 4) (length shape) ≡ true = le-leb (fourAt shape 0 + 4) (length shape) there in
       let t₆ : eqb (fourAt shape 0) (rowCount shape * rowBytes shape + 4) ≡ true = eq-eqb (fourAt shape 0) (rowCount shape * rowBytes shape + 4) size-is in
-      let t₅ : leb (rowCount shape) most-rows ≡ true = le-leb (rowCount shape) most-rows (subst (λ (k : ℕ). k ≤ most-rows) (sym rows-are) short) in
+      let t₅ : leb (rowCount shape) most-listed ≡ true = le-leb (rowCount shape) most-listed (subst (λ (k : ℕ). k ≤ most-listed) (sym rows-are) short) in
       let t₄ : leb columns most-items ≡ true = le-leb columns most-items few in
       let t₃ : leb 1 columns ≡ true = le-leb 1 columns some in
       let t₁ : leb 8 (length shape) ≡ true = le-leb 8 (length shape) (omega arith) in

@@ -1,12 +1,13 @@
 -- Names resolved and question marks numbered in a condition in postfix order: it is what the condition itself gives; joins, constants and the number of
--- question marks stay; the tests of the outcome hold of it; and what passes the tests comes from a condition that names the table's columns. Assumes nothing.
+-- question marks stay; the tests of the outcome hold of it; and what passes the tests comes from a condition that names columns of the table, or of the two.
+-- Assumes nothing.
 use mathlib.Core.Path.{_≡_, refl, sym, ap, ap₂, _∙_, subst}
-use mathlib.Core.Bool.{Bool, true, false, not, _||_, cond, or-true}
+use mathlib.Core.Bool.{Bool, true, false, not, _&&_, _||_, cond, or-true}
 use mathlib.Core.List.{List, [], _∷_, _++_}
-use Prim.Native.Nat.{ℕ, zero, suc, _+_, _≤_, _<_}
+use Prim.Native.Nat.{ℕ, zero, suc, _+_, _-_, _≤_, _<_}
 use native.Mathlib.Nat.{le-of-suc-le-suc, not-suc-le-zero, add-zero}
 use native.Mathlib.Omega.{arith}
-use borrow.Author.Tests.{ltb-true, lt-ltb, eqb-true, eq-eqb}
+use borrow.Author.Tests.{ltb-true, ltb-false, lt-ltb, eqb-true, eq-eqb}
 use lib.Dec.{eqb, eqb-refl, ltb}
 use lib.IntN.{ℤ}
 use lib.ListN.{length, getD}
@@ -19,22 +20,23 @@ use Rattle.meaning.specs.Condition.{Comparison, Level, Condition, compar
 use Rattle.meaning.specs.Postfix.{Node, leaf, allOf, anyOf, signed, joinAll, joinAny, nodes, nodesIn, leaves, balancedOn, isPostfix}
 use Rattle.meaning.specs.Tokens.{Name}
 use Rattle.meaning.specs.Grammar as G
-use Rattle.meaning.specs.Grammar.{mark, Term, given}
+use Rattle.meaning.specs.Grammar.{mark, Term, given, Dotted}
 use Rattle.meaning.specs.Limits.{termGivens, termColumns, markCount, isWithin32, outside32}
-use Rattle.meaning.specs.Names.{sameName, has, position}
+use Rattle.meaning.specs.Names.{sameName, has, position, isOf, pairPlace}
 use Rattle.meaning.specs.Statement.{Operand, column, value, constant, parameter, markInTerm, operandOf, comparisonOf, resolved, resolvedWhere}
 use Rattle.meaning.specs.Resolve.{marksPast, marksAfter, resolveNodes, termConstants, operandConstants, markInOperand, parameterCount, isNumbered, numberedOn, numberedFrom, isBelow, columnsBelow}
 use Rattle.meaning.proofs.Names.{same-is, has-position}
+use Rattle.meaning.proofs.Dotted.{pair-inside}
 use Rattle.meaning.proofs.Postfix.{sides-nodes, sides-in, leaves-in, postfix-where, where-postfix}
 
 -- ---- the marks passed
 
-pub term-marks : (t : Term) (ts : List Term) → markCount (termGivens (t ∷ ts)) ≡ markInTerm t + markCount (termGivens ts)
+pub term-marks : {C : Type 0} (t : Term C) (ts : List (Term C)) → markCount (termGivens (t ∷ ts)) ≡ markInTerm t + markCount (termGivens ts)
 term-marks (G.column n) ts = omega arith
 term-marks (given v) ts = refl
 
 -- those of the comparisons
-pub marks-after : (m : ℕ) (ns : List (Node Term)) → marksAfter m ns ≡ m + markCount (termGivens (sides (leaves ns)))
+pub marks-after : {C : Type 0} (m : ℕ) (ns : List (Node (Term C))) → marksAfter m ns ≡ m + markCount (termGivens (sides (leaves ns)))
 marks-after m [] = sym (add-zero m)
 marks-after m (leaf c ∷ ns) =
     marks-after (marksPast m c) ns
@@ -43,68 +45,68 @@ marks-after m (allOf ∷ ns) = marks-after m ns
 marks-after m (anyOf ∷ ns) = marks-after m ns
 
 -- over the nodes of a condition: its marks
-pub marks-nodes : {l : Level} (m : ℕ) (p : Bool) (c : Condition Term l) → marksAfter m (nodes p c) ≡ m + markCount (termGivens (sides (comparisons c)))
+pub marks-nodes : {C : Type 0} {l : Level} (m : ℕ) (p : Bool) (c : Condition (Term C) l) → marksAfter m (nodes p c) ≡ m + markCount (termGivens (sides (comparisons c)))
 marks-nodes m p c = marks-after m (nodes p c) ∙ ap (λ os. m + markCount (termGivens os)) (sides-nodes p c)
 
-pub marks-in : (m : ℕ) (w : Where Term) → marksAfter m (nodesIn w) ≡ m + markCount (termGivens (operandsIn w))
+pub marks-in : {C : Type 0} (m : ℕ) (w : Where (Term C)) → marksAfter m (nodesIn w) ≡ m + markCount (termGivens (operandsIn w))
 marks-in m w = marks-after m (nodesIn w) ∙ ap (λ os. m + markCount (termGivens os)) (sides-in w)
 
-module _ (columns : List Name) where
+module _ {C : Type 0} (place : C → ℕ) where
   -- ---- the nodes of the condition with names resolved
 
-  pub resolve-append : (m : ℕ) (ns ms : List (Node Term))
-      → resolveNodes columns m (ns ++ ms) ≡ resolveNodes columns m ns ++ resolveNodes columns (marksAfter m ns) ms
+  pub resolve-append : (m : ℕ) (ns ms : List (Node (Term C)))
+      → resolveNodes place m (ns ++ ms) ≡ resolveNodes place m ns ++ resolveNodes place (marksAfter m ns) ms
   resolve-append m [] ms = refl
-  resolve-append m (leaf c ∷ ns) ms = ap (λ r. leaf (comparisonOf columns m c) ∷ r) (resolve-append (marksPast m c) ns ms)
+  resolve-append m (leaf c ∷ ns) ms = ap (λ r. leaf (comparisonOf place m c) ∷ r) (resolve-append (marksPast m c) ns ms)
   resolve-append m (allOf ∷ ns) ms = ap (λ r. allOf ∷ r) (resolve-append m ns ms)
   resolve-append m (anyOf ∷ ns) ms = ap (λ r. anyOf ∷ r) (resolve-append m ns ms)
 
-  resolve-signed : (m : ℕ) (p : Bool) (c : Comparison Term) → signed p (comparisonOf columns m c) ≡ comparisonOf columns m (signed p c)
+  resolve-signed : (m : ℕ) (p : Bool) (c : Comparison (Term C)) → signed p (comparisonOf place m c) ≡ comparisonOf place m (signed p c)
   resolve-signed m true c = refl
   resolve-signed m false c = refl
 
-  resolve-all : (m : ℕ) (p : Bool) → resolveNodes columns m (joinAll p ∷ []) ≡ joinAll p ∷ []
+  resolve-all : (m : ℕ) (p : Bool) → resolveNodes place m (joinAll p ∷ []) ≡ joinAll p ∷ []
   resolve-all m true = refl
   resolve-all m false = refl
 
-  resolve-any : (m : ℕ) (p : Bool) → resolveNodes columns m (joinAny p ∷ []) ≡ joinAny p ∷ []
+  resolve-any : (m : ℕ) (p : Bool) → resolveNodes place m (joinAny p ∷ []) ≡ joinAny p ∷ []
   resolve-any m true = refl
   resolve-any m false = refl
 
-  resolve-joined : (m n : ℕ) (xs ys : List (Node Term)) (j : Node Term) (cs ds : List (Node Operand)) (k : Node Operand)
-      → marksAfter m xs ≡ n → cs ≡ resolveNodes columns m xs → ds ≡ resolveNodes columns n ys
-      → ((i : ℕ) → resolveNodes columns i (j ∷ []) ≡ k ∷ []) → cs ++ (ds ++ (k ∷ [])) ≡ resolveNodes columns m (xs ++ (ys ++ (j ∷ [])))
+  resolve-joined : (m n : ℕ) (xs ys : List (Node (Term C))) (j : Node (Term C)) (cs ds : List (Node Operand)) (k : Node Operand)
+      → marksAfter m xs ≡ n → cs ≡ resolveNodes place m xs → ds ≡ resolveNodes place n ys
+      → ((i : ℕ) → resolveNodes place i (j ∷ []) ≡ k ∷ []) → cs ++ (ds ++ (k ∷ [])) ≡ resolveNodes place m (xs ++ (ys ++ (j ∷ [])))
   resolve-joined m n xs ys j cs ds k e hx hy hj =
       sym
       (resolve-append m xs (ys ++ (j ∷ []))
       ∙ ap₂ _++_ (sym hx)
       (resolve-append (marksAfter m xs) ys (j ∷ [])
-      ∙ ap₂ _++_ (ap (λ i. resolveNodes columns i ys) e ∙ sym hy) (hj (marksAfter (marksAfter m xs) ys))))
+      ∙ ap₂ _++_ (ap (λ i. resolveNodes place i ys) e ∙ sym hy) (hj (marksAfter (marksAfter m xs) ys))))
 
   -- resolving a condition and taking its nodes is taking its nodes and resolving them
-  pub resolve-nodes : {l : Level} (m : ℕ) (p : Bool) (c : Condition Term l) → nodes p (resolved columns m c) ≡ resolveNodes columns m (nodes p c)
+  pub resolve-nodes : {l : Level} (m : ℕ) (p : Bool) (c : Condition (Term C) l) → nodes p (resolved place m c) ≡ resolveNodes place m (nodes p c)
   resolve-nodes m p (compare c) = ap (λ d. leaf d ∷ []) (resolve-signed m p c)
   resolve-nodes m p (negate c) = resolve-nodes m (not p) c
   resolve-nodes m p (group c) = resolve-nodes m p c
   resolve-nodes m p (alone c) = resolve-nodes m p c
   resolve-nodes m p (both c d) =
       let n : ℕ = m + markCount (termGivens (sides (comparisons c))) in
-      resolve-joined m n (nodes p c) (nodes p d) (joinAll p) (nodes p (resolved columns m c)) (nodes p (resolved columns n d)) (joinAll p)
+      resolve-joined m n (nodes p c) (nodes p d) (joinAll p) (nodes p (resolved place m c)) (nodes p (resolved place n d)) (joinAll p)
       (marks-nodes m p c) (resolve-nodes m p c) (resolve-nodes n p d) (λ i. resolve-all i p)
   resolve-nodes m p (single c) = resolve-nodes m p c
   resolve-nodes m p (either c d) =
       let n : ℕ = m + markCount (termGivens (sides (comparisons c))) in
-      resolve-joined m n (nodes p c) (nodes p d) (joinAny p) (nodes p (resolved columns m c)) (nodes p (resolved columns n d)) (joinAny p)
+      resolve-joined m n (nodes p c) (nodes p d) (joinAny p) (nodes p (resolved place m c)) (nodes p (resolved place n d)) (joinAny p)
       (marks-nodes m p c) (resolve-nodes m p c) (resolve-nodes n p d) (λ i. resolve-any i p)
 
-  pub resolve-where : (m : ℕ) (w : Where Term) → nodesIn (resolvedWhere columns m w) ≡ resolveNodes columns m (nodesIn w)
+  pub resolve-where : (m : ℕ) (w : Where (Term C)) → nodesIn (resolvedWhere place m w) ≡ resolveNodes place m (nodesIn w)
   resolve-where m always = refl
   resolve-where m (under c) = resolve-nodes m true c
 
   -- ---- what stays
 
   -- the joins
-  pub resolve-balanced : (k m : ℕ) (ns : List (Node Term)) → balancedOn k (resolveNodes columns m ns) ≡ balancedOn k ns
+  pub resolve-balanced : (k m : ℕ) (ns : List (Node (Term C))) → balancedOn k (resolveNodes place m ns) ≡ balancedOn k ns
   resolve-balanced zero m [] = refl
   resolve-balanced (suc zero) m [] = refl
   resolve-balanced (suc (suc k)) m [] = refl
@@ -116,50 +118,50 @@ module _ (columns : List Name) where
   resolve-balanced (suc zero) m (anyOf ∷ ns) = refl
   resolve-balanced (suc (suc k)) m (anyOf ∷ ns) = resolve-balanced (suc k) m ns
 
-  pub resolve-postfix : (m : ℕ) (ns : List (Node Term)) → isPostfix (resolveNodes columns m ns) ≡ isPostfix ns
+  pub resolve-postfix : (m : ℕ) (ns : List (Node (Term C))) → isPostfix (resolveNodes place m ns) ≡ isPostfix ns
   resolve-postfix m [] = refl
   resolve-postfix m (leaf c ∷ ns) = resolve-balanced 0 m (leaf c ∷ ns)
   resolve-postfix m (allOf ∷ ns) = refl
   resolve-postfix m (anyOf ∷ ns) = refl
 
   -- the number of nodes, and of comparisons
-  pub resolve-length : (m : ℕ) (ns : List (Node Term)) → length (resolveNodes columns m ns) ≡ length ns
+  pub resolve-length : (m : ℕ) (ns : List (Node (Term C))) → length (resolveNodes place m ns) ≡ length ns
   resolve-length m [] = refl
   resolve-length m (leaf c ∷ ns) = ap suc (resolve-length (marksPast m c) ns)
   resolve-length m (allOf ∷ ns) = ap suc (resolve-length m ns)
   resolve-length m (anyOf ∷ ns) = ap suc (resolve-length m ns)
 
-  pub resolve-leaves : (m : ℕ) (ns : List (Node Term)) → length (leaves (resolveNodes columns m ns)) ≡ length (leaves ns)
+  pub resolve-leaves : (m : ℕ) (ns : List (Node (Term C))) → length (leaves (resolveNodes place m ns)) ≡ length (leaves ns)
   resolve-leaves m [] = refl
   resolve-leaves m (leaf c ∷ ns) = ap suc (resolve-leaves (marksPast m c) ns)
   resolve-leaves m (allOf ∷ ns) = resolve-leaves m ns
   resolve-leaves m (anyOf ∷ ns) = resolve-leaves m ns
 
   -- the constants
-  constant-of : (m : ℕ) (t : Term) (os : List Operand) (ts : List Term) → operandConstants os ≡ termConstants ts
-      → operandConstants (operandOf columns m t ∷ os) ≡ termConstants (t ∷ ts)
+  constant-of : (m : ℕ) (t : Term C) (os : List Operand) (ts : List (Term C)) → operandConstants os ≡ termConstants ts
+      → operandConstants (operandOf place m t ∷ os) ≡ termConstants (t ∷ ts)
   constant-of m (G.column n) os ts h = h
   constant-of m (given (G.constant z)) os ts h = ap (λ r. z ∷ r) h
   constant-of m (given mark) os ts h = h
 
-  pub resolve-constants : (m : ℕ) (ns : List (Node Term)) → operandConstants (sides (leaves (resolveNodes columns m ns))) ≡ termConstants (sides (leaves ns))
+  pub resolve-constants : (m : ℕ) (ns : List (Node (Term C))) → operandConstants (sides (leaves (resolveNodes place m ns))) ≡ termConstants (sides (leaves ns))
   resolve-constants m [] = refl
   resolve-constants m (leaf c ∷ ns) =
-      let os : List Operand = sides (leaves (resolveNodes columns (marksPast m c) ns)) in
+      let os : List Operand = sides (leaves (resolveNodes place (marksPast m c) ns)) in
       let n : ℕ = m + markInTerm (c .left) in
-      constant-of m (c .left) (operandOf columns n (c .right) ∷ os) (c .right ∷ sides (leaves ns))
+      constant-of m (c .left) (operandOf place n (c .right) ∷ os) (c .right ∷ sides (leaves ns))
       (constant-of n (c .right) os (sides (leaves ns)) (resolve-constants (marksPast m c) ns))
   resolve-constants m (allOf ∷ ns) = resolve-constants m ns
   resolve-constants m (anyOf ∷ ns) = resolve-constants m ns
 
   -- the number of question marks
-  operand-marks : (m : ℕ) (t : Term) → markInOperand (operandOf columns m t) ≡ markInTerm t
+  operand-marks : (m : ℕ) (t : Term C) → markInOperand (operandOf place m t) ≡ markInTerm t
   operand-marks m (G.column n) = refl
   operand-marks m (given (G.constant z)) = refl
   operand-marks m (given mark) = refl
 
-  pub resolve-marks : (m : ℕ) (ns : List (Node Term))
-      → parameterCount (sides (leaves (resolveNodes columns m ns))) ≡ markCount (termGivens (sides (leaves ns)))
+  pub resolve-marks : (m : ℕ) (ns : List (Node (Term C)))
+      → parameterCount (sides (leaves (resolveNodes place m ns))) ≡ markCount (termGivens (sides (leaves ns)))
   resolve-marks m [] = refl
   resolve-marks m (leaf c ∷ ns) =
       let n : ℕ = m + markInTerm (c .left) in
@@ -176,50 +178,60 @@ module _ (columns : List Name) where
 
   -- ---- the tests hold of it
 
-  operand-numbered : (m : ℕ) (t : Term) → isNumbered m (operandOf columns m t) ≡ true
+  operand-numbered : (m : ℕ) (t : Term C) → isNumbered m (operandOf place m t) ≡ true
   operand-numbered m (G.column n) = refl
   operand-numbered m (given (G.constant z)) = refl
   operand-numbered m (given mark) = eq-eqb (suc m) (suc m) refl
 
-  numbered-next : (m : ℕ) (t : Term) (os : List Operand) → numberedOn (m + markInTerm t) os ≡ true → numberedOn m (operandOf columns m t ∷ os) ≡ true
+  numbered-next : (m : ℕ) (t : Term C) (os : List Operand) → numberedOn (m + markInTerm t) os ≡ true → numberedOn m (operandOf place m t ∷ os) ≡ true
   numbered-next m t os h =
-      and-both (isNumbered m (operandOf columns m t)) _ (operand-numbered m t) (ap (λ k. numberedOn (m + k) os) (operand-marks m t) ∙ h)
+      and-both (isNumbered m (operandOf place m t)) _ (operand-numbered m t) (ap (λ k. numberedOn (m + k) os) (operand-marks m t) ∙ h)
 
   -- its question marks are numbered
-  pub resolve-numbered : (m : ℕ) (ns : List (Node Term)) → numberedFrom m (resolveNodes columns m ns) ≡ true
+  pub resolve-numbered : (m : ℕ) (ns : List (Node (Term C))) → numberedFrom m (resolveNodes place m ns) ≡ true
   resolve-numbered m [] = refl
   resolve-numbered m (leaf c ∷ ns) =
-      let os : List Operand = sides (leaves (resolveNodes columns (marksPast m c) ns)) in
+      let os : List Operand = sides (leaves (resolveNodes place (marksPast m c) ns)) in
       let n : ℕ = m + markInTerm (c .left) in
-      numbered-next m (c .left) (operandOf columns n (c .right) ∷ os) (numbered-next n (c .right) os (resolve-numbered (marksPast m c) ns))
+      numbered-next m (c .left) (operandOf place n (c .right) ∷ os) (numbered-next n (c .right) os (resolve-numbered (marksPast m c) ns))
   resolve-numbered m (allOf ∷ ns) = resolve-numbered m ns
   resolve-numbered m (anyOf ∷ ns) = resolve-numbered m ns
 
-  abbrev strange : Name → Bool
-  strange n = not (has columns n)
-
-  below-next : (m : ℕ) (t : Term) (ts : List Term) (os : List Operand) → any strange (termColumns (t ∷ ts)) ≡ false
-      → (any strange (termColumns ts) ≡ false → all (isBelow (length columns)) os ≡ true) → all (isBelow (length columns)) (operandOf columns m t ∷ os) ≡ true
+-- columns, some of them strange; the others have their places among the first `width`
+module _ {C : Type 0} (place : C → ℕ) (width : ℕ) (strange : C → Bool) (inside : (c : C) → strange c ≡ false → place c < width) where
+  below-next : (m : ℕ) (t : Term C) (ts : List (Term C)) (os : List Operand) → any strange (termColumns (t ∷ ts)) ≡ false
+      → (any strange (termColumns ts) ≡ false → all (isBelow width) os ≡ true) → all (isBelow width) (operandOf place m t ∷ os) ≡ true
   below-next m (G.column n) ts os h k =
-      and-both (ltb (position columns n) (length columns)) _
-      (lt-ltb (position columns n) (length columns) (has-position columns n (not-false (has columns n) (or-left (strange n) (any strange (termColumns ts)) h))))
+      and-both (ltb (place n) width) _ (lt-ltb (place n) width (inside n (or-left (strange n) (any strange (termColumns ts)) h)))
       (k (or-right (strange n) (any strange (termColumns ts)) h))
   below-next m (given v) ts os h k = k h
 
-  -- its columns are those of the table, if the names are
-  pub resolve-below : (m : ℕ) (ns : List (Node Term)) → any (λ (n : Name). not (has columns n)) (termColumns (sides (leaves ns))) ≡ false
-      → columnsBelow (length columns) (resolveNodes columns m ns) ≡ true
+  -- its columns are among them, if none is strange
+  pub resolve-below : (m : ℕ) (ns : List (Node (Term C))) → any strange (termColumns (sides (leaves ns))) ≡ false
+      → columnsBelow width (resolveNodes place m ns) ≡ true
   resolve-below m [] h = refl
   resolve-below m (leaf c ∷ ns) h =
-      let os : List Operand = sides (leaves (resolveNodes columns (marksPast m c) ns)) in
+      let os : List Operand = sides (leaves (resolveNodes place (marksPast m c) ns)) in
       let n : ℕ = m + markInTerm (c .left) in
-      below-next m (c .left) (c .right ∷ sides (leaves ns)) (operandOf columns n (c .right) ∷ os) h
+      below-next m (c .left) (c .right ∷ sides (leaves ns)) (operandOf place n (c .right) ∷ os) h
       (λ k. below-next n (c .right) (sides (leaves ns)) os k (resolve-below (marksPast m c) ns))
   resolve-below m (allOf ∷ ns) h = resolve-below m ns h
   resolve-below m (anyOf ∷ ns) h = resolve-below m ns h
 
+  -- the nodes of a WHERE of which no column is strange pass the three tests
+  pub where-passes : (m : ℕ) (w : Where (Term C)) → any strange (termColumns (operandsIn w)) ≡ false
+      → (isPostfix (nodesIn (resolvedWhere place m w)) ≡ true)
+      × (columnsBelow width (nodesIn (resolvedWhere place m w)) ≡ true)
+      × (numberedFrom m (nodesIn (resolvedWhere place m w)) ≡ true)
+  where-passes m w h = (
+    postfix-where (resolvedWhere place m w),
+    ap (columnsBelow width) (resolve-where place m w)
+        ∙ resolve-below m (nodesIn w) (ap (λ os. any strange (termColumns os)) (sides-in w) ∙ h),
+    ap (numberedFrom m) (resolve-where place m w) ∙ resolve-numbered place m (nodesIn w),
+  )
+
 -- the constants of terms that are outside 32 bits
-pub outside-constants : (ts : List Term) → any outside32 (termGivens ts) ≡ any (λ (z : ℤ). not (isWithin32 z)) (termConstants ts)
+pub outside-constants : {C : Type 0} (ts : List (Term C)) → any outside32 (termGivens ts) ≡ any (λ (z : ℤ). not (isWithin32 z)) (termConstants ts)
 outside-constants [] = refl
 outside-constants (G.column n ∷ ts) = outside-constants ts
 outside-constants (given (G.constant z) ∷ ts) = ap (λ b. not (isWithin32 z) || b) (outside-constants ts)
@@ -256,14 +268,30 @@ same-comparison : {O : Type 0} (a b : O) (c : Comparison O) → a ≡ c .left �
     → _≡_ {A = Comparison O} (record { left = a; op = c .op; right = b }) c
 same-comparison a b c e f = λ i. record { left = e i; op = c .op; right = f i }
 
-module _ (columns : List Name) where
+-- columns, some of them strange: the others have their places among the first `width`, and `at` gives the one at each of these
+pub record Columns {C : Type 0} (place : C → ℕ) (width : ℕ) (strange : C → Bool) (at : ℕ → C) : Type 0 where
+  pub inside : (c : C) → strange c ≡ false → place c < width
+  pub known : (i : ℕ) → i < width → strange (at i) ≡ false
+  pub there : (i : ℕ) → i < width → place (at i) ≡ i
+
+-- a WHERE of which the nodes ns come, and what is in it
+pub record Source {C : Type 0} (place : C → ℕ) (strange : C → Bool) (m : ℕ) (ns : List (Node Operand)) : Type 0 where
+  pub source : Where (Term C)
+  pub resolves : nodesIn (resolvedWhere place m source) ≡ ns
+  pub known : any strange (termColumns (operandsIn source)) ≡ false
+  pub constants : termConstants (operandsIn source) ≡ operandConstants (sides (leaves ns))
+  pub marks : markCount (termGivens (operandsIn source)) ≡ parameterCount (sides (leaves ns))
+  pub size : length (comparisonsIn source) ≡ length (leaves ns)
+  pub shallow : length (leaves ns) ≤ 8 → depthIn source ≤ 8
+
+module _ {C : Type 0} (place : C → ℕ) (width : ℕ) (strange : C → Bool) (at : ℕ → C) (K : Columns place width strange at) where
   -- a term of which the operand comes
-  abbrev pub termAt : Operand → Term
-  termAt (column i) = G.column (getD columns i [])
+  abbrev pub termAt : Operand → Term C
+  termAt (column i) = G.column (at i)
   termAt (value (constant z)) = given (G.constant z)
   termAt (value (parameter k)) = given mark
 
-  abbrev pub unresolved : List (Node Operand) → List (Node Term)
+  abbrev pub unresolved : List (Node Operand) → List (Node (Term C))
   unresolved [] = []
   unresolved (leaf c ∷ ns) = leaf (renamed termAt c) ∷ unresolved ns
   unresolved (allOf ∷ ns) = allOf ∷ unresolved ns
@@ -274,97 +302,126 @@ module _ (columns : List Name) where
   mark-at (value (constant z)) = refl
   mark-at (value (parameter k)) = refl
 
-  term-known : (o : Operand) (ts : List Term) → isBelow (length columns) o ≡ true → any (strange columns) (termColumns ts) ≡ false
-      → any (strange columns) (termColumns (termAt o ∷ ts)) ≡ false
-  term-known (column i) ts h k =
-      ap (λ b. not b || any (strange columns) (termColumns ts)) (has-at columns i [] (ltb-true i (length columns) h)) ∙ k
+  term-known : (o : Operand) (ts : List (Term C)) → isBelow width o ≡ true → any strange (termColumns ts) ≡ false → any strange (termColumns (termAt o ∷ ts)) ≡ false
+  term-known (column i) ts h k = ap (λ b. b || any strange (termColumns ts)) (K .known i (ltb-true i width h)) ∙ k
   term-known (value (constant z)) ts h k = k
   term-known (value (parameter j)) ts h k = k
 
-  -- they name columns that there are
-  pub unresolved-known : (ns : List (Node Operand)) → columnsBelow (length columns) ns ≡ true
-      → any (λ (n : Name). not (has columns n)) (termColumns (sides (leaves (unresolved ns)))) ≡ false
+  -- none of its columns is strange
+  pub unresolved-known : (ns : List (Node Operand)) → columnsBelow width ns ≡ true → any strange (termColumns (sides (leaves (unresolved ns)))) ≡ false
   unresolved-known [] h = refl
   unresolved-known (leaf c ∷ ns) h =
       let os : List Operand = sides (leaves ns) in
-      let ts : List Term = sides (leaves (unresolved ns)) in
-      let r : all (isBelow (length columns)) (c .right ∷ os) ≡ true = and-right (isBelow (length columns) (c .left)) _ h in
-      term-known (c .left) (termAt (c .right) ∷ ts) (and-left (isBelow (length columns) (c .left)) _ h)
-      (term-known (c .right) ts (and-left (isBelow (length columns) (c .right)) _ r)
-      (unresolved-known ns (and-right (isBelow (length columns) (c .right)) _ r)))
+      let ts : List (Term C) = sides (leaves (unresolved ns)) in
+      let r : all (isBelow width) (c .right ∷ os) ≡ true = and-right (isBelow width (c .left)) _ h in
+      term-known (c .left) (termAt (c .right) ∷ ts) (and-left (isBelow width (c .left)) _ h)
+      (term-known (c .right) ts (and-left (isBelow width (c .right)) _ r) (unresolved-known ns (and-right (isBelow width (c .right)) _ r)))
   unresolved-known (allOf ∷ ns) h = unresolved-known ns h
   unresolved-known (anyOf ∷ ns) h = unresolved-known ns h
 
-  -- a WHERE of which the nodes ns come, and what is in it
-  pub record Source (m : ℕ) (ns : List (Node Operand)) : Type 0 where
-    pub source : Where Term
-    pub resolves : nodesIn (resolvedWhere columns m source) ≡ ns
-    pub known : any (λ (n : Name). not (has columns n)) (termColumns (operandsIn source)) ≡ false
-    pub constants : termConstants (operandsIn source) ≡ operandConstants (sides (leaves ns))
-    pub marks : markCount (termGivens (operandsIn source)) ≡ parameterCount (sides (leaves ns))
-    pub size : length (comparisonsIn source) ≡ length (leaves ns)
-    pub shallow : length (leaves ns) ≤ 8 → depthIn source ≤ 8
+  operand-back : (m : ℕ) (o : Operand) → isBelow width o ≡ true → isNumbered m o ≡ true → operandOf place m (termAt o) ≡ o
+  operand-back m (column i) h k = ap column (K .there i (ltb-true i width h))
+  operand-back m (value (constant z)) h k = refl
+  operand-back m (value (parameter j)) h k = ap (λ i. value (parameter i)) (sym (eqb-true j (suc m) k))
 
-  module _ (different : repeats sameName columns ≡ false) where
-    operand-back : (m : ℕ) (o : Operand) → isBelow (length columns) o ≡ true → isNumbered m o ≡ true → operandOf columns m (termAt o) ≡ o
-    operand-back m (column i) h k = ap column (position-at columns i [] different (ltb-true i (length columns) h))
-    operand-back m (value (constant z)) h k = refl
-    operand-back m (value (parameter j)) h k = ap (λ i. value (parameter i)) (sym (eqb-true j (suc m) k))
+  -- and they resolve to the nodes that were given
+  pub resolve-unresolved : (m : ℕ) (ns : List (Node Operand)) → columnsBelow width ns ≡ true → numberedFrom m ns ≡ true → resolveNodes place m (unresolved ns) ≡ ns
+  resolve-unresolved m [] h k = refl
+  resolve-unresolved m (leaf c ∷ ns) h k =
+      let l : Operand = c .left in
+      let r : Operand = c .right in
+      let n : ℕ = m + markInOperand l in
+      let h₁ : all (isBelow width) (r ∷ sides (leaves ns)) ≡ true = and-right (isBelow width l) _ h in
+      let k₁ : numberedOn n (r ∷ sides (leaves ns)) ≡ true = and-right (isNumbered m l) _ k in
+      let e : operandOf place m (termAt l) ≡ l = operand-back m l (and-left (isBelow width l) _ h) (and-left (isNumbered m l) _ k) in
+      let f : operandOf place (m + markInTerm (termAt l)) (termAt r) ≡ r =
+      ap (λ i. operandOf place (m + i) (termAt r)) (mark-at l) ∙ operand-back n r (and-left (isBelow width r) _ h₁) (and-left (isNumbered n r) _ k₁) in
+      ap₂ (λ d rest. leaf d ∷ rest) (same-comparison (operandOf place m (termAt l)) (operandOf place (m + markInTerm (termAt l)) (termAt r)) c e f)
+      (ap₂ (λ i j. resolveNodes place (m + i + j) (unresolved ns)) (mark-at l) (mark-at r)
+      ∙ resolve-unresolved (n + markInOperand r) ns (and-right (isBelow width r) _ h₁) (and-right (isNumbered n r) _ k₁))
+  resolve-unresolved m (allOf ∷ ns) h k = ap (λ r. allOf ∷ r) (resolve-unresolved m ns h k)
+  resolve-unresolved m (anyOf ∷ ns) h k = ap (λ r. anyOf ∷ r) (resolve-unresolved m ns h k)
 
-    -- and resolve to the nodes that were given
-    pub resolve-unresolved : (m : ℕ) (ns : List (Node Operand)) → columnsBelow (length columns) ns ≡ true → numberedFrom m ns ≡ true
-        → resolveNodes columns m (unresolved ns) ≡ ns
-    resolve-unresolved m [] h k = refl
-    resolve-unresolved m (leaf c ∷ ns) h k =
-        let l : Operand = c .left in
-        let r : Operand = c .right in
-        let n : ℕ = m + markInOperand l in
-        let h₁ : all (isBelow (length columns)) (r ∷ sides (leaves ns)) ≡ true = and-right (isBelow (length columns) l) _ h in
-        let k₁ : numberedOn n (r ∷ sides (leaves ns)) ≡ true = and-right (isNumbered m l) _ k in
-        let e : operandOf columns m (termAt l) ≡ l = operand-back m l (and-left (isBelow (length columns) l) _ h) (and-left (isNumbered m l) _ k) in
-        let f : operandOf columns (m + markInTerm (termAt l)) (termAt r) ≡ r =
-        ap (λ i. operandOf columns (m + i) (termAt r)) (mark-at l)
-        ∙ operand-back n r (and-left (isBelow (length columns) r) _ h₁) (and-left (isNumbered n r) _ k₁) in
-        ap₂ (λ d rest. leaf d ∷ rest) (same-comparison (operandOf columns m (termAt l)) (operandOf columns (m + markInTerm (termAt l)) (termAt r)) c e f)
-        (ap₂ (λ i j. resolveNodes columns (m + i + j) (unresolved ns)) (mark-at l) (mark-at r)
-        ∙ resolve-unresolved (n + markInOperand r) ns (and-right (isBelow (length columns) r) _ h₁) (and-right (isNumbered n r) _ k₁))
-    resolve-unresolved m (allOf ∷ ns) h k = ap (λ r. allOf ∷ r) (resolve-unresolved m ns h k)
-    resolve-unresolved m (anyOf ∷ ns) h k = ap (λ r. anyOf ∷ r) (resolve-unresolved m ns h k)
+  -- nodes that pass the three tests come from a WHERE of which no column is strange
+  pub where-source : (m : ℕ) (ns : List (Node Operand)) → isPostfix ns ≡ true → columnsBelow width ns ≡ true → numberedFrom m ns ≡ true → Source place strange m ns
+  where-source m ns p h k =
+      let ts : List (Node (Term C)) = unresolved ns in
+      let back : resolveNodes place m ts ≡ ns = resolve-unresolved m ns h k in
+      let q : isPostfix ts ≡ true = sym (resolve-postfix place m ts) ∙ ap isPostfix back ∙ p in
+      let b : (w : Where (Term C)) × (nodesIn w ≡ ts) × (length (leaves ts) ≤ 8 → depthIn w ≤ 8) = where-postfix ts q in
+      let w : Where (Term C) = b .0 in
+      let inside : sides (leaves ts) ≡ operandsIn w = ap (λ us. sides (leaves us)) (sym (b .1)) ∙ sides-in w in
+      let many : length (leaves ts) ≡ length (leaves ns) = sym (resolve-leaves place m ts) ∙ ap (λ us. length (leaves us)) back in
+      record {
+        source = w;
+        resolves = resolve-where place m w ∙ ap (resolveNodes place m) (b .1) ∙ back;
+        known = ap (λ os. any strange (termColumns os)) (sym inside) ∙ unresolved-known ns h;
+        constants = ap termConstants (sym inside) ∙ sym (resolve-constants place m ts) ∙ ap (λ us. operandConstants (sides (leaves us))) back;
+        marks = ap (λ os. markCount (termGivens os)) (sym inside) ∙ sym (resolve-marks place m ts) ∙ ap (λ us. parameterCount (sides (leaves us))) back;
+        size = sym (leaves-in w) ∙ ap (λ us. length (leaves us)) (b .1) ∙ many;
+        shallow = λ s. b .2 (subst (λ i. i ≤ 8) (sym many) s);
+      }
 
-    -- nodes that pass the tests come from nodes that name columns that there are; joins, constants and the number of question marks are the same by the laws above
-    pub unresolve : (m : ℕ) (ns : List (Node Operand)) → columnsBelow (length columns) ns ≡ true → numberedFrom m ns ≡ true
-        → (ts : List (Node Term)) × (resolveNodes columns m ts ≡ ns) × (any (λ (n : Name). not (has columns n)) (termColumns (sides (leaves ts))) ≡ false)
-    unresolve m ns h k = (unresolved ns, resolve-unresolved m ns h k, unresolved-known ns h)
+-- ---- the columns of a table, and of two
 
-    -- nodes that pass the three tests come from a WHERE
-    pub where-source : (m : ℕ) (ns : List (Node Operand)) → isPostfix ns ≡ true → columnsBelow (length columns) ns ≡ true → numberedFrom m ns ≡ true
-        → Source m ns
-    where-source m ns p h k =
-        let ts : List (Node Term) = unresolved ns in
-        let back : resolveNodes columns m ts ≡ ns = resolve-unresolved m ns h k in
-        let q : isPostfix ts ≡ true = sym (resolve-postfix columns m ts) ∙ ap isPostfix back ∙ p in
-        let b : (w : Where Term) × (nodesIn w ≡ ts) × (length (leaves ts) ≤ 8 → depthIn w ≤ 8) = where-postfix ts q in
-        let w : Where Term = b .0 in
-        let inside : sides (leaves ts) ≡ operandsIn w = ap (λ us. sides (leaves us)) (sym (b .1)) ∙ sides-in w in
-        let many : length (leaves ts) ≡ length (leaves ns) = sym (resolve-leaves columns m ts) ∙ ap (λ us. length (leaves us)) back in
-        record {
-          source = w;
-          resolves = resolve-where columns m w ∙ ap (resolveNodes columns m) (b .1) ∙ back;
-          known = ap (λ os. any (λ (n : Name). not (has columns n)) (termColumns os)) (sym inside) ∙ unresolved-known ns h;
-          constants = ap termConstants (sym inside) ∙ sym (resolve-constants columns m ts) ∙ ap (λ us. operandConstants (sides (leaves us))) back;
-          marks = ap (λ os. markCount (termGivens os)) (sym inside) ∙ sym (resolve-marks columns m ts) ∙ ap (λ us. parameterCount (sides (leaves us))) back;
-          size = sym (leaves-in w) ∙ ap (λ us. length (leaves us)) (b .1) ∙ many;
-          shallow = λ s. b .2 (subst (λ i. i ≤ 8) (sym many) s);
-        }
+-- a name that is not missing has its place
+pub name-inside : (cs : List Name) (n : Name) → not (has cs n) ≡ false → position cs n < length cs
+name-inside cs n h = has-position cs n (not-false (has cs n) h)
 
--- and those of a WHERE that names columns that there are pass them
-pub where-passes : (columns : List Name) (m : ℕ) (w : Where Term) → any (λ (n : Name). not (has columns n)) (termColumns (operandsIn w)) ≡ false
-    → (isPostfix (nodesIn (resolvedWhere columns m w)) ≡ true)
-    × (columnsBelow (length columns) (nodesIn (resolvedWhere columns m w)) ≡ true)
-    × (numberedFrom m (nodesIn (resolvedWhere columns m w)) ≡ true)
-where-passes columns m w h = (
-  postfix-where (resolvedWhere columns m w),
-  ap (columnsBelow (length columns)) (resolve-where columns m w)
-      ∙ resolve-below columns m (nodesIn w) (ap (λ os. any (λ (n : Name). not (has columns n)) (termColumns os)) (sides-in w) ∙ h),
-  ap (numberedFrom m) (resolve-where columns m w) ∙ resolve-numbered columns m (nodesIn w),
-)
+pub one-table : (cs : List Name) → repeats sameName cs ≡ false → Columns (position cs) (length cs) (λ (n : Name). not (has cs n)) (λ i. getD cs i [])
+one-table cs r = record {
+  inside = name-inside cs;
+  known = λ i h. ap not (has-at cs i [] h);
+  there = λ i h. position-at cs i [] r h;
+}
+
+module _ (t : Name) (cs : List Name) (u : Name) (ds : List Name) where
+  -- the dotted column at a place of a pair of rows
+  abbrev pub dottedAt : ℕ → Dotted
+  dottedAt i = cond (ltb i (length cs)) (t, getD cs i []) (u, getD ds (i - length cs) [])
+
+  pub dotted-inside : (c : Dotted) → not (isOf t cs c || isOf u ds c) ≡ false → pairPlace t cs u ds c < length cs + length ds
+  dotted-inside c h = pair-inside t cs u ds c (not-false (isOf t cs c || isOf u ds c) h)
+
+  pub two-tables : repeats sameName cs ≡ false → repeats sameName ds ≡ false → sameName t u ≡ false
+      → Columns (pairPlace t cs u ds) (length cs + length ds) (λ (c : Dotted). not (isOf t cs c || isOf u ds c)) dottedAt
+  two-tables r s d = record {
+    inside = dotted-inside;
+    known = λ i h. known-at (ltb i (length cs)) i refl h;
+    there = λ i h. there-at (ltb i (length cs)) i refl h;
+  }
+    where
+      first-of : (i : ℕ) → i < length cs → isOf t cs (t, getD cs i []) ≡ true
+      first-of i h = and-both (sameName t t) (has cs (getD cs i [])) (same-name t) (has-at cs i [] h)
+
+      not-first : (n : Name) → isOf t cs (u, n) ≡ false
+      not-first n = ap (λ b. b && has cs n) (same-swap t u d)
+
+      second-of : (j : ℕ) → j < length ds → isOf u ds (u, getD ds j []) ≡ true
+      second-of j h = and-both (sameName u u) (has ds (getD ds j [])) (same-name u) (has-at ds j [] h)
+
+      behind : (i : ℕ) → ltb i (length cs) ≡ false → i < length cs + length ds → i - length cs < length ds
+      behind i e h = let k : length cs ≤ i = ltb-false i (length cs) e in omega arith
+
+      known-at : (b : Bool) (i : ℕ) → ltb i (length cs) ≡ b → i < length cs + length ds
+          → not (isOf t cs (cond b (t, getD cs i []) (u, getD ds (i - length cs) [])) || isOf u ds (cond b (t, getD cs i []) (u, getD ds (i - length cs) []))) ≡ false
+      known-at true i e h = ap (λ b. not (b || isOf u ds (t, getD cs i []))) (first-of i (ltb-true i (length cs) e))
+      known-at false i e h =
+          let j : ℕ = i - length cs in
+          ap (λ b. not (b || isOf u ds (u, getD ds j []))) (not-first (getD ds j []))
+          ∙ ap not (second-of j (behind i e h))
+
+      there-at : (b : Bool) (i : ℕ) → ltb i (length cs) ≡ b → i < length cs + length ds → pairPlace t cs u ds (cond b (t, getD cs i []) (u, getD ds (i - length cs) [])) ≡ i
+      there-at true i e h =
+          let c : Dotted = (t, getD cs i []) in
+          ap (λ b. cond b (position cs (c .1)) (cond (isOf u ds c) (length cs + position ds (c .1)) (length cs + length ds))) (first-of i (ltb-true i (length cs) e))
+          ∙ position-at cs i [] r (ltb-true i (length cs) e)
+      there-at false i e h =
+          let j : ℕ = i - length cs in
+          let c : Dotted = (u, getD ds j []) in
+          let k : length cs ≤ i = ltb-false i (length cs) e in
+          let z : length cs + (i - length cs) ≡ i = omega arith in
+          ap (λ b. cond b (position cs (c .1)) (cond (isOf u ds c) (length cs + position ds (c .1)) (length cs + length ds))) (not-first (getD ds j []))
+          ∙ ap (λ b. cond b (length cs + position ds (c .1)) (length cs + length ds)) (second-of j (behind i e h))
+          ∙ ap (λ n. length cs + n) (position-at ds j [] s (behind i e h))
+          ∙ z

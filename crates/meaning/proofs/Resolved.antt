@@ -41,28 +41,28 @@ module _ {O : Type 0} (P : O → Type 0) where
   to-sides nil = nil
   to-sides (cons b h) = cons (b .0) (cons (b .1) (to-sides h))
 
-module _ (columns : List Name) where
-  abbrev Known : Name → Type 0
-  Known c = position columns c < length columns
+module _ {C : Type 0} (place : C → ℕ) (width : ℕ) where
+  abbrev Known : C → Type 0
+  Known c = place c < width
 
-  abbrev KnownTerm : Term → Type 0
+  abbrev KnownTerm : Term C → Type 0
   KnownTerm (G.column n) = Known n
   KnownTerm (given v) = Unit {0}
 
-  known-terms : (ts : List Term) → All Known (termColumns ts) → All KnownTerm ts
+  known-terms : (ts : List (Term C)) → All Known (termColumns ts) → All KnownTerm ts
   known-terms [] h = nil
   known-terms (G.column n ∷ ts) h = cons (All-head h) (known-terms ts (All-tail h))
   known-terms (given v ∷ ts) h = cons tt (known-terms ts h)
 
   abbrev Inside : Operand → Type 0
-  Inside o = Within (length columns) o
+  Inside o = Within width o
 
-  operand-inside : (m : ℕ) (t : Term) → KnownTerm t → Inside (operandOf columns m t)
+  operand-inside : (m : ℕ) (t : Term C) → KnownTerm t → Inside (operandOf place m t)
   operand-inside m (G.column n) h = h
   operand-inside m (given v) h = tt
 
-  resolved-inside : {l : Level} (m : ℕ) (c : Condition Term l) → All (BothSides KnownTerm) (comparisons c)
-      → All (BothSides Inside) (comparisons (resolved columns m c))
+  resolved-inside : {l : Level} (m : ℕ) (c : Condition (Term C) l) → All (BothSides KnownTerm) (comparisons c)
+      → All (BothSides Inside) (comparisons (resolved place m c))
   resolved-inside m (compare c) h =
       cons (operand-inside m (c .left) (All-head h .0), operand-inside (m + markInTerm (c .left)) (c .right) (All-head h .1)) nil
   resolved-inside m (negate c) h = resolved-inside m c h
@@ -77,11 +77,12 @@ module _ (columns : List Name) where
       (resolved-inside (m + markCount (termGivens (sides (comparisons c)))) d (All-right (comparisons c) h))
 
   -- the columns of a WHERE
-  pub tested-inside : (m : ℕ) (w : Where Term) → All (λ c. position columns c < length columns) (termColumns (operandsIn w))
-      → All (Within (length columns)) (operandsIn (resolvedWhere columns m w))
+  pub tested-inside : (m : ℕ) (w : Where (Term C)) → All (λ c. place c < width) (termColumns (operandsIn w))
+      → All (Within width) (operandsIn (resolvedWhere place m w))
   tested-inside m always h = nil
   tested-inside m (under c) h = to-sides Inside (resolved-inside m c (by-sides KnownTerm (comparisons c) (known-terms (sides (comparisons c)) h)))
 
+module _ (columns : List Name) where
   -- the columns of SET
   pub set-inside : (m : ℕ) (ss : List (Name × Given)) → All (λ c. position columns c < length columns) (map (λ (s : Name × Given). s .0) ss)
       → All (λ (s : ℕ × Value). s .0 < length columns) (settings columns m ss)

@@ -15,17 +15,18 @@ use lib.ListN.{length}
 use Rattle.lists.specs.Lists.{bytes, all, takeWhile, dropWhile}
 use Rattle.lists.specs.Tests.{eqList}
 use Rattle.lists.proofs.Bools.{and-assoc, and-left, and-right, and-both, clash}
-use Rattle.lists.proofs.Lists.{all-append}
+use Rattle.lists.proofs.Lists.{all-append, map-append}
 use Rattle.lists.proofs.Runs.{Ends, run-unique, drop-no}
 use Rattle.meaning.specs.Operator.{eq, ne, lt, le, gt, ge}
 use Rattle.meaning.specs.Condition.{Comparison, Level, Condition, compare, negate, group, alone, both, single, either, comparisons, sides, Where, always, under, operandsIn}
-use Rattle.meaning.specs.Tokens.{Keyword, TABLE, ROWS, SELECT, FROM, WHERE, INSERT, INTO, VALUES, UPDATE, SET, DELETE, AND, OR, NOT, Name, Token, keyword, name, constant, operator, mark, comma, lparen, rparen, other, isDigit, isSmall, isNameByte, isWordByte, isSpace, isMinus, decimalOn, decimal, isName, keywords, keywordIn, word, negative, signs, behindPrefix, signIn, tokenFrom, tokenHere, firstToken, scan, tokens}
+use Rattle.meaning.specs.Tokens.{Keyword, TABLE, ROWS, SELECT, FROM, WHERE, INSERT, INTO, VALUES, UPDATE, SET, DELETE, AND, OR, NOT, Name, Token, keyword, name, constant, operator, mark, comma, lparen, rparen, dot, other, isDigit, isSmall, isNameByte, isWordByte, isSpace, isMinus, decimalOn, decimal, isName, keywords, keywordIn, word, negative, signs, behindPrefix, signIn, tokenFrom, tokenHere, firstToken, scan, tokens}
 use Rattle.meaning.specs.Grammar as G
-use Rattle.meaning.specs.Grammar.{Given, Term, given, Listed, last, next, items, Sentence, givenToken, termToken, spellName, spellGiven, spellSetting, spellList, spellCondition, spellWhere, spell}
-use Rattle.meaning.specs.Limits.{tableNamed, termColumns, columnsNamed}
+use Rattle.meaning.specs.Grammar.{Given, Term, given, Listed, last, next, items, Dotted, Sentence, givenToken, spellName, spellDotted, spellGiven, spellSetting, spellList, spellTerm, spellCondition, spellWhere, spell}
+use Rattle.meaning.specs.Limits.{termColumns, columnsNamed, allNames}
 use Rattle.meaning.specs.Demand.{HasText}
 use Rattle.meaning.proofs.Readers.{some-none, some-same}
 use Rattle.meaning.proofs.Postfix.{sides-append}
+use Rattle.meaning.proofs.Dotted.{bare-columns}
 use Rattle.meaning.proofs.Stream.{from-word, from-minus, from-sign, sign-here, sign-later, scan-none, scan-some, tokens-some}
 
 -- a name among tokens is a name
@@ -38,6 +39,7 @@ isNamed mark = true
 isNamed comma = true
 isNamed lparen = true
 isNamed rparen = true
+isNamed dot = true
 isNamed other = true
 
 -- ---- digits of a number, with leading zeros
@@ -213,6 +215,7 @@ written mark = bytes "?"
 written comma = bytes ","
 written lparen = bytes "("
 written rparen = bytes ")"
+written dot = bytes "."
 written other = bytes "!"
 
 textOf : List Token → List ℕ
@@ -245,6 +248,7 @@ first-written mark ts h = refl
 first-written comma ts h = refl
 first-written lparen ts h = refl
 first-written rparen ts h = refl
+first-written dot ts h = refl
 first-written other ts h = refl
 
 -- they are the tokens of that text
@@ -354,67 +358,102 @@ named-givens : (vs : Listed Given) (more : List Token) → all isNamed (spellLis
 named-givens (last v) more = ap (λ (b : Bool). b && all isNamed more) (named-given v)
 named-givens (next v vs) more = ap (λ (b : Bool). b && all isNamed (spellList spellGiven vs more)) (named-given v) ∙ named-givens vs more
 
-named-term : (t : Term) (ts : List Term) (b : Bool) → (isNamed (termToken t) && (all isName (termColumns ts) && b)) ≡ (all isName (termColumns (t ∷ ts)) && b)
-named-term (G.column n) ts b = and-assoc (isName n) (all isName (termColumns ts)) b
-named-term (given (G.constant z)) ts b = refl
-named-term (given G.mark) ts b = refl
-
-columns-append : (xs ys : List Term) → termColumns (xs ++ ys) ≡ termColumns xs ++ termColumns ys
+columns-append : {C : Type 0} (xs ys : List (Term C)) → termColumns (xs ++ ys) ≡ termColumns xs ++ termColumns ys
 columns-append [] ys = refl
-columns-append (G.column n ∷ xs) ys = ap (λ (r : List Name). n ∷ r) (columns-append xs ys)
+columns-append {C} (G.column n ∷ xs) ys = ap (λ (r : List C). n ∷ r) (columns-append xs ys)
 columns-append (given v ∷ xs) ys = columns-append xs ys
 
--- the columns of comparisons are names
-abbrev namesIn : List (Comparison Term) → Bool
-namesIn cs = all isName (termColumns (sides cs))
+-- conditions, where a column is spelled with good names
+module _ {C : Type 0} (col : C → List Token → List Token) (good : C → Bool)
+    (one : (x : C) (more : List Token) → all isNamed (col x more) ≡ (good x && all isNamed more)) where
+  named-term : (t : Term C) (ts : List (Term C)) (more : List Token) (b : Bool) → all isNamed more ≡ (all good (termColumns ts) && b)
+      → all isNamed (spellTerm col t more) ≡ (all good (termColumns (t ∷ ts)) && b)
+  named-term (G.column n) ts more b h = one n more ∙ ap (λ (x : Bool). good n && x) h ∙ and-assoc (good n) (all good (termColumns ts)) b
+  named-term (given v) ts more b h = ap (λ (x : Bool). x && all isNamed more) (named-given v) ∙ h
 
-names-append : (cs ds : List (Comparison Term)) → namesIn (cs ++ ds) ≡ (namesIn cs && namesIn ds)
-names-append cs ds =
-    ap (λ (ts : List Term). all isName (termColumns ts)) (sides-append cs ds)
-    ∙ ap (all isName) (columns-append (sides cs) (sides ds))
-    ∙ all-append isName (termColumns (sides cs)) (termColumns (sides ds))
+  -- the columns of comparisons are good
+  abbrev namesIn : List (Comparison (Term C)) → Bool
+  namesIn cs = all good (termColumns (sides cs))
 
-named-two : (cs ds : List (Comparison Term)) (a b c : Bool) → a ≡ (namesIn cs && b) → b ≡ (namesIn ds && c) → a ≡ (namesIn (cs ++ ds) && c)
-named-two cs ds a b c h k =
-    h ∙ ap (λ (x : Bool). namesIn cs && x) k ∙ and-assoc (namesIn cs) (namesIn ds) c ∙ ap (λ (x : Bool). x && c) (sym (names-append cs ds))
+  names-append : (cs ds : List (Comparison (Term C))) → namesIn (cs ++ ds) ≡ (namesIn cs && namesIn ds)
+  names-append cs ds =
+      ap (λ (ts : List (Term C)). all good (termColumns ts)) (sides-append cs ds)
+      ∙ ap (all good) (columns-append (sides cs) (sides ds))
+      ∙ all-append good (termColumns (sides cs)) (termColumns (sides ds))
 
-named-condition : {l : Level} (c : Condition Term l) (more : List Token) → all isNamed (spellCondition c more) ≡ (namesIn (comparisons c) && all isNamed more)
-named-condition (compare c) more =
-    ap (λ (b : Bool). isNamed (termToken (c .left)) && b) (named-term (c .right) [] (all isNamed more))
-    ∙ named-term (c .left) (c .right ∷ []) (all isNamed more)
-named-condition (negate c) more = named-condition c more
-named-condition (group c) more = named-condition c (rparen ∷ more)
-named-condition (alone c) more = named-condition c more
-named-condition (both c d) more =
-    named-two (comparisons c) (comparisons d) (all isNamed (spellCondition (both c d) more)) (all isNamed (spellCondition d more)) (all isNamed more)
-    (named-condition c (keyword AND ∷ spellCondition d more)) (named-condition d more)
-named-condition (single c) more = named-condition c more
-named-condition (either c d) more =
-    named-two (comparisons c) (comparisons d) (all isNamed (spellCondition (either c d) more)) (all isNamed (spellCondition d more)) (all isNamed more)
-    (named-condition c (keyword OR ∷ spellCondition d more)) (named-condition d more)
+  named-two : (cs ds : List (Comparison (Term C))) (a b c : Bool) → a ≡ (namesIn cs && b) → b ≡ (namesIn ds && c) → a ≡ (namesIn (cs ++ ds) && c)
+  named-two cs ds a b c h k =
+      h ∙ ap (λ (x : Bool). namesIn cs && x) k ∙ and-assoc (namesIn cs) (namesIn ds) c ∙ ap (λ (x : Bool). x && c) (sym (names-append cs ds))
 
-named-where : (w : Where Term) → all isNamed (spellWhere w) ≡ all isName (termColumns (operandsIn w))
-named-where always = refl
-named-where (under c) = named-condition c [] ∙ and-true (namesIn (comparisons c))
+  named-condition : {l : Level} (c : Condition (Term C) l) (more : List Token) → all isNamed (spellCondition col c more) ≡ (namesIn (comparisons c) && all isNamed more)
+  named-condition (compare c) more =
+      named-term (c .left) (c .right ∷ []) (operator (c .op) ∷ spellTerm col (c .right) more) (all isNamed more) (named-term (c .right) [] more (all isNamed more) refl)
+  named-condition (negate c) more = named-condition c more
+  named-condition (group c) more = named-condition c (rparen ∷ more)
+  named-condition (alone c) more = named-condition c more
+  named-condition (both c d) more =
+      named-two (comparisons c) (comparisons d) (all isNamed (spellCondition col (both c d) more)) (all isNamed (spellCondition col d more)) (all isNamed more)
+      (named-condition c (keyword AND ∷ spellCondition col d more)) (named-condition d more)
+  named-condition (single c) more = named-condition c more
+  named-condition (either c d) more =
+      named-two (comparisons c) (comparisons d) (all isNamed (spellCondition col (either c d) more)) (all isNamed (spellCondition col d more)) (all isNamed more)
+      (named-condition c (keyword OR ∷ spellCondition col d more)) (named-condition d more)
 
-named-sentence : (s : Sentence) → all isNamed (spell s) ≡ all isName (tableNamed s ∷ columnsNamed s)
+  named-where : (w : Where (Term C)) → all isNamed (spellWhere col w) ≡ all good (termColumns (operandsIn w))
+  named-where always = refl
+  named-where (under c) = named-condition c [] ∙ and-true (namesIn (comparisons c))
+
+-- the two names of a dotted column
+abbrev bothNames : Dotted → Bool
+bothNames c = isName (c .0) && isName (c .1)
+
+named-dotted : (c : Dotted) (more : List Token) → all isNamed (spellDotted c more) ≡ (bothNames c && all isNamed more)
+named-dotted c more = and-assoc (isName (c .0)) (isName (c .1)) (all isNamed more)
+
+shuffle : (a b c d : Bool) → ((a && b) && (c && d)) ≡ ((a && c) && (b && d))
+shuffle true true c d = refl
+shuffle true false true d = refl
+shuffle true false false d = refl
+shuffle false b c d = refl
+
+names-parted : (cs : List Dotted) → all bothNames cs ≡ (all isName (map (λ (c : Dotted). c .0) cs) && all isName (map (λ (c : Dotted). c .1) cs))
+names-parted [] = refl
+names-parted (c ∷ cs) =
+    ap (λ (b : Bool). bothNames c && b) (names-parted cs)
+    ∙ shuffle (isName (c .0)) (isName (c .1)) (all isName (map (λ (c : Dotted). c .0) cs)) (all isName (map (λ (c : Dotted). c .1) cs))
+
+named-sentence : (s : Sentence) → all isNamed (spell s) ≡ all isName (allNames s)
 unfolding spell
 named-sentence (G.table t cs z) =
     ap (λ (b : Bool). isName t && b)
     (named-list spellName isName (λ n more. refl) cs (rparen ∷ keyword ROWS ∷ constant z ∷ []) ∙ sym (all-append isName (items cs) []))
 named-sentence (G.select cs t w) =
-    named-list spellName isName (λ n more. refl) cs (keyword FROM ∷ name t ∷ spellWhere w)
-    ∙ ap (λ (b : Bool). all isName (items cs) && (isName t && b)) (named-where w)
+    named-list spellName isName (λ n more. refl) cs (keyword FROM ∷ name t ∷ spellWhere spellName w)
+    ∙ ap (λ (b : Bool). all isName (items cs) && (isName t && b)) (named-where spellName isName (λ n more. refl) w)
     ∙ swap (all isName (items cs)) (isName t) (all isName (termColumns (operandsIn w)))
     ∙ ap (λ (b : Bool). isName t && b) (sym (all-append isName (items cs) (termColumns (operandsIn w))))
+named-sentence (G.pair cs t u w) =
+    let ds : List Dotted = termColumns (operandsIn w) in
+    let firsts : List Name = map (λ (c : Dotted). c .0) (items cs ++ ds) in
+    let columns : map (λ (c : Dotted). c .1) (items cs ++ ds) ≡ columnsNamed (G.pair cs t u w) =
+    map-append (λ (c : Dotted). c .1) (items cs) ds ∙ ap (λ (ns : List Name). map (λ (c : Dotted). c .1) (items cs) ++ ns) (sym (bare-columns w)) in
+    named-list spellDotted bothNames named-dotted cs (keyword FROM ∷ name t ∷ comma ∷ name u ∷ spellWhere spellDotted w)
+    ∙ ap (λ (b : Bool). all bothNames (items cs) && (isName t && (isName u && b))) (named-where spellDotted bothNames named-dotted w)
+    ∙ swap (all bothNames (items cs)) (isName t) (isName u && all bothNames ds)
+    ∙ ap (λ (b : Bool). isName t && b) (swap (all bothNames (items cs)) (isName u) (all bothNames ds))
+    ∙ ap (λ (b : Bool). isName t && (isName u && b))
+    (sym (all-append bothNames (items cs) ds)
+    ∙ names-parted (items cs ++ ds)
+    ∙ ap (λ (ns : List Name). all isName firsts && all isName ns) columns
+    ∙ sym (all-append isName firsts (columnsNamed (G.pair cs t u w))))
 named-sentence (G.insert t vs) = ap (λ (b : Bool). isName t && b) (named-givens vs (rparen ∷ []))
 named-sentence (G.update t ss w) =
     let columns : List Name = map (λ (s : Name × Given). s .0) (items ss) in
     ap (λ (b : Bool). isName t && b)
-    (named-list spellSetting (λ (s : Name × Given). isName (s .0)) named-setting ss (spellWhere w)
-    ∙ ap₂ _&&_ (all-map (λ (s : Name × Given). s .0) isName (items ss)) (named-where w)
+    (named-list spellSetting (λ (s : Name × Given). isName (s .0)) named-setting ss (spellWhere spellName w)
+    ∙ ap₂ _&&_ (all-map (λ (s : Name × Given). s .0) isName (items ss)) (named-where spellName isName (λ n more. refl) w)
     ∙ sym (all-append isName columns (termColumns (operandsIn w))))
-named-sentence (G.delete t w) = ap (λ (b : Bool). isName t && b) (named-where w)
+named-sentence (G.delete t w) = ap (λ (b : Bool). isName t && b) (named-where spellName isName (λ n more. refl) w)
 
 -- ---- the claim
 

@@ -1,7 +1,8 @@
 -- What holds of every plain store that calls reach from an opening. Assumes nothing.
-use mathlib.Core.Path.{_≡_, refl, sym, ap, _∙_, subst}
+use mathlib.Core.Path.{_≡_, refl, sym, ap, ap₂, _∙_, subst}
+use mathlib.Core.Logic.{_≢_}
 use mathlib.Core.Bool.{Bool, true, false, not, _&&_, _||_, cond}
-use mathlib.Core.Option.{Option, some}
+use mathlib.Core.Option.{Option, none, some}
 use mathlib.Core.List.{List, [], _∷_, _++_, map}
 use Prim.Native.Nat.{ℕ, zero, suc, _+_, _*_, _-_, _≤_, _<_}
 use native.Mathlib.Omega.{arith}
@@ -18,14 +19,16 @@ use Rattle.lists.proofs.Places.{All-at, All-set, length-keep}
 use Rattle.meaning.specs.Condition.{Where, always, operandsIn}
 use Rattle.meaning.specs.Tokens.{Name}
 use Rattle.meaning.specs.Grammar as G
-use Rattle.meaning.specs.Grammar.{Given, items, Sentence, sentence}
+use Rattle.meaning.specs.Grammar.{Given, items, Dotted, Sentence, sentence}
 use Rattle.meaning.specs.Limits.{most-items, most-rows, most-marks, most-tables, most-queries, most-updates, listColumns, listGivens, givens, markCount, columnsNamed, termColumns, manyItems, rowsOutside, manyMarks, manyComparisons, deep, longName, bigConstant, pastLimit}
-use Rattle.meaning.specs.Names.{Schema, noSchema, tableNames, columnsOf, has, position, missing, unknown, miscounted}
-use Rattle.meaning.specs.Statement.{Value, Operand, Query, Change, insert, delete, update, Update, creates, asks, changes, numberedAll, settings, resolvedWhere, settingMarks, statementOf}
+use Rattle.meaning.specs.Names.{Schema, noSchema, sameName, tableNames, columnsOf, has, position, pairPlace, missing, unknown, miscounted, twice}
+use Rattle.meaning.specs.Statement.{Value, Operand, Second, Query, Change, insert, delete, update, Update, creates, asks, changes, numberedAll, settings, resolvedWhere, settingMarks, statementOf}
 use Rattle.meaning.specs.Meaning.{Row, newRow, valueOf, meetsWhere, assigned, updatedRow, changed}
 use Rattle.meaning.specs.Cells.{areaSize, areasSize}
 use Rattle.meaning.specs.Plain.{Lengths, Table, Plain, schemas, noTable, noUpdate, tableAt, updateAt, cellsLeft, Opening, opened, Call, add, ask, change, flush, noPlace, isInsert, full, refusal, refused, adding, addedText, changedBy, does, guard, step, after}
-use Rattle.meaning.proofs.Names.{has-position, all-known}
+use Rattle.meaning.proofs.Names.{has-position, position-is, all-known}
+use Rattle.meaning.proofs.Dotted.{all-of-pair}
+use Rattle.meaning.proofs.Resolve.{same-name}
 use Rattle.meaning.specs.Demand.{Acceptable}
 use Rattle.meaning.proofs.Accepted.{text-taken, Changing, update-taken}
 use Rattle.meaning.proofs.Resolved.{items-some, numbered-length, Within, tested-inside, set-inside, selected-inside}
@@ -49,14 +52,30 @@ pub record SchemaFits (t : Schema) : Type 0 where
   pub some-rows : 1 ≤ t .capacity
   pub few-rows : t .capacity ≤ most-rows
 
--- a query of one of n tables, within the limits; t is its table
-pub record QueryFits (n : ℕ) (t : Schema) (q : Query) : Type 0 where
+-- how many columns a query can name: those of its table, or of both
+abbrev pub widthOver : List Table → Query → Option Second → ℕ
+widthOver ts q none = length (getD ts (q .table) noTable .schema .columns)
+widthOver ts q (some s) = length (getD ts (q .table) noTable .schema .columns) + length (getD ts (s .table) noTable .schema .columns)
+
+abbrev pub widthOf : List Table → Query → ℕ
+widthOf ts q = widthOver ts q (q .second)
+
+-- a query of one of n tables, within the limits, of so many columns
+pub record QueryFits (n : ℕ) (width : ℕ) (q : Query) : Type 0 where
   pub there : q .table < n
   pub some-selected : 1 ≤ length (q .selected)
   pub few-selected : length (q .selected) ≤ most-items
   pub few-marks : q .parameters ≤ most-marks
-  pub selected-in : All (λ i. i < length (t .columns)) (q .selected)
-  pub tested-in : All (Within (length (t .columns))) (operandsIn (q .condition))
+  pub selected-in : All (λ i. i < width) (q .selected)
+  pub tested-in : All (Within width) (operandsIn (q .condition))
+
+-- the second table of a query is there, and its columns start behind those of the first
+abbrev pub SecondFits : List Table → Query → Option Second → Type 0
+SecondFits ts q none = Unit {0}
+SecondFits ts q (some s) = (s .table < length ts) × (s .start ≡ length (getD ts (q .table) noTable .schema .columns)) × (s .table ≢ q .table)
+
+abbrev pub PairFits : List Table → Query → Type 0
+PairFits ts q = SecondFits ts q (q .second)
 
 -- an update within the limits; t is its table
 pub record UpdateFits (t : Schema) (u : Update) : Type 0 where
@@ -70,7 +89,8 @@ pub record WellFormed (p : Plain) : Type 0 where
   -- an update's table is there and its change fits it
   pub updates-fit : All (λ (u : Update). (u .table < length (p .tables)) × FitsTable (tableAt p (u .table) .schema) (u .change)) (p .updates)
   pub updates-in : All (λ (u : Update). UpdateFits (tableAt p (u .table) .schema) u) (p .updates)
-  pub queries-fit : All (λ (q : Query). QueryFits (length (p .tables)) (tableAt p (q .table) .schema) q) (p .queries)
+  pub queries-fit : All (λ (q : Query). QueryFits (length (p .tables)) (widthOf (p .tables) q) q) (p .queries)
+  pub pairs-fit : All (PairFits (p .tables)) (p .queries)
   pub tables-fit : All (λ (t : Table). SchemaFits (t .schema)) (p .tables)
   -- the areas are within the lent cells
   pub areas-fit : areasSize (schemas p) ≤ p .lengths .cells
@@ -86,6 +106,7 @@ opened-well o = record {
   updates-fit = nil;
   updates-in = nil;
   queries-fit = nil;
+  pairs-fit = nil;
   tables-fit = nil;
   areas-fit = omega arith;
   few-tables = omega arith;
@@ -110,7 +131,7 @@ abbrev pub Limited : Plain → Update → Type 0
 Limited p u = UpdateFits (tableAt p (u .table) .schema) u
 
 abbrev pub Reads : Plain → Query → Type 0
-Reads p q = QueryFits (length (p .tables)) (tableAt p (q .table) .schema) q
+Reads p q = QueryFits (length (p .tables)) (widthOf (p .tables) q) q
 
 module _ (p p′ : Plain) (g : Grows p p′) where
   fits-grows : {us : List Update} → All (Fits p) us → All (Fits p′) us
@@ -119,17 +140,34 @@ module _ (p p′ : Plain) (g : Grows p p′) where
   limits-grow : {us : List Update} → All (Fits p) us → All (Limited p) us → All (Limited p′) us
   limits-grow h k = All-map (λ u f. subst (λ (t : Schema). UpdateFits t u) (sym (g (u .table) (f .0 .0) .1)) (f .1)) (All-both h k)
 
-  query-grows : (q : Query) → Reads p q → Reads p′ q
-  query-grows q f =
-      let e : tableAt p (q .table) .schema ≡ tableAt p′ (q .table) .schema = sym (g (q .table) (f .there) .1) in
+  columns-grow : (i : ℕ) → i < length (p .tables) → length (tableAt p i .schema .columns) ≡ length (tableAt p′ i .schema .columns)
+  columns-grow i h = ap (λ (t : Schema). length (t .columns)) (sym (g i h .1))
+
+  width-grows : (q : Query) (s : Option Second) → q .table < length (p .tables) → SecondFits (p .tables) q s → widthOver (p .tables) q s ≡ widthOver (p′ .tables) q s
+  width-grows q none h f = columns-grow (q .table) h
+  width-grows q (some s) h f = ap₂ _+_ (columns-grow (q .table) h) (columns-grow (s .table) (f .0))
+
+  query-grows : (q : Query) → Reads p q → PairFits (p .tables) q → Reads p′ q
+  query-grows q f two =
+      let e : widthOf (p .tables) q ≡ widthOf (p′ .tables) q = width-grows q (q .second) (f .there) two in
       record {
         there = g (q .table) (f .there) .0;
         some-selected = f .some-selected;
         few-selected = f .few-selected;
         few-marks = f .few-marks;
-        selected-in = subst (λ (t : Schema). All (λ i. i < length (t .columns)) (q .selected)) e (f .selected-in);
-        tested-in = subst (λ (t : Schema). All (Within (length (t .columns))) (operandsIn (q .condition))) e (f .tested-in);
+        selected-in = subst (λ (n : ℕ). All (λ i. i < n) (q .selected)) e (f .selected-in);
+        tested-in = subst (λ (n : ℕ). All (Within n) (operandsIn (q .condition))) e (f .tested-in);
       }
+
+  queries-grow : {qs : List Query} → All (Reads p) qs → All (PairFits (p .tables)) qs → All (Reads p′) qs
+  queries-grow h k = All-map (λ q f. query-grows q (f .0) (f .1)) (All-both h k)
+
+  second-grows : (q : Query) (s : Option Second) → Reads p q → SecondFits (p .tables) q s → SecondFits (p′ .tables) q s
+  second-grows q none f h = tt
+  second-grows q (some s) f h = (g (s .table) (h .0) .0, h .1 ∙ ap (λ (t : Schema). length (t .columns)) (sym (g (q .table) (f .there) .1)), h .2)
+
+  pairs-grow : {qs : List Query} → All (Reads p) qs → All (PairFits (p .tables)) qs → All (PairFits (p′ .tables)) qs
+  pairs-grow h k = All-map (λ q f. second-grows q (q .second) (f .0) (f .1)) (All-both h k)
 
 -- ---- a sentence within the limits
 
@@ -206,7 +244,8 @@ module _ (p : Plain) (W : WellFormed p) where
       rows-few = All-append (W .rows-few) (cons (omega arith) nil);
       updates-fit = fits-grows p (adding p (creates t)) grows-table (W .updates-fit);
       updates-in = limits-grow p (adding p (creates t)) grows-table (W .updates-fit) (W .updates-in);
-      queries-fit = All-map (query-grows p (adding p (creates t)) grows-table) (W .queries-fit);
+      queries-fit = queries-grow p (adding p (creates t)) grows-table (W .queries-fit) (W .pairs-fit);
+      pairs-fit = pairs-grow p (adding p (creates t)) grows-table (W .queries-fit) (W .pairs-fit);
       tables-fit = All-append (W .tables-fit) (cons f nil);
       areas-fit =
           subst (λ (k : ℕ). k ≤ p .lengths .cells)
@@ -216,13 +255,14 @@ module _ (p : Plain) (W : WellFormed p) where
       few-updates = W .few-updates;
     }
 
-  query-well : (q : Query) → Reads p q → length (p .queries) < most-queries → WellFormed (adding p (asks q))
-  query-well q f room = record {
+  query-well : (q : Query) → Reads p q → PairFits (p .tables) q → length (p .queries) < most-queries → WellFormed (adding p (asks q))
+  query-well q f two room = record {
     rows-wide = W .rows-wide;
     rows-few = W .rows-few;
     updates-fit = W .updates-fit;
     updates-in = W .updates-in;
     queries-fit = All-append (W .queries-fit) (cons f nil);
+    pairs-fit = All-append (W .pairs-fit) (cons two nil);
     tables-fit = W .tables-fit;
     areas-fit = W .areas-fit;
     few-tables = W .few-tables;
@@ -237,6 +277,7 @@ module _ (p : Plain) (W : WellFormed p) where
     updates-fit = All-append (W .updates-fit) (cons f nil);
     updates-in = All-append (W .updates-in) (cons e nil);
     queries-fit = W .queries-fit;
+    pairs-fit = W .pairs-fit;
     tables-fit = W .tables-fit;
     areas-fit = W .areas-fit;
     few-tables = W .few-tables;
@@ -246,7 +287,7 @@ module _ (p : Plain) (W : WellFormed p) where
 
   -- the statement of a text that is not refused
   statement-well : (lent : Lengths) (text : List ℕ) (s : Sentence) → Acceptable lent p text s → WellFormed (adding p (statementOf (schemas p) s))
-  unfolding statementOf unknown miscounted noPlace
+  unfolding statementOf unknown miscounted twice noPlace
   statement-well lent text (G.table t cs z) T =
       let size : (1 ≤ natAbs z) × (natAbs z ≤ most-rows) = capacity-fits z (rows-inside (G.table t cs z) (T .within)) in
       let full : leb most-tables (length (p .tables)) ≡ false = or-left (leb most-tables (length (p .tables))) (ltb (cellsLeft p) (length (items cs) * natAbs z)) (T .place) in
@@ -264,7 +305,7 @@ module _ (p : Plain) (W : WellFormed p) where
       let known : All (λ c. position C c < length C) (items cs ++ termColumns (operandsIn w)) = known-columns p t (columnsNamed s) (T .known) in
       let e : getD (schemas p) n noSchema ≡ tableAt p n .schema = schema-at p n in
       let l : length (map (position C) (items cs)) ≡ length (items cs) = length-map (items cs) (position C) in
-      query-well (record { table = n; selected = map (position C) (items cs); condition = resolvedWhere C 0 w; parameters = markCount (givens s) })
+      query-well (record { table = n; second = none; selected = map (position C) (items cs); condition = resolvedWhere (position C) 0 w; parameters = markCount (givens s) })
       (record {
         there = known-table p t (columnsNamed s) (T .known);
         some-selected = omega (arith, items-some cs);
@@ -272,9 +313,52 @@ module _ (p : Plain) (W : WellFormed p) where
         few-marks = marks-few s (T .within);
         selected-in = subst (λ (t : Schema). All (λ i. i < length (t .columns)) (map (position C) (items cs))) e
             (selected-inside C (items cs) (All-left (items cs) (termColumns (operandsIn w)) known));
-        tested-in = subst (λ (t : Schema). All (Within (length (t .columns))) (operandsIn (resolvedWhere C 0 w))) e
-            (tested-inside C 0 w (All-right (items cs) known));
+        tested-in = subst (λ (t : Schema). All (Within (length (t .columns))) (operandsIn (resolvedWhere (position C) 0 w))) e
+            (tested-inside (position C) (length C) 0 w (All-right (items cs) known));
       })
+      tt
+      (leb-false most-queries (length (p .queries)) (T .place))
+  statement-well lent text (G.pair cs t u w) T =
+      let s : Sentence = G.pair cs t u w in
+      let n : ℕ = position (tableNames (schemas p)) t in
+      let m : ℕ = position (tableNames (schemas p)) u in
+      let C : List Name = columnsOf (schemas p) t in
+      let D : List Name = columnsOf (schemas p) u in
+      let place : Dotted → ℕ = pairPlace t C u D in
+      let k₁ : not (has (tableNames (schemas p)) t) ≡ false = or-left (not (has (tableNames (schemas p)) t)) _ (T .known) in
+      let r₁ = or-right (not (has (tableNames (schemas p)) t)) _ (T .known) in
+      let k₂ : not (has (tableNames (schemas p)) u) ≡ false = or-left (not (has (tableNames (schemas p)) u)) _ r₁ in
+      let there₁ : n < length (p .tables) = known-table p t [] (ap (λ b. b || false) k₁) in
+      let there₂ : m < length (p .tables) = known-table p u [] (ap (λ b. b || false) k₂) in
+      let known : All (λ c. place c < length C + length D) (items cs ++ termColumns (operandsIn w)) =
+      all-of-pair t C u D (items cs ++ termColumns (operandsIn w)) (or-right (not (has (tableNames (schemas p)) u)) _ r₁) in
+      let e : length C + length D ≡ length (tableAt p n .schema .columns) + length (tableAt p m .schema .columns) =
+      ap₂ (λ (x y : Schema). length (x .columns) + length (y .columns)) (schema-at p n) (schema-at p m) in
+      let l : length (map place (items cs)) ≡ length (items cs) = length-map (items cs) place in
+      let differ : t ≡ u → ⊥ = λ e. clash (subst (λ (v : Name). sameName t v ≡ true) e (same-name t)) (T .different) in
+      let few : length (map (λ (c : Dotted). c .1) (items cs)) ≤ most-items = few-listed s (T .within) in
+      query-well (record {
+        table = n;
+        second = some (record { table = m; start = length C });
+        selected = map place (items cs);
+        condition = resolvedWhere place 0 w;
+        parameters = markCount (givens s);
+      })
+      (record {
+        there = there₁;
+        some-selected = omega (arith, items-some cs);
+        few-selected = omega (arith, few, length-map (items cs) (λ (c : Dotted). c .1));
+        few-marks = marks-few s (T .within);
+        selected-in = subst (λ (n : ℕ). All (λ i. i < n) (map place (items cs))) e (All-image place (All-left (items cs) (termColumns (operandsIn w)) known));
+        tested-in = subst (λ (n : ℕ). All (Within n) (operandsIn (resolvedWhere place 0 w))) e (tested-inside place (length C + length D) 0 w (All-right (items cs) known));
+      }) (
+        there₂,
+        ap (λ (t : Schema). length (t .columns)) (schema-at p n),
+        λ q. differ (
+            sym (position-is (tableNames (schemas p)) t [] (not-false (has (tableNames (schemas p)) t) k₁))
+            ∙ ap (λ (i : ℕ). getD (tableNames (schemas p)) i []) (sym q)
+            ∙ position-is (tableNames (schemas p)) u [] (not-false (has (tableNames (schemas p)) u) k₂)),
+      )
       (leb-false most-queries (length (p .queries)) (T .place))
   statement-well lent text (G.insert t vs) T =
       let s : Sentence = G.insert t vs in
@@ -294,15 +378,15 @@ module _ (p : Plain) (W : WellFormed p) where
       let set-names : List Name = map (λ (s : Name × Given). s .0) (items ss) in
       let known : All (λ c. position C c < length C) (set-names ++ termColumns (operandsIn w)) = known-columns p t (columnsNamed s) (T .known) in
       let e : getD (schemas p) n noSchema ≡ tableAt p n .schema = schema-at p n in
-      update-well (record { table = n; change = update (settings C 0 (items ss)) (resolvedWhere C m w); parameters = markCount (givens s) }) (
+      update-well (record { table = n; change = update (settings C 0 (items ss)) (resolvedWhere (position C) m w); parameters = markCount (givens s) }) (
         known-table p t (columnsNamed s) (T .known),
         subst (λ (t : Schema). All (λ (s : ℕ × Value). s .0 < length (t .columns)) (settings C 0 (items ss))) e
             (set-inside C 0 (items ss) (All-left set-names (termColumns (operandsIn w)) known)),
       )
       (record {
         few-marks = marks-few s (T .within);
-        tested-in = subst (λ (t : Schema). All (Within (length (t .columns))) (operandsIn (resolvedWhere C m w))) e
-            (tested-inside C m w (All-right set-names known));
+        tested-in = subst (λ (t : Schema). All (Within (length (t .columns))) (operandsIn (resolvedWhere (position C) m w))) e
+            (tested-inside (position C) (length C) m w (All-right set-names known));
       })
       (leb-false most-updates (length (p .updates)) (T .place))
   statement-well lent text (G.delete t w) T =
@@ -311,11 +395,11 @@ module _ (p : Plain) (W : WellFormed p) where
       let C : List Name = columnsOf (schemas p) t in
       let known : All (λ c. position C c < length C) (termColumns (operandsIn w)) = known-columns p t (columnsNamed s) (T .known) in
       let e : getD (schemas p) n noSchema ≡ tableAt p n .schema = schema-at p n in
-      update-well (record { table = n; change = delete (resolvedWhere C 0 w); parameters = markCount (givens s) })
+      update-well (record { table = n; change = delete (resolvedWhere (position C) 0 w); parameters = markCount (givens s) })
       (known-table p t (columnsNamed s) (T .known), tt)
       (record {
         few-marks = marks-few s (T .within);
-        tested-in = subst (λ (t : Schema). All (Within (length (t .columns))) (operandsIn (resolvedWhere C 0 w))) e (tested-inside C 0 w known);
+        tested-in = subst (λ (t : Schema). All (Within (length (t .columns))) (operandsIn (resolvedWhere (position C) 0 w))) e (tested-inside (position C) (length C) 0 w known);
       })
       (leb-false most-updates (length (p .updates)) (T .place))
 
@@ -382,7 +466,8 @@ module _ (p : Plain) (n : ℕ) (us : List ℤ) where
             (changed-few (u .change) us (t .rows) (t .schema .capacity) (All-at (u .table) noTable (fits .0) (W .rows-few)) f) (W .rows-few);
         updates-fit = fits-grows p (changedBy p n us) grows-rows (W .updates-fit);
         updates-in = limits-grow p (changedBy p n us) grows-rows (W .updates-fit) (W .updates-in);
-        queries-fit = All-map (query-grows p (changedBy p n us) grows-rows) (W .queries-fit);
+        queries-fit = queries-grow p (changedBy p n us) grows-rows (W .queries-fit) (W .pairs-fit);
+        pairs-fit = pairs-grow p (changedBy p n us) grows-rows (W .queries-fit) (W .pairs-fit);
         tables-fit = All-set (u .table) (record { schema = t .schema; rows = changed (u .change) us (t .rows) })
             (All-at (u .table) noTable (fits .0) (W .tables-fit)) (W .tables-fit);
         areas-fit = subst (λ (ts : List Schema). areasSize ts ≤ p .lengths .cells) (sym schemas-stay) (W .areas-fit);

@@ -2,29 +2,30 @@
 -- Assumes nothing.
 use mathlib.Core.Path.{_≡_, refl, sym, subst}
 use mathlib.Core.Bool.{Bool, true, false, not, cond}
-use mathlib.Core.Option.{Option, some}
+use mathlib.Core.Option.{Option, none, some}
 use mathlib.Core.List.{List, [], _∷_, _++_, map}
-use Prim.Native.Nat.{ℕ, zero, suc, _+_, _≤_, _<_}
+use Prim.Native.Nat.{ℕ, zero, suc, _+_, _<_}
 use native.Mathlib.Omega.{arith}
 use lib.IntN.{ℤ, pos}
 use lib.ListN.{length, set, length-map}
-use Rattle.lists.specs.Lists.{All, nil, cons, keep}
+use borrow.Author.Tests.{ltb-false}
+use Rattle.lists.specs.Lists.{All, nil, cons, pairs}
 use Rattle.lists.proofs.Bools.{or-right, not-false}
-use Rattle.lists.proofs.Lists.{All-head, All-tail, All-map, All-append, All-left, All-keep, All-image, All-every, All-getD, any-false}
-use Rattle.lists.proofs.Places.{All-at, All-set, length-keep}
+use Rattle.lists.proofs.Lists.{All-head, All-tail, All-map, All-append, All-left, All-right, All-keep, All-image, All-every, All-getD, any-false}
+use Rattle.lists.proofs.Places.{All-at, All-set}
 use Rattle.meaning.specs.Condition.{Where}
 use Rattle.meaning.specs.Tokens.{Name}
 use Rattle.meaning.specs.Grammar as G
 use Rattle.meaning.specs.Grammar.{Given, mark, items, Sentence, sentence}
-use Rattle.meaning.specs.Limits.{most-rows, listGivens, givens, markIn, isWithin32, outside32, manyItems, rowsOutside, manyMarks, manyComparisons, deep, longName, bigConstant, pastLimit}
+use Rattle.meaning.specs.Limits.{most-listed, listGivens, givens, markIn, isWithin32, outside32, manyItems, rowsOutside, manyMarks, manyComparisons, deep, longName, bigConstant, pastLimit}
 use Rattle.meaning.specs.Names.{columnsOf}
-use Rattle.meaning.specs.Statement.{Value, constant, parameter, Operand, Query, Change, insert, delete, update, Update, numbered, numberedAll, settings, statementOf}
+use Rattle.meaning.specs.Statement.{Value, constant, parameter, Operand, Second, Query, Change, insert, delete, update, Update, numbered, numberedAll, settings, statementOf}
 use Rattle.meaning.specs.Meaning.{Row, cell, valueOf, meetsWhere, takes, selected, answer, assigned, updatedRow, changed}
 use Rattle.meaning.specs.Key.{Key}
-use Rattle.meaning.specs.Plain.{Lengths, Table, Plain, schemas, noTable, noQuery, noUpdate, tableAt, queryAt, updateAt, recordOf, Opening, opened, Call, add, ask, change, flush, askConditions, conditions, refusal, refused, answered, adding, addedText, changedBy, does, guard, step, after}
+use Rattle.meaning.specs.Plain.{Lengths, Table, Plain, schemas, noTable, noQuery, noUpdate, tableAt, queryAt, updateAt, rowsOver, rowsFor, recordOf, tooMany, Opening, opened, Call, add, ask, change, flush, askConditions, conditions, refusal, refused, answered, adding, addedText, changedBy, does, guard, step, after}
 use Rattle.meaning.specs.Demand.{Acceptable, ReadsBack, IsRow, Is32, Call32, rowsListed, AnswerReadsBack}
 use Rattle.meaning.proofs.Accepted.{clear, text-taken, key-asked}
-use Rattle.meaning.proofs.WellFormed.{WellFormed, Reads, opened-well, after-well}
+use Rattle.meaning.proofs.WellFormed.{SecondFits, WellFormed, Reads, opened-well, after-well}
 use Rattle.meaning.proofs.Record.{record-reads-back}
 
 -- a value of a statement
@@ -76,6 +77,7 @@ statement-32 : (p : Plain) → Store32 p → (s : Sentence) → pastLimit s ≡ 
 unfolding statementOf
 statement-32 p S (G.table t cs z) h = record { rows = All-append (S .rows) (cons nil nil); writes = S .writes }
 statement-32 p S (G.select cs t w) h = record { rows = S .rows; writes = S .writes }
+statement-32 p S (G.pair cs t u w) h = record { rows = S .rows; writes = S .writes }
 statement-32 p S (G.insert t vs) h =
     record { rows = S .rows; writes = All-append (S .writes) (cons (all-numbered-32 0 (items vs) (constants-in (G.insert t vs) h)) nil) }
 statement-32 p S (G.update t ss w) h =
@@ -151,23 +153,26 @@ answer-rows q vs rows h =
     All-image (selected q)
     (All-keep (takes q vs) (λ r e t. (length-map (q .selected) (cell r), All-image (cell r) (All-every (λ i. All-getD i (pos 0) refl e) (q .selected)))) h)
 
-pub answer-few : (q : Query) (vs : List ℤ) (rows : List Row) → length (answer q vs rows) ≤ length rows
-unfolding answer
-answer-few q vs rows = omega (arith, length-map (keep (takes q vs) rows) (selected q), length-keep (takes q vs) rows)
+-- the cells of pairs are those of their rows
+pub pairs-32 : (rs os : List Row) → All (All Is32) rs → All (All Is32) os → All (All Is32) (pairs rs os)
+pairs-32 [] os h k = nil
+pairs-32 (r ∷ rs) os h k = All-append (All-image (λ (o : Row). r ++ o) (All-map (λ o e. All-append (All-head h) e) k)) (pairs-32 rs os (All-tail h) k)
+
+pub over-32 : (ts : List Table) (q : Query) (s : Option Second) → q .table < length ts → SecondFits ts q s → All (λ (t : Table). All (All Is32) (t .rows)) ts
+    → All (All Is32) (rowsOver ts q s)
+over-32 ts q none h f S = All-at (q .table) noTable h S
+over-32 ts q (some s) h f S = pairs-32 _ _ (All-at (q .table) noTable h S) (All-at (s .table) noTable (f .0) S)
 
 -- the record of a question that is there reads back as its answer, also with later bytes behind it
-pub record-listed : (p : Plain) → WellFormed p → Store32 p → (k : Key) → k .query < length (p .queries) → (later : List ℕ)
+pub record-listed : (p : Plain) → WellFormed p → Store32 p → (k : Key) → k .query < length (p .queries) → tooMany p k ≡ false → (later : List ℕ)
     → ReadsBack (recordOf p k ++ later) (length (queryAt p (k .query) .selected)) (rowsListed p k)
-unfolding recordOf
-record-listed p W S k h later =
+unfolding recordOf tooMany
+record-listed p W S k h m later =
     let q : Query = queryAt p (k .query) in
-    let t : Table = tableAt p (q .table) in
     let f : Reads p q = All-at (k .query) noQuery h (W .queries-fit) in
-    let few : length (t .rows) ≤ t .schema .capacity = All-at (q .table) noTable (f .there) (W .rows-few) in
-    let most : t .schema .capacity ≤ most-rows = All-at (q .table) noTable (f .there) (W .tables-fit) .few-rows in
-    record-reads-back (length (q .selected)) (answer q (k .values) (t .rows)) later (f .some-selected) (f .few-selected)
-    (omega (arith, answer-few q (k .values) (t .rows)))
-    (answer-rows q (k .values) (t .rows) (All-at (q .table) noTable (f .there) (S .rows)))
+    record-reads-back (length (q .selected)) (answer q (k .values) (rowsFor p q)) later (f .some-selected) (f .few-selected)
+    (ltb-false most-listed (length (answer q (k .values) (rowsFor p q))) m)
+    (answer-rows q (k .values) (rowsFor p q) (over-32 (p .tables) q (q .second) (f .there) (All-at (k .query) noQuery h (W .pairs-fit)) (S .rows)))
 
 -- an answer is none of a refused question, which is there then
 asked-answered : (n : ℕ) (p : Plain) (x r : List ℕ) → guard n p refused (p, answered x) .1 ≡ answered r → (n ≡ 0) × (x ≡ r)
@@ -181,5 +186,6 @@ answer-reads-back o cs v k buffer r e later =
     let a = asked-answered (refusal (o .lent) p (ask k buffer)) p (recordOf p k) r e in
     let none = clear 0 (conditions (o .lent) p (ask k buffer)) refl .0 (a .0) in
     let there = key-asked (o .lent) p k (clear 0 (askConditions (o .lent) p k) refl .1 (All-left (askConditions (o .lent) p k) _ none)) .there in
+    let few = All-head (All-right (askConditions (o .lent) p k) none) in
     subst (λ (x : List ℕ). ReadsBack (x ++ later) (length (queryAt p (k .query) .selected)) (rowsListed p k)) (a .1)
-    (record-listed p (after-well (o .lent) (opened o) (opened-well o) cs) (after-32 (o .lent) (opened o) (opened-32 o) cs v) k there later)
+    (record-listed p (after-well (o .lent) (opened o) (opened-well o) cs) (after-32 (o .lent) (opened o) (opened-32 o) cs v) k there few later)

@@ -2,26 +2,26 @@
 -- Assumes nothing: these are definitions.
 use mathlib.Core.Path.{_≡_}
 use mathlib.Core.Logic.{_↔_, _≢_}
-use mathlib.Core.Bool.{Bool, true, false, _&&_}
+use mathlib.Core.Bool.{Bool, true, false, _&&_, cond}
 use mathlib.Core.Option.{Option, none, some}
 use mathlib.Core.List.{List, [], _∷_, _++_, map}
-use Prim.Native.Nat.{ℕ, suc, _≤_, _<_}
+use Prim.Native.Nat.{ℕ, suc, _+_, _*_, _≤_, _<_}
 use lib.Dec.{eqb}
 use lib.IntN.{ℤ, pos, negsuc}
 use lib.ListN.{length, getD}
-use Rattle.lists.specs.Lists.{All, any, all, from}
+use Rattle.lists.specs.Lists.{All, any, all, from, pairs}
 use Rattle.meaning.specs.Condition.{comparisonsIn, operandsIn, depthIn}
 use Rattle.meaning.specs.Tokens.{Token, isName, firstToken, tokens}
 use Rattle.meaning.specs.Grammar as G
 use Rattle.meaning.specs.Grammar.{Given, items, Sentence, spell, sentence}
 use Rattle.meaning.specs.Key.{Key}
-use Rattle.meaning.specs.Limits.{most-text, most-items, most-rows, tableNamed, rowsOf, whereOf, columnsNamed, givens, markCount, isWithin32, pastLimit}
-use Rattle.meaning.specs.Names.{Schema, unknown, taken, miscounted}
-use Rattle.meaning.specs.Statement.{Value, constant, parameter, Operand, column, value, Query, Change, insert, delete, update, Update, Statement, creates, asks, changes, statementOf}
+use Rattle.meaning.specs.Limits.{most-text, most-items, most-listed, rowsOf, whereOf, allNames, givens, markCount, isWithin32, pastLimit}
+use Rattle.meaning.specs.Names.{Schema, unknown, taken, miscounted, twice}
+use Rattle.meaning.specs.Statement.{Value, constant, parameter, Operand, column, value, Second, Query, Change, insert, delete, update, Update, Statement, creates, asks, changes, statementOf}
 use Rattle.meaning.specs.Meaning.{Row, answer, changed}
 use Rattle.meaning.specs.Record.{encode, isRecord, columnsIn, rowCount, rowRefusal, rowPart, numbersOf}
-use Rattle.meaning.specs.Pattern.{matters, matches}
-use Rattle.meaning.specs.Plain.{Lengths, Plain, schemas, tableAt, queryAt, Opening, opened, Call, add, ask, change, flush, otherLengths, noPlace, conditions, refusal, refused, answered, adding, placed, step, after}
+use Rattle.meaning.specs.Pattern.{Side, neither, first, second, sideOf, sameTable, startOf, matters, matches}
+use Rattle.meaning.specs.Plain.{Lengths, Plain, schemas, rowsFor, queryAt, Opening, opened, Call, add, ask, change, flush, otherLengths, noPlace, conditions, refusal, refused, answered, adding, placed, step, after}
 
 -- ---- Demand 1: "If a call brings a text, number, state or lent memory that the store can't take, it gives the refusal number of document 01 and changes
 -- nothing."
@@ -30,10 +30,14 @@ use Rattle.meaning.specs.Plain.{Lengths, Plain, schemas, tableAt, queryA
 abbrev pub applies : Lengths → Plain → Call → ℕ → Bool
 applies lent p c n = any (λ (x : ℕ × Bool). eqb (x .0) n && x .1) (conditions lent p c)
 
--- "The lowest number that applies is given, and only then."
+-- the place of a number in the order in which they are looked for: A.1 has 15 "after 8" and 16 "after 12"
+abbrev pub rank : ℕ → ℕ
+rank n = cond (eqb n 15) (2 * 8 + 1) (cond (eqb n 16) (2 * 12 + 1) (2 * n))
+
+-- "The lowest number that applies is given, and only then.": none that stands before it applies
 pub record Lowest (lent : Lengths) (p : Plain) (c : Call) (n : ℕ) : Type 0 where
   pub given : n ≢ 0 → applies lent p c n ≡ true
-  pub lower : (m : ℕ) → m < n → applies lent p c m ≡ false
+  pub lower : (m : ℕ) → rank m < rank n → applies lent p c m ≡ false
   pub only : n ≡ 0 → (m : ℕ) → applies lent p c m ≡ false
 
 abbrev pub LowestNumber : Type 0
@@ -63,7 +67,7 @@ FirstThenRest = (text : List ℕ) → tokens text ≡ tokensFrom (firstToken tex
 -- "A name is a small letter, then small letters, digits or underscores. A constant is an optional minus and digits": a sentence has a text exactly if its
 -- names are such, whatever its constants are
 abbrev pub HasText : Type 0
-HasText = (s : Sentence) → (all isName (tableNamed s ∷ columnsNamed s) ≡ true) ↔ ((text : List ℕ) × (tokens text ≡ spell s))
+HasText = (s : Sentence) → (all isName (allNames s) ≡ true) ↔ ((text : List ℕ) × (tokens text ≡ spell s))
 
 -- "Question marks are numbered from 1, left to right.": those of VALUES or SET, then those of WHERE, are 1, 2 and on, up to the number of them
 abbrev pub valueMarks : List Value → List ℕ
@@ -98,6 +102,7 @@ Between least most n = (least ≤ n) × (n ≤ most)
 abbrev pub listLengths : Sentence → List ℕ
 listLengths (G.table t cs z) = length (items cs) ∷ []
 listLengths (G.select cs t w) = length (items cs) ∷ []
+listLengths (G.pair cs t u w) = length (items cs) ∷ []
 listLengths (G.insert t vs) = length (items vs) ∷ []
 listLengths (G.update t ss w) = length (items ss) ∷ []
 listLengths (G.delete t w) = []
@@ -121,13 +126,13 @@ pub record WithinLimits (s : Sentence) : Type 0 where
   pub marks : markCount (givens s) ≤ 8
   pub comparisons : length (comparisonsIn (whereOf s)) ≤ 8
   pub depth : depthIn (whereOf s) ≤ 8
-  pub names : All (λ n. length n ≤ 12) (tableNamed s ∷ columnsNamed s)
+  pub names : All (λ n. length n ≤ 12) (allNames s)
   pub constants : All GivenWithin (givens s)
 
 abbrev pub WithinExactlyIf : Type 0
 WithinExactlyIf = (s : Sentence) → (pastLimit s ≡ false) ↔ WithinLimits s
 
--- no condition of refusals 2 to 9 holds
+-- no condition of refusals 2 to 9 and 15 holds
 pub record Acceptable (lent : Lengths) (p : Plain) (text : List ℕ) (s : Sentence) : Type 0 where
   pub lengths : otherLengths lent p ≡ false
   pub short : length text ≤ most-text
@@ -136,6 +141,7 @@ pub record Acceptable (lent : Lengths) (p : Plain) (text : List ℕ) (s : Senten
   pub known : unknown (schemas p) s ≡ false
   pub fresh : taken (schemas p) s ≡ false
   pub counted : miscounted (schemas p) s ≡ false
+  pub different : twice s ≡ false
   pub place : noPlace p s ≡ false
 
 abbrev pub AcceptedExactlyIf : Type 0
@@ -162,7 +168,7 @@ IsRow columns r = (length r ≡ columns) × All (λ z. isWithin32 z ≡ true) r
 
 -- the record of rows, also with later bytes behind it
 abbrev pub RecordReadsBack : Type 0
-RecordReadsBack = (columns : ℕ) (rows : List Row) (later : List ℕ) → 1 ≤ columns → columns ≤ most-items → length rows ≤ most-rows → All (IsRow columns) rows
+RecordReadsBack = (columns : ℕ) (rows : List Row) (later : List ℕ) → 1 ≤ columns → columns ≤ most-items → length rows ≤ most-listed → All (IsRow columns) rows
     → ReadsBack (encode columns rows ++ later) columns rows
 
 -- the values of a call have 32 bits, as their type says
@@ -177,7 +183,7 @@ Call32 flush = Unit {0}
 
 -- the rows that Meaning lists for a key
 abbrev pub rowsListed : Plain → Key → List Row
-rowsListed p k = answer (queryAt p (k .query)) (k .values) (tableAt p (queryAt p (k .query) .table) .rows)
+rowsListed p k = answer (queryAt p (k .query)) (k .values) (rowsFor p (queryAt p (k .query)))
 
 -- after every opening and list of calls, an answer's record reads back as the rows that Meaning lists on the plain store
 abbrev pub AnswerReadsBack : Type 0
@@ -187,21 +193,39 @@ AnswerReadsBack = (o : Opening) (cs : List Call) → All Call32 cs → (k : Key)
     → (later : List ℕ) → ReadsBack (r ++ later) (length (queryAt p (k .query) .selected)) (rowsListed p k)
 
 -- ---- Demand 2: "The kept answers an update drops are exactly those matched by the patterns drawn from Scully and Chlipala's formula": the patterns weaken
--- it. If the update matters for the query's values through some row, a pattern agrees; so where none agrees the answer stays, whatever the table holds.
+-- it. If the update matters for the query's values through some row, a pattern agrees; so where none agrees the answer stays, whatever the tables hold.
 
--- the set columns are columns of the row
-abbrev pub SetsWithin : Change → Row → Type 0
-SetsWithin (insert os) r = Unit {0}
-SetsWithin (delete g) r = Unit {0}
-SetsWithin (update ss g) r = All (λ (s : ℕ × Value). s .0 < length r) ss
+-- the columns that a change sets or tests are columns of the row
+abbrev pub IsColumn : Row → Operand → Type 0
+IsColumn r (column i) = i < length r
+IsColumn r (value v) = Unit {0}
+
+abbrev pub ChangesWithin : Change → Row → Type 0
+ChangesWithin (insert os) r = Unit {0}
+ChangesWithin (delete g) r = All (IsColumn r) (operandsIn g)
+ChangesWithin (update ss g) r = All (λ (s : ℕ × Value). s .0 < length r) ss × All (IsColumn r) (operandsIn g)
+
+-- a row of the other table has its columns: in a pair those of an updated second table stand behind them
+abbrev pub StandsBeside : Query → Side → Row → Type 0
+StandsBeside q neither o = Unit {0}
+StandsBeside q first o = Unit {0}
+StandsBeside q second o = length o ≡ startOf q second
 
 abbrev pub PatternsWeaken : Type 0
-PatternsWeaken = (q : Query) (qs : List ℤ) (u : Update) (us : List ℤ) (r : Row) → length qs ≡ q .parameters → SetsWithin (u .change) r
-    → matters q qs u us r ≡ true → matches q u us qs ≡ true
+PatternsWeaken = (q : Query) (qs : List ℤ) (u : Update) (us : List ℤ) (r o : Row) → length qs ≡ q .parameters → ChangesWithin (u .change) r
+    → StandsBeside q (sideOf q u) o → matters q qs u us r o ≡ true → matches q u us qs ≡ true
+
+-- the rows that the question tests, where the updated table holds `rows` and the other one, if there is one, `others`
+abbrev pub rowsBeside : Option Second → Side → List Row → List Row → List Row
+rowsBeside none side rows others = rows
+rowsBeside (some s) neither rows others = pairs rows others
+rowsBeside (some s) first rows others = pairs rows others
+rowsBeside (some s) second rows others = pairs others rows
 
 abbrev pub AnswerStays : Type 0
-AnswerStays = (q : Query) (qs : List ℤ) (u : Update) (us : List ℤ) (rows : List Row) → length qs ≡ q .parameters → All (SetsWithin (u .change)) rows
-    → q .table ≡ u .table → matches q u us qs ≡ false → answer q qs (changed (u .change) us rows) ≡ answer q qs rows
+AnswerStays = (q : Query) (qs : List ℤ) (u : Update) (us : List ℤ) (rows others : List Row) → length qs ≡ q .parameters → All (ChangesWithin (u .change)) rows
+    → All (StandsBeside q (sideOf q u)) others → sameTable q u ≡ true → matches q u us qs ≡ false
+    → answer q qs (rowsBeside (q .second) (sideOf q u) (changed (u .change) us rows) others) ≡ answer q qs (rowsBeside (q .second) (sideOf q u) rows others)
 
 -- ---- all of these
 

@@ -1,5 +1,5 @@
--- The edges of document 01, "Limits", "Statement texts" and "Numbers for a call not taken": texts, each with the number that adding it gives, or 0 where it
--- is taken, by computation. Each limit stands at its last good value and one past it. Assumes nothing.
+-- The edges of document 01, "Limits", "Statement texts" and "Numbers for a call not taken", and of request A.1: texts, each with the number that adding it
+-- gives, or 0 where it is taken, by computation. Each limit stands at its last good value and one past it. Assumes nothing.
 use mathlib.Core.Path.{_≡_, refl}
 use mathlib.Core.Bool.{true}
 use mathlib.Core.List.{List, [], _∷_, _++_, map}
@@ -460,6 +460,159 @@ seventeenth-update = record {
       ∷ [];
 }
 
+-- ---- request A.1: two tables
+
+abbrev three : List Edge → Group
+three es = record { cells = 5; before = "TABLE t (a, b) ROWS 1" ∷ "TABLE u (a, c) ROWS 1" ∷ "TABLE v (d) ROWS 1" ∷ []; edges = es }
+
+-- "with every column written `stage.level`, the dot being a sign"
+abbrev pub dots : Group
+dots = three (
+    edge "SELECT t.a, u.c FROM t, u" 0
+    ∷ edge "SELECT t . a,u .c, u. a FROM t,u WHERE t.a=u . a" 0
+    ∷ edge "SELECT t.b FROM u, t WHERE NOT (t.a < ? OR u.c>-5) AND 1 = u.a" 0
+    ∷ edge "SELECT .a FROM t, u" 4
+    ∷ edge "SELECT t. FROM t, u" 4
+    ∷ edge "SELECT t..a FROM t, u" 4
+    ∷ edge "SELECT t.a.b FROM t, u" 4
+    ∷ edge "SELECT t a FROM t, u" 4
+    ∷ edge "SELECT t.1 FROM t, u" 4
+    ∷ edge "SELECT 1.a FROM t, u" 4
+    ∷ edge "SELECT t.* FROM t, u" 4
+    ∷ edge "SELECT t.FROM FROM t, u" 4
+    ∷ edge "SELECT t.a FROM t, u WHERE t.a = 3.0" 4
+    ∷ edge "SELECT t.a FROM t, u WHERE t.a.b = 1" 4
+    ∷ edge "SELECT t.a FROM t, u WHERE t. = 1" 4
+    ∷ [])
+
+-- "a bare column there .. is no sentence"
+abbrev pub bare : Group
+bare = three (
+    edge "SELECT a FROM t, u" 4
+    ∷ edge "SELECT b, c FROM t, u" 4
+    ∷ edge "SELECT t.a, c FROM t, u" 4
+    ∷ edge "SELECT c, t.a FROM t, u" 4
+    ∷ edge "SELECT t.a FROM t, u WHERE b = 1" 4
+    ∷ edge "SELECT t.a FROM t, u WHERE 1 = c" 4
+    ∷ edge "SELECT t.a FROM t, u WHERE t.a = 1 AND (u.c = 1 OR b = u.c)" 4
+    ∷ [])
+
+-- ".. or a dotted one elsewhere"
+abbrev pub elsewhere : Group
+elsewhere = three (
+    edge "SELECT t.a FROM t" 4
+    ∷ edge "SELECT a, t.b FROM t" 4
+    ∷ edge "SELECT a FROM t WHERE t.a = 1" 4
+    ∷ edge "SELECT t.a FROM t WHERE t.a = 1" 4
+    ∷ edge "DELETE FROM t WHERE t.a = 1" 4
+    ∷ edge "UPDATE t SET t.a = 1" 4
+    ∷ edge "UPDATE t SET a = 1 WHERE 1 = t.a" 4
+    ∷ edge "INSERT INTO t VALUES (t.a, 1)" 4
+    ∷ edge "TABLE w (t.a) ROWS 1" 4
+    ∷ edge "TABLE t.w (a) ROWS 1" 4
+    ∷ [])
+
+-- SELECT alone names two tables, and no more
+abbrev pub from-two : Group
+from-two = three (
+    edge "SELECT t.a FROM t, u, v" 4
+    ∷ edge "SELECT t.a FROM t, u, t" 4
+    ∷ edge "SELECT t.a FROM t," 4
+    ∷ edge "SELECT t.a FROM , u" 4
+    ∷ edge "SELECT t.a FROM t u" 4
+    ∷ edge "SELECT t.a FROM t, u u" 4
+    ∷ edge "SELECT t.a FROM t, t.a" 4
+    ∷ edge "SELECT t.a FROM (t, u)" 4
+    ∷ edge "SELECT FROM t, u" 4
+    ∷ edge "DELETE FROM t, u" 4
+    ∷ edge "DELETE FROM t, u WHERE t.a = 1" 4
+    ∷ edge "UPDATE t, u SET a = 1" 4
+    ∷ edge "INSERT INTO t, u VALUES (1, 1)" 4
+    ∷ [])
+
+-- 5: the limits of selected columns, question marks, comparisons and depth, and constants
+abbrev pub pair-limits : Group
+pair-limits = three (
+    edge "SELECT t.a, t.b, u.a, u.c, t.a, t.b, u.a, u.c FROM t, u" 0
+    ∷ edge "SELECT t.a, t.b, u.a, u.c, t.a, t.b, u.a, u.c, t.a FROM t, u" 5
+    ∷ edge "SELECT t.a FROM t, u WHERE ? = ? AND ? = ? OR ? = ? AND ? = ?" 0
+    ∷ edge "SELECT t.a FROM t, u WHERE ? = ? AND ? = ? OR ? = ? AND ? = ? OR t.a = ?" 5
+    ∷ edge "SELECT t.a FROM t, u WHERE t.a = 1 OR t.b = 1 OR u.a = 1 OR u.c = 1 OR t.a = 2 OR t.b = 2 OR u.a = 2 OR u.c = 2" 0
+    ∷ edge "SELECT t.a FROM t, u WHERE t.a = 1 OR t.b = 1 OR u.a = 1 OR u.c = 1 OR t.a = 2 OR t.b = 2 OR u.a = 2 OR u.c = 2 OR 1 = 1" 5
+    ∷ edge "SELECT t.a FROM t, u WHERE ((((((((t.a = u.a))))))))" 0
+    ∷ edge "SELECT t.a FROM t, u WHERE (((((((((t.a = u.a)))))))))" 5
+    ∷ edge "SELECT t.a FROM t, u WHERE NOT (NOT (NOT (NOT t.a = u.a))) AND u.c = 1" 0
+    ∷ edge "SELECT t.a FROM t, u WHERE NOT (NOT (NOT (NOT (NOT t.a = u.a)))) AND u.c = 1" 5
+    ∷ edge "SELECT t.a FROM t, u WHERE t.a = -2147483648 AND 2147483647 = u.c" 0
+    ∷ edge "SELECT t.a FROM t, u WHERE t.a = 1 AND 2147483648 = u.c" 5
+    ∷ [])
+
+-- 5: a name of 13 bytes, before and behind a dot and as either table; 6 for one of 12 that is unknown
+abbrev pub pair-names : Group
+pair-names = three (
+    edge "SELECT abcdefghijkl.a FROM t, u" 6
+    ∷ edge "SELECT abcdefghijklm.a FROM t, u" 5
+    ∷ edge "SELECT t.abcdefghijkl FROM t, u" 6
+    ∷ edge "SELECT t.abcdefghijklm FROM t, u" 5
+    ∷ edge "SELECT t.a FROM abcdefghijkl, u" 6
+    ∷ edge "SELECT t.a FROM abcdefghijklm, u" 5
+    ∷ edge "SELECT t.a FROM t, abcdefghijkl" 6
+    ∷ edge "SELECT t.a FROM t, abcdefghijklm" 5
+    ∷ edge "SELECT t.a FROM t, u WHERE 1 = abcdefghijkl.a" 6
+    ∷ edge "SELECT t.a FROM t, u WHERE 1 = abcdefghijklm.a" 5
+    ∷ edge "SELECT t.a FROM t, u WHERE u.abcdefghijkl = 1" 6
+    ∷ edge "SELECT t.a FROM t, u WHERE u.abcdefghijklm = 1" 5
+    ∷ [])
+
+abbrev pub long-names : Group
+long-names = record {
+  cells = 2;
+  before = "TABLE abcdefghijkl (mnopqrstuvwx) ROWS 1" ∷ "TABLE u (a) ROWS 1" ∷ [];
+  edges = edge "SELECT abcdefghijkl.mnopqrstuvwx FROM u, abcdefghijkl WHERE abcdefghijkl.mnopqrstuvwx = u.a" 0 ∷ edge "SELECT abcdefghijkl.mnopqrstuvwx FROM u, u" 6 ∷ [];
+}
+
+-- 6: a table or a column unknown; "a column of a third table gives 6"
+abbrev pub third : Group
+third = three (
+    edge "SELECT v.d FROM t, u" 6
+    ∷ edge "SELECT t.a FROM t, u WHERE v.d = 1" 6
+    ∷ edge "SELECT t.c FROM t, u" 6
+    ∷ edge "SELECT u.b FROM t, u" 6
+    ∷ edge "SELECT t.a, u.b FROM t, u" 6
+    ∷ edge "SELECT t.a FROM t, u WHERE t.a = u.b" 6
+    ∷ edge "SELECT t.a FROM t, nil" 6
+    ∷ edge "SELECT u.a FROM nil, u" 6
+    ∷ edge "SELECT nil.a FROM nil, u" 6
+    ∷ edge "SELECT nil.a FROM t, u" 6
+    ∷ edge "SELECT a.t FROM t, u" 6
+    ∷ edge "SELECT t.t FROM t, u" 6
+    ∷ edge "SELECT v.d FROM v, t" 0
+    ∷ [])
+
+-- 15: "Naming one table twice", after 4, 5 and 6
+abbrev pub same-table : Group
+same-table = three (
+    edge "SELECT t.a FROM t, t" 15
+    ∷ edge "SELECT t.a FROM t, t WHERE t.a = t.b" 15
+    ∷ edge "SELECT a FROM t, t" 4
+    ∷ edge "SELECT t.a FROM t, t WHERE a = 1" 4
+    ∷ edge "SELECT t.a FROM t, t, t" 4
+    ∷ edge "SELECT t.a FROM t, t WHERE t.a = 2147483648" 5
+    ∷ edge "SELECT t.c FROM t, t" 6
+    ∷ edge "SELECT u.a FROM t, t" 6
+    ∷ edge "SELECT nil.a FROM nil, nil" 6
+    ∷ [])
+
+-- 15 "looked for after 8", and so before 9: with fifteen questions in the store, and with sixteen
+abbrev questions : ℕ → List String
+questions n = "TABLE t (a) ROWS 1" ∷ "TABLE u (a) ROWS 1" ∷ replicate n "SELECT a FROM t"
+
+abbrev pub sixteenth-pair : Group
+sixteenth-pair = record { cells = 2; before = questions 15; edges = edge "SELECT t.a FROM t, u" 0 ∷ edge "SELECT t.a FROM t, t" 15 ∷ [] }
+
+abbrev pub seventeenth-pair : Group
+seventeenth-pair = record { cells = 2; before = questions 16; edges = edge "SELECT t.a FROM t, u" 9 ∷ edge "SELECT t.a FROM t, t" 15 ∷ [] }
+
 -- ---- the table
 
 abbrev pub table : List Group
@@ -496,6 +649,17 @@ table =
     ∷ seventeenth-question
     ∷ sixteenth-update
     ∷ seventeenth-update
+    ∷ dots
+    ∷ bare
+    ∷ elsewhere
+    ∷ from-two
+    ∷ pair-limits
+    ∷ pair-names
+    ∷ long-names
+    ∷ third
+    ∷ same-table
+    ∷ sixteenth-pair
+    ∷ seventeenth-pair
     ∷ []
 
 columns-hold : Holds columns
@@ -626,6 +790,50 @@ seventeenth-update-hold : Holds seventeenth-update
 unfolding computing
 seventeenth-update-hold = record { taken = refl; numbers-are = refl }
 
+dots-hold : Holds dots
+unfolding computing
+dots-hold = record { taken = refl; numbers-are = refl }
+
+bare-hold : Holds bare
+unfolding computing
+bare-hold = record { taken = refl; numbers-are = refl }
+
+elsewhere-hold : Holds elsewhere
+unfolding computing
+elsewhere-hold = record { taken = refl; numbers-are = refl }
+
+from-two-hold : Holds from-two
+unfolding computing
+from-two-hold = record { taken = refl; numbers-are = refl }
+
+pair-limits-hold : Holds pair-limits
+unfolding computing
+pair-limits-hold = record { taken = refl; numbers-are = refl }
+
+pair-names-hold : Holds pair-names
+unfolding computing
+pair-names-hold = record { taken = refl; numbers-are = refl }
+
+long-names-hold : Holds long-names
+unfolding computing
+long-names-hold = record { taken = refl; numbers-are = refl }
+
+third-hold : Holds third
+unfolding computing
+third-hold = record { taken = refl; numbers-are = refl }
+
+same-table-hold : Holds same-table
+unfolding computing
+same-table-hold = record { taken = refl; numbers-are = refl }
+
+sixteenth-pair-hold : Holds sixteenth-pair
+unfolding computing
+sixteenth-pair-hold = record { taken = refl; numbers-are = refl }
+
+seventeenth-pair-hold : Holds seventeenth-pair
+unfolding computing
+seventeenth-pair-hold = record { taken = refl; numbers-are = refl }
+
 pub all-hold : All Holds table
 all-hold =
     cons columns-hold
@@ -660,4 +868,15 @@ all-hold =
     (cons seventeenth-question-hold
     (cons sixteenth-update-hold
     (cons seventeenth-update-hold
-    nil)))))))))))))))))))))))))))))))
+    (cons dots-hold
+    (cons bare-hold
+    (cons elsewhere-hold
+    (cons from-two-hold
+    (cons pair-limits-hold
+    (cons pair-names-hold
+    (cons long-names-hold
+    (cons third-hold
+    (cons same-table-hold
+    (cons sixteenth-pair-hold
+    (cons seventeenth-pair-hold
+    nil))))))))))))))))))))))))))))))))))))))))))

@@ -13,16 +13,16 @@ use Rattle.meaning.specs.Condition.{countOf}
 use Rattle.meaning.specs.Tokens.{isNameByte, isWordByte, decimal, isName, word, negative, tokenFrom, firstToken, scan, tokens}
 use Rattle.meaning.specs.Grammar.{aCondition, aSentence, read}
 use Rattle.meaning.specs.Limits.{pastLimit}
-use Rattle.meaning.specs.Names.{unknown, taken, miscounted}
+use Rattle.meaning.specs.Names.{unknown, taken, miscounted, twice}
 use Rattle.meaning.specs.Statement.{Change, insert, delete, update, statementOf}
 use Rattle.meaning.specs.Meaning.{Row, answer, changed, rowsChanged}
 use Rattle.meaning.specs.Record.{body, encode}
-use Rattle.meaning.specs.Pattern.{Pattern, number, mark, anything, jointClauses, jointCount, most-clauses, class, contradictory, entry, patterns, matches}
-use Rattle.meaning.specs.Plain.{Lengths, Plain, tableAt, queryAt, updateAt, recordOf, openingRefused, opened, Call, add, ask, change, otherLengths, noPlace, full, refusal, Out, refused, added, answered, rows, flushed, addedText, changedBy, rowsBy, step, after, outs}
+use Rattle.meaning.specs.Pattern.{Pattern, number, mark, anything, jointClauses, jointCount, most-clauses, class, contradictory, entry, sideOf, patterns, matches}
+use Rattle.meaning.specs.Plain.{Lengths, Plain, tableAt, queryAt, updateAt, recordOf, tooMany, openingRefused, opened, Call, add, ask, change, otherLengths, noPlace, full, refusal, Out, refused, added, answered, rows, flushed, addedText, changedBy, rowsBy, step, after, outs}
 
 -- what the computations open
 unfoldable pub computing : Unit {0}
-unfolding isNameByte isWordByte decimal isName word negative tokenFrom firstToken scan tokens aCondition aSentence read pastLimit unknown taken miscounted statementOf answer changed rowsChanged jointClauses class contradictory entry patterns matches body encode recordOf openingRefused otherLengths noPlace full refusal addedText changedBy rowsBy
+unfolding isNameByte isWordByte decimal isName word negative tokenFrom firstToken scan tokens aCondition aSentence read pastLimit unknown taken miscounted twice statementOf answer changed rowsChanged sideOf jointClauses class contradictory entry patterns matches body encode recordOf tooMany openingRefused otherLengths noPlace full refusal addedText changedBy rowsBy
 computing = tt
 
 -- six cells, and no kept memory
@@ -87,7 +87,7 @@ abbrev four-sixteen : String → String → List Pattern → Example
 four-sixteen q u ps = record { texts = q ∷ u ∷ []; calls = []; outcome = counts-are 4 16 ps }
 
 -- the values of a call
-abbrev numbers : List ℕ → List ℤ
+abbrev pub numbers : List ℕ → List ℤ
 numbers ns = map pos ns
 
 -- "counts 4 and 16": 2 × 2 clauses of the update, 2 × 2 × 2 × 2 of the question

@@ -1,6 +1,6 @@
--- The grammar of sentences: document 01, "Statement texts". A sentence is a tree; `spell` gives its tokens; `read` finds the sentence whose tokens it
--- is given (`proofs/Decides.antt`). There is no limit here. Assumes nothing: these are definitions.
-use mathlib.Core.Bool.{true, false}
+-- The grammar of sentences: document 01, "Statement texts", and request A.1. A sentence is a tree; `spell` gives its tokens; `read` finds the sentence whose
+-- tokens it is given (`proofs/Decides.antt`). There is no limit here. Assumes nothing: these are definitions.
+use mathlib.Core.Bool.{Bool, true, false}
 use mathlib.Core.Option.{Option, none, some}
 use mathlib.Core.List.{List, [], _∷_}
 use Prim.Native.Nat.{ℕ, zero, suc, _*_}
@@ -9,7 +9,7 @@ use lib.ListN.{length}
 use Rattle.meaning.specs.Operator.{Operator}
 use Rattle.meaning.specs.Condition.{Level, atom, conjunction, disjunction, Condition, compare, negate, group, alone, both, single, either, Where, always, under}
 use Rattle.meaning.specs.Tokens as T
-use Rattle.meaning.specs.Tokens.{Name, Token, keyword, name, operator, comma, lparen, rparen, other, sameToken, TABLE, ROWS, SELECT, FROM, WHERE, INSERT, INTO, VALUES, UPDATE, SET, DELETE, AND, OR, NOT, tokens}
+use Rattle.meaning.specs.Tokens.{Name, Token, keyword, name, operator, comma, lparen, rparen, dot, other, sameToken, TABLE, ROWS, SELECT, FROM, WHERE, INSERT, INTO, VALUES, UPDATE, SET, DELETE, AND, OR, NOT, tokens}
 
 -- ---- trees
 
@@ -18,10 +18,14 @@ pub data Given : Type 0 where
   constant : ℤ → Given
   mark : Given
 
--- "two operands, each a column, constant or `?`"
-pub data Term : Type 0 where
-  column : Name → Term
-  given : Given → Term
+-- A.1: a qualified column, `stage.level`: its table and its name
+abbrev pub Dotted : Type 0
+Dotted = Name × Name
+
+-- "two operands, each a column, constant or `?`"; a column is a Name, or Dotted where there are two tables
+pub data Term (C : Type 0) : Type 0 where
+  column : C → Term C
+  given : Given → Term C
 
 -- "No list is empty."
 pub data Listed (A : Type 0) : Type 0 where
@@ -32,13 +36,14 @@ abbrev pub items : {A : Type 0} → Listed A → List A
 items (last x) = x ∷ []
 items (next x xs) = x ∷ items xs
 
--- the five forms
+-- the five forms; SELECT is from one table, or from two (A.1: "with every column written `stage.level`")
 pub data Sentence : Type 0 where
   table : Name → Listed Name → ℤ → Sentence
-  select : Listed Name → Name → Where Term → Sentence
+  select : Listed Name → Name → Where (Term Name) → Sentence
+  pair : Listed Dotted → Name → Name → Where (Term Dotted) → Sentence
   insert : Name → Listed Given → Sentence
-  update : Name → Listed (Name × Given) → Where Term → Sentence
-  delete : Name → Where Term → Sentence
+  update : Name → Listed (Name × Given) → Where (Term Name) → Sentence
+  delete : Name → Where (Term Name) → Sentence
 
 -- ---- spelling: the tokens of each, with more after them
 
@@ -46,12 +51,11 @@ abbrev pub givenToken : Given → Token
 givenToken (constant z) = T.constant z
 givenToken mark = T.mark
 
-abbrev pub termToken : Term → Token
-termToken (column n) = name n
-termToken (given v) = givenToken v
-
 abbrev pub spellName : Name → List Token → List Token
 spellName n more = name n ∷ more
+
+abbrev pub spellDotted : Dotted → List Token → List Token
+spellDotted c more = name (c .0) ∷ dot ∷ name (c .1) ∷ more
 
 abbrev pub spellGiven : Given → List Token → List Token
 spellGiven v more = givenToken v ∷ more
@@ -63,25 +67,32 @@ abbrev pub spellList : {A : Type 0} → (A → List Token → List Token) → Li
 spellList item (last x) more = item x more
 spellList item (next x xs) more = item x (comma ∷ spellList item xs more)
 
-abbrev pub spellCondition : {l : Level} → Condition Term l → List Token → List Token
-spellCondition (compare c) more = termToken (c .left) ∷ operator (c .op) ∷ termToken (c .right) ∷ more
-spellCondition (negate c) more = keyword NOT ∷ spellCondition c more
-spellCondition (group c) more = lparen ∷ spellCondition c (rparen ∷ more)
-spellCondition (alone c) more = spellCondition c more
-spellCondition (both c d) more = spellCondition c (keyword AND ∷ spellCondition d more)
-spellCondition (single c) more = spellCondition c more
-spellCondition (either c d) more = spellCondition c (keyword OR ∷ spellCondition d more)
+-- operands and conditions, with the spelling of a column
+module _ {C : Type 0} (spellColumn : C → List Token → List Token) where
+  abbrev pub spellTerm : Term C → List Token → List Token
+  spellTerm (column c) more = spellColumn c more
+  spellTerm (given v) more = givenToken v ∷ more
 
-abbrev pub spellWhere : Where Term → List Token
-spellWhere always = []
-spellWhere (under c) = keyword WHERE ∷ spellCondition c []
+  abbrev pub spellCondition : {l : Level} → Condition (Term C) l → List Token → List Token
+  spellCondition (compare c) more = spellTerm (c .left) (operator (c .op) ∷ spellTerm (c .right) more)
+  spellCondition (negate c) more = keyword NOT ∷ spellCondition c more
+  spellCondition (group c) more = lparen ∷ spellCondition c (rparen ∷ more)
+  spellCondition (alone c) more = spellCondition c more
+  spellCondition (both c d) more = spellCondition c (keyword AND ∷ spellCondition d more)
+  spellCondition (single c) more = spellCondition c more
+  spellCondition (either c d) more = spellCondition c (keyword OR ∷ spellCondition d more)
+
+  abbrev pub spellWhere : Where (Term C) → List Token
+  spellWhere always = []
+  spellWhere (under c) = keyword WHERE ∷ spellCondition c []
 
 unfoldable pub spell : Sentence → List Token
 spell (table t cs n) = keyword TABLE ∷ name t ∷ lparen ∷ spellList spellName cs (rparen ∷ keyword ROWS ∷ T.constant n ∷ [])
-spell (select cs t w) = keyword SELECT ∷ spellList spellName cs (keyword FROM ∷ name t ∷ spellWhere w)
+spell (select cs t w) = keyword SELECT ∷ spellList spellName cs (keyword FROM ∷ name t ∷ spellWhere spellName w)
+spell (pair cs t u w) = keyword SELECT ∷ spellList spellDotted cs (keyword FROM ∷ name t ∷ comma ∷ name u ∷ spellWhere spellDotted w)
 spell (insert t vs) = keyword INSERT ∷ keyword INTO ∷ name t ∷ keyword VALUES ∷ lparen ∷ spellList spellGiven vs (rparen ∷ [])
-spell (update t ss w) = keyword UPDATE ∷ name t ∷ keyword SET ∷ spellList spellSetting ss (spellWhere w)
-spell (delete t w) = keyword DELETE ∷ keyword FROM ∷ name t ∷ spellWhere w
+spell (update t ss w) = keyword UPDATE ∷ name t ∷ keyword SET ∷ spellList spellSetting ss (spellWhere spellName w)
+spell (delete t w) = keyword DELETE ∷ keyword FROM ∷ name t ∷ spellWhere spellName w
 
 -- ---- readers: what is read from the front of some tokens and the tokens after it, or nothing
 
@@ -136,6 +147,7 @@ nameOf T.mark = none
 nameOf comma = none
 nameOf lparen = none
 nameOf rparen = none
+nameOf dot = none
 nameOf other = none
 
 abbrev pub constantOf : Token → Option ℤ
@@ -147,6 +159,7 @@ constantOf T.mark = none
 constantOf comma = none
 constantOf lparen = none
 constantOf rparen = none
+constantOf dot = none
 constantOf other = none
 
 abbrev pub operatorOf : Token → Option Operator
@@ -158,6 +171,7 @@ operatorOf T.mark = none
 operatorOf comma = none
 operatorOf lparen = none
 operatorOf rparen = none
+operatorOf dot = none
 operatorOf other = none
 
 abbrev pub aName : Reader Name
@@ -167,9 +181,12 @@ aName = aToken nameOf
 abbrev pub aGiven : Reader Given
 aGiven = passing T.mark (done mark) (aToken constantOf >>= λ z. done (constant z))
 
--- a column, constant or question mark
-abbrev pub aTerm : Reader Term
-aTerm = either-of (aName >>= λ n. done (column n)) (aGiven >>= λ v. done (given v))
+abbrev pub aDotted : Reader Dotted
+aDotted = do
+  t ← aName
+  expect dot
+  c ← aName
+  done (t, c)
 
 abbrev pub aSetting : Reader (Name × Given)
 aSetting = do
@@ -185,29 +202,35 @@ aList item (suc n) = do
   x ← item
   passing comma (aList item n >>= λ xs. done (next x xs)) (done (last x))
 
-abbrev pub aComparison : Reader (Condition Term atom)
-aComparison = do
-  a ← aTerm
-  o ← aToken operatorOf
-  b ← aTerm
-  done (compare (record { left = a; op = o; right = b }))
+-- operands and conditions, with the reader of a column
+module _ {C : Type 0} (aColumn : Reader C) where
+  -- a column, constant or question mark
+  abbrev pub aTerm : Reader (Term C)
+  aTerm = either-of (aColumn >>= λ n. done (column n)) (aGiven >>= λ v. done (given v))
 
--- a condition of a level, at most n calls deep
-unfoldable pub aCondition : ℕ → (l : Level) → Reader (Condition Term l)
-aCondition zero l = fails
-aCondition (suc n) atom =
-    passing (keyword NOT) (aCondition n atom >>= λ c. done (negate c))
-    (passing lparen (aCondition n disjunction >>= λ c. expect rparen >> done (group c))
-    aComparison)
-aCondition (suc n) conjunction = do
-  c ← aCondition n atom
-  passing (keyword AND) (aCondition n conjunction >>= λ d. done (both c d)) (done (alone c))
-aCondition (suc n) disjunction = do
-  c ← aCondition n conjunction
-  passing (keyword OR) (aCondition n disjunction >>= λ d. done (either c d)) (done (single c))
+  abbrev pub aComparison : Reader (Condition (Term C) atom)
+  aComparison = do
+    a ← aTerm
+    o ← aToken operatorOf
+    b ← aTerm
+    done (compare (record { left = a; op = o; right = b }))
 
-abbrev pub aWhere : ℕ → Reader (Where Term)
-aWhere n = passing (keyword WHERE) (aCondition n disjunction >>= λ c. done (under c)) (done always)
+  -- a condition of a level, at most n calls deep
+  unfoldable pub aCondition : ℕ → (l : Level) → Reader (Condition (Term C) l)
+  aCondition zero l = fails
+  aCondition (suc n) atom =
+      passing (keyword NOT) (aCondition n atom >>= λ c. done (negate c))
+      (passing lparen (aCondition n disjunction >>= λ c. expect rparen >> done (group c))
+      aComparison)
+  aCondition (suc n) conjunction = do
+    c ← aCondition n atom
+    passing (keyword AND) (aCondition n conjunction >>= λ d. done (both c d)) (done (alone c))
+  aCondition (suc n) disjunction = do
+    c ← aCondition n conjunction
+    passing (keyword OR) (aCondition n disjunction >>= λ d. done (either c d)) (done (single c))
+
+  abbrev pub aWhere : ℕ → Reader (Where (Term C))
+  aWhere n = passing (keyword WHERE) (aCondition n disjunction >>= λ c. done (under c)) (done always)
 
 -- ---- the five forms, after their first word
 
@@ -221,13 +244,38 @@ aTable n = do
   z ← aToken constantOf
   done (table t cs z)
 
-abbrev pub aSelect : ℕ → Reader Sentence
-aSelect n = do
+-- SELECT from one table
+abbrev pub aSingle : ℕ → Reader Sentence
+aSingle n = do
   cs ← aList aName n
   expect (keyword FROM)
   t ← aName
-  w ← aWhere n
+  w ← aWhere aName n
   done (select cs t w)
+
+-- SELECT from two
+abbrev pub aPair : ℕ → Reader Sentence
+aPair n = do
+  cs ← aList aDotted n
+  expect (keyword FROM)
+  t ← aName
+  expect comma
+  u ← aName
+  w ← aWhere aDotted n
+  done (pair cs t u w)
+
+-- what stands behind FROM tells them apart: behind the first FROM a token and a comma
+abbrev pub commaSecond : List Token → Bool
+commaSecond [] = false
+commaSecond (t ∷ []) = false
+commaSecond (t ∷ u ∷ ts) = sameToken u comma
+
+abbrev pub isPaired : List Token → Bool
+isPaired [] = false
+isPaired (t ∷ ts) = elim (sameToken t (keyword FROM)) [ true ↦ commaSecond ts | false ↦ isPaired ts ]
+
+abbrev pub aSelect : ℕ → Reader Sentence
+aSelect n ts = elim (isPaired ts) [ true ↦ aPair n ts | false ↦ aSingle n ts ]
 
 abbrev pub anInsert : ℕ → Reader Sentence
 anInsert n = do
@@ -244,14 +292,14 @@ anUpdate n = do
   t ← aName
   expect (keyword SET)
   ss ← aList aSetting n
-  w ← aWhere n
+  w ← aWhere aName n
   done (update t ss w)
 
 abbrev pub aDelete : ℕ → Reader Sentence
 aDelete n = do
   expect (keyword FROM)
   t ← aName
-  w ← aWhere n
+  w ← aWhere aName n
   done (delete t w)
 
 unfoldable pub aSentence : ℕ → Reader Sentence

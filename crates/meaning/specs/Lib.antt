@@ -16,3 +16,4 @@ pub mod Plain
 pub mod Demand
 pub mod Examples
 pub mod Edges
+pub mod Paired

@@ -7,9 +7,9 @@ use lib.IntN.{ℤ, pos, negℤ}
 use lib.ListN.{length}
 use lib.Signed.{leZ}
 use Rattle.lists.specs.Lists.{any}
-use Rattle.meaning.specs.Condition.{Where, always, comparisonsIn, operandsIn, depthIn}
+use Rattle.meaning.specs.Condition.{Where, always, replacedIn, comparisonsIn, operandsIn, depthIn}
 use Rattle.meaning.specs.Tokens.{Name}
-use Rattle.meaning.specs.Grammar.{Given, constant, mark, Term, column, given, items, Sentence, table, select, insert, update, delete}
+use Rattle.meaning.specs.Grammar.{Given, constant, mark, Term, column, given, items, Dotted, Sentence, table, select, pair, insert, update, delete}
 
 -- ---- the table of limits
 
@@ -44,6 +44,10 @@ most-items = 8
 abbrev pub most-rows : ℕ
 most-rows = 512
 
+-- A.1: "Records may hold up to 65,535 rows"
+abbrev pub most-listed : ℕ
+most-listed = 65535
+
 abbrev pub most-marks : ℕ
 most-marks = 8
 
@@ -70,6 +74,7 @@ tooLong text = ltb most-text (length text)
 abbrev pub tableNamed : Sentence → Name
 tableNamed (table t cs z) = t
 tableNamed (select cs t w) = t
+tableNamed (pair cs t u w) = t
 tableNamed (insert t vs) = t
 tableNamed (update t ss w) = t
 tableNamed (delete t w) = t
@@ -78,6 +83,7 @@ tableNamed (delete t w) = t
 abbrev pub listColumns : Sentence → List Name
 listColumns (table t cs z) = items cs
 listColumns (select cs t w) = items cs
+listColumns (pair cs t u w) = map (λ (c : Dotted). c .1) (items cs)
 listColumns (insert t vs) = []
 listColumns (update t ss w) = map (λ (s : Name × Given). s .0) (items ss)
 listColumns (delete t w) = []
@@ -85,6 +91,7 @@ listColumns (delete t w) = []
 abbrev pub listGivens : Sentence → List Given
 listGivens (table t cs z) = []
 listGivens (select cs t w) = []
+listGivens (pair cs t u w) = []
 listGivens (insert t vs) = items vs
 listGivens (update t ss w) = map (λ (s : Name × Given). s .1) (items ss)
 listGivens (delete t w) = []
@@ -92,33 +99,62 @@ listGivens (delete t w) = []
 abbrev pub rowsOf : Sentence → List ℤ
 rowsOf (table t cs z) = z ∷ []
 rowsOf (select cs t w) = []
+rowsOf (pair cs t u w) = []
 rowsOf (insert t vs) = []
 rowsOf (update t ss w) = []
 rowsOf (delete t w) = []
 
-abbrev pub whereOf : Sentence → Where Term
+-- an operand of a question over two tables, without the table of a column
+abbrev pub bareTerm : Term Dotted → Term Name
+bareTerm (column c) = column (c .1)
+bareTerm (given v) = given v
+
+abbrev pub whereOf : Sentence → Where (Term Name)
 whereOf (table t cs z) = always
 whereOf (select cs t w) = w
+whereOf (pair cs t u w) = replacedIn bareTerm w
 whereOf (insert t vs) = always
 whereOf (update t ss w) = w
 whereOf (delete t w) = w
 
-abbrev pub termGivens : List Term → List Given
+abbrev pub termGivens : {C : Type 0} → List (Term C) → List Given
 termGivens [] = []
 termGivens (column n ∷ ts) = termGivens ts
 termGivens (given v ∷ ts) = v ∷ termGivens ts
 
-abbrev pub termColumns : List Term → List Name
+abbrev pub termColumns : {C : Type 0} → List (Term C) → List C
 termColumns [] = []
 termColumns (column n ∷ ts) = n ∷ termColumns ts
 termColumns (given v ∷ ts) = termColumns ts
 
--- all columns; all constants (but ROWS) and question marks
+-- all columns (of a dotted one, its name); all constants (but ROWS) and question marks
 abbrev pub columnsNamed : Sentence → List Name
 columnsNamed s = listColumns s ++ termColumns (operandsIn (whereOf s))
 
 abbrev pub givens : Sentence → List Given
 givens s = listGivens s ++ termGivens (operandsIn (whereOf s))
+
+-- the dotted columns of a question over two tables
+abbrev pub dottedNamed : Sentence → List Dotted
+dottedNamed (table t cs z) = []
+dottedNamed (select cs t w) = []
+dottedNamed (pair cs t u w) = items cs ++ termColumns (operandsIn w)
+dottedNamed (insert t vs) = []
+dottedNamed (update t ss w) = []
+dottedNamed (delete t w) = []
+
+-- its second table, and the table of each dotted column
+abbrev pub furtherTables : Sentence → List Name
+furtherTables (table t cs z) = []
+furtherTables (select cs t w) = []
+furtherTables (pair cs t u w) = u ∷ map (λ (c : Dotted). c .0) (dottedNamed (pair cs t u w))
+furtherTables (insert t vs) = []
+furtherTables (update t ss w) = []
+furtherTables (delete t w) = []
+
+-- all names: tables, then columns
+abbrev pub allNames : Sentence → List Name
+allNames s = tableNamed s ∷ furtherTables s ++ columnsNamed s
 
 abbrev pub markIn : Given → ℕ
 markIn (constant z) = 0
@@ -148,7 +184,7 @@ abbrev pub deep : Sentence → Bool
 deep s = ltb most-depth (depthIn (whereOf s))
 
 abbrev pub longName : Sentence → Bool
-longName s = any (λ (n : Name). ltb most-name (length n)) (tableNamed s ∷ columnsNamed s)
+longName s = any (λ (n : Name). ltb most-name (length n)) (allNames s)
 
 -- "The constant -2147483648 is taken and 2147483648 is not."
 abbrev pub isWithin32 : ℤ → Bool

@@ -1,15 +1,15 @@
--- The names of a sentence beside the tables that there are: document 01, "Numbers for a call not taken", refusals 6, 7 and 8.
+-- The names of a sentence beside the tables that there are: document 01, "Numbers for a call not taken", refusals 6, 7 and 8; request A.1, refusal 15.
 -- Assumes nothing: these are definitions.
-use mathlib.Core.Bool.{Bool, true, false, not, _&&_, _||_, cond}
+use mathlib.Core.Bool.{Bool, false, not, _&&_, _||_, cond}
 use mathlib.Core.List.{List, [], _∷_, map}
-use Prim.Native.Nat.{ℕ, suc}
+use Prim.Native.Nat.{ℕ, suc, _+_}
 use lib.Dec.{eqb}
 use lib.ListN.{length, getD}
 use Rattle.lists.specs.Lists.{any, repeats}
 use Rattle.lists.specs.Tests.{eqList}
 use Rattle.meaning.specs.Tokens.{Name}
-use Rattle.meaning.specs.Grammar.{Given, items, Sentence, table, select, insert, update, delete}
-use Rattle.meaning.specs.Limits.{tableNamed, columnsNamed}
+use Rattle.meaning.specs.Grammar.{Given, items, Dotted, Sentence, table, select, pair, insert, update, delete}
+use Rattle.meaning.specs.Limits.{columnsNamed, dottedNamed}
 
 -- what a TABLE text says; `capacity` is its ROWS
 pub record Schema : Type 0 where
@@ -42,20 +42,35 @@ columnsOf ts n = getD ts (position (tableNames ts) n) noSchema .columns
 abbrev pub missing : List Schema → Name → List Name → Bool
 missing ts t cs = not (has (tableNames ts) t) || any (λ (c : Name). not (has (columnsOf ts t) c)) cs
 
-abbrev pub isTable : Sentence → Bool
-isTable (table t cs z) = true
-isTable (select cs t w) = false
-isTable (insert t vs) = false
-isTable (update t ss w) = false
-isTable (delete t w) = false
+-- A.1: the dotted column c is one of the table t, which has the columns cs
+abbrev pub isOf : Name → List Name → Dotted → Bool
+isOf t cs c = sameName (c .0) t && has cs (c .1)
+
+-- its place in a pair of rows, counted through the columns cs of t and then the columns ds of u; past both if it is of neither
+abbrev pub pairPlace : Name → List Name → Name → List Name → Dotted → ℕ
+pairPlace t cs u ds c =
+    cond (isOf t cs c) (position cs (c .1)) (cond (isOf u ds c) (length cs + position ds (c .1)) (length cs + length ds))
+
+-- of two tables: "a column of a third table gives 6"
+abbrev pub pairMissing : List Schema → Name → Name → List Dotted → Bool
+pairMissing ts t u cs =
+    not (has (tableNames ts) t)
+    || (not (has (tableNames ts) u)
+    || any (λ (c : Dotted). not (isOf t (columnsOf ts t) c || isOf u (columnsOf ts u) c)) cs)
 
 unfoldable pub unknown : List Schema → Sentence → Bool
-unknown ts s = not (isTable s) && missing ts (tableNamed s) (columnsNamed s)
+unknown ts (table t cs z) = false
+unknown ts (select cs t w) = missing ts t (columnsNamed (select cs t w))
+unknown ts (pair cs t u w) = pairMissing ts t u (dottedNamed (pair cs t u w))
+unknown ts (insert t vs) = missing ts t (columnsNamed (insert t vs))
+unknown ts (update t ss w) = missing ts t (columnsNamed (update t ss w))
+unknown ts (delete t w) = missing ts t (columnsNamed (delete t w))
 
 -- refusal 7: "table name taken, or column twice in TABLE or SET"; a column may be selected twice
 unfoldable pub taken : List Schema → Sentence → Bool
 taken ts (table t cs z) = has (tableNames ts) t || repeats sameName (items cs)
 taken ts (select cs t w) = false
+taken ts (pair cs t u w) = false
 taken ts (insert t vs) = false
 taken ts (update t ss w) = repeats sameName (map (λ (s : Name × Given). s .0) (items ss))
 taken ts (delete t w) = false
@@ -64,6 +79,16 @@ taken ts (delete t w) = false
 unfoldable pub miscounted : List Schema → Sentence → Bool
 miscounted ts (table t cs z) = false
 miscounted ts (select cs t w) = false
+miscounted ts (pair cs t u w) = false
 miscounted ts (insert t vs) = not (eqb (length (items vs)) (length (columnsOf ts t)))
 miscounted ts (update t ss w) = false
 miscounted ts (delete t w) = false
+
+-- refusal 15: "Naming one table twice gives 15, looked for after 8"
+unfoldable pub twice : Sentence → Bool
+twice (table t cs z) = false
+twice (select cs t w) = false
+twice (pair cs t u w) = sameName t u
+twice (insert t vs) = false
+twice (update t ss w) = false
+twice (delete t w) = false

@@ -1,18 +1,37 @@
--- Which kept answers an update can change: document 01, "Patterns", rules 1 to 7. F is the query's condition, G the update's.
+-- Which kept answers an update can change: document 01, "Patterns", rules 1 to 7. F is the query's condition, G the update's. For a question over two tables
+-- A.1: "An update of one table is judged as before, with the other table's columns as free operands."
 -- Assumes nothing: these are definitions.
 use mathlib.Core.Bool.{Bool, true, false, not, _&&_, _||_, cond}
+use mathlib.Core.Option.{Option, none, some}
 use mathlib.Core.List.{List, [], _∷_, _++_, map}
-use Prim.Native.Nat.{ℕ, _*_, min}
-use lib.IntN.{ℤ, pos}
-use lib.ListN.{getD, replicate}
+use Prim.Native.Nat.{ℕ, suc, _+_, _*_, min}
+use lib.IntN.{ℤ}
+use lib.ListN.{replicate}
 use lib.Dec.{eqb, ltb}
 use Rattle.lists.specs.Lists.{any, keep, pairs, distinct, from}
 use Rattle.lists.specs.Tests.{isYes, decN, decZ, eqZ, eqList}
 use Rattle.meaning.specs.Operator.{Operator, eq, ne, lt, le, gt, ge, truth}
 use Rattle.meaning.specs.Condition.{Comparison, sides, Where, operandsIn, clausesOf, countOf, replacedIn}
 use Rattle.meaning.specs.Statement as S
-use Rattle.meaning.specs.Statement.{Value, parameter, Operand, value, Query, Change, insert, delete, update, Update}
+use Rattle.meaning.specs.Statement.{Value, parameter, Operand, value, Second, Query, Change, insert, delete, update, Update}
 use Rattle.meaning.specs.Meaning.{Row, valueAt, meetsWhere, takes, selected, newRow, assigned}
+
+-- ---- A.1: which of the question's tables the update changes; a question over one table has that as its first
+
+pub data Side : Type 0 where
+  neither first second : Side
+
+abbrev pub secondSide : Option Second → ℕ → Side
+secondSide none t = neither
+secondSide (some s) t = cond (eqb (s .table) t) second neither
+
+unfoldable pub sideOf : Query → Update → Side
+sideOf q u = cond (eqb (q .table) (u .table)) first (secondSide (q .second) (u .table))
+
+abbrev pub isSide : Side → Bool
+isSide neither = false
+isSide first = true
+isSide second = true
 
 -- ---- "Source document 000 gives the condition: an update matters when a row enters, leaves or changes what is selected."
 
@@ -23,19 +42,35 @@ differs q qs r s =
     || ((not (takes q qs r) && takes q qs s)
     || (takes q qs r && (takes q qs s && not (eqList eqZ (selected q r) (selected q s)))))
 
--- the update, with its values us, matters for the query with its values qs through the row r of the table (for INSERT, through the new row)
-abbrev pub mattersIn : Query → List ℤ → Change → List ℤ → Row → Bool
-mattersIn q qs (insert os) us r = takes q qs (newRow os us)
-mattersIn q qs (delete g) us r = meetsWhere g us r && takes q qs r
-mattersIn q qs (update ss g) us r = meetsWhere g us r && differs q qs r (assigned ss us r)
+-- a row r of the updated table and a row o of the other one as the pair that the question tests; over one table there is no other, and o has no columns
+abbrev pub beside : Side → Row → Row → Row
+beside neither r o = r ++ o
+beside first r o = r ++ o
+beside second r o = o ++ r
 
-unfoldable pub matters : Query → List ℤ → Update → List ℤ → Row → Bool
-matters q qs u us r = eqb (q .table) (u .table) && mattersIn q qs (u .change) us r
+-- the update, with its values us, matters for the query with its values qs through the row r of its table (for INSERT, through the new row) and o beside it
+abbrev pub mattersIn : Query → List ℤ → Side → Change → List ℤ → Row → Row → Bool
+mattersIn q qs s (insert os) us r o = takes q qs (beside s (newRow os us) o)
+mattersIn q qs s (delete g) us r o = meetsWhere g us r && takes q qs (beside s r o)
+mattersIn q qs s (update ss g) us r o = meetsWhere g us r && differs q qs (beside s r o) (beside s (assigned ss us r) o)
+
+unfoldable pub matters : Query → List ℤ → Update → List ℤ → Row → Row → Bool
+matters q qs u us r o = isSide (sideOf q u) && mattersIn q qs (sideOf q u) (u .change) us r o
 
 -- ---- rule 1: "Different tables: no pattern."
 
 abbrev pub sameTable : Query → Update → Bool
-sameTable q u = eqb (q .table) (u .table)
+sameTable q u = isSide (sideOf q u)
+
+-- how many columns stand in a pair before those of the updated table: its column i is the question's column k + i
+abbrev pub secondStart : Option Second → ℕ
+secondStart none = 0
+secondStart (some s) = s .start
+
+abbrev pub startOf : Query → Side → ℕ
+startOf q neither = 0
+startOf q first = 0
+startOf q second = secondStart (q .second)
 
 -- ---- rule 2: "UPDATE that sets no column the question selects or tests: no pattern."
 
@@ -48,10 +83,15 @@ operandColumns (value v ∷ os) = operandColumns os
 abbrev pub columnsUsed : Query → List ℕ
 columnsUsed q = q .selected ++ operandColumns (operandsIn (q .condition))
 
-abbrev pub touches : Query → Change → Bool
-touches q (insert os) = true
-touches q (delete g) = true
-touches q (update ss g) = any (λ (s : ℕ × Value). any (eqb (s .0)) (columnsUsed q)) ss
+-- settings of the updated table's columns as settings of the question's
+abbrev pub moved : ℕ → List (ℕ × Value) → List (ℕ × Value)
+moved k [] = []
+moved k (s ∷ ss) = (k + s .0, s .1) ∷ moved k ss
+
+abbrev pub touches : ℕ → Query → Change → Bool
+touches k q (insert os) = true
+touches k q (delete g) = true
+touches k q (update ss g) = any (λ (s : ℕ × Value). any (eqb (s .0)) (columnsUsed q)) (moved k ss)
 
 -- ---- rule 3: the joint formula. "INSERT: F with columns replaced by the inserted operands. DELETE: G and F. UPDATE: (G and F), then (G and F'),
 -- where F' is F with set columns replaced."
@@ -67,9 +107,10 @@ abbrev pub ofValue : Value → Joint
 ofValue (S.constant z) = constant z
 ofValue (parameter k) = given k
 
-abbrev pub ofUpdate : Operand → Joint
-ofUpdate (S.column i) = column i
-ofUpdate (value v) = ofValue v
+-- an operand of the update, whose column i is column k + i
+abbrev pub ofUpdate : ℕ → Operand → Joint
+ofUpdate k (S.column i) = column (k + i)
+ofUpdate k (value v) = ofValue v
 
 -- an operand of the query, with `f` for its columns
 abbrev pub ofQuery : (ℕ → Joint) → Operand → Joint
@@ -77,13 +118,19 @@ ofQuery f (S.column i) = f i
 ofQuery f (value (S.constant z)) = constant z
 ofQuery f (value (parameter k)) = asked k
 
-abbrev pub insertedColumn : List Value → ℕ → Joint
-insertedColumn os i = ofValue (getD os i (S.constant (pos 0)))
-
 -- x, or what the column i is set to
 abbrev pub setColumn : List (ℕ × Value) → ℕ → Joint → Joint
 setColumn [] i x = x
 setColumn (s ∷ ss) i x = setColumn ss i (cond (eqb i (s .0)) (ofValue (s .1)) x)
+
+-- the inserted operands as settings of the columns from k on
+abbrev pub placedFrom : ℕ → List Value → List (ℕ × Value)
+placedFrom k [] = []
+placedFrom k (o ∷ os) = (k, o) ∷ placedFrom (suc k) os
+
+-- F' and INSERT: a column that is not set stays, and so does every column of the other table
+abbrev pub replacing : List (ℕ × Value) → ℕ → Joint
+replacing ss i = setColumn ss i (column i)
 
 abbrev pub Clause : Type 0
 Clause = List (Comparison Joint)
@@ -92,16 +139,16 @@ Clause = List (Comparison Joint)
 abbrev pub queryClauses : (ℕ → Joint) → Query → List Clause
 queryClauses f q = clausesOf (replacedIn (ofQuery f) (q .condition))
 
-abbrev pub updateClauses : Where Operand → List Clause
-updateClauses g = clausesOf (replacedIn ofUpdate g)
+abbrev pub updateClauses : ℕ → Where Operand → List Clause
+updateClauses k g = clausesOf (replacedIn (ofUpdate k) g)
 
-abbrev pub bothClauses : Where Operand → (ℕ → Joint) → Query → List Clause
-bothClauses g f q = pairs (updateClauses g) (queryClauses f q)
+abbrev pub bothClauses : ℕ → Where Operand → (ℕ → Joint) → Query → List Clause
+bothClauses k g f q = pairs (updateClauses k g) (queryClauses f q)
 
-unfoldable pub jointClauses : Query → Change → List Clause
-jointClauses q (insert os) = queryClauses (insertedColumn os) q
-jointClauses q (delete g) = bothClauses g column q
-jointClauses q (update ss g) = bothClauses g column q ++ bothClauses g (λ i. setColumn ss i (column i)) q
+unfoldable pub jointClauses : ℕ → Query → Change → List Clause
+jointClauses k q (insert os) = queryClauses (replacing (placedFrom k os)) q
+jointClauses k q (delete g) = bothClauses k g column q
+jointClauses k q (update ss g) = bothClauses k g column q ++ bothClauses k g (replacing (moved k ss)) q
 
 -- ---- rule 5: "If INSERT's count, DELETE's product, or twice UPDATE's product passes 64, the list is one pattern, all any." (Rule 4 is `clauses`.)
 
@@ -228,7 +275,8 @@ chosen true false n cs = clausePatterns n cs
 
 unfoldable pub patterns : Query → Update → List Pattern
 patterns q u =
-    chosen (sameTable q u && touches q (u .change)) (ltb most-clauses (jointCount q (u .change))) (q .parameters) (jointClauses q (u .change))
+    let k = startOf q (sideOf q u) in
+    chosen (sameTable q u && touches k q (u .change)) (ltb most-clauses (jointCount q (u .change))) (q .parameters) (jointClauses k q (u .change))
 
 -- ---- "A kept answer is dropped when a pattern, filled with the update's values, agrees with its key."
 

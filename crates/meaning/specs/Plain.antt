@@ -1,19 +1,20 @@
--- The plain store: document 01, "The plain store" and "Numbers for a call not taken". It keeps no answer, and is fed only which call is made, its text
+-- The plain store: document 01, "The plain store" and "Numbers for a call not taken"; request A.1. It keeps no answer, and is fed only which call is made, its text
 -- or numbers, and the lengths lent. Assumes nothing: these are definitions.
 use mathlib.Core.Bool.{Bool, true, false, not, _&&_, _||_}
 use mathlib.Core.Option.{Option, none, some}
 use mathlib.Core.List.{List, [], _∷_, _++_, map}
-use Prim.Native.Nat.{ℕ, zero, suc, _*_, _-_}
+use Prim.Native.Nat.{ℕ, zero, suc, _+_, _*_, _-_}
 use lib.Dec.{leb, ltb, eqb}
 use lib.IntN.{ℤ, natAbs}
 use lib.ListN.{length, getD, set}
+use Rattle.lists.specs.Lists.{pairs}
 use Rattle.meaning.specs.Condition.{always}
 use Rattle.meaning.specs.Key.{Key}
 use Rattle.meaning.specs.Grammar as G
 use Rattle.meaning.specs.Grammar.{items, Sentence, sentence}
-use Rattle.meaning.specs.Limits.{most-cells, most-memory, most-slots, least-slot-bytes, most-slot-bytes, most-tables, most-queries, most-updates, tooLong, pastLimit}
-use Rattle.meaning.specs.Names.{Schema, noSchema, unknown, taken, miscounted}
-use Rattle.meaning.specs.Statement.{Query, Change, insert, delete, update, Update, Statement, creates, asks, changes, statementOf}
+use Rattle.meaning.specs.Limits.{most-cells, most-memory, most-slots, least-slot-bytes, most-slot-bytes, most-tables, most-queries, most-updates, most-listed, tooLong, pastLimit}
+use Rattle.meaning.specs.Names.{Schema, noSchema, unknown, taken, miscounted, twice}
+use Rattle.meaning.specs.Statement.{Second, Query, Change, insert, delete, update, Update, Statement, creates, asks, changes, statementOf}
 use Rattle.meaning.specs.Meaning.{Row, answer, changed, rowsChanged}
 use Rattle.meaning.specs.Cells.{areasSize}
 use Rattle.meaning.specs.Record.{encode}
@@ -44,7 +45,7 @@ abbrev pub noTable : Table
 noTable = record { schema = noSchema; rows = [] }
 
 abbrev pub noQuery : Query
-noQuery = record { table = 0; selected = []; condition = always; parameters = 0 }
+noQuery = record { table = 0; second = none; selected = []; condition = always; parameters = 0 }
 
 abbrev pub noUpdate : Update
 noUpdate = record { table = 0; change = delete always; parameters = 0 }
@@ -62,15 +63,34 @@ updateAt p i = getD (p .updates) i noUpdate
 abbrev pub cellsLeft : Plain → ℕ
 cellsLeft p = p .lengths .cells - areasSize (schemas p)
 
+-- the rows of table i
+abbrev pub rowsAt : List Table → ℕ → List Row
+rowsAt ts i = getD ts i noTable .rows
+
+-- the rows that a question is over: those of its table, or the pairs of two (A.1: "Rows come in the first table's order, and for each in the second's.")
+abbrev pub rowsOver : List Table → Query → Option Second → List Row
+rowsOver ts q none = rowsAt ts (q .table)
+rowsOver ts q (some s) = pairs (rowsAt ts (q .table)) (rowsAt ts (s .table))
+
+abbrev pub rowsFor : Plain → Query → List Row
+rowsFor p q = rowsOver (p .tables) q (q .second)
+
 -- the record of the rows that Meaning lists
 unfoldable pub recordOf : Plain → Key → List ℕ
 recordOf p k =
     let q : Query = queryAt p (k .query) in
-    encode (length (q .selected)) (answer q (k .values) (tableAt p (q .table) .rows))
+    encode (length (q .selected)) (answer q (k .values) (rowsFor p q))
 
--- the rows of the table that a query reads
-abbrev pub rowsAsked : Plain → ℕ → ℕ
-rowsAsked p n = length (tableAt p (queryAt p n .table) .rows)
+-- the rows that a question reads where it is worked out anew: "the table's row count"; over two tables A.1 leaves this free, "at most r1 + r1 × r2", and here
+-- it is that: each row of the first table, and for each those of the second
+abbrev pub rowsReadOver : List Table → Query → Option Second → ℕ
+rowsReadOver ts q none = length (rowsAt ts (q .table))
+rowsReadOver ts q (some s) = length (rowsAt ts (q .table)) + length (rowsAt ts (q .table)) * length (rowsAt ts (s .table))
+
+abbrev pub rowsRead : Plain → Key → ℕ
+rowsRead p k =
+    let q : Query = queryAt p (k .query) in
+    rowsReadOver (p .tables) q (q .second)
 
 -- "An update not refused matches a key when a pattern of the two, filled with the update's values, agrees with the key, kept or not."
 unfoldable pub matchesKey : Plain → ℕ → List ℤ → Key → Bool
@@ -129,6 +149,7 @@ itsSentence f (some s) = f s
 unfoldable pub noPlace : Plain → Sentence → Bool
 noPlace p (G.table t cs z) = leb most-tables (length (p .tables)) || ltb (cellsLeft p) (length (items cs) * natAbs z)
 noPlace p (G.select cs t w) = leb most-queries (length (p .queries))
+noPlace p (G.pair cs t u w) = leb most-queries (length (p .queries))
 noPlace p (G.insert t vs) = leb most-updates (length (p .updates))
 noPlace p (G.update t ss w) = leb most-updates (length (p .updates))
 noPlace p (G.delete t w) = leb most-updates (length (p .updates))
@@ -145,7 +166,7 @@ full p n =
     let t : Table = tableAt p (u .table) in
     isInsert (u .change) && leb (t .schema .capacity) (length (t .rows))
 
--- the numbers that a call can get, each with its condition, in the order of the table
+-- the numbers that a call can get, each with its condition, in the order in which they are looked for: that of the table, and 15 "after 8", 16 "after 12"
 abbrev pub addConditions : Lengths → Plain → List ℕ → Option Sentence → List (ℕ × Bool)
 addConditions lent p text s =
     (2, otherLengths lent p)
@@ -155,10 +176,11 @@ addConditions lent p text s =
     ∷ (6, itsSentence (unknown (schemas p)) s)
     ∷ (7, itsSentence (taken (schemas p)) s)
     ∷ (8, itsSentence (miscounted (schemas p)) s)
+    ∷ (15, itsSentence twice s)
     ∷ (9, itsSentence (noPlace p) s)
     ∷ []
 
--- 10 and 11: "no such question or update", "wrong number of values"; 13 comes apart: a kept answer is judged by its own length
+-- 10 and 11: "no such question or update", "wrong number of values"; 16 and 13 come apart: a kept answer is judged by its own length alone
 abbrev pub askConditions : Lengths → Plain → Key → List (ℕ × Bool)
 askConditions lent p k =
     (2, otherLengths lent p)
@@ -174,13 +196,19 @@ changeConditions lent p n us =
     ∷ (12, full p n)
     ∷ []
 
+-- 16: "an answer of more than 65,535 rows gives 16, after 12"
+unfoldable pub tooMany : Plain → Key → Bool
+tooMany p k =
+    let q : Query = queryAt p (k .query) in
+    ltb most-listed (length (answer q (k .values) (rowsFor p q)))
+
 -- 13: "answer buffer shorter than the record"
 abbrev pub isShort : ℕ → List ℕ → Bool
 isShort buffer bytes = ltb buffer (length bytes)
 
 abbrev pub conditions : Lengths → Plain → Call → List (ℕ × Bool)
 conditions lent p (add text) = addConditions lent p text (sentence text)
-conditions lent p (ask k buffer) = askConditions lent p k ++ ((13, isShort buffer (recordOf p k)) ∷ [])
+conditions lent p (ask k buffer) = askConditions lent p k ++ ((16, tooMany p k) ∷ (13, isShort buffer (recordOf p k)) ∷ [])
 conditions lent p (change n us) = changeConditions lent p n us
 conditions lent p flush = (2, otherLengths lent p) ∷ []
 

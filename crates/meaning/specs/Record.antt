@@ -6,7 +6,7 @@ use lib.Dec.{leb, ltb, eqb}
 use lib.IntN.{ℤ, pos, negsuc}
 use lib.ListN.{length, take, drop, getD}
 use Rattle.lists.specs.Lists.{flat}
-use Rattle.meaning.specs.Limits.{most-items, most-rows}
+use Rattle.meaning.specs.Limits.{most-items, most-listed}
 use Rattle.meaning.specs.Meaning.{Row}
 
 -- ---- writing
@@ -54,14 +54,15 @@ rowCount bs = twoAt bs 6
 abbrev pub rowBytes : List ℕ → ℕ
 rowBytes bs = 4 * columnsIn bs
 
--- "Bytes are a record if version, columns (1 to 8), rows and length agree and the whole length is there; later bytes are ignored"; rows to 512
+-- "Bytes are a record if version, columns (1 to 8), rows and length agree and the whole length is there; later bytes are ignored"; A.1: "Records may hold up
+-- to 65,535 rows, also where a row is shown."
 unfoldable pub isRecord : List ℕ → Bool
 isRecord bs =
     leb 8 (length bs)
     && (eqb (getD bs 4 0) 1
     && (leb 1 (columnsIn bs)
     && (leb (columnsIn bs) most-items
-    && (leb (rowCount bs) most-rows
+    && (leb (rowCount bs) most-listed
     && (eqb (fourAt bs 0) (rowCount bs * rowBytes bs + 4)
     && leb (fourAt bs 0 + 4) (length bs))))))
 
@@ -69,7 +70,7 @@ isRecord bs =
 unfoldable pub hasRow : List ℕ → ℕ → Bool
 hasRow bs i = isRecord bs && ltb i (rowCount bs)
 
--- refusal 14: "bytes that are no record (rows to 512), or no such row"
+-- refusal 14: "bytes that are no record .., or no such row"
 abbrev pub rowRefusal : List ℕ → ℕ → ℕ
 rowRefusal bs i = cond (hasRow bs i) 0 14
 

@@ -8,7 +8,6 @@ use lib.IntN.{ℤ}
 use Rattle.lists.specs.Lists.{all}
 use Rattle.meaning.specs.Condition.{Comparison, sides}
 use Rattle.meaning.specs.Postfix.{Node, leaf, allOf, anyOf, leaves}
-use Rattle.meaning.specs.Tokens.{Name}
 use Rattle.meaning.specs.Grammar as G
 use Rattle.meaning.specs.Grammar.{Term, given, mark}
 use Rattle.meaning.specs.Statement.{Operand, column, value, constant, parameter, markInTerm, comparisonOf}
@@ -16,24 +15,24 @@ use Rattle.meaning.specs.Statement.{Operand, column, value, constant, pa
 -- ---- the walk, where m marks stand before
 
 -- the marks that stand before what follows a comparison; before what follows the nodes
-abbrev pub marksPast : ℕ → Comparison Term → ℕ
+abbrev pub marksPast : {C : Type 0} → ℕ → Comparison (Term C) → ℕ
 marksPast m c = m + markInTerm (c .left) + markInTerm (c .right)
 
-abbrev pub marksAfter : ℕ → List (Node Term) → ℕ
+abbrev pub marksAfter : {C : Type 0} → ℕ → List (Node (Term C)) → ℕ
 marksAfter m [] = m
 marksAfter m (leaf c ∷ ns) = marksAfter (marksPast m c) ns
 marksAfter m (allOf ∷ ns) = marksAfter m ns
 marksAfter m (anyOf ∷ ns) = marksAfter m ns
 
-abbrev pub resolveNodes : List Name → ℕ → List (Node Term) → List (Node Operand)
-resolveNodes columns m [] = []
-resolveNodes columns m (leaf c ∷ ns) = leaf (comparisonOf columns m c) ∷ resolveNodes columns (marksPast m c) ns
-resolveNodes columns m (allOf ∷ ns) = allOf ∷ resolveNodes columns m ns
-resolveNodes columns m (anyOf ∷ ns) = anyOf ∷ resolveNodes columns m ns
+abbrev pub resolveNodes : {C : Type 0} → (C → ℕ) → ℕ → List (Node (Term C)) → List (Node Operand)
+resolveNodes place m [] = []
+resolveNodes place m (leaf c ∷ ns) = leaf (comparisonOf place m c) ∷ resolveNodes place (marksPast m c) ns
+resolveNodes place m (allOf ∷ ns) = allOf ∷ resolveNodes place m ns
+resolveNodes place m (anyOf ∷ ns) = anyOf ∷ resolveNodes place m ns
 
 -- ---- what is in it
 
-abbrev pub termConstants : List Term → List ℤ
+abbrev pub termConstants : {C : Type 0} → List (Term C) → List ℤ
 termConstants [] = []
 termConstants (G.column n ∷ ts) = termConstants ts
 termConstants (given (G.constant z) ∷ ts) = z ∷ termConstants ts

@@ -26,7 +26,7 @@ pub data Token : Type 0 where
   name : Name → Token
   constant : ℤ → Token
   operator : Operator → Token
-  mark comma lparen rparen other : Token
+  mark comma lparen rparen dot other : Token
   deriving Discrete as Token-discrete
 
 abbrev pub sameToken : Token → Token → Bool
@@ -123,6 +123,7 @@ signs =
     ∷ (",", comma)
     ∷ ("(", lparen)
     ∷ (")", rparen)
+    ∷ (".", dot)
     ∷ []
 
 -- what follows p in s, if s begins with p

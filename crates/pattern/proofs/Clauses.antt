@@ -1,5 +1,5 @@
--- What every operand of a stored query and a stored update has, every operand of their joint clauses has: so these fit, and the pattern of a clause can be told by its
--- least codes. Assumes nothing.
+-- What every operand of a stored query and a stored update has, every operand of their joint clauses has; and the pattern of a clause can be told by its least codes.
+-- Assumes nothing.
 use mathlib.Core.Bool.{Bool, true, false, cond}
 use mathlib.Core.List.{List, [], _∷_, map}
 use mathlib.Core.Path.{_≡_, refl, sym, ap, _∙_}
@@ -8,26 +8,24 @@ use native.Mathlib.Omega.{arith}
 use lib.Dec.{eqb}
 use lib.IntN.{pos}
 use Rattle.lists.specs.Lists.{All, nil, cons, from}
-use Rattle.lists.proofs.Lists.{All-map, All-append, All-image, All-take, All-getD, All-pairs, map-same}
+use Rattle.lists.proofs.Lists.{All-map, All-append, All-image, All-pairs, map-same}
 use Rattle.lists.proofs.Moved.{from-below}
 use Rattle.meaning.specs.Condition as C
 use Rattle.meaning.specs.Condition.{sides, renamed}
 use Rattle.meaning.specs.Postfix.{leaves}
-use Rattle.meaning.specs.Limits.{isWithin32}
 use Rattle.meaning.specs.Statement as M
-use Rattle.meaning.specs.Pattern.{Joint, column, constant, ofValue, ofUpdate, ofQuery, insertedColumn, setColumn, Clause, contradictory, pattern}
+use Rattle.meaning.specs.Pattern.{Joint, column, constant, ofValue, ofUpdate, ofQuery, setColumn, moved, placedFrom, replacing, Clause, contradictory, pattern}
 use Rattle.meaning.proofs.Postfix.{clauses-have, sides-have}
 use Rattle.statement.specs.declared.Operand.{Operand}
-use Rattle.statement.proofs.ByKind.{by-kind, by-kind-value}
+use Rattle.statement.proofs.ByKind.{by-kind}
 use Rattle.statement.specs.declared.Comparison.{Comparison}
 use Rattle.statement.specs.declared.Condition.{Condition}
 use Rattle.statement.specs.declared.Query.{Query}
-use Rattle.statement.specs.declared.Value.{Value}
 use Rattle.statement.specs.declared.Setting.{Setting}
 use Rattle.statement.specs.declared.Update.{Update}
 use Rattle.statement.specs.Compiled.{leftSide, rightSide, newValue}
 use Rattle.statement.specs.Sound.{valueRead, operandRead, comparisonRead, noComparison, nodesRead, usedComparisons, usedSteps, conditionNodes, usedSettings, settingRead, settingsRead, settingValues}
-use Rattle.pattern.specs.Stored.{clausesRead, queryClauses, bothClauses, jointClauses, joint, patternStruct, noPattern, clausePattern}
+use Rattle.pattern.specs.Stored.{clausesRead, queryClauses, bothClauses, jointClauses, patternStruct, noPattern, clausePattern}
 use Rattle.pattern.specs.Least.{coded, contradicts, leastEntry}
 use Rattle.pattern.proofs.OperandCodes.{Fits}
 use Rattle.pattern.proofs.Least.{least-contradicts, least-entry}
@@ -72,17 +70,26 @@ module _ (P : Joint → Type 0) (none : P (constant (pos 0))) where
       go true = q
       go false = p
 
-  module _ (q : Query) (u : Update)
+  -- inserted values, and settings some columns on
+  placed-have : {vs : List M.Value} → All (λ (v : M.Value). P (ofValue v)) vs → (k : ℕ) → All (λ (s : ℕ × M.Value). P (ofValue (s .1))) (placedFrom k vs)
+  placed-have nil k = nil
+  placed-have (cons p h) k = cons p (placed-have h (suc k))
+
+  moved-have : {ss : List (ℕ × M.Value)} → All (λ (s : ℕ × M.Value). P (ofValue (s .1))) ss → (k : ℕ) → All (λ (s : ℕ × M.Value). P (ofValue (s .1))) (moved k ss)
+  moved-have nil k = nil
+  moved-have (cons p h) k = cons p (moved-have h k)
+
+  module _ (q : Query) (u : Update) (k : ℕ)
       (hq : All (BothSides (λ (o : Operand). P (ofQuery column (operandRead o)))) (usedComparisons (q .condition)))
-      (hu : All (BothSides (λ (o : Operand). P (ofUpdate (operandRead o)))) (usedComparisons (u .condition)))
+      (hu : All (BothSides (λ (o : Operand). P (ofUpdate k (operandRead o)))) (usedComparisons (u .condition)))
       (hs : All (λ (s : Setting). P (ofValue (valueRead (newValue s)))) (usedSettings u)) where
     query-have : (f : ℕ → Joint) → ((i : ℕ) → P (column i) → P (f i)) → All (All (Both P)) (queryClauses f q)
     query-have f g =
         renamed-have (ofQuery f) none (q .condition)
         (All-map (λ c p. (query-operand f g (leftSide c) (p .0), query-operand f g (rightSide c) (p .1))) hq)
 
-    both-have : (f : ℕ → Joint) → ((i : ℕ) → P (column i) → P (f i)) → All (All (Both P)) (bothClauses u f q)
-    both-have f g = All-pairs (renamed-have ofUpdate none (u .condition) hu) (query-have f g)
+    both-have : (f : ℕ → Joint) → ((i : ℕ) → P (column i) → P (f i)) → All (All (Both P)) (bothClauses k u f q)
+    both-have f g = All-pairs (renamed-have (ofUpdate k) none (u .condition) hu) (query-have f g)
 
     settings-have : All (λ (s : ℕ × M.Value). P (ofValue (s .1))) (settingsRead u)
     settings-have = All-image settingRead hs
@@ -90,42 +97,15 @@ module _ (P : Joint → Type 0) (none : P (constant (pos 0))) where
     values-have : All (λ (v : M.Value). P (ofValue v)) (settingValues u)
     values-have = All-image (λ (s : ℕ × M.Value). s .1) settings-have
 
-    clauses-by : (form : ℕ) → All (All (Both P)) (jointClauses form q u)
+    clauses-by : (form : ℕ) → All (All (Both P)) (jointClauses k form q u)
     unfolding jointClauses
-    clauses-by zero = query-have (insertedColumn (settingValues u)) (λ i p. All-getD i (M.constant (pos 0)) none values-have)
+    clauses-by zero = query-have (replacing (placedFrom k (settingValues u))) (λ i p. set-has (placed-have values-have k) i (column i) p)
     clauses-by (suc zero) =
-        All-append (both-have column (λ i p. p)) (both-have (λ i. setColumn (settingsRead u) i (column i)) (λ i p. set-has settings-have i (column i) p))
-    clauses-by (suc (suc k)) = both-have column (λ i p. p)
+        All-append (both-have column (λ i p. p)) (both-have (replacing (moved k (settingsRead u))) (λ i p. set-has (moved-have settings-have k) i (column i) p))
+    clauses-by (suc (suc f)) = both-have column (λ i p. p)
 
-    pub joint-have : All (λ (cs : Clause). All P (sides cs)) (joint q u)
+    pub joint-have : All (λ (cs : Clause). All P (sides cs)) (jointClauses k (u .form) q u)
     joint-have = All-map (λ cs. sides-have) (clauses-by (u .form))
-
--- ---- operands that fit
-
--- what the types of a struct's fields give
-abbrev pub OperandRoom : Operand → Type 0
-OperandRoom o = (o .code < 256) × (isWithin32 (o .number) ≡ true)
-
-abbrev pub ValueRoom : Value → Type 0
-ValueRoom v = (v .mark < 256) × (isWithin32 (v .number) ≡ true)
-
-query-fits : (o : Operand) → OperandRoom o → Fits (ofQuery column (operandRead o))
-query-fits o (h, k) = by-kind o (λ (p : M.Operand). Fits (ofQuery column p)) k (omega arith) (omega arith)
-
-update-fits : (o : Operand) → OperandRoom o → Fits (ofUpdate (operandRead o))
-update-fits o (h, k) = by-kind o (λ (p : M.Operand). Fits (ofUpdate p)) k (omega arith) (omega arith)
-
-value-fits : (v : Value) → ValueRoom v → Fits (ofValue (valueRead v))
-value-fits v (h, k) = by-kind-value v (λ (w : M.Value). Fits (ofValue w)) k (λ j e. omega arith)
-
--- every operand of the joint clauses fits
-pub joint-fits : (q : Query) (u : Update) → All (BothSides OperandRoom) (q .condition .comparisons) → All (BothSides OperandRoom) (u .condition .comparisons)
-    → All (λ (s : Setting). ValueRoom (newValue s)) (u .settings) → All (λ (cs : Clause). All Fits (sides cs)) (joint q u)
-joint-fits q u hq hu hs =
-    joint-have Fits refl q u
-    (All-map (λ c p. (query-fits (leftSide c) (p .0), query-fits (rightSide c) (p .1))) (All-take (q .condition .count) hq))
-    (All-map (λ c p. (update-fits (leftSide c) (p .0), update-fits (rightSide c) (p .1))) (All-take (u .condition .count) hu))
-    (All-map (λ s p. value-fits (newValue s) p) (All-take (u .count) hs))
 
 -- ---- the pattern of a clause, by the least codes
 

@@ -26,14 +26,14 @@ use Rattle.meaning.specs.Statement as M
 use Rattle.meaning.specs.Statement.{insert, delete, update}
 use Rattle.meaning.specs.Meaning.{Row, answer, changed}
 use Rattle.meaning.specs.Pattern as P
-use Rattle.meaning.specs.Pattern.{Joint, column, constant, asked, given, ofValue, ofUpdate, ofQuery, insertedColumn, setColumn, operandColumns, sameTable, Clause, same, label, class, contradictory, constants, updateMarks, number, mark, anything, classEntry, entry, pattern, sameEntry, clausePatterns, chosen, jointCount, most-clauses, agreesAt, agrees}
-use Rattle.meaning.specs.Demand.{SetsWithin}
+use Rattle.meaning.specs.Pattern.{Side, neither, first, second, sideOf, isSide, startOf, sameTable, Joint, column, constant, asked, given, ofValue, ofUpdate, ofQuery, moved, placedFrom, replacing, operandColumns, Clause, same, label, class, contradictory, constants, updateMarks, number, mark, anything, classEntry, entry, pattern, sameEntry, clausePatterns, chosen, jointCount, most-clauses, agreesAt, agrees}
+use Rattle.meaning.specs.Demand.{ChangesWithin, StandsBeside, rowsBeside}
 use Rattle.meaning.proofs.Classes.{marks-have}
 use Rattle.meaning.proofs.Clauses.{clausesOf-replaced, joint-length}
 use Rattle.meaning.proofs.Postfix.{sides-in, postfix-where}
 use Rattle.meaning.proofs.Weakening.{any-clause, answer-stays}
 use Rattle.statement.specs.Compiled.{padded, leftSide, rightSide, newValue, formOfChange, settingsOfChange, whereOfChange}
-use Rattle.statement.specs.Sound.{valueRead, operandRead, usedComparisons, usedSettings, settingsRead, settingOperands, conditionNodes, columnsAt, soundQuery, soundUpdate, AgreesCondition, AgreesQuery, AgreesUpdate}
+use Rattle.statement.specs.Sound.{valueRead, operandRead, usedComparisons, usedSettings, secondRead, settingsRead, settingOperands, conditionNodes, columnsAt, soundQuery, soundUpdate, AgreesCondition, AgreesQuery, AgreesUpdate}
 use Rattle.statement.proofs.Assembled.{take-padded}
 use Rattle.statement.proofs.SoundSettings.{placed-values}
 use Rattle.statement.proofs.SoundCondition.{agrees-clauses, condition-parts}
@@ -51,9 +51,12 @@ use Rattle.table.proofs.Means.{answer-means}
 use Rattle.table.proofs.ChangedMeans.{rows-mean}
 use Rattle.pattern.specs.declared.Pattern.{Pattern}
 use Rattle.pattern.specs.declared.Entry.the-variants.{Any}
-use Rattle.pattern.specs.Stored.{columnsUsed, touches, relevant, clausesRead, queryClauses, bothClauses, jointClauses, joint, isFormed, allAny, entryCount, patternsStored, matchesStored, clauseTotal, entryStruct, placed, placeStruct, patternStruct, noPattern, clausePattern, patternAt, filledEntry, filledPlace, filledOf, entryRead, placeRead, agreesStored}
+use Rattle.pattern.specs.Relevance.{isRead}
+use Rattle.pattern.specs.Stored.{sideBy, sideRead, startBy, startRead, columnsUsed, touches, relevant, clausesRead, queryClauses, bothClauses, jointClauses, joint, isFormed, allAny, entryCount, patternsStored, matchesStored, clauseTotal, entryStruct, placed, placeStruct, patternStruct, noPattern, clausePattern, patternAt, filledEntry, filledPlace, filledOf, entryRead, placeRead, agreesStored}
 use Rattle.pattern.proofs.Least.{lowest-within}
 use Rattle.pattern.proofs.Clauses.{joint-have}
+use Rattle.pattern.proofs.Relevant.{other-table}
+use Rattle.pattern.proofs.Agreeing.{total-none}
 
 -- ---- question marks are numbered from 1
 
@@ -71,17 +74,17 @@ CountedEntry anything = Unit {0}
 query-counted : (o : Operand) → Counted (ofQuery column (operandRead o))
 query-counted o = by-kind o (λ (p : M.Operand). Counted (ofQuery column p)) tt tt tt
 
-update-counted : (o : Operand) → Counted (ofUpdate (operandRead o))
-update-counted o = by-kind o (λ (p : M.Operand). Counted (ofUpdate p)) tt (omega arith) tt
+update-counted : (k : ℕ) (o : Operand) → Counted (ofUpdate k (operandRead o))
+update-counted k o = by-kind o (λ (p : M.Operand). Counted (ofUpdate k p)) tt (omega arith) tt
 
 value-counted : (v : Value) → Counted (ofValue (valueRead v))
 value-counted v = by-kind-value v (λ (w : M.Value). Counted (ofValue w)) tt (λ k e. omega arith)
 
 pub joint-counted : (q : Query) (u : Update) → All (λ (cs : Clause). All Counted (sides cs)) (joint q u)
 joint-counted q u =
-    joint-have Counted tt q u
+    joint-have Counted tt q u (startRead q u)
     (All-every (λ c. (query-counted (leftSide c), query-counted (rightSide c))) (usedComparisons (q .condition)))
-    (All-every (λ c. (update-counted (leftSide c), update-counted (rightSide c))) (usedComparisons (u .condition)))
+    (All-every (λ c. (update-counted (startRead q u) (leftSide c), update-counted (startRead q u) (rightSide c))) (usedComparisons (u .condition)))
     (All-every (λ s. value-counted (newValue s)) (usedSettings u))
 
 entry-counted : (cs : Clause) → All Counted (sides cs) → (k : ℕ) → CountedEntry (entry cs k)
@@ -173,7 +176,7 @@ sound-few ts q u h k =
     let b = update-parts ts u k in
     record {
       parameters = a .few-parameters;
-      query-comparisons = condition-parts (columnsAt ts (q .table)) 0 (q .condition) (a .condition-sound) .few;
+      query-comparisons = condition-parts _ 0 (q .condition) (a .condition-sound) .few;
       update-comparisons = condition-parts (columnsAt ts (u .table)) (parameterCount (settingOperands u)) (u .condition) (b .condition-sound) .few;
     }
 
@@ -197,37 +200,57 @@ module _ (q : Query) (r : M.Query) (A : AgreesQuery q r) where
       ap (map (map (renamed (ofQuery f)))) (clauses-are (q .condition) (r .condition) (A .condition-is))
       ∙ sym (clausesOf-replaced (ofQuery f) (r .condition))
 
-  module _ (u : Update) where
-    touches-is : (ch : M.Change) → u .form ≡ formOfChange ch → settingsRead u ≡ settingsOfChange ch → touches (u .form) q u ≡ P.touches r ch
-    touches-is (insert os) f s = ap (λ (k : ℕ). touches k q u) f
-    touches-is (delete g) f s = ap (λ (k : ℕ). touches k q u) f
+  -- where k columns stand before those of the updated table
+  module _ (u : Update) (k : ℕ) where
+    touches-is : (ch : M.Change) → u .form ≡ formOfChange ch → settingsRead u ≡ settingsOfChange ch → touches k (u .form) q u ≡ P.touches k r ch
+    touches-is (insert os) f s = ap (λ (n : ℕ). touches k n q u) f
+    touches-is (delete g) f s = ap (λ (n : ℕ). touches k n q u) f
     touches-is (update ss g) f s =
-        ap (λ (k : ℕ). touches k q u) f
-        ∙ ap₂ (λ (l : List (ℕ × M.Value)) (is : List ℕ). any (λ (s : ℕ × M.Value). any (eqb (s .0)) is) l) s columns-are
+        ap (λ (n : ℕ). touches k n q u) f
+        ∙ ap₂ (λ (l : List (ℕ × M.Value)) (is : List ℕ). any (λ (s : ℕ × M.Value). any (eqb (s .0)) is) (moved k l)) s columns-are
 
-    both-clauses : (g : Where M.Operand) → AgreesCondition (u .condition) g → (f : ℕ → Joint) → bothClauses u f q ≡ P.bothClauses g f r
-    both-clauses g B f = ap₂ pairs (ap (map (map (renamed ofUpdate))) (clauses-are (u .condition) g B) ∙ sym (clausesOf-replaced ofUpdate g)) (query-clauses f)
+    both-clauses : (g : Where M.Operand) → AgreesCondition (u .condition) g → (f : ℕ → Joint) → bothClauses k u f q ≡ P.bothClauses k g f r
+    both-clauses g B f = ap₂ pairs (ap (map (map (renamed (ofUpdate k)))) (clauses-are (u .condition) g B) ∙ sym (clausesOf-replaced (ofUpdate k) g)) (query-clauses f)
 
     joint-clauses : (ch : M.Change) → u .form ≡ formOfChange ch → settingsRead u ≡ settingsOfChange ch → AgreesCondition (u .condition) (whereOfChange ch)
-        → joint q u ≡ P.jointClauses r ch
+        → jointClauses k (u .form) q u ≡ P.jointClauses k r ch
     unfolding jointClauses P.jointClauses
     joint-clauses (insert os) f s B =
-        ap (λ (k : ℕ). jointClauses k q u) f
-        ∙ ap (λ (vs : List M.Value). queryClauses (insertedColumn vs) q) (ap (map (λ (p : ℕ × M.Value). p .1)) s ∙ placed-values 0 os)
-        ∙ query-clauses (insertedColumn os)
-    joint-clauses (delete g) f s B = ap (λ (k : ℕ). jointClauses k q u) f ∙ both-clauses g B column
+        ap (λ (n : ℕ). jointClauses k n q u) f
+        ∙ ap (λ (vs : List M.Value). queryClauses (replacing (placedFrom k vs)) q) (ap (map (λ (p : ℕ × M.Value). p .1)) s ∙ placed-values 0 os)
+        ∙ query-clauses (replacing (placedFrom k os))
+    joint-clauses (delete g) f s B = ap (λ (n : ℕ). jointClauses k n q u) f ∙ both-clauses g B column
     joint-clauses (update ss g) f s B =
-        ap (λ (k : ℕ). jointClauses k q u) f
+        ap (λ (n : ℕ). jointClauses k n q u) f
         ∙ ap₂ _++_ (both-clauses g B column)
-        (ap (λ (l : List (ℕ × M.Value)). bothClauses u (λ i. setColumn l i (column i)) q) s ∙ both-clauses g B (λ i. setColumn ss i (column i)))
+        (ap (λ (l : List (ℕ × M.Value)). bothClauses k u (replacing (moved k l)) q) s ∙ both-clauses g B (replacing (moved k ss)))
 
 module _ (q : Query) (r : M.Query) (A : AgreesQuery q r) (u : Update) (s : M.Update) (B : AgreesUpdate u s) (few : Few q u) where
-  relevant-is : relevant q u ≡ (sameTable r s && P.touches r (s .change))
-  unfolding relevant
-  relevant-is = ap₂ _&&_ (ap₂ eqb (A .table-is) (B .table-is)) (touches-is q r A u (s .change) (B .form-is) (B .settings-are))
+  -- A.1: the same table of the query is updated, and as many columns stand before its own
+  pub side-is : sideRead q u ≡ sideOf r s
+  unfolding sideOf
+  side-is = λ i. sideBy (A .table-is i) (A .second-is i) (B .table-is i)
 
-  joint-is : joint q u ≡ P.jointClauses r (s .change)
-  joint-is = joint-clauses q r A u (s .change) (B .form-is) (B .settings-are) (B .condition-is)
+  abbrev start : ℕ
+  start = startOf r (sideOf r s)
+
+  start-is : startRead q u ≡ start
+  unfolding startRead
+  start-is = (λ i. startBy (A .second-is i) (side-is i)) ∙ go (sideOf r s)
+    where
+      go : (x : Side) → startBy (r .second) x ≡ startOf r x
+      go neither = refl
+      go first = refl
+      go second = refl
+
+  relevant-is : relevant q u ≡ (sameTable r s && P.touches start r (s .change))
+  unfolding relevant
+  relevant-is =
+      ap₂ _&&_ (ap isSide side-is) (ap (λ (k : ℕ). touches k (u .form) q u) start-is ∙ touches-is q r A u start (s .change) (B .form-is) (B .settings-are))
+
+  joint-is : joint q u ≡ P.jointClauses start r (s .change)
+  joint-is =
+      ap (λ (k : ℕ). jointClauses k (u .form) q u) start-is ∙ joint-clauses q r A u start (s .change) (B .form-is) (B .settings-are) (B .condition-is)
 
   any-is : allAny q u ≡ ltb most-clauses (jointCount r (s .change))
   unfolding allAny
@@ -235,7 +258,7 @@ module _ (q : Query) (r : M.Query) (A : AgreesQuery q r) (u : Update) (s : M.Upd
       ap₂ (λ (b : Bool) (n : ℕ). not b || ltb most-clauses n)
       (and-both (isFormed (q .condition)) (isFormed (u .condition)) (formed (q .condition) (r .condition) (A .condition-is) (few .query-comparisons))
       (formed (u .condition) (whereOfChange (s .change)) (B .condition-is) (few .update-comparisons)))
-      (ap length joint-is ∙ joint-length r (s .change))
+      (ap length joint-is ∙ joint-length r start (s .change))
 
   -- the patterns of stored statements are those of their sentences
   pub patterns-mean : patternsStored q u ≡ P.patterns r s
@@ -247,18 +270,26 @@ module _ (q : Query) (r : M.Query) (A : AgreesQuery q r) (u : Update) (s : M.Upd
   matches-mean us qs = ap (any (agrees us qs)) patterns-mean
 
   -- where none agrees, the answer is the same before the update and after it
-  pub unmatched-stays : (qs us : List ℤ) (rows : List Row) → length qs ≡ r .parameters → All (SetsWithin (s .change)) rows → r .table ≡ s .table
-      → matchesStored q u us qs ≡ false → answer r qs (changed (s .change) us rows) ≡ answer r qs rows
-  unmatched-stays qs us rows n w t h = answer-stays r qs s us rows n w t (sym (matches-mean us qs) ∙ h)
+  pub unmatched-stays : (qs us : List ℤ) (rows others : List Row) → length qs ≡ r .parameters → All (ChangesWithin (s .change)) rows → All (StandsBeside r (sideOf r s)) others
+      → sameTable r s ≡ true → matchesStored q u us qs ≡ false
+      → answer r qs (rowsBeside (r .second) (sideOf r s) (changed (s .change) us rows) others) ≡ answer r qs (rowsBeside (r .second) (sideOf r s) rows others)
+  unmatched-stays qs us rows others n w b t h = answer-stays r qs s us rows others n w b t (sym (matches-mean us qs) ∙ h)
 
   -- and so on stored statements
-  pub stored-stays : (qs us : List ℤ) (rows : List Row) → length qs ≡ q .parameters → All (SetsWithin (s .change)) rows → q .table ≡ u .table
-      → matchesStored q u us qs ≡ false → answerStored q qs (rowsAfter (u .form) u us rows) ≡ answerStored q qs rows
-  stored-stays qs us rows n w t h =
-      answer-means q r A qs (rowsAfter (u .form) u us rows)
-      ∙ ap (answer r qs) (rows-mean u us rows s B)
-      ∙ unmatched-stays qs us rows (n ∙ A .parameters-are) w (sym (A .table-is) ∙ t ∙ B .table-is) h
-      ∙ sym (answer-means q r A qs rows)
+  pub stored-stays : (qs us : List ℤ) (rows others : List Row) → length qs ≡ q .parameters → All (ChangesWithin (s .change)) rows → All (StandsBeside r (sideOf r s)) others
+      → isSide (sideRead q u) ≡ true → matchesStored q u us qs ≡ false
+      → answerStored q qs (rowsBeside (secondRead q) (sideRead q u) (rowsAfter (u .form) u us rows) others) ≡ answerStored q qs (rowsBeside (secondRead q) (sideRead q u) rows others)
+  stored-stays qs us rows others n w b t h =
+      answer-means q r A qs (rowsBeside (secondRead q) (sideRead q u) (rowsAfter (u .form) u us rows) others)
+      ∙ (λ i. answer r qs (rowsBeside (A .second-is i) (side-is i) (rows-mean u us rows s B i) others))
+      ∙ unmatched-stays qs us rows others (n ∙ A .parameters-are) w b (sym (ap isSide side-is) ∙ t) h
+      ∙ sym ((λ i. answer r qs (rowsBeside (A .second-is i) (side-is i) rows others)))
+      ∙ sym (answer-means q r A qs (rowsBeside (secondRead q) (sideRead q u) rows others))
+
+-- ---- a query of other tables has none (rule 1)
+
+pub none-elsewhere : (q : Query) (u : Update) → isRead (q .table) (q .second) (u .table) ≡ false → clauseTotal q u ≡ 0
+none-elsewhere q u e = sym (total-none q u (other-table q u e))
 
 -- ---- how many patterns, and how long
 

@@ -1,5 +1,5 @@
--- Document 01, "Examples": the starred rows on patterns, from the texts of the statements, by computation on what the texts compile to. Assumes nothing: each holds
--- by computing.
+-- Document 01, "Examples": the starred rows on patterns, from the texts of the statements, by computation on what the texts compile to; and A.1, a question over two
+-- tables. Assumes nothing: each holds by computing.
 use mathlib.Core.Path.{_≡_, refl}
 use mathlib.Core.Bool.{true, false}
 use mathlib.Core.List.{List, [], _∷_}
@@ -9,7 +9,7 @@ use Rattle.lists.specs.Lists.{bytes}
 use Rattle.meaning.specs.Tokens.{isNameByte, isWordByte, decimal, isName, word, negative, tokenFrom, firstToken, scan, tokens}
 use Rattle.meaning.specs.Grammar.{aCondition, aSentence, read}
 use Rattle.meaning.specs.Limits.{pastLimit}
-use Rattle.meaning.specs.Names.{unknown, taken, miscounted}
+use Rattle.meaning.specs.Names.{unknown, taken, miscounted, twice}
 use Rattle.meaning.specs.Statement.{statementOf}
 use Rattle.meaning.specs.Plain.{otherLengths, noPlace}
 use Rattle.meaning.specs.Pattern.{Pattern, number, mark, anything, class, contradictory, entry}
@@ -19,11 +19,11 @@ use Rattle.statement.specs.declared.Table.{Table}
 use Rattle.statement.specs.declared.Statement.{Statement}
 use Rattle.pattern.specs.declared.Entry.the-variants.{Parameter, Any}
 use Rattle.pattern.specs.declared.Pattern as S
-use Rattle.pattern.specs.Stored.{relevant, clausesRead, jointClauses, isFormed, allAny, patternsStored, clauseTotal, placed, noPattern, patternAt, patternList, filledOf, agreesStored}
+use Rattle.pattern.specs.Stored.{startRead, relevant, clausesRead, jointClauses, isFormed, allAny, patternsStored, clauseTotal, placed, noPattern, patternAt, patternList, filledOf, agreesStored}
 
 -- what the computations open
 computing : Unit {0}
-unfolding isNameByte isWordByte decimal isName word negative tokenFrom firstToken scan tokens aCondition aSentence read pastLimit unknown taken miscounted statementOf otherLengths noPlace structOf compiledOf conditionNodes relevant clausesRead jointClauses isFormed allAny patternsStored clauseTotal patternAt patternList filledOf agreesStored class contradictory entry
+unfolding isNameByte isWordByte decimal isName word negative tokenFrom firstToken scan tokens aCondition aSentence read pastLimit unknown taken miscounted twice statementOf otherLengths noPlace structOf compiledOf conditionNodes startRead relevant clausesRead jointClauses isFormed allAny patternsStored clauseTotal patternAt patternList filledOf agreesStored class contradictory entry
 computing = tt
 
 -- the table S, which takes all cells, and a text beside it
@@ -120,3 +120,77 @@ pub update-four :
     Holds sixteen "UPDATE stage SET level = ? WHERE (site = ? OR site = ?) AND (level = ? OR level = ?)" ((anything ∷ anything ∷ []) ∷ [])
 unfolding computing
 update-four = (refl, refl, refl)
+
+-- ---- A.1: a question over two tables, stage (site, level) at the positions 0 and 1, rating (site, flow) at 2 and 3
+
+abbrev rating : Table
+rating = compiledOf (bytes "TABLE rating (site, flow) ROWS 3") (stage ∷ []) 1 0 0 12 .table
+
+abbrev compiledBoth : String → Statement
+compiledBoth text = compiledOf (bytes text) (stage ∷ rating ∷ []) 2 0 0 12
+
+abbrev R : String
+R = "SELECT rating.flow FROM stage, rating WHERE stage.site = ? AND stage.site = rating.site"
+
+abbrev Pairs : String → String → List Pattern → Type 0
+Pairs q u ps = (compiledBoth q .kind ≡ 2) × (compiledBoth u .kind ≡ 3) × (patternsStored (compiledBoth q .query) (compiledBoth u .update) ≡ ps)
+
+-- the new row's site is that of the stage
+pub insert-rating : Pairs R "INSERT INTO rating VALUES (?, ?)" ((mark 1 ∷ []) ∷ [])
+unfolding computing
+insert-rating = (refl, refl, refl)
+
+-- the columns of rating stay: they are no zeros
+pub insert-stage : Pairs R "INSERT INTO stage VALUES (7, ?)" ((number (pos 7) ∷ []) ∷ [])
+unfolding computing
+insert-stage = (refl, refl, refl)
+
+-- flow is position 3, and site of G position 2
+pub set-flow : Pairs R "UPDATE rating SET flow = ? WHERE site = ?" ((mark 2 ∷ []) ∷ [])
+unfolding computing
+set-flow = (refl, refl, refl)
+
+pub set-rating-site : Pairs R "UPDATE rating SET site = ? WHERE site = ?" ((mark 2 ∷ []) ∷ (mark 1 ∷ []) ∷ [])
+unfolding computing
+set-rating-site = (refl, refl, refl)
+
+-- position 1, which the question neither selects nor tests
+pub set-stage-level : Pairs R "UPDATE stage SET level = ?" []
+unfolding computing
+set-stage-level = (refl, refl, refl)
+
+pub delete-stage : Pairs R "DELETE FROM stage WHERE level < ?" ((anything ∷ []) ∷ [])
+unfolding computing
+delete-stage = (refl, refl, refl)
+
+-- a question over one of the tables, and an update of the other
+pub elsewhere : Pairs Q "INSERT INTO rating VALUES (?, ?)" []
+unfolding computing
+elsewhere = (refl, refl, refl)
+
+-- position 2 is set, and not 0: then rating.site < 9 fails, and the second formula goes
+pub set-past : Pairs "SELECT rating.flow FROM stage, rating WHERE stage.site = ? AND rating.site < 9" "UPDATE rating SET site = 9" ((anything ∷ []) ∷ [])
+unfolding computing
+set-past = (refl, refl, refl)
+
+-- tables of eight columns: h of the second is position 15
+abbrev wide : Table
+wide = compiledOf (bytes "TABLE v (a, b, c, d, e, f, g, h) ROWS 1") [] 0 0 0 16 .table
+
+abbrev behind : Table
+behind = compiledOf (bytes "TABLE w (a, b, c, d, e, f, g, h) ROWS 1") (wide ∷ []) 1 0 0 16 .table
+
+abbrev compiledWide : String → Statement
+compiledWide text = compiledOf (bytes text) (wide ∷ behind ∷ []) 2 0 0 16
+
+pub set-last :
+    patternsStored (compiledWide "SELECT v.a FROM v, w WHERE w.h = ? AND v.h < 3" .query) (compiledWide "UPDATE w SET h = 9 WHERE h = ?" .update)
+    ≡ ((mark 1 ∷ []) ∷ (number (pos 9) ∷ []) ∷ [])
+unfolding computing
+set-last = refl
+
+pub insert-last :
+    patternsStored (compiledWide "SELECT v.a FROM v, w WHERE w.h = ? AND v.h = w.a" .query) (compiledWide "INSERT INTO w VALUES (1, 2, 3, 4, 5, 6, 7, ?)" .update)
+    ≡ ((mark 1 ∷ []) ∷ [])
+unfolding computing
+insert-last = refl

@@ -10,7 +10,7 @@ use Rattle.lists.specs.Lists.{All, from}
 use Rattle.meaning.specs.Condition.{Comparison, sides, renamed}
 use Rattle.meaning.specs.Limits.{isWithin32}
 use Rattle.meaning.specs.Operator.{Operator, eq, ne, lt, le, gt, ge}
-use Rattle.meaning.specs.Pattern.{Joint, column, constant, asked, given, Clause, ofValue, insertedColumn, setColumn}
+use Rattle.meaning.specs.Pattern.{Joint, column, constant, asked, given, Clause, ofValue, moved, placedFrom, replacing}
 use Rattle.meaning.specs.Statement as M
 use Rattle.statement.specs.declared.Condition.{Condition}
 use Rattle.statement.specs.declared.Setting.{Setting}
@@ -50,7 +50,7 @@ isJoin ge = false
 -- ---- operands of stored statements
 
 abbrev pub Narrow : Joint → Type 0
-Narrow (column i) = i < 256
+Narrow (column i) = i < 512
 Narrow (constant z) = isWithin32 z ≡ true
 Narrow (asked k) = k ≤ 256
 Narrow (given k) = (1 ≤ k) × (k ≤ 256)
@@ -81,25 +81,25 @@ unfoldable pub codedPattern : ℕ → Coded → Pattern
 codedPattern n cs = cond (contradicts cs) noPattern (patternStruct (map (leastEntry cs) (from 1 n)))
 
 -- ---- operands of the statements, as module `joint` writes them, by whose they are: 0 the update's, 1 the query's, 2 and 3 the query's with columns replaced as INSERT
--- and UPDATE do; ss are the update's settings
+-- and UPDATE do; ss are the update's settings, and k columns of the query stand before those of the updated table (A.1)
 
 abbrev pub valuesOf : List (ℕ × M.Value) → List M.Value
 valuesOf ss = map (λ (s : ℕ × M.Value). s .1) ss
 
-abbrev pub columnOf : ℕ → List (ℕ × M.Value) → ℕ → Joint
-columnOf zero ss i = column i
-columnOf (suc zero) ss i = column i
-columnOf (suc (suc zero)) ss i = insertedColumn (valuesOf ss) i
-columnOf (suc (suc (suc k))) ss i = setColumn ss i (column i)
+abbrev pub columnOf : ℕ → ℕ → List (ℕ × M.Value) → ℕ → Joint
+columnOf zero k ss i = column (k + i)
+columnOf (suc zero) k ss i = column i
+columnOf (suc (suc zero)) k ss i = replacing (placedFrom k (valuesOf ss)) i
+columnOf (suc (suc (suc r))) k ss i = replacing (moved k ss) i
 
 abbrev pub markOf : ℕ → ℕ → Joint
 markOf zero k = given k
 markOf (suc r) k = asked k
 
-abbrev pub operandOf : ℕ → List (ℕ × M.Value) → M.Operand → Joint
-operandOf r ss (M.column i) = columnOf r ss i
-operandOf r ss (M.value (M.constant z)) = constant z
-operandOf r ss (M.value (M.parameter k)) = markOf r k
+abbrev pub operandOf : ℕ → ℕ → List (ℕ × M.Value) → M.Operand → Joint
+operandOf r k ss (M.column i) = columnOf r k ss i
+operandOf r k ss (M.value (M.constant z)) = constant z
+operandOf r k ss (M.value (M.parameter m)) = markOf r m
 
 -- the number of an operand
 pub record Coding (x : Joint) (code : ℕ) : Type 0 where
@@ -107,12 +107,12 @@ pub record Coding (x : Joint) (code : ℕ) : Type 0 where
   pub narrow : Narrow x
 
 -- what one setting makes of the number of a column, or of what that was set to
-pub record SetOnce (item : Setting) (i code r : ℕ) : Type 0 where
-  pub follows : (x : Joint) → Coding x code → Coding (cond (eqb i (item .column)) (ofValue (valueRead (newValue item))) x) r
+pub record SetOnce (item : Setting) (k i code r : ℕ) : Type 0 where
+  pub follows : (x : Joint) → Coding x code → Coding (cond (eqb i (k + item .column)) (ofValue (valueRead (newValue item))) x) r
 
 -- the clause that a mask selects of a condition
-abbrev pub chosenOf : ℕ → List (ℕ × M.Value) → Condition → ℕ → Clause
-chosenOf r ss c mask = map (renamed (operandOf r ss)) (select (comparisonsRead c) mask)
+abbrev pub chosenOf : ℕ → ℕ → List (ℕ × M.Value) → Condition → ℕ → Clause
+chosenOf r k ss c mask = map (renamed (operandOf r k ss)) (select (comparisonsRead c) mask)
 
 abbrev pub noClause : Joined
 noClause = record { codes = replicate 32 0 ++ map (λ (k : ℕ). asked-from + k) (from 1 8); ops = replicate 16 0; count = 0 }

@@ -22,12 +22,12 @@ totalOf (suc zero) f g = g * f + g * f
 totalOf (suc (suc k)) f g = g * f
 
 -- the clauses of the query, its operands in a role
-abbrev pub roleClauses : ℕ → Query → Update → List Clause
-roleClauses role q u = map (map (renamed (operandOf role (settingsRead u)))) (clausesRead (q .condition))
+abbrev pub roleClauses : ℕ → ℕ → Query → Update → List Clause
+roleClauses role k q u = map (map (renamed (operandOf role k (settingsRead u)))) (clausesRead (q .condition))
 
--- clause k of the update's and the query's
-abbrev pub pairAt : ℕ → Query → Update → ℕ → Clause
-pairAt role q u k = getD (pairs (updateClauses u) (roleClauses role q u)) k []
+-- clause i of the update's and the query's
+abbrev pub pairAt : ℕ → ℕ → Query → Update → ℕ → Clause
+pairAt role k q u i = getD (pairs (updateClauses k u) (roleClauses role k q u)) i []
 
 -- what is known where the clauses are worked out
 pub record Worked (q : Query) (u : Update) (p : Pairing) : Type 0 where

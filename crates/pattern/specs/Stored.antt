@@ -4,6 +4,7 @@
 use mathlib.Core.Bool.{Bool, true, false, not, _&&_, _||_, cond}
 use mathlib.Core.List.{List, [], _++_, map}
 use Prim.Native.Nat.{ℕ, zero, suc, min}
+use mathlib.Core.Option.{Option}
 use lib.Dec.{eqb, leb, ltb}
 use lib.IntN.{ℤ, pos}
 use lib.ListN.{length, getD, take, replicate}
@@ -13,31 +14,48 @@ use Rattle.meaning.specs.Condition.{sides, renamed}
 use Rattle.meaning.specs.Postfix.{clausesOfNodes, leaves, isPostfix}
 use Rattle.meaning.specs.Statement as M
 use Rattle.meaning.specs.Pattern as P
-use Rattle.meaning.specs.Pattern.{column, ofUpdate, ofQuery, insertedColumn, setColumn, operandColumns, Clause, contradictory, pattern, chosen, most-clauses, number, mark, anything, agrees}
+use Rattle.meaning.specs.Pattern.{Side, neither, first, second, secondSide, isSide, secondStart, moved, column, ofUpdate, ofQuery, placedFrom, replacing, operandColumns, Clause, contradictory, pattern, chosen, most-clauses, number, mark, anything, agrees}
 use Rattle.statement.specs.declared.Condition.{Condition}
 use Rattle.statement.specs.declared.Query.{Query}
 use Rattle.statement.specs.declared.Update.{Update}
 use Rattle.statement.specs.Compiled.{padded, markPlace}
-use Rattle.statement.specs.Sound.{conditionNodes, settingsRead, settingValues}
+use Rattle.statement.specs.Sound.{conditionNodes, secondRead, settingsRead, settingValues}
 use Rattle.pattern.specs.declared.Entry.{Entry}
 use Rattle.pattern.specs.declared.Entry.the-variants.{Constant, Parameter, Any}
 use Rattle.pattern.specs.declared.Place.{Place}
 use Rattle.pattern.specs.declared.Pattern.{Pattern}
 use Rattle.pattern.specs.declared.Patterns.{Patterns}
 
+-- ---- A.1: which table of the query is updated, and how many columns of the query stand before that table's
+
+-- the first by its number, the second, and the updated table by its number
+abbrev pub sideBy : ℕ → Option M.Second → ℕ → Side
+sideBy table m t = cond (eqb table t) first (secondSide m t)
+
+abbrev pub sideRead : Query → Update → Side
+sideRead q u = sideBy (q .table) (secondRead q) (u .table)
+
+abbrev pub startBy : Option M.Second → Side → ℕ
+startBy m neither = 0
+startBy m first = 0
+startBy m second = secondStart m
+
+unfoldable pub startRead : Query → Update → ℕ
+startRead q u = startBy (secondRead q) (sideRead q u)
+
 -- ---- rules 1 and 2
 
 abbrev pub columnsUsed : Query → List ℕ
 columnsUsed q = take (q .count) (q .selected) ++ operandColumns (sides (leaves (conditionNodes (q .condition))))
 
--- by the update's form, 0 INSERT, 1 UPDATE, any other DELETE
-abbrev pub touches : ℕ → Query → Update → Bool
-touches zero q u = true
-touches (suc zero) q u = any (λ (s : ℕ × M.Value). any (eqb (s .0)) (columnsUsed q)) (settingsRead u)
-touches (suc (suc k)) q u = true
+-- where k columns stand before the updated table's, by the update's form, 0 INSERT, 1 UPDATE, any other DELETE
+abbrev pub touches : ℕ → ℕ → Query → Update → Bool
+touches k zero q u = true
+touches k (suc zero) q u = any (λ (s : ℕ × M.Value). any (eqb (s .0)) (columnsUsed q)) (moved k (settingsRead u))
+touches k (suc (suc f)) q u = true
 
 unfoldable pub relevant : Query → Update → Bool
-relevant q u = eqb (q .table) (u .table) && touches (u .form) q u
+relevant q u = isSide (sideRead q u) && touches (startRead q u) (u .form) q u
 
 -- ---- rules 3 and 4: the joint clauses
 
@@ -47,19 +65,19 @@ clausesRead c = clausesOfNodes (conditionNodes c)
 abbrev pub queryClauses : (ℕ → P.Joint) → Query → List Clause
 queryClauses f q = map (map (renamed (ofQuery f))) (clausesRead (q .condition))
 
-abbrev pub updateClauses : Update → List Clause
-updateClauses u = map (map (renamed ofUpdate)) (clausesRead (u .condition))
+abbrev pub updateClauses : ℕ → Update → List Clause
+updateClauses k u = map (map (renamed (ofUpdate k))) (clausesRead (u .condition))
 
-abbrev pub bothClauses : Update → (ℕ → P.Joint) → Query → List Clause
-bothClauses u f q = pairs (updateClauses u) (queryClauses f q)
+abbrev pub bothClauses : ℕ → Update → (ℕ → P.Joint) → Query → List Clause
+bothClauses k u f q = pairs (updateClauses k u) (queryClauses f q)
 
-unfoldable pub jointClauses : ℕ → Query → Update → List Clause
-jointClauses zero q u = queryClauses (insertedColumn (settingValues u)) q
-jointClauses (suc zero) q u = bothClauses u column q ++ bothClauses u (λ i. setColumn (settingsRead u) i (column i)) q
-jointClauses (suc (suc k)) q u = bothClauses u column q
+unfoldable pub jointClauses : ℕ → ℕ → Query → Update → List Clause
+jointClauses k zero q u = queryClauses (replacing (placedFrom k (settingValues u))) q
+jointClauses k (suc zero) q u = bothClauses k u column q ++ bothClauses k u (replacing (moved k (settingsRead u))) q
+jointClauses k (suc (suc f)) q u = bothClauses k u column q
 
 abbrev pub joint : Query → Update → List Clause
-joint q u = jointClauses (u .form) q u
+joint q u = jointClauses (startRead q u) (u .form) q u
 
 -- ---- rule 5, and what no text compiles to
 

@@ -1,4 +1,5 @@
 // A joint clause in arrays, made from the comparisons that masks select: rule 3 says whose operands they are and what a column of the query becomes.
+// A.1: `from` columns of the query stand before those of the updated table, whose column i is the query's column from + i.
 use super::Pattern;
 use super::labels::Labels;
 use table::Condition;
@@ -13,7 +14,7 @@ ghost use Prim.Native.Nat.{suc, _≤_, min};
 ghost use lib.ListN.{length, take};
 ghost use Rattle.lists.specs.Lists.{All};
 ghost use Rattle.meaning.specs.Limits.{isWithin32};
-ghost use Rattle.meaning.specs.Pattern.{ofValue, insertedColumn, setColumn, column as columnNamed};
+ghost use Rattle.meaning.specs.Pattern.{ofValue, moved, placedFrom, replacing};
 ghost use Rattle.statement.specs.Sound.{valueRead, operandRead, settingRead};
 ghost use Rattle.pattern.specs.Least.{constantCode};
 ghost use Rattle.pattern.specs.Flat.{columnOf, operandOf, valuesOf, Coding, Readable, chosenOf, noClause, Extended, SetOnce, markOf};
@@ -82,25 +83,28 @@ fn value_code(value: Value) -> u64
     Labels::FROM_MARKS + (value.mark as u64)
 }
 
-// What a column becomes in an INSERT: the value of its place, or 0 past the values.
-fn inserted_code(settings: [Setting; Update::SETTINGS], n: usize, column: u8) -> u64
+// What a column becomes in an INSERT: the value of its place, or itself outside the inserted ones.
+fn inserted_code(settings: [Setting; Update::SETTINGS], n: usize, column: u8, from: u8) -> u64
     requires { ⌜ n ≤ 8 ⌝ }
-    ensures { λ r. ⌜ Coding (insertedColumn (valuesOf (map settingRead (take n settings))) column) r ⌝ }
+    ensures { λ r. ⌜ Coding (replacing (placedFrom from (valuesOf (map settingRead (take n settings)))) column) r ⌝ }
 {
-    let i = column as usize;
+    if column < from {
+        return Labels::FROM_COLUMNS + (column as u64);
+    }
+    let i = (column - from) as usize;
     if i < n {
         let item = settings[i];
         let value = item.new_value();
         return value_code(value);
     }
-    Labels::ZERO
+    Labels::FROM_COLUMNS + (column as u64)
 }
 
 // A column's number, or the one given, where a setting is of another column.
-fn set_once(item: Setting, column: u8, code: u64) -> u64
-    ensures { λ r. ⌜ SetOnce item column code r ⌝ }
+fn set_once(item: Setting, column: u8, from: u8, code: u64) -> u64
+    ensures { λ r. ⌜ SetOnce item from column code r ⌝ }
 {
-    if item.column == column {
+    if (from as u16) + (item.column as u16) == (column as u16) {
         let value = item.new_value();
         return value_code(value);
     }
@@ -108,32 +112,41 @@ fn set_once(item: Setting, column: u8, code: u64) -> u64
 }
 
 // What a column becomes in an UPDATE: what it is last set to, or itself.
-fn set_code(settings: [Setting; Update::SETTINGS], n: usize, column: u8) -> u64
+fn set_code(settings: [Setting; Update::SETTINGS], n: usize, column: u8, from: u8) -> u64
     requires { ⌜ n ≤ 8 ⌝ }
-    ensures { λ r. ⌜ Coding (setColumn (map settingRead (take n settings)) column (columnNamed column)) r ⌝ }
+    ensures { λ r. ⌜ Coding (replacing (moved from (map settingRead (take n settings))) column) r ⌝ }
 {
     let mut code = Labels::FROM_COLUMNS + (column as u64);
     let mut i: usize = 0;
     while i < n {
         let item = settings[i];
-        code = set_once(item, column, code);
+        code = set_once(item, column, from, code);
         i += 1;
     }
     code
 }
 
-// A column's number: its own, or of what the update puts there.
-fn column_code(column: u8, role: u8, settings: [Setting; Update::SETTINGS], n: usize) -> u64
+// A column's number: its own, the updated table's counted through both tables, or of what the update puts there.
+fn column_code(
+    column: u8,
+    role: u8,
+    from: u8,
+    settings: [Setting; Update::SETTINGS],
+    n: usize,
+) -> u64
     requires { ⌜ n ≤ 8 ⌝ }
-    ensures { λ r. ⌜ Coding (columnOf role (map settingRead (take n settings)) column) r ⌝ }
+    ensures { λ r. ⌜ Coding (columnOf role from (map settingRead (take n settings)) column) r ⌝ }
 {
-    if role < Joined::INSERTED {
+    if role == Joined::UPDATE {
+        return Labels::FROM_COLUMNS + (from as u64) + (column as u64);
+    }
+    if role == Joined::QUERY {
         return Labels::FROM_COLUMNS + (column as u64);
     }
     if role == Joined::INSERTED {
-        return inserted_code(settings, n, column);
+        return inserted_code(settings, n, column, from);
     }
-    set_code(settings, n, column)
+    set_code(settings, n, column, from)
 }
 
 // The number of question mark k + 1, of whom the role says.
@@ -147,9 +160,15 @@ fn mark_code(k: u8, role: u8) -> u64
 }
 
 // A side of a comparison.
-fn operand_code(o: Operand, role: u8, settings: [Setting; Update::SETTINGS], n: usize) -> u64
+fn operand_code(
+    o: Operand,
+    role: u8,
+    from: u8,
+    settings: [Setting; Update::SETTINGS],
+    n: usize,
+) -> u64
     requires { ⌜ n ≤ 8 ⌝ }
-    ensures { λ r. ⌜ Coding (operandOf role (map settingRead (take n settings)) (operandRead o)) r ⌝ }
+    ensures { λ r. ⌜ Coding (operandOf role from (map settingRead (take n settings)) (operandRead o)) r ⌝ }
 {
     if o.code % 2 == 1 {
         return mark_code(o.code / 2, role);
@@ -157,7 +176,7 @@ fn operand_code(o: Operand, role: u8, settings: [Setting; Update::SETTINGS], n: 
     if o.code == 0 {
         return constant_code(o.number);
     }
-    column_code(o.code / 2 - 1, role, settings, n)
+    column_code(o.code / 2 - 1, role, from, settings, n)
 }
 
 // ---- comparisons
@@ -170,11 +189,12 @@ pub fn add(
     condition: Condition,
     mask: u8,
     role: u8,
+    from: u8,
     settings: [Setting; Update::SETTINGS],
     given: usize,
 ) -> Joined
     requires { ⌜ (n ≤ 8) × (given ≤ 8) × (condition .count ≤ 8) × All Readable start ⌝ }
-    ensures { λ r. ⌜ Extended start ops n (chosenOf role (map settingRead (take given settings)) condition mask) r × (length settings ≡ 8) ⌝ }
+    ensures { λ r. ⌜ Extended start ops n (chosenOf role from (map settingRead (take given settings)) condition mask) r × (length settings ≡ 8) ⌝ }
 {
     let mut codes = start;
     let mut numbers = ops;
@@ -185,8 +205,8 @@ pub fn add(
         let c = condition.comparisons[i];
         let a = c.left_side();
         let b = c.right_side();
-        codes[2 * at] = operand_code(a, role, settings, given);
-        codes[2 * at + 1] = operand_code(b, role, settings, given);
+        codes[2 * at] = operand_code(a, role, from, settings, given);
+        codes[2 * at + 1] = operand_code(b, role, from, settings, given);
         numbers[at] = c.op;
         at += (left % 2) as usize;
         left = left / 2;

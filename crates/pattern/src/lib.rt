@@ -7,6 +7,7 @@ mod masks; // the clauses of a condition
 mod pairing; // the joint clauses of a query and an update
 mod relevance; // rules 1 and 2
 
+pub use relevance::reads;
 use table::Query;
 use table::Update;
 ghost use mathlib.Core.Path.{_≡_};

@@ -8,6 +8,7 @@ use super::joint::Joined;
 use super::labels;
 use super::masks;
 use super::masks::Clauses;
+use super::relevance;
 use table::Query;
 use table::Update;
 ghost use mathlib.Core.Path.{_≡_};
@@ -98,10 +99,10 @@ pub fn all_any(query: Query) -> Pattern
     }
 }
 
-// The pattern of a clause of an INSERT: the comparisons of the query that a mask selects.
-fn inserted(query: Query, update: Update, mask: u8) -> Pattern
+// The pattern of a clause of an INSERT: the comparisons of the query that a mask selects. `from` columns of the query stand before those of the updated table (A.1).
+fn inserted(query: Query, update: Update, from: u8, mask: u8) -> Pattern
     requires { ⌜ query .condition .count ≤ 8 ⌝ }
-    ensures { λ r. ⌜ r ≡ clausePattern (entryCount query) (chosenOf 2 (settingsRead update) (query .condition) mask) ⌝ }
+    ensures { λ r. ⌜ r ≡ clausePattern (entryCount query) (chosenOf 2 from (settingsRead update) (query .condition) mask) ⌝ }
 {
     let start = Joined::empty();
     let codes = start.codes;
@@ -116,6 +117,7 @@ fn inserted(query: Query, update: Update, mask: u8) -> Pattern
         condition,
         mask,
         Joined::INSERTED,
+        from,
         settings,
         n,
     );
@@ -130,9 +132,9 @@ fn inserted(query: Query, update: Update, mask: u8) -> Pattern
 }
 
 // The pattern of a clause of the update and one of the query.
-fn joined(query: Query, update: Update, given: u8, asked: u8, role: u8) -> Pattern
+fn joined(query: Query, update: Update, from: u8, given: u8, asked: u8, role: u8) -> Pattern
     requires { ⌜ (query .condition .count ≤ 8) × (update .condition .count ≤ 8) ⌝ }
-    ensures { λ r. ⌜ r ≡ clausePattern (entryCount query) (chosenOf 0 (settingsRead update) (update .condition) given ++ chosenOf role (settingsRead update) (query .condition) asked) ⌝ }
+    ensures { λ r. ⌜ r ≡ clausePattern (entryCount query) (chosenOf 0 from (settingsRead update) (update .condition) given ++ chosenOf role from (settingsRead update) (query .condition) asked) ⌝ }
 {
     let start = Joined::empty();
     let codes = start.codes;
@@ -140,7 +142,17 @@ fn joined(query: Query, update: Update, given: u8, asked: u8, role: u8) -> Patte
     let settings = update.settings;
     let n = joint::used(update.count, Update::SETTINGS);
     let condition = update.condition;
-    let first = joint::add(codes, ops, 0, condition, given, Joined::UPDATE, settings, n);
+    let first = joint::add(
+        codes,
+        ops,
+        0,
+        condition,
+        given,
+        Joined::UPDATE,
+        from,
+        settings,
+        n,
+    );
     let first_codes = first.codes;
     let first_ops = first.ops;
     let tested = query.condition;
@@ -151,6 +163,7 @@ fn joined(query: Query, update: Update, given: u8, asked: u8, role: u8) -> Patte
         tested,
         asked,
         role,
+        from,
         settings,
         n,
     );
@@ -165,9 +178,9 @@ fn joined(query: Query, update: Update, given: u8, asked: u8, role: u8) -> Patte
 }
 
 // The pattern of pair k, the update's clause outer.
-fn pair_at(query: Query, update: Update, p: Pairing, k: u16, role: u8) -> Pattern
+fn pair_at(query: Query, update: Update, from: u8, p: Pairing, k: u16, role: u8) -> Pattern
     requires { ⌜ Worked query update p × (k < p .update .count * p .query .count) ⌝ }
-    ensures { λ r. ⌜ r ≡ clausePattern (entryCount query) (pairAt role query update k) ⌝ }
+    ensures { λ r. ⌜ r ≡ clausePattern (entryCount query) (pairAt role from query update k) ⌝ }
 {
     let f = p.query;
     let g = p.update;
@@ -178,7 +191,7 @@ fn pair_at(query: Query, update: Update, p: Pairing, k: u16, role: u8) -> Patter
     let given = masks[left];
     let others = f.masks;
     let asked = others[right];
-    joined(query, update, given, asked, role)
+    joined(query, update, from, given, asked, role)
 }
 
 // The pattern of joint clause i.
@@ -188,14 +201,15 @@ pub fn clause_at(query: Query, update: Update, p: Pairing, i: u8) -> Pattern
 {
     let f = p.query;
     let g = p.update;
+    let from = relevance::start_of(query, update);
     if update.form == Update::INSERT {
         let masks = f.masks;
-        return inserted(query, update, masks[i as usize]);
+        return inserted(query, update, from, masks[i as usize]);
     }
     let size = (g.count as u16) * (f.count as u16);
     let k = i as u16;
     if k < size {
-        return pair_at(query, update, p, k, Joined::QUERY);
+        return pair_at(query, update, from, p, k, Joined::QUERY);
     }
-    pair_at(query, update, p, k - size, Joined::SET)
+    pair_at(query, update, from, p, k - size, Joined::SET)
 }

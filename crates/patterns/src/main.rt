@@ -55,6 +55,8 @@ fn no_query() -> Query {
         selected: [0; Query::SELECTED],
         count: 0,
         parameters: 0,
+        second: 0,
+        start: 0,
         condition,
     }
 }

@@ -76,9 +76,23 @@ fn print_further(bytes: &[u8], i: usize) {
     }
 }
 
+// The number of two bytes.
+fn both(high: u8, low: u8) -> usize {
+    (high as usize) * 256 + (low as usize)
+}
+
+// How many rows the head of a record counts; none where there is no head.
+fn rows_counted(bytes: &[u8]) -> usize {
+    if bytes.len() < Answer::HEAD {
+        return 0;
+    }
+    both(bytes[6], bytes[7])
+}
+
 // The rows of a record, if the bytes are one.
 pub fn print_rows(bytes: &[u8]) {
-    for i in 0..Answer::ROWS {
+    let n = rows_counted(bytes);
+    for i in 0..n {
         print_further(bytes, i);
     }
 }

@@ -22,7 +22,7 @@ use Rattle.console.proofs.Rooms.{take-both}
 use Rattle.console.proofs.Prints.{text-short, all-printed}
 use Rattle.console.proofs.Bounds.{gather-moves, gather-within, reply-within}
 use Rattle.serve.specs.Input.{Session, most-held, holding, answering, behind, fed, printedIn, finished, beginning}
-use Rattle.serve.specs.Turns.{most-printed, storeOf, sessionOf, between, ending, Gathers, Answers, Feeds, Finishes, Whole, Reads, Ends, Runs}
+use Rattle.serve.specs.Turns.{most-lent, most-printed, storeOf, sessionOf, between, ending, Gathers, Answers, Feeds, Finishes, Whole, Reads, Ends, Runs}
 use Rattle.serve.proofs.Feeding.{pieces-join, take-held, fedBy, textBy}
 
 abbrev within : ℕ → Bool
@@ -241,11 +241,11 @@ module _ (r : Reply) (cells′ : List ℤ) (memory′ answer′ out′ : List �
   pub reply-inside : r .length ≤ length out
   reply-inside = omega (arith, ap (λ (x : Replies). x .result .length) e, reply-within state cells memory answer line out)
 
-  pub reply-answers : most-printed ≤ length out → Answers (sessionOf state cells memory answer line) (sessionOf (r .state) cells′ memory′ answer′ []) (take (r .length) out′)
+  pub reply-answers : length answer ≤ most-lent → most-printed ≤ length out → Answers (sessionOf state cells memory answer line) (sessionOf (r .state) cells′ memory′ answer′ []) (take (r .length) out′)
   unfolding replyOf
-  reply-answers h =
+  reply-answers l h =
       let a = answering (sessionOf state cells memory answer line) in
-      let p = all-printed out (a .text) (omega (arith, h, text-short (record { state = state; cells = cells; memory = memory }) answer line)) in
+      let p = all-printed out (a .text) (omega (arith, h, text-short (record { state = state; cells = cells; memory = memory }) answer line l)) in
       record {
         session = ap (λ (x : Replies). sessionOf (x .result .state) (x .cells) (x .memory) (x .answer) []) e;
         printed = ap (λ (x : Replies). take (x .result .length) (x .out)) e ∙ ap (λ (k : ℕ). take k (filled out 0 (a .text))) (p .0) ∙ p .1;

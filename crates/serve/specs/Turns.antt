@@ -11,9 +11,12 @@ use Rattle.cache.specs.Run.{Store, Start, opened}
 use Rattle.console.specs.Lines.{lineFrom}
 use Rattle.serve.specs.Input.{Opening, Session, most-held, answering, behind, fed, printedIn, finished, printedLast, beginning}
 
--- no line prints more bytes
+-- the bytes that are lent for answers; and no line prints more bytes, with an answer in those
+abbrev pub most-lent : ℕ
+most-lent = 65536
+
 abbrev pub most-printed : ℕ
-most-printed = 65536
+most-printed = 262144
 
 -- the store and the session as the program has them; the held bytes are the first of a buffer
 abbrev pub storeOf : State → List ℤ → List ℕ → Store

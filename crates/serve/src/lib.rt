@@ -9,7 +9,7 @@ ghost use Prim.Native.Nat.{_≤_, _<_};
 ghost use lib.ListN.{length, take};
 ghost use Rattle.cache.specs.Run.{opened};
 ghost use Rattle.serve.specs.Input.{most-held, fed};
-ghost use Rattle.serve.specs.Turns.{most-printed, storeOf, sessionOf, startOf, between, Gathers, Answers, Feeds, Finishes, Whole, readsLeft, Reads, Ends, Runs, Serves};
+ghost use Rattle.serve.specs.Turns.{most-lent, most-printed, storeOf, sessionOf, startOf, between, Gathers, Answers, Feeds, Finishes, Whole, readsLeft, Reads, Ends, Runs, Serves};
 
 // The store that document 01's `desk` opens, and the bytes that it lends for answers.
 pub struct Desk {}
@@ -28,6 +28,10 @@ impl Desk {
 
 // The bytes of a line that are held: one more than a line may have, so that a longer one is seen to be too long.
 const HELD: usize = Line::BYTES + 1;
+
+// The bytes for the text of a line, which hold what any line prints: of an answer in `Desk::ANSWER` bytes, 3 for each byte of its values (12 for a value, with its
+// space), 2 for each row, which has 4 bytes or more, and 33 besides: at most 3 * 65,528 + 2 * 16,382 + 33. No other line has 64.
+const PRINTED: usize = 4 * Desk::ANSWER;
 
 // The most reads of an input: a loop must end, and no run lives to see this one end so.
 const MOST_READS: u64 = 18446744073709551615;
@@ -55,7 +59,7 @@ fn answer_line(
     line: &[u8],
     out: &mut [u8],
 ) -> Served
-    requires { ⌜ most-printed ≤ length (now out) ⌝ }
+    requires { ⌜ (length (now answer) ≤ most-lent) × (most-printed ≤ length (now out)) ⌝ }
     ensures numbers { λ r. ⌜ (r .held ≡ 0) × (r .next ≡ served .next) × (r .printed ≤ length (now (out .entry))) ⌝ }
     ensures answers { λ r. ⌜ Answers (sessionOf (served .state) (now (cells .entry)) (now (memory .entry)) (now (answer .entry)) (now (line .entry))) (sessionOf (r .state) (now (cells .exit)) (now (memory .exit)) (now (answer .exit)) []) (take (r .printed) (now (out .exit))) ⌝ }
 {
@@ -92,7 +96,7 @@ fn answer_on(
     line: &mut [u8],
     out: &mut [u8],
 ) -> Served
-    requires { ⌜ (served .next < length (now piece)) × (served .held ≤ length (now line)) × (length (now line) ≡ most-held) × (most-printed ≤ length (now out)) ⌝ }
+    requires { ⌜ (served .next < length (now piece)) × (served .held ≤ length (now line)) × (length (now line) ≡ most-held) × (length (now answer) ≤ most-lent) × (most-printed ≤ length (now out)) ⌝ }
     ensures numbers { λ r. ⌜ (served .next < r .next) × (r .next ≤ length (now (piece .entry))) × (r .held ≤ length (now (line .entry))) × (r .printed ≤ length (now (out .entry))) ⌝ }
     ensures feeds { λ r. ⌜ Feeds (sessionOf (served .state) (now (cells .entry)) (now (memory .entry)) (now (answer .entry)) (take (served .held) (now (line .entry)))) (between (served .next) (r .next) (now (piece .entry))) (sessionOf (r .state) (now (cells .exit)) (now (memory .exit)) (now (answer .exit)) (take (r .held) (now (line .exit)))) (take (r .printed) (now (out .exit))) ⌝ }
 {
@@ -117,7 +121,7 @@ fn finish(
     line: &[u8],
     out: &mut [u8],
 ) -> Served
-    requires { ⌜ (served .held ≤ length (now line)) × (most-printed ≤ length (now out)) ⌝ }
+    requires { ⌜ (served .held ≤ length (now line)) × (length (now answer) ≤ most-lent) × (most-printed ≤ length (now out)) ⌝ }
     ensures numbers { λ r. ⌜ r .printed ≤ length (now (out .entry)) ⌝ }
     ensures finishes { λ r. ⌜ Finishes (sessionOf (served .state) (now (cells .entry)) (now (memory .entry)) (now (answer .entry)) (take (served .held) (now (line .entry)))) (sessionOf (r .state) (now (cells .exit)) (now (memory .exit)) (now (answer .exit)) []) (take (r .printed) (now (out .exit))) ⌝ }
 {
@@ -159,7 +163,7 @@ fn answer_next(
     out: &mut [u8],
     output: i32,
 ) -> Served
-    requires { ⌜ (served .next < length (now piece)) × (served .held ≤ length (now line)) × (length (now line) ≡ most-held) × (most-printed ≤ length (now out)) ⌝ }
+    requires { ⌜ (served .next < length (now piece)) × (served .held ≤ length (now line)) × (length (now line) ≡ most-held) × (length (now answer) ≤ most-lent) × (most-printed ≤ length (now out)) ⌝ }
     ensures numbers { λ r. ⌜ (served .next < r .next) × (r .next ≤ length (now (piece .entry))) × (r .held ≤ length (now (line .entry))) ⌝ }
     ensures feeds { λ r. ⌜ Feeds (sessionOf (served .state) (now (cells .entry)) (now (memory .entry)) (now (answer .entry)) (take (served .held) (now (line .entry)))) (between (served .next) (r .next) (now (piece .entry))) (sessionOf (r .state) (now (cells .exit)) (now (memory .exit)) (now (answer .exit)) (take (r .held) (now (line .exit)))) (take (r .printed) (now (out .exit))) ⌝ }
 {
@@ -182,7 +186,7 @@ fn answer_piece(
     out: &mut [u8],
     output: i32,
 ) -> Served
-    requires { ⌜ (served .held ≤ length (now line)) × (length (now line) ≡ most-held) × (most-printed ≤ length (now out)) ⌝ }
+    requires { ⌜ (served .held ≤ length (now line)) × (length (now line) ≡ most-held) × (length (now answer) ≤ most-lent) × (most-printed ≤ length (now out)) ⌝ }
     ensures numbers { λ r. ⌜ (r .held ≤ length (now (line .entry))) × (r .next ≤ length (now (piece .entry))) × Whole (r .written) (r .next) (length (now (piece .entry))) ⌝ }
     ensures session { λ r. ⌜ sessionOf (r .state) (now (cells .exit)) (now (memory .exit)) (now (answer .exit)) (take (r .held) (now (line .exit))) ≡ fed (sessionOf (served .state) (now (cells .entry)) (now (memory .entry)) (now (answer .entry)) (take (served .held) (now (line .entry)))) (take (r .next) (now (piece .entry))) ⌝ }
 {
@@ -228,7 +232,7 @@ fn answer_read(
     input: i32,
     output: i32,
 ) -> Served
-    requires { ⌜ (served .held ≤ length (now line)) × (length (now line) ≡ most-held) × (most-printed ≤ length (now out)) × (0 < served .left) ⌝ }
+    requires { ⌜ (served .held ≤ length (now line)) × (length (now line) ≡ most-held) × (length (now answer) ≤ most-lent) × (most-printed ≤ length (now out)) × (0 < served .left) ⌝ }
     ensures numbers { λ r. ⌜ (r .held ≤ length (now (line .entry))) × (r .left < served .left) × (r .left ≡ readsLeft (served .left) (r .got) (r .written)) × Whole (r .written) (r .next) (r .got) ⌝ }
     ensures session { λ r. ⌜ sessionOf (r .state) (now (cells .exit)) (now (memory .exit)) (now (answer .exit)) (take (r .held) (now (line .exit))) ≡ fed (sessionOf (served .state) (now (cells .entry)) (now (memory .entry)) (now (answer .entry)) (take (served .held) (now (line .entry)))) (take (r .next) (now (piece .exit))) ⌝ }
 {
@@ -253,7 +257,7 @@ fn answer_all(
     input: i32,
     output: i32,
 ) -> Served
-    requires { ⌜ (served .held ≤ length (now line)) × (length (now line) ≡ most-held) × (most-printed ≤ length (now out)) ⌝ }
+    requires { ⌜ (served .held ≤ length (now line)) × (length (now line) ≡ most-held) × (length (now answer) ≤ most-lent) × (most-printed ≤ length (now out)) ⌝ }
     ensures numbers { λ r. ⌜ r .held ≤ length (now (line .entry)) ⌝ }
     ensures reads { λ r. ⌜ Reads (sessionOf (served .state) (now (cells .entry)) (now (memory .entry)) (now (answer .entry)) (take (served .held) (now (line .entry)))) (sessionOf (r .state) (now (cells .exit)) (now (memory .exit)) (now (answer .exit)) (take (r .held) (now (line .exit)))) ⌝ }
 {
@@ -275,7 +279,7 @@ fn answer_last(
     out: &mut [u8],
     output: i32,
 ) -> Served
-    requires { ⌜ (served .held ≤ length (now line)) × (most-printed ≤ length (now out)) ⌝ }
+    requires { ⌜ (served .held ≤ length (now line)) × (length (now answer) ≤ most-lent) × (most-printed ≤ length (now out)) ⌝ }
     ensures { λ r. ⌜ Finishes (sessionOf (served .state) (now (cells .entry)) (now (memory .entry)) (now (answer .entry)) (take (served .held) (now (line .entry)))) (sessionOf (r .state) (now (cells .exit)) (now (memory .exit)) (now (answer .exit)) []) (take (r .printed) (now (out .exit))) ⌝ }
 {
     let mut s = finish(served, cells, memory, answer, line, out);
@@ -296,7 +300,7 @@ fn answer_end(
     out: &mut [u8],
     output: i32,
 ) -> Served
-    requires { ⌜ (served .held ≤ length (now line)) × (most-printed ≤ length (now out)) ⌝ }
+    requires { ⌜ (served .held ≤ length (now line)) × (length (now answer) ≤ most-lent) × (most-printed ≤ length (now out)) ⌝ }
     ensures { λ r. ⌜ Ends (served .written) (sessionOf (served .state) (now (cells .entry)) (now (memory .entry)) (now (answer .entry)) (take (served .held) (now (line .entry)))) (r .written) (sessionOf (r .state) (now (cells .exit)) (now (memory .exit)) (now (answer .exit)) []) ⌝ }
 {
     if served.written {
@@ -317,7 +321,7 @@ fn answer_input(
     input: i32,
     output: i32,
 ) -> Served
-    requires { ⌜ (served .held ≤ length (now line)) × (length (now line) ≡ most-held) × (most-printed ≤ length (now out)) ⌝ }
+    requires { ⌜ (served .held ≤ length (now line)) × (length (now line) ≡ most-held) × (length (now answer) ≤ most-lent) × (most-printed ≤ length (now out)) ⌝ }
     ensures { λ r. ⌜ Runs (sessionOf (served .state) (now (cells .entry)) (now (memory .entry)) (now (answer .entry)) (take (served .held) (now (line .entry)))) (r .written) (sessionOf (r .state) (now (cells .exit)) (now (memory .exit)) (now (answer .exit)) []) ⌝ }
 {
     let last = answer_all(
@@ -364,7 +368,7 @@ fn run(
     input: i32,
     output: i32,
 ) -> Served
-    requires { ⌜ (length (now cells) ≡ 4096) × (length (now memory) ≡ 256) × (length (now answer) ≡ 65536) × (length (now line) ≡ most-held) × (most-printed ≤ length (now out)) ⌝ }
+    requires { ⌜ (length (now cells) ≡ 4096) × (length (now memory) ≡ 256) × (length (now answer) ≡ most-lent) × (length (now line) ≡ most-held) × (most-printed ≤ length (now out)) ⌝ }
     ensures { λ r. ⌜ Serves (startOf (now (cells .entry)) (now (memory .entry))) (now (answer .entry)) (r .written) (sessionOf (r .state) (now (cells .exit)) (now (memory .exit)) (now (answer .exit)) []) ⌝ }
 {
     let s = open(cells, memory);
@@ -395,6 +399,12 @@ fn no_line() -> [u8; HELD]
     [0; HELD]
 }
 
+fn no_text() -> [u8; PRINTED]
+    ensures { λ r. ⌜ 262144 ≡ length r ⌝ }
+{
+    [0; PRINTED]
+}
+
 // Opens a store, and answers the lines of an input until it ends or nothing more can be written.
 pub fn serve(input: i32, output: i32) {
     let mut cells = no_cells();
@@ -402,7 +412,7 @@ pub fn serve(input: i32, output: i32) {
     let mut answer = no_answer();
     let mut piece = io::large_buffer();
     let mut line = no_line();
-    let mut out = io::large_buffer();
+    let mut out = no_text();
     run(
         &mut cells,
         &mut memory,

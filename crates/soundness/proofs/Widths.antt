@@ -1,26 +1,28 @@
 -- How many columns the tables have; questions and updates by the number of columns of their table. Assumes nothing.
-use mathlib.Core.Path.{_≡_, refl, sym, ap, _∙_}
-use mathlib.Core.Bool.{Bool, true, false, _&&_}
+use mathlib.Core.Path.{_≡_, refl, sym, ap, _∙_, subst}
+use mathlib.Core.Logic.{_≢_}
+use mathlib.Core.Bool.{Bool, true, false, _&&_, cond}
 use mathlib.Core.List.{List, [], _∷_, _++_, map}
 use Prim.Native.Nat.{ℕ, zero, suc, _+_, _-_, _≤_, _<_, min}
 use native.Mathlib.Nat.{le-of-suc-le-suc, not-suc-le-zero}
 use native.Mathlib.Omega.{arith}
-use borrow.Author.Tests.{ltb-true}
-use lib.Dec.{leb, ltb}
+use borrow.Author.Tests.{ltb-true, le-ltb, leb-true, eq-eqb, ne-eqb}
+use lib.Dec.{eqb, leb, ltb}
 use lib.ListN.{length, getD, take, set, replicate, length-map, length-take}
 use lib.Seq.{take-all}
 use Rattle.lists.specs.Lists.{All, nil, cons, all}
+use Rattle.lists.proofs.Bools.{and-left, and-right, contra, clash}
 use Rattle.lists.proofs.Lists.{All-getD}
 use Rattle.lists.proofs.Places.{All-set}
 use Rattle.meaning.specs.Names.{Schema}
 use Rattle.statement.specs.Catalog.{schemaOf, schemasOf}
 use Rattle.statement.specs.Compiled.{padded}
-use Rattle.statement.specs.Sound.{columnsAt, soundConditionOn, soundQueryOn, soundUpdateOn, soundQuery, soundUpdate}
+use Rattle.statement.specs.Sound.{secondBy, secondRead, columnsAt, columnsWith, soundSecond, soundConditionOn, soundQueryOn, soundUpdateOn, soundQuery, soundUpdate}
 use Rattle.statement.specs.declared.Table.{Table}
 use Rattle.statement.specs.declared.Query.{Query}
 use Rattle.statement.specs.declared.Update.{Update}
-use Rattle.statement.proofs.Walks.{take-min, rest, length-first, map-rest, map-none, Fills, fills-start, fills-more, fills-end}
-use Rattle.soundness.specs.Parts.{widthOf, Widths}
+use Rattle.statement.proofs.Walks.{take-min, rest, length-first, map-rest, map-none, Fills, fills-start, fills-more, fills-end, Tested, tested-more}
+use Rattle.soundness.specs.Parts.{widthOf, Widths, fitsSecond, widthWith}
 use Rattle.soundness.proofs.Tests.{counted}
 
 -- ---- the loop: the widths left are to be written
@@ -73,12 +75,59 @@ beside : (b x y : Bool) → (b ≡ true → x ≡ y) → (b && x) ≡ (b && y)
 beside true x y e = e refl
 beside false x y e = refl
 
+-- A.1: whether the second table fits, and the columns of both
+abbrev pub secondAt : ℕ → ℕ → ℕ → ℕ → ℕ → Bool
+secondAt there table columns second start = cond (eqb second 0) true (fitsSecond there table columns (second - 1) start)
+
+abbrev pub bothWidths : List ℕ → ℕ → ℕ → ℕ
+bothWidths widths columns second = cond (eqb second 0) columns (columns + getD widths (second - 1) 0)
+
+-- no column, where the second table does not fit, is as good as that test
+pub with-second : (there : ℕ) (widths : List ℕ) (table columns second start : ℕ) (q : Query) → soundQueryOn 0 q ≡ false
+    → soundQueryOn (widthWith there widths table columns second start) q ≡ (secondAt there table columns second start && soundQueryOn (bothWidths widths columns second) q)
+with-second there widths table columns second start q h = go (eqb second 0) (fitsSecond there table columns (second - 1) start)
+  where
+    go : (a b : Bool) → soundQueryOn (cond a columns (cond b (columns + getD widths (second - 1) 0) 0)) q
+        ≡ (cond a true b && soundQueryOn (cond a columns (columns + getD widths (second - 1) 0)) q)
+    go true b = refl
+    go false true = refl
+    go false false = h
+
+-- what `width_with` returns
+module _ (there : ℕ) (widths : List ℕ) (table columns second start : ℕ) where
+  pub with-none : second ≡ 0 → columns ≡ widthWith there widths table columns second start
+  with-none h = rw (eq-eqb second 0 h) refl
+
+  pub with-yes : second ≢ 0 → fitsSecond there table columns (second - 1) start ≡ true → columns + getD widths (second - 1) 0 ≡ widthWith there widths table columns second start
+  with-yes h k = rw (ne-eqb second 0 h, k) refl
+
+  pub with-no : second ≢ 0 → fitsSecond there table columns (second - 1) start ≡ false → 0 ≡ widthWith there widths table columns second start
+  with-no h k = rw (ne-eqb second 0 h, k) refl
+
 -- a statement as the loop tests it
 abbrev pub queryAt : ℕ → List ℕ → Query → Bool
-queryAt there widths q = ltb (q .table) there && soundQueryOn (getD widths (q .table) 0) q
+queryAt there widths q =
+    let n : ℕ = getD widths (q .table) 0 in
+    ltb (q .table) there && (secondAt there (q .table) n (q .second) (q .start) && soundQueryOn (bothWidths widths n (q .second)) q)
 
 abbrev pub updateAt : ℕ → List ℕ → Update → Bool
 updateAt there widths u = ltb (u .table) there && soundUpdateOn (getD widths (u .table) 0) u
+
+-- a question tested in the loop
+pub tested-query : (there : ℕ) (widths : List ℕ) (count : ℕ) (queries : List Query) → count ≤ length queries → (ok : Bool) (i : ℕ) (d : Query) → i < count
+    → (first columns : ℕ) (r : Bool)
+    → first ≡ getD widths (getD queries i d .table) 0
+    → columns ≡ widthWith there widths (getD queries i d .table) first (getD queries i d .second) (getD queries i d .start)
+    → (r ≡ soundQueryOn columns (getD queries i d)) × (soundQueryOn 0 (getD queries i d) ≡ false)
+    → Tested (queryAt there widths) count queries ok i
+    → Tested (queryAt there widths) count queries (ok && (ltb (getD queries i d .table) there && r)) (i + 1)
+tested-query there widths count queries l ok i d k first columns r f w s T =
+    let q : Query = getD queries i d in
+    let e : r ≡ (secondAt there (q .table) (getD widths (q .table) 0) (q .second) (q .start) && soundQueryOn (bothWidths widths (getD widths (q .table) 0) (q .second)) q) =
+    s .0 ∙ ap (λ (n : ℕ). soundQueryOn n q) (w ∙ ap (λ (n : ℕ). widthWith there widths (q .table) n (q .second) (q .start)) f)
+    ∙ with-second there widths (q .table) (getD widths (q .table) 0) (q .second) (q .start) q (s .1) in
+    subst (λ (b : Bool). Tested (queryAt there widths) count queries (ok && (ltb (q .table) there && b)) (i + 1)) (sym e)
+    (tested-more (queryAt there widths) count queries l ok i d k T)
 
 pub width-small : (ts : List Table) (widths : List ℕ) → Widths ts widths → (w i : ℕ) → w ≡ getD widths i 0 → w ≤ 8
 width-small ts widths W w i h = let s : getD widths i 0 ≤ 8 = All-getD i 0 (omega arith) (W .1) in omega arith
@@ -97,11 +146,30 @@ module _ (tables : List Table) (used there : ℕ) (eight : length tables ≡ 8) 
   tables-many : length (schemasOf tables used) ≡ there
   tables-many = length-map (take used tables) schemaOf ∙ length-take used tables ∙ ap (min used) eight ∙ sym e
 
+  -- the second table, where the first has n columns
+  second-beside : (q : Query) (n k : ℕ)
+      → (secondAt there (q .table) n k (q .start) && soundQueryOn (bothWidths widths n k) q)
+      ≡ (soundSecond (schemasOf tables used) (q .table) n (secondBy k (q .start)) && soundQueryOn (columnsWith (schemasOf tables used) n (secondBy k (q .start))) q)
+  second-beside q n zero = refl
+  second-beside q n (suc k) =
+      let j : suc k - 1 ≡ k = omega arith in
+      ap (λ (b : Bool). cond b true (fitsSecond there (q .table) n (suc k - 1) (q .start)) && soundQueryOn (cond b n (n + getD widths (suc k - 1) 0)) q)
+      (ne-eqb (suc k) 0 (λ e. omega arith))
+      ∙ ap (λ (i : ℕ). fitsSecond there (q .table) n i (q .start) && soundQueryOn (n + getD widths i 0) q) j
+      ∙ beside (fitsSecond there (q .table) n k (q .start)) _ _
+      (λ h. ap (λ (w : ℕ). soundQueryOn (n + w) q) (width-is k (ltb-true k there (and-left (ltb k there) _ h))))
+      ∙ ap (λ (m : ℕ). fitsSecond m (q .table) n k (q .start) && soundQueryOn (n + columnsAt (schemasOf tables used) k) q) (sym tables-many)
+
   query-beside : (q : Query) → queryAt there widths q ≡ soundQuery (schemasOf tables used) q
   unfolding soundQuery
   query-beside q =
-      beside (ltb (q .table) there) _ _ (λ h. ap (λ (w : ℕ). soundQueryOn w q) (width-is (q .table) (ltb-true (q .table) there h)))
-      ∙ ap (λ (n : ℕ). ltb (q .table) n && soundQueryOn (columnsAt (schemasOf tables used) (q .table)) q) (sym tables-many)
+      let ts : List Schema = schemasOf tables used in
+      beside (ltb (q .table) there) _ _
+      (λ h.
+      second-beside q (getD widths (q .table) 0) (q .second)
+      ∙ ap (λ (n : ℕ). soundSecond ts (q .table) n (secondRead q) && soundQueryOn (columnsWith ts n (secondRead q)) q) (width-is (q .table) (ltb-true (q .table) there h)))
+      ∙ ap (λ (m : ℕ). ltb (q .table) m && (soundSecond ts (q .table) (columnsAt ts (q .table)) (secondRead q) && soundQueryOn (columnsWith ts (columnsAt ts (q .table)) (secondRead q)) q))
+      (sym tables-many)
 
   update-beside : (u : Update) → updateAt there widths u ≡ soundUpdate (schemasOf tables used) u
   unfolding soundUpdate
@@ -116,6 +184,21 @@ module _ (tables : List Table) (used there : ℕ) (eight : length tables ≡ 8) 
   updates-beside us = ap (λ (p : Update → Bool). all p us) (λ i u. update-beside u i)
 
 -- ---- a question
+
+-- no column is below 0
+none-below : (n : ℕ) (l : List ℕ) → 1 ≤ n → 1 ≤ length l → all (λ (i : ℕ). ltb i 0) (take n l) ≡ false
+none-below zero l h k = absurd (omega arith)
+none-below (suc n) [] h k = absurd (omega arith)
+none-below (suc n) (x ∷ l) h k = ap (λ (b : Bool). b && all (λ (i : ℕ). ltb i 0) (take n l)) (le-ltb x 0 (omega arith))
+
+pub no-columns : (q : Query) → length (q .selected) ≡ 8 → soundQueryOn 0 q ≡ false
+no-columns q e =
+    contra (soundQueryOn 0 q) false
+    (λ h.
+    let k = and-right (leb 1 (q .count)) _ h in
+    let selected = and-left (all (λ (i : ℕ). ltb i 0) (take (q .count) (q .selected))) _ (and-right (leb (q .count) 8) _ k) in
+    clash selected (none-below (q .count) (q .selected) (leb-true 1 (q .count) (and-left (leb 1 (q .count)) _ h)) (omega arith)))
+    refl
 
 module _ (columns : ℕ) (q : Query) where
   abbrev below : Bool

@@ -6,7 +6,7 @@ use mathlib.Core.Bool.{Bool, true, not, _&&_, cond}
 use mathlib.Core.List.{List, [], _∷_, map}
 use Prim.Native.Nat.{ℕ, _+_, _-_, _*_, _≤_}
 use lib.Dec.{eqb, leb, ltb}
-use lib.ListN.{length, take}
+use lib.ListN.{length, getD, take}
 use Rattle.lists.specs.Lists.{All, all, repeats, from}
 use Rattle.meaning.specs.Tokens.{isDigit, isSmall, isNameByte}
 use Rattle.meaning.specs.Limits.{most-items, most-rows}
@@ -59,6 +59,14 @@ widthOf t = length (schemaOf t .columns)
 
 abbrev pub Widths : List Table → List ℕ → Type 0
 Widths tables r = (r ≡ padded 8 0 (map widthOf (take 8 tables))) × All (λ w. w ≤ 8) r
+
+-- A.1: the columns of both tables of a question, by the code of the second (0 none, else its number and 1); 0 where the second table does not fit
+abbrev pub fitsSecond : ℕ → ℕ → ℕ → ℕ → ℕ → Bool
+fitsSecond there table columns second start = ltb second there && (not (eqb second table) && eqb start columns)
+
+abbrev pub widthWith : ℕ → List ℕ → ℕ → ℕ → ℕ → ℕ → ℕ
+widthWith there widths table columns second start =
+    cond (eqb second 0) columns (cond (fitsSecond there table columns (second - 1) start) (columns + getD widths (second - 1) 0) 0)
 
 -- ---- steps, where k values are on the stack
 

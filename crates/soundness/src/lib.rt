@@ -56,7 +56,8 @@ pub fn queries_are_sound(
     let mut i: usize = 0;
     while i < count {
         let q = queries[i];
-        let columns = statements::width_at(widths, q.table);
+        let first = statements::width_at(widths, q.table);
+        let columns = statements::width_with(widths, there, q.table, first, q.second, q.start);
         ok = ok & (((q.table as usize) < there) & statements::query_is_sound(q, columns));
         i += 1;
     }

@@ -6,14 +6,14 @@ use table::Table;
 use table::Update;
 use table::Value;
 ghost use mathlib.Core.Path.{_≡_};
-ghost use mathlib.Core.Bool.{not};
+ghost use mathlib.Core.Bool.{false, not};
 ghost use Prim.Native.Nat.{ℕ, _≤_};
 ghost use lib.Dec.{ltb};
 ghost use lib.ListN.{getD, take};
-ghost use Rattle.lists.specs.Lists.{all, repeats};
+ghost use Rattle.lists.specs.Lists.{All, all, repeats};
 ghost use Rattle.statement.specs.Built.{markInValue};
 ghost use Rattle.statement.specs.Sound.{soundQueryOn, soundUpdateOn};
-ghost use Rattle.soundness.specs.Parts.{widthOf, Widths, ifSo, sameColumn, formFits, columnFits, valueFits, settingsOn};
+ghost use Rattle.soundness.specs.Parts.{widthOf, Widths, widthWith, ifSo, sameColumn, formFits, columnFits, valueFits, settingsOn};
 
 // ---- how many columns the tables have
 
@@ -49,9 +49,31 @@ pub fn width_at(widths: [u8; Table::TABLES], table: u8) -> u8
     if i < Table::TABLES { widths[i] } else { 0 }
 }
 
+// A.1: of both tables of a question, where the first has so many columns. It is 0 if the second is not there, is the first again, or does not begin behind the first's columns.
+pub fn width_with(
+    widths: [u8; Table::TABLES],
+    there: usize,
+    table: u8,
+    columns: u8,
+    second: u8,
+    start: u8,
+) -> u8
+    requires { ⌜ (columns ≤ 8) × All (λ w. w ≤ 8) widths ⌝ }
+    ensures { λ r. ⌜ r ≡ widthWith there widths table columns second start ⌝ }
+{
+    if second == 0 {
+        return columns;
+    }
+    let other = second - 1;
+    if ((other as usize) < there) & ((other != table) & (start == columns)) {
+        return columns + width_at(widths, other);
+    }
+    0
+}
+
 // ---- questions
 
-// Whether the first n are columns of the table.
+// Whether the first n are columns of the tables.
 fn are_below(selected: [u8; Query::SELECTED], n: usize, columns: u8) -> bool
     requires { ⌜ n ≤ 8 ⌝ }
     ensures { λ r. ⌜ r ≡ all (λ (i : ℕ). ltb i columns) (take n selected) ⌝ }
@@ -66,9 +88,9 @@ fn are_below(selected: [u8; Query::SELECTED], n: usize, columns: u8) -> bool
     ok
 }
 
-// Whether a question is sound, where its table has so many columns.
+// Whether a question is sound, where its tables have so many columns: with none it is not.
 pub fn query_is_sound(q: Query, columns: u8) -> bool
-    ensures { λ r. ⌜ r ≡ soundQueryOn columns q ⌝ }
+    ensures { λ r. ⌜ (r ≡ soundQueryOn columns q) × (soundQueryOn 0 q ≡ false) ⌝ }
 {
     let n = q.count as usize;
     if (1 <= n) & (n <= Query::SELECTED) {

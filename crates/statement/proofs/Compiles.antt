@@ -5,39 +5,41 @@ use mathlib.Core.Option.{Option, none, some}
 use mathlib.Core.List.{List, [], _∷_, _++_, map}
 use Prim.Native.Nat.{ℕ, suc, _+_, _-_, _*_, _/_, _≤_, _<_}
 use native.Mathlib.Omega.{arith}
-use borrow.Author.Tests.{lt-ltb, le-ltb, ltb-false}
+use borrow.Author.Tests.{lt-ltb, le-ltb, ltb-false, eq-eqb, ne-eqb}
 use lib.Dec.{eqb, ltb, leb}
 use lib.IntN.{ℤ, natAbs}
 use lib.ListN.{length, take, drop, length-map, length-replicate}
 use Rattle.lists.specs.Lists.{any, repeats, from}
 use Rattle.lists.proofs.Bools.{or-left, or-right, clash}
-use Rattle.meaning.specs.Condition.{Where, comparisonsIn, operandsIn}
+use Rattle.meaning.specs.Condition.{Where, always, under, comparisonsIn, operandsIn}
 use Rattle.meaning.specs.Postfix.{Node, nodesIn, leaves}
 use Rattle.meaning.specs.Tokens as T
 use Rattle.meaning.specs.Tokens.{Name}
-use Rattle.meaning.specs.Grammar.{Given, Term, Listed, items, Sentence, table, select, insert, update, delete, sentence}
+use Rattle.meaning.specs.Grammar.{Given, Term, Dotted, Listed, items, Sentence, table, select, pair, insert, update, delete, sentence}
 use Rattle.meaning.specs.Limits.{tooLong, tableNamed, whereOf, termColumns, termGivens, outside32, givens, markCount, pastLimit}
-use Rattle.meaning.specs.Names.{Schema, sameName, has, position, tableNames, columnsOf, missing, isTable, unknown, taken, miscounted}
+use Rattle.meaning.specs.Names.{Schema, sameName, has, position, tableNames, columnsOf, missing, isOf, pairPlace, pairMissing, unknown, taken, miscounted, twice}
 use Rattle.meaning.specs.Statement.{settings, settingMarks, numberedAll, resolvedWhere, statementOf}
 use Rattle.meaning.specs.Cells.{areasSize}
 use Rattle.meaning.specs.Plain.{Plain, noQuery, noUpdate, schemas, noPlace, addConditions, orElse, lowestOf}
 use Rattle.meaning.specs.Resolve.{resolveNodes}
-use Rattle.meaning.proofs.Postfix.{sides-in, leaves-in, few-nodes}
+use Rattle.meaning.proofs.Postfix.{sides-in, leaves-in, nodes-count, few-nodes}
 use Rattle.meaning.proofs.Resolve.{resolve-where}
 use Rattle.token.specs.Tokens.{valueOf}
+use Rattle.meaning.specs.Pattern.{placedFrom}
 use Rattle.statement.specs.declared.Table.{Table}
 use Rattle.statement.specs.declared.Statement.{Statement}
 use Rattle.statement.specs.declared.sentences.Entry.{Entry}
-use Rattle.statement.specs.Places.{nameOn, nodesOn}
+use Rattle.statement.specs.Places.{nameOn, Column, nodesOn}
 use Rattle.statement.specs.Sentences.{givensOn, overOn, Entered, Noted}
-use Rattle.statement.proofs.SentenceLimits.{nodes-compared}
 use Rattle.statement.specs.Catalog.{schemasOf, rowless, catalog}
-use Rattle.statement.specs.Compiled.{padded, tableStruct, noSetting, conditionStruct, settingStruct, placedFrom, created, asked, changing, refusedBy, structOf, structOfText, settled, compiledOf}
-use Rattle.statement.specs.Built.{lowestBy, placesOf, shortName, shortNames, shortGiven, shortNodes, rowsIn, rowsOn, settingsFrom, Fits, listedOn, conditionOn, unknownOn, tableOn, selectOn, insertOn, setsOn, updateOn, deleteOn, formOn, besideOn}
+use Rattle.statement.specs.Compiled.{padded, tableStruct, noSetting, conditionStruct, settingStruct, created, asked, changing, refusedBy, structOf, structOfText, settled, compiledOf}
+use Rattle.statement.specs.Built.{lowestBy, placesOf, shortName, shortColumn, shortNodes, keptOn, shortGiven, rowsIn, rowsOn, settingsFrom, Fits, listedOn, conditionOn, unknownOn, tableOn, selectOn, insertOn, setsOn, updateOn, deleteOn, formOn, pairWith, pairOn, besideOn}
 use Rattle.statement.proofs.Found.{has-ltb}
+use Rattle.statement.proofs.Left.{length-nodes}
+use Rattle.statement.proofs.Sets.{leaves-any}
 use Rattle.statement.proofs.Assembled.{form-select, form-insert, form-update, form-delete}
-use Rattle.statement.proofs.Limited.{inside-rows, short-table, short-listed, short-tested, within-listed, within-tested, whole-name, whole-names, whole-givens, whole-nodes, whole-rows}
-use Rattle.statement.proofs.Known.{lacks, unknown-is, settings-are, settings-count, placed-are, placed-count}
+use Rattle.statement.proofs.Limited.{isLong, isLongDotted, inside-rows, short-table, short-listed, short-tested, within-listed, within-tested, short-second, dotted-listed, dotted-tested, dotted-within, whole-name, whole-dotted, whole-columns, whole-givens, whole-nodes, whole-rows}
+use Rattle.statement.proofs.Known.{name-below, dotted-below, unknown-is, settings-are, settings-count, placed-are, placed-count}
 
 -- ---- the catalog
 
@@ -57,7 +59,21 @@ module _ (tables : List Table) (used queries updates cells : ℕ) where
 
 -- ---- a sentence that was read, within the limits
 
-module _ (s ls ps : List ℕ) (e : Entry) (x : Sentence) (E : Entered s ls ps e x) (w : pastLimit x ≡ false) where
+-- the comparisons of a condition, from its nodes
+compared : {O : Type 0} (w : Where O) → (length (nodesIn w) + 1) / 2 ≡ length (comparisonsIn w)
+compared always = refl
+compared (under t) = omega (arith, nodes-count true t)
+
+module _ (s ps : List ℕ) (n : ℕ) (few : n ≤ 15) where
+  none-noted : n ≡ 0 → (b : Bool) → length (leaves (nodesOn b s n ps)) ≤ 8
+  none-noted h b = omega (arith, ap (λ (k : ℕ). length (leaves (nodesOn b s k ps))) h)
+
+  few-noted : (d : Bool) (w : Where (Term (Column d))) → nodesOn d s n ps ≡ nodesIn w → (b : Bool) → length (leaves (nodesOn b s n ps)) ≤ 8
+  few-noted d w q b =
+      let k : length (nodesIn w) ≤ 15 = omega (arith, ap length q, length-nodes d s n ps) in
+      omega (arith, leaves-any b d s n ps, ap (λ (ns : List (Node (Term (Column d)))). length (leaves ns)) q, leaves-in w, few-nodes w .0 k)
+
+module _ (s ls ps : List ℕ) (e : Entry) (x : Sentence) (E : Entered s ls ps e x) where
   module _ (h : overOn e ≡ false) where
     listed-few : e .listed ≤ 8
     listed-few = ltb-false 8 (e .listed) (or-left (ltb 8 (e .listed)) _ (or-right (e .c .over) _ h))
@@ -68,49 +84,70 @@ module _ (s ls ps : List ℕ) (e : Entry) (x : Sentence) (E : Entered s ls ps e 
     nodes-few : e .c .nodes ≤ 15
     nodes-few =
         let k : (e .c .nodes + 1) / 2 ≤ 8 = ltb-false 8 ((e .c .nodes + 1) / 2) (or-right (ltb 8 (e .c .marks)) _ marked) in
-        let l : length (comparisonsIn (whereOf x)) ≤ 8 = omega (arith, E .nodes-are, nodes-compared (whereOf x)) in
+        let l : length (comparisonsIn (whereOf x)) ≤ 8 = omega (arith, E .nodes-are, compared (whereOf x)) in
         omega (arith, E .nodes-are, few-nodes (whereOf x) .1 l)
 
-    pub fits-read : Fits s ps e
-    fits-read = record {
-      listed = listed-few;
-      marks = ltb-false 8 (e .c .marks) (or-left (ltb 8 (e .c .marks)) _ marked);
-      nodes = nodes-few;
-      comparisons =
-          let k : length (nodesIn (whereOf x)) ≤ 15 = omega (arith, E .nodes-are, nodes-few) in
-          omega (arith, ap (λ (ns : List (Node Term)). length (leaves ns)) (E .noted nodes-few), leaves-in (whereOf x), few-nodes (whereOf x) .0 k);
-    }
+noted-few : (s ls ps : List ℕ) (e : Entry) (x : Sentence) → Entered s ls ps e x → e .c .nodes ≤ 15 → (b : Bool) → length (leaves (nodesOn b s (e .c .nodes) ps)) ≤ 8
+noted-few s ls ps e (table t cs z) E h = none-noted s ps (e .c .nodes) h (E .nodes-are)
+noted-few s ls ps e (select cs t w) E h = few-noted s ps (e .c .nodes) h false w (E .noted h)
+noted-few s ls ps e (pair cs t u w) E h = few-noted s ps (e .c .nodes) h true w (E .noted h)
+noted-few s ls ps e (insert t vs) E h = none-noted s ps (e .c .nodes) h (E .nodes-are)
+noted-few s ls ps e (update t ss w) E h = few-noted s ps (e .c .nodes) h false w (E .noted h)
+noted-few s ls ps e (delete t w) E h = few-noted s ps (e .c .nodes) h false w (E .noted h)
 
+pub fits-read : (s ls ps : List ℕ) (e : Entry) (x : Sentence) → Entered s ls ps e x → overOn e ≡ false → Fits s ps e
+fits-read s ls ps e x E h = record {
+  listed = listed-few s ls ps e x E h;
+  marks = ltb-false 8 (e .c .marks) (or-left (ltb 8 (e .c .marks)) _ (marked s ls ps e x E h));
+  nodes = nodes-few s ls ps e x E h;
+  comparisons = noted-few s ls ps e x E (nodes-few s ls ps e x E h);
+}
+
+module _ (s ls ps : List ℕ) (e : Entry) (x : Sentence) (E : Entered s ls ps e x) (w : pastLimit x ≡ false) where
   -- what was noted, kept whole
   table-kept : shortName (nameOn s (e .table)) ≡ tableNamed x
   table-kept = ap shortName (E .table) ∙ whole-name (tableNamed x) (short-table x w)
 
-  nodes-kept : e .c .nodes ≤ 15 → shortNodes (nodesOn s (e .c .nodes) ps) ≡ nodesIn (whereOf x)
-  nodes-kept h =
-      ap shortNodes (E .noted h)
-      ∙ whole-nodes (nodesIn (whereOf x))
-      (ap (λ (os : List Term). any (λ (n : Name). ltb 12 (length n)) (termColumns os)) (sides-in (whereOf x)) ∙ short-tested x w)
-      (ap (λ (os : List Term). any outside32 (termGivens os)) (sides-in (whereOf x)) ∙ within-tested x w)
+  nodes-kept : nodesOn false s (e .c .nodes) ps ≡ nodesIn (whereOf x) → keptOn false s (e .c .nodes) ps ≡ nodesIn (whereOf x)
+  nodes-kept q =
+      ap (shortNodes (shortColumn false)) q
+      ∙ whole-nodes (shortColumn false) isLong whole-name (nodesIn (whereOf x))
+      (ap (λ (os : List (Term Name)). any isLong (termColumns os)) (sides-in (whereOf x)) ∙ short-tested x w)
+      (ap (λ (os : List (Term Name)). any outside32 (termGivens os)) (sides-in (whereOf x)) ∙ within-tested x w)
 
-  condition-kept : e .c .nodes ≤ 15 → (columns : List Name) (m : ℕ) → conditionOn s ps e columns m ≡ conditionStruct (resolveNodes columns m (nodesIn (whereOf x)))
-  condition-kept h columns m = ap (λ (ns : List (Node Term)). conditionStruct (resolveNodes columns m ns)) (nodes-kept h)
+dotted-kept : (s ps : List ℕ) (e : Entry) (cs : Listed Dotted) (t u : Name) (q : Where (Term Dotted)) → pastLimit (pair cs t u q) ≡ false
+    → nodesOn true s (e .c .nodes) ps ≡ nodesIn q → keptOn true s (e .c .nodes) ps ≡ nodesIn q
+dotted-kept s ps e cs t u q w h =
+    ap (shortNodes (shortColumn true)) h
+    ∙ whole-nodes (shortColumn true) isLongDotted whole-dotted (nodesIn q)
+    (ap (λ (os : List (Term Dotted)). any isLongDotted (termColumns os)) (sides-in q) ∙ dotted-tested cs t u q w)
+    (ap (λ (os : List (Term Dotted)). any outside32 (termGivens os)) (sides-in q) ∙ dotted-within cs t u q w)
 
-  -- its columns are unknown exactly if one is missing
-  unknown-kept : e .c .nodes ≤ 15 → (columns names : List Name) (m : ℕ)
-      → unknownOn columns (placesOf columns names) (conditionOn s ps e columns m) ≡ lacks columns (names ++ termColumns (operandsIn (whereOf x)))
-  unknown-kept h columns names m =
-      ap (unknownOn columns (placesOf columns names)) (condition-kept h columns m)
-      ∙ unknown-is columns names m (nodesIn (whereOf x))
-      ∙ ap (λ (os : List Term). lacks columns (names ++ termColumns os)) (sides-in (whereOf x))
+-- its condition, and whether its columns are known
+module _ (d : Bool) (s ps : List ℕ) (e : Entry) (q : Where (Term (Column d))) (k : keptOn d s (e .c .nodes) ps ≡ nodesIn q) (place : Column d → ℕ) where
+  condition-kept : (m : ℕ) → conditionOn d place s ps e m ≡ conditionStruct (nodesIn (resolvedWhere place m q))
+  condition-kept m = ap (λ (ns : List (Node (Term (Column d)))). conditionStruct (resolveNodes place m ns)) k ∙ ap conditionStruct (sym (resolve-where place m q))
 
-where-kept : (columns : List Name) (m : ℕ) (q : Where Term) → conditionStruct (resolveNodes columns m (nodesIn q)) ≡ conditionStruct (nodesIn (resolvedWhere columns m q))
-where-kept columns m q = ap conditionStruct (sym (resolve-where columns m q))
+  unknown-kept : (width : ℕ) (lacks : Column d → Bool) → ((c : Column d) → ltb (place c) width ≡ not (lacks c)) → (cs : List (Column d)) (m : ℕ)
+      → unknownOn width (map place cs) (conditionOn d place s ps e m) ≡ any lacks (cs ++ termColumns (operandsIn q))
+  unknown-kept width lacks inside cs m =
+      ap (λ (ns : List (Node (Term (Column d)))). unknownOn width (map place cs) (conditionStruct (resolveNodes place m ns))) k
+      ∙ unknown-is place width lacks inside cs m (nodesIn q)
+      ∙ ap (λ (os : List (Term (Column d))). any lacks (cs ++ termColumns os)) (sides-in q)
 
--- ---- the five forms
+-- ---- the forms
 
--- what a sentence gives beside tables: a refusal from 6 to 9, or its statement
+-- what a sentence gives beside tables: a refusal from 6 on, or its statement
 abbrev decided : Plain → List Schema → Sentence → Statement
-decided p ts x = settled (lowestBy (unknown ts x) (taken ts x) (miscounted ts x) (noPlace p x)) (structOf (statementOf ts x))
+decided p ts x = settled (lowestBy (unknown ts x) (taken ts x) (miscounted ts x) (twice x) (noPlace p x)) (structOf (statementOf ts x))
+
+abbrev isTable : Sentence → Bool
+isTable (table t cs z) = true
+isTable (select cs t w) = false
+isTable (pair cs t u w) = false
+isTable (insert t vs) = false
+isTable (update t ss w) = false
+isTable (delete t w) = false
 
 module _ (s ls ps : List ℕ) (e : Entry) (tables : List Table) (used queries updates cells : ℕ) (few : e .listed ≤ 8) where
   abbrev P : Plain
@@ -120,17 +157,23 @@ module _ (s ls ps : List ℕ) (e : Entry) (tables : List Table) (used queries up
   S = there tables used queries updates cells
 
   table-compiles : (t : Name) (cs : Listed Name) (z : ℤ) → Entered s ls ps e (table t cs z) → pastLimit (table t cs z) ≡ false → tableOn s ls e S cells ≡ decided P S (table t cs z)
-  unfolding tableOn unknown taken miscounted noPlace statementOf structOf
+  unfolding tableOn unknown taken miscounted twice noPlace statementOf structOf
   table-compiles t cs z E w =
       let x = table t cs z in
       let n : shortName (nameOn s (e .table)) ≡ t = table-kept s ls ps e x E w in
-      let l : listedOn s ls e ≡ items cs = ap shortNames (E .names few) ∙ whole-names (items cs) (short-listed x w) in
+      let l : listedOn false s ls e ≡ items cs = ap (map shortName) (E .names few) ∙ whole-columns shortName isLong whole-name (items cs) (short-listed x w) in
       let r : rowsOn s (e .rows) ≡ natAbs z = ap (λ (k : T.Token). rowsIn (valueOf k)) (E .rows) ∙ whole-rows z (inside-rows x w) in
       let q : S ≡ schemas P = sym (schemas-are tables used queries updates cells) in
       let k : length S ≡ length (P .tables) = sym (length-map S rowless) in
       λ j. settled
-      (lowestBy false (has (tableNames S) (n j) || repeats sameName (l j)) false (leb 8 (k j) || ltb (cells - areasSize (q j)) (E .listed-are j * r j)))
+      (lowestBy false (has (tableNames S) (n j) || repeats sameName (l j)) false false (leb 8 (k j) || ltb (cells - areasSize (q j)) (E .listed-are j * r j)))
       (created (tableStruct (record { name = n j; columns = l j; capacity = r j })))
+
+  asks-few : leb 16 queries ≡ leb 16 (length (P .queries))
+  asks-few = ap (leb 16) (sym (length-replicate queries noQuery))
+
+  changes-few : leb 16 updates ≡ leb 16 (length (P .updates))
+  changes-few = ap (leb 16) (sym (length-replicate updates noUpdate))
 
   -- ---- of a table that is there
 
@@ -141,32 +184,30 @@ module _ (s ls ps : List ℕ) (e : Entry) (tables : List Table) (used queries up
     abbrev i : ℕ
     i = position (tableNames S) t
 
-    missing-is : (cs : List Name) → lacks C cs ≡ missing S t cs
-    missing-is cs = ap (λ (b : Bool). not b || lacks C cs) (sym known)
+    abbrev lacks : Name → Bool
+    lacks c = not (has C c)
 
-    asks-few : leb 16 queries ≡ leb 16 (length (P .queries))
-    asks-few = ap (leb 16) (sym (length-replicate queries noQuery))
+    missing-is : (cs : List Name) → any lacks cs ≡ missing S t cs
+    missing-is cs = ap (λ (b : Bool). not b || any lacks cs) (sym known)
 
-    changes-few : leb 16 updates ≡ leb 16 (length (P .updates))
-    changes-few = ap (leb 16) (sym (length-replicate updates noUpdate))
-
-    select-compiles : (cs : Listed Name) (q : Where Term) → Entered s ls ps e (select cs t q) → pastLimit (select cs t q) ≡ false
-        → selectOn s ls ps e C i queries ≡ decided P S (select cs t q)
-    unfolding selectOn unknown taken miscounted noPlace statementOf structOf
+    select-compiles : (cs : Listed Name) (q : Where (Term Name)) → Entered s ls ps e (select cs t q) → pastLimit (select cs t q) ≡ false
+        → selectOn false (position C) (length C) s ls ps e i 0 0 false queries ≡ decided P S (select cs t q)
+    unfolding selectOn unknown taken miscounted twice noPlace statementOf structOf
     select-compiles cs q E w =
         let x = select cs t q in
-        let l : listedOn s ls e ≡ items cs = ap shortNames (E .names few) ∙ whole-names (items cs) (short-listed x w) in
-        let u : unknownOn C (placesOf C (listedOn s ls e)) (conditionOn s ps e C 0) ≡ missing S t (items cs ++ termColumns (operandsIn q)) =
-        unknown-kept s ls ps e x E w nodes C (listedOn s ls e) 0
-        ∙ ap (λ (ns : List Name). lacks C (ns ++ termColumns (operandsIn q))) l
+        let l : listedOn false s ls e ≡ items cs = ap (map shortName) (E .names few) ∙ whole-columns shortName isLong whole-name (items cs) (short-listed x w) in
+        let k : keptOn false s (e .c .nodes) ps ≡ nodesIn q = nodes-kept s ls ps e x E w (E .noted nodes) in
+        let u : unknownOn (length C) (placesOf C (listedOn false s ls e)) (conditionOn false (position C) s ps e 0) ≡ missing S t (items cs ++ termColumns (operandsIn q)) =
+        unknown-kept false s ps e q k (position C) (length C) lacks (name-below C) (listedOn false s ls e) 0
+        ∙ ap (λ (ns : List Name). any lacks (ns ++ termColumns (operandsIn q))) l
         ∙ missing-is (items cs ++ termColumns (operandsIn q)) in
         let c : e .listed ≡ length (map (position C) (items cs)) = E .listed-are ∙ sym (length-map (items cs) (position C)) in
-        let d : conditionOn s ps e C 0 ≡ conditionStruct (nodesIn (resolvedWhere C 0 q)) = condition-kept s ls ps e x E w nodes C 0 ∙ where-kept C 0 q in
-        λ j. settled (lowestBy (u j) false false (asks-few j))
-        (asked (record { table = i; selected = padded 8 0 (placesOf C (l j)); count = c j; parameters = E .marks-are j; condition = d j }))
+        let d : conditionOn false (position C) s ps e 0 ≡ conditionStruct (nodesIn (resolvedWhere (position C) 0 q)) = condition-kept false s ps e q k (position C) 0 in
+        λ j. settled (lowestBy (u j) false false false (asks-few j))
+        (asked (record { table = i; selected = padded 8 0 (placesOf C (l j)); count = c j; parameters = E .marks-are j; second = 0; start = 0; condition = d j }))
 
     insert-compiles : (vs : Listed Given) → Entered s ls ps e (insert t vs) → pastLimit (insert t vs) ≡ false → insertOn s ls e C i updates ≡ decided P S (insert t vs)
-    unfolding insertOn unknown taken miscounted noPlace statementOf structOf
+    unfolding insertOn unknown taken miscounted twice noPlace statementOf structOf
     insert-compiles vs E w =
         let x = insert t vs in
         let g : map shortGiven (givensOn s (e .listed) ls) ≡ items vs = ap (map shortGiven) (E .givens few) ∙ whole-givens (items vs) (within-listed x w) in
@@ -175,72 +216,144 @@ module _ (s ls ps : List ℕ) (e : Entry) (tables : List Table) (used queries up
         ap₂ (λ (k : ℕ) (v : List Given). settingsFrom 0 (take k (from 0 8)) v) (E .listed-are) g ∙ placed-are 0 0 8 (items vs) n in
         let u : false ≡ missing S t [] = missing-is [] in
         let c : e .listed ≡ length (placedFrom 0 (numberedAll 0 (items vs))) = E .listed-are ∙ sym (placed-count 0 0 (items vs)) in
-        λ j. settled (lowestBy (u j) false (not (eqb (E .listed-are j) (length C))) (changes-few j))
+        λ j. settled (lowestBy (u j) false (not (eqb (E .listed-are j) (length C))) false (changes-few j))
         (changing (record { form = 0; table = i; settings = padded 8 noSetting (a j); count = c j; parameters = E .marks-are j; condition = conditionStruct [] }))
 
-    update-compiles : (ss : Listed (Name × Given)) (q : Where Term) → Entered s ls ps e (update t ss q) → pastLimit (update t ss q) ≡ false
+    update-compiles : (ss : Listed (Name × Given)) (q : Where (Term Name)) → Entered s ls ps e (update t ss q) → pastLimit (update t ss q) ≡ false
         → updateOn s ls ps e C i updates ≡ decided P S (update t ss q)
-    unfolding updateOn unknown taken miscounted noPlace statementOf structOf
+    unfolding updateOn unknown taken miscounted twice noPlace statementOf structOf
     update-compiles ss q E w =
         let x = update t ss q in
         let names = map (λ (p : Name × Given). p .0) (items ss) in
         let values = map (λ (p : Name × Given). p .1) (items ss) in
-        let l : listedOn s ls e ≡ names = ap shortNames (E .names few) ∙ whole-names names (short-listed x w) in
+        let l : listedOn false s ls e ≡ names = ap (map shortName) (E .names few) ∙ whole-columns shortName isLong whole-name names (short-listed x w) in
+        let k : keptOn false s (e .c .nodes) ps ≡ nodesIn q = nodes-kept s ls ps e x E w (E .noted nodes) in
         let g : map shortGiven (givensOn s (e .listed) ls) ≡ values = ap (map shortGiven) (E .givens few) ∙ whole-givens values (within-listed x w) in
         let m : setsOn s ls e C .marks ≡ settingMarks (items ss) = ap markCount (E .givens few) in
-        let a : settingsFrom 0 (placesOf C (listedOn s ls e)) (map shortGiven (givensOn s (e .listed) ls)) ≡ map settingStruct (settings C 0 (items ss)) =
+        let a : settingsFrom 0 (placesOf C (listedOn false s ls e)) (map shortGiven (givensOn s (e .listed) ls)) ≡ map settingStruct (settings C 0 (items ss)) =
         ap₂ (λ (ns : List Name) (v : List Given). settingsFrom 0 (placesOf C ns) v) l g ∙ settings-are C 0 (items ss) in
-        let u : unknownOn C (placesOf C (listedOn s ls e)) (conditionOn s ps e C (setsOn s ls e C .marks)) ≡ missing S t (names ++ termColumns (operandsIn q)) =
-        unknown-kept s ls ps e x E w nodes C (listedOn s ls e) (setsOn s ls e C .marks)
-        ∙ ap (λ (ns : List Name). lacks C (ns ++ termColumns (operandsIn q))) l
+        let u : unknownOn (length C) (placesOf C (listedOn false s ls e)) (conditionOn false (position C) s ps e (setsOn s ls e C .marks)) ≡ missing S t (names ++ termColumns (operandsIn q)) =
+        unknown-kept false s ps e q k (position C) (length C) lacks (name-below C) (listedOn false s ls e) (setsOn s ls e C .marks)
+        ∙ ap (λ (ns : List Name). any lacks (ns ++ termColumns (operandsIn q))) l
         ∙ missing-is (names ++ termColumns (operandsIn q)) in
         let c : e .listed ≡ length (settings C 0 (items ss)) = E .listed-are ∙ sym (settings-count C 0 (items ss)) in
-        let d : conditionOn s ps e C (setsOn s ls e C .marks) ≡ conditionStruct (nodesIn (resolvedWhere C (settingMarks (items ss)) q)) =
-        condition-kept s ls ps e x E w nodes C (setsOn s ls e C .marks) ∙ ap (λ (k : ℕ). conditionStruct (resolveNodes C k (nodesIn q))) m ∙ where-kept C (settingMarks (items ss)) q in
-        λ j. settled (lowestBy (u j) (repeats sameName (l j)) false (changes-few j))
+        let d : conditionOn false (position C) s ps e (setsOn s ls e C .marks) ≡ conditionStruct (nodesIn (resolvedWhere (position C) (settingMarks (items ss)) q)) =
+        condition-kept false s ps e q k (position C) (setsOn s ls e C .marks) ∙ ap (λ (n : ℕ). conditionStruct (nodesIn (resolvedWhere (position C) n q))) m in
+        λ j. settled (lowestBy (u j) (repeats sameName (l j)) false false (changes-few j))
         (changing (record { form = 1; table = i; settings = padded 8 noSetting (a j); count = c j; parameters = E .marks-are j; condition = d j }))
 
-    delete-compiles : (q : Where Term) → Entered s ls ps e (delete t q) → pastLimit (delete t q) ≡ false → deleteOn s ps e C i updates ≡ decided P S (delete t q)
-    unfolding deleteOn unknown taken miscounted noPlace statementOf structOf
+    delete-compiles : (q : Where (Term Name)) → Entered s ls ps e (delete t q) → pastLimit (delete t q) ≡ false → deleteOn s ps e C i updates ≡ decided P S (delete t q)
+    unfolding deleteOn unknown taken miscounted twice noPlace statementOf structOf
     delete-compiles q E w =
         let x = delete t q in
-        let u : unknownOn C [] (conditionOn s ps e C 0) ≡ missing S t (termColumns (operandsIn q)) =
-        unknown-kept s ls ps e x E w nodes C [] 0 ∙ missing-is (termColumns (operandsIn q)) in
-        let d : conditionOn s ps e C 0 ≡ conditionStruct (nodesIn (resolvedWhere C 0 q)) = condition-kept s ls ps e x E w nodes C 0 ∙ where-kept C 0 q in
-        λ j. settled (lowestBy (u j) false false (changes-few j))
+        let k : keptOn false s (e .c .nodes) ps ≡ nodesIn q = nodes-kept s ls ps e x E w (E .noted nodes) in
+        let u : unknownOn (length C) [] (conditionOn false (position C) s ps e 0) ≡ missing S t (termColumns (operandsIn q)) =
+        unknown-kept false s ps e q k (position C) (length C) lacks (name-below C) [] 0 ∙ missing-is (termColumns (operandsIn q)) in
+        let d : conditionOn false (position C) s ps e 0 ≡ conditionStruct (nodesIn (resolvedWhere (position C) 0 q)) = condition-kept false s ps e q k (position C) 0 in
+        λ j. settled (lowestBy (u j) false false false (changes-few j))
         (changing (record { form = 2; table = i; settings = padded 8 noSetting []; count = 0; parameters = E .marks-are j; condition = d j }))
 
+    -- ---- of two tables
+
+    module _ (u : Name) (cs : Listed Dotted) (q : Where (Term Dotted)) (E : Entered s ls ps e (pair cs t u q)) (w : pastLimit (pair cs t u q) ≡ false) where
+      abbrev D : List Name
+      D = columnsOf S u
+
+      abbrev place : Dotted → ℕ
+      place = pairPlace t C u D
+
+      abbrev lacks-both : Dotted → Bool
+      lacks-both c = not (isOf t C c || isOf u D c)
+
+      both-missing-is : has (tableNames S) u ≡ true → (xs : List Dotted) → any lacks-both xs ≡ pairMissing S t u xs
+      both-missing-is h xs = ap₂ (λ (a b : Bool). not a || (not b || any lacks-both xs)) (sym known) (sym h)
+
+      both-there : has (tableNames S) u ≡ true → pairWith t C u D s ls ps e i (position (tableNames S) u) queries ≡ decided P S (pair cs t u q)
+      unfolding selectOn unknown taken miscounted twice noPlace statementOf structOf
+      both-there h =
+          let l : listedOn true s ls e ≡ items cs = ap (map (shortColumn true)) (E .names few) ∙ whole-columns (shortColumn true) isLongDotted whole-dotted (items cs) (dotted-listed cs t u q w) in
+          let k : keptOn true s (e .c .nodes) ps ≡ nodesIn q = dotted-kept s ps e cs t u q w (E .noted nodes) in
+          let n : unknownOn (length C + length D) (map place (listedOn true s ls e)) (conditionOn true place s ps e 0) ≡ pairMissing S t u (items cs ++ termColumns (operandsIn q)) =
+          unknown-kept true s ps e q k place (length C + length D) lacks-both (dotted-below t C u D) (listedOn true s ls e) 0
+          ∙ ap (λ (xs : List Dotted). any lacks-both (xs ++ termColumns (operandsIn q))) l
+          ∙ both-missing-is h (items cs ++ termColumns (operandsIn q)) in
+          let c : e .listed ≡ length (map place (items cs)) = E .listed-are ∙ sym (length-map (items cs) place) in
+          let d : conditionOn true place s ps e 0 ≡ conditionStruct (nodesIn (resolvedWhere place 0 q)) = condition-kept true s ps e q k place 0 in
+          λ j. settled (lowestBy (n j) false false (sameName t u) (asks-few j))
+          (asked (record {
+            table = i;
+            selected = padded 8 0 (map place (l j));
+            count = c j;
+            parameters = E .marks-are j;
+            second = suc (position (tableNames S) u);
+            start = length C;
+            condition = d j;
+          }))
+
+      second-unknown : has (tableNames S) u ≡ false → refusedBy 6 ≡ decided P S (pair cs t u q)
+      unfolding unknown
+      second-unknown h = rw (known, h)
+
+      abbrev chosen : Name → Bool → Statement
+      chosen n b = cond b (pairWith t C n (columnsOf S n) s ls ps e i (position (tableNames S) n) queries) (refusedBy 6)
+
+      pair-compiles : pairOn t C s ls ps e S i queries ≡ decided P S (pair cs t u q)
+      pair-compiles =
+          ap (λ (n : Name). chosen n (ltb (position (tableNames S) n) (length S))) (ap shortName (E .second) ∙ whole-name u (short-second cs t u q w))
+          ∙ ap (chosen u) (ap (ltb (position (tableNames S) u)) (sym (length-map S (λ (t : Schema). t .name))) ∙ has-ltb (tableNames S) u)
+          ∙ go (has (tableNames S) u) refl
+        where
+          go : (b : Bool) → has (tableNames S) u ≡ b → chosen u b ≡ decided P S (pair cs t u q)
+          go true h = both-there h
+          go false h = second-unknown h
+
   -- by its form
+  abbrev formed : Name → Bool → Statement
+  formed n b =
+      cond b (pairOn n (columnsOf S n) s ls ps e S (position (tableNames S) n) queries)
+      (formOn s ls ps e (columnsOf S n) (position (tableNames S) n) queries updates)
+
   form-compiles : (x : Sentence) → isTable x ≡ false → Entered s ls ps e x → pastLimit x ≡ false → e .c .nodes ≤ 15 → has (tableNames S) (tableNamed x) ≡ true
-      → formOn s ls ps e (columnsOf S (tableNamed x)) (position (tableNames S) (tableNamed x)) queries updates ≡ decided P S x
+      → formed (tableNamed x) (eqb (e .form) 5) ≡ decided P S x
   form-compiles (table t cs z) b E w h k = clash refl b
-  form-compiles (select cs t q) b E w h k = sym (form-select s ls ps e (columnsOf S t) (position (tableNames S) t) queries updates _ refl (E .form)) ∙ select-compiles t k h cs q E w
+  form-compiles (select cs t q) b E w h k =
+      ap (formed t) (ne-eqb (e .form) 5 (λ l. omega (arith, E .form)))
+      ∙ sym (form-select s ls ps e (columnsOf S t) (position (tableNames S) t) queries updates _ refl (E .form))
+      ∙ select-compiles t k h cs q E w
+  form-compiles (pair cs t u q) b E w h k = ap (formed t) (eq-eqb (e .form) 5 (E .form)) ∙ pair-compiles t k h u cs q E w
   form-compiles (insert t vs) b E w h k =
-      sym (form-insert s ls ps e (columnsOf S t) (position (tableNames S) t) queries updates _ refl (λ l. omega (arith, E .form)) (E .form))
+      ap (formed t) (ne-eqb (e .form) 5 (λ l. omega (arith, E .form)))
+      ∙ sym (form-insert s ls ps e (columnsOf S t) (position (tableNames S) t) queries updates _ refl (λ l. omega (arith, E .form)) (E .form))
       ∙ insert-compiles t k h vs E w
   form-compiles (update t ss q) b E w h k =
-      sym (form-update s ls ps e (columnsOf S t) (position (tableNames S) t) queries updates _ refl (λ l. omega (arith, E .form)) (λ l. omega (arith, E .form)) (E .form))
+      ap (formed t) (ne-eqb (e .form) 5 (λ l. omega (arith, E .form)))
+      ∙ sym (form-update s ls ps e (columnsOf S t) (position (tableNames S) t) queries updates _ refl (λ l. omega (arith, E .form)) (λ l. omega (arith, E .form)) (E .form))
       ∙ update-compiles t k h ss q E w
   form-compiles (delete t q) b E w h k =
-      sym (form-delete s ls ps e (columnsOf S t) (position (tableNames S) t) queries updates _ refl (λ l. omega (arith, E .form)) (λ l. omega (arith, E .form)) (λ l. omega (arith, E .form)))
+      ap (formed t) (ne-eqb (e .form) 5 (λ l. omega (arith, E .form)))
+      ∙ sym (form-delete s ls ps e (columnsOf S t) (position (tableNames S) t) queries updates _ refl (λ l. omega (arith, E .form)) (λ l. omega (arith, E .form)) (λ l. omega (arith, E .form)))
       ∙ delete-compiles t k h q E w
 
   -- a table that is not there
   unknown-table : (x : Sentence) → isTable x ≡ false → has (tableNames S) (tableNamed x) ≡ false → refusedBy 6 ≡ decided P S x
   unfolding unknown
-  unknown-table x b k = rw (b, k)
+  unknown-table (table t cs z) b k = clash refl b
+  unknown-table (select cs t q) b k = rw k
+  unknown-table (pair cs t u q) b k = rw k
+  unknown-table (insert t vs) b k = rw k
+  unknown-table (update t ss q) b k = rw k
+  unknown-table (delete t q) b k = rw k
 
   beside-compiles : (x : Sentence) → isTable x ≡ false → Entered s ls ps e x → pastLimit x ≡ false → e .c .nodes ≤ 15 → besideOn s ls ps e S queries updates ≡ decided P S x
   beside-compiles x b E w h =
-      ap (λ (n : Name). cond (ltb (position (tableNames S) n) (length S)) (formOn s ls ps e (columnsOf S n) (position (tableNames S) n) queries updates) (refusedBy 6)) (table-kept s ls ps e x E w)
-      ∙ ap (λ (c : Bool). cond c (formOn s ls ps e (columnsOf S (tableNamed x)) (position (tableNames S) (tableNamed x)) queries updates) (refusedBy 6)) found
+      ap (λ (n : Name). cond (ltb (position (tableNames S) n) (length S)) (formed n (eqb (e .form) 5)) (refusedBy 6)) (table-kept s ls ps e x E w)
+      ∙ ap (λ (c : Bool). cond c (formed (tableNamed x) (eqb (e .form) 5)) (refusedBy 6)) found
       ∙ go (has (tableNames S) (tableNamed x)) refl
     where
       found : ltb (position (tableNames S) (tableNamed x)) (length S) ≡ has (tableNames S) (tableNamed x)
       found = ap (ltb (position (tableNames S) (tableNamed x))) (sym (length-map S (λ (t : Schema). t .name))) ∙ has-ltb (tableNames S) (tableNamed x)
 
-      go : (c : Bool) → has (tableNames S) (tableNamed x) ≡ c
-          → cond c (formOn s ls ps e (columnsOf S (tableNamed x)) (position (tableNames S) (tableNamed x)) queries updates) (refusedBy 6) ≡ decided P S x
+      go : (c : Bool) → has (tableNames S) (tableNamed x) ≡ c → cond c (formed (tableNamed x) (eqb (e .form) 5)) (refusedBy 6) ≡ decided P S x
       go true k = form-compiles x b E w h k
       go false k = unknown-table x b k
 
@@ -248,6 +361,7 @@ module _ (s ls ps : List ℕ) (e : Entry) (tables : List Table) (used queries up
   of-table : (x : Sentence) → e .form ≡ 0 → Entered s ls ps e x → pastLimit x ≡ false → tableOn s ls e S cells ≡ decided P S x
   of-table (table t cs z) h E w = table-compiles t cs z E w
   of-table (select cs t q) h E w = absurd (omega (arith, E .form))
+  of-table (pair cs t u q) h E w = absurd (omega (arith, E .form))
   of-table (insert t vs) h E w = absurd (omega (arith, E .form))
   of-table (update t ss q) h E w = absurd (omega (arith, E .form))
   of-table (delete t q) h E w = absurd (omega (arith, E .form))
@@ -255,6 +369,7 @@ module _ (s ls ps : List ℕ) (e : Entry) (tables : List Table) (used queries up
 no-table : (s ls ps : List ℕ) (e : Entry) (x : Sentence) → Entered s ls ps e x → (e .form ≡ 0 → ⊥) → isTable x ≡ false
 no-table s ls ps e (table t cs z) E h = absurd (h (E .form))
 no-table s ls ps e (select cs t q) E h = refl
+no-table s ls ps e (pair cs t u q) E h = refl
 no-table s ls ps e (insert t vs) E h = refl
 no-table s ls ps e (update t ss q) E h = refl
 no-table s ls ps e (delete t q) E h = refl
@@ -314,7 +429,7 @@ module _ (s ls ps : List ℕ) (e : Entry) (tables : List Table) (used queries up
           where
             go : (o : Option Sentence) → Noted s ls ps e o → Fits s ps e
             go none M = clash ok M
-            go (some x) M = fits-read s ls ps e x M (M .past ∙ within) within
+            go (some x) M = fits-read s ls ps e x M within
 
         -- a sentence within the limits
         decided-is : (x : Sentence) → pastLimit x ≡ false

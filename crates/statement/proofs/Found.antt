@@ -6,21 +6,28 @@ use Prim.Native.Nat.{ℕ, suc, _+_, _*_, _≤_, _<_, min}
 use native.Mathlib.Nat.{mul-le-mul}
 use native.Mathlib.Numerals.{add-one}
 use native.Mathlib.Omega.{arith}
-use borrow.Author.Tests.{lt-ltb}
+use borrow.Author.Tests.{lt-ltb, le-ltb, ltb-false}
 use lib.Dec.{eqb, eqb-refl, ltb, leb·suc-suc, leb·suc-zero}
 use lib.ListN.{length, getD, take, length-take, length-map}
 use lib.Seq.{take-suc}
 use Rattle.lists.specs.Lists.{any, repeats}
 use Rattle.lists.specs.Tests.{eqList, eqList-refl}
-use Rattle.lists.proofs.Bools.{T→true}
+use Rattle.lists.proofs.Bools.{T→true, clash}
 use Rattle.lists.proofs.Lists.{any-append, map-append}
-use Rattle.meaning.specs.Names.{sameName, has, position, tableNames}
+use Rattle.meaning.specs.Grammar.{Dotted}
+use Rattle.meaning.specs.Names.{sameName, has, position, tableNames, isOf, pairPlace}
 use Rattle.meaning.specs.Cells.{areaSize, areasSize}
 use Rattle.meaning.proofs.Names.{same-is}
 use Rattle.statement.specs.declared.Name.{Name}
 use Rattle.statement.specs.declared.Table.{Table}
 use Rattle.statement.specs.Catalog.{nameOfStruct, namesOf, schemaOf}
+use Rattle.statement.specs.Built.{placeOf}
+use Rattle.statement.proofs.ByKind.{position-most}
 use Rattle.statement.proofs.Walks.{take-min, rest, rest-cons, rest-none}
+
+-- how many names of an array are in use
+pub names-count : (names : List Name) (count n : ℕ) → length names ≡ 8 → n ≡ min count 8 → n ≡ length (namesOf names count)
+names-count names count n h e = e ∙ sym (length-map (take count names) nameOfStruct ∙ length-take count names ∙ ap (min count) h)
 
 -- two tests that imply each other
 iff : (a b : Bool) → (a ≡ true → b ≡ true) → (b ≡ true → a ≡ true) → a ≡ b
@@ -71,6 +78,51 @@ has-ltb (m ∷ ns) n = go (sameName n m) (has-ltb ns n)
     go true e = lt-ltb 0 (suc (length ns)) (omega arith)
     go false e = leb·suc-suc (suc (position ns n)) (length ns) ∙ e
 
+-- ---- a dotted column: looked for in the first table, and then in the second
+
+module _ (t : List ℕ) (cs : List (List ℕ)) (c : Dotted) where
+  pub place-same : sameName (c .0) t ≡ true → position cs (c .1) ≡ placeOf t cs c
+  place-same h = ap (λ (b : Bool). cond b (position cs (c .1)) (length cs)) (sym h)
+
+  pub place-other : sameName (c .0) t ≡ false → length cs ≡ placeOf t cs c
+  place-other h = ap (λ (b : Bool). cond b (position cs (c .1)) (length cs)) (sym h)
+
+  of-place : ltb (placeOf t cs c) (length cs) ≡ isOf t cs c
+  of-place = go (sameName (c .0) t)
+    where
+      go : (b : Bool) → ltb (cond b (position cs (c .1)) (length cs)) (length cs) ≡ (b && has cs (c .1))
+      go true = has-ltb cs (c .1)
+      go false = le-ltb (length cs) (length cs) (omega arith)
+
+  place-there : isOf t cs c ≡ true → placeOf t cs c ≡ position cs (c .1)
+  place-there h = go (sameName (c .0) t) h
+    where
+      go : (b : Bool) → (b && has cs (c .1)) ≡ true → cond b (position cs (c .1)) (length cs) ≡ position cs (c .1)
+      go true e = refl
+      go false e = clash e refl
+
+  place-past : isOf t cs c ≡ false → placeOf t cs c ≡ length cs
+  place-past h = go (sameName (c .0) t) h
+    where
+      go : (b : Bool) → (b && has cs (c .1)) ≡ false → cond b (position cs (c .1)) (length cs) ≡ length cs
+      go true e = let k : length cs ≤ position cs (c .1) = ltb-false (position cs (c .1)) (length cs) (has-ltb cs (c .1) ∙ e) in omega (arith, position-most cs (c .1))
+      go false e = refl
+
+module _ (t : List ℕ) (cs : List (List ℕ)) (u : List ℕ) (ds : List (List ℕ)) (c : Dotted) where
+  pub pair-first : placeOf t cs c < length cs → placeOf t cs c ≡ pairPlace t cs u ds c
+  pair-first h =
+      let e : isOf t cs c ≡ true = sym (of-place t cs c) ∙ lt-ltb (placeOf t cs c) (length cs) h in
+      place-there t cs c e ∙ ap (λ (b : Bool). cond b (position cs (c .1)) (cond (isOf u ds c) (length cs + position ds (c .1)) (length cs + length ds))) (sym e)
+
+  pub pair-second : length cs ≤ placeOf t cs c → length cs + placeOf u ds c ≡ pairPlace t cs u ds c
+  pair-second h =
+      let e : isOf t cs c ≡ false = sym (of-place t cs c) ∙ le-ltb (placeOf t cs c) (length cs) h in
+      go (isOf u ds c) refl ∙ ap (λ (b : Bool). cond b (position cs (c .1)) (cond (isOf u ds c) (length cs + position ds (c .1)) (length cs + length ds))) (sym e)
+    where
+      go : (b : Bool) → isOf u ds c ≡ b → length cs + placeOf u ds c ≡ cond b (length cs + position ds (c .1)) (length cs + length ds)
+      go true f = ap (λ (k : ℕ). length cs + k) (place-there u ds c f)
+      go false f = ap (λ (k : ℕ). length cs + k) (place-past u ds c f)
+
 -- ---- a name that stands twice: one of the list, or the last one among those before it
 
 shuffle : (a b c d : Bool) → ((a || (b || false)) || (c || d)) ≡ ((a || c) || (b || d))
@@ -120,7 +172,7 @@ table-names [] = refl
 table-names (t ∷ ts) = ap (λ (ns : List (List ℕ)). nameOfStruct (t .name) ∷ ns) (table-names ts)
 
 pub column-count : (t : Table) → length (t .columns) ≡ 8 → length (namesOf (t .columns) (t .count)) ≡ min (t .count) 8
-column-count t h = length-map (take (t .count) (t .columns)) nameOfStruct ∙ length-take (t .count) (t .columns) ∙ ap (min (t .count)) h
+column-count t h = sym (names-count (t .columns) (t .count) (min (t .count) 8) h refl)
 
 pub area-small : (n k : ℕ) → n ≤ 8 → k ≤ 65535 → n * k ≤ 524280
 area-small n k h l = mul-le-mul h l

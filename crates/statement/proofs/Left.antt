@@ -1,5 +1,6 @@
 -- Noted places walked through: what is left of the items of a list and of the nodes of a condition. Assumes nothing.
 use mathlib.Core.Path.{_≡_, refl, ap, ap₂, _∙_}
+use mathlib.Core.Bool.{Bool}
 use mathlib.Core.List.{List, [], _∷_, map}
 use Prim.Native.Nat.{ℕ, zero, suc, _+_, _-_, _*_, _≤_, _<_}
 use native.Mathlib.Omega.{arith}
@@ -7,7 +8,7 @@ use lib.ListN.{length, getD, drop}
 use lib.Seq.{drop-drop, getD-drop}
 use Rattle.meaning.specs.Postfix.{Node}
 use Rattle.meaning.specs.Grammar.{Term}
-use Rattle.statement.specs.Places.{nodeOn, nodesOn}
+use Rattle.statement.specs.Places.{Column, nodeOn, nodesOn}
 use Rattle.statement.specs.Sentences.{itemsOn}
 
 -- ---- items
@@ -43,19 +44,19 @@ map-items g f (suc n) ls = ap (λ xs. g (f (getD ls 0 0) (getD ls 1 0)) ∷ xs) 
 
 -- ---- nodes
 
-module _ (s : List ℕ) where
-  pub length-nodes : (n : ℕ) (ps : List ℕ) → length (nodesOn s n ps) ≡ n
+module _ (d : Bool) (s : List ℕ) where
+  pub length-nodes : (n : ℕ) (ps : List ℕ) → length (nodesOn d s n ps) ≡ n
   length-nodes zero ps = refl
   length-nodes (suc n) ps = ap suc (length-nodes n (drop 3 ps))
 
-  abbrev pub nodesLeft : ℕ → ℕ → List ℕ → List (Node Term)
-  nodesLeft n i ps = nodesOn s (n - i) (drop (3 * i) ps)
+  abbrev pub nodesLeft : ℕ → ℕ → List ℕ → List (Node (Term (Column d)))
+  nodesLeft n i ps = nodesOn d s (n - i) (drop (3 * i) ps)
 
-  pub nodes-all : (n : ℕ) (ps : List ℕ) → nodesLeft n 0 ps ≡ nodesOn s n ps
+  pub nodes-all : (n : ℕ) (ps : List ℕ) → nodesLeft n 0 ps ≡ nodesOn d s n ps
   nodes-all n ps = let e : n - 0 ≡ n = omega arith in rw e
 
-  abbrev pub nodeHere : ℕ → List ℕ → Node Term
-  nodeHere i ps = nodeOn s (getD ps (3 * i) 0) (getD ps (3 * i + 1) 0) (getD ps (3 * i + 2) 0)
+  abbrev pub nodeHere : ℕ → List ℕ → Node (Term (Column d))
+  nodeHere i ps = nodeOn d s (getD ps (3 * i) 0) (getD ps (3 * i + 1) 0) (getD ps (3 * i + 2) 0)
 
   pub nodes-cons : (n i : ℕ) (ps : List ℕ) → i < n → nodesLeft n i ps ≡ nodeHere i ps ∷ nodesLeft n (i + 1) ps
   nodes-cons n i ps h =
@@ -63,10 +64,10 @@ module _ (s : List ℕ) where
       let z : 3 * i + 0 ≡ 3 * i = omega arith in
       let t : 3 * i + 3 ≡ 3 * (i + 1) = omega arith in
       let at : (k : ℕ) → getD (drop (3 * i) ps) k 0 ≡ getD ps (3 * i + k) 0 = λ k. getD-drop (3 * i) ps k 0 in
-      ap (λ (k : ℕ). nodesOn s k (drop (3 * i) ps)) e
-      ∙ ap₂ (λ (x : Node Term) (xs : List ℕ). x ∷ nodesOn s (n - (i + 1)) xs)
-      (ap (λ (k : ℕ). nodeOn s k (getD (drop (3 * i) ps) 1 0) (getD (drop (3 * i) ps) 2 0)) (at 0 ∙ ap (λ (k : ℕ). getD ps k 0) z)
-      ∙ ap₂ (nodeOn s (getD ps (3 * i) 0)) (at 1) (at 2))
+      ap (λ (k : ℕ). nodesOn d s k (drop (3 * i) ps)) e
+      ∙ ap₂ (λ (x : Node (Term (Column d))) (xs : List ℕ). x ∷ nodesOn d s (n - (i + 1)) xs)
+      (ap (λ (k : ℕ). nodeOn d s k (getD (drop (3 * i) ps) 1 0) (getD (drop (3 * i) ps) 2 0)) (at 0 ∙ ap (λ (k : ℕ). getD ps k 0) z)
+      ∙ ap₂ (nodeOn d s (getD ps (3 * i) 0)) (at 1) (at 2))
       (drop-drop 3 (3 * i) ps ∙ ap (λ (k : ℕ). drop k ps) t)
 
   pub nodes-none : (n i : ℕ) (ps : List ℕ) → n ≤ i → nodesLeft n i ps ≡ []

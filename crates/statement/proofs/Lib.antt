@@ -7,6 +7,7 @@ pub mod Readers
 pub mod Stored
 pub mod SoundCondition
 pub mod SoundNames
+pub mod SoundPairs
 pub mod SoundQuery
 pub mod SoundSettings
 pub mod SoundUpdate
@@ -15,8 +16,10 @@ pub mod SoundTables
 pub mod SentenceLimits
 pub mod SentenceReaders
 pub mod SentenceTokens
+pub mod Columns
 pub mod SentenceLists
 pub mod SentenceForms
+pub mod Paired
 pub mod SentenceTexts
 pub mod Walks
 pub mod Found

@@ -1,18 +1,16 @@
 -- What `put` and `put_comparison` leave: the nodes that were noted, and one more. Assumes nothing.
-use mathlib.Core.Path.{_≡_, refl, sym, ap, subst, transport, _∙_}
-use mathlib.Core.Bool.{Bool, true, false, cond, _||_}
+use mathlib.Core.Path.{_≡_, refl, ap, subst, _∙_}
+use mathlib.Core.Bool.{Bool, cond}
 use mathlib.Core.List.{List, [], _∷_, _++_}
-use Prim.Native.Nat.{ℕ, zero, suc, _+_, _*_, _≤_, _<_}
+use Prim.Native.Nat.{ℕ, zero, suc, _+_, _*_, _≤_}
 use native.Mathlib.Numerals.{add-one, add-two}
 use native.Mathlib.Omega.{arith}
-use lib.Dec.{ltb}
-use lib.ListN.{length, set, drop}
-use Rattle.meaning.specs.Limits.{most-depth}
-use Rattle.token.specs.declared.Token.{Token}
+use lib.ListN.{length, set}
 use Rattle.statement.specs.Operators.{oppositeOf}
 use Rattle.statement.specs.Places.{nodeOn, nodesOn}
-use Rattle.statement.specs.Reading.{past, marksAt, withSides, PutsNode}
+use Rattle.statement.specs.Reading.{withSides, PutsNode}
 use Rattle.statement.specs.declared.conditions.Cursor.{Cursor}
+use Rattle.statement.specs.declared.conditions.Side.{Side}
 
 -- three times a number, which antt computes
 abbrev threes : ℕ → ℕ
@@ -26,8 +24,8 @@ threes-is (suc n) = let h = threes-is n in omega arith
 abbrev put3 : List ℕ → ℕ → ℕ → ℕ → ℕ → List ℕ
 put3 xs i a b d = set (set (set xs i a) (suc i) b) (suc (suc i)) d
 
-module _ (s : List ℕ) (a b d : ℕ) where
-  noted-three : (n : ℕ) (xs : List ℕ) → threes n + 3 ≤ length xs → nodesOn s (suc n) (put3 xs (threes n) a b d) ≡ nodesOn s n xs ++ (nodeOn s a b d ∷ [])
+module _ (q : Bool) (s : List ℕ) (a b d : ℕ) where
+  noted-three : (n : ℕ) (xs : List ℕ) → threes n + 3 ≤ length xs → nodesOn q s (suc n) (put3 xs (threes n) a b d) ≡ nodesOn q s n xs ++ (nodeOn q s a b d ∷ [])
   noted-three zero [] h = absurd (omega arith)
   noted-three zero (x ∷ []) h = absurd (omega arith)
   noted-three zero (x ∷ y ∷ []) h = absurd (omega arith)
@@ -35,26 +33,17 @@ module _ (s : List ℕ) (a b d : ℕ) where
   noted-three (suc n) [] h = absurd (omega arith)
   noted-three (suc n) (x ∷ []) h = absurd (omega arith)
   noted-three (suc n) (x ∷ y ∷ []) h = absurd (omega arith)
-  noted-three (suc n) (x ∷ y ∷ z ∷ xs) h = ap (λ ns. nodeOn s x y z ∷ ns) (noted-three n xs (omega arith))
+  noted-three (suc n) (x ∷ y ∷ z ∷ xs) h = ap (λ ns. nodeOn q s x y z ∷ ns) (noted-three n xs (omega arith))
 
   -- a node noted behind n others
-  pub noted : (n : ℕ) (xs : List ℕ) → 3 * n + 3 ≤ length xs → nodesOn s (n + 1) (set (set (set xs (3 * n) a) (3 * n + 1) b) (3 * n + 2) d) ≡ nodesOn s n xs ++ (nodeOn s a b d ∷ [])
+  pub noted : (n : ℕ) (xs : List ℕ) → 3 * n + 3 ≤ length xs → nodesOn q s (n + 1) (set (set (set xs (3 * n) a) (3 * n + 1) b) (3 * n + 2) d) ≡ nodesOn q s n xs ++ (nodeOn q s a b d ∷ [])
   noted n xs h =
-      (λ i. nodesOn s (add-one n i) (set (set (set xs (3 * n) a) (add-one (3 * n) i) b) (add-two (3 * n) i) d))
-      ∙ subst (λ k. nodesOn s (suc n) (put3 xs k a b d) ≡ nodesOn s n xs ++ (nodeOn s a b d ∷ [])) (threes-is n)
+      (λ i. nodesOn q s (add-one n i) (set (set (set xs (3 * n) a) (add-one (3 * n) i) b) (add-two (3 * n) i) d))
+      ∙ subst (λ k. nodesOn q s (suc n) (put3 xs k a b d) ≡ nodesOn q s n xs ++ (nodeOn q s a b d ∷ [])) (threes-is n)
       (noted-three n xs (omega (arith, threes-is n)))
 
--- a comparison's node, from the numbers that the code has for its parts
-module _ (positive : Bool) (depth : ℕ) (a b : Token) (op : ℕ) (c : Cursor) (xs ys : List ℕ) (r : Cursor) where
-  pub put-sides : (p q : Bool) (m n o k : ℕ) → p ≡ past a → q ≡ past b → m ≡ marksAt (a .kind) → n ≡ marksAt (b .kind) → o ≡ oppositeOf op → k ≡ cond positive op o
-      → PutsNode xs (record { ok = true; over = c .over || (ltb most-depth depth || (p || q)); nodes = c .nodes; marks = c .marks + (m + n); at = b .next }) k (a .start) (b .start) ys r
-      → PutsNode xs (withSides depth a b c) (cond positive op (oppositeOf op)) (a .start) (b .start) ys r
-  put-sides p q m n o k ep eq em en eo ek put =
-      let e : k ≡ cond positive op (oppositeOf op) = ek ∙ ap (cond positive op) eo in
-      transport
-      (λ i. PutsNode xs (record { ok = true; over = c .over || (ltb most-depth depth || (ep i || eq i)); nodes = c .nodes; marks = c .marks + (em i + en i); at = b .next }) (e i) (a .start) (b .start) ys r)
-      put
-
-pub few : (b : Bool) → cond b 1 0 ≤ 1
-few true = omega arith
-few false = omega arith
+-- a comparison's node, from the numbers that the code has for its operator
+module _ (positive : Bool) (depth : ℕ) (a b : Side) (op : ℕ) (c : Cursor) (xs ys : List ℕ) (r : Cursor) where
+  pub put-sides : (o k : ℕ) → o ≡ oppositeOf op → k ≡ cond positive op o
+      → PutsNode xs (withSides depth a b c) k (a .start) (b .start) ys r → PutsNode xs (withSides depth a b c) (cond positive op (oppositeOf op)) (a .start) (b .start) ys r
+  put-sides o k eo ek put = subst (λ n. PutsNode xs (withSides depth a b c) n (a .start) (b .start) ys r) (ek ∙ ap (cond positive op) eo) put

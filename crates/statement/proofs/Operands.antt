@@ -1,6 +1,6 @@
 -- Operands and operators, by the kind of their tokens. Assumes nothing.
 use mathlib.Core.Path.{_≡_, refl, ap, _∙_}
-use mathlib.Core.Bool.{Bool, true, false, not, cond, _&&_, _||_}
+use mathlib.Core.Bool.{Bool, true, false, not, cond, _&&_}
 use mathlib.Core.Option.{Option, none, some}
 use mathlib.Core.List.{List, [], _∷_, _++_}
 use Prim.Native.Nat.{ℕ, _+_, _-_, _≤_, _<_}
@@ -12,12 +12,13 @@ use Rattle.lists.proofs.Bools.{and-left, and-right, and-both, clash}
 use Rattle.meaning.specs.Operator.{Operator}
 use Rattle.meaning.specs.Condition.{Comparison, sides}
 use Rattle.meaning.specs.Tokens as T
-use Rattle.meaning.specs.Tokens.{Token, keyword, name, operator, comma, lparen, rparen, other}
-use Rattle.meaning.specs.Grammar.{constant, mark, Term, column, given, aToken, aTerm, operatorOf}
+use Rattle.meaning.specs.Tokens.{Token, keyword, name, operator, comma, lparen, rparen, dot, other}
+use Rattle.meaning.specs.Grammar.{constant, mark, Term, column, given, aToken, aTerm, nameOf, operatorOf}
 use Rattle.meaning.specs.Limits.{isWithin32, markCount, termGivens}
+use Rattle.meaning.proofs.Readers.{some-none}
 use Rattle.token.specs.Tokens.{kindOf, operatorNumber}
 use Rattle.statement.specs.Places.{tokenOn, termOn}
-use Rattle.statement.specs.Reading.{tokenPast, isOperand, isComparison, marksAt, termPast}
+use Rattle.statement.specs.Reading.{tokenPast, isOperand, isComparison, marksAt, Operand, aColumn, termPast}
 use Rattle.statement.proofs.OperatorLaws.{operator-few}
 
 -- ---- question marks
@@ -26,38 +27,60 @@ append-sides : {O : Type 0} (cs ds : List (Comparison O)) → sides (cs ++ ds) �
 append-sides [] ds = refl
 append-sides (c ∷ cs) ds = ap (λ xs. c .left ∷ c .right ∷ xs) (append-sides cs ds)
 
-pub append-marks : (xs ys : List Term) → markCount (termGivens (xs ++ ys)) ≡ markCount (termGivens xs) + markCount (termGivens ys)
+pub append-marks : {C : Type 0} (xs ys : List (Term C)) → markCount (termGivens (xs ++ ys)) ≡ markCount (termGivens xs) + markCount (termGivens ys)
 append-marks [] ys = omega arith
 append-marks (column n ∷ xs) ys = append-marks xs ys
 append-marks (given v ∷ xs) ys = omega (arith, append-marks xs ys)
 
-pub marks-of-both : (cs ds : List (Comparison Term)) → markCount (termGivens (sides (cs ++ ds))) ≡ markCount (termGivens (sides cs)) + markCount (termGivens (sides ds))
+pub marks-of-both : {C : Type 0} (cs ds : List (Comparison (Term C))) → markCount (termGivens (sides (cs ++ ds))) ≡ markCount (termGivens (sides cs)) + markCount (termGivens (sides ds))
 marks-of-both cs ds = ap (λ xs. markCount (termGivens xs)) (append-sides cs ds) ∙ append-marks (sides cs) (sides ds)
 
 -- ---- operands
 
-abbrev pub termOf : Token → Option Term
-termOf (keyword k) = none
-termOf (name n) = some (column n)
-termOf (T.constant z) = some (given (constant z))
-termOf (operator o) = none
-termOf T.mark = some (given mark)
-termOf comma = none
-termOf lparen = none
-termOf rparen = none
-termOf other = none
+-- the operand that a token is by itself: a name is one where columns are bare
+abbrev pub termOf : (b : Bool) → Token → Option (Operand b)
+termOf b (keyword k) = none
+termOf false (name n) = some (column n)
+termOf true (name n) = none
+termOf b (T.constant z) = some (given (constant z))
+termOf b (operator o) = none
+termOf b T.mark = some (given mark)
+termOf b comma = none
+termOf b lparen = none
+termOf b rparen = none
+termOf b dot = none
+termOf b other = none
 
-pub term-reader : (ts : List Token) → aTerm ts ≡ aToken termOf ts
-term-reader [] = refl
-term-reader (keyword k ∷ ts) = refl
-term-reader (name n ∷ ts) = refl
-term-reader (T.constant z ∷ ts) = refl
-term-reader (operator o ∷ ts) = refl
-term-reader (T.mark ∷ ts) = refl
-term-reader (comma ∷ ts) = refl
-term-reader (lparen ∷ ts) = refl
-term-reader (rparen ∷ ts) = refl
-term-reader (other ∷ ts) = refl
+-- where columns are dotted, it is no name
+abbrev pub Single : Bool → Token → Type 0
+Single false t = Unit {0}
+Single true t = nameOf t ≡ none
+
+pub term-reader : (b : Bool) (t : Token) (ts : List Token) → Single b t → aTerm (aColumn b) (t ∷ ts) ≡ aToken (termOf b) (t ∷ ts)
+term-reader false (keyword k) ts h = refl
+term-reader false (name n) ts h = refl
+term-reader false (T.constant z) ts h = refl
+term-reader false (operator o) ts h = refl
+term-reader false T.mark ts h = refl
+term-reader false comma ts h = refl
+term-reader false lparen ts h = refl
+term-reader false rparen ts h = refl
+term-reader false dot ts h = refl
+term-reader false other ts h = refl
+term-reader true (keyword k) ts h = refl
+term-reader true (name n) ts h = some-none h
+term-reader true (T.constant z) ts h = refl
+term-reader true (operator o) ts h = refl
+term-reader true T.mark ts h = refl
+term-reader true comma ts h = refl
+term-reader true lparen ts h = refl
+term-reader true rparen ts h = refl
+term-reader true dot ts h = refl
+term-reader true other ts h = refl
+
+pub no-term : (b : Bool) → aTerm (aColumn b) [] ≡ none
+no-term false = refl
+no-term true = refl
 
 -- from 6 on no kind is an operand's
 far : (k : ℕ) → 5 < k → isOperand k ≡ false
@@ -67,33 +90,36 @@ far k h = go (leb 2 k) (leb k 5) (lt-leb k 5 h)
     go true b e = e
     go false b e = refl
 
-pub term-none : (t : Token) → isOperand (kindOf t) ≡ false → termOf t ≡ none
-term-none (keyword k) e = refl
-term-none (name n) e = clash refl e
-term-none (T.constant z) e = go (isWithin32 z) e
+pub term-none : (b : Bool) (t : Token) → isOperand (kindOf t) ≡ false → termOf b t ≡ none
+term-none b (keyword k) e = refl
+term-none b (name n) e = clash refl e
+term-none b (T.constant z) e = go (isWithin32 z) e
   where
-    go : (b : Bool) → isOperand (cond b 3 4) ≡ false → termOf (T.constant z) ≡ none
+    go : (w : Bool) → isOperand (cond w 3 4) ≡ false → termOf b (T.constant z) ≡ none
     go true q = clash refl q
     go false q = clash refl q
-term-none (operator o) e = refl
-term-none T.mark e = clash refl e
-term-none comma e = refl
-term-none lparen e = refl
-term-none rparen e = refl
-term-none other e = refl
+term-none b (operator o) e = refl
+term-none b T.mark e = clash refl e
+term-none b comma e = refl
+term-none b lparen e = refl
+term-none b rparen e = refl
+term-none b dot e = refl
+term-none b other e = refl
 
 -- the term x of a token t, which stands from `start` up to `next`
-pub record IsTerm (t : Token) (start next : ℕ) (x : Term) : Type 0 where
-  pub term : termOf t ≡ some x
-  pub over : tokenPast (kindOf t) start next ≡ termPast x
+pub record IsTerm (b : Bool) (t : Token) (start next : ℕ) (x : Operand b) : Type 0 where
+  pub term : termOf b t ≡ some x
+  pub over : tokenPast (kindOf t) start next ≡ termPast b x
   pub marks : marksAt (kindOf t) ≡ markCount (termGivens (x ∷ []))
-  pub here : (s : List ℕ) (p : ℕ) → tokenOn s p ≡ t → termOn s p ≡ x
+  pub here : (s : List ℕ) (p : ℕ) → tokenOn s p ≡ t → termOn b s p ≡ x
 
-pub is-term : (t : Token) (start next : ℕ) → ((n : T.Name) → t ≡ name n → next - start ≡ length n) → isOperand (kindOf t) ≡ true → (x : Term) × IsTerm t start next x
+pub is-term : (b : Bool) (t : Token) (start next : ℕ) → ((n : T.Name) → t ≡ name n → next - start ≡ length n) → Single b t → isOperand (kindOf t) ≡ true
+    → (x : Operand b) × IsTerm b t start next x
 unfolding tokenPast
-is-term (keyword k) start next l e = clash e (far (kindOf (keyword k)) (omega arith))
-is-term (name n) start next l e = (column n, record { term = refl; over = ap (ltb 12) (l n refl); marks = refl; here = λ s p q. rw q })
-is-term (T.constant z) start next l e = (given (constant z), record { term = refl; over = go (isWithin32 z); marks = no-mark (isWithin32 z); here = λ s p q. rw q })
+is-term b (keyword k) start next l h e = clash e (far (kindOf (keyword k)) (omega arith))
+is-term false (name n) start next l h e = (column n, record { term = refl; over = ap (ltb 12) (l n refl); marks = refl; here = λ s p q. rw q })
+is-term true (name n) start next l h e = some-none h
+is-term b (T.constant z) start next l h e = (given (constant z), record { term = refl; over = go (isWithin32 z); marks = no-mark (isWithin32 z); here = λ s p q. rw q })
   where
     go : (b : Bool) → tokenPast (cond b 3 4) start next ≡ not b
     go true = refl
@@ -102,12 +128,13 @@ is-term (T.constant z) start next l e = (given (constant z), record { term = ref
     no-mark : (b : Bool) → marksAt (cond b 3 4) ≡ 0
     no-mark true = refl
     no-mark false = refl
-is-term (operator o) start next l e = clash e (far (kindOf (operator o)) (omega arith))
-is-term T.mark start next l e = (given mark, record { term = refl; over = refl; marks = refl; here = λ s p q. rw q })
-is-term comma start next l e = clash e refl
-is-term lparen start next l e = clash e refl
-is-term rparen start next l e = clash e refl
-is-term other start next l e = clash e refl
+is-term b (operator o) start next l h e = clash e (far (kindOf (operator o)) (omega arith))
+is-term b T.mark start next l h e = (given mark, record { term = refl; over = refl; marks = refl; here = λ s p q. rw q })
+is-term b comma start next l h e = clash e refl
+is-term b lparen start next l h e = clash e refl
+is-term b rparen start next l h e = clash e refl
+is-term b dot start next l h e = clash e refl
+is-term b other start next l h e = clash e refl
 
 -- ---- operators
 
@@ -122,6 +149,7 @@ no-operator T.mark e = refl
 no-operator comma e = refl
 no-operator lparen e = refl
 no-operator rparen e = refl
+no-operator dot e = refl
 no-operator other e = refl
 
 pub is-operator : (t : Token) → isComparison (kindOf t) ≡ true → (o : Operator) × (t ≡ operator o)
@@ -140,4 +168,5 @@ is-operator t e = go t (leb-true 9 (kindOf t) (and-left (leb 9 (kindOf t)) (leb 
     go comma h l = absurd (omega arith)
     go lparen h l = absurd (omega arith)
     go rparen h l = absurd (omega arith)
+    go dot h l = absurd (omega arith)
     go other h l = absurd (omega arith)

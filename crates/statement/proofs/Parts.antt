@@ -1,6 +1,6 @@
 -- The parts of statements: a number of rows, and the marks, operators and steps of what stands at places. Assumes nothing.
 use mathlib.Core.Path.{_≡_, refl, sym, ap, _∙_}
-use mathlib.Core.Bool.{true, false}
+use mathlib.Core.Bool.{Bool, true, false}
 use mathlib.Core.List.{List}
 use Prim.Native.Nat.{ℕ, _+_, _≤_, _<_}
 use native.Mathlib.Omega.{arith}
@@ -14,7 +14,6 @@ use Rattle.lists.proofs.Bools.{clash}
 use Rattle.meaning.specs.Grammar as G
 use Rattle.meaning.specs.Grammar.{Given, Term}
 use Rattle.meaning.specs.Limits.{markIn}
-use Rattle.meaning.specs.Names.{position}
 use Rattle.meaning.specs.Statement as M
 use Rattle.meaning.specs.Condition.{renamed}
 use Rattle.meaning.specs.Statement.{column, value, constant, parameter, numbered, markInTerm, operandOf, comparisonOf}
@@ -24,9 +23,9 @@ use Rattle.statement.specs.declared.Value.{Value}
 use Rattle.statement.specs.Sound.{valueRead, operandRead}
 use Rattle.statement.proofs.OperatorLaws.{operator-number}
 use Rattle.statement.proofs.ByKind.{column-read, parameter-read}
-use Rattle.statement.specs.Places.{termOn}
+use Rattle.statement.specs.Places.{Column}
 use Rattle.statement.specs.Compiled.{valueStruct, operandStruct, comparisonWith, comparisonStruct}
-use Rattle.statement.specs.Built.{rowsIn, shortGiven, shortTerm, markInValue, markInSide, comparisonOn}
+use Rattle.statement.specs.Built.{rowsIn, shortGiven, shortColumn, shortTerm, sideOn, markInValue, markInSide, comparisonOn}
 
 -- ---- rows
 
@@ -68,28 +67,24 @@ pub mark-given : (m : ℕ) (v : Given) → markInValue (valueStruct (numbered m 
 mark-given m (G.constant z) = refl
 mark-given m G.mark = refl
 
-pub mark-side : (columns : List (List ℕ)) (m : ℕ) (t : Term) → markInSide (operandStruct (operandOf columns m t)) ≡ markInTerm t
-mark-side columns m (G.column n) = ap markInOperand (column-read (position columns n))
-mark-side columns m (G.given (G.constant z)) = refl
-mark-side columns m (G.given G.mark) = ap markInOperand (parameter-read m)
+pub mark-side : {C : Type 0} (place : C → ℕ) (m : ℕ) (t : Term C) → markInSide (operandStruct (operandOf place m t)) ≡ markInTerm t
+mark-side place m (G.column c) = ap markInOperand (column-read (place c))
+mark-side place m (G.given (G.constant z)) = refl
+mark-side place m (G.given G.mark) = ap markInOperand (parameter-read m)
 
 pub short-mark : (v : Given) → markIn (shortGiven v) ≡ markIn v
 short-mark (G.constant z) = refl
 short-mark G.mark = refl
 
-pub short-mark-term : (t : Term) → markInTerm (shortTerm t) ≡ markInTerm t
-short-mark-term (G.column n) = refl
-short-mark-term (G.given v) = short-mark v
-
 -- ---- comparisons
 
 -- a comparison of sides made one after the other
-pub comparison-made : (s : List ℕ) (columns : List (List ℕ)) (op left right m n : ℕ) (a b : Operand) → op < 6
-    → a ≡ operandStruct (operandOf columns m (shortTerm (termOn s left))) → n ≡ m + markInSide a
-    → b ≡ operandStruct (operandOf columns n (shortTerm (termOn s right)))
-    → comparisonWith a op b ≡ comparisonStruct (comparisonOf columns m (renamed shortTerm (comparisonOn s op left right)))
-comparison-made s columns op left right m n a b h ea en eb =
-    let t = shortTerm (termOn s left) in
-    let q : n ≡ m + markInTerm t = en ∙ ap (λ (k : ℕ). m + k) (ap markInSide ea ∙ mark-side columns m t) in
-    let r : b ≡ operandStruct (operandOf columns (m + markInTerm t) (shortTerm (termOn s right))) = eb ∙ ap (λ (k : ℕ). operandStruct (operandOf columns k (shortTerm (termOn s right)))) q in
+pub comparison-made : (d : Bool) (s : List ℕ) (place : Column d → ℕ) (op left right m n : ℕ) (a b : Operand) → op < 6
+    → a ≡ operandStruct (operandOf place m (sideOn d s left)) → n ≡ m + markInSide a
+    → b ≡ operandStruct (operandOf place n (sideOn d s right))
+    → comparisonWith a op b ≡ comparisonStruct (comparisonOf place m (renamed (shortTerm (shortColumn d)) (comparisonOn d s op left right)))
+comparison-made d s place op left right m n a b h ea en eb =
+    let t = sideOn d s left in
+    let q : n ≡ m + markInTerm t = en ∙ ap (λ (k : ℕ). m + k) (ap markInSide ea ∙ mark-side place m t) in
+    let r : b ≡ operandStruct (operandOf place (m + markInTerm t) (sideOn d s right)) = eb ∙ ap (λ (k : ℕ). operandStruct (operandOf place k (sideOn d s right))) q in
     λ i. comparisonWith (ea i) (sym (operator-number op h) i) (r i)

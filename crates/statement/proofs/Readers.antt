@@ -12,53 +12,54 @@ use Rattle.meaning.specs.Condition.{Level, atom, conjunction, disjunction, Cond
 use Rattle.meaning.specs.Postfix.{Node, nodes, joinAll, joinAny}
 use Rattle.meaning.specs.Tokens as T
 use Rattle.meaning.specs.Tokens.{tokens, keyword, lparen, rparen, NOT, AND, OR}
-use Rattle.meaning.specs.Grammar.{Term, Reader, then, _>>=_, _>>_, done, fails, passing, expect, aComparison, aCondition}
+use Rattle.meaning.specs.Grammar.{Reader, then, _>>=_, _>>_, done, fails, passing, expect, aCondition}
 use Rattle.meaning.proofs.Readers.{begins, passing-yes, passing-stops, expect-here}
 use Rattle.meaning.proofs.Decides.{reads-not, reads-open, reads-compare, reads-and, reads-or}
 use Rattle.statement.specs.Places.{andCode, orCode, nodeOn, nodesOn}
-use Rattle.statement.specs.Reading.{movedTo, withNode, PutsNode, Stands, conditionPast, marksIn, Found, Meets, rank, Reads, Passed, Passes, Closes}
+use Rattle.statement.specs.Reading.{movedTo, withNode, PutsNode, Stands, Operand, aColumn, conditionPast, marksIn, Found, Meets, rank, Compares, Reads, Passed, Passes, Closes}
 use Rattle.statement.specs.declared.conditions.Cursor.{Cursor}
 use Rattle.statement.proofs.Operands.{marks-of-both}
 use Rattle.statement.proofs.Steps.{Goes}
 
 -- ---- what was found, as another condition
 
-module _ (s : List ℕ) (positive : Bool) (depth : ℕ) (c : Cursor) (xs : List ℕ) where
+module _ (b : Bool) (s : List ℕ) (positive : Bool) (depth : ℕ) (c : Cursor) (xs : List ℕ) where
   -- t and then d were read, with the token between them, and the node that joins them was put: u is what they make
-  module _ {lo hi : Level} (t : Condition Term lo) (d u : Condition Term hi) (p : Cursor) (ys : List ℕ) (q : Cursor) (zs : List ℕ) (next : ℕ) (node : ℕ) (join : Node Term)
-      (over-is : conditionPast depth u ≡ (conditionPast depth t || conditionPast depth d))
+  module _ {lo hi : Level} (t : Condition (Operand b) lo) (d u : Condition (Operand b) hi) (p : Cursor) (ys : List ℕ) (q : Cursor) (zs : List ℕ) (next : ℕ) (node : ℕ) (join : Node (Operand b))
+      (over-is : conditionPast b depth u ≡ (conditionPast b depth t || conditionPast b depth d))
       (marks-is : marksIn u ≡ marksIn t + marksIn d)
       (nodes-is : nodes positive u ≡ nodes positive t ++ (nodes positive d ++ (join ∷ [])))
-      (node-is : nodeOn s node 0 0 ≡ join) where
-    joined : (more left : List T.Token) → Found s positive depth c xs p ys t more → p .at < next → Found s positive depth (movedTo next p) ys q zs d left
-        → (r : Cursor) (ws : List ℕ) → PutsNode zs q node 0 0 ws r → Found s positive depth c xs r ws u left
-    joined more left f on g r ws put = subst (λ z. Found s positive depth c xs z ws u left) (sym (put .counted)) here
+      (node-is : nodeOn b s node 0 0 ≡ join) where
+    joined : (more left : List T.Token) → Found b s positive depth c xs p ys t more → p .at < next → Found b s positive depth (movedTo next p) ys q zs d left
+        → (r : Cursor) (ws : List ℕ) → PutsNode zs q node 0 0 ws r → Found b s positive depth c xs r ws u left
+    joined more left f on g r ws put = subst (λ z. Found b s positive depth c xs z ws u left) (sym (put .counted)) here
       where
         many : length (nodes positive u) ≡ length (nodes positive t) + length (nodes positive d) + 1
         many = ap length nodes-is ∙ simp length-append (omega arith)
 
-        regrouped : ((nodesOn s (c .nodes) xs ++ nodes positive t) ++ nodes positive d) ++ (join ∷ []) ≡ nodesOn s (c .nodes) xs ++ (nodes positive t ++ (nodes positive d ++ (join ∷ [])))
+        regrouped : ((nodesOn b s (c .nodes) xs ++ nodes positive t) ++ nodes positive d) ++ (join ∷ []) ≡ nodesOn b s (c .nodes) xs ++ (nodes positive t ++ (nodes positive d ++ (join ∷ [])))
         regrouped = simp append-assoc
 
         st : Stands s q
         st = g .stands
 
-        notes : q .nodes + 1 ≤ 15 → nodesOn s (q .nodes + 1) ws ≡ nodesOn s (c .nodes) xs ++ nodes positive u
+        notes : q .nodes + 1 ≤ 15 → nodesOn b s (q .nodes + 1) ws ≡ nodesOn b s (c .nodes) xs ++ nodes positive u
         notes h =
-            put .noted s (omega arith)
-            ∙ ap (λ ns. ns ++ (nodeOn s node 0 0 ∷ [])) (g .noted (omega arith) ∙ ap (λ ns. ns ++ nodes positive d) (f .noted (omega (arith, g .nodes-are))))
-            ∙ ap (λ n. ((nodesOn s (c .nodes) xs ++ nodes positive t) ++ nodes positive d) ++ (n ∷ [])) node-is
+            put .noted b s (omega arith)
+            ∙ ap (λ ns. ns ++ (nodeOn b s node 0 0 ∷ [])) (g .noted (omega arith) ∙ ap (λ ns. ns ++ nodes positive d) (f .noted (omega (arith, g .nodes-are))))
+            ∙ ap (λ n. ((nodesOn b s (c .nodes) xs ++ nodes positive t) ++ nodes positive d) ++ (n ∷ [])) node-is
             ∙ regrouped
-            ∙ ap (λ ns. nodesOn s (c .nodes) xs ++ ns) (sym nodes-is)
+            ∙ ap (λ ns. nodesOn b s (c .nodes) xs ++ ns) (sym nodes-is)
 
-        here : Found s positive depth c xs (withNode q) ws u left
+        here : Found b s positive depth c xs (withNode q) ws u left
         here =
             record {
               ok = g .ok;
+              dotted = g .dotted;
               moved = omega (arith, f .moved, g .moved);
               stands = record { short = st .short; inside = st .inside; few-nodes = omega (arith, g .spread, f .stands .few-nodes); few-marks = st .few-marks };
               left = g .left;
-              over = g .over ∙ ap (λ b. b || conditionPast depth d) (f .over) ∙ sym (or-assoc (c .over) (conditionPast depth t) (conditionPast depth d)) ∙ ap (λ b. c .over || b) (sym over-is);
+              over = g .over ∙ ap (λ z. z || conditionPast b depth d) (f .over) ∙ sym (or-assoc (c .over) (conditionPast b depth t) (conditionPast b depth d)) ∙ ap (λ z. c .over || z) (sym over-is);
               nodes-are = omega (arith, g .nodes-are, f .nodes-are, many);
               marks-are = omega (arith, g .marks-are, f .marks-are, marks-is);
               noted = notes;
@@ -66,81 +67,88 @@ module _ (s : List ℕ) (positive : Bool) (depth : ℕ) (c : Cursor) (xs : List 
             }
 
 -- a condition as another one that says the same
-abbrev Same : {lo hi : Level} → Bool → ℕ → Condition Term lo → Bool → ℕ → Condition Term hi → Type 0
-Same p d t q e u = (conditionPast d t ≡ conditionPast e u) × (marksIn t ≡ marksIn u) × (nodes p t ≡ nodes q u)
+abbrev Same : (b : Bool) {lo hi : Level} → Bool → ℕ → Condition (Operand b) lo → Bool → ℕ → Condition (Operand b) hi → Type 0
+Same b p d t q e u = (conditionPast b d t ≡ conditionPast b e u) × (marksIn t ≡ marksIn u) × (nodes p t ≡ nodes q u)
 
 -- what was found under p and d, from a later place on, is found under q and e, from an earlier one on
-found-as : {lo hi : Level} (s : List ℕ) (p : Bool) (d : ℕ) (q : Bool) (e : ℕ) (c : Cursor) (at : ℕ) (xs : List ℕ) (r : Cursor) (ys : List ℕ) (t : Condition Term lo) (u : Condition Term hi)
-    (more : List T.Token) → Same p d t q e u → c .at ≤ at → Found s p d (movedTo at c) xs r ys t more → Found s q e c xs r ys u more
-found-as s p d q e c at xs r ys t u more same le f =
+found-as : (b : Bool) {lo hi : Level} (s : List ℕ) (p : Bool) (d : ℕ) (q : Bool) (e : ℕ) (c : Cursor) (at : ℕ) (xs : List ℕ) (r : Cursor) (ys : List ℕ) (t : Condition (Operand b) lo) (u : Condition (Operand b) hi)
+    (more : List T.Token) → Same b p d t q e u → c .at ≤ at → Found b s p d (movedTo at c) xs r ys t more → Found b s q e c xs r ys u more
+found-as b s p d q e c at xs r ys t u more same le f =
     record {
       ok = f .ok;
+      dotted = f .dotted;
       moved = omega (arith, f .moved);
       stands = f .stands;
       left = f .left;
-      over = f .over ∙ ap (λ b. c .over || b) (same .0);
+      over = f .over ∙ ap (λ z. c .over || z) (same .0);
       nodes-are = f .nodes-are ∙ ap (λ ns. c .nodes + length ns) (same .2);
       marks-are = f .marks-are ∙ ap (λ n. c .marks + n) (same .1);
-      noted = λ h. f .noted h ∙ ap (λ ns. nodesOn s (c .nodes) xs ++ ns) (same .2);
+      noted = λ h. f .noted h ∙ ap (λ ns. nodesOn b s (c .nodes) xs ++ ns) (same .2);
       spread = omega (arith, f .spread);
     }
 
--- what a reader found moved on, and stands
+-- what a reader found moved on, and stands; columns are dotted as before
+found-more : (l : Level) (s : List ℕ) (positive : Bool) (depth : ℕ) (c : Cursor) (xs : List ℕ) (r : Cursor) (ys : List ℕ) → Reads l s positive depth c xs r ys → r .ok ≡ true
+    → (Stands s r × (c .at < r .at) × (r .nodes + c .at ≤ c .nodes + r .at)) × (r .dotted ≡ c .dotted)
+found-more l s positive depth c xs r ys m e = go (aCondition (aColumn (c .dotted)) (3 * (length s - c .at) + rank l) l (tokens (drop (c .at) s))) (m (c .dotted) refl _ (le-refl _))
+  where
+    go : (x : Option (Condition (Operand (c .dotted)) l × List T.Token)) → Meets (c .dotted) s positive depth c xs r ys x
+        → (Stands s r × (c .at < r .at) × (r .nodes + c .at ≤ c .nodes + r .at)) × (r .dotted ≡ c .dotted)
+    go none n = clash e n
+    go (some x) n = ((n .stands, n .moved, n .spread), n .dotted)
+
 pub found-on : (l : Level) (s : List ℕ) (positive : Bool) (depth : ℕ) (c : Cursor) (xs : List ℕ) (r : Cursor) (ys : List ℕ) → Reads l s positive depth c xs r ys → r .ok ≡ true
     → Stands s r × (c .at < r .at) × (r .nodes + c .at ≤ c .nodes + r .at)
-found-on l s positive depth c xs r ys m e = go (aCondition (3 * (length s - c .at) + rank l) l (tokens (drop (c .at) s))) (m _ (le-refl _))
-  where
-    go : (x : Option (Condition Term l × List T.Token)) → Meets s positive depth c xs r ys x → Stands s r × (c .at < r .at) × (r .nodes + c .at ≤ c .nodes + r .at)
-    go none n = clash e n
-    go (some x) n = (n .stands, n .moved, n .spread)
+found-on l s positive depth c xs r ys m e = found-more l s positive depth c xs r ys m e .0
 
 -- ---- AND and OR: what follows the first condition
 
-module _ {lo hi : Level} (k : T.Token) (wrap : Condition Term lo → Condition Term hi) (join : Condition Term lo → Condition Term hi → Condition Term hi) (again : Reader (Condition Term hi)) where
-  abbrev rest : Condition Term lo → Reader (Condition Term hi)
+module _ (b : Bool) {lo hi : Level} (k : T.Token) (wrap : Condition (Operand b) lo → Condition (Operand b) hi) (join : Condition (Operand b) lo → Condition (Operand b) hi → Condition (Operand b) hi) (again : Reader (Condition (Operand b) hi)) where
+  abbrev rest : Condition (Operand b) lo → Reader (Condition (Operand b) hi)
   rest t = passing k (again >>= λ d. done (join t d)) (done (wrap t))
 
   module _ (s : List ℕ) (positive : Bool) (depth : ℕ) (c : Cursor) (xs : List ℕ) (p : Cursor) (ys : List ℕ) where
     -- the first failed
-    chain-fails : (x : Option (Condition Term lo × List T.Token)) → Meets s positive depth c xs p ys x → p .ok ≡ false → Meets s positive depth c xs p ys (then x rest)
+    chain-fails : (x : Option (Condition (Operand b) lo × List T.Token)) → Meets b s positive depth c xs p ys x → p .ok ≡ false → Meets b s positive depth c xs p ys (then x rest)
     chain-fails none m e = m
     chain-fails (some y) m e = clash (m .ok) e
 
     -- the first is all
-    chain-stops : ((t : Condition Term lo) → Same positive depth t positive depth (wrap t))
-        → (x : Option (Condition Term lo × List T.Token)) → Meets s positive depth c xs p ys x → p .ok ≡ true → begins k (tokens (drop (p .at) s)) ≡ false
-        → Meets s positive depth c xs p ys (then x rest)
+    chain-stops : ((t : Condition (Operand b) lo) → Same b positive depth t positive depth (wrap t))
+        → (x : Option (Condition (Operand b) lo × List T.Token)) → Meets b s positive depth c xs p ys x → p .ok ≡ true → begins k (tokens (drop (p .at) s)) ≡ false
+        → Meets b s positive depth c xs p ys (then x rest)
     chain-stops w none m e i = clash e m
     chain-stops w (some y) m e i =
-        subst (Meets s positive depth c xs p ys) (sym (passing-stops k (again >>= λ d. done (join (y .0) d)) (done (wrap (y .0))) (y .1) (ap (begins k) (sym (m .left)) ∙ i)))
-        (found-as s positive depth positive depth c (c .at) xs p ys (y .0) (wrap (y .0)) (y .1) (w (y .0)) (le-refl (c .at)) m)
+        subst (Meets b s positive depth c xs p ys) (sym (passing-stops k (again >>= λ d. done (join (y .0) d)) (done (wrap (y .0))) (y .1) (ap (begins k) (sym (m .left)) ∙ i)))
+        (found-as b s positive depth positive depth c (c .at) xs p ys (y .0) (wrap (y .0)) (y .1) (w (y .0)) (le-refl (c .at)) m)
 
     -- the second is read from `next` on, which leaves q; r is the answer
     module _ (q : Cursor) (zs : List ℕ) (next : ℕ) (t : Goes s (p .at) next k) (r : Cursor) (ws : List ℕ) where
-      chain-goes : ((x : Condition Term lo) (more : List T.Token) → Found s positive depth c xs p ys x more → (d : Condition Term hi) (left : List T.Token)
-          → Found s positive depth (movedTo next p) ys q zs d left → Found s positive depth c xs r ws (join x d) left)
+      chain-goes : ((x : Condition (Operand b) lo) (more : List T.Token) → Found b s positive depth c xs p ys x more → (d : Condition (Operand b) hi) (left : List T.Token)
+          → Found b s positive depth (movedTo next p) ys q zs d left → Found b s positive depth c xs r ws (join x d) left)
           → (q .ok ≡ false → r .ok ≡ false)
-          → (x : Option (Condition Term lo × List T.Token)) → Meets s positive depth c xs p ys x → p .ok ≡ true
-          → Meets s positive depth (movedTo next p) ys q zs (again (tokens (drop next s))) → Meets s positive depth c xs r ws (then x rest)
+          → (x : Option (Condition (Operand b) lo × List T.Token)) → Meets b s positive depth c xs p ys x → p .ok ≡ true
+          → Meets b s positive depth (movedTo next p) ys q zs (again (tokens (drop next s))) → Meets b s positive depth c xs r ws (then x rest)
       chain-goes j no-more none m e n = clash e m
       chain-goes j no-more (some y) m e n =
-          subst (Meets s positive depth c xs r ws)
+          subst (Meets b s positive depth c xs r ws)
           (sym (ap (rest (y .0)) (sym (m .left) ∙ t .after) ∙ passing-yes k (again >>= λ d. done (join (y .0) d)) (done (wrap (y .0))) (tokens (drop next s))))
           (go (again (tokens (drop next s))) n)
         where
-          go : (o : Option (Condition Term hi × List T.Token)) → Meets s positive depth (movedTo next p) ys q zs o → Meets s positive depth c xs r ws (then o (λ d. done (join (y .0) d)))
+          go : (o : Option (Condition (Operand b) hi × List T.Token)) → Meets b s positive depth (movedTo next p) ys q zs o → Meets b s positive depth c xs r ws (then o (λ d. done (join (y .0) d)))
           go none g = no-more g
           go (some d) g = j (y .0) (y .1) m (d .0) (d .1) g
 
 -- a level that joins conditions of the one below by the token k: how the grammar reads it, and what the joined condition is
-pub record Chain (lo hi : Level) (k : T.Token) (wrap : Condition Term lo → Condition Term hi) (join : Condition Term lo → Condition Term hi → Condition Term hi) (number : Bool → ℕ) (node : Bool → Node Term) : Type 0 where
-  pub unrolls : (n : ℕ) (ts : List T.Token) → aCondition (suc n) hi ts ≡ then (aCondition n lo ts) (rest k wrap join (aCondition n hi))
+pub record Chain (lo hi : Level) (k : T.Token) (wrap : (b : Bool) → Condition (Operand b) lo → Condition (Operand b) hi) (join : (b : Bool) → Condition (Operand b) lo → Condition (Operand b) hi → Condition (Operand b) hi)
+    (number : Bool → ℕ) (node : (b : Bool) → Bool → Node (Operand b)) : Type 0 where
+  pub unrolls : (b : Bool) (n : ℕ) (ts : List T.Token) → aCondition (aColumn b) (suc n) hi ts ≡ then (aCondition (aColumn b) n lo ts) (rest b k (wrap b) (join b) (aCondition (aColumn b) n hi))
   pub higher : rank hi ≡ suc (rank lo)
-  pub same : (p : Bool) (d : ℕ) (t : Condition Term lo) → Same p d t p d (wrap t)
-  pub over : (d : ℕ) (t : Condition Term lo) (u : Condition Term hi) → conditionPast d (join t u) ≡ (conditionPast d t || conditionPast d u)
-  pub marks : (t : Condition Term lo) (u : Condition Term hi) → marksIn (join t u) ≡ marksIn t + marksIn u
-  pub nodes-are : (p : Bool) (t : Condition Term lo) (u : Condition Term hi) → nodes p (join t u) ≡ nodes p t ++ (nodes p u ++ (node p ∷ []))
-  pub node-is : (s : List ℕ) (p : Bool) → nodeOn s (number p) 0 0 ≡ node p
+  pub same : (b : Bool) (p : Bool) (d : ℕ) (t : Condition (Operand b) lo) → Same b p d t p d (wrap b t)
+  pub over : (b : Bool) (d : ℕ) (t : Condition (Operand b) lo) (u : Condition (Operand b) hi) → conditionPast b d (join b t u) ≡ (conditionPast b d t || conditionPast b d u)
+  pub marks : (b : Bool) (t : Condition (Operand b) lo) (u : Condition (Operand b) hi) → marksIn (join b t u) ≡ marksIn t + marksIn u
+  pub nodes-are : (b : Bool) (p : Bool) (t : Condition (Operand b) lo) (u : Condition (Operand b) hi) → nodes p (join b t u) ≡ nodes p t ++ (nodes p u ++ (node b p ∷ []))
+  pub node-is : (b : Bool) (s : List ℕ) (p : Bool) → nodeOn b s (number p) 0 0 ≡ node b p
 
 abbrev pub andNumber : Bool → ℕ
 andNumber p = cond p andCode orCode
@@ -148,87 +156,93 @@ andNumber p = cond p andCode orCode
 abbrev pub orNumber : Bool → ℕ
 orNumber p = cond p orCode andCode
 
-pub ands : Chain atom conjunction (keyword AND) alone both andNumber joinAll
+pub ands : Chain atom conjunction (keyword AND) (λ b. alone) (λ b. both) andNumber (λ b. joinAll)
 ands =
     record {
-      unrolls = reads-and;
+      unrolls = λ b. reads-and (aColumn b);
       higher = refl;
-      same = λ p d t. (refl, refl, refl);
-      over = λ d t u. refl;
-      marks = λ t u. marks-of-both (comparisons t) (comparisons u);
-      nodes-are = λ p t u. refl;
-      node-is = λ s p. go s p;
+      same = λ b p d t. (refl, refl, refl);
+      over = λ b d t u. refl;
+      marks = λ b t u. marks-of-both (comparisons t) (comparisons u);
+      nodes-are = λ b p t u. refl;
+      node-is = go;
     }
   where
-    go : (s : List ℕ) (p : Bool) → nodeOn s (andNumber p) 0 0 ≡ joinAll p
-    go s true = refl
-    go s false = refl
+    go : (b : Bool) (s : List ℕ) (p : Bool) → nodeOn b s (andNumber p) 0 0 ≡ joinAll p
+    go b s true = refl
+    go b s false = refl
 
-pub ors : Chain conjunction disjunction (keyword OR) single either orNumber joinAny
+pub ors : Chain conjunction disjunction (keyword OR) (λ b. single) (λ b. either) orNumber (λ b. joinAny)
 ors =
     record {
-      unrolls = reads-or;
+      unrolls = λ b. reads-or (aColumn b);
       higher = refl;
-      same = λ p d t. (refl, refl, refl);
-      over = λ d t u. refl;
-      marks = λ t u. marks-of-both (comparisons t) (comparisons u);
-      nodes-are = λ p t u. refl;
-      node-is = λ s p. go s p;
+      same = λ b p d t. (refl, refl, refl);
+      over = λ b d t u. refl;
+      marks = λ b t u. marks-of-both (comparisons t) (comparisons u);
+      nodes-are = λ b p t u. refl;
+      node-is = go;
     }
   where
-    go : (s : List ℕ) (p : Bool) → nodeOn s (orNumber p) 0 0 ≡ joinAny p
-    go s true = refl
-    go s false = refl
+    go : (b : Bool) (s : List ℕ) (p : Bool) → nodeOn b s (orNumber p) 0 0 ≡ joinAny p
+    go b s true = refl
+    go b s false = refl
 
 -- ---- the answers of `read_and` and `read_or`: n is at least 1 call, since each asks for calls of its own
 
-module _ {lo hi : Level} {k : T.Token} {wrap : Condition Term lo → Condition Term hi} {join : Condition Term lo → Condition Term hi → Condition Term hi} {number : Bool → ℕ} {node : Bool → Node Term}
+module _ {lo hi : Level} {k : T.Token} {wrap : (b : Bool) → Condition (Operand b) lo → Condition (Operand b) hi} {join : (b : Bool) → Condition (Operand b) lo → Condition (Operand b) hi → Condition (Operand b) hi}
+    {number : Bool → ℕ} {node : (b : Bool) → Bool → Node (Operand b)}
     (𝓒 : Chain lo hi k wrap join number node) (s : List ℕ) (positive : Bool) (depth : ℕ) (c : Cursor) (xs : List ℕ) (p : Cursor) (ys : List ℕ) (m : Reads lo s positive depth c xs p ys) where
-  unrolled : (r : Cursor) (ws : List ℕ) → ((n : ℕ) → 3 * (length s - c .at) + rank lo ≤ n → Meets s positive depth c xs r ws (then (aCondition n lo (tokens (drop (c .at) s))) (rest k wrap join (aCondition n hi))))
+  unrolled : (r : Cursor) (ws : List ℕ)
+      → ((b : Bool) → c .dotted ≡ b → (n : ℕ) → 3 * (length s - c .at) + rank lo ≤ n
+      → Meets b s positive depth c xs r ws (then (aCondition (aColumn b) n lo (tokens (drop (c .at) s))) (rest b k (wrap b) (join b) (aCondition (aColumn b) n hi))))
       → Reads hi s positive depth c xs r ws
-  unrolled r ws f zero h = absurd (omega (arith, 𝓒 .higher))
-  unrolled r ws f (suc n) h = subst (Meets s positive depth c xs r ws) (sym (𝓒 .unrolls n (tokens (drop (c .at) s)))) (f n (omega (arith, 𝓒 .higher)))
+  unrolled r ws f b eb zero h = absurd (omega (arith, 𝓒 .higher))
+  unrolled r ws f b eb (suc n) h = subst (Meets b s positive depth c xs r ws) (sym (𝓒 .unrolls b n (tokens (drop (c .at) s)))) (f b eb n (omega (arith, 𝓒 .higher)))
 
   pub first-fails : p .ok ≡ false → Reads hi s positive depth c xs p ys
-  first-fails e = unrolled p ys (λ n h. chain-fails k wrap join (aCondition n hi) s positive depth c xs p ys (aCondition n lo (tokens (drop (c .at) s))) (m n h) e)
+  first-fails e = unrolled p ys (λ b eb n h. chain-fails b k (wrap b) (join b) (aCondition (aColumn b) n hi) s positive depth c xs p ys (aCondition (aColumn b) n lo (tokens (drop (c .at) s))) (m b eb n h) e)
 
   module _ (e : p .ok ≡ true) where
     pub first-alone : begins k (tokens (drop (p .at) s)) ≡ false → Reads hi s positive depth c xs p ys
-    first-alone i = unrolled p ys (λ n h. chain-stops k wrap join (aCondition n hi) s positive depth c xs p ys (𝓒 .same positive depth) (aCondition n lo (tokens (drop (c .at) s))) (m n h) e i)
+    first-alone i =
+        unrolled p ys (λ b eb n h.
+        chain-stops b k (wrap b) (join b) (aCondition (aColumn b) n hi) s positive depth c xs p ys (𝓒 .same b positive depth) (aCondition (aColumn b) n lo (tokens (drop (c .at) s))) (m b eb n h) e i)
 
     module _ (next : ℕ) (t : Goes s (p .at) next k) (q : Cursor) (zs : List ℕ) (w : Reads hi s positive depth (movedTo next p) ys q zs) where
       module _ (r : Cursor) (ws : List ℕ) where
-        second-goes : ((x : Condition Term lo) (more : List T.Token) → Found s positive depth c xs p ys x more → (d : Condition Term hi) (left : List T.Token)
-            → Found s positive depth (movedTo next p) ys q zs d left → Found s positive depth c xs r ws (join x d) left)
+        second-goes : ((b : Bool) (x : Condition (Operand b) lo) (more : List T.Token) → Found b s positive depth c xs p ys x more → (d : Condition (Operand b) hi) (left : List T.Token)
+            → Found b s positive depth (movedTo next p) ys q zs d left → Found b s positive depth c xs r ws (join b x d) left)
             → (q .ok ≡ false → r .ok ≡ false) → Reads hi s positive depth c xs r ws
         second-goes j no-more =
-            let on = found-on lo s positive depth c xs p ys m e in
-            unrolled r ws (λ n h.
-            chain-goes k wrap join (aCondition n hi) s positive depth c xs p ys q zs next t r ws j no-more (aCondition n lo (tokens (drop (c .at) s))) (m n h) e
-            (w n (omega (arith, 𝓒 .higher, on .1, t .on, t .within))))
+            let on = found-more lo s positive depth c xs p ys m e in
+            unrolled r ws (λ b eb n h.
+            chain-goes b k (wrap b) (join b) (aCondition (aColumn b) n hi) s positive depth c xs p ys q zs next t r ws (j b) no-more (aCondition (aColumn b) n lo (tokens (drop (c .at) s))) (m b eb n h) e
+            (w b (on .1 ∙ eb) n (omega (arith, 𝓒 .higher, on .0 .1, t .on, t .within))))
 
       pub second-fails : q .ok ≡ false → Reads hi s positive depth c xs q zs
-      second-fails f = second-goes q zs (λ x more g d left h. clash (h .ok) f) (λ z. z)
+      second-fails f = second-goes q zs (λ b x more g d left h. clash (h .ok) f) (λ z. z)
 
       pub second-joins : q .ok ≡ true → (r : Cursor) (ws : List ℕ) (i : ℕ) → i ≡ number positive → PutsNode zs q i 0 0 ws r → Reads hi s positive depth c xs r ws
       second-joins f r ws i ei put =
           second-goes r ws
-          (λ x more g d left h.
-          joined s positive depth c xs x d (join x d) p ys q zs next (number positive) (node positive) (𝓒 .over depth x d) (𝓒 .marks x d) (𝓒 .nodes-are positive x d) (𝓒 .node-is s positive)
+          (λ b x more g d left h.
+          joined b s positive depth c xs x d (join b x d) p ys q zs next (number positive) (node b positive) (𝓒 .over b depth x d) (𝓒 .marks b x d) (𝓒 .nodes-are b positive x d) (𝓒 .node-is b s positive)
           more left g (t .on) h r ws (subst (λ z. PutsNode zs q z 0 0 ws r) ei put))
           (λ z. clash f z)
 
 -- ---- the closing parenthesis
 
 -- what was found before it is found behind it
-passed-found : {l : Level} (s : List ℕ) (positive : Bool) (depth : ℕ) (c : Cursor) (xs : List ℕ) (p : Cursor) (ys : List ℕ) (t : Condition Term l) (more : List T.Token) (q : Cursor) (left : List T.Token)
-    → Found s positive depth c xs p ys t more → Passed s p q left → Found s positive depth c xs q ys t left
-passed-found s positive depth c xs p ys t more q left f k = subst (λ z. Found s positive depth c xs z ys t left) (sym (k .is)) here
+passed-found : (b : Bool) {l : Level} (s : List ℕ) (positive : Bool) (depth : ℕ) (c : Cursor) (xs : List ℕ) (p : Cursor) (ys : List ℕ) (t : Condition (Operand b) l) (more : List T.Token) (q : Cursor) (left : List T.Token)
+    → Found b s positive depth c xs p ys t more → Passed s p q left → Found b s positive depth c xs q ys t left
+passed-found b s positive depth c xs p ys t more q left f k = subst (λ z. Found b s positive depth c xs z ys t left) (sym (k .is)) here
   where
-    here : Found s positive depth c xs (movedTo (q .at) p) ys t left
+    here : Found b s positive depth c xs (movedTo (q .at) p) ys t left
     here =
         record {
           ok = f .ok;
+          dotted = f .dotted;
           moved = omega (arith, f .moved, k .moved);
           stands = record { short = f .stands .short; inside = k .inside; few-nodes = omega (arith, f .stands .few-nodes, k .moved); few-marks = omega (arith, f .stands .few-marks, k .moved) };
           left = k .left;
@@ -259,38 +273,38 @@ closes-here s c next e g = (
 
 module _ (s : List ℕ) (positive : Bool) (depth : ℕ) (c : Cursor) (xs : List ℕ) (p : Cursor) (ys : List ℕ) (next : ℕ) where
   pub one-negates : Goes s (c .at) next (keyword NOT) → Reads atom s (not positive) (depth + 1) (movedTo next c) xs p ys → Reads atom s positive depth c xs p ys
-  one-negates g m zero h = absurd (omega arith)
-  one-negates g m (suc n) h =
-      subst (Meets s positive depth c xs p ys) (sym (ap (aCondition (suc n) atom) (g .after) ∙ reads-not n (tokens (drop next s))))
-      (go (aCondition n atom (tokens (drop next s))) (m n (omega (arith, g .on, g .within))))
+  one-negates g m b eb zero h = absurd (omega arith)
+  one-negates g m b eb (suc n) h =
+      subst (Meets b s positive depth c xs p ys) (sym (ap (aCondition (aColumn b) (suc n) atom) (g .after) ∙ reads-not (aColumn b) n (tokens (drop next s))))
+      (go (aCondition (aColumn b) n atom (tokens (drop next s))) (m b eb n (omega (arith, g .on, g .within))))
     where
-      go : (x : Option (Condition Term atom × List T.Token)) → Meets s (not positive) (depth + 1) (movedTo next c) xs p ys x → Meets s positive depth c xs p ys (then x (λ t. done (negate t)))
+      go : (x : Option (Condition (Operand b) atom × List T.Token)) → Meets b s (not positive) (depth + 1) (movedTo next c) xs p ys x → Meets b s positive depth c xs p ys (then x (λ t. done (negate t)))
       go none f = f
-      go (some y) f = found-as s (not positive) (depth + 1) positive depth c next xs p ys (y .0) (negate (y .0)) (y .1) (refl, refl, refl) (omega (arith, g .on)) f
+      go (some y) f = found-as b s (not positive) (depth + 1) positive depth c next xs p ys (y .0) (negate (y .0)) (y .1) (refl, refl, refl) (omega (arith, g .on)) f
 
   pub one-closes : Goes s (c .at) next lparen → Reads disjunction s positive (depth + 1) (movedTo next c) xs p ys → (q : Cursor) → Closes s p q → Reads atom s positive depth c xs q ys
-  one-closes g m q k zero h = absurd (omega arith)
-  one-closes g m q k (suc n) h =
-      subst (Meets s positive depth c xs q ys) (sym (ap (aCondition (suc n) atom) (g .after) ∙ reads-open n (tokens (drop next s))))
-      (go (aCondition n disjunction (tokens (drop next s))) (m n (omega (arith, g .on, g .within))))
+  one-closes g m q k b eb zero h = absurd (omega arith)
+  one-closes g m q k b eb (suc n) h =
+      subst (Meets b s positive depth c xs q ys) (sym (ap (aCondition (aColumn b) (suc n) atom) (g .after) ∙ reads-open (aColumn b) n (tokens (drop next s))))
+      (go (aCondition (aColumn b) n disjunction (tokens (drop next s))) (m b eb n (omega (arith, g .on, g .within))))
     where
-      shut : (t : Condition Term disjunction) (more : List T.Token) → Found s positive (depth + 1) (movedTo next c) xs p ys t more
-          → (o : Option (Unit {0} × List T.Token)) → Passes s p q o → Meets s positive depth c xs q ys (then o (λ x. done (group t)))
+      shut : (t : Condition (Operand b) disjunction) (more : List T.Token) → Found b s positive (depth + 1) (movedTo next c) xs p ys t more
+          → (o : Option (Unit {0} × List T.Token)) → Passes s p q o → Meets b s positive depth c xs q ys (then o (λ x. done (group t)))
       shut t more f none z = z
       shut t more f (some y) z =
-          found-as s positive (depth + 1) positive depth c next xs q ys t (group t) (y .1) (refl, refl, refl) (omega (arith, g .on))
-          (passed-found s positive (depth + 1) (movedTo next c) xs p ys t more q (y .1) f z)
+          found-as b s positive (depth + 1) positive depth c next xs q ys t (group t) (y .1) (refl, refl, refl) (omega (arith, g .on))
+          (passed-found b s positive (depth + 1) (movedTo next c) xs p ys t more q (y .1) f z)
 
-      go : (x : Option (Condition Term disjunction × List T.Token)) → Meets s positive (depth + 1) (movedTo next c) xs p ys x
-          → Meets s positive depth c xs q ys (then x (λ t. expect rparen >> done (group t)))
+      go : (x : Option (Condition (Operand b) disjunction × List T.Token)) → Meets b s positive (depth + 1) (movedTo next c) xs p ys x
+          → Meets b s positive depth c xs q ys (then x (λ t. expect rparen >> done (group t)))
       go none f = k .0 f
       go (some y) f = shut (y .0) (y .1) f (expect rparen (y .1)) (subst (λ ts. Passes s p q (expect rparen ts)) (f .left) (k .1 (f .ok)))
 
 pub one-compares : (s : List ℕ) (positive : Bool) (depth : ℕ) (c : Cursor) (xs : List ℕ) (p : Cursor) (ys : List ℕ)
     → begins (keyword NOT) (tokens (drop (c .at) s)) ≡ false → begins lparen (tokens (drop (c .at) s)) ≡ false
-    → Meets s positive depth c xs p ys (aComparison (tokens (drop (c .at) s))) → Reads atom s positive depth c xs p ys
-one-compares s positive depth c xs p ys i j m zero h = absurd (omega arith)
-one-compares s positive depth c xs p ys i j m (suc n) h = subst (Meets s positive depth c xs p ys) (sym (reads-compare n (tokens (drop (c .at) s)) i j)) m
+    → Compares s positive depth c xs p ys → Reads atom s positive depth c xs p ys
+one-compares s positive depth c xs p ys i j m b eb zero h = absurd (omega arith)
+one-compares s positive depth c xs p ys i j m b eb (suc n) h = subst (Meets b s positive depth c xs p ys) (sym (reads-compare (aColumn b) n (tokens (drop (c .at) s)) i j)) (m b eb)
 
 -- ---- what the calls of the cycle ask
 

@@ -12,14 +12,14 @@ use Rattle.lists.specs.Lists.{any}
 use Rattle.lists.proofs.Bools.{clash}
 use Rattle.meaning.specs.Operator.{Operator}
 use Rattle.meaning.specs.Tokens.{Name, operator, comma, tokens}
-use Rattle.meaning.specs.Grammar.{Given, Listed, last, next, items, Reader, _>>=_, done, passing, expect, aName, aGiven, aList}
+use Rattle.meaning.specs.Grammar.{Given, Dotted, Listed, last, next, items, Reader, _>>=_, done, passing, expect, aName, aDotted, aGiven, aList}
 use Rattle.meaning.specs.Limits.{most-items, outside32, markCount}
 use Rattle.meaning.proofs.Readers.{begins, passing-stops, passing-yes}
 use Rattle.statement.specs.declared.conditions.Cursor.{Cursor}
 use Rattle.statement.specs.declared.sentences.Placed.{Placed}
 use Rattle.statement.specs.declared.sentences.Listing.{Listing}
 use Rattle.statement.specs.Reading.{movedTo}
-use Rattle.statement.specs.Sentences.{itemsOn, Ready, Takes, Counts, ExpectsToken, isLongName, Names, Gives, Kind, names, values, settings, Content, itemReader, itemOn, columnsIn, valuesIn, listPast, kindAt, PutsItem, Within, Holds, ReadsItem, ReadsList}
+use Rattle.statement.specs.Sentences.{itemsOn, Ready, Takes, Counts, ExpectsToken, isLongName, Names, Columns, Gives, Kind, names, values, settings, columns, Content, itemReader, itemOn, partsOf, columnsIn, valuesIn, listPast, kindAt, PutsItem, Within, Holds, ReadsItem, ReadsList}
 use Rattle.statement.proofs.Steps.{Goes}
 use Rattle.statement.proofs.SentenceLimits.{sorted}
 use Rattle.statement.proofs.SentenceReaders.{found, was-ok, ready-after, after-map, goes-on, stands-moved, recount, counts-then}
@@ -78,6 +78,18 @@ module _ (s xs : List ℕ) (c : Cursor) (l : ℕ) (ys : List ℕ) (m : ℕ) (e :
       after-map s aName _ c (n .c) _
       (λ x q. holds-one names s xs c l (n .place) b ys (n .c) m e p x (recount c (n .c) _ _ 0 0 (sym (or-false _ ∙ or-false _)) refl (q .0)) (q .1)) h
 
+  two-names : (x : Dotted) → (isLongName (x .0) || isLongName (x .1)) ≡ listPast (partsOf (x ∷ [])) []
+  two-names x = go (isLongName (x .0)) (isLongName (x .1))
+    where
+      go : (a b : Bool) → (a || b) ≡ ((a || (b || false)) || false)
+      go true b = refl
+      go false b = sym (or-false (b || false) ∙ or-false b)
+
+  pub column-item : (n : Placed) (b : ℕ) → Columns s c n → PutsItem xs l (n .place) b ys → ReadsItem columns s xs c l ys (record { c = n .c; listed = m })
+  column-item n b h p =
+      after-map s aDotted _ c (n .c) _
+      (λ x q. holds-one columns s xs c l (n .place) b ys (n .c) m e p x (recount c (n .c) _ _ 0 0 (two-names x) refl (q .0)) (q .1)) h
+
   pub value-item : (v : Placed) (a : ℕ) → Gives s c v → PutsItem xs l a (v .place) ys → ReadsItem values s xs c l ys (record { c = v .c; listed = m })
   value-item v a h p =
       after-map s aGiven _ c (v .c) _
@@ -111,8 +123,11 @@ kind-names n h = rw (eq-eqb n 0 h)
 pub kind-values : (n : ℕ) → n ≡ 1 → kindAt n ≡ values
 kind-values n h = rw (ne-eqb n 0 (λ z. omega arith), eq-eqb n 1 h)
 
-pub kind-settings : (n : ℕ) → (n ≡ 0 → ⊥) → (n ≡ 1 → ⊥) → kindAt n ≡ settings
-kind-settings n h k = rw (ne-eqb n 0 h, ne-eqb n 1 k)
+pub kind-settings : (n : ℕ) → n ≡ 2 → kindAt n ≡ settings
+kind-settings n h = rw (ne-eqb n 0 (λ z. omega arith), ne-eqb n 1 (λ z. omega arith), eq-eqb n 2 h)
+
+pub kind-columns : (n : ℕ) → (n ≡ 0 → ⊥) → (n ≡ 1 → ⊥) → (n ≡ 2 → ⊥) → kindAt n ≡ columns
+kind-columns n h k l = rw (ne-eqb n 0 h, ne-eqb n 1 k, ne-eqb n 2 l)
 
 -- an item of a kind is one of the kind with the same number
 pub of-kind : (k j : Kind) (s xs : List ℕ) (c : Cursor) (l : ℕ) (ys : List ℕ) (r : Listing) → j ≡ k → ReadsItem k s xs c l ys r → ReadsItem j s xs c l ys r
@@ -123,17 +138,24 @@ of-kind k j s xs c l ys r e h = subst (λ i. ReadsItem i s xs c l ys r) (sym e) 
 regroup : (a b p q : Bool) → (((a || false) || (b || false)) || (p || q)) ≡ ((a || p) || (b || q))
 regroup a b p q = simp sorted
 
+regroup-two : (a b p : Bool) → (((a || (b || false)) || false) || (p || false)) ≡ ((a || (b || p)) || false)
+regroup-two true b p = refl
+regroup-two false true p = refl
+regroup-two false false p = refl
+
 -- one item, and those behind it
 past-more : (k : Kind) (x : Content k) (us : List (Content k))
     → (listPast (columnsIn k (x ∷ [])) (valuesIn k (x ∷ [])) || listPast (columnsIn k us) (valuesIn k us)) ≡ listPast (columnsIn k (x ∷ us)) (valuesIn k (x ∷ us))
 past-more names x us = regroup (isLongName x) false (any isLongName us) false
 past-more values x us = regroup false (outside32 x) false (any outside32 us)
 past-more settings x us = regroup (isLongName (x .0)) (outside32 (x .1)) (any isLongName (columnsIn settings us)) (any outside32 (valuesIn settings us))
+past-more columns x us = regroup-two (isLongName (x .0)) (isLongName (x .1)) (any isLongName (partsOf us))
 
 marks-more : (k : Kind) (x : Content k) (us : List (Content k)) → markCount (valuesIn k (x ∷ [])) + markCount (valuesIn k us) ≡ markCount (valuesIn k (x ∷ us))
 marks-more names x us = refl
 marks-more values x us = omega arith
 marks-more settings x us = omega arith
+marks-more columns x us = refl
 
 -- one item, a comma, and the items behind it
 module _ (k : Kind) (s xs : List ℕ) (c : Cursor) (l : ℕ) (ys : List ℕ) (one : Listing) (at : ℕ) (zs : List ℕ) (r : Listing) where
@@ -142,7 +164,7 @@ module _ (k : Kind) (s xs : List ℕ) (c : Cursor) (l : ℕ) (ys : List ℕ) (on
   holds-more h x us p q =
       let e = p .listed-are in
       let f = q .listed-are in
-      let comma : Counts (one .c) (movedTo at (one .c)) false 0 = record { moved = h; over = sym (or-false (one .c .over)); marks-are = sym (add-zero (one .c .marks)); nodes-are = refl } in
+      let comma : Counts (one .c) (movedTo at (one .c)) false 0 = record { dotted = refl; moved = h; over = sym (or-false (one .c .over)); marks-are = sym (add-zero (one .c .marks)); nodes-are = refl } in
       record {
         counts =
             recount c (r .c) _ _ _ _ (ap (λ b. b || listPast (columnsIn k us) (valuesIn k us)) (or-false (listPast (columnsIn k (x ∷ [])) (valuesIn k (x ∷ [])))) ∙ past-more k x us) (omega (arith, marks-more k x us))

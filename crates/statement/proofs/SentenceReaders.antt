@@ -78,7 +78,7 @@ stands-moved s c next h l i =
 
 -- the same count, said otherwise
 pub recount : (c r : Cursor) (p q : Bool) (a b : ℕ) → p ≡ q → a ≡ b → Counts c r p a → Counts c r q b
-recount c r p q a b e f h = record { moved = h .moved; over = h .over ∙ ap (λ z. c .over || z) e; marks-are = h .marks-are ∙ ap (λ n. c .marks + n) f; nodes-are = h .nodes-are }
+recount c r p q a b e f h = record { dotted = h .dotted; moved = h .moved; over = h .over ∙ ap (λ z. c .over || z) e; marks-are = h .marks-are ∙ ap (λ n. c .marks + n) f; nodes-are = h .nodes-are }
 
 module _ (c m r : Cursor) where
   -- one after the other
@@ -89,6 +89,7 @@ module _ (c m r : Cursor) where
       let x = h .marks-are in
       let y = k .marks-are in
       record {
+        dotted = k .dotted ∙ h .dotted;
         moved = omega arith;
         over = k .over ∙ ap (λ z. z || q) (h .over) ∙ regroup (c .over);
         marks-are = omega arith;

@@ -23,12 +23,13 @@ use Rattle.statement.proofs.Steps.{Goes}
 
 -- nothing is counted behind it
 abbrev pub fresh : ℕ → Cursor
-fresh next = record { ok = true; over = false; nodes = 0; marks = 0; at = next }
+fresh next = record { ok = true; over = false; dotted = false; nodes = 0; marks = 0; at = next }
 
-pub starts-here : (s : List ℕ) (next : ℕ) → length s ≤ 256 → next ≤ length s → Starts s (fresh next)
+pub starts-here : (s : List ℕ) (next : ℕ) → length s ≤ 256 → next ≤ length s → Starts s false (fresh next)
 starts-here s next h l =
     record {
       ok = refl;
+      dotted = refl;
       stands = record { short = h; inside = l; few-nodes = omega arith; few-marks = omega arith };
       over = refl;
       nodes = refl;

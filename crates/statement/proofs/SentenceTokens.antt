@@ -13,7 +13,7 @@ use lib.ListN.{length, drop}
 use lib.Signed.{ltZ}
 use Rattle.lists.proofs.Bools.{and-left, and-right, clash, leZ-not, not-and, not-not}
 use Rattle.meaning.specs.Tokens as T
-use Rattle.meaning.specs.Tokens.{Name, keyword, name, operator, comma, lparen, rparen, other, tokens}
+use Rattle.meaning.specs.Tokens.{Name, keyword, name, operator, comma, lparen, rparen, dot, other, tokens}
 use Rattle.meaning.specs.Grammar.{Given, constant, mark, done, fails, expect, aToken, nameOf, constantOf, aName, aGiven}
 use Rattle.meaning.specs.Limits.{isWithin32, outside32, markCount}
 use Rattle.meaning.proofs.Readers.{aToken-some, aToken-none, passing-stops, expect-here}
@@ -41,11 +41,11 @@ module _ (s : List ℕ) (at : ℕ) (u : Token) (e : u ≡ tokenAt s at) where
 -- ---- one token, by a reader that takes it for an A
 
 module _ {A : Type 0} (f : T.Token → Option A) (s : List ℕ) (at : ℕ) (u : Token) where
-  token-none : Look s at u → ((t : T.Token) → kindOf t ≡ u .kind → f t ≡ none) → aToken f (tokens (drop at s)) ≡ none
+  pub token-none : Look s at u → ((t : T.Token) → kindOf t ≡ u .kind → f t ≡ none) → aToken f (tokens (drop at s)) ≡ none
   token-none (ended z q) h = ap (aToken f) q
   token-none (seen v) h = ap (aToken f) (v .left) ∙ aToken-none f (v .token) _ (h (v .token) (v .kind))
 
-  token-found : (v : Reads s at u) (x : A) → f (v .token) ≡ some x → aToken f (tokens (drop at s)) ≡ some (x, tokens (drop (u .next) s))
+  pub token-found : (v : Reads s at u) (x : A) → f (v .token) ≡ some x → aToken f (tokens (drop at s)) ≡ some (x, tokens (drop (u .next) s))
   token-found v x h = ap (aToken f) (v .left) ∙ aToken-some f (v .token) _ x h
 
 -- ---- tokens by their kinds
@@ -58,7 +58,7 @@ constant-kind z = go (isWithin32 z)
     go true = omega arith
     go false = omega arith
 
-no-name : (t : T.Token) → (kindOf t ≡ 2 → ⊥) → nameOf t ≡ none
+pub no-name : (t : T.Token) → (kindOf t ≡ 2 → ⊥) → nameOf t ≡ none
 no-name (keyword k) h = refl
 no-name (name n) h = absurd (h refl)
 no-name (T.constant z) h = refl
@@ -67,6 +67,7 @@ no-name T.mark h = refl
 no-name comma h = refl
 no-name lparen h = refl
 no-name rparen h = refl
+no-name dot h = refl
 no-name other h = refl
 
 is-name : (t : T.Token) → kindOf t ≡ 2 → (n : Name) × (t ≡ name n)
@@ -78,6 +79,7 @@ is-name T.mark h = absurd (omega arith)
 is-name comma h = absurd (omega arith)
 is-name lparen h = absurd (omega arith)
 is-name rparen h = absurd (omega arith)
+is-name dot h = absurd (omega arith)
 is-name other h = absurd (omega arith)
 
 between : (k low high : ℕ) → low ≤ k → k ≤ high → isBetween k low high ≡ true
@@ -95,6 +97,7 @@ no-constant T.mark h = refl
 no-constant comma h = refl
 no-constant lparen h = refl
 no-constant rparen h = refl
+no-constant dot h = refl
 no-constant other h = refl
 
 is-constant : (t : T.Token) → 3 ≤ kindOf t → kindOf t ≤ 4 → (z : ℤ) × (t ≡ T.constant z)
@@ -106,6 +109,7 @@ is-constant T.mark h l = absurd (omega arith)
 is-constant comma h l = absurd (omega arith)
 is-constant lparen h l = absurd (omega arith)
 is-constant rparen h l = absurd (omega arith)
+is-constant dot h l = absurd (omega arith)
 is-constant other h l = absurd (omega arith)
 
 -- a value is one token
@@ -118,6 +122,7 @@ givenOf T.mark = some mark
 givenOf comma = none
 givenOf lparen = none
 givenOf rparen = none
+givenOf dot = none
 givenOf other = none
 
 given-reader : (ts : List T.Token) → aGiven ts ≡ aToken givenOf ts
@@ -131,6 +136,7 @@ given-reader (T.mark ∷ ts) = refl
 given-reader (comma ∷ ts) = refl
 given-reader (lparen ∷ ts) = refl
 given-reader (rparen ∷ ts) = refl
+given-reader (dot ∷ ts) = refl
 given-reader (other ∷ ts) = refl
 
 no-given : (t : T.Token) → isBetween (kindOf t) 3 5 ≡ false → givenOf t ≡ none
@@ -143,6 +149,7 @@ no-given T.mark h = clash refl h
 no-given comma h = refl
 no-given lparen h = refl
 no-given rparen h = refl
+no-given dot h = refl
 no-given other h = refl
 
 -- the value v of a token t
@@ -170,6 +177,7 @@ is-given T.mark h l = (mark, record { is = refl; over = λ start next. refl; mar
 is-given comma h l = absurd (omega arith)
 is-given lparen h l = absurd (omega arith)
 is-given rparen h l = absurd (omega arith)
+is-given dot h l = absurd (omega arith)
 is-given other h l = absurd (omega arith)
 
 pub few-marks : (k : ℕ) → marksAt k ≤ 1
@@ -216,13 +224,13 @@ module _ (s : List ℕ) (k : ℕ) (c : Cursor) where
         finds s (expect t) (λ v. Counts c (movedTo (u .next) c) false 0) c (movedTo (u .next) c) tt (tokens (drop (u .next) s)) i
         (ap (expect t) (g .after) ∙ expect-here t (tokens (drop (u .next) s)))
         (record { ok = i; stands = stands-moved s c (u .next) st (omega (arith, g .on)) (g .within); left = refl })
-        (record { moved = g .on; over = sym (or-false (c .over)); marks-are = sym (add-zero (c .marks)); nodes-are = refl })
+        (record { dotted = refl; moved = g .on; over = sym (or-false (c .over)); marks-are = sym (add-zero (c .marks)); nodes-are = refl })
 
 -- ---- a name, a value, the constant of ROWS
 
 -- behind the token u, with b passed and m question marks more
 abbrev pub stepped : Cursor → Token → Bool → ℕ → Cursor
-stepped c u b m = record { ok = c .ok; over = c .over || b; nodes = c .nodes; marks = m; at = u .next }
+stepped c u b m = record { ok = c .ok; over = c .over || b; dotted = c .dotted; nodes = c .nodes; marks = m; at = u .next }
 
 module _ (s : List ℕ) (c : Cursor) (u : Token) (k : c .ok ≡ true) (st : Stands s c) (v : Reads s (c .at) u) where
   on : c .at < u .next
@@ -274,6 +282,7 @@ module _ (s : List ℕ) (c : Cursor) where
               finds s aName _ c (stepped c u (past u) (c .marks)) n (tokens (drop (u .next) s)) k (token-found nameOf s (c .at) u v n (ap nameOf (i .1)))
               (stepped-before s c u k st v (past u) (c .marks) (omega (arith, st .few-marks, on s c u k st v))) (
                 record {
+                  dotted = refl;
                   moved = on s c u k st v;
                   over = ap (λ b. c .over || b) (long n h (name-length v n (i .1)));
                   marks-are = sym (add-zero (c .marks));
@@ -298,6 +307,7 @@ module _ (s : List ℕ) (c : Cursor) where
               (given-reader (tokens (drop (c .at) s)) ∙ token-found givenOf s (c .at) u v g (w .is))
               (stepped-before s c u k st v (past u) (c .marks + marksAt (u .kind)) (omega (arith, st .few-marks, on s c u k st v, few-marks (u .kind)))) (
                 record {
+                  dotted = refl;
                   moved = on s c u k st v;
                   over = ap (λ b. c .over || b) (ap (λ n. tokenPast n (u .start) (u .next)) (sym (v .kind)) ∙ w .over (u .start) (u .next));
                   marks-are = ap (λ m. c .marks + m) (ap marksAt (sym (v .kind)) ∙ w .marks);
@@ -321,6 +331,7 @@ module _ (s : List ℕ) (c : Cursor) where
               (token-found constantOf s (c .at) u v z (ap constantOf (i .1)))
               (stepped-before s c u k st v (isRowsPast (u .kind) (u .value)) (c .marks) (omega (arith, st .few-marks, on s c u k st v))) (
                 record {
+                  dotted = refl;
                   moved = on s c u k st v;
                   over =
                       ap (λ b. c .over || b)

@@ -7,13 +7,13 @@ use native.Mathlib.Omega.{arith}
 use lib.Dec.{ltb, eqb}
 use lib.ListN.{length, getD, take, drop, set, replicate, length-take}
 use Rattle.meaning.specs.Condition.{Comparison}
-use Rattle.meaning.specs.Postfix.{leaf, allOf, anyOf}
+use Rattle.meaning.specs.Postfix.{Node, leaf, allOf, anyOf, leaves}
 use Rattle.meaning.specs.Grammar.{Given, Term}
 use Rattle.meaning.specs.Limits.{markIn, markCount}
 use Rattle.meaning.specs.Statement.{numbered}
 use Rattle.statement.specs.declared.Value.{Value}
 use Rattle.statement.specs.declared.Setting.{Setting}
-use Rattle.statement.specs.Places.{givenOn, andCode, nodeOn, nodesOn}
+use Rattle.statement.specs.Places.{givenOn, Column, andCode, nodeOn, nodesOn}
 use Rattle.statement.specs.Sentences.{givensOn}
 use Rattle.statement.specs.Compiled.{padded, valueStruct, settingWith, noSetting, stepOf}
 use Rattle.statement.specs.Built.{shortGiven, markInValue, settingsFrom, settingsOn, comparisonOn, stepIn}
@@ -80,15 +80,31 @@ module _ (s ls columns : List ℕ) (n : ℕ) where
 
 -- ---- steps
 
-pub step-node : (s : List ℕ) (k a b : ℕ) → stepOf (nodeOn s k a b) ≡ stepIn k
-step-node s k a b = go (ltb k 6) (eqb k andCode) (comparisonOn s k a b)
+pub step-node : (d : Bool) (s : List ℕ) (k a b : ℕ) → stepOf (nodeOn d s k a b) ≡ stepIn k
+step-node d s k a b = go (ltb k 6) (eqb k andCode) (comparisonOn d s k a b)
   where
-    go : (x y : Bool) (c : Comparison Term) → stepOf (cond x (leaf c) (cond y allOf anyOf)) ≡ cond x 0 (cond y 1 2)
+    go : (x y : Bool) (c : Comparison (Term (Column d))) → stepOf (cond x (leaf c) (cond y allOf anyOf)) ≡ cond x 0 (cond y 1 2)
     go true y c = refl
     go false true c = refl
     go false false c = refl
 
-pub steps-any : (s t : List ℕ) (n : ℕ) (ps : List ℕ) → map stepOf (nodesOn s n ps) ≡ map stepOf (nodesOn t n ps)
-steps-any s t zero ps = refl
-steps-any s t (suc n) ps =
-    ap₂ _∷_ (step-node s (getD ps 0 0) (getD ps 1 0) (getD ps 2 0) ∙ sym (step-node t (getD ps 0 0) (getD ps 1 0) (getD ps 2 0))) (steps-any s t n (drop 3 ps))
+-- they do not hang on the text, nor on how columns are written
+pub steps-any : (d e : Bool) (s t : List ℕ) (n : ℕ) (ps : List ℕ) → map stepOf (nodesOn d s n ps) ≡ map stepOf (nodesOn e t n ps)
+steps-any d e s t zero ps = refl
+steps-any d e s t (suc n) ps =
+    ap₂ _∷_ (step-node d s (getD ps 0 0) (getD ps 1 0) (getD ps 2 0) ∙ sym (step-node e t (getD ps 0 0) (getD ps 1 0) (getD ps 2 0))) (steps-any d e s t n (drop 3 ps))
+
+-- nor does the number of comparisons
+abbrev zeros : List ℕ → ℕ
+zeros [] = 0
+zeros (zero ∷ ks) = suc (zeros ks)
+zeros (suc k ∷ ks) = zeros ks
+
+leaves-steps : {A : Type 0} (ns : List (Node A)) → length (leaves ns) ≡ zeros (map stepOf ns)
+leaves-steps [] = refl
+leaves-steps (leaf c ∷ ns) = ap suc (leaves-steps ns)
+leaves-steps (allOf ∷ ns) = leaves-steps ns
+leaves-steps (anyOf ∷ ns) = leaves-steps ns
+
+pub leaves-any : (d e : Bool) (s : List ℕ) (n : ℕ) (ps : List ℕ) → length (leaves (nodesOn d s n ps)) ≡ length (leaves (nodesOn e s n ps))
+leaves-any d e s n ps = leaves-steps (nodesOn d s n ps) ∙ ap zeros (steps-any d e s s n ps) ∙ sym (leaves-steps (nodesOn e s n ps))

@@ -19,16 +19,16 @@ use Rattle.meaning.specs.Tokens as T
 use Rattle.meaning.specs.Grammar as G
 use Rattle.meaning.specs.Grammar.{Given, mark, Term, items, Sentence, sentence}
 use Rattle.meaning.specs.Limits.{markIn}
-use Rattle.meaning.specs.Names.{Schema, position, columnsOf}
+use Rattle.meaning.specs.Names.{Schema, position, columnsOf, pairPlace}
 use Rattle.meaning.specs.Statement as M
 use Rattle.meaning.specs.Statement.{column, value, constant, parameter, creates, asks, changes, numbered, numberedAll, settings, settingMarks, resolvedWhere, statementOf}
-use Rattle.meaning.specs.Plain as P
 use Rattle.meaning.specs.Plain.{Plain, schemas, addConditions, lowestOf}
 use Rattle.meaning.proofs.Accepted.{clear, reads-exactly}
 use Rattle.meaning.proofs.Postfix.{leaves-in}
 use Rattle.meaning.proofs.Resolve.{resolve-where, resolve-numbered}
-use Rattle.statement.specs.Catalog.{nameOfStruct, schemasOf, rowless, catalog}
-use Rattle.statement.specs.Compiled.{padded, nameStruct, noName, tableStruct, valueStruct, operandStruct, comparisonStruct, noComparison, stepOf, conditionStruct, queryStruct, settingStruct, noSetting, placedFrom, updateStruct, structOf, textConditions, structOfText, settled, compiledOf}
+use Rattle.meaning.specs.Pattern.{placedFrom}
+use Rattle.statement.specs.Catalog.{nameOfStruct, schemasOf, catalog}
+use Rattle.statement.specs.Compiled.{padded, nameStruct, noName, tableStruct, valueStruct, operandStruct, comparisonStruct, noComparison, stepOf, conditionStruct, queryStruct, settingStruct, noSetting, updateStruct, structOf, textConditions, structOfText, settled, compiledOf}
 use Rattle.statement.specs.Sound.{valueRead, operandRead, comparisonRead, nodesRead, conditionNodes, usedComparisons, usedSteps, usedColumns, settingRead, soundTable, soundQuery, soundUpdate, Passes, AgreesCondition, AgreesQuery, AgreesUpdate, AgreesTable}
 use Rattle.statement.specs.declared.Name.{Name}
 use Rattle.statement.specs.declared.Table.{Table}
@@ -93,10 +93,10 @@ module _ (w : Where M.Operand) where
   }
 
 -- a resolved WHERE is numbered
-pub resolved-agrees : (columns : List T.Name) (m : ℕ) (w : Where Term)
-    → AgreesCondition (conditionStruct (nodesIn (resolvedWhere columns m w))) (resolvedWhere columns m w)
-resolved-agrees columns m w =
-    condition-agrees (resolvedWhere columns m w) m (ap (numberedFrom m) (resolve-where columns m w) ∙ resolve-numbered columns m (nodesIn w))
+pub resolved-agrees : {C : Type 0} (place : C → ℕ) (m : ℕ) (w : Where (Term C))
+    → AgreesCondition (conditionStruct (nodesIn (resolvedWhere place m w))) (resolvedWhere place m w)
+resolved-agrees place m w =
+    condition-agrees (resolvedWhere place m w) m (ap (numberedFrom m) (resolve-where place m w) ∙ resolve-numbered place m (nodesIn w))
 
 -- ---- settings
 
@@ -150,10 +150,19 @@ unfolding statementOf
 statement-agrees ts (G.table t cs z) = table-agrees _
 statement-agrees ts (G.select cs t w) = record {
   table-is = refl;
+  second-is = refl;
   count-is = refl;
   selected-are = take-padded 8 0 _ _ refl;
   parameters-are = refl;
-  condition-is = resolved-agrees (columnsOf ts t) 0 w;
+  condition-is = resolved-agrees (position (columnsOf ts t)) 0 w;
+}
+statement-agrees ts (G.pair cs t u w) = record {
+  table-is = refl;
+  second-is = refl;
+  count-is = refl;
+  selected-are = take-padded 8 0 _ _ refl;
+  parameters-are = refl;
+  condition-is = resolved-agrees (pairPlace t (columnsOf ts t) u (columnsOf ts u)) 0 w;
 }
 statement-agrees ts (G.insert t vs) = record {
   form-is = refl;
@@ -169,7 +178,7 @@ statement-agrees ts (G.update t ss w) = record {
   count-is = refl;
   settings-are = settings-back (settings (columnsOf ts t) 0 (items ss)) (set-back (columnsOf ts t) 0 (items ss));
   parameters-are = refl;
-  condition-is = resolved-agrees (columnsOf ts t) (settingMarks (items ss)) w;
+  condition-is = resolved-agrees (position (columnsOf ts t)) (settingMarks (items ss)) w;
 }
 statement-agrees ts (G.delete t w) = record {
   form-is = refl;
@@ -177,7 +186,7 @@ statement-agrees ts (G.delete t w) = record {
   count-is = refl;
   settings-are = refl;
   parameters-are = refl;
-  condition-is = resolved-agrees (columnsOf ts t) 0 w;
+  condition-is = resolved-agrees (position (columnsOf ts t)) 0 w;
 }
 
 module _ (ts : List Schema) (s : Sentence) where
@@ -239,12 +248,14 @@ module _ (text : List ℕ) (tables : List Table) (used queries updates cells : �
       let a₅ = All-tail (All-tail a) in
       let a₆ = All-tail a₅ in
       let a₇ = All-tail a₆ in
+      let a₈ = All-tail a₇ in
       struct-sound (schemas store) s (record {
         spelled = (text, reads-exactly text s .0 e);
         within = All-head a₅;
         known = All-head a₆;
         fresh = All-head a₇;
-        counted = All-head (All-tail a₇);
+        counted = All-head a₈;
+        different = All-head (All-tail a₈);
       })
 
   -- what a text that is not refused compiles to passes the test

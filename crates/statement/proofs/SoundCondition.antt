@@ -1,29 +1,27 @@
 -- A stored condition passes the test exactly if it is that of a WHERE over the table's columns; and what it then means. Assumes nothing.
 use mathlib.Core.Path.{_≡_, sym, ap, _∙_, subst}
-use mathlib.Core.Bool.{true, false, not}
+use mathlib.Core.Bool.{Bool, true, false, not}
 use mathlib.Core.List.{List, map}
-use Prim.Native.Nat.{ℕ, _+_, _*_, _-_, _≤_}
+use Prim.Native.Nat.{ℕ, _+_, _*_, _-_, _≤_, _<_}
 use native.Mathlib.Omega.{arith}
 use borrow.Author.Tests.{leb-true, le-leb, eqb-true, eq-eqb}
 use lib.Dec.{eqb, leb, ltb}
 use lib.IntN.{ℤ}
 use lib.ListN.{length}
 use lib.Seq.{length-take-le}
-use Rattle.lists.specs.Lists.{All, any, all, repeats}
+use Rattle.lists.specs.Lists.{All, any, all}
 use Rattle.lists.proofs.Bools.{and-left, and-right, and-both}
 use Rattle.lists.proofs.Lists.{All-take, All-map, any-none}
 use Rattle.meaning.specs.Condition as C
 use Rattle.meaning.specs.Condition.{Where, sides, comparisonsIn, operandsIn, depthIn, evalWhere, clausesOf}
 use Rattle.meaning.specs.Postfix.{Node, nodesIn, leaves, isPostfix, truthOf, clausesOfNodes}
 use Rattle.meaning.specs.Resolve.{operandConstants, parameterCount, numberedFrom, columnsBelow}
-use Rattle.meaning.specs.Tokens.{Name}
 use Rattle.meaning.specs.Grammar.{Term}
 use Rattle.meaning.specs.Limits.{most-marks, most-comparisons, termGivens, termColumns, markCount, isWithin32, outside32}
-use Rattle.meaning.specs.Names.{sameName, has}
 use Rattle.meaning.specs.Statement as M
 use Rattle.meaning.specs.Statement.{resolvedWhere}
 use Rattle.meaning.proofs.Postfix.{sides-in, leaves-in, truth-postfix, clauses-postfix}
-use Rattle.meaning.proofs.Resolve.{Source, where-source, where-passes, outside-constants, resolve-where, resolve-marks, resolve-leaves}
+use Rattle.meaning.proofs.Resolve.{Columns, Source, where-source, where-passes, outside-constants, resolve-where, resolve-marks, resolve-leaves}
 use Rattle.statement.specs.Sound.{comparisonRead, usedComparisons, usedSteps, conditionNodes, soundCondition, conditionMarks, soundConditionOn, AgreesCondition, ConditionFits}
 use Rattle.statement.specs.Compiled.{stepOf}
 use Rattle.token.specs.Tokens.{operatorNumber}
@@ -97,27 +95,27 @@ module _ (columns m p : ℕ) (c : Condition) where
   parts-on P =
       and-both _ _ (P .sound) (and-both (eqb p (m + conditionMarks c)) _ (eq-eqb p (m + conditionMarks c) (P .parameters)) (le-leb p most-marks (P .few)))
 
--- ---- a WHERE of which the condition comes
+-- ---- a WHERE of which the condition comes, over columns of any kind (one table's, or those of two)
 
-pub record Sourced (columns : List Name) (m : ℕ) (c : Condition) : Type 0 where
-  pub source : Where Term
-  pub agrees : AgreesCondition c (resolvedWhere columns m source)
-  pub known : any (λ (n : Name). not (has columns n)) (termColumns (operandsIn source)) ≡ false
+pub record Sourced {C : Type 0} (place : C → ℕ) (strange : C → Bool) (m : ℕ) (c : Condition) : Type 0 where
+  pub source : Where (Term C)
+  pub agrees : AgreesCondition c (resolvedWhere place m source)
+  pub known : any strange (termColumns (operandsIn source)) ≡ false
   pub marks : markCount (termGivens (operandsIn source)) ≡ conditionMarks c
   pub few : length (comparisonsIn source) ≤ most-comparisons
   pub shallow : depthIn source ≤ 8
   pub small : any outside32 (termGivens (operandsIn source)) ≡ false
 
 -- a condition that passes has one
-pub condition-source : (columns : List Name) → repeats sameName columns ≡ false → (m : ℕ) (c : Condition) → ConditionFits c
-    → soundCondition (length columns) m c ≡ true → Sourced columns m c
+pub condition-source : {C : Type 0} (place : C → ℕ) (width : ℕ) (strange : C → Bool) (at : ℕ → C) → Columns place width strange at
+    → (m : ℕ) (c : Condition) → ConditionFits c → soundCondition width m c ≡ true → Sourced place strange m c
 unfolding conditionNodes
-condition-source columns different m c F h =
-    let P : Parts (length columns) m c = condition-parts (length columns) m c h in
+condition-source place width strange at K m c F h =
+    let P : Parts width m c = condition-parts width m c h in
     let few : c .count ≤ most-comparisons = P .few in
     let ns : List (Node M.Operand) = conditionNodes c in
-    let S : Source columns m ns = where-source columns different m ns (P .postfix) (P .below) (P .numbered) in
-    let w : Where M.Operand = resolvedWhere columns m (S .source) in
+    let S : Source place strange m ns = where-source place width strange at K m ns (P .postfix) (P .below) (P .numbered) in
+    let w : Where M.Operand = resolvedWhere place m (S .source) in
     let e : nodesIn w ≡ ns = S .resolves in
     let steps : length (usedSteps c) ≡ 2 * c .count - 1 = length-take-le (2 * c .count - 1) (c .steps) (omega (arith, F .fifteen)) in
     let used : length (usedComparisons c) ≡ c .count = length-take-le (c .count) (c .comparisons) (omega (arith, F .eight)) in
@@ -145,29 +143,29 @@ condition-source columns different m c F h =
           ∙ any-none (λ (z : ℤ). not (isWithin32 z)) (All-map (λ z k. ap not k) fit);
     }
 
-module _ (columns : List Name) (m : ℕ) (w : Where Term) (c : Condition) (A : AgreesCondition c (resolvedWhere columns m w)) where
+module _ {C : Type 0} (place : C → ℕ) (m : ℕ) (w : Where (Term C)) (c : Condition) (A : AgreesCondition c (resolvedWhere place m w)) where
   -- its question marks are those of the WHERE
   pub source-marks : conditionMarks c ≡ markCount (termGivens (operandsIn w))
   source-marks =
-      ap (λ ns. parameterCount (sides (leaves ns))) (A .nodes-are ∙ resolve-where columns m w)
-      ∙ resolve-marks columns m (nodesIn w) ∙ ap (λ os. markCount (termGivens os)) (sides-in w)
+      ap (λ ns. parameterCount (sides (leaves ns))) (A .nodes-are ∙ resolve-where place m w)
+      ∙ resolve-marks place m (nodesIn w) ∙ ap (λ os. markCount (termGivens os)) (sides-in w)
 
   -- and one that comes of a WHERE of known columns and few comparisons passes
-  pub source-condition : any (λ (n : Name). not (has columns n)) (termColumns (operandsIn w)) ≡ false → length (comparisonsIn w) ≤ most-comparisons
-      → soundCondition (length columns) m c ≡ true
-  source-condition known few =
-      let r : Where M.Operand = resolvedWhere columns m w in
-      let passes : (isPostfix (nodesIn r) ≡ true) × (columnsBelow (length columns) (nodesIn r) ≡ true) × (numberedFrom m (nodesIn r) ≡ true) =
-      where-passes columns m w known in
+  pub source-condition : (width : ℕ) (strange : C → Bool) → ((n : C) → strange n ≡ false → place n < width)
+      → any strange (termColumns (operandsIn w)) ≡ false → length (comparisonsIn w) ≤ most-comparisons → soundCondition width m c ≡ true
+  source-condition width strange inside known few =
+      let r : Where M.Operand = resolvedWhere place m w in
+      let passes : (isPostfix (nodesIn r) ≡ true) × (columnsBelow width (nodesIn r) ≡ true) × (numberedFrom m (nodesIn r) ≡ true) =
+      where-passes place width strange inside m w known in
       let e : nodesIn r ≡ conditionNodes c = sym (A .nodes-are) in
       let many : length (comparisonsIn r) ≡ length (comparisonsIn w) =
-      sym (leaves-in r) ∙ ap (λ ns. length (leaves ns)) (resolve-where columns m w) ∙ resolve-leaves columns m (nodesIn w) ∙ leaves-in w in
-      parts-condition (length columns) m c (record {
+      sym (leaves-in r) ∙ ap (λ ns. length (leaves ns)) (resolve-where place m w) ∙ resolve-leaves place m (nodesIn w) ∙ leaves-in w in
+      parts-condition width m c (record {
         few = omega (arith, A .count-is);
         steps = ap (all (λ (s : ℕ). ltb s 3)) (A .steps-are) ∙ steps-below (nodesIn r);
         operators = sym (all-map (λ (k : Comparison). k .op) (λ (k : ℕ). ltb k 6) (usedComparisons c))
             ∙ ap (all (λ (k : ℕ). ltb k 6)) (A .operators-are) ∙ operators-below (leaves (nodesIn r));
         postfix = ap isPostfix (sym e) ∙ passes .0;
-        below = ap (columnsBelow (length columns)) (sym e) ∙ passes .1;
+        below = ap (columnsBelow width) (sym e) ∙ passes .1;
         numbered = ap (numberedFrom m) (sym e) ∙ passes .2;
       })

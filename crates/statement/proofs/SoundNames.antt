@@ -1,6 +1,6 @@
 -- Names for a sentence of which a stored statement comes: those of the table and of its columns, at their places. And the limits, each by itself. Assumes nothing.
-use mathlib.Core.Path.{_≡_, refl, sym, ap, ap₂, _∙_, subst}
-use mathlib.Core.Bool.{Bool, true, false, not, _&&_, _||_}
+use mathlib.Core.Path.{_≡_, refl, sym, ap, _∙_, subst}
+use mathlib.Core.Bool.{Bool, true, false, not, _||_}
 use mathlib.Core.List.{List, [], _∷_, _++_, map}
 use Prim.Native.Nat.{ℕ, _≤_, _<_}
 use native.Mathlib.Omega.{arith}
@@ -8,7 +8,7 @@ use borrow.Author.Tests.{ltb-true, lt-ltb, le-ltb}
 use lib.Dec.{ltb}
 use lib.ListN.{length, getD, length-map, List·getD-map}
 use Rattle.lists.specs.Lists.{All, cons, any, all, repeats}
-use Rattle.lists.proofs.Bools.{and-left, and-right, or-left, or-right, not-false}
+use Rattle.lists.proofs.Bools.{and-left, and-right, and-both, or-left, or-right, not-false}
 use Rattle.lists.proofs.Lists.{All-head, All-tail, All-map, any-false, any-none, any-append}
 use Rattle.lists.proofs.Places.{All-at}
 use Rattle.meaning.specs.Tokens.{Name, isName}
@@ -16,7 +16,7 @@ use Rattle.meaning.specs.Grammar.{Listed, last, next, items, Sentence}
 use Rattle.meaning.specs.Limits.{most-name, manyItems, rowsOutside, manyMarks, manyComparisons, deep, longName, bigConstant, pastLimit}
 use Rattle.meaning.specs.Names.{Schema, noSchema, sameName, has, position, tableNames, columnsOf, missing}
 use Rattle.meaning.proofs.Names.{has-position, position-is}
-use Rattle.meaning.proofs.Resolve.{has-at, position-at}
+use Rattle.meaning.proofs.Resolve.{Columns, has-at, position-at, one-table, name-inside}
 use Rattle.statement.specs.Sound.{TableFits, TablesFit}
 use Rattle.statement.proofs.Stored.{all-of}
 
@@ -74,35 +74,47 @@ limits-of s h₀ =
 -- ---- names by their places
 
 -- names that are there have what all that are there have
+pub name-has : {P : Name → Type 0} {columns : List Name} → All P columns → (c : Name) → has columns c ≡ true → P c
+name-has {P} {columns} a c k = subst P (position-is columns c [] k) (All-at (position columns c) [] (has-position columns c k) a)
+
 pub known-have : {P : Name → Type 0} {columns : List Name} → All P columns → (cs : List Name) → any (λ (n : Name). not (has columns n)) cs ≡ false → All P cs
 known-have {P} {columns} a cs h =
-    All-map (λ c e. go c (not-false (has columns c) e)) (any-false (λ (n : Name). not (has columns n)) cs h)
-  where
-    go : (c : Name) → has columns c ≡ true → P c
-    go c k = subst P (position-is columns c [] k) (All-at (position columns c) [] (has-position columns c k) a)
+    All-map (λ c e. name-has a c (not-false (has columns c) e)) (any-false (λ (n : Name). not (has columns n)) cs h)
+
+-- ---- columns by their places: of any kind, and those of one table
+
+module _ {C : Type 0} (place : C → ℕ) (width : ℕ) (strange : C → Bool) where
+  -- columns of which none is strange have their places
+  pub places-below : ((c : C) → strange c ≡ false → place c < width) → (cs : List C) → any strange cs ≡ false → all (λ (i : ℕ). ltb i width) (map place cs) ≡ true
+  places-below inside [] h = refl
+  places-below inside (c ∷ cs) h =
+      and-both (ltb (place c) width) _ (lt-ltb (place c) width (inside c (or-left (strange c) _ h))) (places-below inside cs (or-right (strange c) _ h))
+
+  module _ (at : ℕ → C) (K : Columns place width strange at) where
+    -- those at places are not strange, and have these places
+    pub at-known : (is : List ℕ) → all (λ (i : ℕ). ltb i width) is ≡ true → any strange (map at is) ≡ false
+    at-known [] h = refl
+    at-known (i ∷ is) h =
+        or-none (strange (at i)) _ (K .known i (ltb-true i width (and-left (ltb i width) _ h))) (at-known is (and-right (ltb i width) _ h))
+
+    pub at-back : (is : List ℕ) → all (λ (i : ℕ). ltb i width) is ≡ true → map place (map at is) ≡ is
+    at-back [] h = refl
+    at-back (i ∷ is) h =
+        λ k. K .there i (ltb-true i width (and-left (ltb i width) _ h)) k ∷ at-back is (and-right (ltb i width) _ h) k
 
 module _ (columns : List Name) where
   abbrev pub namesAt : List ℕ → List Name
   namesAt is = map (λ (i : ℕ). getD columns i []) is
 
-  pub names-known : (is : List ℕ) → all (λ (i : ℕ). ltb i (length columns)) is ≡ true → any (λ (n : Name). not (has columns n)) (namesAt is) ≡ false
-  names-known [] h = refl
-  names-known (i ∷ is) h =
-      or-none (not (has columns (getD columns i []))) _
-      (ap not (has-at columns i [] (ltb-true i (length columns) (and-left (ltb i (length columns)) _ h))))
-      (names-known is (and-right (ltb i (length columns)) _ h))
+  module _ (different : repeats sameName columns ≡ false) where
+    pub names-known : (is : List ℕ) → all (λ (i : ℕ). ltb i (length columns)) is ≡ true → any (λ (n : Name). not (has columns n)) (namesAt is) ≡ false
+    names-known = at-known (position columns) (length columns) (λ (n : Name). not (has columns n)) (λ (i : ℕ). getD columns i []) (one-table columns different)
 
-  pub names-back : repeats sameName columns ≡ false → (is : List ℕ) → all (λ (i : ℕ). ltb i (length columns)) is ≡ true → map (position columns) (namesAt is) ≡ is
-  names-back d [] h = refl
-  names-back d (i ∷ is) h =
-      ap₂ (λ j r. j ∷ r) (position-at columns i [] d (ltb-true i (length columns) (and-left (ltb i (length columns)) _ h)))
-      (names-back d is (and-right (ltb i (length columns)) _ h))
+    pub names-back : (is : List ℕ) → all (λ (i : ℕ). ltb i (length columns)) is ≡ true → map (position columns) (namesAt is) ≡ is
+    names-back = at-back (position columns) (length columns) (λ (n : Name). not (has columns n)) (λ (i : ℕ). getD columns i []) (one-table columns different)
 
   pub positions-below : (cs : List Name) → any (λ (n : Name). not (has columns n)) cs ≡ false → all (λ (i : ℕ). ltb i (length columns)) (map (position columns) cs) ≡ true
-  positions-below [] h = refl
-  positions-below (c ∷ cs) h =
-      let k : has columns c ≡ true = not-false (has columns c) (or-left (not (has columns c)) _ h) in
-      ap₂ _&&_ (lt-ltb (position columns c) (length columns) (has-position columns c k)) (positions-below cs (or-right (not (has columns c)) _ h))
+  positions-below = places-below (position columns) (length columns) (λ (n : Name). not (has columns n)) (name-inside columns)
 
 -- ---- the table at a place
 

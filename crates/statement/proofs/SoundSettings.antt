@@ -20,8 +20,9 @@ use Rattle.meaning.specs.Statement as M
 use Rattle.meaning.specs.Statement.{value, constant, parameter, numberedAll, settings}
 use Rattle.meaning.proofs.Names.{same-is, position-is}
 use Rattle.meaning.proofs.Resolve.{same-name, position-at}
+use Rattle.meaning.specs.Pattern.{placedFrom}
 use Rattle.statement.specs.Sound.{valueRead, settingRead, ValueFits}
-use Rattle.statement.specs.Compiled.{newValue, placedFrom}
+use Rattle.statement.specs.Compiled.{newValue}
 use Rattle.statement.specs.declared.Value.{Value}
 use Rattle.statement.specs.declared.Setting.{Setting}
 use Rattle.statement.proofs.ByKind.{by-kind-value}

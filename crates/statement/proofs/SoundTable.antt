@@ -19,7 +19,7 @@ use Rattle.meaning.specs.Tokens.{isName}
 use Rattle.meaning.specs.Grammar as G
 use Rattle.meaning.specs.Grammar.{Listed, items, Sentence}
 use Rattle.meaning.specs.Limits.{most-items, most-rows, most-name}
-use Rattle.meaning.specs.Names.{Schema, sameName, has, tableNames, unknown, taken, miscounted}
+use Rattle.meaning.specs.Names.{Schema, sameName, has, tableNames, unknown, taken, miscounted, twice}
 use Rattle.meaning.specs.Statement.{Statement, creates, asks, changes, statementOf}
 use Rattle.meaning.proofs.Resolved.{items-some}
 use Rattle.meaning.proofs.Spelling.{has-text}
@@ -153,13 +153,14 @@ module _ (others : List Schema) (t : Table) (F : TableStructFits t) (P : Parts o
   }
 
   sentence-passes : Passes others sentence
-  unfolding unknown taken miscounted
+  unfolding unknown taken miscounted twice
   sentence-passes = record {
     spelled = has-text sentence .0 (ap (λ ns. all isName (nameOfStruct (t .name) ∷ ns)) named ∙ all-of isName (sound-fits .names));
     within = limits-kept sentence limits;
     known = refl;
     fresh = or-none (has (tableNames others) (nameOfStruct (t .name))) _ (P .fresh) (ap (repeats sameName) (columns .1) ∙ P .different);
     counted = refl;
+    different = refl;
   }
 
   pub table-source : FromTable others t
@@ -242,6 +243,7 @@ module _ (others : List Schema) (t : Table) where
   unfolding statementOf
   sentence-table (G.table n cs z) P a A = create-table n cs z P A
   sentence-table (G.select cs n w) P a A = clash a refl
+  sentence-table (G.pair cs n m w) P a A = clash a refl
   sentence-table (G.insert n vs) P a A = clash a refl
   sentence-table (G.update n ss w) P a A = clash a refl
   sentence-table (G.delete n w) P a A = clash a refl

@@ -20,14 +20,15 @@ use Rattle.meaning.specs.Tokens.{Name}
 use Rattle.meaning.specs.Grammar as G
 use Rattle.meaning.specs.Grammar.{Given, Listed, items, Sentence}
 use Rattle.meaning.specs.Limits.{most-items, most-marks, most-comparisons, most-depth, termGivens, termColumns, columnsNamed, givens, markCount, outside32}
-use Rattle.meaning.specs.Names.{Schema, noSchema, sameName, has, position, tableNames, columnsOf, missing, unknown, taken, miscounted}
+use Rattle.meaning.specs.Names.{Schema, noSchema, sameName, has, position, tableNames, columnsOf, missing, unknown, taken, miscounted, twice}
 use Rattle.meaning.specs.Statement as M
 use Rattle.meaning.specs.Statement.{Statement, creates, asks, changes, insert, delete, update, value, numberedAll, settings, settingMarks, resolvedWhere, statementOf}
 use Rattle.meaning.proofs.Names.{has-position}
+use Rattle.meaning.proofs.Resolve.{one-table, name-inside}
 use Rattle.meaning.proofs.Resolved.{items-some, numbered-length}
 use Rattle.meaning.proofs.Spelling.{has-text}
+use Rattle.meaning.specs.Pattern.{placedFrom}
 use Rattle.statement.specs.Sound.{conditionNodes, usedSettings, settingRead, settingsRead, settingColumns, settingValues, settingOperands, soundCondition, conditionMarks, columnsAt, soundForm, soundUpdate, Passes, AgreesCondition, AgreesUpdate, FromUpdate, TableFits, TablesFit, UpdateFits}
-use Rattle.statement.specs.Compiled.{placedFrom}
 use Rattle.statement.specs.declared.Condition.{Condition}
 use Rattle.statement.specs.declared.Update.{Update}
 use Rattle.statement.proofs.Stored.{map-twice}
@@ -104,8 +105,10 @@ module _ (ts : List Schema) (T : TablesFit ts) (u : Update) (F : UpdateFits u) (
   small = values-small (All-take (u .count) (F .constants))
 
   -- a sentence with these columns and this WHERE
-  source : Sourced (table .columns) (parameterCount (settingOperands u)) (u .condition)
-  source = condition-source (table .columns) (fits .different) (parameterCount (settingOperands u)) (u .condition) (F .condition-fits) (P .condition-sound)
+  source : Sourced (position (table .columns)) (λ (n : Name). not (has (table .columns) n)) (parameterCount (settingOperands u)) (u .condition)
+  source =
+      condition-source (position (table .columns)) (length (table .columns)) (λ (n : Name). not (has (table .columns) n)) (λ i. getD (table .columns) i [])
+      (one-table (table .columns) (fits .different)) (parameterCount (settingOperands u)) (u .condition) (F .condition-fits) (P .condition-sound)
 
   -- ---- INSERT
 
@@ -155,13 +158,14 @@ module _ (ts : List Schema) (T : TablesFit ts) (u : Update) (F : UpdateFits u) (
     }
 
     insert-passes : Passes ts insert-sentence
-    unfolding unknown taken miscounted
+    unfolding unknown taken miscounted twice
     insert-passes = record {
       spelled = has-text insert-sentence .0 (there-named ts T (u .table) (P .there) [] refl);
       within = limits-kept insert-sentence insert-limits;
       known = there-known ts T (u .table) (P .there) [] refl;
       fresh = refl;
       counted = ap not (eq-eqb (length (items (inserted .0))) (length columns) (ap length (inserted .1) ∙ insert-length ∙ insert-count ∙ sym (ap length columns-are)));
+      different = refl;
     }
 
     insert-back : numberedAll 0 (items (inserted .0)) ≡ settingValues u
@@ -233,7 +237,7 @@ module _ (ts : List Schema) (T : TablesFit ts) (u : Update) (F : UpdateFits u) (
     update-known : any (λ (n : Name). not (has (table .columns) n)) (columnsNamed update-sentence) ≡ false
     update-known =
         known-append (table .columns) (map (λ (s : Name × Given). s .0) (items (updated .0))) (termColumns (operandsIn (source .source)))
-        (ap (any (λ (n : Name). not (has (table .columns) n))) set-names ∙ names-known (table .columns) (settingColumns u) update-below)
+        (ap (any (λ (n : Name). not (has (table .columns) n))) set-names ∙ names-known (table .columns) (fits .different) (settingColumns u) update-below)
         (source .known)
 
     set-marks : settingMarks (items (updated .0)) ≡ parameterCount (settingOperands u)
@@ -264,13 +268,14 @@ module _ (ts : List Schema) (T : TablesFit ts) (u : Update) (F : UpdateFits u) (
         }
 
     update-passes : Passes ts update-sentence
-    unfolding unknown taken miscounted
+    unfolding unknown taken miscounted twice
     update-passes = record {
       spelled = has-text update-sentence .0 (there-named ts T (u .table) (P .there) (columnsNamed update-sentence) update-known);
       within = limits-kept update-sentence update-limits;
       known = there-known ts T (u .table) (P .there) (columnsNamed update-sentence) update-known;
       fresh = ap (repeats sameName) set-names ∙ names-different (table .columns) (fits .different) (settingColumns u) update-below update-once;
       counted = refl;
+      different = refl;
     }
 
     update-settings : settingsRead u ≡ settings columns 0 (items (updated .0))
@@ -286,7 +291,7 @@ module _ (ts : List Schema) (T : TablesFit ts) (u : Update) (F : UpdateFits u) (
     abbrev update-statement : M.Update
     update-statement = record {
       table = position (tableNames ts) (table .name);
-      change = update (settings columns 0 (items (updated .0))) (resolvedWhere columns (settingMarks (items (updated .0))) (source .source));
+      change = update (settings columns 0 (items (updated .0))) (resolvedWhere (position columns) (settingMarks (items (updated .0))) (source .source));
       parameters = markCount (givens update-sentence);
     }
 
@@ -297,7 +302,7 @@ module _ (ts : List Schema) (T : TablesFit ts) (u : Update) (F : UpdateFits u) (
       count-is = sym (settings-many update-few) ∙ ap length update-settings;
       settings-are = update-settings;
       parameters-are = sym update-marks;
-      condition-is = subst₂ (λ C m. AgreesCondition (u .condition) (resolvedWhere C m (source .source))) (sym columns-are) (sym set-marks) (source .agrees);
+      condition-is = subst₂ (λ C m. AgreesCondition (u .condition) (resolvedWhere (position C) m (source .source))) (sym columns-are) (sym set-marks) (source .agrees);
     }
 
     update-source : FromUpdate ts u
@@ -336,19 +341,20 @@ module _ (ts : List Schema) (T : TablesFit ts) (u : Update) (F : UpdateFits u) (
     }
 
     delete-passes : Passes ts delete-sentence
-    unfolding unknown taken miscounted
+    unfolding unknown taken miscounted twice
     delete-passes = record {
       spelled = has-text delete-sentence .0 (there-named ts T (u .table) (P .there) (columnsNamed delete-sentence) (source .known));
       within = limits-kept delete-sentence delete-limits;
       known = there-known ts T (u .table) (P .there) (columnsNamed delete-sentence) (source .known);
       fresh = refl;
       counted = refl;
+      different = refl;
     }
 
     abbrev delete-statement : M.Update
     delete-statement = record {
       table = position (tableNames ts) (table .name);
-      change = delete (resolvedWhere columns 0 (source .source));
+      change = delete (resolvedWhere (position columns) 0 (source .source));
       parameters = markCount (givens delete-sentence);
     }
 
@@ -359,7 +365,7 @@ module _ (ts : List Schema) (T : TablesFit ts) (u : Update) (F : UpdateFits u) (
       count-is = delete-none;
       settings-are = no-settings;
       parameters-are = sym delete-marks;
-      condition-is = subst₂ (λ C m. AgreesCondition (u .condition) (resolvedWhere C m (source .source))) (sym columns-are) no-marks (source .agrees);
+      condition-is = subst₂ (λ C m. AgreesCondition (u .condition) (resolvedWhere (position C) m (source .source))) (sym columns-are) no-marks (source .agrees);
     }
 
     delete-source : FromUpdate ts u
@@ -420,7 +426,7 @@ module _ (ts : List Schema) (u : Update) where
       let given : settingValues u ≡ values = ap (map (λ (s : ℕ × M.Value). s .1)) (A .settings-are) ∙ placed-values 0 values in
       let places : settingColumns u ≡ from 0 (u .count) = ap (map (λ (s : ℕ × M.Value). s .0)) (A .settings-are) ∙ placed-columns 0 values ∙ ap (from 0) (sym count) in
       let marks : parameterCount (settingOperands u) ≡ markCount (items vs) = ap (λ os. parameterCount (map value os)) given ∙ numbered-marks 0 (items vs) in
-      let tested : conditionMarks (u .condition) ≡ 0 = source-marks columns 0 always (u .condition) (A .condition-is) in
+      let tested : conditionMarks (u .condition) ≡ 0 = source-marks (position columns) 0 always (u .condition) (A .condition-is) in
       parts-update ts u (record {
         there = subst (λ i. i < length ts) (sym (A .table-is)) (place-below t [] [] (P .known));
         form-sound =
@@ -432,12 +438,13 @@ module _ (ts : List Schema) (u : Update) where
             (eq-eqb (u .condition .count) 0 (A .condition-is .count-is)));
         values-numbered = ap (λ os. numberedOn 0 (map value os)) given ∙ values-numbered 0 (items vs);
         condition-sound = ap (λ k. soundCondition k (parameterCount (settingOperands u)) (u .condition)) n
-            ∙ source-condition columns (parameterCount (settingOperands u)) always (u .condition) (A .condition-is) refl (omega arith);
+            ∙ source-condition (position columns) (parameterCount (settingOperands u)) always (u .condition) (A .condition-is)
+            (length columns) (λ (n : Name). not (has columns n)) (name-inside columns) refl (omega arith);
         parameters-are = A .parameters-are ∙ ap markCount (append-nil (items vs)) ∙ omega arith;
         few-parameters = subst (λ k. k ≤ most-marks) (sym (A .parameters-are)) (ltb-false most-marks (markCount (givens s)) (L .marks-few));
       })
 
-  delete-update : (t : Name) (w : Where G.Term) → Passes ts (G.delete t w) → AgreesUpdate u (changed (statementOf ts (G.delete t w))) → soundUpdate ts u ≡ true
+  delete-update : (t : Name) (w : Where (G.Term Name)) → Passes ts (G.delete t w) → AgreesUpdate u (changed (statementOf ts (G.delete t w))) → soundUpdate ts u ≡ true
   unfolding statementOf unknown
   delete-update t w P A =
       let s : Sentence = G.delete t w in
@@ -446,19 +453,20 @@ module _ (ts : List Schema) (u : Update) where
       let n : columnsAt ts (u .table) ≡ length columns = ap (columnsAt ts) (A .table-is) in
       let given : settingOperands u ≡ [] = ap (λ ss. map value (map (λ (s : ℕ × M.Value). s .1) ss)) (A .settings-are) in
       let marks : parameterCount (settingOperands u) ≡ 0 = ap parameterCount given in
-      let tested : conditionMarks (u .condition) ≡ markCount (termGivens (operandsIn w)) = source-marks columns 0 w (u .condition) (A .condition-is) in
+      let tested : conditionMarks (u .condition) ≡ markCount (termGivens (operandsIn w)) = source-marks (position columns) 0 w (u .condition) (A .condition-is) in
       parts-update ts u (record {
         there = subst (λ i. i < length ts) (sym (A .table-is)) (place-below t [] (termColumns (operandsIn w)) (P .known));
         form-sound = ap (λ k. soundForm k (columnsAt ts (u .table)) u) (A .form-is) ∙ eq-eqb (u .count) 0 (A .count-is);
         values-numbered = ap (numberedOn 0) given;
         condition-sound = ap₂ (λ k m. soundCondition k m (u .condition)) n marks
-            ∙ source-condition columns 0 w (u .condition) (A .condition-is) (second-known t [] (termColumns (operandsIn w)) (P .known))
+            ∙ source-condition (position columns) 0 w (u .condition) (A .condition-is)
+            (length columns) (λ (n : Name). not (has columns n)) (name-inside columns) (second-known t [] (termColumns (operandsIn w)) (P .known))
             (ltb-false most-comparisons (length (comparisonsIn w)) (L .comparisons-few));
         parameters-are = A .parameters-are ∙ sym tested ∙ omega arith;
         few-parameters = subst (λ k. k ≤ most-marks) (sym (A .parameters-are)) (ltb-false most-marks (markCount (givens s)) (L .marks-few));
       })
 
-  update-update : (t : Name) (ss : Listed (Name × Given)) (w : Where G.Term) → Passes ts (G.update t ss w)
+  update-update : (t : Name) (ss : Listed (Name × Given)) (w : Where (G.Term Name)) → Passes ts (G.update t ss w)
       → AgreesUpdate u (changed (statementOf ts (G.update t ss w))) → soundUpdate ts u ≡ true
   unfolding statementOf unknown taken
   update-update t ss w P A =
@@ -475,7 +483,7 @@ module _ (ts : List Schema) (u : Update) where
       let places : settingColumns u ≡ map (position columns) names = ap (map (λ (s : ℕ × M.Value). s .0)) (A .settings-are) ∙ settings-columns columns 0 (items ss) in
       let given : settingValues u ≡ numberedAll 0 gs = ap (map (λ (s : ℕ × M.Value). s .1)) (A .settings-are) ∙ settings-values columns 0 (items ss) in
       let marks : parameterCount (settingOperands u) ≡ markCount gs = ap (λ os. parameterCount (map value os)) given ∙ numbered-marks 0 gs in
-      let tested : conditionMarks (u .condition) ≡ markCount (termGivens (operandsIn w)) = source-marks columns (markCount gs) w (u .condition) (A .condition-is) in
+      let tested : conditionMarks (u .condition) ≡ markCount (termGivens (operandsIn w)) = source-marks (position columns) (markCount gs) w (u .condition) (A .condition-is) in
       parts-update ts u (record {
         there = subst (λ i. i < length ts) (sym (A .table-is)) (place-below t names (termColumns (operandsIn w)) (P .known));
         form-sound =
@@ -487,7 +495,8 @@ module _ (ts : List Schema) (u : Update) where
             (ap not (ap (repeats eqb) places ∙ places-different columns names known (P .fresh)))));
         values-numbered = ap (λ os. numberedOn 0 (map value os)) given ∙ values-numbered 0 gs;
         condition-sound = ap₂ (λ k m. soundCondition k m (u .condition)) n marks
-            ∙ source-condition columns (markCount gs) w (u .condition) (A .condition-is) (second-known t names (termColumns (operandsIn w)) (P .known))
+            ∙ source-condition (position columns) (markCount gs) w (u .condition) (A .condition-is)
+            (length columns) (λ (n : Name). not (has columns n)) (name-inside columns) (second-known t names (termColumns (operandsIn w)) (P .known))
             (ltb-false most-comparisons (length (comparisonsIn w)) (L .comparisons-few));
         parameters-are = A .parameters-are ∙ marks-append gs (termGivens (operandsIn w)) ∙ ap₂ _+_ (sym marks) (sym tested);
         few-parameters = subst (λ k. k ≤ most-marks) (sym (A .parameters-are)) (ltb-false most-marks (markCount (givens s)) (L .marks-few));
@@ -497,6 +506,7 @@ module _ (ts : List Schema) (u : Update) where
   unfolding statementOf
   sentence-update (G.table t cs z) P a A = clash a refl
   sentence-update (G.select cs t w) P a A = clash a refl
+  sentence-update (G.pair cs t v w) P a A = clash a refl
   sentence-update (G.insert t vs) P a A = insert-update t vs P A
   sentence-update (G.update t ss w) P a A = update-update t ss w P A
   sentence-update (G.delete t w) P a A = delete-update t w P A

@@ -12,7 +12,7 @@ use lib.Dec.{eqb}
 use lib.ListN.{take, drop}
 use Rattle.lists.proofs.Bools.{clash}
 use Rattle.meaning.specs.Tokens as M
-use Rattle.meaning.specs.Tokens.{keyword, name, operator, mark, comma, lparen, rparen, other, firstToken, tokens}
+use Rattle.meaning.specs.Tokens.{keyword, name, operator, mark, comma, lparen, rparen, dot, other, firstToken, tokens}
 use Rattle.meaning.specs.Grammar as G
 use Rattle.meaning.specs.Grammar.{nameOf, constantOf}
 use Rattle.meaning.specs.Limits.{isWithin32}
@@ -47,6 +47,7 @@ kind-no-name mark h = refl
 kind-no-name comma h = refl
 kind-no-name lparen h = refl
 kind-no-name rparen h = refl
+kind-no-name dot h = refl
 kind-no-name other h = refl
 
 -- a constant's kind, and any other
@@ -59,6 +60,7 @@ kind-given mark h = clash h refl
 kind-given comma h = clash h refl
 kind-given lparen h = clash h refl
 kind-given rparen h = clash h refl
+kind-given dot h = clash h refl
 kind-given other h = clash h refl
 
 pub kind-mark : (t : M.Token) → isConstant (kindOf t) ≡ false → orMark (constantOf t) ≡ G.mark
@@ -70,6 +72,7 @@ kind-mark mark h = refl
 kind-mark comma h = refl
 kind-mark lparen h = refl
 kind-mark rparen h = refl
+kind-mark dot h = refl
 kind-mark other h = refl
 
 -- ---- the token that is read at a place

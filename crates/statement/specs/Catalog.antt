@@ -1,4 +1,5 @@
 -- The tables that there are, as the plain store has them: what a text is read beside. Assumes nothing: these are definitions.
+use mathlib.Core.Bool.{true, false}
 use mathlib.Core.List.{List, [], map}
 use Prim.Native.Nat.{ℕ}
 use lib.ListN.{take, replicate}
@@ -16,12 +17,19 @@ nameOfStruct n = take (n .len) (n .bytes)
 abbrev pub namesOf : List Name → ℕ → List (List ℕ)
 namesOf names count = map nameOfStruct (take count names)
 
--- the columns that a statement may name, and those of a table
+-- the columns that a statement may name: those of its table, and over two tables (A.1) those of the second
 abbrev pub scopeNames : Scope → List (List ℕ)
 scopeNames s = namesOf (s .columns) (s .count)
 
+abbrev pub otherNames : Scope → List (List ℕ)
+otherNames s = namesOf (s .others) (s .more)
+
+-- those of one table; and of two, which a text names so
 abbrev pub scopeOf : Table → Scope
-scopeOf t = record { columns = t .columns; count = t .count }
+scopeOf t = record { dotted = false; name = t .name; columns = t .columns; count = t .count; other = t .name; others = t .columns; more = 0 }
+
+abbrev pub pairScope : Name → Table → Name → Table → Scope
+pairScope n t m u = record { dotted = true; name = n; columns = t .columns; count = t .count; other = m; others = u .columns; more = u .count }
 
 -- what a table's TABLE text says
 abbrev pub schemaOf : Table → Schema

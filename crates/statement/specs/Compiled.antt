@@ -12,6 +12,7 @@ use Rattle.meaning.specs.Grammar.{Sentence, sentence}
 use Rattle.meaning.specs.Names.{Schema}
 use Rattle.meaning.specs.Statement as S
 use Rattle.meaning.specs.Statement.{statementOf}
+use Rattle.meaning.specs.Pattern.{placedFrom}
 use Rattle.meaning.specs.Plain.{Plain, schemas, addConditions, lowestOf}
 use Rattle.token.specs.Tokens.{operatorNumber}
 use Rattle.statement.specs.Catalog.{catalog}
@@ -96,17 +97,28 @@ conditionStruct ns = record {
 
 -- ---- questions
 
+-- A.1: the second table, by its number and 1, and the position of its first column; 0 where there is none
+abbrev pub secondCode : Option S.Second → ℕ
+secondCode none = 0
+secondCode (some s) = suc (s .table)
+
+abbrev pub secondStart : Option S.Second → ℕ
+secondStart none = 0
+secondStart (some s) = s .start
+
 abbrev pub queryStruct : S.Query → Query
 queryStruct q = record {
   table = q .table;
   selected = padded 8 0 (q .selected);
   count = length (q .selected);
   parameters = q .parameters;
+  second = secondCode (q .second);
+  start = secondStart (q .second);
   condition = conditionStruct (nodesIn (q .condition));
 }
 
 abbrev pub noQuery : Query
-noQuery = queryStruct (record { table = 0; selected = []; condition = always; parameters = 0 })
+noQuery = queryStruct (record { table = 0; second = none; selected = []; condition = always; parameters = 0 })
 
 -- ---- updates
 
@@ -123,16 +135,12 @@ settingStruct s = settingWith (s .0) (valueStruct (s .1))
 abbrev pub noSetting : Setting
 noSetting = settingWith 0 (valueStruct (S.constant (pos 0)))
 
--- the values of an INSERT, each with its place
-abbrev pub placedFrom : ℕ → List S.Value → List (ℕ × S.Value)
-placedFrom i [] = []
-placedFrom i (v ∷ vs) = (i, v) ∷ placedFrom (suc i) vs
-
 abbrev pub formOfChange : S.Change → ℕ
 formOfChange (S.insert vs) = 0
 formOfChange (S.update ss w) = 1
 formOfChange (S.delete w) = 2
 
+-- an INSERT sets each column in its place
 abbrev pub settingsOfChange : S.Change → List (ℕ × S.Value)
 settingsOfChange (S.insert vs) = placedFrom 0 vs
 settingsOfChange (S.update ss w) = ss

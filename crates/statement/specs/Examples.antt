@@ -8,7 +8,7 @@ use Rattle.lists.specs.Lists.{bytes}
 use Rattle.meaning.specs.Tokens.{isNameByte, isWordByte, decimal, isName, word, negative, tokenFrom, firstToken, scan, tokens}
 use Rattle.meaning.specs.Grammar.{aCondition, aSentence, read}
 use Rattle.meaning.specs.Limits.{pastLimit}
-use Rattle.meaning.specs.Names.{unknown, taken, miscounted}
+use Rattle.meaning.specs.Names.{unknown, taken, miscounted, twice}
 use Rattle.meaning.specs.Statement.{statementOf}
 use Rattle.meaning.specs.Plain.{otherLengths, noPlace}
 use Rattle.statement.specs.Compiled.{padded, tableStruct, comparisonWith, noComparison, noSetting, asked, changing, refusedBy, structOf, compiledOf}
@@ -18,7 +18,7 @@ use Rattle.statement.specs.declared.Statement.{Statement}
 
 -- what the computations open
 computing : Unit {0}
-unfolding isNameByte isWordByte decimal isName word negative tokenFrom firstToken scan tokens aCondition aSentence read pastLimit unknown taken miscounted statementOf otherLengths noPlace structOf compiledOf
+unfolding isNameByte isWordByte decimal isName word negative tokenFrom firstToken scan tokens aCondition aSentence read pastLimit unknown taken miscounted twice statementOf otherLengths noPlace structOf compiledOf
 computing = tt
 
 abbrev t : Table
@@ -44,6 +44,8 @@ select-b :
       selected = padded 8 0 (1 ∷ []);
       count = 1;
       parameters = 1;
+      second = 0;
+      start = 0;
       condition = record {
         comparisons = padded 8 noComparison
             (comparisonWith (column 0) 1 (constant (pos 1)) ∷ comparisonWith (column 1) 5 (parameter 0) ∷ []);
@@ -96,3 +98,41 @@ refused-8 = refl
 refused-9 : compiled "TABLE u (a) ROWS 1" ≡ refusedBy 9
 unfolding computing
 refused-9 = refl
+
+-- beside t and a table u of the columns a and c (A.1): columns are counted through both
+abbrev u : Table
+u = tableStruct (record { name = bytes "u"; columns = bytes "a" ∷ bytes "c" ∷ []; capacity = 3 })
+
+abbrev paired : String → Statement
+paired text = compiledOf (bytes text) (t ∷ u ∷ []) 2 0 0 12
+
+select-b-c :
+    paired "SELECT t.b, u.c FROM t, u WHERE t.a = u.a"
+    ≡ asked (record {
+      table = 0;
+      selected = padded 8 0 (1 ∷ 3 ∷ []);
+      count = 2;
+      parameters = 0;
+      second = 2;
+      start = 2;
+      condition = record {
+        comparisons = padded 8 noComparison (comparisonWith (column 0) 0 (column 2) ∷ []);
+        steps = padded 15 0 (0 ∷ []);
+        count = 1;
+      };
+    })
+unfolding computing
+select-b-c = refl
+
+-- a column that t has not, which is none of u either; one table twice, with a column that is there and with one that is not
+refused-6-pair : paired "SELECT t.c FROM t, u" ≡ refusedBy 6
+unfolding computing
+refused-6-pair = refl
+
+refused-15 : paired "SELECT t.a FROM t, t" ≡ refusedBy 15
+unfolding computing
+refused-15 = refl
+
+refused-6-twice : paired "SELECT t.c FROM t, t" ≡ refusedBy 6
+unfolding computing
+refused-6-twice = refl

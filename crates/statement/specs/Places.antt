@@ -1,6 +1,6 @@
 -- What stands at a place of a text: the code notes where the tokens of a sentence start, and these definitions say what it has noted.
 -- Assumes nothing: these are definitions.
-use mathlib.Core.Bool.{cond}
+use mathlib.Core.Bool.{Bool, true, false, cond}
 use mathlib.Core.Option.{Option, none, some}
 use mathlib.Core.List.{List, [], _∷_}
 use Prim.Native.Nat.{ℕ, zero, suc}
@@ -9,7 +9,8 @@ use lib.IntN.{ℤ}
 use lib.ListN.{drop, getD}
 use Rattle.meaning.specs.Postfix.{Node, leaf, allOf, anyOf}
 use Rattle.meaning.specs.Tokens.{Name, Token, other, firstToken}
-use Rattle.meaning.specs.Grammar.{Given, constant, mark, Term, column, given, nameOf, constantOf}
+use Rattle.meaning.specs.Grammar.{Given, constant, mark, Term, column, given, Dotted, nameOf, constantOf}
+use Rattle.token.specs.Tokens.{tokenAt}
 use Rattle.statement.specs.Operators.{operatorAt}
 
 -- the token that starts at a place, or `other`
@@ -35,12 +36,25 @@ nameOn s p = orEmpty (nameOf (tokenOn s p))
 abbrev pub givenOn : List ℕ → ℕ → Given
 givenOn s p = orMark (constantOf (tokenOn s p))
 
-abbrev pub orGiven : Given → Option Name → Term
-orGiven v none = given v
-orGiven v (some n) = column n
+-- a column as it is written: in a question over two tables dotted (A.1), elsewhere bare
+abbrev pub Column : Bool → Type 0
+Column false = Name
+Column true = Dotted
 
-abbrev pub termOn : List ℕ → ℕ → Term
-termOn s p = orGiven (givenOn s p) (nameOf (tokenOn s p))
+-- the place behind the two tokens from p on: of a dotted column, behind its dot
+abbrev pub behindDot : List ℕ → ℕ → ℕ
+behindDot s p = tokenAt s (tokenAt s p .next) .next
+
+abbrev pub columnOn : (b : Bool) → List ℕ → ℕ → Column b
+columnOn false s p = nameOn s p
+columnOn true s p = (nameOn s p, nameOn s (behindDot s p))
+
+abbrev pub orGiven : {C : Type 0} → Given → C → Option Name → Term C
+orGiven v c none = given v
+orGiven v c (some n) = column c
+
+abbrev pub termOn : (b : Bool) → List ℕ → ℕ → Term (Column b)
+termOn b s p = orGiven (givenOn s p) (columnOn b s p) (nameOf (tokenOn s p))
 
 -- the codes of AND and OR, far from the operators' numbers
 abbrev pub andCode : ℕ
@@ -50,10 +64,10 @@ abbrev pub orCode : ℕ
 orCode = 257
 
 -- a node by its code and the places of its sides: a comparison by its operator's number, AND, or OR
-abbrev pub nodeOn : List ℕ → ℕ → ℕ → ℕ → Node Term
-nodeOn s k a b = cond (ltb k 6) (leaf (record { left = termOn s a; op = operatorAt k; right = termOn s b })) (cond (eqb k andCode) allOf anyOf)
+abbrev pub nodeOn : (d : Bool) → List ℕ → ℕ → ℕ → ℕ → Node (Term (Column d))
+nodeOn d s k a b = cond (ltb k 6) (leaf (record { left = termOn d s a; op = operatorAt k; right = termOn d s b })) (cond (eqb k andCode) allOf anyOf)
 
 -- the first n nodes that are noted, three numbers a node
-abbrev pub nodesOn : List ℕ → ℕ → List ℕ → List (Node Term)
-nodesOn s zero xs = []
-nodesOn s (suc n) xs = nodeOn s (getD xs 0 0) (getD xs 1 0) (getD xs 2 0) ∷ nodesOn s n (drop 3 xs)
+abbrev pub nodesOn : (d : Bool) → List ℕ → ℕ → List ℕ → List (Node (Term (Column d)))
+nodesOn d s zero xs = []
+nodesOn d s (suc n) xs = nodeOn d s (getD xs 0 0) (getD xs 1 0) (getD xs 2 0) ∷ nodesOn d s n (drop 3 xs)

@@ -10,11 +10,13 @@ use Rattle.meaning.specs.Condition.{Level, atom, conjunction, disjunction, Cond
 use Rattle.meaning.specs.Postfix.{nodes}
 use Rattle.meaning.specs.Tokens as T
 use Rattle.meaning.specs.Tokens.{tokens, rparen}
-use Rattle.meaning.specs.Grammar.{Term, column, given, expect, aCondition}
+use Rattle.meaning.specs.Grammar.{Term, column, given, Dotted, Reader, expect, aName, aDotted, aTerm, aComparison, aCondition, nameOf}
 use Rattle.meaning.specs.Limits.{most-name, most-depth, outside32, termGivens, markCount}
 use Rattle.token.specs.declared.Token.{Token}
-use Rattle.statement.specs.Places.{nodeOn, nodesOn}
+use Rattle.token.specs.Tokens.{tokenAt}
+use Rattle.statement.specs.Places.{tokenOn, Column, columnOn, termOn, nodeOn, nodesOn}
 use Rattle.statement.specs.declared.conditions.Cursor.{Cursor}
+use Rattle.statement.specs.declared.conditions.Side.{Side}
 
 -- ---- tokens by their numbers
 
@@ -41,27 +43,28 @@ marksAt kind = cond (eqb kind 5) 1 0
 
 -- the same, at another place
 abbrev pub movedTo : ℕ → Cursor → Cursor
-movedTo at c = record { ok = c .ok; over = c .over; nodes = c .nodes; marks = c .marks; at = at }
+movedTo at c = record { ok = c .ok; over = c .over; dotted = c .dotted; nodes = c .nodes; marks = c .marks; at = at }
 
 -- one node more
 abbrev pub withNode : Cursor → Cursor
-withNode c = record { ok = c .ok; over = c .over; nodes = c .nodes + 1; marks = c .marks; at = c .at }
+withNode c = record { ok = c .ok; over = c .over; dotted = c .dotted; nodes = c .nodes + 1; marks = c .marks; at = c .at }
 
--- a comparison of the tokens a and b read under `depth` parentheses and NOTs, before its node is noted
-abbrev pub withSides : ℕ → Token → Token → Cursor → Cursor
+-- a comparison of the sides a and b read under `depth` parentheses and NOTs, before its node is noted
+abbrev pub withSides : ℕ → Side → Side → Cursor → Cursor
 withSides depth a b c =
     record {
       ok = true;
-      over = c .over || (ltb most-depth depth || (past a || past b));
+      over = c .over || (ltb most-depth depth || (a .over || b .over));
+      dotted = c .dotted;
       nodes = c .nodes;
-      marks = c .marks + (marksAt (a .kind) + marksAt (b .kind));
+      marks = c .marks + (a .marks + b .marks);
       at = b .next;
     }
 
 -- the node with these numbers is counted, and noted if there is room
 pub record PutsNode (xs : List ℕ) (c : Cursor) (node left right : ℕ) (ys : List ℕ) (r : Cursor) : Type 0 where
   pub counted : r ≡ withNode c
-  pub noted : (s : List ℕ) → c .nodes < 15 → nodesOn s (c .nodes + 1) ys ≡ nodesOn s (c .nodes) xs ++ (nodeOn s node left right ∷ [])
+  pub noted : (b : Bool) (s : List ℕ) → c .nodes < 15 → nodesOn b s (c .nodes + 1) ys ≡ nodesOn b s (c .nodes) xs ++ (nodeOn b s node left right ∷ [])
 
 -- a place inside a text of at most 256 bytes, with no more counted than there are bytes before it
 pub record Stands (s : List ℕ) (c : Cursor) : Type 0 where
@@ -72,39 +75,92 @@ pub record Stands (s : List ℕ) (c : Cursor) : Type 0 where
 
 -- ---- what is read
 
--- past a limit by itself: a name of more than 12 bytes, a constant outside 32 bits; a comparison under more than 8 parentheses and NOTs
-abbrev pub termPast : Term → Bool
-termPast (column n) = ltb most-name (length n)
-termPast (given v) = outside32 v
+-- an operand, and the reader of a column: dotted columns where b is true (A.1)
+abbrev pub Operand : Bool → Type 0
+Operand b = Term (Column b)
 
-abbrev pub conditionPast : {l : Level} → ℕ → Condition Term l → Bool
-conditionPast d (compare c) = ltb most-depth d || (termPast (c .left) || termPast (c .right))
-conditionPast d (negate c) = conditionPast (d + 1) c
-conditionPast d (group c) = conditionPast (d + 1) c
-conditionPast d (alone c) = conditionPast d c
-conditionPast d (both c e) = conditionPast d c || conditionPast d e
-conditionPast d (single c) = conditionPast d c
-conditionPast d (either c e) = conditionPast d c || conditionPast d e
+abbrev pub aColumn : (b : Bool) → Reader (Column b)
+aColumn false = aName
+aColumn true = aDotted
 
-abbrev pub marksIn : {l : Level} → Condition Term l → ℕ
+-- past a limit by itself: a name of more than 12 bytes, of a dotted column either; a constant outside 32 bits; a comparison under more than 8 parentheses and NOTs
+abbrev pub longColumn : (b : Bool) → Column b → Bool
+longColumn false n = ltb most-name (length n)
+longColumn true c = ltb most-name (length (c .0)) || ltb most-name (length (c .1))
+
+abbrev pub termPast : (b : Bool) → Operand b → Bool
+termPast b (column c) = longColumn b c
+termPast b (given v) = outside32 v
+
+abbrev pub conditionPast : (b : Bool) {l : Level} → ℕ → Condition (Operand b) l → Bool
+conditionPast b d (compare c) = ltb most-depth d || (termPast b (c .left) || termPast b (c .right))
+conditionPast b d (negate c) = conditionPast b (d + 1) c
+conditionPast b d (group c) = conditionPast b (d + 1) c
+conditionPast b d (alone c) = conditionPast b d c
+conditionPast b d (both c e) = conditionPast b d c || conditionPast b d e
+conditionPast b d (single c) = conditionPast b d c
+conditionPast b d (either c e) = conditionPast b d c || conditionPast b d e
+
+abbrev pub marksIn : {C : Type 0} {l : Level} → Condition (Term C) l → ℕ
 marksIn c = markCount (termGivens (sides (comparisons c)))
 
--- a condition t was read from c on, up to r, before the tokens `more`: counted, and noted if there was room; each node takes a byte or more
-pub record Found {l : Level} (s : List ℕ) (positive : Bool) (depth : ℕ) (c : Cursor) (xs : List ℕ) (r : Cursor) (ys : List ℕ) (t : Condition Term l) (more : List T.Token) : Type 0 where
+-- ---- operands
+
+-- r reads on from `at` up to the tokens `more`
+pub record Spans (s : List ℕ) (at : ℕ) (r : Side) (more : List T.Token) : Type 0 where
   pub ok : r .ok ≡ true
+  pub on : at < r .next
+  pub within : r .next ≤ length s
+  pub begun : r .start < r .next
+  pub left : tokens (drop (r .next) s) ≡ more
+
+-- the dotted column x stands there
+pub record IsDotted (s : List ℕ) (r : Side) (x : Dotted) : Type 0 where
+  pub here : columnOn true s (r .start) ≡ x
+  pub named : nameOf (tokenOn s (r .start)) ≡ some (x .0)
+  pub over : r .over ≡ longColumn true x
+  pub marks : r .marks ≡ 0
+
+-- the operand x stands there
+pub record IsOperand (b : Bool) (s : List ℕ) (r : Side) (x : Operand b) : Type 0 where
+  pub here : termOn b s (r .start) ≡ x
+  pub over : r .over ≡ termPast b x
+  pub marks : r .marks ≡ markCount (termGivens (x ∷ []))
+
+-- r is what the grammar's reader finds from `at` on
+abbrev pub Sides : {A : Type 0} → List ℕ → ℕ → Side → (A → Type 0) → Option (A × List T.Token) → Type 0
+Sides s at r Q none = r .ok ≡ false
+Sides s at r Q (some x) = Spans s at r (x .1) × Q (x .0)
+
+-- a dotted column, and an operand, whose first token is `first`
+abbrev pub ReadsDotted : List ℕ → Token → Side → Type 0
+ReadsDotted s first r = (at : ℕ) → first ≡ tokenAt s at → Sides s at r (IsDotted s r) (aDotted (tokens (drop at s)))
+
+abbrev pub ReadsSide : Bool → List ℕ → Token → Side → Type 0
+ReadsSide b s first r = (at : ℕ) → first ≡ tokenAt s at → Sides s at r (IsOperand b s r) (aTerm (aColumn b) (tokens (drop at s)))
+
+-- ---- conditions
+
+-- a condition t was read from c on, up to r, before the tokens `more`: counted, and noted if there was room; each node takes a byte or more
+pub record Found (b : Bool) {l : Level} (s : List ℕ) (positive : Bool) (depth : ℕ) (c : Cursor) (xs : List ℕ) (r : Cursor) (ys : List ℕ) (t : Condition (Operand b) l) (more : List T.Token) : Type 0 where
+  pub ok : r .ok ≡ true
+  pub dotted : r .dotted ≡ b
   pub moved : c .at < r .at
   pub stands : Stands s r
   pub left : tokens (drop (r .at) s) ≡ more
-  pub over : r .over ≡ (c .over || conditionPast depth t)
+  pub over : r .over ≡ (c .over || conditionPast b depth t)
   pub nodes-are : r .nodes ≡ c .nodes + length (nodes positive t)
   pub marks-are : r .marks ≡ c .marks + marksIn t
-  pub noted : r .nodes ≤ 15 → nodesOn s (r .nodes) ys ≡ nodesOn s (c .nodes) xs ++ nodes positive t
+  pub noted : r .nodes ≤ 15 → nodesOn b s (r .nodes) ys ≡ nodesOn b s (c .nodes) xs ++ nodes positive t
   pub spread : r .nodes + c .at ≤ c .nodes + r .at
 
 -- r and ys are what the grammar's reader finds
-abbrev pub Meets : {l : Level} → List ℕ → Bool → ℕ → Cursor → List ℕ → Cursor → List ℕ → Option (Condition Term l × List T.Token) → Type 0
-Meets s positive depth c xs r ys none = r .ok ≡ false
-Meets s positive depth c xs r ys (some x) = Found s positive depth c xs r ys (x .0) (x .1)
+abbrev pub Meets : (b : Bool) {l : Level} → List ℕ → Bool → ℕ → Cursor → List ℕ → Cursor → List ℕ → Option (Condition (Operand b) l × List T.Token) → Type 0
+Meets b s positive depth c xs r ys none = r .ok ≡ false
+Meets b s positive depth c xs r ys (some x) = Found b s positive depth c xs r ys (x .0) (x .1)
+
+abbrev pub Compares : List ℕ → Bool → ℕ → Cursor → List ℕ → Cursor → List ℕ → Type 0
+Compares s positive depth c xs r ys = (b : Bool) → c .dotted ≡ b → Meets b s positive depth c xs r ys (aComparison (aColumn b) (tokens (drop (c .at) s)))
 
 abbrev pub rank : Level → ℕ
 rank atom = 1
@@ -113,7 +169,8 @@ rank disjunction = 3
 
 -- with calls enough for the text that is left
 abbrev pub Reads : Level → List ℕ → Bool → ℕ → Cursor → List ℕ → Cursor → List ℕ → Type 0
-Reads l s positive depth c xs r ys = (n : ℕ) → 3 * (length s - c .at) + rank l ≤ n → Meets s positive depth c xs r ys (aCondition n l (tokens (drop (c .at) s)))
+Reads l s positive depth c xs r ys =
+    (b : Bool) → c .dotted ≡ b → (n : ℕ) → 3 * (length s - c .at) + rank l ≤ n → Meets b s positive depth c xs r ys (aCondition (aColumn b) n l (tokens (drop (c .at) s)))
 
 -- ---- the closing parenthesis
 

@@ -1,4 +1,4 @@
--- What the readers of the five forms have found, as against what the grammar's readers find: their contracts. A reader takes a cursor that may have
+-- What the readers of the forms have found, as against what the grammar's readers find: their contracts. A reader takes a cursor that may have
 -- failed already, and then fails too, so that a form is read by a row of calls. Assumes nothing: these are definitions.
 use mathlib.Core.Path.{_≡_}
 use mathlib.Core.Bool.{Bool, true, false, not, _&&_, _||_, cond}
@@ -14,11 +14,12 @@ use Rattle.meaning.specs.Condition.{Where, always, under, operandsIn}
 use Rattle.meaning.specs.Postfix.{nodesIn}
 use Rattle.meaning.specs.Tokens as T
 use Rattle.meaning.specs.Tokens.{Name, Token, tokens}
-use Rattle.meaning.specs.Grammar.{Given, Term, items, Sentence, table, select, insert, update, delete, Reader, expect, constantOf, aToken, aName, aGiven, aSetting, aList, aWhere, aDelete, aSentence}
+use Rattle.meaning.specs.Grammar.{Given, Dotted, items, Sentence, table, select, pair, insert, update, delete, Reader, expect, constantOf, aToken, aName, aDotted, aGiven, aSetting, aList, aWhere, aDelete, aSentence}
 use Rattle.meaning.specs.Limits.{most-name, most-rows, most-items, most-marks, most-comparisons, tableNamed, whereOf, termGivens, markCount, givens, outside32, pastLimit}
-use Rattle.token.specs.Tokens.{kindOf}
-use Rattle.statement.specs.Places.{tokenOn, nameOn, givenOn, nodesOn}
-use Rattle.statement.specs.Reading.{Stands, conditionPast}
+use Rattle.token.specs.declared.Token.{Token as Read}
+use Rattle.token.specs.Tokens.{kindOf, tokenAt}
+use Rattle.statement.specs.Places.{tokenOn, nameOn, givenOn, columnOn, nodesOn}
+use Rattle.statement.specs.Reading.{Stands, Operand, aColumn, longColumn, conditionPast}
 use Rattle.statement.specs.declared.conditions.Cursor.{Cursor}
 use Rattle.statement.specs.declared.sentences.Placed.{Placed}
 use Rattle.statement.specs.declared.sentences.Listing.{Listing}
@@ -32,6 +33,9 @@ itemsOn f (suc n) xs = f (getD xs 0 0) (getD xs 1 0) ∷ itemsOn f n (drop 2 xs)
 
 abbrev pub namesOn : List ℕ → ℕ → List ℕ → List Name
 namesOn s = itemsOn (λ a b. nameOn s a)
+
+abbrev pub dottedOn : List ℕ → ℕ → List ℕ → List Dotted
+dottedOn s = itemsOn (λ a b. columnOn true s a)
 
 abbrev pub givensOn : List ℕ → ℕ → List ℕ → List Given
 givensOn s = itemsOn (λ a b. givenOn s b)
@@ -61,6 +65,7 @@ pub record After {A : Type 0} (s : List ℕ) (reader : Reader A) (Q : A → Type
 
 -- from c to r: whether a limit was passed, and how many question marks there were; no node is counted
 pub record Counts (c r : Cursor) (past : Bool) (marks : ℕ) : Type 0 where
+  pub dotted : r .dotted ≡ c .dotted
   pub moved : c .at < r .at
   pub over : r .over ≡ (c .over || past)
   pub marks-are : r .marks ≡ c .marks + marks
@@ -82,6 +87,10 @@ isLongName n = ltb most-name (length n)
 abbrev pub Names : List ℕ → Cursor → Placed → Type 0
 Names s c r = After s aName (λ n. Counts c (r .c) (isLongName n) 0 × (nameOn s (r .place) ≡ n)) c (r .c)
 
+-- A.1: a dotted column
+abbrev pub Columns : List ℕ → Cursor → Placed → Type 0
+Columns s c r = After s aDotted (λ x. Counts c (r .c) (longColumn true x) 0 × (columnOn true s (r .place) ≡ x)) c (r .c)
+
 abbrev pub Gives : List ℕ → Cursor → Placed → Type 0
 Gives s c r = After s aGiven (λ v. Counts c (r .c) (outside32 v) (markCount (v ∷ [])) × (givenOn s (r .place) ≡ v)) c (r .c)
 
@@ -99,43 +108,53 @@ isBetween k low high = leb low k && leb k high
 abbrev pub isRowsPast : ℕ → ℤ → Bool
 isRowsPast k z = eqb k 4 || (ltZ z (pos 1) || ltZ (pos most-rows) z)
 
--- ---- lists: of names, of values, of settings
+-- ---- lists: of names, of values, of settings, of dotted columns (A.1)
 
 pub data Kind : Type 0 where
-  names values settings : Kind
+  names values settings columns : Kind
 
 abbrev pub Content : Kind → Type 0
 Content names = Name
 Content values = Given
 Content settings = Name × Given
+Content columns = Dotted
 
 abbrev pub itemReader : (k : Kind) → Reader (Content k)
 itemReader names = aName
 itemReader values = aGiven
 itemReader settings = aSetting
+itemReader columns = aDotted
 
 abbrev pub itemOn : (k : Kind) → List ℕ → ℕ → ℕ → Content k
 itemOn names s a b = nameOn s a
 itemOn values s a b = givenOn s b
 itemOn settings s a b = (nameOn s a, givenOn s b)
+itemOn columns s a b = columnOn true s a
 
--- the columns and the values of some items
+-- both names of each dotted column
+abbrev pub partsOf : List Dotted → List Name
+partsOf [] = []
+partsOf (c ∷ cs) = c .0 ∷ c .1 ∷ partsOf cs
+
+-- the names and the values of some items
 abbrev pub columnsIn : (k : Kind) → List (Content k) → List Name
 columnsIn names xs = xs
 columnsIn values xs = []
 columnsIn settings xs = map (λ (x : Name × Given). x .0) xs
+columnsIn columns xs = partsOf xs
 
 abbrev pub valuesIn : (k : Kind) → List (Content k) → List Given
 valuesIn names xs = []
 valuesIn values xs = xs
 valuesIn settings xs = map (λ (x : Name × Given). x .1) xs
+valuesIn columns xs = []
 
 abbrev pub listPast : List Name → List Given → Bool
 listPast cs vs = any isLongName cs || any outside32 vs
 
 -- the kinds by their numbers
 abbrev pub kindAt : ℕ → Kind
-kindAt n = cond (eqb n 0) names (cond (eqb n 1) values settings)
+kindAt n = cond (eqb n 0) names (cond (eqb n 1) values (cond (eqb n 2) settings columns))
 
 -- an item at the end, by the places of its name and its value: noted if it is one of the first eight, for which there is room
 pub record PutsItem (xs : List ℕ) (n a b : ℕ) (ys : List ℕ) : Type 0 where
@@ -162,22 +181,28 @@ ReadsList k s xs c l ys r = (n : ℕ) → length s - c .at < n → After s (aLis
 
 -- ---- WHERE
 
-abbrev pub wherePast : Where Term → Bool
-wherePast always = false
-wherePast (under t) = conditionPast 0 t
+abbrev pub wherePast : (b : Bool) → Where (Operand b) → Bool
+wherePast b always = false
+wherePast b (under t) = conditionPast b 0 t
 
-pub record Filters (s : List ℕ) (c : Cursor) (xs : List ℕ) (r : Cursor) (ys : List ℕ) (w : Where Term) : Type 0 where
-  pub over : r .over ≡ (c .over || wherePast w)
+pub record Filters (b : Bool) (s : List ℕ) (c : Cursor) (xs : List ℕ) (r : Cursor) (ys : List ℕ) (w : Where (Operand b)) : Type 0 where
+  pub over : r .over ≡ (c .over || wherePast b w)
   pub marks-are : r .marks ≡ c .marks + markCount (termGivens (operandsIn w))
   pub nodes-are : r .nodes ≡ c .nodes + length (nodesIn w)
-  pub noted : r .nodes ≤ 15 → nodesOn s (r .nodes) ys ≡ nodesOn s (c .nodes) xs ++ nodesIn w
+  pub noted : r .nodes ≤ 15 → nodesOn b s (r .nodes) ys ≡ nodesOn b s (c .nodes) xs ++ nodesIn w
 
 -- calls enough for the text s
 abbrev pub calls : List ℕ → ℕ
 calls s = 3 * length s + 3
 
 abbrev pub ReadsWhere : List ℕ → Cursor → List ℕ → Cursor → List ℕ → Type 0
-ReadsWhere s c xs r ys = (n : ℕ) → calls s ≤ n → After s (aWhere n) (Filters s c xs r ys) c r
+ReadsWhere s c xs r ys = (b : Bool) → c .dotted ≡ b → (n : ℕ) → calls s ≤ n → After s (aWhere (aColumn b) n) (Filters b s c xs r ys) c r
+
+-- ---- FROM
+
+-- A.1: the token t is FROM, and a token and a comma follow
+abbrev pub isCommaSecond : List ℕ → Read → Bool
+isCommaSecond s t = eqb (t .kind) 18 && eqb (tokenAt s (tokenAt s (t .next) .next) .kind) 6
 
 -- ---- sentences
 
@@ -188,11 +213,13 @@ formOf (select cs t w) = 1
 formOf (insert t vs) = 2
 formOf (update t ss w) = 3
 formOf (delete t w) = 4
+formOf (pair cs t u w) = 5
 
 -- how many items the list has
 abbrev pub listLength : Sentence → ℕ
 listLength (table t cs z) = length (items cs)
 listLength (select cs t w) = length (items cs)
+listLength (pair cs t u w) = length (items cs)
 listLength (insert t vs) = length (items vs)
 listLength (update t ss w) = length (items ss)
 listLength (delete t w) = 0
@@ -205,6 +232,7 @@ overOn r = r .c .over || (ltb most-items (r .listed) || (ltb most-marks (r .c .m
 abbrev pub RowsAt : List ℕ → ℕ → Sentence → Type 0
 RowsAt s p (table t cs z) = tokenOn s p ≡ T.constant z
 RowsAt s p (select cs t w) = Unit {0}
+RowsAt s p (pair cs t u w) = Unit {0}
 RowsAt s p (insert t vs) = Unit {0}
 RowsAt s p (update t ss w) = Unit {0}
 RowsAt s p (delete t w) = Unit {0}
@@ -213,6 +241,7 @@ RowsAt s p (delete t w) = Unit {0}
 abbrev pub NamesAt : List ℕ → ℕ → List ℕ → Sentence → Type 0
 NamesAt s n ls (table t cs z) = n ≤ most-items → namesOn s n ls ≡ items cs
 NamesAt s n ls (select cs t w) = n ≤ most-items → namesOn s n ls ≡ items cs
+NamesAt s n ls (pair cs t u w) = n ≤ most-items → dottedOn s n ls ≡ items cs
 NamesAt s n ls (insert t vs) = Unit {0}
 NamesAt s n ls (update t ss w) = n ≤ most-items → namesOn s n ls ≡ map (λ (x : Name × Given). x .0) (items ss)
 NamesAt s n ls (delete t w) = Unit {0}
@@ -221,9 +250,28 @@ NamesAt s n ls (delete t w) = Unit {0}
 abbrev pub GivensAt : List ℕ → ℕ → List ℕ → Sentence → Type 0
 GivensAt s n ls (table t cs z) = Unit {0}
 GivensAt s n ls (select cs t w) = Unit {0}
+GivensAt s n ls (pair cs t u w) = Unit {0}
 GivensAt s n ls (insert t vs) = n ≤ most-items → givensOn s n ls ≡ items vs
 GivensAt s n ls (update t ss w) = n ≤ most-items → givensOn s n ls ≡ map (λ (x : Name × Given). x .1) (items ss)
 GivensAt s n ls (delete t w) = Unit {0}
+
+-- A.1: its second table's name stands at p
+abbrev pub SecondAt : List ℕ → ℕ → Sentence → Type 0
+SecondAt s p (table t cs z) = Unit {0}
+SecondAt s p (select cs t w) = Unit {0}
+SecondAt s p (pair cs t u w) = nameOn s p ≡ u
+SecondAt s p (insert t vs) = Unit {0}
+SecondAt s p (update t ss w) = Unit {0}
+SecondAt s p (delete t w) = Unit {0}
+
+-- the first n nodes that are noted are those of its WHERE
+abbrev pub NodesAt : List ℕ → ℕ → List ℕ → Sentence → Type 0
+NodesAt s n ps (table t cs z) = Unit {0}
+NodesAt s n ps (select cs t w) = n ≤ 15 → nodesOn false s n ps ≡ nodesIn w
+NodesAt s n ps (pair cs t u w) = n ≤ 15 → nodesOn true s n ps ≡ nodesIn w
+NodesAt s n ps (insert t vs) = Unit {0}
+NodesAt s n ps (update t ss w) = n ≤ 15 → nodesOn false s n ps ≡ nodesIn w
+NodesAt s n ps (delete t w) = n ≤ 15 → nodesOn false s n ps ≡ nodesIn w
 
 -- the sentence x was read: counted, and noted in the arrays ls and ps where there was room
 pub record Entered (s ls ps : List ℕ) (r : Entry) (x : Sentence) : Type 0 where
@@ -235,7 +283,8 @@ pub record Entered (s ls ps : List ℕ) (r : Entry) (x : Sentence) : Type 0 wher
   pub listed-are : r .listed ≡ listLength x
   pub marks-are : r .c .marks ≡ markCount (givens x)
   pub nodes-are : r .c .nodes ≡ length (nodesIn (whereOf x))
-  pub noted : r .c .nodes ≤ 15 → nodesOn s (r .c .nodes) ps ≡ nodesIn (whereOf x)
+  pub noted : NodesAt s (r .c .nodes) ps x
+  pub second : SecondAt s (r .second) x
   pub names : NamesAt s (r .listed) ls x
   pub givens : GivensAt s (r .listed) ls x
 
@@ -244,9 +293,10 @@ abbrev pub Noted : List ℕ → List ℕ → List ℕ → Entry → Option Sente
 Noted s ls ps r none = r .c .ok ≡ false
 Noted s ls ps r (some x) = Entered s ls ps r x
 
--- what a form asks, after its first word: nothing was counted yet
-pub record Starts (s : List ℕ) (c : Cursor) : Type 0 where
+-- what a form asks, after its first word: nothing was counted yet, and b says whether its columns are dotted
+pub record Starts (s : List ℕ) (b : Bool) (c : Cursor) : Type 0 where
   pub ok : c .ok ≡ true
+  pub dotted : c .dotted ≡ b
   pub stands : Stands s c
   pub over : c .over ≡ false
   pub nodes : c .nodes ≡ 0

@@ -3,6 +3,7 @@
 -- definition. The tests after it are for the code. Entries past the counts do not matter. Assumes nothing: these are definitions.
 use mathlib.Core.Path.{_≡_}
 use mathlib.Core.Bool.{Bool, true, false, not, _&&_, cond}
+use mathlib.Core.Option.{Option, none, some}
 use mathlib.Core.List.{List, [], _∷_, _++_, map}
 use Prim.Native.Nat.{ℕ, zero, suc, _+_, _*_, _-_, _/_, _%_, _≤_}
 use lib.Dec.{eqb, leb, ltb}
@@ -18,7 +19,7 @@ use Rattle.meaning.specs.Resolve.{parameterCount, numberedOn, numberedFrom, col
 use Rattle.meaning.specs.Tokens.{isName, tokens}
 use Rattle.meaning.specs.Grammar.{Sentence, spell}
 use Rattle.meaning.specs.Limits.{most-items, most-rows, most-marks, most-comparisons, most-name, isWithin32, pastLimit}
-use Rattle.meaning.specs.Names.{Schema, noSchema, sameName, has, tableNames, unknown, taken, miscounted}
+use Rattle.meaning.specs.Names.{Schema, noSchema, sameName, has, tableNames, unknown, taken, miscounted, twice}
 use Rattle.meaning.specs.Statement as M
 use Rattle.meaning.specs.Statement.{column, value, constant, parameter, creates, asks, changes, statementOf}
 use Rattle.statement.specs.Operators.{operatorAt}
@@ -79,6 +80,14 @@ usedSteps c = take (2 * c .count - 1) (c .steps)
 unfoldable pub conditionNodes : Condition → List (Node M.Operand)
 conditionNodes c = nodesRead (usedSteps c) (usedComparisons c)
 
+-- A.1: the second table by its code: 0 none, else its number and 1
+abbrev pub secondBy : ℕ → ℕ → Option M.Second
+secondBy zero start = none
+secondBy (suc k) start = some (record { table = k; start = start })
+
+abbrev pub secondRead : Query → Option M.Second
+secondRead q = secondBy (q .second) (q .start)
+
 abbrev pub usedSettings : Update → List Setting
 usedSettings u = take (u .count) (u .settings)
 
@@ -101,13 +110,14 @@ settingOperands u = map value (settingValues u)
 -- ---- the compiled form of a sentence
 
 -- a sentence that refusals 4 to 8 let pass beside the tables: some text spells it (4), it is within the limits (5), its names are known (6) and not taken or twice (7),
--- and it has a value for each column (8)
+-- it has a value for each column (8), and it names no table twice (15: "barred from a sound state")
 pub record Passes (ts : List Schema) (s : Sentence) : Type 0 where
   pub spelled : (text : List ℕ) × (tokens text ≡ spell s)
   pub within : pastLimit s ≡ false
   pub known : unknown ts s ≡ false
   pub fresh : taken ts s ≡ false
   pub counted : miscounted ts s ≡ false
+  pub different : twice s ≡ false
 
 -- the stored condition is that WHERE in every used entry
 pub record AgreesCondition (c : Condition) (w : Where M.Operand) : Type 0 where
@@ -118,6 +128,7 @@ pub record AgreesCondition (c : Condition) (w : Where M.Operand) : Type 0 where
 
 pub record AgreesQuery (q : Query) (r : M.Query) : Type 0 where
   pub table-is : q .table ≡ r .table
+  pub second-is : secondRead q ≡ r .second
   pub count-is : q .count ≡ length (r .selected)
   pub selected-are : take (q .count) (q .selected) ≡ r .selected
   pub parameters-are : q .parameters ≡ r .parameters
@@ -200,7 +211,7 @@ conditionMarks c = parameterCount (sides (leaves (conditionNodes c)))
 unfoldable pub soundConditionOn : ℕ → ℕ → ℕ → Condition → Bool
 soundConditionOn columns m p c = soundCondition columns m c && (eqb p (m + conditionMarks c) && leb p most-marks)
 
--- a question of a table of so many columns
+-- a question of so many columns
 abbrev pub soundQueryOn : ℕ → Query → Bool
 soundQueryOn columns q =
     leb 1 (q .count)
@@ -227,8 +238,20 @@ soundUpdateOn columns u =
 abbrev pub columnsAt : List Schema → ℕ → ℕ
 columnsAt ts i = length (getD ts i noSchema .columns)
 
+-- A.1: a second table is there, is another one than the first, and its columns stand behind those of the first
+abbrev pub soundSecond : List Schema → ℕ → ℕ → Option M.Second → Bool
+soundSecond ts table columns none = true
+soundSecond ts table columns (some s) = ltb (s .table) (length ts) && (not (eqb (s .table) table) && eqb (s .start) columns)
+
+-- the columns of both
+abbrev pub columnsWith : List Schema → ℕ → Option M.Second → ℕ
+columnsWith ts columns none = columns
+columnsWith ts columns (some s) = columns + columnsAt ts (s .table)
+
 unfoldable pub soundQuery : List Schema → Query → Bool
-soundQuery ts q = ltb (q .table) (length ts) && soundQueryOn (columnsAt ts (q .table)) q
+soundQuery ts q =
+    let n : ℕ = columnsAt ts (q .table) in
+    ltb (q .table) (length ts) && (soundSecond ts (q .table) n (secondRead q) && soundQueryOn (columnsWith ts n (secondRead q)) q)
 
 unfoldable pub soundUpdate : List Schema → Update → Bool
 soundUpdate ts u = ltb (u .table) (length ts) && soundUpdateOn (columnsAt ts (u .table)) u

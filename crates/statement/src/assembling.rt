@@ -25,9 +25,8 @@ ghost use Rattle.meaning.specs.Statement.{comparisonOf};
 ghost use Rattle.meaning.specs.Resolve.{resolveNodes};
 ghost use Rattle.statement.specs.Places.{nodesOn};
 ghost use Rattle.statement.specs.Sentences.{givensOn};
-ghost use Rattle.statement.specs.Catalog.{scopeNames};
 ghost use Rattle.statement.specs.Compiled.{leftSide, rightSide, comparisonStruct, noComparison, conditionStruct, noSetting, noTable, noQuery, noUpdate, created as createdAs, asked as askedAs, changing as changingAs, refusedBy, settled};
-ghost use Rattle.statement.specs.Built.{shortTerm, shortNodes, markInValue, markInSide, comparisonOn, stepIn, settingsOn, StepsAre};
+ghost use Rattle.statement.specs.Built.{placeIn, shortColumn, shortTerm, keptOn, markInValue, markInSide, comparisonOn, stepIn, settingsOn, StepsAre};
 
 // ---- settings
 
@@ -93,7 +92,7 @@ fn mark_of(side: Operand) -> u8
 // A comparison, by its operator and the places of its sides.
 fn comparison_at(text: &[u8], op: u16, left: u16, right: u16, scope: Scope, marks: u8) -> Comparison
     requires { ⌜ (op < 6) × (marks < 126) ⌝ }
-    ensures { λ r. ⌜ r ≡ comparisonStruct (comparisonOf (scopeNames scope) marks (renamed shortTerm (comparisonOn (now (text .entry)) op left right))) ⌝ }
+    ensures { λ r. ⌜ r ≡ comparisonStruct (comparisonOf (placeIn (scope .dotted) scope) marks (renamed (shortTerm (shortColumn (scope .dotted))) (comparisonOn (scope .dotted) (now (text .entry)) op left right))) ⌝ }
 {
     let a = fetching::operand_at(text, left as usize, scope, marks);
     let b = fetching::operand_at(text, right as usize, scope, marks + mark_of(a));
@@ -162,8 +161,8 @@ pub fn condition_at(
     scope: Scope,
     marks: u8,
 ) -> Condition
-    requires { ⌜ (nodes ≤ 15) × (marks ≤ most-marks) × (length (leaves (nodesOn (now text) nodes places)) ≤ most-comparisons) ⌝ }
-    ensures { λ r. ⌜ r ≡ conditionStruct (resolveNodes (scopeNames scope) marks (shortNodes (nodesOn (now (text .entry)) nodes places))) ⌝ }
+    requires { ⌜ (nodes ≤ 15) × (marks ≤ most-marks) × (length (leaves (nodesOn (scope .dotted) (now text) nodes places)) ≤ most-comparisons) ⌝ }
+    ensures { λ r. ⌜ r ≡ conditionStruct (resolveNodes (placeIn (scope .dotted) scope) marks (keptOn (scope .dotted) (now (text .entry)) nodes places)) ⌝ }
 {
     let mut comparisons = no_comparisons();
     let mut found: usize = 0;
@@ -218,6 +217,8 @@ fn no_query() -> Query
         selected: [0u8; Query::SELECTED],
         count: 0,
         parameters: 0,
+        second: 0,
+        start: 0,
         condition: no_condition(),
     }
 }

@@ -1,4 +1,4 @@
-// The five forms: statements from what was read, with names looked up in the tables that there are.
+// The forms: statements from what was read, with names looked up in the tables that there are.
 use super::Name;
 use super::Query;
 use super::Refusal;
@@ -13,10 +13,11 @@ use super::names::Scope;
 use super::refusals;
 use super::sentences::Entry;
 ghost use mathlib.Core.Path.{_≡_};
+ghost use mathlib.Core.Bool.{false};
 ghost use Prim.Native.Nat.{_≤_};
 ghost use Rattle.meaning.specs.Limits.{most-items, most-marks};
-ghost use Rattle.statement.specs.Catalog.{scopeNames, schemasOf};
-ghost use Rattle.statement.specs.Built.{Fits, tableOn, selectOn, insertOn, updateOn, deleteOn, formOn, besideOn};
+ghost use Rattle.statement.specs.Catalog.{nameOfStruct, namesOf, scopeNames, schemasOf};
+ghost use Rattle.statement.specs.Built.{placeIn, widthIn, startIn, twiceIn, Fits, tableOn, selectOn, insertOn, updateOn, deleteOn, formOn, pairOn, besideOn};
 
 // An INSERT's values stand in the order of the columns.
 const PLACES: [u8; Update::SETTINGS] = [0, 1, 2, 3, 4, 5, 6, 7];
@@ -47,10 +48,10 @@ pub fn table(
         capacity,
         rows: 0,
     };
-    assembling::created(refusals::lowest(false, taken, false, full), t)
+    assembling::created(refusals::lowest(false, taken, false, false, full), t)
 }
 
-// SELECT from the table of that number, which has these columns.
+// SELECT from the table of that number, and from the second one of that code, which have these columns.
 fn select(
     text: &[u8],
     list: [u16; Entry::LIST],
@@ -58,25 +59,28 @@ fn select(
     e: Entry,
     scope: Scope,
     table: u8,
+    second: u8,
     queries: u8,
 ) -> Statement
     requires { ⌜ Fits (now text) places e ⌝ }
-    ensures { λ r. ⌜ r ≡ selectOn (now (text .entry)) list places e (scopeNames scope) table queries ⌝ }
+    ensures { λ r. ⌜ r ≡ selectOn (scope .dotted) (placeIn (scope .dotted) scope) (widthIn (scope .dotted) scope) (now (text .entry)) list places e table second (startIn (scope .dotted) scope) (twiceIn (scope .dotted) scope) queries ⌝ }
 {
     let n = e.listed as usize;
     let listed = e.listed as u8;
     let parameters = e.c.marks as u8;
-    let names = fetching::names_at(text, list, n);
-    let selected = names::positions(names, n, scope);
+    let selected = fetching::columns_at(text, list, n, scope);
     let condition = assembling::condition_at(text, places, e.c.nodes as usize, scope, 0);
     let full = Query::QUERIES <= (queries as usize);
     let w = names::width(scope);
-    let number = refusals::refusal_of(selected, n, condition, w, false, full);
+    let twice = names::is_twice(scope);
+    let number = refusals::refusal_of(selected, n, condition, w, false, twice, full);
     let q = Query {
         table,
         selected,
         count: listed,
         parameters,
+        second,
+        start: names::start(scope),
         condition,
     };
     assembling::asked(number, q)
@@ -91,7 +95,7 @@ fn insert(
     table: u8,
     updates: u8,
 ) -> Statement
-    requires { ⌜ (e .listed ≤ most-items) × (e .c .marks ≤ most-marks) ⌝ }
+    requires { ⌜ (e .listed ≤ most-items) × (e .c .marks ≤ most-marks) × (scope .dotted ≡ false) ⌝ }
     ensures { λ r. ⌜ r ≡ insertOn (now (text .entry)) list e (scopeNames scope) table updates ⌝ }
 {
     let n = e.listed as usize;
@@ -100,7 +104,7 @@ fn insert(
     let s = assembling::settings_at(text, list, n, PLACES);
     let settings = s.all;
     let full = Update::UPDATES <= (updates as usize);
-    let number = refusals::lowest(false, false, n != names::width(scope), full);
+    let number = refusals::lowest(false, false, n != names::width(scope), false, full);
     let u = Update {
         form: Update::INSERT,
         table,
@@ -121,7 +125,7 @@ fn update(
     table: u8,
     updates: u8,
 ) -> Statement
-    requires { ⌜ Fits (now text) places e ⌝ }
+    requires { ⌜ Fits (now text) places e × (scope .dotted ≡ false) ⌝ }
     ensures { λ r. ⌜ r ≡ updateOn (now (text .entry)) list places e (scopeNames scope) table updates ⌝ }
 {
     let n = e.listed as usize;
@@ -134,7 +138,15 @@ fn update(
     let condition = assembling::condition_at(text, places, e.c.nodes as usize, scope, s.marks);
     let full = Update::UPDATES <= (updates as usize);
     let w = names::width(scope);
-    let number = refusals::refusal_of(at, n, condition, w, names::is_repeated(names, n), full);
+    let number = refusals::refusal_of(
+        at,
+        n,
+        condition,
+        w,
+        names::is_repeated(names, n),
+        false,
+        full,
+    );
     let u = Update {
         form: Update::UPDATE,
         table,
@@ -154,14 +166,14 @@ fn delete(
     table: u8,
     updates: u8,
 ) -> Statement
-    requires { ⌜ Fits (now text) places e ⌝ }
+    requires { ⌜ Fits (now text) places e × (scope .dotted ≡ false) ⌝ }
     ensures { λ r. ⌜ r ≡ deleteOn (now (text .entry)) places e (scopeNames scope) table updates ⌝ }
 {
     let parameters = e.c.marks as u8;
     let condition = assembling::condition_at(text, places, e.c.nodes as usize, scope, 0);
     let full = Update::UPDATES <= (updates as usize);
     let w = names::width(scope);
-    let number = refusals::refusal_of(PLACES, 0, condition, w, false, full);
+    let number = refusals::refusal_of(PLACES, 0, condition, w, false, false, full);
     let u = Update {
         form: Update::DELETE,
         table,
@@ -173,7 +185,7 @@ fn delete(
     assembling::changing(number, u)
 }
 
-// A question or an update of a table with these columns.
+// A question of one table or an update, of a table with these columns.
 fn form(
     text: &[u8],
     list: [u16; Entry::LIST],
@@ -184,11 +196,11 @@ fn form(
     queries: u8,
     updates: u8,
 ) -> Statement
-    requires { ⌜ Fits (now text) places e ⌝ }
+    requires { ⌜ Fits (now text) places e × (scope .dotted ≡ false) ⌝ }
     ensures { λ r. ⌜ r ≡ formOn (now (text .entry)) list places e (scopeNames scope) table queries updates ⌝ }
 {
     if e.form == Entry::SELECT {
-        return select(text, list, places, e, scope, table, queries);
+        return select(text, list, places, e, scope, table, 0, queries);
     }
     if e.form == Entry::INSERT {
         return insert(text, list, e, scope, table, updates);
@@ -197,6 +209,32 @@ fn form(
         return update(text, list, places, e, scope, table, updates);
     }
     delete(text, places, e, scope, table, updates)
+}
+
+// A question of table i, which the text calls `name`, and of the table that it names second.
+fn pair(
+    text: &[u8],
+    list: [u16; Entry::LIST],
+    places: [u16; Cursor::PLACES],
+    e: Entry,
+    name: Name,
+    t: Table,
+    i: u8,
+    tables: [Table; Table::TABLES],
+    used: u8,
+    queries: u8,
+) -> Statement
+    requires { ⌜ Fits (now text) places e ⌝ }
+    ensures { λ r. ⌜ r ≡ pairOn (nameOfStruct name) (namesOf (t .columns) (t .count)) (now (text .entry)) list places e (schemasOf tables used) i queries ⌝ }
+{
+    let other = fetching::name_at(text, e.second as usize);
+    let j = names::find_table(other, tables, used);
+    if names::table_count(tables, used) <= (j as usize) {
+        return assembling::refused(Refusal::UNKNOWN);
+    }
+    let u = tables[j as usize];
+    let scope = names::pair_scope(name, t, other, u);
+    select(text, list, places, e, scope, i, j + 1, queries)
 }
 
 // A question or an update of one of the tables.
@@ -213,11 +251,15 @@ pub fn beside(
     requires { ⌜ Fits (now text) places e ⌝ }
     ensures { λ r. ⌜ r ≡ besideOn (now (text .entry)) list places e (schemasOf tables used) queries updates ⌝ }
 {
-    let i = names::find_table(fetching::name_at(text, e.table as usize), tables, used);
+    let name = fetching::name_at(text, e.table as usize);
+    let i = names::find_table(name, tables, used);
     if names::table_count(tables, used) <= (i as usize) {
         return assembling::refused(Refusal::UNKNOWN);
     }
     let t = tables[i as usize];
+    if e.form == Entry::PAIR {
+        return pair(text, list, places, e, name, t, i, tables, used, queries);
+    }
     form(
         text,
         list,

@@ -8,20 +8,19 @@ use token::Token;
 ghost use mathlib.Core.Path.{_≡_};
 ghost use mathlib.Core.Bool.{true, cond};
 ghost use Prim.Native.Nat.{_-_, _≤_, _<_};
-ghost use lib.ListN.{length, drop};
+ghost use lib.ListN.{length};
 ghost use Rattle.meaning.specs.Condition.{atom, conjunction, disjunction};
 ghost use Rattle.meaning.specs.Limits.{most-text};
-ghost use Rattle.meaning.specs.Grammar.{aComparison};
-ghost use Rattle.meaning.specs.Tokens.{tokens};
 ghost use Rattle.token.specs.Tokens.{tokenAt};
 ghost use Rattle.statement.specs.Operators.{oppositeOf};
-ghost use Rattle.statement.specs.Reading.{past, isOperand, isComparison, withSides, PutsNode, Stands, Meets, Reads, Closes};
+ghost use Rattle.statement.specs.Reading.{past, isOperand, isComparison, ReadsDotted, ReadsSide, withSides, PutsNode, Stands, Compares, Reads, Closes};
 
 // Where a reader stands in a text, and what it has counted: nodes of the condition, question marks. `over` says that a limit was passed by a name, a constant or
-// the depth; a reader that failed is not `ok`.
+// the depth; a reader that failed is not `ok`. Where `dotted`, which no reader changes, columns are dotted: a question over two tables (A.1).
 pub struct Cursor {
     pub ok: bool,
     pub over: bool,
+    pub dotted: bool,
     pub nodes: u16,
     pub marks: u16,
     pub at: u16,
@@ -36,6 +35,16 @@ impl Cursor {
     pub const AND: u16 = 256;
 
     pub const OR: u16 = 257;
+}
+
+// A side of a comparison, or a column of a list: whether it was read, whether it is past a limit, its question marks, where its first token starts and where the
+// text goes on after it.
+pub struct Side {
+    pub ok: bool,
+    pub over: bool,
+    pub marks: u16,
+    pub start: usize,
+    pub next: usize,
 }
 
 // ---- tokens
@@ -100,26 +109,72 @@ fn either(test: bool, x: u16, y: u16) -> u16
     if test { x } else { y }
 }
 
-// The comparison `op` of two tokens.
+// The comparison `op` of two sides.
 fn put_comparison(
     places: &mut [u16; Cursor::PLACES],
     c: Cursor,
     positive: bool,
     depth: u16,
-    a: Token,
+    a: Side,
     op: u8,
-    b: Token,
+    b: Side,
 ) -> Cursor
-    requires { ⌜ (c .nodes < most-text) × (c .marks ≤ most-text) × (a .start ≤ most-text) × (b .start ≤ most-text) × (b .next ≤ most-text) ⌝ }
+    requires { ⌜ (c .nodes < most-text) × (c .marks ≤ most-text) × (a .marks ≤ 1) × (b .marks ≤ 1) × (a .start ≤ most-text) × (b .start ≤ most-text) × (b .next ≤ most-text) ⌝ }
     ensures { λ r. ⌜ PutsNode (now (places .entry)) (withSides depth a b c) (cond positive op (oppositeOf op)) (a .start) (b .start) (now (places .exit)) r ⌝ }
 {
     let mut d = c;
     d.ok = true;
-    d.over = c.over | ((Condition::DEPTH < depth) | (is_past(a) | is_past(b)));
-    d.marks = c.marks + (either(a.kind == Token::MARK, 1, 0) + either(b.kind == Token::MARK, 1, 0));
+    d.over = c.over | ((Condition::DEPTH < depth) | (a.over | b.over));
+    d.marks = c.marks + (a.marks + b.marks);
     d.at = b.next as u16;
     let node = either(positive, op as u16, operators::opposite(op) as u16);
     put(places, d, node, a.start as u16, b.start as u16)
+}
+
+// ---- operands
+
+// A column of a question over two tables, a name, a dot and a name (A.1), whose first token is read.
+pub fn read_dotted(text: &[u8], first: Token) -> Side
+    ensures { λ r. ⌜ ReadsDotted (now (text .entry)) first r ⌝ }
+{
+    let mut d = Side {
+        ok: false,
+        over: false,
+        marks: 0,
+        start: first.start,
+        next: first.next,
+    };
+    if first.kind != Token::NAME {
+        return d;
+    }
+    let mut t = token::next(text, first.next);
+    if t.kind != Token::DOT {
+        return d;
+    }
+    t = token::next(text, t.next);
+    if t.kind != Token::NAME {
+        return d;
+    }
+    d.ok = true;
+    d.over = is_past(first) | is_past(t);
+    d.next = t.next;
+    d
+}
+
+// An operand whose first token is read: a column, dotted where there are two tables (A.1), a constant or a question mark.
+fn read_operand(text: &[u8], dotted: bool, first: Token) -> Side
+    ensures { λ r. ⌜ ReadsSide dotted (now (text .entry)) first r ⌝ }
+{
+    if dotted & (first.kind == Token::NAME) {
+        return read_dotted(text, first);
+    }
+    Side {
+        ok: is_operand(first.kind),
+        over: is_past(first),
+        marks: either(first.kind == Token::MARK, 1, 0),
+        start: first.start,
+        next: first.next,
+    }
 }
 
 // ---- the readers
@@ -230,21 +285,21 @@ fn read_comparison(
     first: Token,
 ) -> Cursor
     requires { ⌜ (Stands (now text) c) × (first ≡ tokenAt (now text) (c .at)) ⌝ }
-    ensures { λ r. ⌜ Meets (now (text .entry)) positive depth c (now (places .entry)) r (now (places .exit)) (aComparison (tokens (drop (c .at) (now (text .entry))))) ⌝ }
+    ensures { λ r. ⌜ Compares (now (text .entry)) positive depth c (now (places .entry)) r (now (places .exit)) ⌝ }
 {
     let mut d = c;
     d.ok = false;
-    if !is_operand(first.kind) {
+    let a = read_operand(text, c.dotted, first);
+    if !a.ok {
         return d;
     }
-    let mut t = token::next(text, first.next);
-    let op = t.kind;
-    if !is_comparison(op) {
+    let t = token::next(text, a.next);
+    if !is_comparison(t.kind) {
         return d;
     }
-    t = token::next(text, t.next);
-    if !is_operand(t.kind) {
+    let b = read_operand(text, c.dotted, token::next(text, t.next));
+    if !b.ok {
         return d;
     }
-    put_comparison(places, c, positive, depth, first, op - Token::EQ, t)
+    put_comparison(places, c, positive, depth, a, t.kind - Token::EQ, b)
 }

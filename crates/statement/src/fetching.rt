@@ -9,15 +9,16 @@ use super::sentences::Entry;
 use token::Token;
 ghost use mathlib.Core.Path.{_≡_};
 ghost use mathlib.Core.List.{map};
-ghost use Prim.Native.Nat.{_-_, _≤_, _<_};
+ghost use Prim.Native.Nat.{_-_, _*_, _≤_, _<_};
 ghost use lib.ListN.{length, take, drop, replicate};
 ghost use Rattle.meaning.specs.Limits.{most-items};
+ghost use Rattle.token.specs.Tokens.{tokenAt};
 ghost use Rattle.meaning.specs.Statement.{numbered, operandOf};
-ghost use Rattle.statement.specs.Places.{nameOn, givenOn, termOn};
+ghost use Rattle.statement.specs.Places.{nameOn, givenOn, columnOn};
 ghost use Rattle.statement.specs.Sentences.{namesOn};
-ghost use Rattle.statement.specs.Catalog.{scopeNames};
+ghost use Rattle.statement.specs.Catalog.{nameOfStruct};
 ghost use Rattle.statement.specs.Compiled.{padded, nameStruct, noName, valueStruct, operandStruct};
-ghost use Rattle.statement.specs.Built.{shortName, shortNames, shortGiven, shortTerm, isConstant, rowsIn, rowsOn};
+ghost use Rattle.statement.specs.Built.{placeIn, placeNamed, shortName, shortNames, shortGiven, shortColumn, sideOn, columnsOn, isConstant, rowsIn, rowsOn};
 
 // The name from `start` up to `end`, at most twelve bytes of it.
 fn name_from(text: &[u8], start: usize, end: usize) -> Name
@@ -80,14 +81,36 @@ pub fn value_at(text: &[u8], place: usize, marks: u8) -> Value
     }
 }
 
-// A side of a comparison.
-pub fn operand_at(text: &[u8], place: usize, scope: Scope, marks: u8) -> Operand
-    requires { ⌜ marks < 127 ⌝ }
-    ensures { λ r. ⌜ r ≡ operandStruct (operandOf (scopeNames scope) marks (shortTerm (termOn (now (text .entry)) place))) ⌝ }
+// The place of a column by its first name, whose token ends at `next`: a dotted one has its own name behind the dot that follows.
+fn column_of(text: &[u8], name: Name, next: usize, scope: Scope) -> u8
+    ensures { λ r. ⌜ (r ≡ placeNamed (scope .dotted) scope (nameOfStruct name) (shortName (nameOn (now (text .entry)) (tokenAt (now (text .entry)) next .next)))) × (r ≤ 2 * most-items) ⌝ }
+{
+    if scope.dotted {
+        let dot = token::next(text, next);
+        return names::find_dotted(name, name_at(text, dot.next), scope);
+    }
+    names::find_column(name, scope)
+}
+
+// The place of the column that is written there.
+fn column_at(text: &[u8], place: usize, scope: Scope) -> u8
+    ensures { λ r. ⌜ r ≡ placeIn (scope .dotted) scope (shortColumn (scope .dotted) (columnOn (scope .dotted) (now (text .entry)) place)) ⌝ }
 {
     let t = token::next(text, place);
     if t.kind == Token::NAME {
-        let i = names::find_column(name_from(text, t.start, t.next), scope);
+        return column_of(text, name_from(text, t.start, t.next), t.next, scope);
+    }
+    column_of(text, no_name(), t.next, scope)
+}
+
+// A side of a comparison.
+pub fn operand_at(text: &[u8], place: usize, scope: Scope, marks: u8) -> Operand
+    requires { ⌜ marks < 127 ⌝ }
+    ensures { λ r. ⌜ r ≡ operandStruct (operandOf (placeIn (scope .dotted) scope) marks (sideOn (scope .dotted) (now (text .entry)) place)) ⌝ }
+{
+    let t = token::next(text, place);
+    if t.kind == Token::NAME {
+        let i = column_of(text, name_from(text, t.start, t.next), t.next, scope);
         return Operand {
             code: 2 * i + 2,
             number: 0,
@@ -144,4 +167,24 @@ pub fn names_at(text: &[u8], list: [u16; Entry::LIST], n: usize) -> [Name; Entry
         i += 1;
     }
     names
+}
+
+// The places of the columns of the first n items of a list.
+pub fn columns_at(
+    text: &[u8],
+    list: [u16; Entry::LIST],
+    n: usize,
+    scope: Scope,
+) -> [u8; Entry::ITEMS]
+    requires { ⌜ n ≤ most-items ⌝ }
+    ensures { λ r. ⌜ r ≡ padded most-items 0 (map (placeIn (scope .dotted) scope) (columnsOn (scope .dotted) (now (text .entry)) n list)) ⌝ }
+{
+    let mut places = [0u8; Entry::ITEMS];
+    let mut i = 0;
+    while i < n {
+        let p = list[2 * i];
+        places[i] = column_at(text, p as usize, scope);
+        i += 1;
+    }
+    places
 }

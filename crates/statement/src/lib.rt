@@ -136,13 +136,16 @@ impl Condition {
     pub const DEPTH: u16 = 8;
 }
 
-// A question: its table, the first `count` selected columns, how many parameters it has, its condition.
+// A question: its table, the first `count` selected columns, how many parameters it has, its condition. Over two tables `second` is the number of the second one and 1,
+// and columns are counted through both: those of the second from `start` on. Over one table `second` is 0, and `start` is not read.
 #[repr(C)]
 pub struct Query {
     pub table: u8,
     pub selected: [u8; Query::SELECTED],
     pub count: u8,
     pub parameters: u8,
+    pub second: u8,
+    pub start: u8,
     pub condition: Condition,
 }
 
@@ -231,6 +234,10 @@ impl Refusal {
     pub const FULL: u8 = 12;
 
     pub const BUFFER: u8 = 13;
+    // A question that names one table twice, looked for after 8; an answer of more rows than a record can hold, after 12.
+    pub const TWICE: u8 = 15;
+
+    pub const ROWS: u8 = 16;
 }
 
 // What a text compiles to: the number of its refusal (then everything else is empty), or 0, the kind and the thing itself.

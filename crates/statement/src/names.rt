@@ -3,22 +3,28 @@ use super::Name;
 use super::Table;
 use super::sentences::Entry;
 ghost use mathlib.Core.Path.{_≡_};
-ghost use Prim.Native.Nat.{ℕ, _≤_, min};
+ghost use Prim.Native.Nat.{ℕ, _*_, _≤_, min};
 ghost use lib.Dec.{eqb, ltb};
 ghost use lib.ListN.{length, take};
 ghost use Rattle.lists.specs.Lists.{all, repeats};
 ghost use Rattle.lists.specs.Tests.{eqList};
 ghost use Rattle.meaning.specs.Limits.{most-tables, most-items, most-name};
-ghost use Rattle.meaning.specs.Names.{sameName, position, tableNames};
+ghost use Rattle.meaning.specs.Names.{sameName, position, tableNames, pairPlace};
 ghost use Rattle.meaning.specs.Cells.{areaSize, areasSize};
-ghost use Rattle.statement.specs.Catalog.{nameOfStruct, namesOf, scopeNames, scopeOf, schemaOf, schemasOf};
+ghost use Rattle.statement.specs.Catalog.{nameOfStruct, namesOf, scopeNames, otherNames, scopeOf, pairScope, schemaOf, schemasOf};
 ghost use Rattle.statement.specs.Compiled.{padded};
-ghost use Rattle.statement.specs.Built.{placesOf};
+ghost use Rattle.statement.specs.Built.{placesOf, placeOf, widthIn, startIn, twiceIn};
 
-// Where a statement's columns are looked up: the first `count` of `columns`.
+// Where a statement's columns are looked up: the first `count` of `columns`. In a question over two tables columns are dotted: those are the columns of the table
+// that the text calls `name`, and the first `more` of `others` those of the table that it calls `other`. Else these three are not read.
 pub struct Scope {
+    pub dotted: bool,
+    pub name: Name,
     pub columns: [Name; Table::COLUMNS],
     pub count: u8,
+    pub other: Name,
+    pub others: [Name; Table::COLUMNS],
+    pub more: u8,
 }
 
 pub fn least(a: usize, b: usize) -> usize
@@ -96,6 +102,30 @@ pub fn find_column(name: Name, scope: Scope) -> u8
     find(name, columns, scope.count)
 }
 
+// The place of a column if `table` is its table's name, which is `owner`, or how many columns there are.
+fn find_in(table: Name, owner: Name, name: Name, columns: [Name; Table::COLUMNS], count: u8) -> u8
+    ensures { λ r. ⌜ (r ≡ placeOf (nameOfStruct owner) (namesOf columns count) (nameOfStruct table, nameOfStruct name)) × (r ≤ most-items) ⌝ }
+{
+    if same_name(table, owner) {
+        return find(name, columns, count);
+    }
+    least(count as usize, Table::COLUMNS) as u8
+}
+
+// The place of a dotted column in a pair of rows, or how many columns both tables have.
+pub fn find_dotted(table: Name, name: Name, scope: Scope) -> u8
+    ensures { λ r. ⌜ (r ≡ pairPlace (nameOfStruct (scope .name)) (scopeNames scope) (nameOfStruct (scope .other)) (otherNames scope) (nameOfStruct table, nameOfStruct name)) × (r ≤ 2 * most-items) ⌝ }
+{
+    let columns = scope.columns;
+    let n = least(scope.count as usize, Table::COLUMNS) as u8;
+    let i = find_in(table, scope.name, name, columns, scope.count);
+    if i < n {
+        return i;
+    }
+    let others = scope.others;
+    n + find_in(table, scope.other, name, others, scope.more)
+}
+
 // The places of the first n names in a scope.
 pub fn positions(names: [Name; Entry::ITEMS], n: usize, scope: Scope) -> [u8; Entry::ITEMS]
     requires { ⌜ n ≤ most-items ⌝ }
@@ -145,9 +175,33 @@ pub fn are_below(places: [u8; Entry::ITEMS], n: usize, limit: usize) -> bool
 
 // How many columns a scope has.
 pub fn width(scope: Scope) -> usize
-    ensures { λ r. ⌜ (r ≡ length (scopeNames scope)) × (r ≤ most-items) ⌝ }
+    ensures { λ r. ⌜ r ≡ widthIn (scope .dotted) scope ⌝ }
 {
-    least(scope.count as usize, Table::COLUMNS)
+    let n = least(scope.count as usize, Table::COLUMNS);
+    if scope.dotted {
+        return n + least(scope.more as usize, Table::COLUMNS);
+    }
+    n
+}
+
+// The position of the second table's first column, or 0.
+pub fn start(scope: Scope) -> u8
+    ensures { λ r. ⌜ r ≡ startIn (scope .dotted) scope ⌝ }
+{
+    if scope.dotted {
+        return least(scope.count as usize, Table::COLUMNS) as u8;
+    }
+    0
+}
+
+// Whether both tables have one name.
+pub fn is_twice(scope: Scope) -> bool
+    ensures { λ r. ⌜ r ≡ twiceIn (scope .dotted) scope ⌝ }
+{
+    if scope.dotted {
+        return same_name(scope.name, scope.other);
+    }
+    false
 }
 
 // The columns of a table.
@@ -155,9 +209,32 @@ pub fn scope_of(t: Table) -> Scope
     ensures { λ r. ⌜ r ≡ scopeOf t ⌝ }
 {
     let columns = t.columns;
+    let name = t.name;
     Scope {
+        dotted: false,
+        name,
         columns,
         count: t.count,
+        other: name,
+        others: columns,
+        more: 0,
+    }
+}
+
+// The columns of two tables, by the names that a text gives them.
+pub fn pair_scope(name: Name, t: Table, other: Name, u: Table) -> Scope
+    ensures { λ r. ⌜ r ≡ pairScope name t other u ⌝ }
+{
+    let columns = t.columns;
+    let others = u.columns;
+    Scope {
+        dotted: true,
+        name,
+        columns,
+        count: t.count,
+        other,
+        others,
+        more: u.count,
     }
 }
 
@@ -165,7 +242,7 @@ pub fn scope_of(t: Table) -> Scope
 fn area(t: Table) -> u32
     ensures { λ r. ⌜ (r ≡ areaSize (schemaOf t)) × (r ≤ 524280) ⌝ }
 {
-    (width(scope_of(t)) as u32) * (t.capacity as u32)
+    (least(t.count as usize, Table::COLUMNS) as u32) * (t.capacity as u32)
 }
 
 // The cells of the areas of all tables.

@@ -32,6 +32,7 @@ fn most_listed(form: u8) -> usize
     match form {
         Entry::TABLE => Table::COLUMNS,
         Entry::SELECT => Query::SELECTED,
+        Entry::PAIR => Query::SELECTED,
         _ => Update::SETTINGS,
     }
 }
@@ -113,9 +114,9 @@ fn columns_below(comparisons: [Comparison; Condition::COMPARISONS], count: u8, l
 
 // ---- the lowest
 
-// The lowest of 6 to 9 whose condition holds, or 0.
-pub fn lowest(unknown: bool, taken: bool, miscounted: bool, full: bool) -> u8
-    ensures { λ r. ⌜ r ≡ lowestBy unknown taken miscounted full ⌝ }
+// The first of 6, 7, 8, 15 and 9 whose condition holds, or 0.
+pub fn lowest(unknown: bool, taken: bool, miscounted: bool, twice: bool, full: bool) -> u8
+    ensures { λ r. ⌜ r ≡ lowestBy unknown taken miscounted twice full ⌝ }
 {
     if unknown {
         return Refusal::UNKNOWN;
@@ -125,6 +126,9 @@ pub fn lowest(unknown: bool, taken: bool, miscounted: bool, full: bool) -> u8
     }
     if miscounted {
         return Refusal::MISCOUNTED;
+    }
+    if twice {
+        return Refusal::TWICE;
     }
     if full { Refusal::PLACE } else { 0 }
 }
@@ -136,12 +140,13 @@ pub fn refusal_of(
     condition: Condition,
     width: usize,
     taken: bool,
+    twice: bool,
     full: bool,
 ) -> u8
     requires { ⌜ (n ≤ most-items) × (condition .count ≤ most-comparisons) ⌝ }
-    ensures { λ r. ⌜ r ≡ lowestBy (not (placesBelow width (take n at) && conditionBelow width condition)) taken false full ⌝ }
+    ensures { λ r. ⌜ r ≡ lowestBy (not (placesBelow width (take n at) && conditionBelow width condition)) taken false twice full ⌝ }
 {
     let comparisons = condition.comparisons;
     let known = names::are_below(at, n, width) & columns_below(comparisons, condition.count, width);
-    lowest(!known, taken, false, full)
+    lowest(!known, taken, false, twice, full)
 }

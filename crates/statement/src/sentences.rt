@@ -1,16 +1,18 @@
-// Sentences: each of the five forms is a row of calls. A reader takes a cursor that may have failed, and then fails too. What is read is noted as places of the
+// Sentences: each of the forms is a row of calls. A reader takes a cursor that may have failed, and then fails too. What is read is noted as places of the
 // text: of the items of the list in one lent array, two numbers an item, and of the condition in another; names are not looked up here.
 use super::Table;
 use super::conditions;
 use super::conditions::Cursor;
 use token::Token;
 ghost use mathlib.Core.Path.{_≡_};
+ghost use mathlib.Core.Bool.{true, false};
 ghost use Prim.Native.Nat.{_+_, _≤_, _<_};
-ghost use lib.ListN.{length};
+ghost use lib.ListN.{length, drop};
 ghost use Rattle.meaning.specs.Limits.{most-text};
-ghost use Rattle.meaning.specs.Grammar.{sentence, aTable, aSelect, anInsert, anUpdate};
+ghost use Rattle.meaning.specs.Tokens.{tokens};
+ghost use Rattle.meaning.specs.Grammar.{sentence, isPaired, aTable, aSelect, aSingle, aPair, anInsert, anUpdate};
 ghost use Rattle.statement.specs.Reading.{marksAt};
-ghost use Rattle.statement.specs.Sentences.{Ready, Expects, Names, Gives, CountsRows, isBetween, isRowsPast, PutsItem, kindAt, Within, ReadsItem, ReadsList, ReadsWhere, Starts, ReadsForm, Lists, Deletes, ReadsAny, Noted};
+ghost use Rattle.statement.specs.Sentences.{Ready, Expects, Names, Columns, Gives, CountsRows, isBetween, isRowsPast, PutsItem, kindAt, isCommaSecond, Within, ReadsItem, ReadsList, ReadsWhere, Starts, ReadsForm, Lists, Deletes, ReadsAny, Noted};
 
 // A cursor behind a token, and where the token starts.
 pub struct Placed {
@@ -24,11 +26,13 @@ pub struct Listing {
     pub listed: u16,
 }
 
-// A sentence as it is read: where the reader stands, its form, the place of its table's name, that of the constant of ROWS, and how many items its list has.
+// A sentence as it is read: where the reader stands, its form, the place of its table's name, in a question over two tables that of the second one's, that of the
+// constant of ROWS, and how many items its list has.
 pub struct Entry {
     pub c: Cursor,
     pub form: u8,
     pub table: u16,
+    pub second: u16,
     pub rows: u16,
     pub listed: u16,
 }
@@ -48,6 +52,8 @@ impl Entry {
     pub const UPDATE: u8 = 3;
 
     pub const DELETE: u8 = 4;
+    // SELECT from two tables
+    pub const PAIR: u8 = 5;
 }
 
 // What a list holds.
@@ -56,6 +62,8 @@ const NAMES: u8 = 0;
 const VALUES: u8 = 1;
 
 const SETTINGS: u8 = 2;
+
+const COLUMNS: u8 = 3;
 
 // ---- tokens
 
@@ -96,6 +104,28 @@ fn read_name(text: &[u8], c: Cursor) -> Placed
     Placed {
         c: p,
         place: t.start as u16,
+    }
+}
+
+// A dotted column (A.1).
+fn read_column(text: &[u8], c: Cursor) -> Placed
+    requires { ⌜ Ready (now text) c ⌝ }
+    ensures { λ r. ⌜ Columns (now (text .entry)) c r ⌝ }
+{
+    let mut p = c;
+    if !p.ok {
+        return Placed { c: p, place: 0 };
+    }
+    let d = conditions::read_dotted(text, token::next(text, p.at as usize));
+    if !d.ok {
+        p.ok = false;
+        return Placed { c: p, place: 0 };
+    }
+    p.at = d.next as u16;
+    p.over = p.over | d.over;
+    Placed {
+        c: p,
+        place: d.start as u16,
     }
 }
 
@@ -188,7 +218,7 @@ fn put_item(list: &mut [u16; Entry::LIST], listed: u16, name: u16, value: u16) -
     more
 }
 
-// An item: a name, a value, or a setting.
+// An item: a name, a value, a setting, or a dotted column.
 fn read_item(
     text: &[u8],
     list: &mut [u16; Entry::LIST],
@@ -215,12 +245,20 @@ fn read_item(
             listed: put_item(list, listed, 0, v.place),
         };
     }
-    let n = read_name(text, c);
-    let v = read_value(text, expect(text, n.c, Token::EQ));
-    let d = v.c;
+    if kind == SETTINGS {
+        let n = read_name(text, c);
+        let v = read_value(text, expect(text, n.c, Token::EQ));
+        let d = v.c;
+        return Listing {
+            c: d,
+            listed: put_item(list, listed, n.place, v.place),
+        };
+    }
+    let n = read_column(text, c);
+    let d = n.c;
     Listing {
         c: d,
-        listed: put_item(list, listed, n.place, v.place),
+        listed: put_item(list, listed, n.place, 0),
     }
 }
 
@@ -268,11 +306,11 @@ fn read_where(text: &[u8], places: &mut [u16; Cursor::PLACES], c: Cursor) -> Cur
     p
 }
 
-// ---- the five forms, after their first word
+// ---- the forms, after their first word
 
 // TABLE name ( names ) ROWS constant
 fn read_table(text: &[u8], list: &mut [u16; Entry::LIST], c: Cursor) -> Entry
-    requires { ⌜ Starts (now text) c ⌝ }
+    requires { ⌜ Starts (now text) false c ⌝ }
     ensures { λ r. ⌜ Lists aTable (now (text .entry)) c (now (list .exit)) r ⌝ }
 {
     let t = read_name(text, c);
@@ -286,20 +324,21 @@ fn read_table(text: &[u8], list: &mut [u16; Entry::LIST], c: Cursor) -> Entry
         c: d,
         form: Entry::TABLE,
         table: t.place,
+        second: 0,
         rows: r.place,
         listed: l.listed,
     }
 }
 
 // SELECT names FROM name [WHERE condition]
-fn read_select(
+fn read_single(
     text: &[u8],
     list: &mut [u16; Entry::LIST],
     places: &mut [u16; Cursor::PLACES],
     c: Cursor,
 ) -> Entry
-    requires { ⌜ Starts (now text) c ⌝ }
-    ensures { λ r. ⌜ ReadsForm aSelect (now (text .entry)) c (now (list .exit)) (now (places .exit)) r ⌝ }
+    requires { ⌜ Starts (now text) false c ⌝ }
+    ensures { λ r. ⌜ ReadsForm aSingle (now (text .entry)) c (now (list .exit)) (now (places .exit)) r ⌝ }
 {
     let l = read_list(text, list, c, 0, NAMES);
     let t = read_name(text, expect(text, l.c, Token::FROM));
@@ -307,14 +346,76 @@ fn read_select(
         c: read_where(text, places, t.c),
         form: Entry::SELECT,
         table: t.place,
+        second: 0,
         rows: 0,
         listed: l.listed,
     }
 }
 
+// SELECT columns FROM name , name [WHERE condition], where columns are dotted (A.1)
+fn read_pair(
+    text: &[u8],
+    list: &mut [u16; Entry::LIST],
+    places: &mut [u16; Cursor::PLACES],
+    c: Cursor,
+) -> Entry
+    requires { ⌜ Starts (now text) true c ⌝ }
+    ensures { λ r. ⌜ ReadsForm aPair (now (text .entry)) c (now (list .exit)) (now (places .exit)) r ⌝ }
+{
+    let l = read_list(text, list, c, 0, COLUMNS);
+    let t = read_name(text, expect(text, l.c, Token::FROM));
+    let u = read_name(text, expect(text, t.c, Token::COMMA));
+    Entry {
+        c: read_where(text, places, u.c),
+        form: Entry::PAIR,
+        table: t.place,
+        second: u.place,
+        rows: 0,
+        listed: l.listed,
+    }
+}
+
+// Whether a FROM is followed by a token and a comma.
+fn is_comma_second(text: &[u8], from: Token) -> bool
+    ensures { λ r. ⌜ r ≡ isCommaSecond (now (text .entry)) from ⌝ }
+{
+    let one = token::next(text, from.next);
+    let two = token::next(text, one.next);
+    (from.kind == Token::FROM) & (two.kind == Token::COMMA)
+}
+
+// A.1: whether the question is over two tables: behind its first FROM a token and a comma stand.
+fn is_paired(text: &[u8], at: usize) -> bool
+    ensures { λ r. ⌜ r ≡ isPaired (tokens (drop at (now (text .entry)))) ⌝ }
+{
+    let mut t = token::next(text, at);
+    while (t.kind != Token::END) & (t.kind != Token::FROM) {
+        t = token::next(text, t.next);
+    }
+    is_comma_second(text, t)
+}
+
+// SELECT: what stands behind FROM tells its form
+fn read_select(
+    text: &[u8],
+    list: &mut [u16; Entry::LIST],
+    places: &mut [u16; Cursor::PLACES],
+    c: Cursor,
+) -> Entry
+    requires { ⌜ Starts (now text) false c ⌝ }
+    ensures { λ r. ⌜ ReadsForm aSelect (now (text .entry)) c (now (list .exit)) (now (places .exit)) r ⌝ }
+{
+    let mut d = c;
+    if is_paired(text, c.at as usize) {
+        d.dotted = true;
+        return read_pair(text, list, places, d);
+    }
+    read_single(text, list, places, d)
+}
+
 // INSERT INTO name VALUES ( values )
 fn read_insert(text: &[u8], list: &mut [u16; Entry::LIST], c: Cursor) -> Entry
-    requires { ⌜ Starts (now text) c ⌝ }
+    requires { ⌜ Starts (now text) false c ⌝ }
     ensures { λ r. ⌜ Lists anInsert (now (text .entry)) c (now (list .exit)) r ⌝ }
 {
     let t = read_name(text, expect(text, c, Token::INTO));
@@ -329,6 +430,7 @@ fn read_insert(text: &[u8], list: &mut [u16; Entry::LIST], c: Cursor) -> Entry
         c: expect(text, l.c, Token::CLOSE),
         form: Entry::INSERT,
         table: t.place,
+        second: 0,
         rows: 0,
         listed: l.listed,
     }
@@ -341,7 +443,7 @@ fn read_update(
     places: &mut [u16; Cursor::PLACES],
     c: Cursor,
 ) -> Entry
-    requires { ⌜ Starts (now text) c ⌝ }
+    requires { ⌜ Starts (now text) false c ⌝ }
     ensures { λ r. ⌜ ReadsForm anUpdate (now (text .entry)) c (now (list .exit)) (now (places .exit)) r ⌝ }
 {
     let t = read_name(text, c);
@@ -350,6 +452,7 @@ fn read_update(
         c: read_where(text, places, l.c),
         form: Entry::UPDATE,
         table: t.place,
+        second: 0,
         rows: 0,
         listed: l.listed,
     }
@@ -357,7 +460,7 @@ fn read_update(
 
 // DELETE FROM name [WHERE condition]
 fn read_delete(text: &[u8], places: &mut [u16; Cursor::PLACES], c: Cursor) -> Entry
-    requires { ⌜ Starts (now text) c ⌝ }
+    requires { ⌜ Starts (now text) false c ⌝ }
     ensures { λ r. ⌜ Deletes (now (text .entry)) c (now (places .exit)) r ⌝ }
 {
     let t = read_name(text, expect(text, c, Token::FROM));
@@ -365,6 +468,7 @@ fn read_delete(text: &[u8], places: &mut [u16; Cursor::PLACES], c: Cursor) -> En
         c: read_where(text, places, t.c),
         form: Entry::DELETE,
         table: t.place,
+        second: 0,
         rows: 0,
         listed: 0,
     }
@@ -385,6 +489,7 @@ fn read_form(
     let mut c = Cursor {
         ok: true,
         over: false,
+        dotted: false,
         nodes: 0,
         marks: 0,
         at: t.next as u16,
@@ -409,6 +514,7 @@ fn read_form(
         c,
         form: Entry::TABLE,
         table: 0,
+        second: 0,
         rows: 0,
         listed: 0,
     }

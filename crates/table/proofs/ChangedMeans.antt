@@ -20,11 +20,12 @@ use Rattle.meaning.specs.Statement.{insert, delete, update}
 use Rattle.meaning.specs.Meaning.{Row, meetsWhere, newRow, assigned, changed, rowsChanged}
 use Rattle.meaning.specs.Cells.{rowsIn, areaOf, stored, withArea}
 use Rattle.meaning.proofs.Cells.{rows-length, rows-front, rows-wide, rows-stored, stored-length, area-length, put-length, put-there, put-before, put-after}
+use Rattle.meaning.specs.Pattern.{placedFrom}
 use Rattle.statement.specs.declared.Condition.{Condition}
 use Rattle.statement.specs.declared.Table.{Table}
 use Rattle.statement.specs.declared.Update.{Update}
 use Rattle.statement.specs.Sound.{settingsRead, settingValues, soundForm, AgreesCondition, AgreesUpdate}
-use Rattle.statement.specs.Compiled.{placedFrom, settingsOfChange, whereOfChange, formOfChange}
+use Rattle.statement.specs.Compiled.{settingsOfChange, whereOfChange, formOfChange}
 use Rattle.table.specs.Evaluated.{meetsStored}
 use Rattle.table.specs.Changed.{settled, rowsAfter, countAfter, areaFits, formFits, fits, rowsBefore, changedOf, changeOf, cellsAfter}
 use Rattle.table.specs.declared.changes.Changed.{Changed}

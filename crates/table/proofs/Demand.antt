@@ -1,45 +1,45 @@
 -- The claims of specs/Demand, all proved.
 --     listed-rows     the rows that a stored question lists have its columns and 32 bits
 --     put-reads-back  a buffer into which their record was put shows them
---     sound-askable   what the claims ask of a question holds in a sound state
+--     sound-askable   what the claims ask of a question holds in a sound state; of one over two tables: sound-pair-askable
+--     paired-rows     a sound table's rows in a pair are all its rows
+--     pair-says-means, pair-leaves-means     for callers: what `select_pair` promises, by Meaning
 -- Assumes nothing.
-use mathlib.Core.Path.{_≡_, refl, sym, ap, _∙_, subst}
+use mathlib.Core.Path.{_≡_, refl, sym, ap, ap₂, _∙_, subst}
+use mathlib.Core.Logic.{_≢_, _↔_}
 use mathlib.Core.Bool.{Bool, true, false, not, cond}
-use mathlib.Core.Option.{some}
-use mathlib.Core.List.{List, [], map}
-use Prim.Native.Nat.{ℕ, zero, suc, _+_, _≤_}
+use mathlib.Core.List.{List, [], _++_, map}
+use Prim.Native.Nat.{ℕ, zero, suc, _+_, _*_, _≤_, _<_}
+use native.Mathlib.Nat.{mul-le-mul}
 use native.Mathlib.Omega.{arith}
-use borrow.Author.Tests.{leb-true, le-leb}
+use borrow.Author.Tests.{leb-true, leb-false, le-leb, ltb-true, ltb-false, lt-ltb}
 use lib.Dec.{leb, ltb}
 use lib.IntN.{ℤ, pos}
-use lib.ListN.{length, take, drop, length-map}
+use lib.ListN.{length, take, drop, length-map, length-append}
 use lib.Seq.{length-take-le}
-use Rattle.lists.specs.Lists.{All, nil, cons, keep, all, repeats}
+use Rattle.lists.specs.Lists.{All, nil, cons, keep, all, repeats, pairs}
 use Rattle.lists.proofs.Bools.{and-left, and-right}
 use Rattle.lists.proofs.Lists.{All-take, All-every, All-getD, All-keep, All-image}
 use Rattle.lists.proofs.Places.{length-keep}
 use Rattle.meaning.specs.Demand.{Is32, IsRow, ReadsBack}
-use Rattle.meaning.specs.Limits.{most-items, most-rows}
+use Rattle.meaning.specs.Limits.{most-items, most-rows, most-listed}
 use Rattle.meaning.specs.Meaning.{Row, cell, answer}
 use Rattle.meaning.specs.Cells.{rowsIn}
-use Rattle.meaning.specs.Grammar as G
-use Rattle.meaning.specs.Grammar.{Sentence, items, sentence}
-use Rattle.meaning.specs.Names.{Schema, sameName, has, tableNames, columnsOf, position}
-use Rattle.meaning.specs.Statement.{settingMarks, resolvedWhere, statementOf}
+use Rattle.meaning.specs.Names.{Schema, sameName, has, tableNames}
+use Rattle.meaning.specs.Statement as M
 use Rattle.meaning.proofs.Cells.{rows-length}
-use Rattle.meaning.proofs.Within32.{Row32}
+use Rattle.meaning.specs.Record.{encode}
+use Rattle.meaning.proofs.Within32.{Row32, pairs-32}
 use Rattle.answer.specs.Answer.{put}
-use Rattle.answer.proofs.Buffers.{put-fits}
+use Rattle.answer.proofs.Buffers.{put-fits, put-not}
 use Rattle.answer.proofs.Laws.{buffer-reads-back}
 use Rattle.statement.specs.declared.Query.{Query}
 use Rattle.statement.specs.declared.Table.{Table}
-use Rattle.statement.specs.declared.Statement.{Statement}
-use Rattle.statement.specs.Catalog.{nameOfStruct, schemasOf}
-use Rattle.statement.specs.Compiled.{structOf, compiledOf}
-use Rattle.statement.proofs.SoundCompiled.{query-agrees, update-agrees, compiled-is}
-use Rattle.statement.specs.Sound.{AgreesCondition, QueryFits, soundName, usedColumns, soundQuery, soundTable}
-use Rattle.table.specs.Demand.{leaves, Askable, SelectReadsBack, SelectMeans, RowsRead, PositionsFound, RowTestMeans, Demands}
-use Rattle.table.specs.Evaluated.{meetsStored, rowCells, rowsUsed, selectedStored, answerStored, recordStored, selectedBy, selectedIn}
+use Rattle.statement.specs.Catalog.{nameOfStruct}
+use Rattle.statement.proofs.SoundQuery.{query-parts}
+use Rattle.statement.specs.Sound.{AgreesQuery, QueryFits, soundName, usedColumns, soundQuery, soundTable}
+use Rattle.table.specs.Demand.{leaves, Askable, SelectReadsBack, SelectMeans, RowsRead, RowTestMeans, PairAskable, SelectPairReadsBack, SelectPairMeans, TooManyExactlyIf, RefusedLeavesBuffer, PairRowsRead, PairReadsAtMost, PairTestMeans}
+use Rattle.table.specs.Evaluated.{meetsStored, rowCells, rowsUsed, selectedStored, answerStored, recordStored, selectedBy, selectedIn, rowsPaired, pairsUsed, pairsRead, pairedRefusal, saidBy, pairedIn, pairedPut, pairSays, pairLeaves}
 use Rattle.table.proofs.Means.{meets-where, answer-means}
 
 All-drop : {A : Type 0} {P : A → Type 0} {l : List A} (n : ℕ) → All P l → All P (drop n l)
@@ -122,14 +122,14 @@ select-means q q′ M t start cells vs out A e =
 -- a sound question on a sound table is askable
 pub sound-askable : (q : Query) (t : Table) (ts others : List Schema) (cells : List ℤ) → QueryFits q → soundQuery ts q ≡ true → soundTable others t ≡ true → t .rows ≤ t .capacity
     → All Is32 cells → Askable q t cells
-unfolding soundQuery soundTable
+unfolding soundTable
 sound-askable q t ts others cells Q s k h narrow =
-    let a = and-right (ltb (q .table) (length ts)) _ s in
+    let a = query-parts ts q s in
     let b = and-right (leb 1 (t .capacity)) (leb (t .capacity) most-rows) (and-right (not (has (tableNames others) (nameOfStruct (t .name)))) _ (and-right (not (repeats sameName (map nameOfStruct (usedColumns t)))) _ (and-right (all soundName (usedColumns t)) _ (and-right (soundName (t .name)) _ (and-right (leb (t .count) most-items) _ (and-right (leb 1 (t .count)) _ k)))))) in
     record {
       array = Q .eight;
-      some-selected = leb-true 1 (q .count) (and-left (leb 1 (q .count)) _ a);
-      few-selected = leb-true (q .count) most-items (and-left (leb (q .count) most-items) _ (and-right (leb 1 (q .count)) _ a));
+      some-selected = a .some-selected;
+      few-selected = a .few-selected;
       few-rows = omega (arith, leb-true (t .capacity) most-rows b);
       narrow = narrow;
     }
@@ -139,30 +139,131 @@ rows-read q t start cells vs out h e = taken out (rowsUsed t start cells) (recor
 
 -- ---- request A.3
 
-pub positions-found : PositionsFound
-unfolding structOf statementOf
-positions-found text tables used queries updates cells h =
-    record {
-      selected = λ cs t w e. subst (λ (r : Statement). take (r .query .count) (r .query .selected) ≡ map (position (columnsOf ts t)) (items cs)) (sym (is _ e)) (query-agrees ts (G.select cs t w) _ refl .selected-are);
-      asked = λ cs t w e. subst (λ (r : Statement). AgreesCondition (r .query .condition) (resolvedWhere (columnsOf ts t) 0 w)) (sym (is _ e)) (query-agrees ts (G.select cs t w) _ refl .condition-is);
-      updated = λ t ss w e. subst (λ (r : Statement). AgreesCondition (r .update .condition) (resolvedWhere (columnsOf ts t) (settingMarks (items ss)) w)) (sym (is _ e)) (update-agrees ts (G.update t ss w) _ refl .condition-is);
-      deleted = λ t w e. subst (λ (r : Statement). AgreesCondition (r .update .condition) (resolvedWhere (columnsOf ts t) 0 w)) (sym (is _ e)) (update-agrees ts (G.delete t w) _ refl .condition-is);
-    }
-  where
-    ts : List Schema
-    ts = schemasOf tables used
-
-    is : (s : Sentence) → sentence text ≡ some s → compiledOf text tables used queries updates cells ≡ structOf (statementOf (schemasOf tables used) s)
-    is s e = compiled-is text tables used queries updates cells s e h
-
 pub row-test-means : RowTestMeans
 row-test-means c vs targets places numbers start P w A row short = P .says row short ∙ meets-where c w A vs row
 
-pub demands : Demands
-demands = record {
-  select-reads-back = select-reads-back;
-  select-means = select-means;
-  rows-read = rows-read;
-  positions-found = positions-found;
-  row-test-means = row-test-means;
-}
+-- ---- request A.1
+
+module _ (t : Table) (start : ℕ) (cells : List ℤ) where
+  -- the rows of a table of a pair are those of the table
+  pub paired-rows : t .count ≤ most-items → rowsPaired t start cells ≡ rowsUsed t start cells
+  paired-rows h = ap (λ (b : Bool). cond b (rowsUsed t start cells) []) (le-leb (t .count) most-items h)
+
+  paired-few : length (rowsPaired t start cells) ≤ t .rows
+  paired-few = go (leb (t .count) most-items)
+    where
+      go : (b : Bool) → length (cond b (rowsUsed t start cells) []) ≤ t .rows
+      go true = used-few t start cells
+      go false = omega arith
+
+-- what is said of a paired question, by whether it is refused
+module _ (out : List ℕ) (scanned n : ℕ) (rows : List Row) where
+  pair-taken : pairedIn out scanned n rows .refusal ≡ 0
+      → (length rows ≤ most-listed) × (length (encode n rows) ≤ length out) × (pairedIn out scanned n rows .scanned ≡ scanned) × (pairedPut out n rows ≡ put out 0 (encode n rows))
+  pair-taken e = go (ltb most-listed (length rows)) (leb (length (encode n rows)) (length out)) refl refl e
+    where
+      go : (b f : Bool) → ltb most-listed (length rows) ≡ b → leb (length (encode n rows)) (length out) ≡ f → saidBy (pairedRefusal b f) scanned (length (encode n rows)) .refusal ≡ 0
+          → (length rows ≤ most-listed) × (length (encode n rows) ≤ length out) × (saidBy (pairedRefusal b f) scanned (length (encode n rows)) .scanned ≡ scanned)
+          × (cond b out (put out 0 (encode n rows)) ≡ put out 0 (encode n rows))
+      go true f eb ef z = absurd (omega arith)
+      go false true eb ef z = (ltb-false most-listed (length rows) eb, leb-true (length (encode n rows)) (length out) ef, refl, refl)
+      go false false eb ef z = absurd (omega arith)
+
+  pair-many : (pairedIn out scanned n rows .refusal ≡ 16) ↔ (most-listed < length rows)
+  pair-many = (go (ltb most-listed (length rows)) (leb (length (encode n rows)) (length out)) refl, back)
+    where
+      go : (b f : Bool) → ltb most-listed (length rows) ≡ b → saidBy (pairedRefusal b f) scanned (length (encode n rows)) .refusal ≡ 16 → most-listed < length rows
+      go true f eb z = ltb-true most-listed (length rows) eb
+      go false true eb z = absurd (omega arith)
+      go false false eb z = absurd (omega arith)
+
+      back : most-listed < length rows → pairedIn out scanned n rows .refusal ≡ 16
+      back h = ap (λ (b : Bool). saidBy (pairedRefusal b (leb (length (encode n rows)) (length out))) scanned (length (encode n rows)) .refusal) (lt-ltb most-listed (length rows) h)
+
+  pair-kept : pairedIn out scanned n rows .refusal ≢ 0 → pairedPut out n rows ≡ out
+  pair-kept h = go (ltb most-listed (length rows)) (leb (length (encode n rows)) (length out)) refl h
+    where
+      go : (b f : Bool) → leb (length (encode n rows)) (length out) ≡ f → saidBy (pairedRefusal b f) scanned (length (encode n rows)) .refusal ≢ 0
+          → cond b out (put out 0 (encode n rows)) ≡ out
+      go true f ef z = refl
+      go false true ef z = absurd (z refl)
+      go false false ef z = put-not out 0 (encode n rows) (omega (arith, leb-false (length (encode n rows)) (length out) ef))
+
+  pair-scanned : pairedIn out scanned n rows .scanned ≤ scanned
+  pair-scanned = go (pairedRefusal (ltb most-listed (length rows)) (leb (length (encode n rows)) (length out)))
+    where
+      go : (k : ℕ) → saidBy k scanned (length (encode n rows)) .scanned ≤ scanned
+      go zero = omega arith
+      go (suc k) = omega arith
+
+pub select-pair-reads-back : SelectPairReadsBack
+select-pair-reads-back q t start u beside cells vs out A e =
+    let k : ℕ = length (take (q .count) (q .selected)) in
+    let rows : List Row = pairsUsed t start u beside cells in
+    let n : k ≡ q .count = length-take-le (q .count) (q .selected) (omega (arith, A .array, A .few-selected)) in
+    let h = pair-taken out (pairsRead (rowsPaired t start cells) (rowsPaired u beside cells)) k (answerStored q vs rows) e in
+    let same : pairsUsed t start u beside cells ≡ pairs (rowsUsed t start cells) (rowsUsed u beside cells) = ap₂ pairs (paired-rows t start cells (A .few-columns)) (paired-rows u beside cells (A .few-others)) in
+    let narrow : All Row32 rows = subst (All Row32) (sym same) (pairs-32 (rowsUsed t start cells) (rowsUsed u beside cells) (used-32 t start cells (A .narrow)) (used-32 u beside cells (A .narrow))) in
+    subst (λ (rs : List Row). ReadsBack (pairLeaves q t start u beside cells vs out) (q .count) (answerStored q vs rs)) same
+    (subst (λ (j : ℕ). ReadsBack (pairLeaves q t start u beside cells vs out) j (answerStored q vs rows)) n
+    (subst (λ (bs : List ℕ). ReadsBack bs k (answerStored q vs rows)) (sym (h .3 ∙ put-fits out 0 (recordStored q vs rows) (omega (arith, h .1))))
+    (buffer-reads-back out k (answerStored q vs rows) (omega (arith, A .some-selected)) (omega (arith, A .few-selected)) (h .0) (listed-rows q vs rows narrow))))
+
+pub select-pair-means : SelectPairMeans
+select-pair-means q q′ M t start u beside cells vs out A e =
+    let rows : List Row = pairs (rowsUsed t start cells) (rowsUsed u beside cells) in
+    subst (λ (k : ℕ). ReadsBack (pairLeaves q t start u beside cells vs out) k (answer q′ vs rows)) (M .count-is)
+    (subst (λ (rs : List Row). ReadsBack (pairLeaves q t start u beside cells vs out) (q .count) rs) (answer-means q q′ M vs rows) (select-pair-reads-back q t start u beside cells vs out A e))
+
+pub too-many-exactly-if : TooManyExactlyIf
+too-many-exactly-if q t start u beside cells vs out =
+    pair-many out (pairsRead (rowsPaired t start cells) (rowsPaired u beside cells)) (length (take (q .count) (q .selected))) (answerStored q vs (pairsUsed t start u beside cells))
+
+pub refused-leaves-buffer : RefusedLeavesBuffer
+refused-leaves-buffer q t start u beside cells vs out =
+    pair-kept out (pairsRead (rowsPaired t start cells) (rowsPaired u beside cells)) (length (take (q .count) (q .selected))) (answerStored q vs (pairsUsed t start u beside cells))
+
+pub pair-rows-read : PairRowsRead
+pair-rows-read q t start u beside cells vs out ht hu kt ku e =
+    pair-taken out (pairsRead (rowsPaired t start cells) (rowsPaired u beside cells)) (length (take (q .count) (q .selected))) (answerStored q vs (pairsUsed t start u beside cells)) e .2
+    ∙ ap₂ (λ (m n : ℕ). m + m * n) (ap length (paired-rows t start cells ht) ∙ used-all t start cells kt) (ap length (paired-rows u beside cells hu) ∙ used-all u beside cells ku)
+
+pub pair-reads-at-most : PairReadsAtMost
+pair-reads-at-most q t start u beside cells vs out =
+    omega (arith, pair-scanned out (pairsRead (rowsPaired t start cells) (rowsPaired u beside cells)) (length (take (q .count) (q .selected))) (answerStored q vs (pairsUsed t start u beside cells)), paired-few t start cells, mul-le-mul (paired-few t start cells) (paired-few u beside cells))
+
+pub pair-test-means : PairTestMeans
+pair-test-means c vs targets places numbers start P w A row other h k = row-test-means c vs targets places numbers start P w A (row ++ other) (omega (arith, length-append row other))
+
+-- a sound question on two sound tables is askable
+pub sound-pair-askable : (q : Query) (t u : Table) (ts others more : List Schema) (cells : List ℤ) → QueryFits q → soundQuery ts q ≡ true → soundTable others t ≡ true → soundTable more u ≡ true
+    → All Is32 cells → PairAskable q t u cells
+unfolding soundTable
+sound-pair-askable q t u ts others more cells Q s k l narrow =
+    let p = query-parts ts q s in
+    record {
+      array = Q .eight;
+      some-selected = p .some-selected;
+      few-selected = p .few-selected;
+      few-columns = sound-narrow t others k;
+      few-others = sound-narrow u more l;
+      narrow = narrow;
+    }
+  where
+    sound-narrow : (t : Table) (others : List Schema) → soundTable others t ≡ true → t .count ≤ most-items
+    sound-narrow t others k = leb-true (t .count) most-items (and-left (leb (t .count) most-items) _ (and-right (leb 1 (t .count)) _ k))
+
+-- what is said of a question over two tables of at most 8 columns, and what the buffer holds, by the rows that Meaning lists for its sentence
+module _ (q : Query) (q′ : M.Query) (A : AgreesQuery q q′) (t : Table) (start : ℕ) (u : Table) (beside : ℕ) (cells vs : List ℤ) (out : List ℕ)
+    (h : t .count ≤ most-items) (k : u .count ≤ most-items) where
+  pub pair-says-means : pairSays q t start u beside cells vs out
+      ≡ pairedIn out (pairsRead (rowsUsed t start cells) (rowsUsed u beside cells)) (length (q′ .selected)) (answer q′ vs (pairs (rowsUsed t start cells) (rowsUsed u beside cells)))
+  pair-says-means =
+      ap₂ (λ (rs os : List Row). pairedIn out (pairsRead rs os) (length (take (q .count) (q .selected))) (answerStored q vs (pairs rs os))) (paired-rows t start cells h) (paired-rows u beside cells k)
+      ∙ ap₂ (pairedIn out (pairsRead (rowsUsed t start cells) (rowsUsed u beside cells))) (ap length (A .selected-are)) (answer-means q q′ A vs (pairs (rowsUsed t start cells) (rowsUsed u beside cells)))
+
+  pub pair-leaves-means : pairLeaves q t start u beside cells vs out
+      ≡ pairedPut out (length (q′ .selected)) (answer q′ vs (pairs (rowsUsed t start cells) (rowsUsed u beside cells)))
+  pair-leaves-means =
+      ap₂ (λ (rs os : List Row). pairedPut out (length (take (q .count) (q .selected))) (answerStored q vs (pairs rs os))) (paired-rows t start cells h) (paired-rows u beside cells k)
+      ∙ ap₂ (pairedPut out) (ap length (A .selected-are)) (answer-means q q′ A vs (pairs (rowsUsed t start cells) (rowsUsed u beside cells)))

@@ -11,5 +11,8 @@ pub mod Tested
 pub mod Preparing
 pub mod ChangedMeans
 pub mod Selecting
+pub mod Pairing
+pub mod Recording
 pub mod Answered
 pub mod Demand
+pub mod DemandTexts

@@ -1,19 +1,20 @@
--- The demands and request A.3 as claims, as far as questions of the table layer can say them; what is asked of the arguments is what their types and a sound state give. Each is
+-- The demands and requests A.1 and A.3 as claims, as far as questions of the table layer can say them; what is asked of the arguments is what their types and a sound state give. Each is
 -- proved in proofs/Demand.antt. Assumes nothing: these are definitions.
 use mathlib.Core.Path.{_≡_}
+use mathlib.Core.Logic.{_≢_, _↔_}
 use mathlib.Core.Option.{some}
-use mathlib.Core.List.{List, map}
-use Prim.Native.Nat.{ℕ, _+_, _≤_}
+use mathlib.Core.List.{List, _++_, map}
+use Prim.Native.Nat.{ℕ, _+_, _*_, _≤_, _<_}
 use lib.IntN.{ℤ}
 use lib.ListN.{length, take}
-use Rattle.lists.specs.Lists.{All}
+use Rattle.lists.specs.Lists.{All, pairs}
 use Rattle.meaning.specs.Demand.{Is32, ReadsBack}
-use Rattle.meaning.specs.Limits.{most-items, most-rows}
+use Rattle.meaning.specs.Limits.{most-items, most-rows, most-listed}
 use Rattle.meaning.specs.Condition.{Where}
 use Rattle.meaning.specs.Grammar as G
-use Rattle.meaning.specs.Grammar.{Given, Term, Listed, items, sentence}
+use Rattle.meaning.specs.Grammar.{Given, Term, Listed, Dotted, items, sentence}
 use Rattle.meaning.specs.Meaning.{Row, meetsWhere, answer}
-use Rattle.meaning.specs.Names.{Schema, columnsOf, position}
+use Rattle.meaning.specs.Names.{Schema, columnsOf, position, pairPlace}
 use Rattle.meaning.specs.Statement as M
 use Rattle.meaning.specs.Statement.{settingMarks, resolvedWhere}
 use Rattle.meaning.specs.Tokens.{Name}
@@ -25,7 +26,7 @@ use Rattle.statement.specs.declared.Table.{Table}
 use Rattle.statement.specs.Catalog.{schemasOf}
 use Rattle.statement.specs.Compiled.{compiledOf}
 use Rattle.statement.specs.Sound.{AgreesCondition, AgreesQuery}
-use Rattle.table.specs.Evaluated.{rowCells, rowsUsed, answerStored, recordStored, selectedIn}
+use Rattle.table.specs.Evaluated.{rowCells, rowsUsed, answerStored, recordStored, selectedIn, pairsUsed, pairSays, pairLeaves}
 use Rattle.table.specs.Tests.{longest, passes, Prepared}
 use Rattle.table.specs.declared.listing.Selected.{Selected}
 
@@ -58,7 +59,7 @@ SelectMeans = (q : Query) (q′ : M.Query) → AgreesQuery q q′ → (t : Table
     → says q t start cells vs out .refusal ≡ 0
     → ReadsBack (leaves q t start cells vs out) (length (q′ .selected)) (answer q′ vs (rowsUsed t start cells))
 
--- ---- "rows read (0 if kept, else the table's row count)": of a table whose rows lie inside the cells
+-- ---- "rows read (0 if kept, else the table's row count)": of a question over one table, whose rows lie inside the cells
 abbrev pub RowsRead : Type 0
 RowsRead = (q : Query) (t : Table) (start : ℕ) (cells vs : List ℤ) (out : List ℕ) → start + rowCells t ≤ length cells
     → says q t start cells vs out .refusal ≡ 0 → says q t start cells vs out .scanned ≡ t .rows
@@ -67,13 +68,18 @@ RowsRead = (q : Query) (t : Table) (start : ℕ) (cells vs : List ℤ) (out : Li
 
 -- of what a text compiles to beside these tables: the selected columns are the places of their names among the table's columns, and so are all columns of the WHERE
 pub record Positions (ts : List Schema) (text : List ℕ) (r : Statement) : Type 0 where
-  pub selected : (cs : Listed Name) (t : Name) (w : Where Term) → sentence text ≡ some (G.select cs t w)
+  pub selected : (cs : Listed Name) (t : Name) (w : Where (Term Name)) → sentence text ≡ some (G.select cs t w)
       → take (r .query .count) (r .query .selected) ≡ map (position (columnsOf ts t)) (items cs)
-  pub asked : (cs : Listed Name) (t : Name) (w : Where Term) → sentence text ≡ some (G.select cs t w)
-      → AgreesCondition (r .query .condition) (resolvedWhere (columnsOf ts t) 0 w)
-  pub updated : (t : Name) (ss : Listed (Name × Given)) (w : Where Term) → sentence text ≡ some (G.update t ss w)
-      → AgreesCondition (r .update .condition) (resolvedWhere (columnsOf ts t) (settingMarks (items ss)) w)
-  pub deleted : (t : Name) (w : Where Term) → sentence text ≡ some (G.delete t w) → AgreesCondition (r .update .condition) (resolvedWhere (columnsOf ts t) 0 w)
+  pub asked : (cs : Listed Name) (t : Name) (w : Where (Term Name)) → sentence text ≡ some (G.select cs t w)
+      → AgreesCondition (r .query .condition) (resolvedWhere (position (columnsOf ts t)) 0 w)
+  -- A.1: of a question over two tables they are places in a pair of rows, counted through the columns of both
+  pub pair-selected : (cs : Listed Dotted) (t u : Name) (w : Where (Term Dotted)) → sentence text ≡ some (G.pair cs t u w)
+      → take (r .query .count) (r .query .selected) ≡ map (pairPlace t (columnsOf ts t) u (columnsOf ts u)) (items cs)
+  pub pair-asked : (cs : Listed Dotted) (t u : Name) (w : Where (Term Dotted)) → sentence text ≡ some (G.pair cs t u w)
+      → AgreesCondition (r .query .condition) (resolvedWhere (pairPlace t (columnsOf ts t) u (columnsOf ts u)) 0 w)
+  pub updated : (t : Name) (ss : Listed (Name × Given)) (w : Where (Term Name)) → sentence text ≡ some (G.update t ss w)
+      → AgreesCondition (r .update .condition) (resolvedWhere (position (columnsOf ts t)) (settingMarks (items ss)) w)
+  pub deleted : (t : Name) (w : Where (Term Name)) → sentence text ≡ some (G.delete t w) → AgreesCondition (r .update .condition) (resolvedWhere (position (columnsOf ts t)) 0 w)
 
 abbrev pub PositionsFound : Type 0
 PositionsFound = (text : List ℕ) (tables : List Table) (used queries updates cells : ℕ) → compiledOf text tables used queries updates cells .refusal ≡ 0
@@ -85,6 +91,54 @@ abbrev pub RowTestMeans : Type 0
 RowTestMeans = (c : Condition) (vs : List ℤ) (targets places : List ℕ) (numbers : List ℤ) (start : ℕ) → Prepared c vs targets places numbers start
     → (w : Where M.Operand) → AgreesCondition c w → (row : Row) → length row ≤ longest → passes targets places numbers start row ≡ meetsWhere w vs row
 
+-- ---- Request A.1: the same of questions over two tables, by what `select_pair` promises (`pairSays`, `pairLeaves`)
+
+-- a question of 1 to 8 columns of two tables of at most 8 columns each, in cells of 32 bits
+pub record PairAskable (q : Query) (t u : Table) (cells : List ℤ) : Type 0 where
+  pub array : length (q .selected) ≡ most-items
+  pub some-selected : 1 ≤ q .count
+  pub few-selected : q .count ≤ most-items
+  pub few-columns : t .count ≤ most-items
+  pub few-others : u .count ≤ most-items
+  pub narrow : All Is32 cells
+
+-- the whole buffer shows what the stored question lists of the pairs of rows, "in the first table's order, and for each in the second's"
+abbrev pub SelectPairReadsBack : Type 0
+SelectPairReadsBack = (q : Query) (t : Table) (start : ℕ) (u : Table) (beside : ℕ) (cells vs : List ℤ) (out : List ℕ) → PairAskable q t u cells
+    → pairSays q t start u beside cells vs out .refusal ≡ 0
+    → ReadsBack (pairLeaves q t start u beside cells vs out) (q .count) (answerStored q vs (pairs (rowsUsed t start cells) (rowsUsed u beside cells)))
+
+-- and these are the rows that Meaning lists for its sentence
+abbrev pub SelectPairMeans : Type 0
+SelectPairMeans = (q : Query) (q′ : M.Query) → AgreesQuery q q′ → (t : Table) (start : ℕ) (u : Table) (beside : ℕ) (cells vs : List ℤ) (out : List ℕ) → PairAskable q t u cells
+    → pairSays q t start u beside cells vs out .refusal ≡ 0
+    → ReadsBack (pairLeaves q t start u beside cells vs out) (length (q′ .selected)) (answer q′ vs (pairs (rowsUsed t start cells) (rowsUsed u beside cells)))
+
+-- 16 exactly if more than 65,535 rows are listed, whatever the buffer; then the buffer stays as it was
+abbrev pub TooManyExactlyIf : Type 0
+TooManyExactlyIf = (q : Query) (t : Table) (start : ℕ) (u : Table) (beside : ℕ) (cells vs : List ℤ) (out : List ℕ)
+    → (pairSays q t start u beside cells vs out .refusal ≡ 16) ↔ (most-listed < length (answerStored q vs (pairsUsed t start u beside cells)))
+
+abbrev pub RefusedLeavesBuffer : Type 0
+RefusedLeavesBuffer = (q : Query) (t : Table) (start : ℕ) (u : Table) (beside : ℕ) (cells vs : List ℤ) (out : List ℕ)
+    → pairSays q t start u beside cells vs out .refusal ≢ 0 → pairLeaves q t start u beside cells vs out ≡ out
+
+-- "Rows read are at most r1 + r1 × r2 for r1 and r2 rows": here they are just that, of tables whose rows lie inside the cells; and never more
+abbrev pub PairRowsRead : Type 0
+PairRowsRead = (q : Query) (t : Table) (start : ℕ) (u : Table) (beside : ℕ) (cells vs : List ℤ) (out : List ℕ)
+    → t .count ≤ most-items → u .count ≤ most-items → start + rowCells t ≤ length cells → beside + rowCells u ≤ length cells
+    → pairSays q t start u beside cells vs out .refusal ≡ 0 → pairSays q t start u beside cells vs out .scanned ≡ t .rows + t .rows * u .rows
+
+abbrev pub PairReadsAtMost : Type 0
+PairReadsAtMost = (q : Query) (t : Table) (start : ℕ) (u : Table) (beside : ℕ) (cells vs : List ℤ) (out : List ℕ)
+    → pairSays q t start u beside cells vs out .scanned ≤ t .rows + t .rows * u .rows
+
+-- A.3, "or a pair of rows": what tests a row gives, of the one row behind the other, what Meaning says of the pair
+abbrev pub PairTestMeans : Type 0
+PairTestMeans = (c : Condition) (vs : List ℤ) (targets places : List ℕ) (numbers : List ℤ) (start : ℕ) → Prepared c vs targets places numbers start
+    → (w : Where M.Operand) → AgreesCondition c w → (row other : Row) → length row ≤ most-items → length other ≤ most-items
+    → passes targets places numbers start (row ++ other) ≡ meetsWhere w vs (row ++ other)
+
 -- ---- all of these
 
 pub record Demands : Type 0 where
@@ -93,3 +147,10 @@ pub record Demands : Type 0 where
   pub rows-read : RowsRead
   pub positions-found : PositionsFound
   pub row-test-means : RowTestMeans
+  pub select-pair-reads-back : SelectPairReadsBack
+  pub select-pair-means : SelectPairMeans
+  pub too-many-exactly-if : TooManyExactlyIf
+  pub refused-leaves-buffer : RefusedLeavesBuffer
+  pub pair-rows-read : PairRowsRead
+  pub pair-reads-at-most : PairReadsAtMost
+  pub pair-test-means : PairTestMeans

@@ -2,6 +2,7 @@
 // What lies above names this crate alone.
 mod changes; // rows inserted, updated, deleted
 mod listing; // questions: the rows listed, written as a record
+mod pairs; // questions over two tables: the pairs of rows listed
 mod rows; // the test of a row, and the rows of a table
 
 pub use answer::row;
@@ -10,6 +11,7 @@ pub use changes::Changed;
 pub use changes::change;
 pub use listing::Selected;
 pub use listing::select;
+pub use pairs::select_pair;
 pub use statement::Comparison;
 pub use statement::Condition;
 pub use statement::Name;

@@ -155,6 +155,9 @@ fn print_selected(selected: [u8; Query::SELECTED], count: u8) {
 
 fn print_query(q: Query) {
     print_item(b" on ", q.table as u64);
+    if q.second != 0 {
+        print_byte(q.second - 1);
+    }
     print(b" selects");
     let selected = q.selected;
     print_selected(selected, q.count);

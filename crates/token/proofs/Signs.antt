@@ -13,7 +13,7 @@ use lib.ListN.{drop}
 use Rattle.lists.specs.Lists.{bytes}
 use Rattle.meaning.specs.Operator.{eq, ne, lt, le, gt, ge}
 use Rattle.meaning.specs.Tokens as M
-use Rattle.meaning.specs.Tokens.{operator, mark, comma, lparen, rparen, signs, behindPrefix, signIn}
+use Rattle.meaning.specs.Tokens.{operator, mark, comma, lparen, rparen, dot, signs, behindPrefix, signIn}
 use Rattle.meaning.proofs.Stream.{sign-here, sign-later}
 use Rattle.token.specs.Tokens.{kindOf, valueOf}
 use Rattle.token.specs.Parts.{pairOf, singleOf}
@@ -87,8 +87,9 @@ one-of b u =
     (one-found "?" mark (drop 7 signs) b _ refl 63 u refl
     (one-found "," comma (drop 8 signs) b _ refl 44 u refl
     (one-found "(" lparen (drop 9 signs) b _ refl 40 u refl
-    (one-found ")" rparen [] b 1 refl 41 u refl
-    (record { kind = refl; value = refl; left = refl })))))))
+    (one-found ")" rparen (drop 10 signs) b _ refl 41 u refl
+    (one-found "." dot [] b 1 refl 46 u refl
+    (record { kind = refl; value = refl; left = refl }))))))))
 
 longest : (b n : ℕ) (u : List ℕ) → Longest (pairOf b n) b n u (signIn signs b (n ∷ u))
 longest b n u =

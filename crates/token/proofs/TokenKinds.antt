@@ -11,7 +11,7 @@ use lib.ListN.{getD}
 use Rattle.lists.proofs.Bools.{clash}
 use Rattle.meaning.specs.Operator.{Operator, eq, ne, lt, le, gt, ge}
 use Rattle.meaning.specs.Tokens as M
-use Rattle.meaning.specs.Tokens.{Keyword, TABLE, ROWS, SELECT, FROM, WHERE, INSERT, INTO, VALUES, UPDATE, SET, DELETE, AND, OR, NOT, Name, keyword, name, constant, operator, mark, comma, lparen, rparen, other}
+use Rattle.meaning.specs.Tokens.{Keyword, TABLE, ROWS, SELECT, FROM, WHERE, INSERT, INTO, VALUES, UPDATE, SET, DELETE, AND, OR, NOT, Name, keyword, name, constant, operator, mark, comma, lparen, rparen, dot, other}
 use Rattle.meaning.specs.Limits.{isWithin32}
 use Rattle.token.specs.Tokens.{kindOf, valueOf}
 
@@ -51,6 +51,7 @@ fixedAt k =
     ∷ keyword AND
     ∷ keyword OR
     ∷ keyword NOT
+    ∷ dot
     ∷ [])
     k
     other
@@ -98,6 +99,7 @@ cases mark = inr (inr (by-computing refl refl))
 cases comma = inr (inr (by-computing refl refl))
 cases lparen = inr (inr (by-computing refl refl))
 cases rparen = inr (inr (by-computing refl refl))
+cases dot = inr (inr (by-computing refl refl))
 cases (operator o) = inr (inr (fixed-operator o))
 cases (keyword k) = inr (inr (fixed-keyword k))
 

@@ -22,6 +22,8 @@ table =
     ∷ ("<", made 11 (pos 0) 0 1)
     ∷ ("NOT(", made 28 (pos 0) 0 3)
     ∷ ("WHEREVER", made 1 (pos 0) 0 8)
+    ∷ (" .a", made 29 (pos 0) 1 2)
+    ∷ ("a.b", made 2 (pos 0) 0 1)
     ∷ []
 
 pub examples : map (λ (x : String × Token). tokenAt (bytes (x .0)) 0) table ≡ map (λ (x : String × Token). x .1) table

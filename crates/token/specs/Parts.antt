@@ -49,7 +49,8 @@ singleOf b =
     (cond (eqb 63 b) 5
     (cond (eqb 44 b) 6
     (cond (eqb 40 b) 7
-    (cond (eqb 41 b) 8 1))))))
+    (cond (eqb 41 b) 8
+    (cond (eqb 46 b) 29 1)))))))
 
 -- the token at a position that holds no space
 unfoldable pub readAt : List ℕ → ℕ → Token

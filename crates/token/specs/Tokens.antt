@@ -8,7 +8,7 @@ use lib.ListN.{length, drop}
 use Rattle.lists.specs.Lists.{dropWhile}
 use Rattle.meaning.specs.Operator.{Operator, eq, ne, lt, le, gt, ge}
 use Rattle.meaning.specs.Tokens as M
-use Rattle.meaning.specs.Tokens.{Keyword, TABLE, ROWS, SELECT, FROM, WHERE, INSERT, INTO, VALUES, UPDATE, SET, DELETE, AND, OR, NOT, keyword, name, constant, operator, mark, comma, lparen, rparen, other, isSpace, firstToken}
+use Rattle.meaning.specs.Tokens.{Keyword, TABLE, ROWS, SELECT, FROM, WHERE, INSERT, INTO, VALUES, UPDATE, SET, DELETE, AND, OR, NOT, keyword, name, constant, operator, mark, comma, lparen, rparen, dot, other, isSpace, firstToken}
 use Rattle.meaning.specs.Limits.{isWithin32}
 use Rattle.token.specs.declared.Token.{Token}
 
@@ -48,6 +48,7 @@ kindOf lparen = 7
 kindOf rparen = 8
 kindOf (operator o) = 9 + operatorNumber o
 kindOf (keyword k) = 15 + keywordNumber k
+kindOf dot = 29
 
 -- a constant's value, where it has 32 bits
 abbrev pub valueOf : M.Token → ℤ
@@ -60,6 +61,7 @@ valueOf lparen = pos 0
 valueOf rparen = pos 0
 valueOf (operator o) = pos 0
 valueOf (keyword k) = pos 0
+valueOf dot = pos 0
 
 abbrev pub made : ℕ → ℤ → ℕ → ℕ → Token
 made kind value start next = record { kind = kind; value = value; start = start; next = next }

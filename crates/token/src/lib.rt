@@ -76,6 +76,8 @@ impl Token {
     pub const OR: u8 = 27;
 
     pub const NOT: u8 = 28;
+
+    pub const DOT: u8 = 29;
 }
 
 // The runs of bytes that `run_end` follows.
@@ -345,7 +347,8 @@ fn pair(b: u8, n: u8) -> u8
 fn single(b: u8) -> u8
     ensures { λ r. ⌜ r ≡ singleOf b ⌝ }
 {
-    let mut k = either(b')' == b, Token::CLOSE, Token::OTHER);
+    let mut k = either(b'.' == b, Token::DOT, Token::OTHER);
+    k = either(b')' == b, Token::CLOSE, k);
     k = either(b'(' == b, Token::OPEN, k);
     k = either(b',' == b, Token::COMMA, k);
     k = either(b'?' == b, Token::MARK, k);

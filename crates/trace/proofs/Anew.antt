@@ -125,7 +125,7 @@ module _ (lent : Lengths) (n size : ℕ) where
   still : {p : Plain} {h : List (Event Key)} → Past lent p h → (k : Key) → fits size (recordOf p k) ≡ true → Answered k h
       → any (hits k) (since sameKey k h) ≡ false → Still sameKey n size k (since sameKey k h) (recent sameKey n size h)
   still start k f a c = absurd a
-  still (asks {p = p} {h = h} j e s) k f a c = go (sameKey j k) a c (λ a′ c′. still s k f a′ c′)
+  still (asks {p = p} {h = h} j e m s) k f a c = go (sameKey j k) a c (λ a′ c′. still s k f a′ c′)
     where
       step : j ≢ k → Still sameKey n size k (since sameKey k h) (recent sameKey n size h)
           → Still sameKey n size k (answer-of j (recordOf p j) ∷ since sameKey k h)
@@ -142,14 +142,14 @@ module _ (lent : Lengths) (n size : ℕ) where
       go (yes i) b d ih = now sameKey n size k j (recordOf p j) (recent sameKey n size h) i (fits size (recordOf p j)) (rw i f)
       go (no ne) (inl i) d ih = absurd (ne i)
       go (no ne) (inr b) d ih = step ne (ih b d)
-  still (adds g s) k f a c = still s k (rw (g k (valid lent s k a) .1 refl) at f) a c
+  still (adds g s) k f a c = still s k (rw (g k (valid lent s k a) .1 refl .0) at f) a c
   still (drops {p = p} {h = h} d g s) k f a c = go (d k) refl c (λ f′ c′. still s k f′ a c′)
     where
       go : (b : Bool) → d k ≡ b → (b || any (hits k) (since sameKey k h)) ≡ false
           → (fits size (recordOf p k) ≡ true → any (hits k) (since sameKey k h) ≡ false → Still sameKey n size k (since sameKey k h) (recent sameKey n size h))
           → Still sameKey n size k (drop-of d ∷ since sameKey k h) (keep (spared d) (recent sameKey n size h))
       go true e c′ ih = absurd (true≢false c′)
-      go false e c′ ih = past-drop sameKey n size k (since sameKey k h) (recent sameKey n size h) d e (ih (rw (g k (valid lent s k a) .1 e) at f) c′)
+      go false e c′ ih = past-drop sameKey n size k (since sameKey k h) (recent sameKey n size h) d e (ih (rw (g k (valid lent s k a) .1 e .0) at f) c′)
 
   -- a key that is not kept, though it was answered, fits and was not dropped: the others filled the slots
   pub filled : {p : Plain} {h : List (Event Key)} → Past lent p h → (k : Key) → All (λ x. x .0 ≢ k) (recent sameKey n size h)

@@ -1,6 +1,6 @@
 -- A call gets from the store that keeps answers what it gets from the plain store, and the slots keep what `recent` says of the history. Assumes nothing.
-use mathlib.Core.Path.{_≡_, refl, ap, _∙_}
-use mathlib.Core.Bool.{true}
+use mathlib.Core.Path.{_≡_, refl, ap, _∙_, sym}
+use mathlib.Core.Bool.{true, false}
 use mathlib.Core.Option.{Option, none, some}
 use mathlib.Core.List.{List, _∷_, _++_, map}
 use Prim.Native.Nat.{ℕ, zero, suc}
@@ -8,10 +8,10 @@ use Rattle.lists.specs.Lists.{All}
 use Rattle.lists.proofs.Lists.{All-head, All-right, All-source}
 use Rattle.meaning.specs.Key.{Key, sameKey}
 use Rattle.meaning.specs.Plain as P
-use Rattle.meaning.specs.Plain.{Lengths, Plain, Call, add, ask, change, flush, refusal, recordOf, matchesKey, Out, refused, does, guard}
+use Rattle.meaning.specs.Plain.{Lengths, Plain, Call, add, ask, change, flush, refusal, recordOf, tooMany, matchesKey, Out, refused, does, guard}
 use Rattle.trace.specs.History.{Event, answer-of, noted, note, fits}
 use Rattle.trace.specs.Slots.{Held, slotBytes, find, moveToFront}
-use Rattle.trace.specs.Model.{Seen, turned, Model, askRefusal, shortRefusal, asked, step}
+use Rattle.trace.specs.Model.{Seen, turned, Model, askRefusal, shortRefusal, newRefusal, asked, step}
 use Rattle.trace.proofs.Laws.{firstOf, ask-refusal}
 use Rattle.trace.proofs.Past.{Past, Current, current}
 use Rattle.trace.proofs.Kept.{entry, Found, find-is, Sound, hit, put-sound, drop-sound}
@@ -38,11 +38,11 @@ module _ (lent : Lengths) (n size : ℕ) where
         All-head (All-right a (rw i at (All-source (entry size (s .cache .memory)) (s .cache .held) all)))
 
     asked-agrees : (k : Key) (b : ℕ) (o : Option (Held Key × List (Held Key))) → Found k (s .cache .held) o
-        → Agrees (note (shortRefusal b (recordOf (s .store) k)) (s .store) (ask k b) h)
-        (guard (shortRefusal b (recordOf (s .store) k)) (s .store) refused (does (s .store) (ask k b)))
+        → Agrees (note (newRefusal (s .store) k b) (s .store) (ask k b) h)
+        (guard (newRefusal (s .store) k b) (s .store) refused (does (s .store) (ask k b)))
         (asked lent size s k b o)
     asked-agrees k b none miss =
-        guarded (shortRefusal b (recordOf (s .store) k)) (ask k b) s h _ _ ok
+        guarded (newRefusal (s .store) k b) (ask k b) s h _ _ ok
         (record {
           stored = refl;
           got = refl;
@@ -54,15 +54,16 @@ module _ (lent : Lengths) (n size : ℕ) where
         let moved : Sound sameKey n size (moveToFront (s .cache) w) (answer-of k (recordOf (s .store) k) ∷ h) =
         rw rest-is
         (hit sameKey n size (s .cache .memory) (s .cache .free) h k (recordOf (s .store) k) x (w .0) y key-is e (rw e at (g .small)) (rw held-is at ok)) in
-        rw e (guarded (shortRefusal b (recordOf (s .store) k)) (ask k b) s h _ _ ok (record { stored = refl; got = refl; sound = moved }))
+        let few : tooMany (s .store) k ≡ false = ap (tooMany (s .store)) (sym key-is) ∙ g .few in
+        rw (e, few) (guarded (shortRefusal b (recordOf (s .store) k)) (ask k b) s h _ _ ok (record { stored = refl; got = refl; sound = moved }))
 
     pub step-agrees : (c : Call) → Agrees (note (refusal lent (s .store) c) (s .store) c h) (P.step lent (s .store) c) (step lent size s c)
     step-agrees (add text) = guarded (refusal lent (s .store) (add text)) (add text) s h _ _ ok (record { stored = refl; got = refl; sound = ok })
     step-agrees (ask k b) = rw (ask-refusal lent (s .store) k b) (go (askRefusal lent (s .store) k))
       where
         go : (m : ℕ)
-            → Agrees (note (firstOf m (shortRefusal b (recordOf (s .store) k))) (s .store) (ask k b) h)
-            (guard (firstOf m (shortRefusal b (recordOf (s .store) k))) (s .store) refused (does (s .store) (ask k b)))
+            → Agrees (note (firstOf m (newRefusal (s .store) k b)) (s .store) (ask k b) h)
+            (guard (firstOf m (newRefusal (s .store) k b)) (s .store) refused (does (s .store) (ask k b)))
             (guard m s turned (asked lent size s k b (find sameKey k (s .cache .held))))
         go zero = asked-agrees k b (find sameKey k (s .cache .held)) (find-is sameKey k (s .cache .held))
         go (suc m) = record { stored = refl; got = refl; sound = ok }

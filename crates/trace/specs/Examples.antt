@@ -10,17 +10,20 @@ use Rattle.lists.specs.Lists.{bytes}
 use Rattle.meaning.specs.Tokens.{isNameByte, isWordByte, decimal, isName, word, negative, tokenFrom, firstToken, scan, tokens}
 use Rattle.meaning.specs.Grammar.{aCondition, aSentence, read}
 use Rattle.meaning.specs.Limits.{pastLimit}
-use Rattle.meaning.specs.Names.{unknown, taken, miscounted}
+use Rattle.meaning.specs.Names.{unknown, taken, miscounted, twice}
 use Rattle.meaning.specs.Statement.{statementOf}
 use Rattle.meaning.specs.Meaning.{answer, changed, rowsChanged}
 use Rattle.meaning.specs.Record.{body, encode}
-use Rattle.meaning.specs.Pattern.{jointClauses, class, contradictory, entry, patterns, matches}
-use Rattle.meaning.specs.Plain.{Opening, openingRefused, Call, add, ask, change, flush, otherLengths, noPlace, full, refusal, recordOf, matchesKey, Out, refused, added, answered, rows, flushed, aTable, aQuery, anUpdate, addedText, changedBy, rowsBy}
-use Rattle.trace.specs.Model.{Seen, outs, slotSize, opened}
+use Rattle.meaning.specs.Pattern.{sideOf, jointClauses, class, contradictory, entry, patterns, matches}
+use Rattle.meaning.specs.Plain.{Opening, openingRefused, Call, add, ask, change, flush, otherLengths, noPlace, full, refusal, recordOf, tooMany, matchesKey, Out, refused, added, answered, rows, flushed, aTable, aQuery, anUpdate, addedText, changedBy, rowsBy}
+use Rattle.meaning.specs.Key.{Key}
+use Rattle.meaning.specs.Paired.{long, first-question}
+use Rattle.trace.specs.Slots.{Held}
+use Rattle.trace.specs.Model.{Seen, Model, step, outs, slotSize, opened}
 
 -- what the computations open
 computing : Unit {0}
-unfolding isNameByte isWordByte decimal isName word negative tokenFrom firstToken scan tokens aCondition aSentence read pastLimit unknown taken miscounted statementOf answer changed rowsChanged body encode jointClauses class contradictory entry patterns matches openingRefused otherLengths noPlace full refusal recordOf matchesKey addedText changedBy rowsBy
+unfolding isNameByte isWordByte decimal isName word negative tokenFrom firstToken scan tokens aCondition aSentence read pastLimit unknown taken miscounted twice statementOf answer changed rowsChanged body encode jointClauses class contradictory entry patterns matches openingRefused otherLengths noPlace full refusal recordOf tooMany sideOf matchesKey addedText changedBy rowsBy
 computing = tt
 
 -- 4,096 cells, 256 bytes of kept memory, 4 slots of 64 bytes
@@ -122,3 +125,57 @@ pub short-is : lines (texts
     ∷ []
 unfolding computing
 short-is = refl
+
+-- ---- request A.1
+
+-- a question over two tables: an INSERT into the second drops the answers for its site alone, and one into the first as well
+abbrev paired : List Call
+paired =
+    ADD "TABLE stage (site, level) ROWS 3"
+    ∷ ADD "TABLE rating (site, flow) ROWS 3"
+    ∷ ADD "INSERT INTO stage VALUES (?, ?)"
+    ∷ ADD "INSERT INTO rating VALUES (?, ?)"
+    ∷ ADD "SELECT rating.flow FROM stage, rating WHERE stage.site = ? AND stage.site = rating.site"
+    ∷ DO 0 (7 ∷ 120 ∷ [])
+    ∷ DO 1 (7 ∷ 31 ∷ [])
+    ∷ ASK 0 (7 ∷ [])
+    ∷ DO 1 (8 ∷ 20 ∷ [])
+    ∷ ASK 0 (7 ∷ [])
+    ∷ DO 1 (7 ∷ 32 ∷ [])
+    ∷ ASK 0 (7 ∷ [])
+    ∷ DO 0 (7 ∷ 121 ∷ [])
+    ∷ ASK 0 (7 ∷ [])
+    ∷ []
+
+pub paired-is : lines paired
+    ≡ plain (added aTable 0)
+    ∷ plain (added aTable 1)
+    ∷ plain (added anUpdate 0)
+    ∷ plain (added anUpdate 1)
+    ∷ plain (added aQuery 0)
+    ∷ plain (rows 1)
+    ∷ plain (rows 1)
+    ∷ (answered (0 ∷ 0 ∷ 0 ∷ 8 ∷ 1 ∷ 1 ∷ 0 ∷ 1 ∷ levels (31 ∷ [])), 0, 2, 0)
+    ∷ plain (rows 1)
+    ∷ (answered (0 ∷ 0 ∷ 0 ∷ 8 ∷ 1 ∷ 1 ∷ 0 ∷ 1 ∷ levels (31 ∷ [])), 1, 0, 0)
+    ∷ (rows 1, 0, 0, 1)
+    ∷ (answered (0 ∷ 0 ∷ 0 ∷ 12 ∷ 1 ∷ 1 ∷ 0 ∷ 2 ∷ levels (31 ∷ 32 ∷ [])), 0, 4, 0)
+    ∷ (rows 1, 0, 0, 1)
+    ∷ (answered (0 ∷ 0 ∷ 0 ∷ 20 ∷ 1 ∷ 1 ∷ 0 ∷ 4 ∷ levels (31 ∷ 32 ∷ 31 ∷ 32 ∷ [])), 0, 8, 0)
+    ∷ []
+unfolding computing
+paired-is = refl
+
+-- 16 is for an answer worked out anew: 65,536 rows with no slot, and with one that holds eight bytes for the key
+abbrev asking : List (Held Key) → Seen
+asking held =
+    let s : Model = record { store = long 256 256; cache = record { held = held; free = []; memory = 0 ∷ 0 ∷ 0 ∷ 4 ∷ 1 ∷ 1 ∷ 0 ∷ 0 ∷ [] } } in
+    step (s .store .lengths) 8 s (ask (first-question []) 8) .1
+
+pub sixteen-is : lineOf (asking []) ≡ plain (refused 16)
+unfolding computing
+sixteen-is = refl
+
+pub kept-is : lineOf (asking (record { slot = 0; key = first-question []; len = 8 } ∷ [])) ≡ (answered (0 ∷ 0 ∷ 0 ∷ 4 ∷ 1 ∷ 1 ∷ 0 ∷ 0 ∷ []), 1, 0, 0)
+unfolding computing
+kept-is = refl

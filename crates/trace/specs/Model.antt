@@ -7,7 +7,7 @@ use Prim.Native.Nat.{ℕ}
 use lib.ListN.{length, replicate}
 use Rattle.meaning.specs.Key.{Key, sameKey}
 use Rattle.meaning.specs.Plain as P
-use Rattle.meaning.specs.Plain.{Lengths, Plain, Opening, openingRefused, Call, add, ask, change, flush, askConditions, isShort, orElse, lowestOf, refusal, recordOf, rowsAsked, matchesKey, Out, refused, answered, does, guard}
+use Rattle.meaning.specs.Plain.{Lengths, Plain, Opening, openingRefused, Call, add, ask, change, flush, askConditions, isShort, orElse, lowestOf, refusal, recordOf, tooMany, rowsRead, matchesKey, Out, refused, answered, does, guard}
 use Rattle.trace.specs.History.{fits}
 use Rattle.trace.specs.Slots.{Held, Cache, slotBytes, empty, find, moveToFront, put, dropBy, dropCount}
 
@@ -29,7 +29,7 @@ pub record Model : Type 0 where
   pub store : Plain
   pub cache : Cache Key
 
--- the refusals of a question but 13
+-- the refusals of a question but 16 and 13
 abbrev pub askRefusal : Lengths → Plain → Key → ℕ
 askRefusal lent p k = lowestOf (askConditions lent p k)
 
@@ -37,14 +37,19 @@ askRefusal lent p k = lowestOf (askConditions lent p k)
 abbrev pub shortRefusal : ℕ → List ℕ → ℕ
 shortRefusal buffer r = orElse (isShort buffer r) 13 0
 
+-- 16 (A.1) or 13, for an answer worked out anew
+abbrev pub newRefusal : Plain → Key → ℕ → ℕ
+newRefusal p k buffer = orElse (tooMany p k) 16 (shortRefusal buffer (recordOf p k))
+
 -- a store of slots of `size` bytes, with memories of the lengths `lent`
 module _ (lent : Lengths) (size : ℕ) where
-  -- a question, by whether a slot holds its key: "Asking gives: 1 for kept or 0 for new; rows read (0 if kept, else the table's row count)"
+  -- a question, by whether a slot holds its key: "Asking gives: 1 for kept or 0 for new; rows read (0 if kept, else the table's row count)"; over two tables
+  -- as `rowsRead` says
   abbrev pub asked : Model → Key → ℕ → Option (Held Key × List (Held Key)) → Model × Seen
   asked s k buffer none =
-      guard (shortRefusal buffer (recordOf (s .store) k)) s turned (
+      guard (newRefusal (s .store) k buffer) s turned (
         record { store = s .store; cache = put size (fits size (recordOf (s .store) k)) (s .cache) k (recordOf (s .store) k) },
-        record { out = answered (recordOf (s .store) k); kept = 0; scanned = rowsAsked (s .store) (k .query); drops = 0 },
+        record { out = answered (recordOf (s .store) k); kept = 0; scanned = rowsRead (s .store) k; drops = 0 },
       )
   asked s k buffer (some w) =
       guard (shortRefusal buffer (slotBytes size (s .cache .memory) (w .0))) s turned (

@@ -6,6 +6,7 @@ use crate::generate::{awkward, script, Generated, Script};
 use std::collections::BTreeMap;
 use std::io::{Read, Write};
 use std::process::{Command, Stdio};
+use std::time::Instant;
 
 /// What the program prints for a script, and how it ended if not well. The script is written in pieces of at most
 /// `piece` bytes.
@@ -36,24 +37,57 @@ struct Other<'a> {
     piece: usize,
 }
 
-/// Do the outputs differ? A script with a line that the language does not fix tells nothing.
-fn differs(other: Other, script: &Script) -> bool {
+/// Is this line the reference's `new read N ..`, but for an N that is smaller?
+fn is_within(printed: &[u8], reference: &[u8]) -> bool {
+    let parts = |line: &[u8]| -> Option<(usize, Vec<u8>)> {
+        let (number, rest) = std::str::from_utf8(line).ok()?.strip_prefix("new read ")?.split_once(' ')?;
+        let read: usize = number.parse().ok()?;
+        (read.to_string() == number).then(|| (read, rest.as_bytes().to_vec()))
+    };
+    match (parts(printed), parts(reference)) {
+        (Some((read, rest)), Some((most, wanted))) => read <= most && rest == wanted,
+        _ => false,
+    }
+}
+
+/// Does the program print what the reference prints? `bounds` are the lines whose rows read may be fewer.
+fn agrees(printed: &[u8], reference: &[u8], bounds: &[usize]) -> bool {
+    let split = |text: &[u8]| -> Vec<Vec<u8>> { text.split(|&b| b == b'\n').map(<[u8]>::to_vec).collect() };
+    if printed == reference || bounds.is_empty() {
+        return printed == reference;
+    }
+    let (printed, reference) = (split(printed), split(reference));
+    let same = |at: usize| printed[at] == reference[at] || bounds.contains(&at) && is_within(&printed[at], &reference[at]);
+    printed.len() == reference.len() && (0..printed.len()).all(same)
+}
+
+/// Do the outputs differ? `None` for a script with a line that the language does not fix, which tells nothing.
+fn tells_apart(other: Other, script: &Script) -> Option<bool> {
     let bytes = script.bytes();
     let (reference, front) = run(other.mode, &bytes);
     if front.unfixed {
-        return false;
+        return None;
     }
     let (printed, ended) = run_program(other.program, &bytes, other.piece);
-    reference != printed || ended.is_some()
+    Some(!agrees(&printed, &reference, &front.bounds) || ended.is_some())
 }
 
-/// Removes lines while the difference stays.
+fn differs(other: Other, script: &Script) -> bool {
+    tells_apart(other, script) == Some(true)
+}
+
+/// Removes lines while the difference stays, for about a minute at most.
 fn shorten(other: Other, mut script: Script) -> Script {
+    let start = Instant::now();
     let mut size = script.lines.len() / 2;
     while size > 0 {
         let mut at = 0;
         let mut removed = false;
         while at < script.lines.len() {
+            if start.elapsed().as_secs() > 60 {
+                println!("(not wholly shortened)");
+                return script;
+            }
             let end = (at + size).min(script.lines.len());
             let lines = [&script.lines[..at], &script.lines[end..]].concat();
             let shorter = Script { lines, ended: script.ended };
@@ -71,6 +105,14 @@ fn shorten(other: Other, mut script: Script) -> Script {
     script
 }
 
+/// A line as text; of a very long one the beginning.
+fn shown(line: &[u8]) -> String {
+    match line.get(..2_000) {
+        Some(beginning) => format!("{} .. ({} bytes)", beginning.escape_ascii(), line.len()),
+        None => line.escape_ascii().to_string(),
+    }
+}
+
 /// The script, and what both print for it.
 fn show(other: Other, script: &Script) {
     let bytes = script.bytes();
@@ -79,10 +121,15 @@ fn show(other: Other, script: &Script) {
     let last = if script.ended { "" } else { " (the last line without its end)" };
     for (title, text) in [(format!("the script{last}:"), &bytes), ("the reference prints:".to_string(), &reference)] {
         println!("{title}");
-        lines(text).iter().for_each(|line| println!("    {}", line.escape_ascii()));
+        lines(text).iter().for_each(|line| println!("    {}", shown(line)));
     }
     println!("the program prints:");
-    lines(&printed).iter().for_each(|line| println!("    {}", line.escape_ascii()));
+    lines(&printed).iter().for_each(|line| println!("    {}", shown(line)));
+    for (at, (a, b)) in lines(&reference).iter().zip(lines(&printed)).enumerate() {
+        if let (false, Some(place)) = (*a == b, (0..a.len().min(b.len())).find(|&i| a[i] != b[i])) {
+            println!("line {} of what they print differs from its byte {} on", at + 1, place + 1);
+        }
+    }
     if printed.last().is_some_and(|&b| b != b'\n') {
         println!("    (the last line without its end)");
     }
@@ -134,6 +181,9 @@ impl Tally {
         for (ground, n) in ["first", "does not fit", "updated or flushed", "other keys"].iter().zip(made.grounds) {
             self.add(&format!("new, ground: {ground}"), n);
         }
+        for (what, n) in &made.pairs {
+            self.add(&format!("over two tables: {what}"), *n);
+        }
     }
 
     pub fn print(&self) {
@@ -174,13 +224,11 @@ pub fn compare(mode: Mode, program: &str, first: u64, count: u64, length: usize)
         };
         all_lines += made.script.lines.len();
         tally.take(&made);
-        let bytes = made.script.bytes();
-        let (_, front) = run(mode, &bytes);
-        assert!(!front.unfixed, "seed {seed} makes a line that the language does not fix");
         // Most scripts are written at once, some in small pieces, so that reads end inside lines.
-        let piece = if seed % 7 == 3 { 1 + (seed % 601) as usize } else { bytes.len().max(1) };
+        let piece = if seed % 7 == 3 { 1 + (seed % 601) as usize } else { made.script.bytes().len().max(1) };
         let other = Other { mode, program, piece };
-        if differs(other, &made.script) {
+        let differ = tells_apart(other, &made.script);
+        if differ.unwrap_or_else(|| panic!("seed {seed} makes a line that the language does not fix")) {
             println!("DIFFERENCE, seed {seed} ({:?}), {} lines", made.profile, made.script.lines.len());
             show(other, &shorten(other, made.script));
             return false;

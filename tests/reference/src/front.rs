@@ -1,7 +1,7 @@
 //! The two front ends: `desk`, and `calls` (one call a line, with the lengths lent).
 
 use crate::meaning::{record_shape, show_row, values_of};
-use crate::store::Store;
+use crate::store::{Answer, Store};
 use crate::text::constant;
 
 #[derive(Clone, Copy, PartialEq, Debug)]
@@ -20,10 +20,16 @@ pub struct Front {
     last: Vec<u8>,
     /// Calls: a line came that this language does not fix (the comparison leaves such a script out).
     pub unfixed: bool,
+    /// Lines printed, and the numbers of those whose rows read are a bound: new answers of questions over two tables.
+    printed: usize,
+    pub bounds: Vec<usize>,
 }
 
 /// Calls: the bytes a script may have.
 pub const CALLS_BYTES: usize = 65_536;
+
+/// Calls: the longest answer buffer. The longest record, 65,535 rows of 8 columns, has 2,097,128 bytes.
+pub const BUFFER: usize = 2_200_000;
 
 const BAD: &str = "bad line";
 
@@ -68,22 +74,27 @@ fn values(words: &[&[u8]]) -> Option<Vec<i32>> {
 
 impl Front {
     pub fn new(mode: Mode) -> Front {
-        match mode {
+        let (store, lent) = match mode {
             Mode::Desk => {
                 let (store, result) = Store::open(4_096, 256, 4, 64);
                 assert_eq!(result, Ok(()));
-                Front { mode, store, lent: (4_096, 256), buffer: None, last: vec![], unfixed: false }
+                (store, (4_096, 256))
             }
-            Mode::Calls => {
-                let (store, _) = Store::open(0, 0, 0, 0);
-                Front { mode, store, lent: (0, 0), buffer: None, last: vec![], unfixed: false }
-            }
-        }
+            Mode::Calls => (Store::open(0, 0, 0, 0).0, (0, 0)),
+        };
+        Front { mode, store, lent, buffer: None, last: vec![], unfixed: false, printed: 0, bounds: vec![] }
+    }
+
+    /// What `line` gives, but `read at most N` where the rows read are a bound.
+    pub fn line_with_bounds(&mut self, line: &[u8]) -> Option<String> {
+        let before = self.bounds.len();
+        let printed = self.line(line)?;
+        Some(if self.bounds.len() > before { printed.replacen(" read ", " read at most ", 1) } else { printed })
     }
 
     /// What a line (without its end) prints; `None`: nothing.
     pub fn line(&mut self, line: &[u8]) -> Option<String> {
-        match self.mode {
+        let printed = match self.mode {
             Mode::Desk => Some(self.desk_line(line).unwrap_or_else(|| BAD.to_string())),
             Mode::Calls => match self.calls_line(line) {
                 Some(printed) => printed,
@@ -92,7 +103,17 @@ impl Front {
                     Some(BAD.to_string())
                 }
             },
+        };
+        self.printed += usize::from(printed.is_some());
+        printed
+    }
+
+    /// What an answer prints before its length and rows.
+    fn read(&mut self, answer: &Answer) -> String {
+        if answer.paired && !answer.kept {
+            self.bounds.push(self.printed);
         }
+        format!("{} read {}", if answer.kept { "kept" } else { "new" }, answer.rows_read)
     }
 
     fn add(&mut self, text: &[u8]) -> String {
@@ -131,10 +152,7 @@ impl Front {
                 let n = digits(words[1], 2_147_483_647)?;
                 let values = values(&words[2..])?;
                 Some(match self.store.ask(self.lent, n, &values, 65_536) {
-                    Ok(answer) => {
-                        let how = if answer.kept { "kept" } else { "new" };
-                        format!("{how} read {} {}", answer.rows_read, rows_of(&answer.record))
-                    }
+                    Ok(answer) => format!("{} {}", self.read(&answer), rows_of(&answer.record)),
                     Err(number) => refused(number),
                 })
             }
@@ -179,17 +197,16 @@ impl Front {
                 Some(None)
             }
             b"ASK" if words.len() >= 3 && words.len() <= 12 => {
-                let (n, length) = (number(1, 2_147_483_647)?, number(2, 16_392)? as usize);
+                let (n, length) = (number(1, 2_147_483_647)?, number(2, BUFFER as u64)? as usize);
                 let values = values(&words[3..])?;
                 Some(Some(match self.store.ask(self.lent, n, &values, length) {
                     Ok(answer) => {
-                        let how = if answer.kept { "kept" } else { "new" };
                         let mut buffer = vec![0; length];
                         buffer[..answer.record.len()].copy_from_slice(&answer.record);
                         self.last = buffer.clone();
                         self.buffer = Some(buffer);
-                        let rows = rows_of(&answer.record);
-                        format!("{how} read {} bytes {} {rows}", answer.rows_read, answer.record.len())
+                        let read = self.read(&answer);
+                        format!("{read} bytes {} {}", answer.record.len(), rows_of(&answer.record))
                     }
                     Err(number) => refused(number),
                 }))
@@ -210,7 +227,11 @@ impl Front {
                 let mut state = self.store.state();
                 state.spoil(part, &numbers)?;
                 let taken = state.is_sound() && self.lent == (state.cells, state.bytes);
-                Some(Some(if taken { String::from("flushed") } else { refused(2) }))
+                Some(Some(match (taken, state.is_open()) {
+                    (false, _) => refused(2),
+                    (true, false) => String::from("flushed"),
+                    (true, true) => String::from("open"),
+                }))
             }
             b"SLOTS" if words.len() == 1 => {
                 let order: String = self.store.order.iter().map(|slot| format!(" {slot}")).collect();

@@ -1,8 +1,9 @@
 //! Random scripts. A seed gives a profile and then the lines; the reference runs along, so that most lines can be
 //! biased to be taken (existing tables, columns, marks, keys kept, buffers that just fit).
 
-use crate::front::{Front, Mode, CALLS_BYTES};
+use crate::front::{Front, Mode, BUFFER, CALLS_BYTES};
 use crate::text::{Catalogue, Change, Statement};
+use std::collections::BTreeMap;
 
 pub struct Random(u64);
 
@@ -58,7 +59,7 @@ pub enum Profile {
     Openings,
     /// No slot, or 64 of them.
     Slots,
-    /// Wide and long tables, long records.
+    /// Wide and long tables, long records; in some scripts pairs of about 65,536 rows.
     Large,
     /// Some of all.
     Mixed,
@@ -111,12 +112,16 @@ pub struct Generated {
     pub too_long: usize,
     /// Answers dropped by INSERT, UPDATE, DELETE.
     pub drops: [usize; 3],
+    /// What came of questions over two tables.
+    pub pairs: BTreeMap<String, usize>,
 }
 
 struct Generator {
     random: Random,
     mode: Mode,
     profile: Profile,
+    /// With pairs of about 65,536 rows.
+    square: bool,
     front: Front,
     made: Generated,
 }
@@ -136,6 +141,19 @@ const OUTSIDE: [&str; 7] = [
 
 fn words(text: &str) -> Vec<String> {
     text.split(' ').map(String::from).collect()
+}
+
+/// The words of a text, each dot a word of its own.
+fn dotted_words(text: &str) -> Vec<String> {
+    words(&text.replace('.', " . ")).into_iter().filter(|word| !word.is_empty()).collect()
+}
+
+/// A table's name and columns.
+type Named = (String, Vec<String>);
+
+/// The columns as they are written in a question over two tables.
+fn dotted(table: &Named) -> Vec<String> {
+    table.1.iter().map(|column| format!("{}.{column}", table.0)).collect()
 }
 
 impl Generator {
@@ -340,7 +358,8 @@ impl Generator {
         let low = if self.random.chance(15) { "1" } else { "2" };
         let f = self.groups_on(&column, &[low, "3", "3", "2"], of_question, more_question);
         let f = if self.random.chance(30) { f.replacen("= 3", "= ?", 1) } else { f };
-        self.add(&words(&format!("SELECT {column} FROM {table} WHERE {f}")));
+        let question = self.question_of(&table, &column, &f);
+        self.add(&question);
         let set = self.random.pick(&["0", "?", "1"]);
         let update = if delete {
             format!("DELETE FROM {table} WHERE {g}")
@@ -365,7 +384,8 @@ impl Generator {
             };
             text.split(' ').map(word).collect::<Vec<_>>().join(" ")
         };
-        self.add(&words(&format!("SELECT {d} FROM {table} WHERE {}", named(f))));
+        let question = self.question_of(&table, &d, &named(f));
+        self.add(&question);
         let update = match self.random.below(4) {
             0 => format!("UPDATE {table} SET {c} = ? WHERE {}", named(g)),
             1 => format!("INSERT INTO {table} VALUES ( {} )", vec!["?"; columns.len()].join(" , ")),
@@ -386,7 +406,8 @@ impl Generator {
         let of_columns = self.random.chance(30);
         let f = format!("{c} {relation} {}", if of_columns { &d } else { "2" });
         let f = if self.random.chance(70) { format!("NOT {f}") } else { f };
-        self.add(&words(&format!("SELECT {c} FROM {table} WHERE {f}")));
+        let question = self.question_of(&table, &c, &f);
+        self.add(&question);
         let beside = self.random.between(1, 3);
         let update = match self.random.below(3) {
             _ if of_columns => format!("DELETE FROM {table} WHERE {d} = {c}"),
@@ -396,6 +417,28 @@ impl Generator {
         };
         self.add(&words(&update));
         self.try_last_pair();
+    }
+
+    /// A question over a table; now and then over this and another one, which it leaves free.
+    fn question_of(&mut self, table: &str, selected: &str, f: &str) -> Vec<String> {
+        let alone = words(&format!("SELECT {selected} FROM {table} WHERE {f}"));
+        let mut others: Vec<String> = self.front.store.catalogue.tables.iter().map(|t| t.name.clone()).collect();
+        others.retain(|name| name != table);
+        if others.is_empty() || self.random.chance(65) {
+            return alone;
+        }
+        let other = self.random.pick(&others);
+        let from = if self.random.chance(50) { format!("{table} , {other}") } else { format!("{other} , {table}") };
+        let is_name = |word: &str| word.starts_with(|c: char| c.is_ascii_lowercase());
+        let dotted = |text: &str| {
+            let word = |w: &str| if is_name(w) { format!("{table}.{w}") } else { w.to_string() };
+            text.split(' ').map(word).collect::<Vec<_>>().join(" ")
+        };
+        let paired = format!("SELECT {} FROM {from} WHERE {}", dotted(selected), dotted(f));
+        if paired.len() > 256 {
+            return alone;
+        }
+        dotted_words(&paired)
     }
 
     /// The last question asked, the last update done, the same asked again.
@@ -408,12 +451,27 @@ impl Generator {
             return;
         };
         let (question_marks, update_marks) = (q.marks, u.marks);
-        let buffer = if self.mode == Mode::Calls { " 16392" } else { "" };
-        let values = self.values(question_marks);
-        let asked = format!("ASK {question}{buffer}{}", self.written(&values));
+        self.try_pair((question, question_marks), (update, update_marks));
+    }
+
+    /// A question asked, an update done, the same asked again; numbers and marks.
+    fn try_pair(&mut self, question: (usize, usize), update: (usize, usize)) {
+        let asked_values = self.values(question.1);
+        let buffer = match self.mode {
+            Mode::Calls => format!(" {}", self.enough(question.0, &asked_values)),
+            Mode::Desk => String::new(),
+        };
+        let asked = format!("ASK {}{buffer}{}", question.0, self.written(&asked_values));
         self.emit_text(&asked);
-        let values = self.values(update_marks);
-        let done = format!("DO {update}{}", self.written(&values));
+        let mut values = self.values(update.1);
+        if !asked_values.is_empty() && self.random.chance(50) {
+            for value in &mut values {
+                if self.random.chance(50) {
+                    *value = self.random.pick(&asked_values);
+                }
+            }
+        }
+        let done = format!("DO {}{}", update.0, self.written(&values));
         self.emit_text(&done);
         self.emit_text(&asked);
     }
@@ -472,9 +530,14 @@ impl Generator {
             Profile::Misses | Profile::Openings => self.random.between(1, 8),
             _ => self.random.pick(&[1, 2, 2, 2, 3, 3, 4, 8]),
         };
+        // Some columns have the names of another table's.
+        let others: Vec<String> = catalogue.tables.last().map_or(vec![], |table| table.columns.clone());
         let mut columns: Vec<Vec<String>> = Vec::new();
         while columns.len() < count {
-            let column = vec![self.random.pick(&COLUMN_NAMES).to_string()];
+            let mut column = vec![self.random.pick(&COLUMN_NAMES).to_string()];
+            if !others.is_empty() && self.random.chance(40) {
+                column = vec![self.random.pick(&others)];
+            }
             if !columns.contains(&column) || self.random.below(100) == 0 {
                 columns.push(column);
             }
@@ -496,6 +559,13 @@ impl Generator {
     }
 
     fn select_text(&mut self) -> Vec<String> {
+        if self.random.chance(35) {
+            return self.pair_text();
+        }
+        self.single_text()
+    }
+
+    fn single_text(&mut self) -> Vec<String> {
         let (table, columns) = self.some_table();
         let mut marks = 8;
         let count = match self.profile {
@@ -510,6 +580,164 @@ impl Generator {
         all
     }
 
+    /// Two different tables, mostly such as hold rows.
+    fn some_pair(&mut self) -> Option<[Named; 2]> {
+        let count = self.front.store.catalogue.tables.len();
+        if count < 2 {
+            return None;
+        }
+        let mut found = [0, 1];
+        for _ in 0..4 {
+            let first = self.random.below(count);
+            found = [first, (first + self.random.between(1, count - 1)) % count];
+            if found.iter().all(|&table| self.front.store.height(table) > 0) {
+                break;
+            }
+        }
+        Some(found.map(|n| {
+            let table = &self.front.store.catalogue.tables[n];
+            (table.name.clone(), table.columns.clone())
+        }))
+    }
+
+    /// A comparison of a column of the one table with one of the other, often of the same name.
+    fn join(&mut self, first: &[String], second: &[String]) -> Vec<String> {
+        let name = |column: &String| column.split('.').nth(1).map(String::from);
+        let left = self.random.pick(first);
+        let mut right = self.random.pick(second);
+        if let Some(same) = second.iter().find(|&column| name(column) == name(&left)) {
+            if self.random.chance(60) {
+                right = same.clone();
+            }
+        }
+        let relation = if self.random.chance(75) { "=" } else { self.random.pick(&RELATIONS) };
+        if self.random.chance(50) {
+            vec![left, relation.to_string(), right]
+        } else {
+            vec![right, relation.to_string(), left]
+        }
+    }
+
+    fn pair_where(&mut self, first: &[String], second: &[String], marks: &mut usize) -> Vec<String> {
+        let both = [first, second].concat();
+        if self.random.chance(25) {
+            return self.where_part(&both, marks);
+        }
+        let mut all = words("WHERE");
+        all.extend(self.join(first, second));
+        if self.random.chance(75) {
+            all.push(self.random.pick(&["AND", "AND", "AND", "OR"]).to_string());
+            if self.profile == Profile::Counts && self.random.chance(60) {
+                all.extend(self.groups(&both, marks));
+            } else {
+                let n = match self.profile {
+                    Profile::Patterns => self.random.between(1, 5),
+                    _ => self.random.pick(&[1, 1, 1, 2, 3]),
+                };
+                let room = self.random.pick(&[8, 8, 8, 3, 9]);
+                all.extend(self.condition(n, room, &both, marks));
+            }
+        }
+        all
+    }
+
+    /// A question over two tables.
+    fn pair_text(&mut self) -> Vec<String> {
+        let mut made = Vec::new();
+        for _ in 0..4 {
+            let Some(pair) = self.some_pair() else {
+                return self.single_text();
+            };
+            let [first, second] = [dotted(&pair[0]), dotted(&pair[1])];
+            let both = [first.clone(), second.clone()].concat();
+            let count = match self.profile {
+                Profile::Large => self.random.pick(&[1, 1, 1, 2, 8]),
+                _ => self.random.pick(&[1, 1, 1, 1, 2, 2, 3, 8]),
+            };
+            let selected: Vec<Vec<String>> = (0..count).map(|_| vec![self.column(&both)]).collect();
+            let mut all = words("SELECT");
+            all.extend(Self::listed(selected));
+            all.extend(["FROM", &pair[0].0, ",", &pair[1].0].map(String::from));
+            all.extend(self.pair_where(&first, &second, &mut 8));
+            made = dotted_words(&all.join(" "));
+            if all.join(" ").len() <= 256 {
+                break;
+            }
+        }
+        made
+    }
+
+    /// A question that joins two tables, and an update of one of them.
+    fn join_pair(&mut self) {
+        let Some(mut pair) = self.some_pair() else {
+            return self.ask();
+        };
+        let x = self.random.pick(&pair[0].1);
+        let y = if pair[1].1.contains(&x) && self.random.chance(60) { x.clone() } else { self.random.pick(&pair[1].1) };
+        let (v, w) = (self.random.pick(&pair[0].1), self.random.pick(&pair[1].1));
+        let f = self.random.pick(&[
+            "x = ? AND x = y",
+            "y = ? AND x = y",
+            "x = y",
+            "? = x AND y = x AND w = ?",
+            "x = y AND y = 2",
+            "x = 1 AND y = ?",
+            "x < y AND v = ?",
+            "NOT x <> y AND y = ?",
+            "x = ? OR y = ?",
+            "x = y AND y < v AND v = ?",
+            "x = y AND v = w AND w = ?",
+            "x <> ? AND y = x",
+            "x = y AND y <> v AND v = x",
+        ]);
+        let selected = self.random.pick(&["x", "y", "v", "w", "v , w", "w , x , y"]);
+        let named = |text: &str| {
+            let word = |word: &str| match word {
+                "x" => format!("{}.{x}", pair[0].0),
+                "v" => format!("{}.{v}", pair[0].0),
+                "y" => format!("{}.{y}", pair[1].0),
+                "w" => format!("{}.{w}", pair[1].0),
+                _ => word.to_string(),
+            };
+            text.split(' ').map(word).collect::<Vec<_>>().join(" ")
+        };
+        let from = format!("{} , {}", pair[0].0, pair[1].0);
+        self.add(&dotted_words(&format!("SELECT {} FROM {from} WHERE {}", named(selected), named(f))));
+        let side = self.random.below(2);
+        let (c, d) = if side == 0 { (x, v) } else { (y, w) };
+        let (table, columns) = std::mem::take(&mut pair[side]);
+        let update = match self.random.below(9) {
+            0 | 1 => self.insert_into(&table, columns.len()),
+            2 => words(&format!("UPDATE {table} SET {c} = ? WHERE {c} = ?")),
+            3 => words(&format!("UPDATE {table} SET {d} = ? WHERE {c} = ?")),
+            4 => words(&format!("UPDATE {table} SET {c} = ? WHERE {d} = ?")),
+            5 => words(&format!("UPDATE {table} SET {c} = 2 WHERE {d} = 1")),
+            6 => words(&format!("DELETE FROM {table} WHERE {c} = ?")),
+            7 => words(&format!("DELETE FROM {table} WHERE {c} = ? AND {d} = ?")),
+            _ => words(&format!("DELETE FROM {table} WHERE {d} = 1")),
+        };
+        self.add(&update);
+        for _ in 0..self.random.between(1, 3) {
+            self.try_last_pair();
+        }
+    }
+
+    /// A question over two tables that there is, and an update that there is of one of them.
+    fn touch_pair(&mut self) {
+        let catalogue = &self.front.store.catalogue;
+        let mut found: Vec<((usize, usize), (usize, usize))> = Vec::new();
+        for (q, question) in catalogue.questions.iter().enumerate().filter(|(_, q)| q.tables.len() == 2) {
+            for (u, update) in catalogue.updates.iter().enumerate().filter(|(_, u)| question.tables.contains(&u.table)) {
+                found.push(((q, question.marks), (u, update.marks)));
+            }
+        }
+        if found.is_empty() {
+            return self.ask();
+        }
+        let (question, update) = self.random.pick(&found);
+        self.try_pair(question, update);
+    }
+
     fn set_value(&mut self, marks: &mut usize, percent: usize) -> Vec<String> {
         if *marks > 0 && self.random.chance(percent) {
             *marks -= 1;
@@ -520,14 +748,18 @@ impl Generator {
 
     fn insert_text(&mut self) -> Vec<String> {
         let (table, columns) = self.some_table();
-        let mut marks = 8;
         let mut count = columns.len().min(8);
         if self.random.below(60) == 0 {
             count = self.random.between(1, 8);
         }
+        self.insert_into(&table, count)
+    }
+
+    fn insert_into(&mut self, table: &str, count: usize) -> Vec<String> {
+        let mut marks = 8;
         let values: Vec<Vec<String>> = (0..count).map(|_| self.set_value(&mut marks, 80)).collect();
         let mut all = words("INSERT INTO");
-        all.push(table);
+        all.push(table.to_string());
         all.extend(words("VALUES ("));
         all.extend(Self::listed(values));
         all.push(String::from(")"));
@@ -576,8 +808,102 @@ impl Generator {
         }
     }
 
+    /// As `designed_miss`, about two tables; some are taken.
+    fn pair_miss(&mut self) -> Vec<String> {
+        let pair = self.some_pair();
+        let [(t, of_t), (u, of_u)] = pair.unwrap_or_else(|| [self.some_table(), self.some_table()]);
+        let (c, d) = (self.random.pick(&of_t), self.random.pick(&of_u));
+        let tables = &self.front.store.catalogue.tables;
+        let third = tables.iter().find(|table| table.name != t && table.name != u);
+        let (v, e) = third.map_or((String::from("nil"), c.clone()), |table| (table.name.clone(), table.columns[0].clone()));
+        let from = if self.random.chance(50) { format!("{t} , {u}") } else { format!("{u} , {t}") };
+        let many = |n: usize, what: &str, by: &str| vec![what; n].join(by);
+        let miss = match self.random.below(58) {
+            // Columns without a dot, and dots elsewhere.
+            0 => format!("SELECT {c} FROM {from}"),
+            1 => format!("SELECT {t}.{c} , {d} FROM {from}"),
+            2 => format!("SELECT {t}.{c} FROM {from} WHERE {d} = 1"),
+            3 => format!("SELECT {t}.{c} FROM {from} WHERE {u}.{d} = 1 OR ? = {c}"),
+            4 => format!("SELECT {t}.{c} FROM {t}"),
+            5 => format!("SELECT {c} , {t}.{c} FROM {t}"),
+            6 => format!("SELECT {c} FROM {t} WHERE {t}.{c} = 1"),
+            7 => format!("DELETE FROM {t} WHERE {t}.{c} = 1"),
+            8 => format!("UPDATE {t} SET {t}.{c} = 1"),
+            9 => format!("UPDATE {t} SET {c} = 1 WHERE ? = {t}.{c}"),
+            10 => format!("UPDATE {t} SET {c} = {t}.{c}"),
+            11 => format!("INSERT INTO {t} VALUES ( {t}.{c} )"),
+            12 => String::from("TABLE new ( new.a ) ROWS 3"),
+            13 => String::from("TABLE new.a ( a ) ROWS 3"),
+            14 => format!("DELETE FROM {t}.{c}"),
+            // Unknown names.
+            15 => format!("SELECT {t}.nil FROM {from}"),
+            16 => format!("SELECT {t}.{c} FROM {from} WHERE {u}.nil = ?"),
+            17 => format!("SELECT {t}.{d} , {u}.{c} FROM {from}"),
+            18 | 19 => format!("SELECT {v}.{e} FROM {from}"),
+            20 => format!("SELECT {t}.{c} FROM {from} WHERE {v}.{e} = {u}.{d}"),
+            21 => format!("SELECT nil.{c} FROM {from}"),
+            22 => format!("SELECT {t}.{c} FROM {t} , nil"),
+            23 => format!("SELECT {t}.{c} FROM nil , {t}"),
+            24 => format!("SELECT {c}.{t} FROM {from}"),
+            // More or other tables than two.
+            25 => format!("SELECT {t}.{c} FROM {from} , {v}"),
+            26 => format!("SELECT {c} FROM {from} , {v}"),
+            27 => format!("SELECT {t}.{c} FROM {t} ,"),
+            28 => format!("SELECT {t}.{c} FROM , {t}"),
+            29 => format!("SELECT {t}.{c} FROM {t} {u}"),
+            30 => format!("SELECT {t}.{c} FROM ( {from} )"),
+            31 => format!("SELECT {t}.{c} FROM {t} . {u}"),
+            32 => format!("SELECT {t}.{c} FROM {t} AND {u}"),
+            33 => format!("DELETE FROM {from}"),
+            34 => format!("UPDATE {from} SET {c} = 1"),
+            35 => format!("INSERT INTO {from} VALUES ( 1 )"),
+            // One table twice.
+            36..=38 => format!("SELECT {t}.{c} FROM {t} , {t}"),
+            39 => format!("SELECT {t}.{c} FROM {t} , {t} WHERE {t}.{c} = ?"),
+            40 => format!("SELECT {c} FROM {t} , {t}"),
+            41 => format!("SELECT {t}.nil FROM {t} , {t}"),
+            42 => format!("SELECT {u}.{d} FROM {t} , {t}"),
+            43 => format!("SELECT {t}.{c} FROM {t} , {t} , {t}"),
+            44 => String::from("SELECT nil.a FROM nil , nil"),
+            45 => format!("SELECT {t}.{c} FROM {t} , {t} WHERE {t}.{c} = {}", self.random.pick(&OUTSIDE)),
+            // Dots in the wrong place.
+            46..=48 => {
+                let odd = self.random.pick(&[
+                    "t.c.d", ".c", "t.", "t..c", ".", "1.5", "t.1", "1.c", "t.?", "?.c", "t.-1", "-1.c", "t.SELECT", "SET.c",
+                    "t.( c )", "t.*", "t.c.", ".t.c", "t , c", "t.1c", "t._c", "t.C", "T.c", "( t.c )", "t.c t.c", "NOT.c", "t.-c",
+                ]);
+                let named = |word: &String| match word.as_str() {
+                    "t" => t.clone(),
+                    "c" => c.clone(),
+                    "d" => d.clone(),
+                    _ => word.clone(),
+                };
+                let odd = dotted_words(odd).iter().map(named).collect::<Vec<_>>().join(" ");
+                if self.random.chance(50) {
+                    format!("SELECT {odd} FROM {from}")
+                } else {
+                    format!("SELECT {t}.{c} FROM {from} WHERE {odd} = {u}.{d}")
+                }
+            }
+            // Limits.
+            49 => format!("SELECT thirteen_byte.{c} FROM {from}"),
+            50 => format!("SELECT {t}.thirteen_byte FROM {from}"),
+            51 => format!("SELECT {t}.{c} FROM {t} , thirteen_byte"),
+            52 => format!("SELECT twelve_bytes.{c} , {t}.twelve_bytes FROM {from}"),
+            53 => format!("SELECT {} FROM {from}", many(self.random.between(8, 9), &format!("{t}.{c}"), " , ")),
+            54 => format!("SELECT {t}.{c} FROM {from} WHERE {}", many(self.random.between(8, 9), &format!("{u}.{d} = ?"), " OR ")),
+            55 => format!("SELECT {t}.{c} FROM {from} WHERE {}", many(self.random.between(8, 9), "1 <> 2", " AND ")),
+            56 => format!("SELECT {u}.{d} FROM {from} WHERE {}{t}.{c} < {u}.{d}", "NOT ".repeat(self.random.between(7, 9))),
+            _ => format!("SELECT {u}.{d} FROM {from} WHERE {t}.{c} = {}", self.random.pick(&OUTSIDE)),
+        };
+        dotted_words(&miss)
+    }
+
     /// Sentences past a limit, with unknown or taken names, or none by form.
     fn designed_miss(&mut self) -> Vec<String> {
+        if self.random.chance(45) {
+            return self.pair_miss();
+        }
         let (table, columns) = self.some_table();
         let c = self.column(&columns);
         let d = self.column(&columns);
@@ -649,8 +975,8 @@ impl Generator {
             2 if at + 1 < tokens.len() => tokens.swap(at, at + 1),
             3 => tokens[at] = tokens[at].to_lowercase(),
             4 => tokens[at] = tokens[at].to_uppercase(),
-            5 => tokens[at] = self.random.pick(&["(", ")", ",", "?", "=", "<", "AND", "OR", "NOT", "WHERE", "nil", "0", "-1", "SET", "FROM"]).to_string(),
-            6 => tokens.insert(at, self.random.pick(&["(", ")", ",", "?", "NOT", "-", "a", "1"]).to_string()),
+            5 => tokens[at] = self.random.pick(&["(", ")", ",", "?", "=", "<", "AND", "OR", "NOT", "WHERE", "nil", "0", "-1", "SET", "FROM", "."]).to_string(),
+            6 => tokens.insert(at, self.random.pick(&["(", ")", ",", "?", "NOT", "-", "a", "1", "."]).to_string()),
             7 => {
                 let odd = self.random.pick(&["_", "1", "x", "X", "-", ";", "\t", "\r", "é", "'", "*", ".", "\u{0}", "\u{7f}", "<", "=", ">"]);
                 if self.random.chance(50) {
@@ -682,7 +1008,10 @@ impl Generator {
             let spaces = match style {
                 0 => self.random.below(3),
                 1 => 0,
-                _ => usize::from(!text.is_empty() && token != "," && token != ")" && !text.ends_with('(')),
+                _ => {
+                    let close = text.is_empty() || text.ends_with(['(', '.']) || [",", ")", "."].contains(&token.as_str());
+                    usize::from(!close)
+                }
             };
             text.push_str(&" ".repeat(spaces.max(usize::from(needed))));
             text.push_str(token);
@@ -735,6 +1064,66 @@ impl Generator {
             };
             self.made.drops[kind] += dropped;
         }
+        for what in self.pair_outcomes(line, printed) {
+            *self.made.pairs.entry(what).or_default() += 1;
+        }
+    }
+
+    /// What the line did about questions over two tables.
+    fn pair_outcomes(&self, line: &[u8], printed: &str) -> Vec<String> {
+        let store = &self.front.store;
+        let catalogue = &store.catalogue;
+        let text = String::from_utf8_lossy(line);
+        let n: Option<usize> = text.split(' ').nth(1).and_then(|word| word.parse().ok());
+        let is_pair = |question: usize| catalogue.questions[question].tables.len() == 2;
+        let mut all = Vec::new();
+        if text.starts_with("ADD ") && printed.starts_with("query") && is_pair(catalogue.questions.len() - 1) {
+            all.push(String::from("added"));
+        }
+        if let Some(n) = n.filter(|&n| text.starts_with("ASK ") && n < catalogue.questions.len() && is_pair(n)) {
+            let question = &catalogue.questions[n];
+            let how: Vec<&str> = printed.split(' ').take(if printed.starts_with("refused") { 2 } else { 1 }).collect();
+            all.push(format!("asked, {}", how.join(" ")));
+            if printed.starts_with("new") {
+                let rows = (store.last_length - 8) / 4 / question.columns.len();
+                let size = match rows {
+                    0 => "no row",
+                    1..=512 => "1 to 512 rows",
+                    513..=16_381 => "513 to 16,381 rows",
+                    16_382..=65_534 => "16,382 to 65,534 rows",
+                    _ => "65,535 rows",
+                };
+                all.push(format!("asked, new: {size}"));
+                if store.last_length == 2_097_128 {
+                    all.push(String::from("asked, new: the longest record"));
+                }
+                if printed.split(' ').nth(2).is_some_and(|read| read.parse::<usize>().unwrap() > 65_535) {
+                    all.push(String::from("asked, new: more than 65,535 rows read"));
+                }
+            }
+        }
+        if text.starts_with("ROW ") && printed.starts_with("row") && n.is_some_and(|n| n >= 512) {
+            all.push(String::from("row shown past row 511"));
+        }
+        if let Some(update) = n.and_then(|n| catalogue.updates.get(n)).filter(|_| printed.contains(" dropped ")) {
+            let kind = match update.change {
+                Change::Insert(_) => "INSERT into",
+                Change::Set(_) => "UPDATE of",
+                Change::Delete => "DELETE from",
+            };
+            let stayed: Vec<usize> = store.kept_keys().iter().map(|(question, _)| *question).collect();
+            for (what, questions) in [("dropped", &store.last_dropped), ("left", &stayed)] {
+                for &question in questions.iter().filter(|&&question| is_pair(question)) {
+                    let table = match catalogue.questions[question].tables.iter().position(|&t| t == update.table) {
+                        Some(0) => "the first table",
+                        Some(_) => "the second table",
+                        None => "another table",
+                    };
+                    all.push(format!("{what} by {kind} {table}"));
+                }
+            }
+        }
+        all
     }
 
     fn emit_text(&mut self, line: &str) {
@@ -840,20 +1229,48 @@ impl Generator {
             self.emit_text(&format!("ASK {n}{text}"));
             return;
         }
-        let mut length = 16_392;
+        let mut length = self.enough(n, &values);
         if self.random.chance(25) {
             length = match self.front.store.length_now(n, &values) {
                 Some(exact) => self.random.pick(&[exact, exact, exact - 1, exact + 1, exact - 4, 8, 0]),
                 None => self.random.below(20),
             };
         }
-        self.emit_text(&format!("ASK {n} {}{text}", length.min(16_392)));
-        if self.front.buffer.is_some() && self.random.chance(12) {
-            let rows = self.front.buffer.as_ref().map_or(0, |b| usize::from(b[6]) * 256 + usize::from(b[7]));
-            for _ in 0..self.random.between(1, 3) {
-                let row = self.random.pick(&[0, 0, 0, 1, 1, 2, rows.saturating_sub(1), rows / 2, rows, rows + 1, 511, 512, 65_536, 2_147_483_647]);
-                self.emit_text(&format!("ROW {row}"));
-            }
+        self.emit_text(&format!("ASK {n} {length}{text}"));
+        if self.random.chance(12) {
+            self.show_rows();
+        }
+    }
+
+    /// Calls: a buffer that takes the answer. One of 16,392 bytes takes every answer over one table.
+    fn enough(&mut self, n: usize, values: &[i32]) -> usize {
+        let paired = self.front.store.catalogue.questions.get(n).is_some_and(|question| question.tables.len() == 2);
+        if self.mode == Mode::Desk || !paired {
+            return 16_392;
+        }
+        if self.random.chance(6) {
+            return self.random.pick(&[16_392, 65_536, 262_148, 2_097_127, 2_097_128, BUFFER]);
+        }
+        self.front.store.length_now(n, values).map_or(16_392, |exact| exact.max(16_392))
+    }
+
+    /// Calls: rows of the last answer, if there is one.
+    fn show_rows(&mut self) {
+        let Some(rows) = self.front.buffer.as_ref().map(|b| usize::from(b[6]) * 256 + usize::from(b[7])) else {
+            return;
+        };
+        for _ in 0..self.random.between(1, if rows == 0 { 1 } else { 3 }) {
+            let row = match self.random.below(20) {
+                0..=5 => self.random.pick(&[0, 0, 1, 2]),
+                6 | 7 => rows.saturating_sub(1),
+                8 | 9 => self.random.below(rows),
+                10 => rows / 2,
+                11 => rows,
+                12 => rows + 1,
+                13 => self.random.pick(&[255, 256, 511, 512, 513, 65_534, 65_535, 65_536, 2_147_483_647]),
+                _ => self.random.below(rows.min(3)),
+            };
+            self.emit_text(&format!("ROW {row}"));
         }
     }
 
@@ -882,6 +1299,13 @@ impl Generator {
         }
         if inserts.is_empty() {
             return self.update();
+        }
+        // Tables without rows first.
+        let store = &self.front.store;
+        let into_empty: Vec<usize> =
+            inserts.iter().copied().filter(|&n| store.height(store.catalogue.updates[n].table) == 0).collect();
+        if !into_empty.is_empty() && self.random.chance(60) {
+            inserts = into_empty;
         }
         let n = self.random.pick(&inserts);
         let marks = self.front.store.catalogue.updates[n].marks;
@@ -1099,10 +1523,21 @@ impl Generator {
             return self.count_pair();
         }
         if matches!(self.profile, Profile::Patterns | Profile::Mixed) && self.random.chance(4) {
-            return if self.random.chance(50) { self.mark_pair() } else { self.opposite_pair() };
+            return match self.random.below(3) {
+                0 => self.mark_pair(),
+                1 => self.opposite_pair(),
+                _ => self.join_pair(),
+            };
         }
         if self.random.chance(flushes) {
             return self.emit_text("FLUSH");
+        }
+        let places = self.front.store.catalogue.questions.len() < 16 && self.front.store.catalogue.updates.len() < 16;
+        if places && self.random.chance(1) {
+            return self.join_pair();
+        }
+        if self.random.chance(6) {
+            return self.touch_pair();
         }
         let odd = if matches!(self.profile, Profile::Misses | Profile::Edges | Profile::Mixed) { 10 } else { 4 };
         if self.mode == Mode::Desk && self.random.chance(odd) {
@@ -1120,15 +1555,25 @@ impl Generator {
 
     fn set_up(&mut self) {
         let tables = match self.profile {
-            Profile::Repeats | Profile::Large => self.random.between(1, 2),
+            Profile::Repeats | Profile::Large => self.random.pick(&[1, 2, 2]),
             Profile::Full => self.random.between(2, 5),
-            _ => self.random.between(1, 3),
+            _ => self.random.pick(&[1, 2, 2, 3, 3]),
         };
         for _ in 0..tables {
             self.add_taken(Generator::table_text);
         }
-        for _ in 0..self.random.between(1, 3) {
+        // Most tables can be filled.
+        for table in self.front.store.catalogue.tables.clone() {
+            if self.random.chance(90) {
+                let text = self.insert_into(&table.name, table.columns.len());
+                self.add(&text);
+            }
+        }
+        for _ in 0..self.random.between(0, 2) {
             self.add_taken(Generator::insert_text);
+        }
+        for _ in 0..self.random.between(2, 8) {
+            self.insert();
         }
         for _ in 0..self.random.between(1, 4) {
             self.add_taken(Generator::update_text);
@@ -1139,6 +1584,94 @@ impl Generator {
         for _ in 0..self.random.between(2, 6) {
             self.add_taken(Generator::select_text);
         }
+        if self.random.chance(60) {
+            self.join_pair();
+        }
+    }
+
+    /// Two tables whose pairs are about as many as a record may hold (in `desk`: also about as many as its buffer takes),
+    /// questions that leave some of them out, and updates by a row or two.
+    fn square(&mut self) {
+        let sizes = match self.mode {
+            Mode::Desk => [(128, 128), (128, 128), (127, 129), (64, 256), (256, 256), (256, 256), (255, 257), (512, 128)],
+            Mode::Calls => {
+                let slot_bytes = self.random.pick(&[4_096, 1_032, 64]);
+                self.emit_text(&format!("OPEN 32768 16384 4 {slot_bytes}"));
+                [(256, 256), (256, 256), (255, 257), (257, 255), (512, 128), (128, 512), (129, 508), (512, 512)]
+            }
+        };
+        let sizes = self.random.pick(&sizes);
+        let wide = if self.random.chance(30) { ", w" } else { "" };
+        let more = if wide.is_empty() { "" } else { ", 7" };
+        let first = self.front.store.catalogue.updates.len();
+        let question = self.front.store.catalogue.questions.len();
+        for text in [
+            format!("TABLE p (a{wide}) ROWS {}", (sizes.0 + 1).min(512)),
+            format!("TABLE q (b) ROWS {}", (sizes.1 + 2).min(512)),
+            format!("INSERT INTO p VALUES (?{more})"),
+            "INSERT INTO q VALUES (?)".to_string(),
+            "DELETE FROM p WHERE a = ?".to_string(),
+            "DELETE FROM q WHERE b = ?".to_string(),
+            "UPDATE q SET b = ? WHERE b = ?".to_string(),
+            "SELECT q.b FROM p, q WHERE p.a <> ? OR q.b >= ?".to_string(),
+            "SELECT p.a FROM p, q".to_string(),
+            "SELECT p.a, q.b, q.b, p.a, p.a, q.b, p.a, q.b FROM p, q WHERE p.a <> ? OR q.b >= ?".to_string(),
+            "SELECT p.a, q.b FROM q, p WHERE p.a = q.b AND p.a < ?".to_string(),
+            "SELECT p.a FROM q, p WHERE q.b = ?".to_string(),
+        ] {
+            self.emit_text(&format!("ADD {text}"));
+        }
+        for i in 0..sizes.0 {
+            self.emit_text(&format!("DO {first} {i}"));
+        }
+        for i in 0..sizes.1 {
+            self.emit_text(&format!("DO {} {i}", first + 1));
+        }
+        for _ in 0..16 {
+            // The pairs to leave out: as many as there are too many, or about that.
+            let pairs = self.front.store.height(0) * self.front.store.height(1);
+            let over = [65_535, 16_382].iter().filter_map(|limit| pairs.checked_sub(*limit)).find(|&k| k < 512);
+            let k = match over {
+                Some(k) if self.random.chance(70) => self.random.pick(&[k, k, k.saturating_sub(1), k + 1]),
+                _ => self.random.below(4),
+            };
+            let (n, values) = match self.random.below(14) {
+                0..=3 => (question, format!(" 0 {k}")),
+                4 | 5 => (question + 1, String::new()),
+                6 | 7 => (question + 2, format!(" 0 {k}")),
+                8 | 9 => (question + 3, format!(" {}", self.random.pick(&[3, 40, 600]))),
+                10 => (question + 4, format!(" {}", self.random.below(4))),
+                roll => {
+                    let row = self.random.pick(&[0, 1, 100, 255, 256, 600]);
+                    let done = match roll {
+                        11 => format!("DO {} {row}", first + self.random.below(2)),
+                        12 => format!("DO {} {row}", first + 2 + self.random.below(2)),
+                        _ => format!("DO {} {row} {}", first + 4, self.random.pick(&[0, 1, 2, 255])),
+                    };
+                    self.emit_text(&done);
+                    continue;
+                }
+            };
+            self.ask_closely(n, &values);
+        }
+        // Answers that the last rows of the tables are in.
+        self.ask_closely(question + 3, " 600");
+        self.ask_closely(question + 4, &format!(" {}", sizes.1 - 1));
+        self.ask_closely(question + 4, " 3");
+    }
+
+    /// An ask, in `calls` with a buffer that the answer just fits or does not, and rows of it.
+    fn ask_closely(&mut self, n: usize, values: &str) {
+        if self.mode == Mode::Desk {
+            return self.emit_text(&format!("ASK {n}{values}"));
+        }
+        let given: Vec<i32> = values.split_whitespace().map(|word| word.parse().unwrap()).collect();
+        let buffer = match self.front.store.length_now(n, &given) {
+            Some(exact) => self.random.pick(&[exact, exact, exact, exact + 1, exact - 1, BUFFER]),
+            None => self.random.pick(&[0, 262_148, BUFFER]),
+        };
+        self.emit_text(&format!("ASK {n} {buffer}{values}"));
+        self.show_rows();
     }
 
     /// Now and then another opening, or other lengths lent.
@@ -1169,12 +1702,16 @@ impl Generator {
         }
     }
 
-    fn script(mut self, length: usize) -> Generated {
+    fn script(mut self, mut length: usize) -> Generated {
+        if self.square {
+            self.square();
+            length /= 5;
+        }
         if self.mode == Mode::Calls {
             self.open();
         }
         self.set_up();
-        if self.profile == Profile::Large {
+        if self.profile == Profile::Large && !self.square {
             for _ in 0..self.random.pick(&[30, 200, 520, 520]) {
                 self.insert();
             }
@@ -1182,9 +1719,10 @@ impl Generator {
         // Before the places for statements are taken: `desk` opens only once.
         if self.mode == Mode::Desk && matches!(self.profile, Profile::Patterns | Profile::Counts | Profile::Mixed) {
             for _ in 0..5 {
-                match self.random.below(4) {
+                match self.random.below(5) {
                     0 => self.count_pair(),
                     1 => self.mark_pair(),
+                    2 => self.join_pair(),
                     _ => self.opposite_pair(),
                 }
             }
@@ -1242,7 +1780,9 @@ pub fn script(mode: Mode, seed: u64, length: usize) -> Generated {
         just_fits: 0,
         too_long: 0,
         drops: [0; 3],
+        pairs: BTreeMap::new(),
     };
-    let generator = Generator { random: Random::new(seed), mode, profile, front: Front::new(mode), made };
+    let square = profile == Profile::Large && seed / 10 % 8 == 0;
+    let generator = Generator { random: Random::new(seed), mode, profile, square, front: Front::new(mode), made };
     generator.script(length)
 }

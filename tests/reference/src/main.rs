@@ -1,5 +1,5 @@
-//! An independent reference of the table store, made from document 01 alone, with a generator of random scripts and
-//! a comparison with a program. It shares no code with the project.
+//! An independent reference of the table store, made from document 01 and request A.1 of document 02 alone, with a
+//! generator of random scripts and a comparison with a program. It shares no code with the project.
 
 mod bench;
 mod check;
@@ -18,13 +18,14 @@ use front::Mode;
 use std::io::{BufRead, Write};
 
 const USAGE: &str = "usage: reference desk | calls                     (standard input to standard output)
-       reference check                            (document 01's examples)
+       reference check                            (examples)
        reference script MODE SEED [LINES]         (prints the script of a seed)
        reference tally MODE LINES SEED ..         (how often each outcome occurs in the scripts of these seeds)
        reference compare MODE PROGRAM FIRST COUNT [LINES]
        reference bench FILE                       (the calls of a script of bench/, timed, without assertions)
        reference texts CELLS                      (statement texts, and what each compiles to)
        reference patterns                         (pairs of a question and an update, and their patterns)
+       reference bounds desk | calls | bench FILE (the same, but `read at most N` where rows read are a bound)
 MODE is desk or calls";
 
 fn mode(word: &str) -> Option<Mode> {
@@ -104,7 +105,13 @@ fn act(words: &[&str]) -> Option<bool> {
             tally.print();
             Some(true)
         }
-        ["bench", file] => Some(bench::bench(file)),
+        ["bench", file] => Some(bench::bench(file, false)),
+        ["bounds", "bench", file] => Some(bench::bench(file, true)),
+        ["bounds", word] => {
+            let mut front = front::Front::new(mode(word)?);
+            answer_lines(|line| front.line_with_bounds(line));
+            Some(true)
+        }
         ["compare", word, program, first, count, ..] => {
             Some(compare::compare(mode(word)?, program, first.parse().ok()?, count.parse().ok()?, length(5)?))
         }

@@ -1,6 +1,12 @@
-//! Meaning: conditions on a row, records, and rows of a record.
+//! Meaning: conditions on a row or a pair of rows, records, and rows of a record.
 
-use crate::text::{Condition, Operand, Relation};
+use crate::text::{Column, Condition, Operand, Relation};
+
+/// The rows a record may hold.
+pub const RECORD_ROWS: usize = 65_535;
+
+/// A row, or a pair of rows of two tables, each with its table's number.
+pub type Rows<'a> = [(usize, &'a [i32])];
 
 pub fn compare(left: i32, relation: Relation, right: i32) -> bool {
     match relation {
@@ -13,33 +19,41 @@ pub fn compare(left: i32, relation: Relation, right: i32) -> bool {
     }
 }
 
-/// An operand's number for this row and these values of the question marks.
-pub fn number(operand: Operand, row: &[i32], values: &[i32]) -> i32 {
+pub fn cell(column: Column, rows: &Rows) -> i32 {
+    let (_, row) = rows.iter().find(|(table, _)| *table == column.table).expect("the column is of one of these tables");
+    row[column.place]
+}
+
+/// An operand's number for these rows and these values of the question marks.
+pub fn number(operand: Operand, rows: &Rows, values: &[i32]) -> i32 {
     match operand {
-        Operand::Column(column) => row[column],
+        Operand::Column(column) => cell(column, rows),
         Operand::Constant(constant) => constant,
         Operand::Mark(mark) => values[mark - 1],
     }
 }
 
-fn holds_of(condition: &Condition<Operand>, row: &[i32], values: &[i32]) -> bool {
+fn holds_of(condition: &Condition<Operand>, rows: &Rows, values: &[i32]) -> bool {
     match condition {
         Condition::Compare(left, relation, right) => {
-            compare(number(*left, row, values), *relation, number(*right, row, values))
+            compare(number(*left, rows, values), *relation, number(*right, rows, values))
         }
-        Condition::Not(inner) => !holds_of(inner, row, values),
-        Condition::And(left, right) => holds_of(left, row, values) && holds_of(right, row, values),
-        Condition::Or(left, right) => holds_of(left, row, values) || holds_of(right, row, values),
+        Condition::Not(inner) => !holds_of(inner, rows, values),
+        Condition::And(left, right) => holds_of(left, rows, values) && holds_of(right, rows, values),
+        Condition::Or(left, right) => holds_of(left, rows, values) || holds_of(right, rows, values),
     }
 }
 
 /// An absent WHERE always holds.
-pub fn holds(condition: &Option<Condition<Operand>>, row: &[i32], values: &[i32]) -> bool {
-    condition.as_ref().map_or(true, |c| holds_of(c, row, values))
+pub fn holds(condition: &Option<Condition<Operand>>, rows: &Rows, values: &[i32]) -> bool {
+    condition.as_ref().map_or(true, |c| holds_of(c, rows, values))
 }
 
-/// The record of these rows, each of `columns` values.
-pub fn record(columns: usize, rows: &[Vec<i32>]) -> Vec<u8> {
+/// The record of these rows, each of `columns` values; refusal 16 for too many.
+pub fn record(columns: usize, rows: &[Vec<i32>]) -> Result<Vec<u8>, u8> {
+    if rows.len() > RECORD_ROWS {
+        return Err(16);
+    }
     let mut what_follows = vec![1, columns as u8];
     what_follows.extend((rows.len() as u16).to_be_bytes());
     for row in rows {
@@ -50,7 +64,7 @@ pub fn record(columns: usize, rows: &[Vec<i32>]) -> Vec<u8> {
     }
     let mut record = (what_follows.len() as u32).to_be_bytes().to_vec();
     record.extend(what_follows);
-    record
+    Ok(record)
 }
 
 /// Columns and rows of the record at the beginning of these bytes, if they are a record.
@@ -63,7 +77,7 @@ pub fn record_shape(bytes: &[u8]) -> Option<(usize, usize)> {
     let rows = u16::from_be_bytes([bytes[6], bytes[7]]) as usize;
     let agrees = bytes[4] == 1
         && (1..=8).contains(&columns)
-        && rows <= 512
+        && rows <= RECORD_ROWS
         && length == 4 + 4 * columns * rows
         && bytes.len() >= 4 + length;
     agrees.then_some((columns, rows))

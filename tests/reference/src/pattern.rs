@@ -1,7 +1,8 @@
-//! Patterns, rules 1 to 7 of document 01, straight from its text.
+//! Patterns, rules 1 to 7 of document 01, straight from its text. A question over two tables is judged by the same
+//! rules: the columns of the table that is not updated stay columns.
 
 use crate::meaning::compare;
-use crate::text::{Change, Condition, Operand, Question, Relation, Update};
+use crate::text::{Change, Column, Condition, Operand, Question, Relation, Update};
 
 /// A place of a pattern. Marks are the update's and count from 1.
 #[derive(Clone, Copy, PartialEq, Debug)]
@@ -17,7 +18,7 @@ pub type Pattern = Vec<Place>;
 /// An operand of a clause: marks of the question and of the update are told apart.
 #[derive(Clone, Copy, PartialEq, Debug)]
 pub enum Term {
-    Column(usize),
+    Column(Column),
     Constant(i32),
     OfQuestion(usize),
     OfUpdate(usize),
@@ -112,7 +113,7 @@ fn count(condition: &Option<Condition<Operand>>) -> usize {
     condition.as_ref().map_or(1, |c| of(&pushed(c, false, &question_term)))
 }
 
-fn columns_tested(condition: &Condition<Operand>) -> Vec<usize> {
+fn columns_tested(condition: &Condition<Operand>) -> Vec<Column> {
     match condition {
         Condition::Compare(left, _, right) => {
             [left, right].iter().filter_map(|o| if let Operand::Column(c) = o { Some(*c) } else { None }).collect()
@@ -189,13 +190,14 @@ fn pattern_of(clause: &Clause, marks: usize) -> Option<Pattern> {
 /// The patterns of a question and an update.
 pub fn patterns(question: &Question, update: &Update) -> Vec<Pattern> {
     // Rule 1.
-    if question.table != update.table {
+    if !question.tables.contains(&update.table) {
         return vec![];
     }
+    let updated = |place: usize| Column { table: update.table, place };
     // Rule 2.
     if let Change::Set(sets) = &update.change {
         let tested = question.condition.as_ref().map_or(vec![], columns_tested);
-        if !sets.iter().any(|(c, _)| question.columns.contains(c) || tested.contains(c)) {
+        if !sets.iter().any(|(c, _)| question.columns.contains(&updated(*c)) || tested.contains(&updated(*c))) {
             return vec![];
         }
     }
@@ -215,13 +217,13 @@ pub fn patterns(question: &Question, update: &Update) -> Vec<Pattern> {
     let f = clauses(&question.condition, &question_term);
     let list = match &update.change {
         Change::Insert(values) => clauses(&question.condition, &|operand| match operand {
-            Operand::Column(c) => update_term(values[c]),
+            Operand::Column(c) if c.table == update.table => update_term(values[c.place]),
             other => question_term(other),
         }),
         Change::Delete => paired(&g, &f),
         Change::Set(sets) => {
             let f_set = clauses(&question.condition, &|operand| match operand {
-                Operand::Column(c) => match sets.iter().find(|(set, _)| *set == c) {
+                Operand::Column(c) => match sets.iter().find(|(set, _)| updated(*set) == c) {
                     Some((_, value)) => update_term(*value),
                     None => Term::Column(c),
                 },

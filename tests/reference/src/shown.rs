@@ -2,15 +2,18 @@
 //! can be compared (`tests/stored`).
 
 use crate::pattern::{patterns, pushed, question_term, Pattern, Place, Term};
-use crate::text::{Catalogue, Change, Condition, Operand, Question, Relation, Statement};
+use crate::text::{Catalogue, Change, Column, Condition, Operand, Question, Relation, Statement};
 
 fn refused(number: u8) -> String {
     format!("refused {number}")
 }
 
-fn term(term: Term) -> String {
+/// The place that is printed for a column.
+type Shown<'a> = &'a dyn Fn(Column) -> usize;
+
+fn term(term: Term, place: Shown) -> String {
     match term {
-        Term::Column(column) => format!("c{column}"),
+        Term::Column(column) => format!("c{}", place(column)),
         Term::Constant(constant) => constant.to_string(),
         Term::OfQuestion(mark) | Term::OfUpdate(mark) => format!("?{mark}"),
     }
@@ -28,44 +31,51 @@ fn sign(relation: Relation) -> &'static str {
 }
 
 /// A condition without NOT, each connective behind its sides.
-fn postfix(condition: &Condition<Term>) -> String {
+fn postfix(condition: &Condition<Term>, place: Shown) -> String {
     match condition {
-        Condition::Compare(left, relation, right) => format!(" {}{}{}", term(*left), sign(*relation), term(*right)),
-        Condition::And(left, right) => format!("{}{} and", postfix(left), postfix(right)),
-        Condition::Or(left, right) => format!("{}{} or", postfix(left), postfix(right)),
+        Condition::Compare(left, relation, right) => {
+            format!(" {}{}{}", term(*left, place), sign(*relation), term(*right, place))
+        }
+        Condition::And(left, right) => format!("{}{} and", postfix(left, place), postfix(right, place)),
+        Condition::Or(left, right) => format!("{}{} or", postfix(left, place), postfix(right, place)),
         Condition::Not(_) => unreachable!("NOT was pushed in"),
     }
 }
 
 /// The WHERE with NOT pushed to the comparisons by rule 4.
-fn if_part(condition: &Option<Condition<Operand>>) -> String {
+fn if_part(condition: &Option<Condition<Operand>>, place: Shown) -> String {
     match condition {
         None => String::new(),
-        Some(condition) => format!(" if{}", postfix(&pushed(condition, false, &question_term))),
+        Some(condition) => format!(" if{}", postfix(&pushed(condition, false, &question_term), place)),
     }
 }
 
-fn statement(statement: &Statement) -> String {
+/// The columns of a question over two tables are counted through both.
+fn statement(catalogue: &Catalogue, statement: &Statement) -> String {
     match statement {
         Statement::Table(table) => format!(" columns {} rows {}", table.columns.len(), table.rows),
         Statement::Question(question) => {
-            let columns: String = question.columns.iter().map(|c| format!(" {c}")).collect();
-            let condition = if_part(&question.condition);
-            format!(" on {} selects{columns} marks {}{condition}", question.table, question.marks)
+            let place = |column| catalogue.counted(question, column);
+            let tables: String = question.tables.iter().map(|t| format!(" {t}")).collect();
+            let columns: String = question.columns.iter().map(|&c| format!(" {}", place(c))).collect();
+            let condition = if_part(&question.condition, &place);
+            format!(" on{tables} selects{columns} marks {}{condition}", question.marks)
         }
         Statement::Update(update) => {
+            let place: Shown = &|column| column.place;
+            let value = |value: &Operand| term(question_term(*value), place);
             let change = match &update.change {
                 Change::Insert(values) => {
-                    let values: String = values.iter().map(|v| format!(" {}", term(question_term(*v)))).collect();
+                    let values: String = values.iter().map(|v| format!(" {}", value(v))).collect();
                     format!("insert {} values{values}", update.table)
                 }
                 Change::Set(sets) => {
-                    let one = |(column, value): &(usize, Operand)| format!(" c{column}={}", term(question_term(*value)));
-                    format!("update {} sets{}", update.table, sets.iter().map(one).collect::<String>())
+                    let sets: String = sets.iter().map(|(column, v)| format!(" c{column}={}", value(v))).collect();
+                    format!("update {} sets{sets}", update.table)
                 }
                 Change::Delete => format!("delete {}", update.table),
             };
-            format!(" {change} marks {}{}", update.marks, if_part(&update.condition))
+            format!(" {change} marks {}{}", update.marks, if_part(&update.condition, place))
         }
     }
 }
@@ -89,7 +99,7 @@ impl Texts {
         }
         Some(match self.catalogue.read(self.cells, line) {
             Ok(read) => {
-                let shown = statement(&read);
+                let shown = statement(&self.catalogue, &read);
                 let (kind, number) = self.catalogue.append(read);
                 format!("{kind} {number}{shown}")
             }

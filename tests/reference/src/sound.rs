@@ -1,9 +1,9 @@
-//! Which states are sound, by document 01's sentence, for the lines SPOIL of the program `examples`. A line changes one
-//! part of a copy of the state. Parts are document 01's: what the program alone knows (its numbers for comparisons,
-//! connectives and forms of updates) is not here.
+//! Which states are sound, by document 01's sentence and request A.1 of document 02, for the lines SPOIL of the program
+//! `examples`. A line changes one part of a copy of the state. Parts are these papers': what the program alone knows
+//! (its numbers for comparisons, connectives and forms of updates) is not here.
 
 use crate::store::Kept;
-use crate::text::{Change, Condition, Operand, Question, Update};
+use crate::text::{Catalogue, Change, Condition, Operand, Question, Update};
 use crate::text::{COMPARISONS, LIST, MARKS, NAME, QUESTIONS, ROWS, TABLES, UPDATES};
 
 #[derive(Clone)]
@@ -15,6 +15,36 @@ pub struct TablePart {
     pub rows: usize,
 }
 
+/// Columns are places counted through the question's tables, the first table's before the second's.
+#[derive(Clone)]
+pub struct QuestionPart {
+    pub table: usize,
+    pub second: Option<usize>,
+    /// The place of the second table's first column; of a question over one table nothing is known of it.
+    pub start: Option<usize>,
+    pub columns: Vec<usize>,
+    pub tested: Vec<Operand<usize>>,
+    pub marks: usize,
+}
+
+impl QuestionPart {
+    pub fn of(catalogue: &Catalogue, question: &Question) -> QuestionPart {
+        let place = |column| catalogue.counted(question, column);
+        let second = question.tables.get(1).copied();
+        QuestionPart {
+            table: question.tables[0],
+            second,
+            start: second.map(|_| catalogue.tables[question.tables[0]].columns.len()),
+            columns: question.columns.iter().map(|&column| place(column)).collect(),
+            tested: tested(&question.condition).iter().map(|o| o.placed(place)).collect(),
+            marks: question.marks,
+        }
+    }
+}
+
+/// SPOIL qsecond: the number that says that there is no second table.
+const NO_TABLE: usize = 255;
+
 /// A count that was raised names places that hold nothing: `None`.
 #[derive(Clone)]
 pub struct State {
@@ -23,7 +53,7 @@ pub struct State {
     pub slots: usize,
     pub slot_bytes: usize,
     pub tables: Vec<Option<TablePart>>,
-    pub questions: Vec<Option<Question>>,
+    pub questions: Vec<Option<QuestionPart>>,
     pub updates: Vec<Option<Update>>,
     /// By slot; those of the slot list's first `held` are held.
     pub kept: Vec<Option<Kept>>,
@@ -58,8 +88,8 @@ fn operands(condition: &Condition<Operand>) -> Vec<Operand> {
     }
 }
 
-/// Columns are the table's, and marks are 1, 2 and on, as many as the statement says.
-fn operands_pass(all: &[Operand], columns: usize, marks: usize) -> bool {
+/// Columns are the tables', and marks are 1, 2 and on, as many as the statement says.
+fn operands_pass(all: &[Operand<usize>], columns: usize, marks: usize) -> bool {
     let found: Vec<usize> = all.iter().filter_map(|o| if let Operand::Mark(m) = o { Some(*m) } else { None }).collect();
     marks <= MARKS
         && found == (1..=marks).collect::<Vec<_>>()
@@ -93,13 +123,23 @@ impl State {
             && tables.iter().map(|t| t.columns.len() * t.capacity).sum::<usize>() <= self.cells
     }
 
-    fn question_passes(&self, question: &Question) -> bool {
-        let all = tested(&question.condition);
-        self.width(question.table).is_some_and(|width| {
+    /// The columns of a question's tables together, if these are there and different, and the second's begin where the
+    /// first's end.
+    fn question_width(&self, question: &QuestionPart) -> Option<usize> {
+        let first = self.width(question.table)?;
+        let Some(second) = question.second else {
+            return Some(first);
+        };
+        let passes = second != question.table && question.start.map_or(true, |start| start == first);
+        self.width(second).filter(|_| passes).map(|width| first + width)
+    }
+
+    fn question_passes(&self, question: &QuestionPart) -> bool {
+        self.question_width(question).is_some_and(|width| {
             (1..=LIST).contains(&question.columns.len())
                 && question.columns.iter().all(|&c| c < width)
-                && all.len() <= 2 * COMPARISONS
-                && operands_pass(&all, width, question.marks)
+                && question.tested.len() <= 2 * COMPARISONS
+                && operands_pass(&question.tested, width, question.marks)
         })
     }
 
@@ -117,7 +157,8 @@ impl State {
             Change::Delete => (true, vec![]),
         };
         let all = tested(&update.condition);
-        changes && all.len() <= 2 * COMPARISONS && operands_pass(&[values, all].concat(), width, update.marks)
+        let placed: Vec<Operand<usize>> = [&values, &all].into_iter().flatten().map(|o| o.placed(|c| c.place)).collect();
+        changes && all.len() <= 2 * COMPARISONS && operands_pass(&placed, width, update.marks)
     }
 
     fn slots_pass(&self) -> bool {
@@ -145,6 +186,12 @@ impl State {
             && self.updates.len() <= UPDATES
             && self.updates.iter().all(|u| u.as_ref().is_some_and(|u| self.update_passes(u)))
             && self.slots_pass()
+    }
+
+    /// A question over one table was given a second one: where its columns begin in that state is not known. Sound is
+    /// then: if they begin where the first table's end.
+    pub fn is_open(&self) -> bool {
+        self.questions.iter().flatten().any(|question| question.second.is_some() && question.start.is_none())
     }
 
     /// Changes one part. What stands past a count, or in a free slot, is no part of the state: nothing changes. `None`:
@@ -180,6 +227,11 @@ impl State {
             ("name", &[t, at]) => with(&mut self.tables, t, |table| put(Some(&mut table.name), at, byte)),
             ("column", &[t, c, at]) => with(&mut self.tables, t, |table| put(table.columns.get_mut(c), at, byte)),
             ("qtable", &[q]) => with(&mut self.questions, q, |question| question.table = size),
+            ("qsecond", &[q]) => {
+                let second = (size != NO_TABLE).then_some(size);
+                with(&mut self.questions, q, |question| question.second = second);
+            }
+            ("qstart", &[q]) => with(&mut self.questions, q, |question| question.start = Some(size)),
             ("qcount", &[q]) => with(&mut self.questions, q, |question| question.columns.resize(size, 0)),
             ("qselected", &[q, at]) => with(&mut self.questions, q, |question| put(Some(&mut question.columns), at, size)),
             ("qparameters", &[q]) => with(&mut self.questions, q, |question| question.marks = size),

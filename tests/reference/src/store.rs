@@ -2,14 +2,15 @@
 //! that both give the same results, that every kept answer is the plain store's, and that an answer is worked out
 //! anew only on one of four grounds. The calls whose names end in `_here` are the store alone, for `bench.rs`.
 
-use crate::meaning::{holds, number, record};
+use crate::meaning::{cell, holds, number, record, Rows, RECORD_ROWS};
 use crate::pattern::{agrees, patterns};
 use crate::plain::Plain;
-use crate::sound::{sizes_pass, State, TablePart};
+use crate::sound::{sizes_pass, QuestionPart, State, TablePart};
 use crate::text::{Catalogue, Change, Statement};
+use std::collections::HashMap;
 
 /// The question's number with its values.
-#[derive(Clone, PartialEq, Debug)]
+#[derive(Clone, PartialEq, Eq, Hash, Debug)]
 pub struct Key {
     pub question: usize,
     pub values: Vec<i32>,
@@ -29,8 +30,10 @@ enum Event {
     Flushed,
 }
 
+/// For a question over two tables `rows_read` is the most that it may be.
 pub struct Answer {
     pub kept: bool,
+    pub paired: bool,
     pub rows_read: usize,
     pub record: Vec<u8>,
 }
@@ -62,11 +65,14 @@ pub struct Store {
     history: Vec<Event>,
     /// A part of the state was set (`set`): it is none that an opening gave, and nothing is asserted of it.
     was_set: bool,
-    /// Why the last ask was worked out anew, how long its record was, and whether it took a held slot: counted for the
-    /// report of what was tried.
+    /// The plain store's answers of the keys kept, with the updates done of their tables until then.
+    answers: HashMap<Key, (Vec<usize>, Vec<u8>)>,
+    /// Why the last ask was worked out anew, how long its record was, whether it took a held slot, and the questions of
+    /// the answers that the last update dropped: counted for the report of what was tried.
     pub last_ground: Option<Ground>,
     pub last_length: usize,
     pub last_evicted: bool,
+    pub last_dropped: Vec<usize>,
 }
 
 impl Store {
@@ -84,9 +90,11 @@ impl Store {
             plain: Plain::open(cells, bytes),
             history: vec![],
             was_set: false,
+            answers: HashMap::new(),
             last_ground: None,
             last_length: 0,
             last_evicted: false,
+            last_dropped: vec![],
         }
     }
 
@@ -121,6 +129,10 @@ impl Store {
     fn row(&self, table: usize, row: usize) -> Vec<i32> {
         let start = self.row_start(table, row);
         self.cells[start..start + self.catalogue.tables[table].columns.len()].to_vec()
+    }
+
+    fn rows(&self, table: usize) -> Vec<Vec<i32>> {
+        (0..self.counts[table]).map(|i| self.row(table, i)).collect()
     }
 
     fn put_row(&mut self, table: usize, row: usize, values: &[i32]) {
@@ -184,6 +196,7 @@ impl Store {
         if values.len() != question.marks {
             return Err(11);
         }
+        let paired = question.tables.len() == 2;
         let holder = (0..self.slots).find(|&slot| self.kept[slot].as_ref().is_some_and(|kept| kept.key == key));
         if let Some(slot) = holder {
             let length = self.kept[slot].as_ref().unwrap().length;
@@ -193,17 +206,31 @@ impl Store {
             self.to_front(slot);
             let start = slot * self.slot_bytes;
             let record = self.memory[start..start + length].to_vec();
-            return Ok(Answer { kept: true, rows_read: 0, record });
+            return Ok(Answer { kept: true, paired, rows_read: 0, record });
         }
-        let rows_read = self.counts[question.table];
+        let mut rows_read = 0;
         let mut listed = Vec::new();
-        for i in 0..rows_read {
-            let row = self.row(question.table, i);
-            if holds(&question.condition, &row, values) {
-                listed.push(question.columns.iter().map(|&c| row[c]).collect());
+        let mut list = |rows: &Rows| {
+            if listed.len() <= RECORD_ROWS && holds(&question.condition, rows, values) {
+                listed.push(question.columns.iter().map(|&c| cell(c, rows)).collect());
+            }
+        };
+        let first = question.tables[0];
+        let second = question.tables.get(1).map(|&table| (table, self.rows(table)));
+        for i in 0..self.counts[first] {
+            let row = self.row(first, i);
+            rows_read += 1;
+            match &second {
+                None => list(&[(first, &row)]),
+                Some((table, others)) => {
+                    for other in others {
+                        rows_read += 1;
+                        list(&[(first, &row), (*table, other)]);
+                    }
+                }
             }
         }
-        let record = record(question.columns.len(), &listed);
+        let record = record(question.columns.len(), &listed)?;
         if buffer < record.len() {
             return Err(13);
         }
@@ -219,7 +246,7 @@ impl Store {
             let start = slot * self.slot_bytes;
             self.memory[start..start + record.len()].copy_from_slice(&record);
         }
-        Ok(Answer { kept: false, rows_read, record })
+        Ok(Answer { kept: false, paired, rows_read, record })
     }
 
     fn to_front(&mut self, slot: usize) {
@@ -268,7 +295,7 @@ impl Store {
                 let mut matched = 0;
                 for i in 0..count {
                     let mut row = self.row(table, i);
-                    if holds(&update.condition, &row, values) {
+                    if holds(&update.condition, &[(table, &row)], values) {
                         matched += 1;
                         for (column, operand) in sets {
                             row[*column] = number(*operand, &[], values);
@@ -282,7 +309,7 @@ impl Store {
                 let mut stay = 0;
                 for i in 0..count {
                     let row = self.row(table, i);
-                    if !holds(&update.condition, &row, values) {
+                    if !holds(&update.condition, &[(table, &row)], values) {
                         self.put_row(table, stay, &row);
                         stay += 1;
                     }
@@ -297,6 +324,7 @@ impl Store {
         let dropped: Vec<usize> = (0..self.slots)
             .filter(|&slot| self.kept[slot].as_ref().is_some_and(|k| self.matches(n as usize, values, &k.key)))
             .collect();
+        self.last_dropped = dropped.iter().map(|&slot| self.kept[slot].as_ref().unwrap().key.question).collect();
         self.drop_slots(&dropped);
         Ok((rows, dropped.len()))
     }
@@ -363,7 +391,7 @@ impl Store {
             slots: self.slots,
             slot_bytes: self.slot_bytes,
             tables: (0..self.catalogue.tables.len()).map(table).collect(),
-            questions: self.catalogue.questions.iter().cloned().map(Some).collect(),
+            questions: self.catalogue.questions.iter().map(|q| Some(QuestionPart::of(&self.catalogue, q))).collect(),
             updates: self.catalogue.updates.iter().cloned().map(Some).collect(),
             kept: self.kept.clone(),
             order: self.order.clone(),
@@ -419,7 +447,7 @@ impl Store {
     }
 
     /// The state is sound, the cells hold the plain store's rows, and every kept answer is the plain store's.
-    fn check(&self) {
+    fn check(&mut self) {
         assert!(self.state().is_sound(), "the state is sound");
         let mut sorted = self.order.clone();
         sorted.sort_unstable();
@@ -433,21 +461,33 @@ impl Store {
             assert!(!twice, "no key is held twice");
             assert!(8 <= kept.length && kept.length <= self.slot_bytes);
             let start = slot * self.slot_bytes;
-            let answer = self.plain.answer(kept.key.question, &kept.key.values);
+            let updates = self.plain.updates_of(kept.key.question);
+            if self.answers.get(&kept.key).map_or(true, |(until, _)| *until != updates) {
+                let answer = self.plain.answer(kept.key.question, &kept.key.values).expect("a kept answer is not refused");
+                self.answers.insert(kept.key.clone(), (updates, answer));
+            }
+            let answer = &self.answers[&kept.key].1;
             assert_eq!(&self.memory[start..start + kept.length], &answer[..], "a kept answer is the plain store's");
         }
         assert!(self.catalogue.cells_used() <= self.cells.len());
         for table in 0..self.catalogue.tables.len() {
             assert!(self.counts[table] <= self.catalogue.tables[table].rows);
-            let rows: Vec<Vec<i32>> = (0..self.counts[table]).map(|i| self.row(table, i)).collect();
-            assert_eq!(rows, self.plain.rows(table), "the cells hold the plain store's rows");
+            assert_eq!(self.rows(table), self.plain.rows(table), "the cells hold the plain store's rows");
         }
     }
 
-    /// The length of a question's record now, for the generator.
+    /// The length of a question's record now, if it has one, for the generator.
     pub fn length_now(&self, question: usize, values: &[i32]) -> Option<usize> {
         let marks = self.catalogue.questions.get(question)?.marks;
-        (marks == values.len()).then(|| self.plain.answer(question, values).len())
+        if marks != values.len() {
+            return None;
+        }
+        self.plain.answer(question, values).ok().map(|record| record.len())
+    }
+
+    /// The rows that a table holds, for the generator.
+    pub fn height(&self, table: usize) -> usize {
+        self.counts[table]
     }
 
     /// Would an INSERT into this table be refused? For the generator.

@@ -1,5 +1,5 @@
 //! Statement texts: tokens, grammar, and what the limits and names refuse
-//! (numbers 3 to 9 of adding).
+//! (numbers 3 to 9 and 15 of adding).
 
 /// The six comparisons.
 #[derive(Clone, Copy, PartialEq, Eq, Debug)]
@@ -21,27 +21,51 @@ pub enum Condition<O> {
     Or(Box<Condition<O>>, Box<Condition<O>>),
 }
 
+/// A column as written, `level` or `stage.level`.
+#[derive(Clone, PartialEq, Debug)]
+pub struct Named {
+    table: Option<String>,
+    column: String,
+}
+
 /// An operand as written; a constant outside 32 bits is `None`.
 #[derive(Clone, PartialEq, Debug)]
 pub enum Written {
-    Column(String),
+    Column(Named),
     Constant(Option<i32>),
     Mark(usize),
 }
 
-/// An operand with its column looked up. Marks count from 1.
+/// A column looked up: the number of its table, and its place there.
 #[derive(Clone, Copy, PartialEq, Debug)]
-pub enum Operand {
-    Column(usize),
+pub struct Column {
+    pub table: usize,
+    pub place: usize,
+}
+
+/// An operand with its column looked up, or with the column's place alone (`Operand<usize>`). Marks count from 1.
+#[derive(Clone, Copy, PartialEq, Debug)]
+pub enum Operand<C = Column> {
+    Column(C),
     Constant(i32),
     Mark(usize),
+}
+
+impl Operand {
+    pub fn placed(self, place: impl Fn(Column) -> usize) -> Operand<usize> {
+        match self {
+            Operand::Column(column) => Operand::Column(place(column)),
+            Operand::Constant(constant) => Operand::Constant(constant),
+            Operand::Mark(mark) => Operand::Mark(mark),
+        }
+    }
 }
 
 /// A whole sentence, with nothing looked up and no limit looked at.
 #[derive(Clone, PartialEq, Debug)]
 enum Sentence {
     Table { name: String, columns: Vec<String>, rows: Option<i32> },
-    Select { columns: Vec<String>, table: String, condition: Option<Condition<Written>> },
+    Select { columns: Vec<Named>, tables: Vec<String>, condition: Option<Condition<Written>> },
     Insert { table: String, values: Vec<Written> },
     Update { table: String, sets: Vec<(String, Written)>, condition: Option<Condition<Written>> },
     Delete { table: String, condition: Option<Condition<Written>> },
@@ -54,14 +78,16 @@ pub struct Table {
     pub rows: usize,
 }
 
+/// `tables` are one or two, in the order of the text.
 #[derive(Clone, Debug)]
 pub struct Question {
-    pub table: usize,
-    pub columns: Vec<usize>,
+    pub tables: Vec<usize>,
+    pub columns: Vec<Column>,
     pub condition: Option<Condition<Operand>>,
     pub marks: usize,
 }
 
+/// Set columns are places in the updated table.
 #[derive(Clone, Debug)]
 pub enum Change {
     Insert(Vec<Operand>),
@@ -120,7 +146,7 @@ const KEYWORDS: [&str; 14] = [
 ];
 
 /// Longest first, so that the first that fits is the longest that fits.
-const SIGNS: [&str; 10] = ["<>", "<=", ">=", "<", ">", "=", "(", ")", ",", "?"];
+const SIGNS: [&str; 11] = ["<>", "<=", ">=", "<", ">", "=", "(", ")", ",", "?", "."];
 
 fn is_word_byte(b: u8) -> bool {
     b.is_ascii_alphanumeric() || b == b'_'
@@ -188,6 +214,9 @@ struct Reader {
     marks: usize,
     comparisons: usize,
     deepest: usize,
+    /// Columns read where a dot may stand: without one, and with one.
+    bare: usize,
+    dotted: usize,
 }
 
 /// `None` everywhere in the reader: no sentence.
@@ -231,10 +260,22 @@ impl Reader {
         Some(all)
     }
 
+    /// A selected or tested column, with or without a dot; which of them is right depends on FROM.
+    fn column(&mut self) -> Option<Named> {
+        let first = self.name()?;
+        if self.sign(".").is_some() {
+            self.dotted += 1;
+            Some(Named { table: Some(first), column: self.name()? })
+        } else {
+            self.bare += 1;
+            Some(Named { table: None, column: first })
+        }
+    }
+
     /// A column, a constant or a question mark.
     fn operand(&mut self) -> Option<Written> {
         let operand = match self.tokens.get(self.at)? {
-            Token::Name(name) => Written::Column(name.clone()),
+            Token::Name(_) => return Some(Written::Column(self.column()?)),
             Token::Constant(number) => Written::Constant(*number),
             Token::Sign("?") => {
                 self.marks += 1;
@@ -323,10 +364,10 @@ impl Reader {
             self.at += 1;
             Sentence::Table { name, columns, rows }
         } else if self.keyword("SELECT").is_some() {
-            let columns = self.list(Reader::name)?;
+            let columns = self.list(Reader::column)?;
             self.keyword("FROM")?;
-            let table = self.name()?;
-            Sentence::Select { columns, table, condition: self.optional_where()? }
+            let tables = self.list(Reader::name)?;
+            Sentence::Select { columns, tables, condition: self.optional_where()? }
         } else if self.keyword("INSERT").is_some() {
             self.keyword("INTO")?;
             let table = self.name()?;
@@ -350,7 +391,13 @@ impl Reader {
             let table = self.name()?;
             Sentence::Delete { table, condition: self.optional_where()? }
         };
-        (self.at == self.tokens.len()).then_some(sentence)
+        // With two tables every column has a dot, elsewhere none has.
+        let of_this_form = match &sentence {
+            Sentence::Select { tables, .. } if tables.len() == 2 => self.bare == 0,
+            Sentence::Select { tables, .. } => tables.len() == 1 && self.dotted == 0,
+            _ => self.dotted == 0,
+        };
+        (of_this_form && self.at == self.tokens.len()).then_some(sentence)
     }
 }
 
@@ -377,54 +424,69 @@ fn has_repeat(names: &[&String]) -> bool {
     (0..names.len()).any(|i| names[..i].contains(&names[i]))
 }
 
-fn look_up(table: &Table, operand: &Written) -> Result<Operand, u8> {
-    match operand {
-        Written::Column(name) => Ok(Operand::Column(column(table, name)?)),
-        Written::Constant(number) => Ok(Operand::Constant(number.expect("limits were looked at"))),
-        Written::Mark(mark) => Ok(Operand::Mark(*mark)),
-    }
-}
-
-fn column(table: &Table, name: &str) -> Result<usize, u8> {
-    table.columns.iter().position(|c| c == name).ok_or(6)
-}
-
-fn look_up_condition(table: &Table, condition: &Condition<Written>) -> Result<Condition<Operand>, u8> {
-    Ok(match condition {
-        Condition::Compare(left, relation, right) => {
-            Condition::Compare(look_up(table, left)?, *relation, look_up(table, right)?)
-        }
-        Condition::Not(inner) => Condition::Not(Box::new(look_up_condition(table, inner)?)),
-        Condition::And(left, right) => {
-            Condition::And(Box::new(look_up_condition(table, left)?), Box::new(look_up_condition(table, right)?))
-        }
-        Condition::Or(left, right) => {
-            Condition::Or(Box::new(look_up_condition(table, left)?), Box::new(look_up_condition(table, right)?))
-        }
-    })
-}
-
-fn look_up_where(table: &Table, condition: &Option<Condition<Written>>) -> Result<Option<Condition<Operand>>, u8> {
-    condition.as_ref().map(|c| look_up_condition(table, c)).transpose()
-}
-
 impl Catalogue {
     pub fn cells_used(&self) -> usize {
         self.tables.iter().map(|t| t.columns.len() * t.rows).sum()
+    }
+
+    /// The place of a question's column counted through its tables, the first table's columns before the second's.
+    pub fn counted(&self, question: &Question, column: Column) -> usize {
+        let first = question.tables[0];
+        let before = if column.table == first { 0 } else { self.tables[first].columns.len() };
+        before + column.place
     }
 
     fn table(&self, name: &str) -> Result<usize, u8> {
         self.tables.iter().position(|t| t.name == name).ok_or(6)
     }
 
+    /// A column of one of these tables; a bare one is of the only table.
+    fn column(&self, tables: &[usize], named: &Named) -> Result<Column, u8> {
+        let is_named = |table: usize| named.table.as_ref().map_or(true, |name| self.tables[table].name == *name);
+        let table = *tables.iter().find(|&&table| is_named(table)).ok_or(6)?;
+        let place = self.tables[table].columns.iter().position(|c| *c == named.column).ok_or(6)?;
+        Ok(Column { table, place })
+    }
+
+    fn operand(&self, tables: &[usize], operand: &Written) -> Result<Operand, u8> {
+        match operand {
+            Written::Column(named) => Ok(Operand::Column(self.column(tables, named)?)),
+            Written::Constant(number) => Ok(Operand::Constant(number.expect("limits were looked at"))),
+            Written::Mark(mark) => Ok(Operand::Mark(*mark)),
+        }
+    }
+
+    fn condition(&self, tables: &[usize], condition: &Condition<Written>) -> Result<Condition<Operand>, u8> {
+        Ok(match condition {
+            Condition::Compare(left, relation, right) => {
+                Condition::Compare(self.operand(tables, left)?, *relation, self.operand(tables, right)?)
+            }
+            Condition::Not(inner) => Condition::Not(Box::new(self.condition(tables, inner)?)),
+            Condition::And(left, right) => {
+                Condition::And(Box::new(self.condition(tables, left)?), Box::new(self.condition(tables, right)?))
+            }
+            Condition::Or(left, right) => {
+                Condition::Or(Box::new(self.condition(tables, left)?), Box::new(self.condition(tables, right)?))
+            }
+        })
+    }
+
+    fn optional_where(
+        &self,
+        tables: &[usize],
+        condition: &Option<Condition<Written>>,
+    ) -> Result<Option<Condition<Operand>>, u8> {
+        condition.as_ref().map(|c| self.condition(tables, c)).transpose()
+    }
+
     /// What the text adds to a store of `cells` cells with these tables and statements, or the number that refuses
-    /// it: 3, 4, 5, 6, 7, 8, 9, looked for in that order.
+    /// it: 3, 4, 5, 6, 7, 8, 15, 9, looked for in that order.
     pub fn read(&self, cells: usize, text: &[u8]) -> Result<Statement, u8> {
         if text.len() > TEXT {
             return Err(3);
         }
         let tokens = tokens(text).ok_or(4)?;
-        let mut reader = Reader { tokens, at: 0, marks: 0, comparisons: 0, deepest: 0 };
+        let mut reader = Reader { tokens, at: 0, marks: 0, comparisons: 0, deepest: 0, bare: 0, dotted: 0 };
         let sentence = reader.sentence().ok_or(4)?;
         if past_a_limit(&reader, &sentence) {
             return Err(5);
@@ -438,39 +500,40 @@ impl Catalogue {
                 let rows = rows.expect("limits were looked at") as usize;
                 Statement::Table(Table { name: name.clone(), columns: columns.clone(), rows })
             }
-            Sentence::Select { columns, table, condition } => {
-                let number = self.table(table)?;
-                let table = &self.tables[number];
-                let columns = columns.iter().map(|c| column(table, c)).collect::<Result<Vec<_>, u8>>()?;
-                let condition = look_up_where(table, condition)?;
-                Statement::Question(Question { table: number, columns, condition, marks })
+            Sentence::Select { columns, tables, condition } => {
+                let tables = tables.iter().map(|name| self.table(name)).collect::<Result<Vec<_>, u8>>()?;
+                let columns = columns.iter().map(|c| self.column(&tables, c)).collect::<Result<Vec<_>, u8>>()?;
+                let condition = self.optional_where(&tables, condition)?;
+                if tables.len() == 2 && tables[0] == tables[1] {
+                    return Err(15);
+                }
+                Statement::Question(Question { tables, columns, condition, marks })
             }
             Sentence::Insert { table, values } => {
-                let number = self.table(table)?;
-                let table = &self.tables[number];
-                if values.len() != table.columns.len() {
+                let table = self.table(table)?;
+                if values.len() != self.tables[table].columns.len() {
                     return Err(8);
                 }
-                let values = values.iter().map(|v| look_up(table, v)).collect::<Result<Vec<_>, u8>>()?;
-                Statement::Update(Update { table: number, change: Change::Insert(values), condition: None, marks })
+                let values = values.iter().map(|v| self.operand(&[table], v)).collect::<Result<Vec<_>, u8>>()?;
+                Statement::Update(Update { table, change: Change::Insert(values), condition: None, marks })
             }
             Sentence::Update { table, sets, condition } => {
-                let number = self.table(table)?;
-                let table = &self.tables[number];
+                let table = self.table(table)?;
                 let mut pairs = Vec::new();
                 for (name, value) in sets {
-                    pairs.push((column(table, name)?, look_up(table, value)?));
+                    let column = self.column(&[table], &Named { table: None, column: name.clone() })?;
+                    pairs.push((column.place, self.operand(&[table], value)?));
                 }
-                let condition = look_up_where(table, condition)?;
+                let condition = self.optional_where(&[table], condition)?;
                 if has_repeat(&sets.iter().map(|(name, _)| name).collect::<Vec<_>>()) {
                     return Err(7);
                 }
-                Statement::Update(Update { table: number, change: Change::Set(pairs), condition, marks })
+                Statement::Update(Update { table, change: Change::Set(pairs), condition, marks })
             }
             Sentence::Delete { table, condition } => {
-                let number = self.table(table)?;
-                let condition = look_up_where(&self.tables[number], condition)?;
-                Statement::Update(Update { table: number, change: Change::Delete, condition, marks })
+                let table = self.table(table)?;
+                let condition = self.optional_where(&[table], condition)?;
+                Statement::Update(Update { table, change: Change::Delete, condition, marks })
             }
         };
         let place = match &statement {

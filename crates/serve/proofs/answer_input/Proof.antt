@@ -10,10 +10,12 @@ answer-all-requires : tie.Need-answer-all-requires
 answer-all-requires c κs = search needs
 
 answer-end-requires : tie.Need-answer-end-requires
-answer-end-requires c κs = (
-  omega (arith, c .before .before .before .before .before .before .before .before .before .before .before .before .before .before .before .before .answer-all .ensures .0, c .before .before .before .before .before .before .before .before .line .given),
-  omega (arith, c .before .before .before .before .before .before .before .before .before .before .before .before .before .before .before .before .before .before .before .before .before .before .before .before .before .before .before .before .pre .2, c .before .before .before .before .before .before .out .given),
-)
+answer-end-requires c κs =
+    let h = c .before .before .before .before .before .before .before .before .before .before .before .before .before .before .before .before .before .before .before .before .before .before .before .before .before .before .before .before .pre in (
+      omega (arith, c .before .before .before .before .before .before .before .before .before .before .before .before .before .before .before .before .answer-all .ensures .0, c .before .before .before .before .before .before .before .before .line .given),
+      omega (arith, h .2, c .before .before .before .before .before .before .before .before .before .before .before .before .answer .given),
+      omega (arith, h .3, c .before .before .before .before .before .before .out .given),
+    )
 
 same-length : tie.Need-same-length
 same-length c = c .before .before .before .before .before .before .cells2 .given ∙ c .before .before .before .before .before .before .before .before .before .before .before .before .before .before .before .before .before .before .before .before .before .before .before .cells .given

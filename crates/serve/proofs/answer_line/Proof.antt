@@ -23,13 +23,14 @@ same-length-4 c = search needs
 returns : tie.Need-returns
 returns c =
     let a = c .before .before .before .before .before .before .before .before .before .before .before .before .before .before .before .before .before .before .args in
-    let r = c .before .before .before .before .before .before .before .before .respond in (
+    let r = c .before .before .before .before .before .before .before .before .respond in
+    let h = c .before .before .before .before .before .before .before .before .before .before .before .before .before .before .before .before .before .before .pre in (
       (
         refl,
         refl,
         reply-inside (r .result) _ _ _ _ (a .served .state) (a .cells .now) (a .memory .now) (a .answer .now) (a .line .now) (a .out .now) (r .ensures),
       ),
-      reply-answers (r .result) _ _ _ _ (a .served .state) (a .cells .now) (a .memory .now) (a .answer .now) (a .line .now) (a .out .now) (r .ensures) (c .before .before .before .before .before .before .before .before .before .before .before .before .before .before .before .before .before .before .pre),
+      reply-answers (r .result) _ _ _ _ (a .served .state) (a .cells .now) (a .memory .now) (a .answer .now) (a .line .now) (a .out .now) (r .ensures) (h .0) (h .1),
     )
 
 pub answer-line-spec : {M : Type 1} → statement M

@@ -20,7 +20,7 @@ answer-piece-requires : tie.Need-answer-piece-requires
 answer-piece-requires c κs = search needs
 
 reads-left-requires : tie.Need-reads-left-requires
-reads-left-requires c κs = c .before .before .before .before .before .before .before .before .before .before .before .before .before .before .before .before .before .before .before .before .before .before .before .before .before .before .pre .3
+reads-left-requires c κs = c .before .before .before .before .before .before .before .before .before .before .before .before .before .before .before .before .before .before .before .before .before .before .before .before .before .before .pre .4
 
 same-length : tie.Need-same-length
 same-length c = search needs

@@ -7,9 +7,9 @@ use lib.ListN.{length, take}
 use Rattle.lists.specs.Lists.{all}
 use Rattle.statement.specs.Catalog.{schemasOf}
 use Rattle.statement.specs.Sound.{soundQuery}
-use Rattle.statement.proofs.Walks.{of-min, Tested, tested-start, tested-more, tested-end}
+use Rattle.statement.proofs.Walks.{of-min, Tested, tested-start, tested-end}
 use Rattle.soundness.specs.Soundness.{queriesSound}
-use Rattle.soundness.proofs.Widths.{queryAt, queries-beside}
+use Rattle.soundness.proofs.Widths.{queryAt, tested-query, width-small, queries-beside}
 use Rattle.soundness.proofs.queries_are_sound.Statement.{statement}
 use Rattle.soundness.proofs.queries_are_sound.Tie as tie
 
@@ -40,6 +40,11 @@ array-copy-out-q c = omega arith
 width-at-requires : tie.Need-width-at-requires Inv-loop μ-loop
 width-at-requires c κs = tt
 
+width-with-requires : tie.Need-width-with-requires Inv-loop μ-loop
+width-with-requires c κs =
+    let w = c .before .before .before .before .before in
+    (width-small (w .before .before .args .tables) _ (w .widths .ensures) _ _ (c .width-at .ensures), w .widths .ensures .1)
+
 cast-ok : tie.Need-cast-ok Inv-loop μ-loop
 cast-ok c = search needs
 
@@ -54,12 +59,13 @@ loop-less c = omega arith
 
 loop-again : tie.Need-loop-again Inv-loop μ-loop
 loop-again c =
-    let l = c .before .before .before .before .before .loop in
+    let d = c .before .before .before in
+    let l = d .before .before .before .loop in
     let v = l .inv in (
       v .0,
       v .1,
-      rw (c .query-is-sound .ensures, c .before .before .width-at .ensures)
-          (tested-more _ _ _ (omega arith) (l .ok) (l .i) _ (c .before .before .before .before .loop-test .taken) (v .2)),
+      tested-query _ (d .before .before .before .before .before .widths .result) _ _ (omega arith) (l .ok) (l .i) _ (d .before .before .loop-test .taken) _ _ _ (d .width-at .ensures) (c .before .before .width-with .ensures)
+          (c .query-is-sound .ensures) (v .2),
     )
 
 returns : tie.Need-returns Inv-loop μ-loop
@@ -86,6 +92,7 @@ queries-are-sound-spec =
     mul-q
     array-copy-out-q
     width-at-requires
+    width-with-requires
     cast-ok
     query-is-sound-requires
     add-i

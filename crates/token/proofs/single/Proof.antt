@@ -24,8 +24,11 @@ either-requires-6 c κs = tt
 either-requires-7 : tie.Need-either-requires-7
 either-requires-7 c κs = tt
 
+either-requires-8 : tie.Need-either-requires-8
+either-requires-8 c κs = tt
+
 returns : tie.Need-returns
-returns c = rw (c .either7 .ensures, c .before .either6 .ensures, c .before .before .either5 .ensures, c .before .before .before .either4 .ensures, c .before .before .before .before .either3 .ensures, c .before .before .before .before .before .either2 .ensures, c .before .before .before .before .before .before .either .ensures)
+returns c = rw (c .either8 .ensures, c .before .either7 .ensures, c .before .before .either6 .ensures, c .before .before .before .either5 .ensures, c .before .before .before .before .either4 .ensures, c .before .before .before .before .before .either3 .ensures, c .before .before .before .before .before .before .either2 .ensures, c .before .before .before .before .before .before .before .either .ensures)
 
 pub single-spec : {M : Type 1} → statement M
 single-spec =
@@ -38,4 +41,5 @@ single-spec =
     either-requires-5
     either-requires-6
     either-requires-7
+    either-requires-8
     returns)

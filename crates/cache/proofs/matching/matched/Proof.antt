@@ -43,6 +43,9 @@ cast-if1 c = search needs
 array-read-if1 : tie.Need-array-read-if1 Inv-loop μ-loop
 array-read-if1 c = search needs
 
+reads-requires : tie.Need-reads-requires Inv-loop μ-loop
+reads-requires c κs = search needs
+
 mark-query-requires : tie.Need-mark-query-requires Inv-loop μ-loop
 mark-query-requires c κs = search needs
 
@@ -54,15 +57,15 @@ loop-less c = search needs
 
 loop-again : tie.Need-loop-again Inv-loop μ-loop
 loop-again c =
-    let l = c .before .before .before .before .before .loop in
-    let t = c .before .before .before .before .loop-test .taken in (
+    let l = c .before .before .before .before .loop in
+    let t = c .before .before .before .loop-test .taken in (
       l .inv .0,
       l .inv .1,
       l .inv .2,
       l .inv .3,
       ⊎-elim
           (λ w. rw (w .2) (queries-yes _ _ _ _ _ _ _ _ t (l .inv .4) _ (l .inv .1) (l .inv .3) _ _ (and-left _ _ (w .0 .taken)) (l .inv .2) (w .1 .ensures)))
-          (λ w. rw (w .1) (queries-no _ _ _ _ _ _ _ _ t (l .inv .4) _ (l .inv .1) (l .inv .3) _ (l .inv .2) (w .0 .left)))
+          (λ w. rw (w .1) (queries-no _ _ _ _ _ _ _ _ t (l .inv .4) _ (l .inv .1) (l .inv .3) _ _ (c .before .reads .ensures) (l .inv .2) (w .0 .left)))
           (c .if1 .came),
     )
 
@@ -80,6 +83,7 @@ matched-spec =
     cast-query
     mul-query
     array-copy-out-query
+    reads-requires
     cast-if1
     array-read-if1
     mark-query-requires

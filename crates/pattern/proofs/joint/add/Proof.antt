@@ -19,10 +19,10 @@ use Rattle.pattern.proofs.joint.add.Statement.{statement}
 use Rattle.pattern.proofs.joint.add.Tie as tie
 
 abbrev Inv-loop : tie.InvT-loop
-Inv-loop n mask role settings given condition codes₀ numbers₀ at₀ left₀ i₀ codes numbers at left i = (i ≤ condition .count) × (length (condition .comparisons) ≡ 8) × Adding (operandOf role (map settingRead (take given settings))) (comparisonsRead condition) codes₀ numbers₀ n mask codes numbers at left i
+Inv-loop n mask role from settings given condition codes₀ numbers₀ at₀ left₀ i₀ codes numbers at left i = (i ≤ condition .count) × (length (condition .comparisons) ≡ 8) × Adding (operandOf role from (map settingRead (take given settings))) (comparisonsRead condition) codes₀ numbers₀ n mask codes numbers at left i
 
 abbrev μ-loop : tie.MeasureT-loop
-μ-loop n mask role settings given condition codes₀ numbers₀ at₀ left₀ i₀ codes numbers at left i = condition .count - i
+μ-loop n mask role from settings given condition codes₀ numbers₀ at₀ left₀ i₀ codes numbers at left i = condition .count - i
 
 eight : (c : tie.Start Inv-loop μ-loop) → length (c .args .t4 .comparisons) ≡ 8
 eight c = simp length-map at (c .good .1 .1 .1 .0 .1 .1 .0 .1 .0 .1)
@@ -33,7 +33,7 @@ settings-long c = search needs
 loop-holds : tie.Need-loop-holds Inv-loop μ-loop
 loop-holds c =
     let s = c .args in
-    (omega arith, eight c, add-start (operandOf (s .role) (map settingRead (take (s .given) (s .settings)))) (comparisonsRead (s .t4)) (s .start) (s .ops) (s .n) (s .mask) (search needs) (search needs) (c .pre .3))
+    (omega arith, eight c, add-start (operandOf (s .role) (s .from) (map settingRead (take (s .given) (s .settings)))) (comparisonsRead (s .t4)) (s .start) (s .ops) (s .n) (s .mask) (search needs) (search needs) (c .pre .3))
 
 cast-loop : tie.Need-cast-loop Inv-loop μ-loop
 cast-loop c = search needs
@@ -99,7 +99,7 @@ loop-again c =
     let a = s .args in
     let d : Comparison = Compiled.noComparison in
     let x : C.Comparison M.Operand = comparisonRead (getD (a .t4 .comparisons) (l .i) d) in
-    let f = operandOf (a .role) (map settingRead (take (a .given) (a .settings))) in
+    let f = operandOf (a .role) (a .from) (map settingRead (take (a .given) (a .settings))) in
     let few = s .pre .2 in
     let h = c .before .before .before .before .before .loop-test .taken in (
       omega arith,
@@ -116,7 +116,7 @@ returns c =
     let l = c .before .loop in
     let a = s .args in
     let few = s .pre .2 in (
-      add-done (operandOf (a .role) (map settingRead (take (a .given) (a .settings)))) (comparisonsRead (a .t4)) (a .start) (a .ops) (a .n) (a .mask) (l .codes) (l .numbers) (l .at) (l .left) (l .i)
+      add-done (operandOf (a .role) (a .from) (map settingRead (take (a .given) (a .settings)))) (comparisonsRead (a .t4)) (a .start) (a .ops) (a .n) (a .mask) (l .codes) (l .numbers) (l .at) (l .left) (l .i)
           (omega (arith, read-length (a .t4) (l .inv .1) few)) (omega arith) (l .inv .2),
       settings-long s,
     )

@@ -16,7 +16,7 @@ mark-code-requires c κs = search needs
 returns : tie.Need-returns
 returns c =
     let a = c .before .before .before .before .args in
-    operand-mark (a .role) (map settingRead (take (a .n) (a .settings))) (a .o) _ (c .before .before .if1 .taken) (c .mark-code .ensures)
+    operand-mark (a .role) (a .from) (map settingRead (take (a .n) (a .settings))) (a .o) _ (c .before .before .if1 .taken) (c .mark-code .ensures)
 
 constant-code-requires : tie.Need-constant-code-requires
 constant-code-requires c κs = search needs
@@ -25,7 +25,7 @@ returns-2 : tie.Need-returns-2
 returns-2 c =
     let a = c .before .before .before .before .before .before .args in
     let y : ℤ = toZ w32 (ofZ w32 (a .o .number)) in
-    operand-constant (a .role) (map settingRead (take (a .n) (a .settings))) (a .o) _ y (c .before .before .if2 .taken) (search needs) (constant-coding y _ (c .constant-code .ensures))
+    operand-constant (a .role) (a .from) (map settingRead (take (a .n) (a .settings))) (a .o) _ y (c .before .before .if2 .taken) (search needs) (constant-coding y _ (c .constant-code .ensures))
 
 sub-column-code : tie.Need-sub-column-code
 sub-column-code c = search needs
@@ -36,7 +36,7 @@ column-code-requires c κs = search needs
 returns-3 : tie.Need-returns-3
 returns-3 c =
     let a = c .before .before .before .before .before .before .args in
-    operand-column (a .role) (map settingRead (take (a .n) (a .settings))) (a .o) _ (c .before .before .before .before .if1 .left) (c .before .before .if2 .left) (c .column-code .ensures)
+    operand-column (a .role) (a .from) (map settingRead (take (a .n) (a .settings))) (a .o) _ (c .before .before .before .before .if1 .left) (c .before .before .if2 .left) (c .column-code .ensures)
 
 pub operand-code-spec : {M : Type 1} → statement M
 operand-code-spec =

@@ -7,12 +7,16 @@ use borrow.Author.Needs.{needs}
 use Rattle.pattern.proofs.pairing.clause_at.Statement.{statement}
 use Rattle.pattern.proofs.pairing.clause_at.Tie as tie
 
+start-of-requires : tie.Need-start-of-requires
+start-of-requires c κs = search needs
+
 array-read-inserted : tie.Need-array-read-inserted
 array-read-inserted c =
-    let s = c .before .before .before .before .before in
+    let b = c .before .before .before .start-of in
+    let s = c .before .before .before .before .before .before in
     let a = s .args in
     let w = s .pre .0 .query-masked .few in
-    let h = insert-below (a .query) (a .update) (a .p) (s .pre .0) (a .i) (s .pre .1) (c .before .if1 .taken) in
+    let h = insert-below (a .query) (a .update) (a .p) (s .pre .0) (a .i) (s .pre .1) (b .result) (b .ensures) (c .before .if1 .taken) in
     omega arith
 
 inserted-requires : tie.Need-inserted-requires
@@ -20,9 +24,10 @@ inserted-requires c κs = search needs
 
 returns : tie.Need-returns
 returns c =
-    let s = c .before .before .before .before .before .before in
+    let b = c .before .before .before .before .start-of in
+    let s = c .before .before .before .before .before .before .before in
     let a = s .args in
-    c .inserted .ensures ∙ ap (clausePattern (entryCount (a .query))) (insert-chosen (a .query) (a .update) (a .p) (s .pre .0) (a .i) (s .pre .1) (c .before .before .if1 .taken))
+    c .inserted .ensures ∙ ap (clausePattern (entryCount (a .query))) (insert-chosen (a .query) (a .update) (a .p) (s .pre .0) (a .i) (s .pre .1) (b .result) (b .ensures) (c .before .before .if1 .taken))
 
 cast-size : tie.Need-cast-size
 cast-size c = search needs
@@ -32,7 +37,7 @@ cast-size-2 c = search needs
 
 mul-size : tie.Need-mul-size
 mul-size c =
-    let s = c .before .before .before .before .before .before in
+    let s = c .before .before .before .before .before .before .before in
     let a = s .args in
     let w = s .pre .0 in
     omega (arith, product-few (a .p .query .count) (a .p .update .count) (w .query-masked .few) (w .update-masked .few))
@@ -42,26 +47,30 @@ pair-at-requires c κs = search needs
 
 returns-2 : tie.Need-returns-2
 returns-2 c =
-    let s = c .before .before .before .before .before .before .before .before in
+    let b = c .before .before .before .before .before .before .start-of in
+    let s = c .before .before .before .before .before .before .before .before .before in
     let a = s .args in
-    c .pair-at .ensures ∙ ap (clausePattern (entryCount (a .query))) (first-chosen (a .query) (a .update) (a .p) (s .pre .0) (a .i) (s .pre .1) (c .before .before .before .before .if1 .left) (c .before .if2 .taken))
+    c .pair-at .ensures ∙ ap (clausePattern (entryCount (a .query))) (first-chosen (a .query) (a .update) (a .p) (s .pre .0) (a .i) (s .pre .1) (b .result) (b .ensures) (c .before .before .before .before .if1 .left) (c .before .if2 .taken))
 
 pair-at-requires-2 : tie.Need-pair-at-requires-2
 pair-at-requires-2 c κs =
-    let s = c .before .before .before .before .before .before .before in
+    let b = c .before .before .before .before .before .start-of in
+    let s = c .before .before .before .before .before .before .before .before in
     let a = s .args in
-    (s .pre .0, second-chosen (a .query) (a .update) (a .p) (s .pre .0) (a .i) (s .pre .1) (c .before .before .before .if1 .left) (c .if2 .left) .1)
+    (s .pre .0, second-chosen (a .query) (a .update) (a .p) (s .pre .0) (a .i) (s .pre .1) (b .result) (b .ensures) (c .before .before .before .if1 .left) (c .if2 .left) .1)
 
 returns-3 : tie.Need-returns-3
 returns-3 c =
-    let s = c .before .before .before .before .before .before .before .before in
+    let b = c .before .before .before .before .before .before .start-of in
+    let s = c .before .before .before .before .before .before .before .before .before in
     let a = s .args in
-    c .pair-at2 .ensures ∙ ap (clausePattern (entryCount (a .query))) (sym (second-chosen (a .query) (a .update) (a .p) (s .pre .0) (a .i) (s .pre .1) (c .before .before .before .before .if1 .left) (c .before .if2 .left) .0))
+    c .pair-at2 .ensures ∙ ap (clausePattern (entryCount (a .query))) (sym (second-chosen (a .query) (a .update) (a .p) (s .pre .0) (a .i) (s .pre .1) (b .result) (b .ensures) (c .before .before .before .before .if1 .left) (c .before .if2 .left) .0))
 
 pub clause-at-spec : {M : Type 1} → statement M
 clause-at-spec =
     tie.close
     (tie.spec
+    start-of-requires
     array-read-inserted
     inserted-requires
     returns

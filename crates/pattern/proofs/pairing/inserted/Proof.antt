@@ -32,7 +32,7 @@ clause-pattern-requires c κs =
     let e = c .before .before .before .before .before .before .before .before .before .empty in
     let a = c .before .before .before .before .before .before .before .before .before .before .args in
     let ss = map settingRead (take (c .before .before .before .before .before .used .result) (a .update .settings)) in
-    (one-ready (chosenOf 2 ss (a .query .condition) (a .mask)) (e .result) (c .before .before .before .add .result) (e .ensures) (c .before .before .before .add .ensures .0), omega (arith, c .used2 .ensures))
+    (one-ready (chosenOf 2 (a .from) ss (a .query .condition) (a .mask)) (e .result) (c .before .before .before .add .result) (e .ensures) (c .before .before .before .add .ensures .0), omega (arith, c .used2 .ensures))
 
 returns : tie.Need-returns
 returns c =
@@ -40,8 +40,8 @@ returns c =
     let a = c .before .before .before .before .before .before .before .before .before .before .before .args in
     let ss = map settingRead (take (c .before .before .before .before .before .before .used .result) (a .update .settings)) in
     c .clause-pattern .ensures
-    ∙ one-pattern (chosenOf 2 ss (a .query .condition) (a .mask)) (e .result) (c .before .before .before .before .add .result) (e .ensures) (c .before .before .before .before .add .ensures .0) (c .before .used2 .result) (omega (arith, c .before .used2 .ensures))
-    ∙ ap₂ (λ (m : ℕ) (l : List (ℕ × M.Value)). clausePattern m (chosenOf 2 l (a .query .condition) (a .mask))) (c .before .used2 .ensures)
+    ∙ one-pattern (chosenOf 2 (a .from) ss (a .query .condition) (a .mask)) (e .result) (c .before .before .before .before .add .result) (e .ensures) (c .before .before .before .before .add .ensures .0) (c .before .used2 .result) (omega (arith, c .before .used2 .ensures))
+    ∙ ap₂ (λ (m : ℕ) (l : List (ℕ × M.Value)). clausePattern m (chosenOf 2 (a .from) l (a .query .condition) (a .mask))) (c .before .used2 .ensures)
     (settings-are (a .update) (c .before .before .before .before .before .before .used .result) (c .before .before .before .before .add .ensures .1) (c .before .before .before .before .before .before .used .ensures))
 
 pub inserted-spec : {M : Type 1} → statement M

@@ -37,8 +37,8 @@ clause-pattern-requires c κs =
     let ss = map settingRead (take (c .before .before .before .before .before .before .before .before .before .used .result) (a .update .settings)) in
     let first = c .before .before .before .before .before .before .before .add in
     let all = c .before .before .before .add2 in (
-      two-ready (chosenOf 0 ss (a .update .condition) (a .given)) (e .result) (first .result) (e .ensures) (first .ensures .0)
-          (chosenOf (a .role) ss (a .query .condition) (a .asked)) (all .result) (all .ensures .0),
+      two-ready (chosenOf 0 (a .from) ss (a .update .condition) (a .given)) (e .result) (first .result) (e .ensures) (first .ensures .0)
+          (chosenOf (a .role) (a .from) ss (a .query .condition) (a .asked)) (all .result) (all .ensures .0),
       omega (arith, c .used2 .ensures),
     )
 
@@ -50,9 +50,9 @@ returns c =
     let first = c .before .before .before .before .before .before .before .before .add in
     let all = c .before .before .before .before .add2 in
     c .clause-pattern .ensures
-    ∙ two-pattern (chosenOf 0 ss (a .update .condition) (a .given)) (e .result) (first .result) (e .ensures) (first .ensures .0)
-    (chosenOf (a .role) ss (a .query .condition) (a .asked)) (all .result) (all .ensures .0) (c .before .used2 .result) (omega (arith, c .before .used2 .ensures))
-    ∙ ap₂ (λ (m : ℕ) (l : List (ℕ × M.Value)). clausePattern m (chosenOf 0 l (a .update .condition) (a .given) ++ chosenOf (a .role) l (a .query .condition) (a .asked))) (c .before .used2 .ensures)
+    ∙ two-pattern (chosenOf 0 (a .from) ss (a .update .condition) (a .given)) (e .result) (first .result) (e .ensures) (first .ensures .0)
+    (chosenOf (a .role) (a .from) ss (a .query .condition) (a .asked)) (all .result) (all .ensures .0) (c .before .used2 .result) (omega (arith, c .before .used2 .ensures))
+    ∙ ap₂ (λ (m : ℕ) (l : List (ℕ × M.Value)). clausePattern m (chosenOf 0 (a .from) l (a .update .condition) (a .given) ++ chosenOf (a .role) (a .from) l (a .query .condition) (a .asked))) (c .before .used2 .ensures)
     (settings-are (a .update) (c .before .before .before .before .before .before .before .before .before .before .used .result) (first .ensures .1) (c .before .before .before .before .before .before .before .before .before .before .used .ensures))
 
 pub joined-spec : {M : Type 1} → statement M

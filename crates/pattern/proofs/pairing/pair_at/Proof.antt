@@ -61,7 +61,7 @@ returns : tie.Need-returns
 returns c =
     let s = c .before .before .before .before .before .before in
     let a = s .args in
-    c .joined .ensures ∙ ap (clausePattern (entryCount (a .query))) (pair-chosen (a .query) (a .update) (a .p) (s .pre .0) (a .k) (s .pre .1) (a .role))
+    c .joined .ensures ∙ ap (clausePattern (entryCount (a .query))) (pair-chosen (a .query) (a .update) (a .p) (s .pre .0) (a .k) (s .pre .1) (a .role) (a .from))
 
 pub pair-at-spec : {M : Type 1} → statement M
 pair-at-spec =

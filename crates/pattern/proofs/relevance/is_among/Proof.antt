@@ -20,6 +20,9 @@ abbrev μ-loop : tie.MeasureT-loop
 loop-holds : tie.Need-loop-holds Inv-loop μ-loop
 loop-holds c = (omega arith, search needs, refl)
 
+mul-found : tie.Need-mul-found Inv-loop μ-loop
+mul-found c = omega arith
+
 array-read-found : tie.Need-array-read-found Inv-loop μ-loop
 array-read-found c = omega arith
 
@@ -50,4 +53,4 @@ returns c =
 pub is-among-spec : {M : Type 1} → statement M
 is-among-spec =
     tie.close
-    (tie.spec Inv-loop μ-loop loop-holds array-read-found add-i loop-less loop-again returns)
+    (tie.spec Inv-loop μ-loop loop-holds mul-found array-read-found add-i loop-less loop-again returns)

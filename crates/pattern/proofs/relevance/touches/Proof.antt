@@ -29,7 +29,7 @@ returns c =
     let of = c .before .before .before .before .before .columns-of in
     let n = c .before .before .before .before .used in
     let m = c .before .before .used2 in
-    sym (by-selected (a .query) (a .update) (of .ensures .1) (of .result) (n .result) (of .ensures .0) (n .ensures) (m .result) (selected-long s) (m .ensures) (sym (c .before .selects .ensures) ∙ c .if1 .taken))
+    sym (by-selected (a .query) (a .update) (a .from) (of .ensures .1) (of .result) (n .result) (of .ensures .0) (n .ensures) (m .result) (selected-long s) (m .ensures) (sym (c .before .selects .ensures) ∙ c .if1 .taken))
 
 comparison-steps-requires : tie.Need-comparison-steps-requires
 comparison-steps-requires c κs = search needs
@@ -50,7 +50,7 @@ returns-2 c =
     let k = c .before .before .before .comparison-steps in
     let l = c .before .before .used3 in
     c .tests .ensures .0
-    ∙ sym (by-tested (a .query) (a .update) (of .ensures .1) (of .result) (n .result) (of .ensures .0) (n .ensures) (m .result) (selected-long s) (m .ensures) (sym (c .before .before .before .before .before .before .selects .ensures) ∙ c .before .before .before .before .before .if1 .left)
+    ∙ sym (by-tested (a .query) (a .update) (a .from) (of .ensures .1) (of .result) (n .result) (of .ensures .0) (n .ensures) (m .result) (selected-long s) (m .ensures) (sym (c .before .before .before .before .before .before .selects .ensures) ∙ c .before .before .before .before .before .if1 .left)
     (k .result) (c .tests .ensures .1) (omega (arith, k .ensures, l .ensures, c .before .if2 .taken)))
 
 tests-requires-2 : tie.Need-tests-requires-2
@@ -66,7 +66,7 @@ returns-3 c =
     let k = c .before .before .before .comparison-steps in
     let l = c .before .before .used3 in
     c .tests2 .ensures .0
-    ∙ sym (by-tested (a .query) (a .update) (of .ensures .1) (of .result) (n .result) (of .ensures .0) (n .ensures) (m .result) (selected-long s) (m .ensures) (sym (c .before .before .before .before .before .before .selects .ensures) ∙ c .before .before .before .before .before .if1 .left)
+    ∙ sym (by-tested (a .query) (a .update) (a .from) (of .ensures .1) (of .result) (n .result) (of .ensures .0) (n .ensures) (m .result) (selected-long s) (m .ensures) (sym (c .before .before .before .before .before .before .selects .ensures) ∙ c .before .before .before .before .before .if1 .left)
     (l .result) (c .tests2 .ensures .1) (omega (arith, k .ensures, l .ensures, c .before .if2 .left)))
 
 pub touches-spec : {M : Type 1} → statement M

@@ -5,10 +5,13 @@ use Rattle.script.proofs.printing.print_rows.Statement.{statement}
 use Rattle.script.proofs.printing.print_rows.Tie as tie
 
 abbrev Inv-loop : tie.InvT-loop
-Inv-loop bytes i₀ i = Unit
+Inv-loop bytes n i₀ i = Unit
 
 abbrev μ-loop : tie.MeasureT-loop
-μ-loop bytes i₀ i = 512 - i
+μ-loop bytes n i₀ i = n - i
+
+rows-counted-requires : tie.Need-rows-counted-requires Inv-loop μ-loop
+rows-counted-requires c κs = search needs
 
 loop-holds : tie.Need-loop-holds Inv-loop μ-loop
 loop-holds c = search needs
@@ -31,4 +34,4 @@ returns c = search needs
 pub print-rows-spec : {M : Type 1} → statement M
 print-rows-spec =
     tie.close
-    (tie.spec Inv-loop μ-loop loop-holds print-further-requires add-i loop-less loop-again returns)
+    (tie.spec Inv-loop μ-loop rows-counted-requires loop-holds print-further-requires add-i loop-less loop-again returns)

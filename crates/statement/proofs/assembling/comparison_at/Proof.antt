@@ -5,7 +5,7 @@ use Prim.Native.Nat.{ℕ, _+_}
 use native.Mathlib.Omega.{arith}
 use mir.Syntax.{w32}
 use mir.Val.{toZ, ofZ}
-use Rattle.statement.specs.Catalog.{scopeNames}
+use Rattle.statement.specs.Built.{placeIn}
 use Rattle.statement.proofs.Parts.{mark-few, comparison-made}
 use Rattle.statement.proofs.assembling.comparison_at.Statement.{statement}
 use Rattle.statement.proofs.assembling.comparison_at.Tie as tie
@@ -34,7 +34,7 @@ returns c =
     let e : toZ w32 (ofZ w32 (l .number)) ≡ l .number = search needs in
     let f : toZ w32 (ofZ w32 (r .number)) ≡ r .number = search needs in
     rw (e, f)
-    (comparison-made (a .text .now) (scopeNames (a .scope)) (a .op) (a .left) (a .right) (a .marks) _ _ _ (d .before .before .before .before .pre .0)
+    (comparison-made (a .scope .dotted) (a .text .now) (placeIn (a .scope .dotted) (a .scope)) (a .op) (a .left) (a .right) (a .marks) _ _ _ (d .before .before .before .before .pre .0)
     (d .before .before .operand-at .ensures) (ap (λ (k : ℕ). a .marks + k) (d .before .mark-of .ensures)) (d .operand-at2 .ensures))
 
 pub comparison-at-spec : {M : Type 1} → statement M

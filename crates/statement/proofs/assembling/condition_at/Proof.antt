@@ -3,7 +3,7 @@ use borrow.Author.Needs.{needs}
 use mathlib.Core.Logic.{⊎-elim}
 use Prim.Native.Nat.{_-_}
 use native.Mathlib.Omega.{arith}
-use Rattle.statement.specs.Catalog.{scopeNames}
+use Rattle.statement.specs.Built.{placeIn}
 use Rattle.statement.specs.Compiled.{leftSide, rightSide}
 use Rattle.statement.proofs.Parts.{mark-few}
 use Rattle.statement.proofs.Resolving.{Resolving, resolving-start, resolving-room, resolving-more, resolving-pass, resolving-end}
@@ -11,7 +11,7 @@ use Rattle.statement.proofs.assembling.condition_at.Statement.{statemen
 use Rattle.statement.proofs.assembling.condition_at.Tie as tie
 
 abbrev Inv-loop : tie.InvT-loop
-Inv-loop text nodes scope marks places comparisons₀ found₀ m₀ i₀ comparisons found m i = Resolving text places (scopeNames scope) nodes marks comparisons found m i
+Inv-loop text nodes scope marks places comparisons₀ found₀ m₀ i₀ comparisons found m i = Resolving (scope .dotted) text places (placeIn (scope .dotted) scope) nodes marks comparisons found m i
 
 abbrev μ-loop : tie.MeasureT-loop
 μ-loop text nodes scope marks places comparisons₀ found₀ m₀ i₀ comparisons found m i = nodes - i
@@ -20,7 +20,7 @@ no-comparisons-requires : tie.Need-no-comparisons-requires Inv-loop μ-loop
 no-comparisons-requires c κs = search needs
 
 loop-holds : tie.Need-loop-holds Inv-loop μ-loop
-loop-holds c = resolving-start _ _ _ _ _ _ (c .no-comparisons .ensures) (c .before .before .pre .2)
+loop-holds c = resolving-start _ _ _ _ _ _ _ (c .no-comparisons .ensures) (c .before .before .pre .2)
 
 mul-op : tie.Need-mul-op Inv-loop μ-loop
 mul-op c = search needs
@@ -64,7 +64,7 @@ mul-comparisons c = search needs
 array-set-from-comparisons : tie.Need-array-set-from-comparisons Inv-loop μ-loop
 array-set-from-comparisons c =
     let d = c .before .before .before in
-    omega (arith, resolving-room _ _ _ _ _ _ _ _ _ (d .loop .inv) (c .before .before .loop-test .taken) (c .before .if1 .taken), d .before .before .before .pre .2)
+    omega (arith, resolving-room _ _ _ _ _ _ _ _ _ _ (d .loop .inv) (c .before .before .loop-test .taken) (c .before .if1 .taken), d .before .before .before .pre .2)
 
 add-found : tie.Need-add-found Inv-loop μ-loop
 add-found c = search needs
@@ -89,8 +89,8 @@ loop-again c =
     let t = c .before .loop-test .taken in
     let v = c .before .before .loop .inv in
     ⊎-elim
-    (λ w. resolving-more _ _ _ _ _ _ _ _ _ v t (w .0 .taken) _ _ (w .1 .ensures) (w .2 .ensures) (w .3) (w .4) (w .5))
-    (λ w. resolving-pass _ _ _ _ _ _ _ _ _ v t (w .0 .left) (w .1) (w .2) (w .3))
+    (λ w. resolving-more _ _ _ _ _ _ _ _ _ _ v t (w .0 .taken) _ _ (w .1 .ensures) (w .2 .ensures) (w .3) (w .4) (w .5))
+    (λ w. resolving-pass _ _ _ _ _ _ _ _ _ _ v t (w .0 .left) (w .1) (w .2) (w .3))
     (c .if1 .came)
 
 steps-at-requires : tie.Need-steps-at-requires Inv-loop μ-loop
@@ -100,7 +100,7 @@ cast-t37 : tie.Need-cast-t37 Inv-loop μ-loop
 cast-t37 c = search needs
 
 returns : tie.Need-returns Inv-loop μ-loop
-returns c = resolving-end _ _ _ _ _ _ _ _ _ _ (c .before .loop-test .left) (c .before .before .loop .inv) (c .steps-at .ensures _)
+returns c = resolving-end _ _ _ _ _ _ _ _ _ _ _ (c .before .loop-test .left) (c .before .before .loop .inv) (c .steps-at .ensures _ _)
 
 pub condition-at-spec : {M : Type 1} → statement M
 condition-at-spec =

@@ -1,6 +1,7 @@
 -- `steps_at` meets its contract. The invariant: the steps left are still to be noted. Assumes nothing.
 use borrow.Author.Needs.{needs}
 use mathlib.Core.Path.{refl, sym, ap, _∙_}
+use mathlib.Core.Bool.{false}
 use mathlib.Core.List.{List, [], _∷_, map}
 use Prim.Native.Nat.{ℕ, _+_, _-_, _*_, _≤_}
 use native.Mathlib.Omega.{arith}
@@ -14,7 +15,7 @@ use Rattle.statement.proofs.assembling.steps_at.Tie as tie
 
 -- the steps from the i-th on; no text is needed
 abbrev stepsLeft : ℕ → ℕ → List ℕ → List ℕ
-stepsLeft n i ps = map stepOf (nodesLeft [] n i ps)
+stepsLeft n i ps = map stepOf (nodesLeft false [] n i ps)
 
 abbrev Inv-loop : tie.InvT-loop
 Inv-loop nodes places steps₀ i₀ steps i = (i ≤ nodes) × Fills (padded 15 0 (stepsLeft nodes 0 places)) steps i (stepsLeft nodes i places)
@@ -25,7 +26,7 @@ abbrev μ-loop : tie.MeasureT-loop
 loop-holds : tie.Need-loop-holds Inv-loop μ-loop
 loop-holds c =
     let a = c .args in
-    let l = length-map (nodesLeft [] (a .nodes) 0 (a .t1)) stepOf ∙ ap length (nodes-all [] (a .nodes) (a .t1)) ∙ length-nodes [] (a .nodes) (a .t1) in
+    let l = length-map (nodesLeft false [] (a .nodes) 0 (a .t1)) stepOf ∙ ap length (nodes-all false [] (a .nodes) (a .t1)) ∙ length-nodes false [] (a .nodes) (a .t1) in
     (omega arith, fills-start 15 0 _ _ refl (omega (arith, l)))
 
 mul-k : tie.Need-mul-k Inv-loop μ-loop
@@ -54,17 +55,17 @@ loop-again c =
     let a = c .before .before .before .args in
     let l = c .before .before .loop in
     let t = c .before .loop-test .taken in
-    let k = step-node [] (getD (a .t1) (3 * l .i) 0) (getD (a .t1) (3 * l .i + 1) 0) (getD (a .t1) (3 * l .i + 2) 0) in
-    let q = ap (map stepOf) (nodes-cons [] (a .nodes) (l .i) (a .t1) t) ∙ ap (λ (x : ℕ). x ∷ stepsLeft (a .nodes) (l .i + 1) (a .t1)) (k ∙ sym (c .step-in .ensures)) in
+    let k = step-node false [] (getD (a .t1) (3 * l .i) 0) (getD (a .t1) (3 * l .i + 1) 0) (getD (a .t1) (3 * l .i + 2) 0) in
+    let q = ap (map stepOf) (nodes-cons false [] (a .nodes) (l .i) (a .t1) t) ∙ ap (λ (x : ℕ). x ∷ stepsLeft (a .nodes) (l .i + 1) (a .t1)) (k ∙ sym (c .step-in .ensures)) in
     (omega (arith, t), fills-more _ _ _ _ _ _ q (l .inv .1))
 
 returns : tie.Need-returns Inv-loop μ-loop
 returns c =
     let a = c .before .before .args in
     let l = c .before .loop in
-    λ s.
-    fills-end _ _ _ _ (ap (map stepOf) (nodes-none [] (a .nodes) (l .i) (a .t1) (c .loop-test .left))) (l .inv .1)
-    ∙ ap (padded 15 0) (ap (map stepOf) (nodes-all [] (a .nodes) (a .t1)) ∙ steps-any [] s (a .nodes) (a .t1))
+    λ b s.
+    fills-end _ _ _ _ (ap (map stepOf) (nodes-none false [] (a .nodes) (l .i) (a .t1) (c .loop-test .left))) (l .inv .1)
+    ∙ ap (padded 15 0) (ap (map stepOf) (nodes-all false [] (a .nodes) (a .t1)) ∙ steps-any false b [] s (a .nodes) (a .t1))
 
 pub steps-at-spec : {M : Type 1} → statement M
 steps-at-spec =

@@ -1,6 +1,8 @@
 -- `beside` meets its contract. Assumes nothing.
 use borrow.Author.Needs.{needs}
-use Rattle.statement.proofs.Assembled.{beside-none, beside-some}
+use mathlib.Core.Path.{ap}
+use Rattle.statement.specs.declared.names.Scope.{Scope}
+use Rattle.statement.proofs.Assembled.{beside-none, beside-some, beside-pair}
 use Rattle.statement.proofs.build.beside.Statement.{statement}
 use Rattle.statement.proofs.build.beside.Tie as tie
 
@@ -24,10 +26,9 @@ refused-requires c κs = search needs
 
 returns : tie.Need-returns
 returns c =
-    let d = c .before .before in
-    let a = d .before .before .before .before .before .args in
+    let a = c .before .before .before .before .before .before .before .args in
     beside-none (a .text .now) (a .list) (a .places) (a .e) (a .t5) (a .used) (a .queries) (a .updates) _ _ _
-    (d .before .before .name-at .ensures) (d .before .find-table .ensures) (d .table-count .ensures .0) _ (c .before .if1 .taken) (c .refused .ensures)
+    (c .before .before .before .before .name-at .ensures) (c .before .before .before .find-table .ensures) (c .before .before .table-count .ensures .0) _ (c .before .if1 .taken) (c .refused .ensures)
 
 cast-t : tie.Need-cast-t
 cast-t c = search needs
@@ -38,18 +39,26 @@ mul-t c = search needs
 array-copy-out-t : tie.Need-array-copy-out-t
 array-copy-out-t c = search needs
 
+pair-requires : tie.Need-pair-requires
+pair-requires c κs = search needs
+
+returns-2 : tie.Need-returns-2
+returns-2 c =
+    let a = c .before .before .before .before .before .before .before .before .before .before .args in
+    beside-pair (a .text .now) (a .list) (a .places) (a .e) (a .t5) (a .used) (a .queries) (a .updates) _ _ _
+    (c .before .before .before .before .before .before .before .name-at .ensures) (c .before .before .before .before .before .before .find-table .ensures) (c .before .before .before .before .before .table-count .ensures .0) _ _ (c .before .before .before .before .if1 .left) (c .before .if2 .taken) (c .pair .ensures)
+
 scope-of-requires : tie.Need-scope-of-requires
 scope-of-requires c κs = search needs
 
 form-requires : tie.Need-form-requires
-form-requires c κs = search needs
+form-requires c κs = (c .before .before .before .before .before .before .before .before .before .before .pre, ap (λ (s : Scope). s .dotted) (c .scope-of .ensures))
 
-returns-2 : tie.Need-returns-2
-returns-2 c =
-    let d = c .before .before .before .before in
-    let a = d .before .before .before .before .before .args in
+returns-3 : tie.Need-returns-3
+returns-3 c =
+    let a = c .before .before .before .before .before .before .before .before .before .before .before .args in
     beside-some (a .text .now) (a .list) (a .places) (a .e) (a .t5) (a .used) (a .queries) (a .updates) _ _ _
-    (d .before .before .name-at .ensures) (d .before .find-table .ensures) (d .table-count .ensures .0) _ _ _ (c .before .before .before .if1 .left) (c .before .scope-of .ensures) (c .form .ensures)
+    (c .before .before .before .before .before .before .before .before .name-at .ensures) (c .before .before .before .before .before .before .before .find-table .ensures) (c .before .before .before .before .before .before .table-count .ensures .0) _ _ _ (c .before .before .before .before .before .if1 .left) (c .before .before .if2 .left) (c .before .scope-of .ensures) (c .form .ensures)
 
 pub beside-spec : {M : Type 1} → statement M
 beside-spec =
@@ -65,6 +74,8 @@ beside-spec =
     cast-t
     mul-t
     array-copy-out-t
+    pair-requires
+    returns-2
     scope-of-requires
     form-requires
-    returns-2)
+    returns-3)

@@ -1,7 +1,7 @@
 -- `insert` meets its contract. Assumes nothing.
 use borrow.Author.Needs.{needs}
-use mathlib.Core.Path.{refl}
-use Rattle.statement.proofs.Assembled.{insert-made}
+use mathlib.Core.Path.{refl, _∙_}
+use Rattle.statement.proofs.Assembled.{one-width, insert-made}
 use Rattle.statement.proofs.build.insert.Statement.{statement}
 use Rattle.statement.proofs.build.insert.Tie as tie
 
@@ -31,9 +31,9 @@ changing-requires c κs = search needs
 
 returns : tie.Need-returns
 returns c =
-    let d = c .before .before in
-    insert-made _ _ _ _ _ _ _ _ _ _ _ _ (d .before .before .before .settings-at .ensures) refl (c .before .no-condition .ensures) (d .before .width .ensures .0)
-    (d .lowest .ensures) (c .changing .ensures)
+    let d = c .before .before .before .before .before .before .before .before .before .before in
+    insert-made _ _ _ _ _ _ _ _ _ _ _ _ (c .before .before .before .before .before .settings-at .ensures) refl (c .before .no-condition .ensures) (c .before .before .before .width .ensures ∙ one-width (d .args .scope) (d .pre .2))
+    (c .before .before .lowest .ensures) (c .changing .ensures)
 
 pub insert-spec : {M : Type 1} → statement M
 insert-spec =

@@ -1,5 +1,7 @@
 -- `select` meets its contract. Assumes nothing.
 use borrow.Author.Needs.{needs}
+use Prim.Native.Nat.{zero-le}
+use Rattle.statement.specs.Built.{placeIn, widthIn, startIn, twiceIn}
 use Rattle.statement.proofs.Assembled.{condition-few, select-made}
 use Rattle.statement.proofs.build.select.Statement.{statement}
 use Rattle.statement.proofs.build.select.Tie as tie
@@ -13,32 +15,43 @@ cast-listed c = search needs
 cast-parameters : tie.Need-cast-parameters
 cast-parameters c = search needs
 
-names-at-requires : tie.Need-names-at-requires
-names-at-requires c κs = search needs
-
-positions-requires : tie.Need-positions-requires
-positions-requires c κs = search needs
+columns-at-requires : tie.Need-columns-at-requires
+columns-at-requires c κs = search needs
 
 cast-condition-at : tie.Need-cast-condition-at
 cast-condition-at c = search needs
 
 condition-at-requires : tie.Need-condition-at-requires
-condition-at-requires c κs = search needs
+condition-at-requires c κs =
+    let d = c .before .before .before .before .before .before in
+    (d .pre .nodes, zero-le, d .pre .comparisons (d .args .scope .dotted))
 
 width-requires : tie.Need-width-requires
 width-requires c κs = search needs
 
+is-twice-requires : tie.Need-is-twice-requires
+is-twice-requires c κs = search needs
+
 refusal-of-requires : tie.Need-refusal-of-requires
-refusal-of-requires c κs = (c .before .before .before .before .before .before .before .before .before .pre .listed, condition-few _ _ _ _ _ (c .before .before .before .before .before .before .before .before .before .pre) _ (c .before .condition-at .ensures))
+refusal-of-requires c κs =
+    let d = c .before .before .before .before .before .before .before .before .before in
+    let a = d .args in
+    let s = a .scope in
+    (d .pre .listed, condition-few (s .dotted) (placeIn (s .dotted) s) (a .text .now) (a .places) (a .e) 0 (d .pre) _ (c .before .before .condition-at .ensures))
+
+start-requires : tie.Need-start-requires
+start-requires c κs = search needs
 
 asked-requires : tie.Need-asked-requires
 asked-requires c κs = search needs
 
 returns : tie.Need-returns
 returns c =
-    let d = c .before in
-    select-made _ _ _ _ _ _ _ _ _ _ _ _ _ (d .before .before .before .before .before .names-at .ensures) (d .before .before .before .before .positions .ensures) (d .before .before .condition-at .ensures) (d .before .width .ensures .0)
-    (d .refusal-of .ensures) (c .asked .ensures)
+    let a = c .before .before .before .before .before .before .before .before .before .before .before .before .args in
+    let s = a .scope in
+    select-made (s .dotted) (placeIn (s .dotted) s) (widthIn (s .dotted) s) (a .text .now) (a .list) (a .places) (a .e) (a .table) (a .second) (startIn (s .dotted) s) (twiceIn (s .dotted) s) (a .queries) _ _ _ _ _ _ _
+    (c .before .before .before .before .before .before .before .columns-at .ensures) (c .before .before .before .before .before .condition-at .ensures) (c .before .before .before .before .width .ensures) (c .before .before .before .is-twice .ensures) (c .before .start .ensures)
+    (c .before .before .refusal-of .ensures) (c .asked .ensures)
 
 pub select-spec : {M : Type 1} → statement M
 select-spec =
@@ -47,11 +60,12 @@ select-spec =
     cast-n
     cast-listed
     cast-parameters
-    names-at-requires
-    positions-requires
+    columns-at-requires
     cast-condition-at
     condition-at-requires
     width-requires
+    is-twice-requires
     refusal-of-requires
+    start-requires
     asked-requires
     returns)

@@ -1,10 +1,11 @@
 -- `update` meets its contract. Assumes nothing.
 use borrow.Author.Needs.{needs}
-use mathlib.Core.Path.{refl, ap}
+use mathlib.Core.Path.{refl, ap, _∙_}
 use native.Mathlib.Omega.{arith}
 use lib.ListN.{take}
 use Rattle.statement.specs.declared.assembling.Settings.{Settings}
-use Rattle.statement.proofs.Assembled.{sets-few, condition-few, update-made}
+use Rattle.statement.specs.Built.{placeIn}
+use Rattle.statement.proofs.Assembled.{sets-few, condition-few, one-width, one-condition, update-made}
 use Rattle.statement.proofs.build.update.Statement.{statement}
 use Rattle.statement.proofs.build.update.Tie as tie
 
@@ -32,29 +33,35 @@ cast-condition-at c = search needs
 condition-at-requires : tie.Need-condition-at-requires
 condition-at-requires c κs =
     let d = c .before .before .before .before .before .before .before .before .before in
-    let f = d .pre in
+    let f = d .pre .0 in
     let a = d .args in
     let m = sets-few (a .text .now) (a .list) (a .e) (f .listed) (take (a .e .listed) (c .before .before .before .positions .result)) in
-    (f .nodes, omega (arith, ap (λ (x : Settings). x .marks) (c .before .before .settings-at .ensures), m), f .comparisons)
+    (f .nodes, omega (arith, ap (λ (x : Settings). x .marks) (c .before .before .settings-at .ensures), m), f .comparisons (a .scope .dotted))
 
 width-requires : tie.Need-width-requires
 width-requires c κs = search needs
 
 is-repeated-requires : tie.Need-is-repeated-requires
-is-repeated-requires c κs = c .before .before .before .before .before .before .before .before .before .before .before .pre .listed
+is-repeated-requires c κs = c .before .before .before .before .before .before .before .before .before .before .before .pre .0 .listed
 
 refusal-of-requires : tie.Need-refusal-of-requires
-refusal-of-requires c κs = (c .before .before .before .before .before .before .before .before .before .before .before .before .pre .listed, condition-few _ _ _ _ _ (c .before .before .before .before .before .before .before .before .before .before .before .before .pre) _ (c .before .before .condition-at .ensures))
+refusal-of-requires c κs =
+    let d = c .before .before .before .before .before .before .before .before .before .before .before .before in
+    let a = d .args in
+    let s = a .scope in
+    (d .pre .0 .listed, condition-few (s .dotted) (placeIn (s .dotted) s) (a .text .now) (a .places) (a .e) _ (d .pre .0) _ (c .before .before .condition-at .ensures))
 
 changing-requires : tie.Need-changing-requires
 changing-requires c κs = search needs
 
 returns : tie.Need-returns
 returns c =
-    let d = c .before in
-    let g = d .before .before .before .before .before .before in
-    update-made _ _ _ _ _ _ _ _ _ _ _ _ _ _ _ _ (g .before .before .names-at .ensures) (g .before .positions .ensures) (g .settings-at .ensures) refl
-    (d .before .before .before .condition-at .ensures) (d .before .before .width .ensures .0) (d .before .is-repeated .ensures) (d .refusal-of .ensures) (c .changing .ensures)
+    let d = c .before .before .before .before .before .before .before .before .before .before .before .before .before .before in
+    let a = d .args in
+    let h = d .pre .1 in
+    update-made _ _ _ _ _ _ _ _ _ _ _ _ _ _ _ _ (c .before .before .before .before .before .before .before .before .before .names-at .ensures) (c .before .before .before .before .before .before .before .before .positions .ensures) (c .before .before .before .before .before .before .before .settings-at .ensures) refl
+    (c .before .before .before .before .condition-at .ensures ∙ one-condition (a .scope) h (a .text .now) (a .places) (a .e) _) (c .before .before .before .width .ensures ∙ one-width (a .scope) h)
+    (c .before .before .is-repeated .ensures) (c .before .refusal-of .ensures) (c .changing .ensures)
 
 pub update-spec : {M : Type 1} → statement M
 update-spec =

@@ -49,10 +49,10 @@ returns : tie.Need-returns
 returns c =
     let a = c .before .before .before .before .before .args in
     let l = c .before .room .ensures in
-    record { counted = refl; noted = λ s h. noted s (a .node) (a .left) (a .right) (a .c .nodes) (a .places .now) (omega arith) }
+    record { counted = refl; noted = λ b s h. noted b s (a .node) (a .left) (a .right) (a .c .nodes) (a .places .now) (omega arith) }
 
 returns-2 : tie.Need-returns-2
-returns-2 c = record { counted = refl; noted = λ s h. absurd (omega arith) }
+returns-2 c = record { counted = refl; noted = λ b s h. absurd (omega arith) }
 
 pub put-spec : {M : Type 1} → statement M
 put-spec =

@@ -9,7 +9,7 @@ use Rattle.statement.proofs.names.find_column.Statement.{statement}
 use Rattle.statement.proofs.names.find_column.Tie as tie
 
 eight : (c : tie.Start) → length (c .args .scope .columns) ≡ 8
-eight c = simp length-map at (c .good .1 .0 .1 .1 .0 .1 .0 .1)
+eight c = simp length-map at (c .good .1 .0 .1 .1 .1 .1 .0 .1 .0 .1)
 
 find-requires : tie.Need-find-requires
 find-requires c κs = search needs

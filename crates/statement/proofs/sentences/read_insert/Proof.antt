@@ -1,6 +1,7 @@
 -- `sentences::read_insert` meets its contract.
 -- Assumes nothing.
 use mathlib.Core.Path.{refl}
+use mathlib.Core.Bool.{false}
 use native.Mathlib.Omega.{arith}
 use Rattle.meaning.specs.Tokens.{keyword, lparen, INTO, VALUES}
 use Rattle.statement.specs.Sentences.{values}
@@ -11,7 +12,7 @@ use Rattle.statement.proofs.sentences.read_insert.Statement.{statement}
 use Rattle.statement.proofs.sentences.read_insert.Tie as tie
 
 expect-requires : tie.Need-expect-requires
-expect-requires c κs = (ready-start (c .before .args .text .now) (c .before .args .c) (c .before .pre), omega arith)
+expect-requires c κs = (ready-start (c .before .args .text .now) false (c .before .args .c) (c .before .pre), omega arith)
 
 read-name-requires : tie.Need-read-name-requires
 read-name-requires c κs = ready-expect (c .before .before .args .text .now) (c .before .before .pre .stands .short) (c .before .before .args .c) (keyword INTO) (c .expect .result) (c .expect .ensures (keyword INTO) refl)

@@ -1,6 +1,7 @@
 -- `sentences::read_update` meets its contract.
 -- Assumes nothing.
 use mathlib.Core.Path.{refl}
+use mathlib.Core.Bool.{false}
 use native.Mathlib.Omega.{arith}
 use Rattle.meaning.specs.Tokens.{keyword, SET}
 use Rattle.statement.specs.Sentences.{settings}
@@ -11,7 +12,7 @@ use Rattle.statement.proofs.sentences.read_update.Statement.{statement}
 use Rattle.statement.proofs.sentences.read_update.Tie as tie
 
 read-name-requires : tie.Need-read-name-requires
-read-name-requires c κs = ready-start (c .before .args .text .now) (c .before .args .c) (c .before .pre)
+read-name-requires c κs = ready-start (c .before .args .text .now) false (c .before .args .c) (c .before .pre)
 
 expect-requires : tie.Need-expect-requires
 expect-requires c κs = (ready-name (c .before .before .before .args .text .now) (c .before .before .before .pre .stands .short) (c .before .before .before .args .c) (c .before .read-name .result) (c .before .read-name .ensures), omega arith)
