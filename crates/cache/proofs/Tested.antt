@@ -1,14 +1,14 @@
 -- The test of a state, part by part, as the code computes it: sizes, counts, areas of tables, held slots, and what one part says of the whole. Assumes nothing.
 use mathlib.Core.Path.{_≡_, refl, sym, ap, ap₂, _∙_}
 use mathlib.Core.Bool.{Bool, true, false, not, _&&_, _||_, and-true, and-false, cond}
-use mathlib.Core.List.{List, [], _∷_, _++_, map, append-nil}
-use Prim.Native.Nat.{ℕ, _+_, _-_, _*_, _%_, _≤_, _<_}
+use mathlib.Core.List.{List, [], _∷_, _++_, map}
+use Prim.Native.Nat.{ℕ, zero, suc, _+_, _-_, _*_, _%_, _≤_, _<_}
 use native.Mathlib.Nat.{mul-le-mul}
 use native.Mathlib.Omega.{arith}
 use borrow.Author.Tests.{leb-true, ltb-true, ltb-false, leb-false}
 use lib.Dec.{eqb, leb, ltb}
-use lib.ListN.{length, take, getD, set, replicate, length-map, List·getD-map}
-use lib.Seq.{take-all}
+use lib.ListN.{length, take, getD, set, replicate, List·getD-map}
+use lib.Seq.{getD-take}
 use Rattle.lists.specs.Lists.{all}
 use Rattle.lists.proofs.Bools.{and-assoc, and-left, and-right, leb-not}
 use Rattle.lists.proofs.Places.{getD-inside}
@@ -16,7 +16,7 @@ use Rattle.lists.proofs.Walks.{rest, rest-cons, rest-none}
 use Rattle.meaning.specs.Plain.{openingRefused}
 use Rattle.statement.specs.declared.Table.{Table}
 use Rattle.statement.specs.declared.Query.{Query}
-use Rattle.statement.specs.Compiled.{padded, noQuery}
+use Rattle.statement.specs.Compiled.{noQuery}
 use Rattle.statement.proofs.Stored.{all-map}
 use Rattle.statement.proofs.Walks.{length-first, map-rest, map-none, Fills, fills-start, fills-more, fills-end}
 use Rattle.slots.specs.declared.Key.{Key}
@@ -139,28 +139,38 @@ module _ (s : SlotList) (long : length (s .order) ≡ 64) (ok : soundSlots s ≡
       let b : getD (s .order) i 0 < s .count = All-first {P = λ x. x < s .count} (s .count) (s .order) i 0 (omega (arith, S .few)) (omega (arith, S .within)) (S .below) in
       omega (arith, S .few)
 
--- the parameters left are to be written
-module _ (queries : List Query) where
+-- zeros behind a list are what is read past its end
+behind-at : (xs : List ℕ) (k i : ℕ) → getD (xs ++ replicate k 0) i 0 ≡ getD xs i 0
+behind-at [] zero i = refl
+behind-at [] (suc k) zero = refl
+behind-at [] (suc k) (suc i) = behind-at [] k i
+behind-at (x ∷ xs) k zero = refl
+behind-at (x ∷ xs) k (suc i) = behind-at xs k i
+
+-- the parameters left of the first n queries are to be written
+module _ (n : ℕ) (queries : List Query) where
   abbrev marks : Query → ℕ
   marks q = q .parameters
 
   pub record Counted (out : List ℕ) (i : ℕ) : Type 0 where
-    pub fills : Fills (padded 16 0 (map marks (take 16 queries))) out i (map marks (rest 16 i queries))
+    pub fills : Fills (parametersOf n queries) out i (map marks (rest n i queries))
 
-  pub counted-start : 16 ≤ length queries → Counted (replicate 16 0) 0
-  counted-start l = record { fills = fills-start 16 0 (map marks (take 16 queries)) (replicate 16 0) refl (omega (arith, length-first marks 16 queries l)) }
+  pub counted-start : n ≤ 16 → n ≤ length queries → Counted (replicate 16 0) 0
+  counted-start h l = record { fills = fills-start 16 0 (map marks (take n queries)) (replicate 16 0) refl (omega (arith, length-first marks n queries l)) }
 
-  pub counted-more : 16 ≤ length queries → (out : List ℕ) (i : ℕ) (d : Query) → i < 16 → Counted out i → Counted (set out i (getD queries i d .parameters)) (i + 1)
+  pub counted-more : n ≤ length queries → (out : List ℕ) (i : ℕ) (d : Query) → i < n → Counted out i → Counted (set out i (getD queries i d .parameters)) (i + 1)
   counted-more l out i d k C = record {
-    fills = fills-more _ out i (map marks (rest 16 i queries)) _ (map marks (rest 16 (i + 1) queries)) (map-rest marks 16 i queries d _ l k refl) (C .fills);
+    fills = fills-more _ out i (map marks (rest n i queries)) _ (map marks (rest n (i + 1) queries)) (map-rest marks n i queries d _ l k refl) (C .fills);
   }
 
-  pub counted-end : length queries ≡ 16 → (out : List ℕ) (i : ℕ) → 16 ≤ i → Counted out i → out ≡ parametersOf queries
-  counted-end l out i k C =
-      let z : 16 - length (map marks queries) ≡ 0 = omega (arith, length-map queries marks) in
-      fills-end _ out i (map marks (rest 16 i queries)) (map-none marks 16 i queries k) (C .fills)
-      ∙ ap (λ (qs : List Query). padded 16 0 (map marks qs)) (take-all 16 queries (omega arith))
-      ∙ ap (λ (j : ℕ). map marks queries ++ replicate j 0) z ∙ append-nil (map marks queries)
+  pub counted-end : (out : List ℕ) (i : ℕ) → n ≤ i → Counted out i → out ≡ parametersOf n queries
+  counted-end out i k C = fills-end _ out i (map marks (rest n i queries)) (map-none marks n i queries k) (C .fills)
+
+  -- the entry of one of the first n queries
+  parameters-at : (i : ℕ) → i < n → getD (parametersOf n queries) i 0 ≡ getD queries i noQuery .parameters
+  parameters-at i h =
+      let counts : List ℕ = map marks (take n queries) in
+      behind-at counts (16 - length counts) i ∙ List·getD-map marks (take n queries) i noQuery ∙ ap marks (getD-take n queries i noQuery h)
 
 module _ (keys : List Key) (lengths parameters : List ℕ) (n bytes x : ℕ) (d : Key) where
   abbrev key : Key
@@ -209,15 +219,19 @@ module _ (s : State) where
       go false true t = refl
       go false false t = refl
 
-  -- a slot by the parameters of its query
-  slot-is : (x : ℕ) → slotFits (s .keys) (s .lengths) (parametersOf (s .queries)) (s .«query_count») (s .«slot_bytes») x
+  -- a slot by the parameters of its query; a query that is not there does not fit
+  slot-is : (x : ℕ) → slotFits (s .keys) (s .lengths) (parametersOf (s .«query_count») (s .queries)) (s .«query_count») (s .«slot_bytes») x
       ≡ (soundKey s (slotKey (s .keys) x) && lengthFits (lengthAt s x) (s .«slot_bytes»))
   slot-is x =
       let k : Key = slotKey (s .keys) x in
-      ap (λ (m : ℕ). keyFits (k .query) (k .count) (s .«query_count») m && lengthFits (lengthAt s x) (s .«slot_bytes»))
-      (List·getD-map (λ (q : Query). q .parameters) (s .queries) (k .query) noQuery)
+      ap (λ (b : Bool). b && lengthFits (lengthAt s x) (s .«slot_bytes»)) (go k (ltb (k .query) (s .«query_count»)) refl)
+    where
+      go : (k : Key) (b : Bool) → ltb (k .query) (s .«query_count») ≡ b
+          → (b && eqb (k .count) (getD (parametersOf (s .«query_count») (s .queries)) (k .query) 0)) ≡ (b && eqb (k .count) (getD (s .queries) (k .query) noQuery .parameters))
+      go k true t = ap (eqb (k .count)) (parameters-at (s .«query_count») (s .queries) (k .query) (ltb-true (k .query) (s .«query_count») t))
+      go k false t = refl
 
-  pub answers-tested : (parameters : List ℕ) (fit twice : Bool) → parameters ≡ parametersOf (s .queries) → soundSlots (s .slots) ≡ true
+  pub answers-tested : (parameters : List ℕ) (fit twice : Bool) → parameters ≡ parametersOf (s .«query_count») (s .queries) → soundSlots (s .slots) ≡ true
       → fit ≡ all (slotFits (s .keys) (s .lengths) parameters (s .«query_count») (s .«slot_bytes»)) (heldSlots (s .slots)) → twice ≡ heldTwice (s .keys) (s .slots)
       → (fit && not twice) ≡ soundAnswers s
   unfolding soundAnswers

@@ -17,7 +17,7 @@ use Rattle.statement.specs.declared.Table.{Table}
 use Rattle.statement.specs.declared.Query.{Query}
 use Rattle.statement.specs.declared.Update.{Update}
 use Rattle.statement.specs.Catalog.{schemaOf, schemasOf}
-use Rattle.statement.specs.Compiled.{noQuery}
+use Rattle.statement.specs.Compiled.{padded, noQuery}
 use Rattle.statement.specs.Sound.{FromTable, FromQuery, FromUpdate}
 use Rattle.soundness.specs.Soundness.{tablesSound, queriesSound, updatesSound}
 use Rattle.slots.specs.declared.Key.{Key}
@@ -151,9 +151,9 @@ soundKey s k = ltb (k .query) (s .«query_count») && eqb (k .count) (queryAt s 
 abbrev pub soundKeys : State → Bool
 soundKeys s = all (soundKey s) (heldKeys (s .keys) (s .slots)) && not (heldTwice (s .keys) (s .slots))
 
--- how many parameters each query has, and both of a slot, for the code
-abbrev pub parametersOf : List Query → List ℕ
-parametersOf queries = map (λ (q : Query). q .parameters) queries
+-- how many parameters each of the first n queries has, 0 behind them, and both of a slot, for the code
+abbrev pub parametersOf : ℕ → List Query → List ℕ
+parametersOf n queries = padded 16 0 (map (λ (q : Query). q .parameters) (take n queries))
 
 abbrev pub keyFits : ℕ → ℕ → ℕ → ℕ → Bool
 keyFits query count n parameters = ltb query n && eqb count parameters

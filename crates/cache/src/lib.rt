@@ -195,7 +195,7 @@ impl State {
             return false;
         }
         let queries = self.queries;
-        let parameters = sound::parameters_of(queries);
+        let parameters = sound::parameters_of(queries, self.query_count);
         if !self.texts_are_sound() {
             return false;
         }
@@ -221,7 +221,7 @@ impl State {
 
     // Whether the slot list is sound, and the keys and lengths of the held slots, where the queries have so many parameters.
     fn answers_are_sound(self, parameters: [u8; Query::QUERIES]) -> bool
-        requires { ⌜ (soundCounts self ≡ true) × (parameters ≡ parametersOf (self .queries)) ⌝ }
+        requires { ⌜ (soundCounts self ≡ true) × (parameters ≡ parametersOf (self .«query_count») (self .queries)) ⌝ }
         ensures { λ r. ⌜ r ≡ soundAnswers self ⌝ }
     {
         let slots = self.slots;

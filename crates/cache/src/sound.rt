@@ -78,13 +78,14 @@ pub fn rows_fit(tables: [Table; Table::TABLES], n: usize) -> bool
     fit
 }
 
-// How many parameters each query has, also those that are not in use.
-pub fn parameters_of(queries: [Query; Query::QUERIES]) -> [u8; Query::QUERIES]
-    ensures { λ r. ⌜ r ≡ parametersOf queries ⌝ }
+// How many parameters each of the first n queries has; 0 behind them. The loop is not laid out flat: that would copy every query.
+pub fn parameters_of(queries: [Query; Query::QUERIES], n: u8) -> [u8; Query::QUERIES]
+    requires { ⌜ n ≤ 16 ⌝ }
+    ensures { λ r. ⌜ r ≡ parametersOf n queries ⌝ }
 {
     let mut counts = [0u8; Query::QUERIES];
     let mut i: usize = 0;
-    while i < Query::QUERIES {
+    while i < (n as usize) {
         let q = queries[i];
         counts[i] = q.parameters;
         i += 1;

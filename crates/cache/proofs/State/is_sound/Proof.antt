@@ -4,7 +4,7 @@ use mathlib.Core.Path.{sym, ap, ap₂, _∙_}
 use mathlib.Core.Bool.{Bool, _&&_}
 use borrow.Author.Tests.{not-true, not-false}
 use Rattle.cache.specs.Sound.{soundAnswers}
-use Rattle.cache.proofs.Tested.{sound-fails, counts-hold, sound-rest}
+use Rattle.cache.proofs.Tested.{counts-few, sound-fails, counts-hold, sound-rest}
 use Rattle.cache.proofs.State.is_sound.Statement.{statement}
 use Rattle.cache.proofs.State.is_sound.Tie as tie
 
@@ -32,7 +32,11 @@ returns c =
     sound-fails (b .before .before .before .before .before .before .args .self) _ _ (b .before .sizes-fit .ensures) (b .counts-fit .ensures) (not-true _ (c .if1 .taken))
 
 parameters-of-requires : tie.Need-parameters-of-requires
-parameters-of-requires c κs = search needs
+parameters-of-requires c κs =
+    let e = c .before in
+    let b = e .before in
+    let s = b .before .before .before .before .before .before .args .self in
+    counts-few s (counts-hold s _ _ (b .before .sizes-fit .ensures) (b .counts-fit .ensures) (not-false _ (e .if1 .left))) .1
 
 texts-are-sound-requires : tie.Need-texts-are-sound-requires
 texts-are-sound-requires c κs =

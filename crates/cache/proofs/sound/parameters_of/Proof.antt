@@ -1,7 +1,7 @@
 -- `parameters_of` meets its contract. The invariant: the parameters left are to be written. The measure is the queries left. Assumes nothing.
 use borrow.Author.Needs.{needs}
 use mathlib.Core.Path.{_≡_, refl}
-use Prim.Native.Nat.{_-_}
+use Prim.Native.Nat.{_-_, _≤_}
 use native.Mathlib.Omega.{arith}
 use lib.ListN.{length, length-set}
 use Rattle.cache.proofs.Tested.{Counted, counted-start, counted-more, counted-end}
@@ -9,13 +9,13 @@ use Rattle.cache.proofs.sound.parameters_of.Statement.{statement}
 use Rattle.cache.proofs.sound.parameters_of.Tie as tie
 
 abbrev Inv-loop : tie.InvT-loop
-Inv-loop queries counts₀ i₀ counts i = (length queries ≡ 16) × (length counts ≡ 16) × Counted queries counts i
+Inv-loop n queries counts₀ i₀ counts i = (n ≤ 16) × (length queries ≡ 16) × (length counts ≡ 16) × Counted n queries counts i
 
 abbrev μ-loop : tie.MeasureT-loop
-μ-loop queries counts₀ i₀ counts i = 16 - i
+μ-loop n queries counts₀ i₀ counts i = n - i
 
 loop-holds : tie.Need-loop-holds Inv-loop μ-loop
-loop-holds c = let e : length (c .args .t1) ≡ 16 = search needs in (e, refl, counted-start _ (omega arith))
+loop-holds c = let e : length (c .args .t1) ≡ 16 = search needs in (c .pre, e, refl, counted-start _ _ (c .pre) (omega (arith, c .pre)))
 
 mul-q : tie.Need-mul-q Inv-loop μ-loop
 mul-q c = omega arith
@@ -36,10 +36,10 @@ loop-again : tie.Need-loop-again Inv-loop μ-loop
 loop-again c =
     let l = c .before .before .loop in
     let v = l .inv in
-    (v .0, simp length-set (v .1), counted-more _ (omega arith) (l .counts) (l .i) _ (c .before .loop-test .taken) (v .2))
+    (v .0, v .1, simp length-set (v .2), counted-more _ _ (omega arith) (l .counts) (l .i) _ (c .before .loop-test .taken) (v .3))
 
 returns : tie.Need-returns Inv-loop μ-loop
-returns c = let l = c .before .loop in counted-end _ (l .inv .0) (l .counts) (l .i) (c .loop-test .left) (l .inv .2)
+returns c = let l = c .before .loop in counted-end _ _ (l .counts) (l .i) (c .loop-test .left) (l .inv .3)
 
 pub parameters-of-spec : {M : Type 1} → statement M
 parameters-of-spec =
