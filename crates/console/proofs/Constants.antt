@@ -20,7 +20,7 @@ use Rattle.lists.proofs.Lists.{All-map, all-true, all-of}
 use Rattle.lists.proofs.Runs.{drop-yes, drop-no, drop-short, drop-all, run-split}
 use Rattle.meaning.specs.Limits.{isWithin32}
 use Rattle.meaning.specs.Tokens as M
-use Rattle.meaning.specs.Tokens.{Keyword, keyword, name, constant, operator, mark, comma, lparen, rparen, dot, other, isDigit, isNameByte, isWordByte, isSpace, isName, decimal, word, keywords, keywordIn, signs, behindPrefix, signIn, tokenFrom, tokenHere, firstToken}
+use Rattle.meaning.specs.Tokens.{Keyword, keyword, name, constant, operator, mark, comma, lparen, rparen, dot, other, isDigit, isNameByte, isWordByte, isSpace, isName, folded, decimal, word, keywords, keywordOr, signs, behindPrefix, signIn, tokenFrom, tokenHere, firstToken}
 use Rattle.meaning.proofs.Stream.{from-word, from-sign, from-short, sign-here, sign-later}
 use Rattle.token.specs.declared.Token.{Token}
 use Rattle.token.specs.Tokens as N
@@ -132,26 +132,30 @@ signs-none : (b : ℕ) (u : List ℕ) → constantIn (signIn signs b u .0) ≡ n
 signs-none b u =
     sign-none signs (cons refl (cons refl (cons refl (cons refl (cons refl (cons refl (cons refl (cons refl (cons refl (cons refl (cons refl nil))))))))))) b u
 
-keyword-none : (xs : List (String × Keyword)) (w : List ℕ) → constantIn (keywordIn xs w) ≡ none
-keyword-none [] w = refl
-keyword-none (x ∷ xs) w = go (eqList eqb w (bytes (x .0))) (keyword-none xs w)
+keyword-none : (xs : List (String × Keyword)) (t : M.Token) (w : List ℕ) → constantIn t ≡ none → constantIn (keywordOr xs t w) ≡ none
+keyword-none [] t w h = h
+keyword-none (x ∷ xs) t w h = go (eqList eqb w (bytes (x .0))) (keyword-none xs t w h)
   where
-    go : (b : Bool) → constantIn (keywordIn xs w) ≡ none → constantIn (cond b (keyword (x .1)) (keywordIn xs w)) ≡ none
+    go : (b : Bool) → constantIn (keywordOr xs t w) ≡ none → constantIn (cond b (keyword (x .1)) (keywordOr xs t w)) ≡ none
     go true h = refl
     go false h = h
+
+-- a word that is not of digits is a keyword, a name, or nothing
+abbrev unnumbered : List ℕ → M.Token
+unnumbered w = keywordOr keywords (cond (isName (folded w)) (name (folded w)) other) w
 
 word-none : (w : List ℕ) → all isDigit w ≡ false → constantIn (word w) ≡ none
 unfolding word
 word-none w h =
-    ap (λ (d : Bool). constantIn (cond d (constant (pos (decimal w))) (cond (isName w) (name w) (keywordIn keywords w)))) h ∙ go (isName w)
+    ap (λ (d : Bool). constantIn (cond d (constant (pos (decimal w))) (unnumbered w))) h ∙ keyword-none keywords _ w (go (isName (folded w)))
   where
-    go : (b : Bool) → constantIn (cond b (name w) (keywordIn keywords w)) ≡ none
+    go : (b : Bool) → constantIn (cond b (name (folded w)) other) ≡ none
     go true = refl
-    go false = keyword-none keywords w
+    go false = refl
 
 word-digits : (w : List ℕ) → all isDigit w ≡ true → constantIn (word w) ≡ cond (leb (decimal w) most-number) (some (pos (decimal w))) none
 unfolding word
-word-digits w h = ap (λ (d : Bool). constantIn (cond d (constant (pos (decimal w))) (cond (isName w) (name w) (keywordIn keywords w)))) h
+word-digits w h = ap (λ (d : Bool). constantIn (cond d (constant (pos (decimal w))) (unnumbered w))) h
 
 module _ (b : ℕ) (s : List ℕ) where
   abbrev w : List ℕ

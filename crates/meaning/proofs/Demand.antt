@@ -1,7 +1,9 @@
 -- The claims of specs/Demand, all proved. Assumes nothing.
 use Rattle.meaning.specs.Demand.{Demands}
 use Rattle.meaning.proofs.Stream.{first-then-rest}
-use Rattle.meaning.proofs.Spelling.{has-text}
+use Rattle.meaning.proofs.Folding.{capitals-in-names, one-name, case-aside, names-folded}
+use Rattle.meaning.proofs.SameText.{same-tokens, same-text}
+use Rattle.meaning.proofs.Spelling.{has-text, keywords-remain}
 use Rattle.meaning.proofs.Numbering.{marks-numbered}
 use Rattle.meaning.proofs.Limits.{within-exactly-if}
 use Rattle.meaning.proofs.Accepted.{lowest-number, refused-changes-nothing, reads-exactly, one-sentence, accepted-exactly-if, accepted-is-added}
@@ -16,6 +18,13 @@ demands = record {
   reads-exactly = reads-exactly;
   one-sentence = one-sentence;
   first-then-rest = first-then-rest;
+  capitals-in-names = capitals-in-names;
+  one-name = one-name;
+  case-aside = case-aside;
+  keywords-remain = keywords-remain;
+  names-folded = names-folded;
+  same-tokens = same-tokens;
+  same-text = same-text;
   has-text = has-text;
   marks-numbered = marks-numbered;
   within-exactly-if = within-exactly-if;

@@ -3,7 +3,9 @@ pub mod Decides
 pub mod Stream
 pub mod Accepted
 pub mod Numbering
+pub mod Folding
 pub mod Spelling
+pub mod SameText
 pub mod Names
 pub mod Dotted
 pub mod Resolved

@@ -1,46 +1,36 @@
 -- The demand of specs/Demand about the sentences that have a text: tokens written one after another, each after a space, are the tokens of that text, if
--- their names are names; and the names among the tokens of a text are names. Assumes nothing.
+-- their names are names; and the names among the tokens of a text are names. With it the one about words that are keywords. Assumes nothing.
 use mathlib.Core.Path.{_≡_, refl, sym, ap, ap₂, subst, _∙_}
-use mathlib.Core.Bool.{Bool, true, false, _&&_, cond, and-true, and-false, or-true, false≢true}
+use mathlib.Core.Logic.{_↔_}
+use mathlib.Core.Bool.{Bool, true, false, _&&_, cond, and-true, false≢true}
 use mathlib.Core.Option.{Option, none, some}
 use mathlib.Core.List.{List, [], _∷_, _++_, map}
 use Prim.Native.Nat.{ℕ, zero, suc, _+_, _*_, _-_, _/_, _%_, _≤_}
 use Prim.Native.String.{String}
 use native.Mathlib.Nat.{le-refl}
 use native.Mathlib.Omega.{arith}
-use borrow.Author.Tests.{le-leb, leb-true, lt-leb, eqb-true}
+use borrow.Author.Tests.{le-leb, eqb-true}
 use lib.Dec.{leb, eqb}
 use lib.IntN.{pos, negsuc, negℤ}
 use lib.ListN.{length}
 use Rattle.lists.specs.Lists.{bytes, all, takeWhile, dropWhile}
 use Rattle.lists.specs.Tests.{eqList}
 use Rattle.lists.proofs.Bools.{and-assoc, and-left, and-right, and-both, clash}
-use Rattle.lists.proofs.Lists.{all-append, map-append}
+use Rattle.lists.proofs.Lists.{All-map, all-append, all-true, map-append}
 use Rattle.lists.proofs.Runs.{Ends, run-unique, drop-no}
 use Rattle.meaning.specs.Operator.{eq, ne, lt, le, gt, ge}
 use Rattle.meaning.specs.Condition.{Comparison, Level, Condition, compare, negate, group, alone, both, single, either, comparisons, sides, Where, always, under, operandsIn}
-use Rattle.meaning.specs.Tokens.{Keyword, TABLE, ROWS, SELECT, FROM, WHERE, INSERT, INTO, VALUES, UPDATE, SET, DELETE, AND, OR, NOT, Name, Token, keyword, name, constant, operator, mark, comma, lparen, rparen, dot, other, isDigit, isSmall, isNameByte, isWordByte, isSpace, isMinus, decimalOn, decimal, isName, keywords, keywordIn, word, negative, signs, behindPrefix, signIn, tokenFrom, tokenHere, firstToken, scan, tokens}
+use Rattle.meaning.specs.Tokens.{Keyword, TABLE, ROWS, SELECT, FROM, WHERE, INSERT, INTO, VALUES, UPDATE, SET, DELETE, AND, OR, NOT, Name, Token, keyword, name, constant, operator, mark, comma, lparen, rparen, dot, other, isDigit, isSmall, isNameByte, isWordByte, isSpace, isMinus, decimalOn, decimal, isName, folded, keywords, keywordOr, word, negative, signs, behindPrefix, signIn, tokenFrom, tokenHere, firstToken, scan, tokens}
 use Rattle.meaning.specs.Grammar as G
 use Rattle.meaning.specs.Grammar.{Given, Term, given, Listed, last, next, items, Dotted, Sentence, givenToken, spellName, spellDotted, spellGiven, spellSetting, spellList, spellTerm, spellCondition, spellWhere, spell}
 use Rattle.meaning.specs.Limits.{termColumns, columnsNamed, allNames}
-use Rattle.meaning.specs.Demand.{HasText}
+use Rattle.meaning.specs.Demand.{HasText, KeywordsRemain}
 use Rattle.meaning.proofs.Readers.{some-none, some-same}
 use Rattle.meaning.proofs.Postfix.{sides-append}
 use Rattle.meaning.proofs.Dotted.{bare-columns}
+use Rattle.meaning.proofs.Names.{same-is}
+use Rattle.meaning.proofs.Folding.{digit-name, small-name, isNamed, word-named, name-read}
 use Rattle.meaning.proofs.Stream.{from-word, from-minus, from-sign, sign-here, sign-later, scan-none, scan-some, tokens-some}
-
--- a name among tokens is a name
-abbrev isNamed : Token → Bool
-isNamed (keyword k) = true
-isNamed (name n) = isName n
-isNamed (constant z) = true
-isNamed (operator o) = true
-isNamed mark = true
-isNamed comma = true
-isNamed lparen = true
-isNamed rparen = true
-isNamed dot = true
-isNamed other = true
 
 -- ---- digits of a number, with leading zeros
 
@@ -116,24 +106,62 @@ keyword-word AND = record { letters = refl; there = refl; means = refl }
 keyword-word OR = record { letters = refl; there = refl; means = refl }
 keyword-word NOT = record { letters = refl; there = refl; means = refl }
 
--- a digit, a name's byte: a word's byte
+-- the text of a token that is a keyword, else d
+abbrev textOr : List ℕ → Token → List ℕ
+textOr d (keyword k) = bytes (keywordText k)
+textOr d (name n) = d
+textOr d (constant z) = d
+textOr d (operator o) = d
+textOr d mark = d
+textOr d comma = d
+textOr d lparen = d
+textOr d rparen = d
+textOr d dot = d
+textOr d other = d
+
+abbrev isSpelled : String × Keyword → Bool
+isSpelled k = eqList eqb (bytes (k .0)) (bytes (keywordText (k .1)))
+
+-- a word that is a keyword is that keyword's text
+text-or : (ks : List (String × Keyword)) → all isSpelled ks ≡ true → (t : Token) (w : List ℕ) → textOr w t ≡ w → textOr w (keywordOr ks t w) ≡ w
+text-or [] e t w h = h
+text-or (k ∷ ks) e t w h = go (eqList eqb w (bytes (k .0))) refl (text-or ks (and-right (isSpelled k) (all isSpelled ks) e) t w h)
+  where
+    go : (x : Bool) → eqList eqb w (bytes (k .0)) ≡ x → textOr w (keywordOr ks t w) ≡ w → textOr w (cond x (keyword (k .1)) (keywordOr ks t w)) ≡ w
+    go true q ih = sym (same-is w (bytes (k .0)) q ∙ same-is (bytes (k .0)) (bytes (keywordText (k .1))) (and-left (isSpelled k) (all isSpelled ks) e))
+    go false q ih = ih
+
+spelled : all isSpelled keywords ≡ true
+unfolding keywordText
+spelled = refl
+
+word-text : (w : List ℕ) → textOr w (word w) ≡ w
+unfolding word
+word-text w = go (all isDigit w)
+  where
+    named : (x : Bool) → textOr w (cond x (name (folded w)) other) ≡ w
+    named true = refl
+    named false = refl
+
+    go : (d : Bool) → textOr w (cond d (constant (pos (decimal w))) (keywordOr keywords (cond (isName (folded w)) (name (folded w)) other) w)) ≡ w
+    go true = refl
+    go false = text-or keywords spelled _ w (named (isName (folded w)))
+
+pub keywords-remain : KeywordsRemain
+keywords-remain = All-map one (all-true isSpelled keywords spelled)
+  where
+    one : (k : String × Keyword) → isSpelled k ≡ true → (w : List ℕ) → (word w ≡ keyword (k .1)) ↔ (w ≡ bytes (k .0))
+    one k e w =
+        let s : bytes (k .0) ≡ bytes (keywordText (k .1)) = same-is (bytes (k .0)) (bytes (keywordText (k .1))) e in
+        (λ h. sym (word-text w) ∙ ap (textOr w) h ∙ sym s, λ h. ap word (h ∙ s) ∙ keyword-word (k .1) .means)
+
+-- a name's byte, and so a digit, is a word's
 name-byte : (b : ℕ) → isNameByte b ≡ true → isWordByte b ≡ true
 unfolding isWordByte
 name-byte b h = rw h
 
 digit-byte : (b : ℕ) → isDigit b ≡ true → isWordByte b ≡ true
-unfolding isWordByte isNameByte
-digit-byte b h = rw (h, or-true (isSmall b))
-
-small-byte : (b : ℕ) → isSmall b ≡ true → isWordByte b ≡ true
-unfolding isWordByte isNameByte
-small-byte b h = rw h
-
-small-no-digit : (b : ℕ) → isSmall b ≡ true → isDigit b ≡ false
-small-no-digit b h =
-    let k = leb-true 97 b (and-left (leb 97 b) (leb b 122) h) in
-    let e : leb b 57 ≡ false = lt-leb b 57 (omega arith) in
-    ap (λ (c : Bool). leb 48 b && c) e ∙ and-false (leb 48 b)
+digit-byte b h = name-byte b (digit-name b h)
 
 all-implies : {A : Type 0} (p q : A → Bool) → ((x : A) → p x ≡ true → q x ≡ true) → (xs : List A) → all p xs ≡ true → all q xs ≡ true
 all-implies p q f [] h = refl
@@ -146,9 +174,9 @@ name-word [] h = absurd (false≢true h)
 name-word (b ∷ w) h =
     let s : isSmall b ≡ true = and-left (isSmall b) (all isNameByte w) h in
     record {
-      letters = and-both (isWordByte b) (all isWordByte w) (small-byte b s) (all-implies isNameByte isWordByte name-byte w (and-right (isSmall b) (all isNameByte w) h));
+      letters = and-both (isWordByte b) (all isWordByte w) (name-byte b (small-name b s)) (all-implies isNameByte isWordByte name-byte w (and-right (isSmall b) (all isNameByte w) h));
       there = refl;
-      means = rw (small-no-digit b s) (rw h refl);
+      means = name-read (b ∷ w) h;
     }
 
 last-there : (w : List ℕ) (b : ℕ) → isThere (w ++ (b ∷ [])) ≡ true
@@ -261,23 +289,6 @@ tokens-written (t ∷ ts) h =
 
 -- ---- the names among the tokens of a text are names
 
-named-keyword : (ks : List (String × Keyword)) (w : List ℕ) → isNamed (keywordIn ks w) ≡ true
-named-keyword [] w = refl
-named-keyword (k ∷ ks) w = go (eqList eqb w (bytes (k .0))) (named-keyword ks w)
-  where
-    go : (b : Bool) → isNamed (keywordIn ks w) ≡ true → isNamed (cond b (keyword (k .1)) (keywordIn ks w)) ≡ true
-    go true h = refl
-    go false h = h
-
-named-word : (w : List ℕ) → isNamed (word w) ≡ true
-unfolding word
-named-word w = go (all isDigit w) (isName w) refl
-  where
-    go : (d n : Bool) → isName w ≡ n → isNamed (cond d (constant (pos (decimal w))) (cond n (name w) (keywordIn keywords w))) ≡ true
-    go true n e = refl
-    go false true e = e
-    go false false e = named-keyword keywords w
-
 named-negative : (w : List ℕ) → isNamed (negative w) ≡ true
 unfolding negative
 named-negative [] = refl
@@ -300,7 +311,7 @@ named-from : (b : ℕ) (s : List ℕ) → isNamed (tokenFrom b s .0) ≡ true
 named-from b s = go (isWordByte b) (isMinus b) refl refl
   where
     go : (w m : Bool) → isWordByte b ≡ w → isMinus b ≡ m → isNamed (tokenFrom b s .0) ≡ true
-    go true m e f = rw (from-word b s e) (named-word (b ∷ takeWhile isWordByte s))
+    go true m e f = rw (from-word b s e) (word-named (b ∷ takeWhile isWordByte s))
     go false true e f = rw (from-minus b s e f) (named-negative (takeWhile isWordByte s))
     go false false e f = rw (from-sign b s e f) (named-sign signs b s refl)
 

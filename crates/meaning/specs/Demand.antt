@@ -2,16 +2,18 @@
 -- Assumes nothing: these are definitions.
 use mathlib.Core.Path.{_≡_}
 use mathlib.Core.Logic.{_↔_, _≢_}
-use mathlib.Core.Bool.{Bool, true, false, _&&_, cond}
+use mathlib.Core.Bool.{Bool, true, false, _&&_, _||_, cond}
 use mathlib.Core.Option.{Option, none, some}
 use mathlib.Core.List.{List, [], _∷_, _++_, map}
 use Prim.Native.Nat.{ℕ, suc, _+_, _*_, _≤_, _<_}
+use Prim.Native.String.{String}
 use lib.Dec.{eqb}
 use lib.IntN.{ℤ, pos, negsuc}
 use lib.ListN.{length, getD}
-use Rattle.lists.specs.Lists.{All, any, all, from, pairs}
+use Rattle.lists.specs.Lists.{All, bytes, any, all, from, pairs}
 use Rattle.meaning.specs.Condition.{comparisonsIn, operandsIn, depthIn}
-use Rattle.meaning.specs.Tokens.{Token, isName, firstToken, tokens}
+use Rattle.meaning.specs.Tokens as T
+use Rattle.meaning.specs.Tokens.{Token, Keyword, Name, isSmall, isCapital, isWordByte, isName, folded, keywords, isKeyword, word, firstToken, tokens}
 use Rattle.meaning.specs.Grammar as G
 use Rattle.meaning.specs.Grammar.{Given, items, Sentence, spell, sentence}
 use Rattle.meaning.specs.Key.{Key}
@@ -63,6 +65,49 @@ tokensFrom (some x) = x .0 ∷ tokens (x .1)
 
 abbrev pub FirstThenRest : Type 0
 FirstThenRest = (text : List ℕ) → tokens text ≡ tokensFrom (firstToken text)
+
+-- A.2, "Names may hold capital letters, the first included": a word that begins with a letter and is no keyword is a name
+abbrev pub CapitalsInNames : Type 0
+CapitalsInNames = (b : ℕ) (w : List ℕ) → all isWordByte (b ∷ w) ≡ true → (isSmall b || isCapital b) ≡ true → isKeyword (b ∷ w) ≡ false → word (b ∷ w) ≡ T.name (folded (b ∷ w))
+
+-- "and case makes no difference between names": two words are one name exactly if they differ in case alone
+abbrev pub OneName : Type 0
+OneName = (v w : List ℕ) (m n : Name) → word v ≡ T.name m → word w ≡ T.name n → (m ≡ n) ↔ (folded v ≡ folded w)
+
+abbrev pub CaseAside : Type 0
+CaseAside = (v w : List ℕ) → folded v ≡ folded w → isKeyword v ≡ false → isKeyword w ≡ false → word v ≡ word w
+
+-- "Words spelled exactly as a keyword, all capitals, remain keywords."
+abbrev pub KeywordsRemain : Type 0
+KeywordsRemain = All (λ (k : String × Keyword). (w : List ℕ) → (word w ≡ T.keyword (k .1)) ↔ (w ≡ bytes (k .0))) keywords
+
+-- the names that words can be are document 01's: what a stored name may be
+abbrev pub NamesFolded : Type 0
+NamesFolded = (n : Name) → (isName n ≡ true) ↔ ((w : List ℕ) × (word w ≡ T.name n))
+
+-- "Everything that looks a name up, or finds one taken or repeated, follows.": of a text that is added only the tokens count, and its length, so that
+-- texts that differ in the case of names alone, and have the same keywords, are one text
+abbrev pub SameTokens : Type 0
+SameTokens = (lent : Lengths) (p : Plain) (text text′ : List ℕ) → length text ≡ length text′ → tokens text ≡ tokens text′ → step lent p (add text) ≡ step lent p (add text′)
+
+abbrev pub keywordOf : Token → Option Keyword
+keywordOf (T.keyword k) = some k
+keywordOf (T.name n) = none
+keywordOf (T.constant z) = none
+keywordOf (T.operator o) = none
+keywordOf T.mark = none
+keywordOf T.comma = none
+keywordOf T.lparen = none
+keywordOf T.rparen = none
+keywordOf T.dot = none
+keywordOf T.other = none
+
+abbrev pub SameText : Type 0
+SameText =
+    (lent : Lengths) (p : Plain) (text text′ : List ℕ)
+    → folded text ≡ folded text′
+    → map keywordOf (tokens text) ≡ map keywordOf (tokens text′)
+    → step lent p (add text) ≡ step lent p (add text′)
 
 -- "A name is a small letter, then small letters, digits or underscores. A constant is an optional minus and digits": a sentence has a text exactly if its
 -- names are such, whatever its constants are
@@ -235,6 +280,13 @@ pub record Demands : Type 0 where
   pub reads-exactly : ReadsExactly
   pub one-sentence : OneSentence
   pub first-then-rest : FirstThenRest
+  pub capitals-in-names : CapitalsInNames
+  pub one-name : OneName
+  pub case-aside : CaseAside
+  pub keywords-remain : KeywordsRemain
+  pub names-folded : NamesFolded
+  pub same-tokens : SameTokens
+  pub same-text : SameText
   pub has-text : HasText
   pub marks-numbered : MarksNumbered
   pub within-exactly-if : WithinExactlyIf

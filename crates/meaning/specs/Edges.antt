@@ -1,5 +1,5 @@
--- The edges of document 01, "Limits", "Statement texts" and "Numbers for a call not taken", and of request A.1: texts, each with the number that adding it
--- gives, or 0 where it is taken, by computation. Each limit stands at its last good value and one past it. Assumes nothing.
+-- The edges of document 01, "Limits", "Statement texts" and "Numbers for a call not taken", and of requests A.1 and A.2: texts, each with the number that
+-- adding it gives, or 0 where it is taken, by computation. Each limit stands at its last good value and one past it. Assumes nothing.
 use mathlib.Core.Path.{_≡_, refl}
 use mathlib.Core.Bool.{true}
 use mathlib.Core.List.{List, [], _∷_, _++_, map}
@@ -161,6 +161,9 @@ names = first (
     ∷ edge "TABLE t (a, abcdefghijkl) ROWS 1" 0
     ∷ edge "TABLE t (a, abcdefghijklm) ROWS 1" 5
     ∷ edge "TABLE t (abcdefghijklm, a) ROWS 1" 5
+    ∷ edge "TABLE ABCDEFGHIJKL (MNOPQRSTUVWX) ROWS 1" 0
+    ∷ edge "TABLE ABCDEFGHIJKLM (a) ROWS 1" 5
+    ∷ edge "TABLE t (MNOPQRSTUVWXY) ROWS 1" 5
     ∷ [])
 
 abbrev pub named : Group
@@ -210,8 +213,8 @@ words = first (
     ∷ edge "TABLE _a (b) ROWS 1" 4
     ∷ edge "TABLE a (_) ROWS 1" 4
     ∷ edge "TABLE 1a (b) ROWS 1" 4
-    ∷ edge "TABLE aB (b) ROWS 1" 4
-    ∷ edge "TABLE A (b) ROWS 1" 4
+    ∷ edge "TABLE aB (b) ROWS 1" 0
+    ∷ edge "TABLE A (b) ROWS 1" 0
     ∷ edge "TABLE table (select) ROWS 1" 0
     ∷ edge "table t (a) ROWS 1" 4
     ∷ edge "TABLE TABLE (a) ROWS 1" 4
@@ -613,6 +616,108 @@ sixteenth-pair = record { cells = 2; before = questions 15; edges = edge "SELECT
 abbrev pub seventeenth-pair : Group
 seventeenth-pair = record { cells = 2; before = questions 16; edges = edge "SELECT t.a FROM t, u" 9 ∷ edge "SELECT t.a FROM t, t" 15 ∷ [] }
 
+-- ---- request A.2: names in either case
+
+-- "Names may hold capital letters, the first included": A to Z are such letters, and the bytes next to these and to a and z are none; digits and underscores are themselves
+abbrev pub capitals : Group
+capitals = first (
+    edge "TABLE STAGE (SITE, Level_2) ROWS 1" 0
+    ∷ edge "TABLE A (Z) ROWS 1" 0
+    ∷ edge "TABLE aZ (zA, B_, C_1, d9D) ROWS 1" 0
+    ∷ edge "TABLE _A (b) ROWS 1" 4
+    ∷ edge "TABLE u (1A) ROWS 1" 4
+    ∷ edge "TABLE @ (b) ROWS 1" 4
+    ∷ edge "TABLE [ (b) ROWS 1" 4
+    ∷ edge "TABLE ` (b) ROWS 1" 4
+    ∷ edge "TABLE { (b) ROWS 1" 4
+    ∷ edge "TABLE A@ (b) ROWS 1" 4
+    ∷ edge "TABLE Z[ (b) ROWS 1" 4
+    ∷ edge "TABLE a` (b) ROWS 1" 4
+    ∷ edge "TABLE z{ (b) ROWS 1" 4
+    ∷ around "TABLE " 196 " (b) ROWS 1" 4
+    ∷ around "TABLE A" 228 " (b) ROWS 1" 4
+    ∷ (bytes "TABLE " ++ (195 ∷ 132 ∷ bytes " (b) ROWS 1"), 4)
+    ∷ [])
+
+-- "Words spelled exactly as a keyword, all capitals, remain keywords", and no others; a word of a later request is a name until then
+abbrev pub exact : Group
+exact = first (
+    edge "TABLE Table (Rows, sELECT, from, Where, INSERt, into, values) ROWS 1" 0
+    ∷ edge "TABLE update (Set, delete, aND, Or, not) ROWS 1" 0
+    ∷ edge "TABLE ROWS3 (TABLES, AND_, ORB, NOTE) ROWS 1" 0
+    ∷ edge "TABLE RING (a) ROWS 1" 0
+    ∷ edge "TABLE t (TABLE) ROWS 1" 4
+    ∷ edge "TABLE t (a, NOT) ROWS 1" 4
+    ∷ edge "Table t (a) ROWS 1" 4
+    ∷ edge "TABLE t (a) rows 1" 4
+    ∷ edge "TABLE t (a) Rows 1" 4
+    ∷ edge "TABLE t (ROWS) ROWS 1" 4
+    ∷ [])
+
+-- a store whose names were typed in both cases
+abbrev typed : List Edge → Group
+typed es = record { cells = 4; before = "TABLE Stage (SITE, level) ROWS 1" ∷ "TABLE RATING (site, Flow) ROWS 1" ∷ []; edges = es }
+
+abbrev pub exact-forms : Group
+exact-forms = typed (
+    edge "select site FROM stage" 4
+    ∷ edge "SELECT site From stage" 4
+    ∷ edge "SELECT site FROM stage Where site = 1" 4
+    ∷ edge "SELECT SELECT FROM stage" 4
+    ∷ edge "DELETE FROM TABLE" 4
+    ∷ edge "DELETE FROM Table" 6
+    ∷ edge "DELETE FROM stage WHERE site = 1 and level = 1" 4
+    ∷ edge "DELETE FROM stage WHERE Not site = 1" 4
+    ∷ edge "INSERT INTO stage Values (1, 2)" 4
+    ∷ edge "UPDATE stage set site = 1" 4
+    ∷ [])
+
+-- "Everything that looks a name up .. follows": 6, and 8
+abbrev pub looked-up : Group
+looked-up = typed (
+    edge "SELECT site, LEVEL FROM stage" 0
+    ∷ edge "SELECT SITE FROM STAGE WHERE Level = ? OR 1 < sITE" 0
+    ∷ edge "INSERT INTO sTAGE VALUES (1, 2)" 0
+    ∷ edge "UPDATE STAGE SET LEVEL = 1, Site = ? WHERE SITE = Level" 0
+    ∷ edge "DELETE FROM rating WHERE NOT FLOW = 1" 0
+    ∷ edge "DELETE FROM STAGES" 6
+    ∷ edge "DELETE FROM STAG" 6
+    ∷ edge "SELECT SITE, FLOW FROM STAGE" 6
+    ∷ edge "SELECT Site FROM Nil" 6
+    ∷ edge "UPDATE STAGE SET FLOW = 1" 6
+    ∷ edge "DELETE FROM STAGE WHERE 1 = FLOW" 6
+    ∷ edge "INSERT INTO NIL VALUES (1, 2)" 6
+    ∷ edge "INSERT INTO STAGE VALUES (1)" 8
+    ∷ edge "INSERT INTO Stage VALUES (1, 2, 3)" 8
+    ∷ [])
+
+-- ".. or finds one taken or repeated": 7
+abbrev pub repeated : Group
+repeated = typed (
+    edge "TABLE stage (a) ROWS 1" 7
+    ∷ edge "TABLE STAGE (a) ROWS 1" 7
+    ∷ edge "TABLE Rating (a) ROWS 1" 7
+    ∷ edge "TABLE t (A, a) ROWS 1" 7
+    ∷ edge "TABLE t (z, b, Z) ROWS 1" 7
+    ∷ edge "TABLE t (A_1, a_1) ROWS 1" 7
+    ∷ edge "UPDATE stage SET Site = 1, SITE = 2" 7
+    ∷ edge "UPDATE stage SET site = 1, level = 2, LEVEL = ?" 7
+    ∷ edge "SELECT Site, SITE FROM stage" 0
+    ∷ [])
+
+-- both parts of a dotted column, both tables, and 15
+abbrev pub paired : Group
+paired = typed (
+    edge "SELECT STAGE.SITE, rating.FLOW FROM Stage, Rating WHERE stage.Site = RATING.site" 0
+    ∷ edge "SELECT Stage.Flow FROM STAGE, RATING" 6
+    ∷ edge "SELECT STAGES.SITE FROM STAGE, RATING" 6
+    ∷ edge "SELECT SITE FROM STAGE, RATING" 4
+    ∷ edge "SELECT stage.SELECT FROM stage, rating" 4
+    ∷ edge "SELECT stage.site FROM stage, Stage" 15
+    ∷ edge "SELECT STAGE.SITE FROM Stage, STAGE WHERE stage.Level = 1" 15
+    ∷ edge "SELECT Stage.FLOW FROM stage, Stage" 6
+    ∷ [])
+
 -- ---- the table
 
 abbrev pub table : List Group
@@ -660,6 +765,12 @@ table =
     ∷ same-table
     ∷ sixteenth-pair
     ∷ seventeenth-pair
+    ∷ capitals
+    ∷ exact
+    ∷ exact-forms
+    ∷ looked-up
+    ∷ repeated
+    ∷ paired
     ∷ []
 
 columns-hold : Holds columns
@@ -834,6 +945,30 @@ seventeenth-pair-hold : Holds seventeenth-pair
 unfolding computing
 seventeenth-pair-hold = record { taken = refl; numbers-are = refl }
 
+capitals-hold : Holds capitals
+unfolding computing
+capitals-hold = record { taken = refl; numbers-are = refl }
+
+exact-hold : Holds exact
+unfolding computing
+exact-hold = record { taken = refl; numbers-are = refl }
+
+exact-forms-hold : Holds exact-forms
+unfolding computing
+exact-forms-hold = record { taken = refl; numbers-are = refl }
+
+looked-up-hold : Holds looked-up
+unfolding computing
+looked-up-hold = record { taken = refl; numbers-are = refl }
+
+repeated-hold : Holds repeated
+unfolding computing
+repeated-hold = record { taken = refl; numbers-are = refl }
+
+paired-hold : Holds paired
+unfolding computing
+paired-hold = record { taken = refl; numbers-are = refl }
+
 pub all-hold : All Holds table
 all-hold =
     cons columns-hold
@@ -879,4 +1014,10 @@ all-hold =
     (cons same-table-hold
     (cons sixteenth-pair-hold
     (cons seventeenth-pair-hold
-    nil))))))))))))))))))))))))))))))))))))))))))
+    (cons capitals-hold
+    (cons exact-hold
+    (cons exact-forms-hold
+    (cons looked-up-hold
+    (cons repeated-hold
+    (cons paired-hold
+    nil))))))))))))))))))))))))))))))))))))))))))))))))

@@ -1,24 +1,26 @@
--- Document 01, "Examples": the ten starred rows as one table, from the texts of the statements, and "Slips a marker would catch", each by computation.
--- Assumes nothing.
+-- Document 01, "Examples": the ten starred rows as one table, from the texts of the statements, and "Slips a marker would catch", each by computation;
+-- with them the names of request A.2. Assumes nothing.
 use mathlib.Core.Path.{_≡_, refl}
-use mathlib.Core.Bool.{Bool, true, false}
+use mathlib.Core.Bool.{Bool, true, false, cond}
 use mathlib.Core.List.{List, [], _∷_, _++_, map}
-use Prim.Native.Nat.{ℕ}
+use Prim.Native.Nat.{ℕ, _-_}
 use Prim.Native.String.{String}
 use lib.IntN.{ℤ, pos}
 use lib.Dec.{ltb}
 use lib.ListN.{getD}
 use Rattle.lists.specs.Lists.{bytes, all, All, nil, cons}
+use Rattle.lists.specs.Tests.{eqList}
 use Rattle.meaning.specs.Condition.{countOf}
-use Rattle.meaning.specs.Tokens.{isNameByte, isWordByte, decimal, isName, word, negative, tokenFrom, firstToken, scan, tokens}
+use Rattle.meaning.specs.Tokens as T
+use Rattle.meaning.specs.Tokens.{Token, sameToken, isSmall, isNameByte, isWordByte, decimal, isName, word, negative, tokenFrom, firstToken, scan, tokens}
 use Rattle.meaning.specs.Grammar.{aCondition, aSentence, read}
 use Rattle.meaning.specs.Limits.{pastLimit}
-use Rattle.meaning.specs.Names.{unknown, taken, miscounted, twice}
+use Rattle.meaning.specs.Names.{Schema, unknown, taken, miscounted, twice}
 use Rattle.meaning.specs.Statement.{Change, insert, delete, update, statementOf}
 use Rattle.meaning.specs.Meaning.{Row, answer, changed, rowsChanged}
 use Rattle.meaning.specs.Record.{body, encode}
 use Rattle.meaning.specs.Pattern.{Pattern, number, mark, anything, jointClauses, jointCount, most-clauses, class, contradictory, entry, sideOf, patterns, matches}
-use Rattle.meaning.specs.Plain.{Lengths, Plain, tableAt, queryAt, updateAt, recordOf, tooMany, openingRefused, opened, Call, add, ask, change, otherLengths, noPlace, full, refusal, Out, refused, added, answered, rows, flushed, addedText, changedBy, rowsBy, step, after, outs}
+use Rattle.meaning.specs.Plain.{Lengths, Plain, schemas, tableAt, queryAt, updateAt, recordOf, tooMany, openingRefused, opened, Call, add, ask, change, otherLengths, noPlace, full, refusal, aTable, aQuery, anUpdate, Out, refused, added, answered, rows, flushed, addedText, changedBy, rowsBy, step, after, outs}
 
 -- what the computations open
 unfoldable pub computing : Unit {0}
@@ -292,3 +294,85 @@ caught-8 = (refl, refl)
 
 pub caught : All Holds slips
 caught = cons caught-0 (cons caught-1 (cons caught-2 (cons caught-3 (cons caught-4 (cons caught-5 (cons caught-6 (cons caught-7 (cons caught-8 nil))))))))
+
+-- ---- request A.2: names from the service keypad
+
+-- "The new keypad types capitals only.": a text as it comes from there
+abbrev keyed : List ℕ → List ℕ
+keyed text = map (λ (b : ℕ). cond (isSmall b) (b - 32) b) text
+
+pub keyed-is : keyed (bytes Q) ≡ bytes "SELECT LEVEL FROM STAGE WHERE SITE = ?"
+keyed-is = refl
+
+-- every text of the starred rows has the same tokens there
+abbrev keyedSame : String → Bool
+keyedSame t = eqList sameToken (tokens (keyed (bytes t))) (tokens (bytes t))
+
+pub keyed-same : (keyedSame S ≡ true) × (all (λ (e : Example). all keyedSame (e .texts)) examples ≡ true)
+unfolding computing
+keyed-same = (refl, refl)
+
+-- and so the same statement: the first row, with the texts in capitals
+abbrev keyedAdds : Example → List Call
+keyedAdds e = map (λ (t : String). add (keyed (bytes t))) (S ∷ e .texts)
+
+pub keyed-row : (all isTaken (outs six start (keyedAdds (row examples 0))) ≡ true) × Says (after six start (keyedAdds (row examples 0))) (row examples 0 .outcome)
+unfolding computing
+keyed-row = (refl, refl)
+
+-- words and their tokens
+abbrev pub words : List (String × Token)
+words =
+    ("stage", T.name (bytes "stage"))
+    ∷ ("STAGE", T.name (bytes "stage"))
+    ∷ ("sTaGe_2", T.name (bytes "stage_2"))
+    ∷ ("A", T.name (bytes "a"))
+    ∷ ("Z", T.name (bytes "z"))
+    ∷ ("TABLE", T.keyword T.TABLE)
+    ∷ ("Table", T.name (bytes "table"))
+    ∷ ("table", T.name (bytes "table"))
+    ∷ ("ROWS3", T.name (bytes "rows3"))
+    ∷ ("WHERE_", T.name (bytes "where_"))
+    ∷ ("_A", T.other)
+    ∷ ("1A", T.other)
+    ∷ ("12", T.constant (pos 12))
+    ∷ []
+
+pub words-are : map (λ (x : String × Token). word (bytes (x .0))) words ≡ map (λ (x : String × Token). x .1) words
+unfolding computing
+words-are = refl
+
+-- texts, each added to the store that the last one left, and what each gets
+abbrev pub names-typed : List (String × Out)
+names-typed =
+    ("TABLE STAGE (SITE, Level_2) ROWS 1", added aTable 0)
+    ∷ ("TABLE stage (a) ROWS 1", refused 7)
+    ∷ ("TABLE Table (Select, b) ROWS 1", added aTable 1)
+    ∷ ("TABLE T (A, a) ROWS 1", refused 7)
+    ∷ ("TABLE T (ROWS3) ROWS 1", added aTable 2)
+    ∷ ("SELECT SITE FROM Stage Where SITE = 1", refused 4)
+    ∷ ("SELECT site, LEVEL_2 FROM sTAGE WHERE Site = ?", added aQuery 0)
+    ∷ ("UPDATE stage SET Site = 1, SITE = 2", refused 7)
+    ∷ ("INSERT INTO STAGE VALUES (?, ?)", added anUpdate 0)
+    ∷ ("select rows3 FROM t", refused 4)
+    ∷ ("DELETE FROM TABLE", refused 4)
+    ∷ ("DELETE FROM Table WHERE SELECT = 1", refused 4)
+    ∷ ("DELETE FROM tABLE WHERE select = B", added anUpdate 1)
+    ∷ ("TABLE u (_A) ROWS 1", refused 4)
+    ∷ ("TABLE u (1A) ROWS 1", refused 4)
+    ∷ ("TABLE ABCDEFGHIJKLM (a) ROWS 1", refused 5)
+    ∷ ("SELECT STAGE.site FROM Stage, STAGE", refused 15)
+    ∷ []
+
+abbrev typed-calls : List Call
+typed-calls = map (λ (x : String × Out). add (bytes (x .0))) names-typed
+
+pub names-get : outs six start typed-calls ≡ map (λ (x : String × Out). x .1) names-typed
+unfolding computing
+names-get = refl
+
+-- and the names are kept in small letters
+pub names-kept : map (λ (s : Schema). s .name ∷ s .columns) (schemas (after six start typed-calls))
+    ≡ (bytes "stage" ∷ bytes "site" ∷ bytes "level_2" ∷ []) ∷ (bytes "table" ∷ bytes "select" ∷ bytes "b" ∷ []) ∷ (bytes "t" ∷ bytes "rows3" ∷ []) ∷ []
+unfolding computing
+names-kept = refl

@@ -1,13 +1,13 @@
--- The tokens of a text: document 01, "Statement texts", first paragraph. Assumes nothing: these are definitions.
+-- The tokens of a text: document 01, "Statement texts", first paragraph, and request A.2. Assumes nothing: these are definitions.
 use mathlib.Core.Bool.{Bool, true, false, _&&_, _||_, cond}
 use mathlib.Core.Option.{Option, none, some}
-use mathlib.Core.List.{List, [], _∷_}
+use mathlib.Core.List.{List, [], _∷_, map}
 use Prim.Native.Nat.{ℕ, zero, suc, _+_, _*_, _-_}
 use Prim.Native.String.{String}
 use lib.Dec.{leb, eqb}
 use lib.IntN.{ℤ, pos, negℤ}
 use lib.ListN.{length}
-use Rattle.lists.specs.Lists.{bytes, all, takeWhile, dropWhile}
+use Rattle.lists.specs.Lists.{bytes, all, any, takeWhile, dropWhile}
 use Rattle.lists.specs.Tests.{isYes, eqList, decBytes, decZ}
 use Rattle.meaning.specs.Operator.{Operator, eq, ne, lt, le, gt, ge, Operator-discrete}
 
@@ -73,10 +73,17 @@ decimalOn n (d ∷ ds) = decimalOn (n * 10 + (d - 48)) ds
 unfoldable pub decimal : List ℕ → ℕ
 decimal ds = decimalOn 0 ds
 
--- "A name is a small letter, then small letters, digits or underscores."
+-- "A name is a small letter, then small letters, digits or underscores.": a name as it is kept
 unfoldable pub isName : Name → Bool
 isName [] = false
 isName (b ∷ w) = isSmall b && all isNameByte w
+
+-- A.2, "Names may hold capital letters, the first included, and case makes no difference between names": a capital letter counts as the small one
+abbrev pub foldedByte : ℕ → ℕ
+foldedByte b = cond (isCapital b) (b + 32) b
+
+abbrev pub folded : List ℕ → Name
+folded w = map foldedByte w
 
 abbrev pub keywords : List (String × Keyword)
 keywords =
@@ -96,13 +103,17 @@ keywords =
     ∷ ("NOT", NOT)
     ∷ []
 
-abbrev pub keywordIn : List (String × Keyword) → List ℕ → Token
-keywordIn [] w = other
-keywordIn (k ∷ ks) w = cond (eqList eqb w (bytes (k .0))) (keyword (k .1)) (keywordIn ks w)
+-- A.2, "Words spelled exactly as a keyword, all capitals, remain keywords": the keyword that w is, else the token t
+abbrev pub keywordOr : List (String × Keyword) → Token → List ℕ → Token
+keywordOr [] t w = t
+keywordOr (k ∷ ks) t w = cond (eqList eqb w (bytes (k .0))) (keyword (k .1)) (keywordOr ks t w)
 
--- digits, a name, a keyword, or nothing
+abbrev pub isKeyword : List ℕ → Bool
+isKeyword w = any (λ (k : String × Keyword). eqList eqb w (bytes (k .0))) keywords
+
+-- digits, a keyword, a name, or nothing
 unfoldable pub word : List ℕ → Token
-word w = cond (all isDigit w) (constant (pos (decimal w))) (cond (isName w) (name w) (keywordIn keywords w))
+word w = cond (all isDigit w) (constant (pos (decimal w))) (keywordOr keywords (cond (isName (folded w)) (name (folded w)) other) w)
 
 -- the word right after a minus: "an optional minus and digits", and no space between them
 unfoldable pub negative : List ℕ → Token

@@ -1,4 +1,4 @@
--- What stands at a place of a text, by the token that is read there: a name's bytes, a constant's value, or a question mark. Assumes nothing.
+-- What stands at a place of a text, by the token that is read there: a name's bytes in small letters, a constant's value, or a question mark. Assumes nothing.
 use mathlib.Core.Path.{_≡_, refl, sym, ap, _∙_}
 use mathlib.Core.Logic.{_≢_}
 use mathlib.Core.Bool.{Bool, true, false, _||_, cond}
@@ -12,7 +12,7 @@ use lib.Dec.{eqb}
 use lib.ListN.{take, drop}
 use Rattle.lists.proofs.Bools.{clash}
 use Rattle.meaning.specs.Tokens as M
-use Rattle.meaning.specs.Tokens.{keyword, name, operator, mark, comma, lparen, rparen, dot, other, firstToken, tokens}
+use Rattle.meaning.specs.Tokens.{keyword, name, operator, mark, comma, lparen, rparen, dot, other, folded, firstToken, tokens}
 use Rattle.meaning.specs.Grammar as G
 use Rattle.meaning.specs.Grammar.{nameOf, constantOf}
 use Rattle.meaning.specs.Limits.{isWithin32}
@@ -117,7 +117,7 @@ module _ (s : List ℕ) (p : ℕ) where
           on-some x e ∙ cc
 
   -- a name
-  pub named-there : tokenAt s p .kind ≡ 2 → nameOf (tokenOn s p) ≡ some (take (tokenAt s p .next - tokenAt s p .start) (drop (tokenAt s p .start) s))
+  pub named-there : tokenAt s p .kind ≡ 2 → nameOf (tokenOn s p) ≡ some (folded (take (tokenAt s p .next - tokenAt s p .start) (drop (tokenAt s p .start) s)))
   named-there e =
       let k : tokenAt s p .kind ≢ 0 = λ z. omega (arith, sym e ∙ z) in
       ap nameOf (on-read k ∙ token-some s p k .named e)

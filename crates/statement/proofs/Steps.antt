@@ -6,9 +6,9 @@ use Prim.Native.Nat.{ℕ, _-_, _≤_, _<_}
 use native.Mathlib.Omega.{arith}
 use borrow.Author.Tests.{eqb-true, eqb-false}
 use lib.Dec.{eqb}
-use lib.ListN.{length, take, drop, length-take, length-drop}
+use lib.ListN.{length, take, drop, length-map, length-take, length-drop}
 use Rattle.meaning.specs.Tokens as T
-use Rattle.meaning.specs.Tokens.{name, tokens}
+use Rattle.meaning.specs.Tokens.{name, foldedByte, folded, tokens}
 use Rattle.meaning.proofs.Readers.{begins, same-not}
 use Rattle.token.specs.declared.Token.{Token}
 use Rattle.token.specs.Tokens.{kindOf, tokenAt}
@@ -40,9 +40,9 @@ module _ {s : List ℕ} {at : ℕ} {u : Token} (v : Reads s at u) where
   pub name-length : (n : T.Name) → v .token ≡ name n → u .next - u .start ≡ length n
   name-length n q =
       let m : List ℕ = take (u .next - u .start) (drop (u .start) s) in
-      let e : name n ≡ name m = sym q ∙ v .named (sym (v .kind) ∙ ap kindOf q) in
-      let f : n ≡ m = cc in
-      omega (arith, v .moves, v .inside, ap length f, length-take (u .next - u .start) (drop (u .start) s), length-drop (u .start) s)
+      let e : name n ≡ name (folded m) = sym q ∙ v .named (sym (v .kind) ∙ ap kindOf q) in
+      let f : n ≡ folded m = cc in
+      omega (arith, v .moves, v .inside, ap length f, length-map m foldedByte, length-take (u .next - u .start) (drop (u .start) s), length-drop (u .start) s)
 
 -- the token t was passed
 pub record Goes (s : List ℕ) (at next : ℕ) (t : T.Token) : Type 0 where

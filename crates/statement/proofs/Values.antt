@@ -11,6 +11,8 @@ use native.Mathlib.Numerals.{add-one}
 use lib.IntN.{pos}
 use lib.ListN.{length, getD, replicate, take, drop, length-take, length-drop}
 use lib.Seq.{take-append-seam, take-take, take-all, getD-drop}
+use Rattle.lists.proofs.Lists.{map-take}
+use Rattle.meaning.specs.Tokens.{foldedByte, folded}
 use Rattle.meaning.specs.Grammar as G
 use Rattle.meaning.specs.Grammar.{Given, Term, nameOf}
 use Rattle.meaning.specs.Names.{position}
@@ -25,7 +27,7 @@ use Rattle.statement.specs.declared.Name.{Name}
 use Rattle.statement.specs.Compiled.{padded, nameStruct, noName, valueStruct, operandStruct}
 use Rattle.statement.specs.Built.{placeIn, placeNamed, shortName, shortGiven, shortColumn, shortTerm, sideOn, isConstant, rowsIn, rowsOn}
 use Rattle.statement.specs.declared.names.Scope.{Scope}
-use Rattle.statement.proofs.Walks.{rest, rest-cons}
+use Rattle.statement.proofs.Walks.{rest, length-first, map-rest}
 use Rattle.statement.proofs.Standing.{named-there, unnamed-there, given-there, mark-there, value-there}
 
 -- a name's struct read back
@@ -56,7 +58,7 @@ module _ (s : List ℕ) (p : ℕ) (r : Token) (e : r ≡ tokenAt s p) where
   -- ---- a name
 
   abbrev bytes : Token → List ℕ
-  bytes t = take (t .next - t .start) (drop (t .start) s)
+  bytes t = folded (take (t .next - t .start) (drop (t .start) s))
 
   pub token-order : (r .start ≤ r .next) × (r .next ≤ length s)
   token-order = rw e (start-next s p, next-inside s p)
@@ -121,10 +123,10 @@ module _ (s : List ℕ) (p : ℕ) (r : Token) (e : r ≡ tokenAt s p) where
 
 -- ---- the bytes of a name, at most twelve
 
-pub part-length : (s : List ℕ) (start n k : ℕ) → n ≡ min k 12 → start + k ≤ length s → length (take n (drop start s)) ≡ n
-part-length s start n k e h = length-take n (drop start s) ∙ omega (arith, length-drop start s)
+pub part-length : (s : List ℕ) (start n k : ℕ) → n ≡ min k 12 → start + k ≤ length s → length (folded (take n (drop start s))) ≡ n
+part-length s start n k e h = length-first foldedByte n (drop start s) (omega (arith, length-drop start s))
 
-pub take-short : (k n : ℕ) (l : List ℕ) → n ≡ min k 12 → take n l ≡ shortName (take k l)
+take-short : (k n : ℕ) (l : List ℕ) → n ≡ min k 12 → take n l ≡ shortName (take k l)
 take-short k n l e = go (decLe k 12)
   where
     go : Dec (k ≤ 12) → take n l ≡ shortName (take k l)
@@ -135,10 +137,13 @@ take-short k n l e = go (decLe k 12)
         let q : n ≡ 12 = omega arith in
         rw q (sym (take-take 12 k l (omega arith)))
 
-pub rest-byte : (s : List ℕ) (start n i : ℕ) → start + n ≤ length s → i < n → rest n i (drop start s) ≡ getD s (start + i) 0 ∷ rest n (i + 1) (drop start s)
-rest-byte s start n i h k =
-    rest-cons n i (drop start s) 0 (omega (arith, length-drop start s)) k
-    ∙ ap (λ (b : ℕ). b ∷ rest n (i + 1) (drop start s)) (getD-drop start s i 0)
+pub folded-short : (k n : ℕ) (l : List ℕ) → n ≡ min k 12 → folded (take n l) ≡ shortName (folded (take k l))
+folded-short k n l e = ap folded (take-short k n l e) ∙ map-take foldedByte 12 (take k l)
+
+pub rest-byte : (s : List ℕ) (start n i b : ℕ) → start + n ≤ length s → i < n → b ≡ foldedByte (getD s (start + i) 0)
+    → folded (rest n i (drop start s)) ≡ b ∷ folded (rest n (i + 1) (drop start s))
+rest-byte s start n i b h k e =
+    map-rest foldedByte n i (drop start s) 0 b (omega (arith, length-drop start s)) k (e ∙ ap foldedByte (sym (getD-drop start s i 0)))
 
 pub name-of : (bytes : List ℕ) (n : ℕ) (x : List ℕ) → bytes ≡ padded 12 0 x → n ≡ length x → record { bytes = bytes; len = n } ≡ nameStruct x
 name-of bytes n x e h i = record { bytes = e i; len = h i }

@@ -11,6 +11,7 @@ ghost use mathlib.Core.Path.{_≡_};
 ghost use mathlib.Core.List.{map};
 ghost use Prim.Native.Nat.{_-_, _*_, _≤_, _<_};
 ghost use lib.ListN.{length, take, drop, replicate};
+ghost use Rattle.meaning.specs.Tokens.{folded};
 ghost use Rattle.meaning.specs.Limits.{most-items};
 ghost use Rattle.token.specs.Tokens.{tokenAt};
 ghost use Rattle.meaning.specs.Statement.{numbered, operandOf};
@@ -20,16 +21,16 @@ ghost use Rattle.statement.specs.Catalog.{nameOfStruct};
 ghost use Rattle.statement.specs.Compiled.{padded, nameStruct, noName, valueStruct, operandStruct};
 ghost use Rattle.statement.specs.Built.{placeIn, placeNamed, shortName, shortNames, shortGiven, shortColumn, sideOn, columnsOn, isConstant, rowsIn, rowsOn};
 
-// The name from `start` up to `end`, at most twelve bytes of it.
+// The name from `start` up to `end` in small letters, at most twelve bytes of it. Nothing else takes a name's bytes from a text.
 fn name_from(text: &[u8], start: usize, end: usize) -> Name
     requires { ⌜ (start ≤ end) × (end ≤ length (now text)) ⌝ }
-    ensures { λ r. ⌜ r ≡ nameStruct (shortName (take (end - start) (drop start (now (text .entry))))) ⌝ }
+    ensures { λ r. ⌜ r ≡ nameStruct (shortName (folded (take (end - start) (drop start (now (text .entry)))))) ⌝ }
 {
     let n = names::least(end - start, Name::BYTES);
     let mut bytes = [0u8; Name::BYTES];
     let mut i = 0;
     while i < n {
-        bytes[i] = text[start + i];
+        bytes[i] = token::folded(text[start + i]);
         i += 1;
     }
     Name {

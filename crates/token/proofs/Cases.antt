@@ -1,7 +1,7 @@
 -- The token at a position, by the facts that each way through the code knows. Assumes nothing.
 use mathlib.Core.Path.{_≡_, refl, sym, ap, ap₂, _∙_}
 use mathlib.Core.Logic.{_≢_}
-use mathlib.Core.Bool.{Bool, true, false, cond, _&&_}
+use mathlib.Core.Bool.{Bool, true, false, cond, not, _&&_, _||_}
 use mathlib.Core.Option.{none, some}
 use mathlib.Core.List.{List, [], _∷_}
 use Prim.Native.Nat.{ℕ, _+_, _-_, _≤_, _<_}
@@ -13,15 +13,16 @@ use lib.IntN.{ℤ, pos, negℤ}
 use lib.ListN.{length, getD, drop, drop-of-length-le, length-drop, List·getD-eq-default}
 use lib.Seq.{drop-drop}
 use Rattle.lists.specs.Lists.{all, takeWhile, dropWhile}
-use Rattle.lists.proofs.Runs.{take-yes, drop-yes, run-length, take-run, drop-run}
+use Rattle.lists.proofs.Runs.{take-yes, drop-yes, run-length, run-all, take-run, drop-run}
 use Rattle.meaning.specs.Tokens as M
-use Rattle.meaning.specs.Tokens.{isDigit, isSmall, isNameByte, isWordByte, isSpace, isMinus, decimal, isName, name, constant, other, keywords, keywordIn, word, negative, signs, signIn, tokenFrom, tokenHere, firstToken}
+use Rattle.meaning.specs.Tokens.{isDigit, isSmall, isCapital, isNameByte, isWordByte, isSpace, isMinus, folded, decimal, isName, name, constant, other, keywords, keywordOr, isKeyword, word, negative, signs, signIn, tokenFrom, tokenHere, firstToken}
 use Rattle.meaning.proofs.Stream.{from-word, from-minus, from-sign}
+use Rattle.meaning.proofs.Folding.{name-begins, small-keyword}
 use Rattle.token.specs.declared.Token.{Token}
 use Rattle.token.specs.Tokens.{kindOf, made, tokenOf, tokenAt}
 use Rattle.token.specs.Parts.{part, pairOf, singleOf, readAt}
 use Rattle.token.proofs.Runs.{drop-here, length-zero}
-use Rattle.token.proofs.Words.{keyword-value, run-narrow, digit-word, name-word, name-is}
+use Rattle.token.proofs.Words.{keyword-value, keyword-or, keyword-kind, run-narrow, digit-word}
 use Rattle.token.proofs.Signs.{Found, sign-long, sign-short, sign-last}
 
 -- ---- runs
@@ -58,55 +59,89 @@ module _ (s : List ℕ) (at end : ℕ) (h : at < length s) (wb : isWordByte (get
   abbrev here : List ℕ
   here = part s at end
 
-  from-here : tokenFrom (getD s at 0) (drop (at + 1) s) ≡ (word here, dropWhile isWordByte (drop at s))
+  abbrev byte : ℕ
+  byte = getD s at 0
+
+  abbrev behind-byte : List ℕ
+  behind-byte = takeWhile isWordByte (drop (at + 1) s)
+
+  here-is : here ≡ byte ∷ behind-byte
+  here-is = part-run isWordByte s at end e ∙ ap (takeWhile isWordByte) (drop-here s at h) ∙ take-yes isWordByte byte (drop (at + 1) s) wb
+
+  from-here : tokenFrom byte (drop (at + 1) s) ≡ (word here, dropWhile isWordByte (drop at s))
   from-here =
-      let b = getD s at 0 in
       let v = drop (at + 1) s in
-      from-word b v wb
-      ∙ ap₂ (λ w left. (word w, left))
-      (sym (part-run isWordByte s at end e ∙ ap (takeWhile isWordByte) (drop-here s at h) ∙ take-yes isWordByte b v wb))
-      (sym (ap (dropWhile isWordByte) (drop-here s at h) ∙ drop-yes isWordByte b v wb))
+      from-word byte v wb
+      ∙ ap₂ (λ w left. (word w, left)) (sym here-is) (sym (ap (dropWhile isWordByte) (drop-here s at h) ∙ drop-yes isWordByte byte v wb))
 
   word-reads : tokenOf (word here) at end ≡ readAt s at
   word-reads =
       let l : at ≤ length s = omega arith in
       ap (tokenOf (word here) at) (sym (run-next isWordByte s at end e l)) ∙ reads s at (word here, dropWhile isWordByte (drop at s)) from-here
 
-  -- `digits`, `small` and `names` are what the code works out
+  -- `digits` is what the code works out
   digits-is : (digits : ℕ) → digits ≡ at + length (takeWhile isDigit (drop at s)) → all isDigit here ≡ eqb digits end
   digits-is digits d =
       ap (all isDigit) (part-run isWordByte s at end e) ∙ run-narrow isDigit isWordByte digit-word (drop at s) ∙ same-ends _ _ at digits end d e
 
-  pub names-is : (small : Bool) (names : ℕ) → small ≡ isSmall (getD s at 0) → names ≡ at + length (takeWhile isNameByte (drop at s)) → isName here ≡ (small && eqb names end)
-  names-is small names f n =
-      ap isName (part-run isWordByte s at end e ∙ ap (takeWhile isWordByte) (drop-here s at h))
-      ∙ name-is (getD s at 0) (drop (at + 1) s) wb
-      ∙ ap₂ _&&_ (sym f)
-      (ap (λ u. all isNameByte (takeWhile isWordByte u)) (sym (drop-here s at h)) ∙ run-narrow isNameByte isWordByte name-word (drop at s) ∙ same-ends _ _ at names end n e)
+  -- a word of these bytes is a name if it begins with a letter
+  named-is : isName (folded here) ≡ (isSmall byte || isCapital byte)
+  named-is = ap (λ (w : List ℕ). isName (folded w)) here-is ∙ name-begins byte behind-byte (run-all isWordByte (drop (at + 1) s))
+
+  -- what it is if it is no keyword, and the keyword's kind
+  abbrev named : M.Token
+  named = cond (isName (folded here)) (name (folded here)) other
+
+  abbrev key : ℕ
+  key = kindOf (keywordOr keywords other here)
+
+  named-yes : isName (folded here) ≡ true → named ≡ name (folded here)
+  named-yes n = ap (λ (x : Bool). cond x (name (folded here)) other) n
+
+  -- the token of a word that is not of digits, by its first byte and its keyword
+  by-small : isSmall byte ≡ true → keywordOr keywords named here ≡ name (folded here)
+  by-small f =
+      keyword-or keywords named here
+      ∙ ap (λ (x : Bool). cond x (keywordOr keywords other here) named) (ap isKeyword here-is ∙ small-keyword byte behind-byte f)
+      ∙ named-yes (named-is ∙ ap (λ (x : Bool). x || isCapital byte) f)
+
+  by-key : isSmall byte ≡ false → keywordOr keywords named here ≡ cond (eqb key 1 && isCapital byte) (name (folded here)) (keywordOr keywords other here)
+  by-key f = keyword-or keywords named here ∙ go (eqb key 1) (isCapital byte) (keyword-kind keywords here) (named-is ∙ ap (λ (x : Bool). x || isCapital byte) f)
+    where
+      go : (x y : Bool) → isKeyword here ≡ not x → isName (folded here) ≡ y
+          → cond (isKeyword here) (keywordOr keywords other here) named ≡ cond (x && y) (name (folded here)) (keywordOr keywords other here)
+      go false y q n = ap (λ (z : Bool). cond z (keywordOr keywords other here) named) q
+      go true true q n = ap (λ (z : Bool). cond z (keywordOr keywords other here) named) q ∙ named-yes n
+      go true false q n =
+          ap (λ (z : Bool). cond z (keywordOr keywords other here) named) q
+          ∙ ap (λ (z : Bool). cond z (name (folded here)) other) n
+          ∙ sym (keyword-or keywords other here ∙ ap (λ (z : Bool). cond z (keywordOr keywords other here) other) q)
+
+  -- its kind and its value
+  key-of : (x : Bool) → tokenOf (cond x (name (folded here)) (keywordOr keywords other here)) at end ≡ made (cond x 2 key) (pos 0) at end
+  unfolding tokenOf
+  key-of true = refl
+  key-of false = ap (λ (z : ℤ). made key z at end) (keyword-value keywords here)
 
   module _ (digits : ℕ) (d : digits ≡ at + length (takeWhile isDigit (drop at s))) where
     pub word-number : digits ≡ end → tokenOf (constant (pos (decimal here))) at end ≡ readAt s at
     unfolding word
     word-number q =
         let r : all isDigit here ≡ true = digits-is digits d ∙ eq-eqb digits end q in
-        ap (λ (b : Bool). tokenOf (cond b (constant (pos (decimal here))) (cond (isName here) (name here) (keywordIn keywords here))) at end) (sym r) ∙ word-reads
+        ap (λ (b : Bool). tokenOf (cond b (constant (pos (decimal here))) (keywordOr keywords named here)) at end) (sym r) ∙ word-reads
 
-    no-number : (digits ≡ end → ⊥) → tokenOf (cond (isName here) (name here) (keywordIn keywords here)) at end ≡ readAt s at
+    no-number : (digits ≡ end → ⊥) → tokenOf (keywordOr keywords named here) at end ≡ readAt s at
     unfolding word
     no-number q =
         let r : all isDigit here ≡ false = digits-is digits d ∙ ne-eqb digits end q in
-        ap (λ (b : Bool). tokenOf (cond b (constant (pos (decimal here))) (cond (isName here) (name here) (keywordIn keywords here))) at end) (sym r) ∙ word-reads
+        ap (λ (b : Bool). tokenOf (cond b (constant (pos (decimal here))) (keywordOr keywords named here)) at end) (sym r) ∙ word-reads
 
-    pub word-name : (digits ≡ end → ⊥) → isName here ≡ true → made 2 (pos 0) at end ≡ readAt s at
+    pub word-small : (digits ≡ end → ⊥) → isSmall byte ≡ true → made 2 (pos 0) at end ≡ readAt s at
     unfolding tokenOf
-    word-name q n = ap (λ (x : Bool). tokenOf (cond x (name here) (keywordIn keywords here)) at end) (sym n) ∙ no-number q
+    word-small q f = ap (λ (t : M.Token). tokenOf t at end) (sym (by-small f)) ∙ no-number q
 
-    pub word-key : (digits ≡ end → ⊥) → isName here ≡ false → made (kindOf (keywordIn keywords here)) (pos 0) at end ≡ readAt s at
-    unfolding tokenOf
-    word-key q n =
-        ap (λ (z : ℤ). made (kindOf (keywordIn keywords here)) z at end) (sym (keyword-value keywords here))
-        ∙ ap (λ (x : Bool). tokenOf (cond x (name here) (keywordIn keywords here)) at end) (sym n)
-        ∙ no-number q
+    pub word-key : (digits ≡ end → ⊥) → isSmall byte ≡ false → made (cond (eqb key 1 && isCapital byte) 2 key) (pos 0) at end ≡ readAt s at
+    word-key q f = sym (key-of (eqb key 1 && isCapital byte)) ∙ ap (λ (t : M.Token). tokenOf t at end) (sym (by-key f)) ∙ no-number q
 
 -- ---- a minus, and the word right after it
 

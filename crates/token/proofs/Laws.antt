@@ -19,11 +19,12 @@ use Rattle.lists.specs.Tests.{eqList}
 use Rattle.lists.proofs.Bools.{and-left, and-right}
 use Rattle.lists.proofs.Runs.{take-yes, drop-yes, drop-short, drop-twice, take-run, drop-run, run-length}
 use Rattle.meaning.specs.Tokens as M
-use Rattle.meaning.specs.Tokens.{Name, keyword, name, constant, other, isDigit, isWordByte, isSpace, isMinus, isName, decimal, Keyword, keywords, keywordIn, word, negative, signs, behindPrefix, signIn, tokenFrom, tokenHere, firstToken, tokens}
+use Rattle.meaning.specs.Tokens.{Name, keyword, name, constant, other, isDigit, isWordByte, isSpace, isMinus, isName, folded, decimal, Keyword, keywords, keywordOr, isKeyword, word, negative, signs, behindPrefix, signIn, tokenFrom, tokenHere, firstToken, tokens}
 use Rattle.meaning.proofs.Readers.{some-none, some-same}
 use Rattle.meaning.proofs.Stream.{from-word, from-minus, from-sign, sign-here, sign-later, first-shorter, first-spaces, tokens-none, tokens-some}
 use Rattle.token.specs.declared.Token.{Token}
 use Rattle.token.specs.Tokens.{kindOf, valueOf, tokenOf, tokenAt}
+use Rattle.token.proofs.Words.{keyword-or}
 use Rattle.token.proofs.Cases.{none-is, some-is, past-end}
 use Rattle.token.proofs.TokenKinds.{kind-some, kind-name}
 
@@ -88,11 +89,11 @@ here-ending (b ∷ u) x e = subst (λ (y : M.Token × List ℕ). Ending (b ∷ u
 -- ---- a name's bytes
 
 -- only a word that is a name has a name's kind
-keyword-no-name : (xs : List (String × Keyword)) (w : List ℕ) → kindOf (keywordIn xs w) ≢ 2
+keyword-no-name : (xs : List (String × Keyword)) (w : List ℕ) → kindOf (keywordOr xs other w) ≢ 2
 keyword-no-name [] w e = omega arith
 keyword-no-name (x ∷ xs) w e = go (eqList eqb w (bytes (x .0))) e (keyword-no-name xs w)
   where
-    go : (b : Bool) → kindOf (cond b (keyword (x .1)) (keywordIn xs w)) ≡ 2 → kindOf (keywordIn xs w) ≢ 2 → ⊥
+    go : (b : Bool) → kindOf (cond b (keyword (x .1)) (keywordOr xs other w)) ≡ 2 → kindOf (keywordOr xs other w) ≢ 2 → ⊥
     go true q ih = omega arith
     go false q ih = ih q
 
@@ -102,15 +103,22 @@ constant-no-name z e = constant-name z (kind-name (constant z) e)
     constant-name : (z : ℤ) → (n : Name) × (constant z ≡ name n) → ⊥
     constant-name z (n, q) = let r : _≡_ {A = ℕ} 0 1 = cc in omega arith
 
-word-name : (w : List ℕ) → kindOf (word w) ≡ 2 → word w ≡ name w
+word-name : (w : List ℕ) → kindOf (word w) ≡ 2 → word w ≡ name (folded w)
 unfolding word
-word-name w e = go (all isDigit w) (isName w) e
+word-name w e = by ∙ go (all isDigit w) (isKeyword w) (isName (folded w)) (sym (ap kindOf by) ∙ e)
   where
-    go : (d n : Bool) → kindOf (cond d (constant (pos (decimal w))) (cond n (name w) (keywordIn keywords w))) ≡ 2
-        → cond d (constant (pos (decimal w))) (cond n (name w) (keywordIn keywords w)) ≡ name w
-    go true n q = absurd (constant-no-name (pos (decimal w)) q)
-    go false true q = refl
-    go false false q = absurd (keyword-no-name keywords w q)
+    -- of digits, a keyword, a name
+    token : Bool → Bool → Bool → M.Token
+    token d k n = cond d (constant (pos (decimal w))) (cond k (keywordOr keywords other w) (cond n (name (folded w)) other))
+
+    by : word w ≡ token (all isDigit w) (isKeyword w) (isName (folded w))
+    by = ap (cond (all isDigit w) (constant (pos (decimal w)))) (keyword-or keywords _ w)
+
+    go : (d k n : Bool) → kindOf (token d k n) ≡ 2 → token d k n ≡ name (folded w)
+    go true k n q = absurd (constant-no-name (pos (decimal w)) q)
+    go false true n q = absurd (keyword-no-name keywords w q)
+    go false false true q = refl
+    go false false false q = absurd (omega arith)
 
 negative-no-name : (w : List ℕ) → kindOf (negative w) ≢ 2
 unfolding negative
@@ -135,30 +143,30 @@ sign-no-name (x ∷ xs) b u h e = go (behindPrefix (bytes (x .0)) (b ∷ u)) ref
         eqb-false (kindOf (x .1)) 2 (not-true (eqb (kindOf (x .1)) 2) (and-left (isPlain x) (all isPlain xs) h))
         (sym (ap (λ (y : M.Token × List ℕ). kindOf (y .0)) (sign-here x xs b u left q)) ∙ e)
 
--- a name is the run of word bytes from its first byte on
-name-run : (b : ℕ) (u : List ℕ) → kindOf (tokenFrom b u .0) ≡ 2 → tokenFrom b u ≡ (name (takeWhile isWordByte (b ∷ u)), dropWhile isWordByte (b ∷ u))
+-- a name is the run of word bytes from its first byte on, in small letters
+name-run : (b : ℕ) (u : List ℕ) → kindOf (tokenFrom b u .0) ≡ 2 → tokenFrom b u ≡ (name (folded (takeWhile isWordByte (b ∷ u))), dropWhile isWordByte (b ∷ u))
 name-run b u k = go (isWordByte b) (isMinus b) refl refl
   where
     kinds : (x : M.Token × List ℕ) → tokenFrom b u ≡ x → kindOf (x .0) ≡ 2
     kinds x e = sym (ap (λ (y : M.Token × List ℕ). kindOf (y .0)) e) ∙ k
 
-    go : (w m : Bool) → isWordByte b ≡ w → isMinus b ≡ m → tokenFrom b u ≡ (name (takeWhile isWordByte (b ∷ u)), dropWhile isWordByte (b ∷ u))
+    go : (w m : Bool) → isWordByte b ≡ w → isMinus b ≡ m → tokenFrom b u ≡ (name (folded (takeWhile isWordByte (b ∷ u))), dropWhile isWordByte (b ∷ u))
     go true m e f =
         let w = b ∷ takeWhile isWordByte u in
         from-word b u e
-        ∙ ap₂ (λ t left. (t, left)) (word-name w (kinds (word w, dropWhile isWordByte u) (from-word b u e)) ∙ ap name (sym (take-yes isWordByte b u e))) (sym (drop-yes isWordByte b u e))
+        ∙ ap₂ (λ t left. (t, left)) (word-name w (kinds (word w, dropWhile isWordByte u) (from-word b u e)) ∙ ap (λ (v : List ℕ). name (folded v)) (sym (take-yes isWordByte b u e))) (sym (drop-yes isWordByte b u e))
     go false true e f = absurd (negative-no-name (takeWhile isWordByte u) (kinds (negative (takeWhile isWordByte u), dropWhile isWordByte u) (from-minus b u e f)))
     go false false e f = absurd (sign-no-name signs b u refl (kinds (signIn signs b u) (from-sign b u e f)))
 
 -- its bytes are those from its start up to its end
-name-bytes : (u : List ℕ) (x : M.Token × List ℕ) → tokenHere u ≡ some x → kindOf (x .0) ≡ 2 → x .0 ≡ name (take (length u - length (x .1)) u)
+name-bytes : (u : List ℕ) (x : M.Token × List ℕ) → tokenHere u ≡ some x → kindOf (x .0) ≡ 2 → x .0 ≡ name (folded (take (length u - length (x .1)) u))
 name-bytes [] x e k = some-none (sym e)
 name-bytes (b ∷ u) x e k =
     let v = b ∷ u in
     let y : tokenFrom b u ≡ x = some-same e in
-    let r : x ≡ (name (takeWhile isWordByte v), dropWhile isWordByte v) = sym y ∙ name-run b u (ap (λ (z : M.Token × List ℕ). kindOf (z .0)) y ∙ k) in
+    let r : x ≡ (name (folded (takeWhile isWordByte v)), dropWhile isWordByte v) = sym y ∙ name-run b u (ap (λ (z : M.Token × List ℕ). kindOf (z .0)) y ∙ k) in
     let l : length v - length (x .1) ≡ length (takeWhile isWordByte v) = omega (arith, ap (λ (z : M.Token × List ℕ). length (z .1)) r, run-length isWordByte v) in
-    ap (λ (z : M.Token × List ℕ). z .0) r ∙ ap name (sym (take-run isWordByte v) ∙ ap (λ n. take n v) (sym l))
+    ap (λ (z : M.Token × List ℕ). z .0) r ∙ ap (λ (w : List ℕ). name (folded w)) (sym (take-run isWordByte v) ∙ ap (λ n. take n v) (sym l))
 
 -- ---- the token's place
 
@@ -202,13 +210,13 @@ module _ (s : List ℕ) (at : ℕ) (x : M.Token × List ℕ) (e : firstToken (dr
       let d = drop-short isSpace (drop at s) in
       omega (arith, length-drop at s)
 
-  name-here : kindOf (x .0) ≡ 2 → x .0 ≡ name (take (next - start) (drop start s))
+  name-here : kindOf (x .0) ≡ 2 → x .0 ≡ name (folded (take (next - start) (drop start s)))
   unfolding firstToken
   name-here k =
       let d = drop-short isSpace (drop at s) in
       let l = first-shorter body (x .0) (x .1) body-first in
       let q : length body - length (x .1) ≡ next - start = omega (arith, length-drop at s) in
-      name-bytes body x e k ∙ ap name (ap₂ take q body-is)
+      name-bytes body x e k ∙ ap (λ (w : List ℕ). name (folded w)) (ap₂ take q body-is)
 
 -- what the token that is read from `at` on says of the text
 pub record Reads (s : List ℕ) (at : ℕ) (r : Token) : Type 0 where
@@ -222,7 +230,7 @@ pub record Reads (s : List ℕ) (at : ℕ) (r : Token) : Type 0 where
   pub inside : r .next ≤ length s
   -- it starts at `start`, and ends before `next`
   pub here : firstToken (drop (r .start) s) ≡ some (token, drop (r .next) s)
-  pub named : r .kind ≡ 2 → token ≡ name (take (r .next - r .start) (drop (r .start) s))
+  pub named : r .kind ≡ 2 → token ≡ name (folded (take (r .next - r .start) (drop (r .start) s)))
 
 module _ (s : List ℕ) (at : ℕ) where
   reads-at : (x : M.Token × List ℕ) → firstToken (drop at s) ≡ some x → Reads s at (tokenAt s at)

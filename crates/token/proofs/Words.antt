@@ -1,6 +1,6 @@
--- Laws of words: their bytes as one number, which words are keywords, names and constants. Assumes nothing.
+-- Laws of words: their bytes as one number, which words are keywords and constants. Assumes nothing.
 use mathlib.Core.Path.{_≡_, refl, sym, ap, ap₂, _∙_}
-use mathlib.Core.Bool.{Bool, true, false, cond, _&&_, _||_, and-false, or-true}
+use mathlib.Core.Bool.{Bool, true, false, cond, not, _&&_, _||_, and-false, or-true}
 use mathlib.Core.List.{List, [], _∷_, _++_}
 use Prim.Native.Nat.{ℕ, suc, _+_, _-_, _*_, _^_, _≤_, _<_}
 use Prim.Native.String.{String}
@@ -12,12 +12,11 @@ use lib.Dec.{ltb, leb, eqb, eqb·zero-suc, eqb·suc-suc, eqb→eq, eqb-refl, lit
 use lib.IntN.{pos}
 use lib.ListN.{length, getD, drop, length-take, length-drop}
 use lib.Seq.{take-suc, getD-drop}
-use Rattle.lists.specs.Lists.{bytes, all, All, nil, cons, takeWhile}
+use Rattle.lists.specs.Lists.{bytes, all, any, All, nil, cons, takeWhile}
 use Rattle.lists.specs.Tests.{eqList, eqList→eq, eqList-refl}
 use Rattle.lists.proofs.Bools.{clash, contra, and-left, and-right, and-both, T→true, true→T}
 use Rattle.lists.proofs.Lists.{All-head, All-tail, All-map, All-take, all-true}
-use Rattle.lists.proofs.Runs.{take-yes}
-use Rattle.meaning.specs.Tokens.{Keyword, keyword, keywordIn, isDigit, isSmall, isCapital, isNameByte, isWordByte, isName}
+use Rattle.meaning.specs.Tokens.{Token, Keyword, keyword, other, keywordOr, isDigit, isSmall, isCapital, isNameByte, isWordByte}
 use Rattle.token.specs.Tokens.{kindOf, valueOf}
 use Rattle.token.specs.Parts.{part, packedOn, packedOf, kindAmong}
 
@@ -100,7 +99,7 @@ all-bytes : (w : List ℕ) → all (λ (b : ℕ). ltb b 256) w ≡ true → Byte
 all-bytes w h = All-map (λ b e. ltb-true b 256 e) (all-true (λ (b : ℕ). ltb b 256) w h)
 
 -- a keyword is told by its length and its number
-pub among-is : (xs : List (String × Keyword)) (w : List ℕ) → all shorts xs ≡ true → Bytes w → kindAmong xs (length w) (packedOf w) ≡ kindOf (keywordIn xs w)
+pub among-is : (xs : List (String × Keyword)) (w : List ℕ) → all shorts xs ≡ true → Bytes w → kindAmong xs (length w) (packedOf w) ≡ kindOf (keywordOr xs other w)
 among-is [] w h k = refl
 among-is (x ∷ xs) w h k =
     let v = bytes (x .0) in
@@ -109,26 +108,50 @@ among-is (x ∷ xs) w h k =
     ap (λ (b : Bool). cond b (kindOf (keyword (x .1))) (kindAmong xs (length w) (packedOf w))) (sym q)
     ∙ go (eqList eqb w v) (among-is xs w (and-right (shorts x) (all shorts xs) h) k)
   where
-    go : (b : Bool) → kindAmong xs (length w) (packedOf w) ≡ kindOf (keywordIn xs w)
-        → cond b (kindOf (keyword (x .1))) (kindAmong xs (length w) (packedOf w)) ≡ kindOf (cond b (keyword (x .1)) (keywordIn xs w))
+    go : (b : Bool) → kindAmong xs (length w) (packedOf w) ≡ kindOf (keywordOr xs other w)
+        → cond b (kindOf (keyword (x .1))) (kindAmong xs (length w) (packedOf w)) ≡ kindOf (cond b (keyword (x .1)) (keywordOr xs other w))
     go true e = refl
     go false e = e
 
 -- and a word of more than six bytes is none
-pub long-word : (xs : List (String × Keyword)) (w : List ℕ) → all shorts xs ≡ true → 6 < length w → kindOf (keywordIn xs w) ≡ 1
+pub long-word : (xs : List (String × Keyword)) (w : List ℕ) → all shorts xs ≡ true → 6 < length w → kindOf (keywordOr xs other w) ≡ 1
 long-word [] w h k = refl
 long-word (x ∷ xs) w h k =
     let v = bytes (x .0) in
     let p = leb-true (length v) 6 (and-left (leb (length v) 6) _ (and-left (shorts x) (all shorts xs) h)) in
     let q : eqList eqb w v ≡ false = same-lengths w v (λ e. omega arith) in
-    ap (λ (b : Bool). kindOf (cond b (keyword (x .1)) (keywordIn xs w))) q ∙ long-word xs w (and-right (shorts x) (all shorts xs) h) k
+    ap (λ (b : Bool). kindOf (cond b (keyword (x .1)) (keywordOr xs other w))) q ∙ long-word xs w (and-right (shorts x) (all shorts xs) h) k
 
-pub keyword-value : (xs : List (String × Keyword)) (w : List ℕ) → valueOf (keywordIn xs w) ≡ pos 0
+pub keyword-value : (xs : List (String × Keyword)) (w : List ℕ) → valueOf (keywordOr xs other w) ≡ pos 0
 keyword-value [] w = refl
 keyword-value (x ∷ xs) w = go (eqList eqb w (bytes (x .0))) (keyword-value xs w)
   where
-    go : (b : Bool) → valueOf (keywordIn xs w) ≡ pos 0 → valueOf (cond b (keyword (x .1)) (keywordIn xs w)) ≡ pos 0
+    go : (b : Bool) → valueOf (keywordOr xs other w) ≡ pos 0 → valueOf (cond b (keyword (x .1)) (keywordOr xs other w)) ≡ pos 0
     go true h = refl
+    go false h = h
+
+-- whether a word is one of the keywords
+abbrev pub isAmong : List (String × Keyword) → List ℕ → Bool
+isAmong xs w = any (λ (x : String × Keyword). eqList eqb w (bytes (x .0))) xs
+
+-- another token is looked at only where it is none of them
+pub keyword-or : (xs : List (String × Keyword)) (t : Token) (w : List ℕ) → keywordOr xs t w ≡ cond (isAmong xs w) (keywordOr xs other w) t
+keyword-or [] t w = refl
+keyword-or (x ∷ xs) t w = go (eqList eqb w (bytes (x .0))) (keyword-or xs t w)
+  where
+    go : (b : Bool) → keywordOr xs t w ≡ cond (isAmong xs w) (keywordOr xs other w) t
+        → cond b (keyword (x .1)) (keywordOr xs t w) ≡ cond (b || isAmong xs w) (cond b (keyword (x .1)) (keywordOr xs other w)) t
+    go true h = refl
+    go false h = h
+
+-- which its kind tells
+pub keyword-kind : (xs : List (String × Keyword)) (w : List ℕ) → isAmong xs w ≡ not (eqb (kindOf (keywordOr xs other w)) 1)
+keyword-kind [] w = refl
+keyword-kind (x ∷ xs) w = go (eqList eqb w (bytes (x .0))) (keyword-kind xs w)
+  where
+    go : (b : Bool) → isAmong xs w ≡ not (eqb (kindOf (keywordOr xs other w)) 1)
+        → (b || isAmong xs w) ≡ not (eqb (kindOf (cond b (keyword (x .1)) (keywordOr xs other w))) 1)
+    go true h = sym (ap not (ne-eqb (kindOf (keyword (x .1))) 1 (λ e. omega arith)))
     go false h = h
 
 -- the bytes of a part of a text
@@ -139,7 +162,7 @@ all-below (b ∷ s) h = cons (h 0) (all-below s (λ i. h (suc i)))
 pub part-bytes : (s : List ℕ) (at end : ℕ) → ((i : ℕ) → getD s i 0 < 256) → Bytes (part s at end)
 part-bytes s at end h = All-take (end - at) (all-below (drop at s) (λ i. rw (getD-drop at s i 0) (h (at + i))))
 
--- ---- which words are constants, and which are names
+-- ---- which words are constants
 
 module _ (p q : ℕ → Bool) (imply : (b : ℕ) → p b ≡ true → q b ≡ true) where
   -- all bytes of a run pass a narrower test exactly if the narrower run is as long
@@ -154,10 +177,6 @@ module _ (p q : ℕ → Bool) (imply : (b : ℕ) → p b ≡ true → q b ≡ tr
       go false true e f h = ap (λ (z : Bool). z && all p (takeWhile q u)) e ∙ sym (eqb·zero-suc (length (takeWhile q u)))
       go false false e f h = refl
 
-pub small-name : (b : ℕ) → isSmall b ≡ true → isNameByte b ≡ true
-unfolding isNameByte
-small-name b e = ap (λ (x : Bool). x || (isDigit b || eqb b 95)) e
-
 pub name-word : (b : ℕ) → isNameByte b ≡ true → isWordByte b ≡ true
 unfolding isWordByte
 name-word b e = ap (λ (x : Bool). x || isCapital b) e
@@ -165,15 +184,3 @@ name-word b e = ap (λ (x : Bool). x || isCapital b) e
 pub digit-word : (b : ℕ) → isDigit b ≡ true → isWordByte b ≡ true
 unfolding isNameByte
 digit-word b e = name-word b (ap (λ (x : Bool). isSmall b || (x || eqb b 95)) e ∙ or-true (isSmall b))
-
-module _ (b : ℕ) (v : List ℕ) (h : isWordByte b ≡ true) where
-  abbrev pub run : List ℕ
-  run = takeWhile isWordByte (b ∷ v)
-
-  pub name-is : isName run ≡ (isSmall b && all isNameByte run)
-  unfolding isName
-  name-is = rw (take-yes isWordByte b v h) (go (isSmall b) refl)
-    where
-      go : (x : Bool) → isSmall b ≡ x → (x && all isNameByte (takeWhile isWordByte v)) ≡ (x && (isNameByte b && all isNameByte (takeWhile isWordByte v)))
-      go true e = ap (λ (y : Bool). y && all isNameByte (takeWhile isWordByte v)) (sym (small-name b e))
-      go false e = refl

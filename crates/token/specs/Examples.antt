@@ -4,7 +4,7 @@ use mathlib.Core.List.{List, [], _∷_, map}
 use Prim.Native.String.{String}
 use lib.IntN.{pos, negℤ}
 use Rattle.lists.specs.Lists.{bytes}
-use Rattle.meaning.specs.Tokens.{isNameByte, isWordByte, decimal, isName, word, negative, tokenFrom, firstToken}
+use Rattle.meaning.specs.Tokens.{isNameByte, isWordByte, foldedByte, decimal, isName, word, negative, tokenFrom, firstToken}
 use Rattle.token.specs.declared.Token.{Token}
 use Rattle.token.specs.Tokens.{made, tokenOf, tokenAt}
 
@@ -13,7 +13,12 @@ abbrev table : List (String × Token)
 table =
     ("  ", made 0 (pos 0) 2 2)
     ∷ (" a_1<>", made 2 (pos 0) 1 4)
-    ∷ ("aB ", made 1 (pos 0) 0 2)
+    ∷ ("aB ", made 2 (pos 0) 0 2)
+    ∷ ("Table", made 2 (pos 0) 0 5)
+    ∷ ("TABLE", made 15 (pos 0) 0 5)
+    ∷ ("ROWS3", made 2 (pos 0) 0 5)
+    ∷ ("_A", made 1 (pos 0) 0 2)
+    ∷ ("1A", made 1 (pos 0) 0 2)
     ∷ ("007)", made 3 (pos 7) 0 3)
     ∷ ("2147483648", made 4 (pos 0) 0 10)
     ∷ ("-2147483648", made 3 (negℤ (pos 2147483648)) 0 11)
@@ -21,7 +26,7 @@ table =
     ∷ ("<>1", made 10 (pos 0) 0 2)
     ∷ ("<", made 11 (pos 0) 0 1)
     ∷ ("NOT(", made 28 (pos 0) 0 3)
-    ∷ ("WHEREVER", made 1 (pos 0) 0 8)
+    ∷ ("WHEREVER", made 2 (pos 0) 0 8)
     ∷ (" .a", made 29 (pos 0) 1 2)
     ∷ ("a.b", made 2 (pos 0) 0 1)
     ∷ []
@@ -29,3 +34,7 @@ table =
 pub examples : map (λ (x : String × Token). tokenAt (bytes (x .0)) 0) table ≡ map (λ (x : String × Token). x .1) table
 unfolding tokenAt tokenOf firstToken tokenFrom word negative decimal isName isNameByte isWordByte
 examples = refl
+
+-- the ends of the capitals, and the underscore between them and the small letters
+pub folding : map foldedByte (64 ∷ 65 ∷ 90 ∷ 91 ∷ 95 ∷ []) ≡ 64 ∷ 97 ∷ 122 ∷ 91 ∷ 95 ∷ []
+folding = refl

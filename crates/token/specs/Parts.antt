@@ -7,13 +7,13 @@ use lib.Dec.{eqb}
 use lib.IntN.{ℤ, pos, negℤ}
 use lib.ListN.{length, getD, take, drop}
 use Rattle.lists.specs.Lists.{bytes}
-use Rattle.meaning.specs.Tokens.{Keyword, keyword, isDigit, isNameByte, isWordByte, isSpace, tokenFrom}
+use Rattle.meaning.specs.Tokens.{Keyword, keyword, isDigit, isWordByte, isSpace, tokenFrom}
 use Rattle.token.specs.declared.Token.{Token}
 use Rattle.token.specs.Tokens.{kindOf, tokenOf}
 
--- the byte b belongs to a run of the kind k: spaces, digits, the bytes of names, the bytes of words
+-- the byte b belongs to a run of the kind k: spaces, digits, the bytes of words
 abbrev pub passes : ℕ → ℕ → Bool
-passes k b = cond (eqb k 0) (isSpace b) (cond (eqb k 1) (isDigit b) (cond (eqb k 2) (isNameByte b) (isWordByte b)))
+passes k b = cond (eqb k 0) (isSpace b) (cond (eqb k 1) (isDigit b) (isWordByte b))
 
 -- the bytes of s from `at` up to `end`
 abbrev pub part : List ℕ → ℕ → ℕ → List ℕ

@@ -5,7 +5,7 @@ ghost use Prim.Native.Nat.{_+_, _-_, _*_, _≤_, _<_, min};
 ghost use lib.IntN.{pos, negℤ};
 ghost use lib.ListN.{length, getD, drop};
 ghost use Rattle.lists.specs.Lists.{takeWhile};
-ghost use Rattle.meaning.specs.Tokens.{isDigit, isSmall, isCapital, isNameByte, isWordByte, isMinus, decimal, constant as constantToken, keywords, keywordIn};
+ghost use Rattle.meaning.specs.Tokens.{isDigit, isSmall, isCapital, isNameByte, isWordByte, isMinus, foldedByte, decimal, constant as constantToken, other, keywords, keywordOr};
 ghost use Rattle.token.specs.Tokens.{kindOf, made, tokenOf, tokenAt};
 ghost use Rattle.token.specs.Parts.{passes as passesTest, part, signed, packedOf, kindAmong, pairOf, singleOf, readAt};
 
@@ -22,7 +22,7 @@ impl Token {
     pub const END: u8 = 0;
     // It belongs to no sentence.
     pub const OTHER: u8 = 1;
-    // The name's bytes stand from `start` up to `next`.
+    // The name's bytes, in either case, stand from `start` up to `next`.
     pub const NAME: u8 = 2;
     // A constant within 32 bits, and one outside.
     pub const CONSTANT: u8 = 3;
@@ -85,9 +85,7 @@ const SPACES: u8 = 0;
 
 const DIGITS: u8 = 1;
 
-const NAMES: u8 = 2;
-
-const WORDS: u8 = 3;
+const WORDS: u8 = 2;
 
 // A token that is no constant.
 fn plain(kind: u8, start: usize, next: usize) -> Token
@@ -133,6 +131,13 @@ fn is_word_byte(b: u8) -> bool
     is_name_byte(b) | is_capital(b)
 }
 
+// A capital letter as a small one, and any other byte as it is: names are the same in either case.
+pub fn folded(b: u8) -> u8
+    ensures { λ r. ⌜ r ≡ foldedByte b ⌝ }
+{
+    if is_capital(b) { b + 32 } else { b }
+}
+
 // Whether a byte belongs to a run of the kind k.
 fn passes(k: u8, b: u8) -> bool
     ensures { λ r. ⌜ r ≡ passesTest k b ⌝ }
@@ -142,9 +147,6 @@ fn passes(k: u8, b: u8) -> bool
     }
     if k == DIGITS {
         return is_digit(b);
-    }
-    if k == NAMES {
-        return is_name_byte(b);
     }
     is_word_byte(b)
 }
@@ -289,10 +291,10 @@ fn any_keyword(n: usize, w: u64) -> u8
     either((n == 5) & (w == 0x5441424C45), Token::TABLE, k)
 }
 
-// The kind of a word that is no name and no constant. No keyword has more than six bytes.
+// The keyword that a word is, or none. No keyword has more than six bytes.
 fn keyword(text: &[u8], at: usize, end: usize) -> u8
     requires { ⌜ (at ≤ end) × (end ≤ length (now text)) ⌝ }
-    ensures { λ r. ⌜ r ≡ kindOf (keywordIn keywords (part (now (text .entry)) at end)) ⌝ }
+    ensures { λ r. ⌜ r ≡ kindOf (keywordOr keywords other (part (now (text .entry)) at end)) ⌝ }
 {
     let n = end - at;
     if n <= 6 {
@@ -301,7 +303,7 @@ fn keyword(text: &[u8], at: usize, end: usize) -> u8
     Token::OTHER
 }
 
-// The word that starts at `at`.
+// The word that starts at `at`: a constant, a keyword, or a name, which begins with a letter. No keyword begins with a small one.
 fn word(text: &[u8], at: usize) -> Token
     requires { ⌜ (at < length (now text)) × (isWordByte (getD (now text) at 0) ≡ true) ⌝ }
     ensures { λ r. ⌜ r ≡ readAt (now (text .entry)) at ⌝ }
@@ -310,10 +312,13 @@ fn word(text: &[u8], at: usize) -> Token
     if run_end(text, at, DIGITS) == end {
         return constant(false, digits(text, at, end), at, end);
     }
-    if is_small(text[at]) & (run_end(text, at, NAMES) == end) {
+    let b = text[at];
+    if is_small(b) {
         return plain(Token::NAME, at, end);
     }
-    plain(keyword(text, at, end), at, end)
+    let k = keyword(text, at, end);
+    let kind = either((k == Token::OTHER) & is_capital(b), Token::NAME, k);
+    plain(kind, at, end)
 }
 
 // The minus at `at`, and the word right after it.

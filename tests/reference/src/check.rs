@@ -1,4 +1,5 @@
-//! The reference itself on document 01's examples, and on examples of questions over two tables worked out by hand.
+//! The reference itself on document 01's examples, and on examples worked out by hand: questions over two tables, and
+//! names in capitals.
 
 use crate::front::{Front, Mode};
 use crate::pattern::{patterns, Place};
@@ -250,6 +251,97 @@ SELECT stage.level FROM stage, stage => refused 15
 DELETE FROM rating WHERE site = flow => update 0 delete 1 marks 0 if c0=c2
 ";
 
+/// Names in capitals (A.2). RING and NULL are names until requests A.4 and A.5 make them keywords: then another name goes
+/// into the third line, and the last three show the keywords.
+const KEYPAD: &str = "ADD TABLE STAGE (SITE, Level_2) ROWS 3 => table 0
+ADD TABLE stage (a) ROWS 1 => refused 7
+ADD TABLE Table (Select, RING) ROWS 1 => table 1
+ADD TABLE T (A, a) ROWS 1 => refused 7
+ADD TABLE T (ROWS3) ROWS 1 => table 2
+ADD SELECT SITE FROM Stage Where SITE = 1 => refused 4
+ADD SELECT site, LEVEL_2 FROM sTAGE WHERE Site = ? => query 0
+ADD UPDATE stage SET Site = 1, SITE = 2 => refused 7
+ADD INSERT INTO STAGE VALUES (?, ?) => update 0
+ADD select a FROM t => refused 4
+ADD DELETE FROM TABLE => refused 4
+ADD DELETE FROM Table WHERE select = 1 => update 1
+ADD TABLE u (_A) ROWS 1 => refused 4
+ADD TABLE u (1A) ROWS 1 => refused 4
+ADD TABLE ABCDEFGHIJKLM (a) ROWS 1 => refused 5
+ADD SELECT stage.SITE FROM stage, Stage => refused 15
+ADD SELECT STAGE.site, t.ROWS3 FROM Stage, T => query 1
+DO 0 7 120 => rows 1 dropped 0
+DO 0 8 95 => rows 1 dropped 0
+ASK 0 7 => new read 2 : 7 120
+ADD INSERT INTO t VALUES (?) => update 2
+DO 2 3 => rows 1 dropped 0
+ASK 1 => new read 4 : 7 3 / 8 3
+ADD UPDATE STAGE SET LEVEL_2 = ? WHERE SITE = ? => update 3
+DO 3 121 7 => rows 1 dropped 1
+ASK 0 7 => new read 2 : 7 121
+ASK 1 => kept read 0 : 7 3 / 8 3
+ADD TABLE ABCDEFGHIJKL (A1) ROWS 1 => table 3
+ADD TABLE abcdefghijkL (A1) ROWS 1 => refused 7
+ADD TABLE abcdefghijkL (A1) ROWS 513 => refused 5
+ADD DELETE FROM AbcDefGhiJkl WHERE a1 = A1 => update 4
+ADD SELECT LEVEL2 FROM STAGE => refused 6
+ADD SELECT T.SITE FROM T, STAGE => refused 6
+ADD SELECT SITE FROM T, STAGE => refused 4
+ADD SELECT STAGE.NIL FROM STAGE, stage => refused 6
+ADD SELECT ABCDEFGHIJKL.A1 FROM STAGE, stage => refused 6
+ADD UPDATE STAGE SET SITE = 1, site = 2 WHERE NIL = 1 => refused 6
+ADD UPDATE STAGE SET SITE = Level_2 => refused 4
+ADD INSERT INTO Stage VALUES (1) => refused 8
+ADD INSERT INTO Stage Values (1, 2) => refused 4
+ADD SELECT SELECT FROM Table => refused 4
+ADD SELECT SELEcT FROM TABLe => query 2
+ADD SELECT SITE FROM STAGE WHERE NOt SITE = 1 => refused 4
+ADD SELECT SITE FROM STAGE WHERE NOt = 1 => refused 6
+ADD SELECT SITE FROM STAGE WHERE SITE = 1 And SITE = 2 => refused 4
+ADD SELECT SITE FROM STAGE WHERE SITE = 1AND SITE = 2 => refused 4
+ADD TABLE u (a) Rows 1 => refused 4
+ADD TABLE u (a) ROWS3 => refused 4
+ADD TABLE ROWS (a) ROWS 1 => refused 4
+ADD SELECT Ring FROM TAble => query 3
+ADD SELECT NULL FROM STAGE => refused 6
+ADD TABLE NULL (RING, Null) ROWS 1 => table 4
+";
+
+/// The lines of `KEYPAD`, for the generator.
+pub fn keypad_lines() -> impl Iterator<Item = &'static str> {
+    KEYPAD.lines().map(|line| line.split_once(" => ").expect("each line has two sides").0)
+}
+
+/// Names in capitals: states that are sound or not. A state's names are in small letters. 65 is `A`, 97 `a`, 99 `c`, 82
+/// `R`, 114 `r`, 120 `x`, 121 `y`.
+const KEYPAD_STATES: &str = "OPEN 64 64 4 16 => opened
+ADD TABLE a (x, Y) ROWS 4 => table 0
+ADD TABLE B (X) ROWS 4 => table 1
+ADD TABLE Or (o, Ar) ROWS 4 => table 2
+SPOIL name 0 0 65 => refused 2
+SPOIL name 0 0 97 => flushed
+SPOIL name 0 0 99 => flushed
+SPOIL name 1 0 66 => refused 2
+SPOIL name 1 0 98 => flushed
+SPOIL name 1 0 97 => refused 2
+SPOIL name 1 0 67 => refused 2
+SPOIL name 1 0 99 => flushed
+SPOIL name 1 0 95 => refused 2
+SPOIL name 2 1 114 => flushed
+SPOIL name 2 1 82 => refused 2
+SPOIL name 2 1 49 => flushed
+SPOIL name 2 0 79 => refused 2
+SPOIL name 2 0 111 => flushed
+SPOIL column 0 0 0 121 => refused 2
+SPOIL column 0 0 0 89 => refused 2
+SPOIL column 0 1 0 89 => refused 2
+SPOIL column 0 1 0 120 => refused 2
+SPOIL column 0 1 0 121 => flushed
+SPOIL column 2 1 0 79 => refused 2
+SPOIL column 2 1 0 111 => flushed
+SPOIL column 2 1 1 82 => refused 2
+";
+
 /// Left the line, right what it prints.
 fn prints(name: &str, table: &str, mut answer: impl FnMut(&[u8]) -> Option<String>) -> bool {
     let mut held = true;
@@ -427,5 +519,8 @@ pub fn check() -> bool {
     ];
     let pairs_held = pairs.iter().filter(|&&held| held).count();
     println!("examples over two tables: {pairs_held} of {} lists hold of the reference", pairs.len());
-    held == results.len() && pairs_held == pairs.len()
+    let names = [lines_hold(Mode::Desk, KEYPAD), lines_hold(Mode::Calls, KEYPAD_STATES)];
+    let names_held = names.iter().filter(|&&held| held).count();
+    println!("examples of names in capitals: {names_held} of {} lists hold of the reference", names.len());
+    held == results.len() && pairs_held == pairs.len() && names_held == names.len()
 }

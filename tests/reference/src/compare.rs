@@ -184,6 +184,9 @@ impl Tally {
         for (what, n) in &made.pairs {
             self.add(&format!("over two tables: {what}"), *n);
         }
+        for (what, n) in &made.names {
+            self.add(&format!("text: {what}"), *n);
+        }
     }
 
     pub fn print(&self) {

@@ -1,8 +1,9 @@
 //! Random scripts. A seed gives a profile and then the lines; the reference runs along, so that most lines can be
 //! biased to be taken (existing tables, columns, marks, keys kept, buffers that just fit).
 
+use crate::check::keypad_lines;
 use crate::front::{Front, Mode, BUFFER, CALLS_BYTES};
-use crate::text::{Catalogue, Change, Statement};
+use crate::text::{is_name, same_name, Change, KEYWORDS};
 use std::collections::BTreeMap;
 
 pub struct Random(u64);
@@ -38,6 +39,14 @@ impl Random {
 
     fn pick<T: Clone>(&mut self, from: &[T]) -> T {
         from[self.below(from.len())].clone()
+    }
+
+    /// A name for a table or column, now and then a word that a later request makes a keyword.
+    fn new_name(&mut self, from: &[&str]) -> String {
+        if self.chance(4) {
+            return self.pick(&LATER).to_string();
+        }
+        self.pick(from).to_string()
     }
 }
 
@@ -114,6 +123,8 @@ pub struct Generated {
     pub drops: [usize; 3],
     /// What came of questions over two tables.
     pub pairs: BTreeMap<String, usize>,
+    /// What came of texts with capitals in names.
+    pub names: BTreeMap<String, usize>,
 }
 
 struct Generator {
@@ -122,13 +133,18 @@ struct Generator {
     profile: Profile,
     /// With pairs of about 65,536 rows.
     square: bool,
+    /// Begins with the examples of names in capitals.
+    keypad: bool,
     front: Front,
     made: Generated,
 }
 
-const TABLE_NAMES: [&str; 9] = ["t", "u", "stage", "log1", "ab_c", "x", "twelve_bytes", "select", "v9"];
+const TABLE_NAMES: [&str; 9] = ["t", "u", "stage", "log1", "ab_c", "xz", "twelve_bytes", "select", "v9"];
 const COLUMN_NAMES: [&str; 11] =
-    ["a", "b", "c", "d", "site", "level", "e", "f_", "g", "rows", "twelve_bytes"];
+    ["a", "b", "c", "d", "site", "level", "e", "f_", "z", "rows", "twelve_bytes"];
+/// Words that later requests make keywords. In capitals they are names until they are in `KEYWORDS`, in other letters
+/// always.
+const LATER: [&str; 10] = ["ring", "null", "is", "count", "sum", "min", "max", "nearest", "on", "limit"];
 const RELATIONS: [&str; 6] = ["=", "<>", "<", "<=", ">", ">="];
 const EDGES: [&str; 12] = [
     "-2147483648", "2147483647", "-2147483647", "2147483646", "0", "-1", "1", "-0", "-00000000000002147483648",
@@ -146,6 +162,22 @@ fn words(text: &str) -> Vec<String> {
 /// The words of a text, each dot a word of its own.
 fn dotted_words(text: &str) -> Vec<String> {
     words(&text.replace('.', " . ")).into_iter().filter(|word| !word.is_empty()).collect()
+}
+
+/// Is this one of the names?
+fn has_name(names: &[String], name: &str) -> bool {
+    names.iter().any(|one| same_name(one, name))
+}
+
+/// The names of a text, roughly: its words that are no keyword and no constant.
+fn names_in(text: &str) -> Vec<String> {
+    let words = text.split(|c: char| !c.is_ascii_alphanumeric() && c != '_');
+    words.filter(|word| is_name(word.as_bytes())).map(String::from).collect()
+}
+
+/// Is there a letter in this name that is a capital?
+fn has_capital(name: &str) -> bool {
+    name.bytes().any(|b| b.is_ascii_uppercase())
 }
 
 /// A table's name and columns.
@@ -423,15 +455,14 @@ impl Generator {
     fn question_of(&mut self, table: &str, selected: &str, f: &str) -> Vec<String> {
         let alone = words(&format!("SELECT {selected} FROM {table} WHERE {f}"));
         let mut others: Vec<String> = self.front.store.catalogue.tables.iter().map(|t| t.name.clone()).collect();
-        others.retain(|name| name != table);
+        others.retain(|name| !same_name(name, table));
         if others.is_empty() || self.random.chance(65) {
             return alone;
         }
         let other = self.random.pick(&others);
         let from = if self.random.chance(50) { format!("{table} , {other}") } else { format!("{other} , {table}") };
-        let is_name = |word: &str| word.starts_with(|c: char| c.is_ascii_lowercase());
         let dotted = |text: &str| {
-            let word = |w: &str| if is_name(w) { format!("{table}.{w}") } else { w.to_string() };
+            let word = |w: &str| if is_name(w.as_bytes()) { format!("{table}.{w}") } else { w.to_string() };
             text.split(' ').map(word).collect::<Vec<_>>().join(" ")
         };
         let paired = format!("SELECT {} FROM {from} WHERE {}", dotted(selected), dotted(f));
@@ -476,6 +507,129 @@ impl Generator {
         self.emit_text(&asked);
     }
 
+    // ------------------------------------------------------------ capitals in names
+
+    /// The tokens with names in other letters, at each use anew: most small, some with capitals.
+    fn recased(&mut self, tokens: &[String]) -> Vec<String> {
+        let plain = if self.profile == Profile::Misses { 30 } else { 55 };
+        let way = self.random.below(100);
+        let mut all = Vec::new();
+        for token in tokens {
+            let token = match token {
+                name if !is_name(name.as_bytes()) => name.clone(),
+                name if way < plain => name.to_ascii_lowercase(),
+                // As the keypad types.
+                name if way >= 92 => self.in_capitals(name),
+                name => self.in_some_capitals(name),
+            };
+            all.push(token);
+        }
+        all
+    }
+
+    /// Seldom a keyword: then the text is mostly none.
+    fn in_capitals(&mut self, name: &str) -> String {
+        let capitals = name.to_ascii_uppercase();
+        if KEYWORDS.contains(&capitals.as_str()) && self.random.chance(90) {
+            return name.to_ascii_lowercase();
+        }
+        capitals
+    }
+
+    fn in_some_capitals(&mut self, name: &str) -> String {
+        let mut letters = name.to_ascii_lowercase().into_bytes();
+        match self.random.below(10) {
+            0..=3 => {}
+            4 | 5 => return self.in_capitals(name),
+            6 => letters[0].make_ascii_uppercase(),
+            7 => letters[1..].make_ascii_uppercase(),
+            _ => letters.iter_mut().filter(|_| self.random.chance(50)).for_each(|b| b.make_ascii_uppercase()),
+        }
+        if KEYWORDS.iter().any(|keyword| keyword.as_bytes() == letters) {
+            return self.in_capitals(name);
+        }
+        String::from_utf8(letters).expect("a name is ASCII")
+    }
+
+    /// A keyword in letters that make it a name.
+    fn no_keyword(&mut self, keyword: &str) -> String {
+        let mut letters = keyword.as_bytes().to_vec();
+        let at = self.random.below(letters.len());
+        match self.random.below(4) {
+            0 => letters.make_ascii_lowercase(),
+            1 => letters[1..].make_ascii_lowercase(),
+            _ => letters[at].make_ascii_lowercase(),
+        }
+        String::from_utf8(letters).expect("a keyword is ASCII")
+    }
+
+    /// Texts about capitals that miss by a little; some are taken.
+    fn name_miss(&mut self) -> Vec<String> {
+        let (table, columns) = self.some_table();
+        let (c, d) = (self.column(&columns), self.column(&columns));
+        let odd = self.random.pick(&[
+            "_A", "1A", "A_", "A1", "A_1", "ROWS3", "ROWS_", "3ROWS", "NOT_", "AND3", "-A", "1_A", "A-1", "ROWSROWS", "É", "aÉ",
+            "ABCDEFGHIJKL", "ABCDEFGHIJKLM", "ABCDEFGHIJK_", "ABCDEFGHIJK_1", "Z0123456789Z", "Z0123456789ZZ", "A.B", "K\u{212a}",
+            "A@", "@A", "A[", "[A", "A`", "`A", "A{", "{A",
+        ]);
+        let keyword = self.random.pick(&KEYWORDS);
+        let near = self.no_keyword(keyword);
+        let (upper, lower) = (table.to_ascii_uppercase(), table.to_ascii_lowercase());
+        let later = self.random.pick(&LATER).to_ascii_uppercase();
+        let miss = match self.random.below(22) {
+            0..=5 => return self.with_misspelled_keyword(),
+            6..=8 => return self.with_keyword_for_name(),
+            // Keywords in other letters, and odd words, as names.
+            9 => format!("TABLE {near} ( {near} , {c} ) ROWS 2"),
+            10 => format!("SELECT {near} FROM {table}"),
+            11 => format!("DELETE FROM {near} WHERE {near} = 1"),
+            12 => format!("TABLE {odd} ( a ) ROWS 1"),
+            13 => format!("TABLE new ( {odd} ) ROWS 1"),
+            14 => format!("SELECT {c} FROM {table} WHERE {odd} = 1"),
+            15 => format!("TABLE new ( a ) {} 3", self.random.pick(&["Rows", "rows", "ROWs", "ROWS3", "ROWS_", "rOWS"])),
+            // Taken, repeated, or named twice.
+            16 => format!("TABLE {} ( a ) ROWS 1", self.random.pick(&[&upper, &lower])),
+            17 => format!("TABLE new ( {} , {c} , b1 ) ROWS 1", c.to_ascii_uppercase()),
+            18 => format!("UPDATE {upper} SET {} = 1 , {} = ?", c.to_ascii_uppercase(), c.to_ascii_lowercase()),
+            19 => format!("SELECT {upper} . {c} FROM {lower} , {upper} WHERE {table} . {} > ?", d.to_ascii_uppercase()),
+            // Words that later requests make keywords.
+            20 => format!("TABLE {later} ( {later} ) ROWS 1"),
+            _ => format!("SELECT {later} FROM {table} WHERE {c} = {later}"),
+        };
+        words(&miss)
+    }
+
+    /// A place of the tokens where such a word stands.
+    fn place_of(&mut self, tokens: &[String], is_such: fn(&str) -> bool) -> Option<usize> {
+        let places: Vec<usize> = (0..tokens.len()).filter(|&at| is_such(&tokens[at])).collect();
+        (!places.is_empty()).then(|| self.random.pick(&places))
+    }
+
+    /// A statement with one of its keywords in other letters.
+    fn with_misspelled_keyword(&mut self) -> Vec<String> {
+        let mut tokens = self.recased_statement();
+        if let Some(at) = self.place_of(&tokens, |token| KEYWORDS.contains(&token)) {
+            tokens[at] = self.no_keyword(&tokens[at].clone());
+        }
+        tokens
+    }
+
+    /// A statement with a keyword for one of its names.
+    fn with_keyword_for_name(&mut self) -> Vec<String> {
+        let mut tokens = self.recased_statement();
+        if let Some(at) = self.place_of(&tokens, |token| is_name(token.as_bytes())) {
+            tokens[at] = self.random.pick(&KEYWORDS).to_string();
+        }
+        tokens
+    }
+
+    fn recased_statement(&mut self) -> Vec<String> {
+        let tokens = self.statement();
+        self.recased(&tokens)
+    }
+
+    // ------------------------------------------------------------ statements
+
     fn where_part(&mut self, columns: &[String], marks: &mut usize) -> Vec<String> {
         if self.random.chance(6) {
             return vec![];
@@ -519,10 +673,10 @@ impl Generator {
 
     fn table_text(&mut self) -> Vec<String> {
         let catalogue = &self.front.store.catalogue;
-        let mut name = self.random.pick(&TABLE_NAMES).to_string();
+        let mut name = self.random.new_name(&TABLE_NAMES);
         for _ in 0..6 {
-            if catalogue.tables.iter().any(|t| t.name == name) && self.random.chance(90) {
-                name = self.random.pick(&TABLE_NAMES).to_string();
+            if catalogue.tables.iter().any(|t| same_name(&t.name, &name)) && self.random.chance(90) {
+                name = self.random.new_name(&TABLE_NAMES);
             }
         }
         let count = match self.profile {
@@ -532,13 +686,13 @@ impl Generator {
         };
         // Some columns have the names of another table's.
         let others: Vec<String> = catalogue.tables.last().map_or(vec![], |table| table.columns.clone());
-        let mut columns: Vec<Vec<String>> = Vec::new();
+        let mut columns: Vec<String> = Vec::new();
         while columns.len() < count {
-            let mut column = vec![self.random.pick(&COLUMN_NAMES).to_string()];
+            let mut column = self.random.new_name(&COLUMN_NAMES);
             if !others.is_empty() && self.random.chance(40) {
-                column = vec![self.random.pick(&others)];
+                column = self.random.pick(&others);
             }
-            if !columns.contains(&column) || self.random.below(100) == 0 {
+            if !has_name(&columns, &column) || self.random.below(100) == 0 {
                 columns.push(column);
             }
         }
@@ -553,7 +707,7 @@ impl Generator {
         };
         let mut all = words("TABLE");
         all.extend([name, String::from("(")]);
-        all.extend(Self::listed(columns));
+        all.extend(Self::listed(columns.into_iter().map(|column| vec![column]).collect()));
         all.extend([String::from(")"), String::from("ROWS"), rows.to_string()]);
         all
     }
@@ -602,7 +756,7 @@ impl Generator {
 
     /// A comparison of a column of the one table with one of the other, often of the same name.
     fn join(&mut self, first: &[String], second: &[String]) -> Vec<String> {
-        let name = |column: &String| column.split('.').nth(1).map(String::from);
+        let name = |column: &String| column.split('.').nth(1).map(str::to_lowercase);
         let left = self.random.pick(first);
         let mut right = self.random.pick(second);
         if let Some(same) = second.iter().find(|&column| name(column) == name(&left)) {
@@ -673,7 +827,7 @@ impl Generator {
             return self.ask();
         };
         let x = self.random.pick(&pair[0].1);
-        let y = if pair[1].1.contains(&x) && self.random.chance(60) { x.clone() } else { self.random.pick(&pair[1].1) };
+        let y = if has_name(&pair[1].1, &x) && self.random.chance(60) { x.clone() } else { self.random.pick(&pair[1].1) };
         let (v, w) = (self.random.pick(&pair[0].1), self.random.pick(&pair[1].1));
         let f = self.random.pick(&[
             "x = ? AND x = y",
@@ -773,7 +927,7 @@ impl Generator {
         let mut named: Vec<String> = Vec::new();
         for _ in 0..20 {
             let column = self.column(&columns);
-            if named.len() < count && (!named.contains(&column) || self.random.below(150) == 0) {
+            if named.len() < count && (!has_name(&named, &column) || self.random.below(150) == 0) {
                 named.push(column);
             }
         }
@@ -814,7 +968,7 @@ impl Generator {
         let [(t, of_t), (u, of_u)] = pair.unwrap_or_else(|| [self.some_table(), self.some_table()]);
         let (c, d) = (self.random.pick(&of_t), self.random.pick(&of_u));
         let tables = &self.front.store.catalogue.tables;
-        let third = tables.iter().find(|table| table.name != t && table.name != u);
+        let third = tables.iter().find(|table| !same_name(&table.name, &t) && !same_name(&table.name, &u));
         let (v, e) = third.map_or((String::from("nil"), c.clone()), |table| (table.name.clone(), table.columns[0].clone()));
         let from = if self.random.chance(50) { format!("{t} , {u}") } else { format!("{u} , {t}") };
         let many = |n: usize, what: &str, by: &str| vec![what; n].join(by);
@@ -967,10 +1121,11 @@ impl Generator {
             return;
         }
         let at = self.random.below(tokens.len());
-        match self.random.below(9) {
+        match self.random.below(10) {
             0 => {
                 tokens.remove(at);
             }
+            9 => tokens[at] = self.other_letter(&tokens[at].clone()),
             1 => tokens.insert(at, tokens[at].clone()),
             2 if at + 1 < tokens.len() => tokens.swap(at, at + 1),
             3 => tokens[at] = tokens[at].to_lowercase(),
@@ -993,6 +1148,21 @@ impl Generator {
                 tokens.remove(at);
             }
         }
+    }
+
+    /// One letter small that was a capital, or the other way round.
+    fn other_letter(&mut self, token: &str) -> String {
+        let places: Vec<usize> = (0..token.len()).filter(|&i| token.as_bytes()[i].is_ascii_alphabetic()).collect();
+        if places.is_empty() {
+            return token.to_string();
+        }
+        let at = self.random.pick(&places);
+        let flipped = |(i, c): (usize, char)| match c {
+            c if i != at => c,
+            c if c.is_ascii_lowercase() => c.to_ascii_uppercase(),
+            c => c.to_ascii_lowercase(),
+        };
+        token.char_indices().map(flipped).collect()
     }
 
     /// The tokens with spaces where they are needed and some where they may stand.
@@ -1067,6 +1237,33 @@ impl Generator {
         for what in self.pair_outcomes(line, printed) {
             *self.made.pairs.entry(what).or_default() += 1;
         }
+        for what in self.name_outcomes(line, printed) {
+            *self.made.names.entry(what).or_default() += 1;
+        }
+    }
+
+    /// What came of a text with capitals in names, and of one in which a name stands in other letters than before.
+    fn name_outcomes(&self, line: &[u8], printed: &str) -> Vec<String> {
+        let text = String::from_utf8_lossy(line);
+        let Some(text) = text.strip_prefix("ADD ").filter(|_| printed != "bad line") else {
+            return vec![];
+        };
+        let names = names_in(text);
+        let how = match printed.strip_prefix("refused") {
+            Some(_) => printed.to_string(),
+            None => format!("added {}", printed.split(' ').next().unwrap_or_default()),
+        };
+        let mut all = Vec::new();
+        if names.iter().any(|name| has_capital(name)) {
+            all.push(format!("with capitals, {how}"));
+        }
+        let tables = &self.front.store.catalogue.tables;
+        let known = tables.iter().flat_map(|table| table.columns.iter().chain([&table.name])).chain(&names);
+        let typed_otherwise = |one: &String| names.iter().any(|name| name != one && same_name(name, one));
+        if known.into_iter().any(typed_otherwise) {
+            all.push(format!("one name in two spellings, {how}"));
+        }
+        all
     }
 
     /// What the line did about questions over two tables.
@@ -1131,6 +1328,11 @@ impl Generator {
     }
 
     fn add(&mut self, tokens: &[String]) {
+        let tokens = self.recased(tokens);
+        self.add_as_typed(&tokens);
+    }
+
+    fn add_as_typed(&mut self, tokens: &[String]) {
         let mut line = b"ADD ".to_vec();
         let mut text = self.spaced(tokens);
         let bytes = if self.profile == Profile::Misses { 20 } else { 500 };
@@ -1149,10 +1351,13 @@ impl Generator {
             Profile::Mixed => 20,
             _ => 6,
         };
-        let mut tokens = if self.random.chance(misses) && self.random.chance(50) {
-            self.designed_miss()
+        let mut tokens = if !self.random.chance(misses) || self.random.chance(50) {
+            self.recased_statement()
+        } else if self.random.chance(30) {
+            self.name_miss()
         } else {
-            self.statement()
+            let tokens = self.designed_miss();
+            self.recased(&tokens)
         };
         if self.random.chance(misses) && self.random.chance(60) {
             self.changed(&mut tokens);
@@ -1160,22 +1365,17 @@ impl Generator {
                 self.changed(&mut tokens);
             }
         }
-        self.add(&tokens);
+        self.add_as_typed(&tokens);
     }
 
     /// A statement that the store would take now, if one is found soon.
     fn add_taken(&mut self, make: fn(&mut Generator) -> Vec<String>) {
         for _ in 0..12 {
             let tokens = make(self);
-            let catalogue: &Catalogue = &self.front.store.catalogue;
+            let tokens = self.recased(&tokens);
             let plain_text = tokens.join(" ").into_bytes();
-            let taken = catalogue.read(self.front.lent.0, &plain_text);
-            let useful = match taken {
-                Ok(Statement::Table(_)) | Ok(Statement::Question(_)) | Ok(Statement::Update(_)) => true,
-                Err(_) => false,
-            };
-            if useful {
-                self.add(&tokens);
+            if self.front.store.catalogue.read(self.front.lent.0, &plain_text).is_ok() {
+                self.add_as_typed(&tokens);
                 return;
             }
         }
@@ -1391,7 +1591,7 @@ impl Generator {
     fn changed_desk_line(&mut self) {
         let mut line = match self.random.below(10) {
             0 => b"FLUSH".to_vec(),
-            1 => [b"ADD ".to_vec(), self.statement().join(" ").into_bytes()].concat(),
+            1 => [b"ADD ".to_vec(), self.recased_statement().join(" ").into_bytes()].concat(),
             2..=6 => {
                 let (n, values) = self.key();
                 format!("ASK {n}{}", self.written(&values)).into_bytes()
@@ -1702,7 +1902,26 @@ impl Generator {
         }
     }
 
+    /// The examples of names in capitals, in a store such as `desk` opens.
+    fn keypad(&mut self) {
+        if self.mode == Mode::Calls {
+            self.emit_text("OPEN 4096 256 4 64");
+        }
+        for line in keypad_lines() {
+            match line.strip_prefix("ASK ") {
+                Some(asked) if self.mode == Mode::Calls => {
+                    let (n, values) = asked.split_once(' ').map_or((asked, String::new()), |(n, v)| (n, format!(" {v}")));
+                    self.emit_text(&format!("ASK {n} {BUFFER}{values}"));
+                }
+                _ => self.emit_text(line),
+            }
+        }
+    }
+
     fn script(mut self, mut length: usize) -> Generated {
+        if self.keypad {
+            self.keypad();
+        }
         if self.square {
             self.square();
             length /= 5;
@@ -1781,8 +2000,10 @@ pub fn script(mode: Mode, seed: u64, length: usize) -> Generated {
         too_long: 0,
         drops: [0; 3],
         pairs: BTreeMap::new(),
+        names: BTreeMap::new(),
     };
-    let square = profile == Profile::Large && seed / 10 % 8 == 0;
-    let generator = Generator { random: Random::new(seed), mode, profile, square, front: Front::new(mode), made };
+    let special = seed / 10 % 8 == 0;
+    let (square, keypad) = (special && profile == Profile::Large, special && profile == Profile::Misses);
+    let generator = Generator { random: Random::new(seed), mode, profile, square, keypad, front: Front::new(mode), made };
     generator.script(length)
 }

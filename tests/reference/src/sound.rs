@@ -1,9 +1,9 @@
-//! Which states are sound, by document 01's sentence and request A.1 of document 02, for the lines SPOIL of the program
-//! `examples`. A line changes one part of a copy of the state. Parts are these papers': what the program alone knows
-//! (its numbers for comparisons, connectives and forms of updates) is not here.
+//! Which states are sound, by document 01's sentence and requests A.1 and A.2 of document 02, for the lines SPOIL of the
+//! program `examples`. A line changes one part of a copy of the state. Parts are these papers': what the program alone
+//! knows (its numbers for comparisons, connectives and forms of updates) is not here. A state's names are in small letters.
 
 use crate::store::Kept;
-use crate::text::{Catalogue, Change, Condition, Operand, Question, Update};
+use crate::text::{has_repeat, is_name, Catalogue, Change, Condition, Operand, Question, Update};
 use crate::text::{COMPARISONS, LIST, MARKS, NAME, QUESTIONS, ROWS, TABLES, UPDATES};
 
 #[derive(Clone)]
@@ -69,10 +69,9 @@ pub fn sizes_pass(cells: u64, bytes: u64, slots: u64, slot_bytes: u64) -> bool {
         && slots * slot_bytes <= bytes
 }
 
-fn is_name(name: &[u8]) -> bool {
-    (1..=NAME).contains(&name.len())
-        && name[0].is_ascii_lowercase()
-        && name.iter().all(|b| b.is_ascii_lowercase() || b.is_ascii_digit() || *b == b'_')
+/// A name that refusals 4 and 5 let pass, in small letters. Such a name is no keyword.
+fn name_passes(name: &[u8]) -> bool {
+    name.len() <= NAME && is_name(name) && !name.iter().any(u8::is_ascii_uppercase)
 }
 
 fn differ<T: PartialEq>(items: &[T]) -> bool {
@@ -110,16 +109,16 @@ impl State {
             return false;
         };
         let table_passes = |t: &&TablePart| {
-            is_name(&t.name)
+            name_passes(&t.name)
                 && (1..=LIST).contains(&t.columns.len())
-                && t.columns.iter().all(|c| is_name(c))
-                && differ(&t.columns)
+                && t.columns.iter().all(|c| name_passes(c))
+                && !has_repeat(&t.columns)
                 && (1..=ROWS as usize).contains(&t.capacity)
                 && t.rows <= t.capacity
         };
         tables.len() <= TABLES
             && tables.iter().all(table_passes)
-            && differ(&tables.iter().map(|t| &t.name).collect::<Vec<_>>())
+            && !has_repeat(&tables.iter().map(|t| &t.name).collect::<Vec<_>>())
             && tables.iter().map(|t| t.columns.len() * t.capacity).sum::<usize>() <= self.cells
     }
 

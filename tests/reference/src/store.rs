@@ -374,13 +374,14 @@ impl Store {
         self.memory = now.memory;
     }
 
-    /// The state, part by part.
+    /// The state, part by part. Its names are in small letters: a text's names are folded where it is read.
     pub fn state(&self) -> State {
+        let folded = |name: &String| name.to_ascii_lowercase().into_bytes();
         let table = |number: usize| {
             let table = &self.catalogue.tables[number];
             Some(TablePart {
-                name: table.name.clone().into_bytes(),
-                columns: table.columns.iter().map(|c| c.clone().into_bytes()).collect(),
+                name: folded(&table.name),
+                columns: table.columns.iter().map(folded).collect(),
                 capacity: table.rows,
                 rows: self.counts[number],
             })

@@ -21,7 +21,7 @@ pub enum Condition<O> {
     Or(Box<Condition<O>>, Box<Condition<O>>),
 }
 
-/// A column as written, `level` or `stage.level`.
+/// A column as written, `level` or `stage.level`. Names are kept everywhere as they were typed.
 #[derive(Clone, PartialEq, Debug)]
 pub struct Named {
     table: Option<String>,
@@ -140,7 +140,8 @@ enum Token {
     Sign(&'static str),
 }
 
-const KEYWORDS: [&str; 14] = [
+/// Keywords are words spelled just so; in other letters, and until a request makes a word one of these, it is a name.
+pub const KEYWORDS: [&str; 14] = [
     "TABLE", "ROWS", "SELECT", "FROM", "WHERE", "INSERT", "INTO", "VALUES", "UPDATE", "SET", "DELETE", "AND", "OR",
     "NOT",
 ];
@@ -150,6 +151,18 @@ const SIGNS: [&str; 11] = ["<>", "<=", ">=", "<", ">", "=", "(", ")", ",", "?", 
 
 fn is_word_byte(b: u8) -> bool {
     b.is_ascii_alphanumeric() || b == b'_'
+}
+
+/// A letter, small or capital, then letters, digits or underscores; no keyword. Of any length.
+pub fn is_name(word: &[u8]) -> bool {
+    word.first().is_some_and(u8::is_ascii_alphabetic)
+        && word.iter().all(|&b| is_word_byte(b))
+        && !KEYWORDS.iter().any(|keyword| keyword.as_bytes() == word)
+}
+
+/// Case makes no difference between names (A.2).
+pub fn same_name(left: impl AsRef<[u8]>, right: impl AsRef<[u8]>) -> bool {
+    left.as_ref().eq_ignore_ascii_case(right.as_ref())
 }
 
 /// A constant's number: an optional minus and digits. `None`: not of that form. `Some(None)`: outside 32 bits.
@@ -197,13 +210,11 @@ fn word_token(word: &[u8]) -> Option<Token> {
     if let Some(number) = constant(word) {
         return Some(Token::Constant(number));
     }
-    let word = std::str::from_utf8(word).ok()?;
-    if KEYWORDS.contains(&word) {
-        return Some(Token::Keyword(word.to_string()));
+    let text = std::str::from_utf8(word).ok()?.to_string();
+    if KEYWORDS.contains(&text.as_str()) {
+        return Some(Token::Keyword(text));
     }
-    let name = word.starts_with(|c: char| c.is_ascii_lowercase())
-        && word.bytes().all(|b| b.is_ascii_lowercase() || b.is_ascii_digit() || b == b'_');
-    name.then(|| Token::Name(word.to_string()))
+    is_name(word).then_some(Token::Name(text))
 }
 
 // ---------------------------------------------------------------- grammar
@@ -420,8 +431,9 @@ fn past_a_limit(reader: &Reader, sentence: &Sentence) -> bool {
     token_past || list_past || reader.marks > MARKS || reader.comparisons > COMPARISONS || reader.deepest > DEPTH
 }
 
-fn has_repeat(names: &[&String]) -> bool {
-    (0..names.len()).any(|i| names[..i].contains(&names[i]))
+/// Is there a name that equals one before it?
+pub fn has_repeat<N: AsRef<[u8]>>(names: &[N]) -> bool {
+    (0..names.len()).any(|i| names[..i].iter().any(|before| same_name(before, &names[i])))
 }
 
 impl Catalogue {
@@ -437,14 +449,14 @@ impl Catalogue {
     }
 
     fn table(&self, name: &str) -> Result<usize, u8> {
-        self.tables.iter().position(|t| t.name == name).ok_or(6)
+        self.tables.iter().position(|t| same_name(&t.name, name)).ok_or(6)
     }
 
     /// A column of one of these tables; a bare one is of the only table.
     fn column(&self, tables: &[usize], named: &Named) -> Result<Column, u8> {
-        let is_named = |table: usize| named.table.as_ref().map_or(true, |name| self.tables[table].name == *name);
+        let is_named = |table: usize| named.table.as_ref().map_or(true, |name| same_name(&self.tables[table].name, name));
         let table = *tables.iter().find(|&&table| is_named(table)).ok_or(6)?;
-        let place = self.tables[table].columns.iter().position(|c| *c == named.column).ok_or(6)?;
+        let place = self.tables[table].columns.iter().position(|c| same_name(c, &named.column)).ok_or(6)?;
         Ok(Column { table, place })
     }
 
@@ -494,7 +506,7 @@ impl Catalogue {
         let marks = reader.marks;
         let statement = match &sentence {
             Sentence::Table { name, columns, rows } => {
-                if self.table(name).is_ok() || has_repeat(&columns.iter().collect::<Vec<_>>()) {
+                if self.table(name).is_ok() || has_repeat(columns) {
                     return Err(7);
                 }
                 let rows = rows.expect("limits were looked at") as usize;

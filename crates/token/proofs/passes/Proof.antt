@@ -14,17 +14,11 @@ is-digit-requires c κs = tt
 returns-2 : tie.Need-returns-2
 returns-2 c = c .is-digit .ensures ∙ rw (c .before .if2 .taken)
 
-is-name-byte-requires : tie.Need-is-name-byte-requires
-is-name-byte-requires c κs = tt
-
-returns-3 : tie.Need-returns-3
-returns-3 c = c .is-name-byte .ensures ∙ rw (c .before .if3 .taken)
-
 is-word-byte-requires : tie.Need-is-word-byte-requires
 is-word-byte-requires c κs = tt
 
-returns-4 : tie.Need-returns-4
-returns-4 c = c .is-word-byte .ensures ∙ rw (ne-eqb _ _ (c .before .before .before .if1 .left), ne-eqb _ _ (c .before .before .if2 .left), ne-eqb _ _ (c .before .if3 .left))
+returns-3 : tie.Need-returns-3
+returns-3 c = c .is-word-byte .ensures ∙ rw (ne-eqb _ _ (c .before .before .if1 .left), ne-eqb _ _ (c .before .if2 .left))
 
 pub passes-spec : {M : Type 1} → statement M
 passes-spec =
@@ -33,7 +27,5 @@ passes-spec =
     returns
     is-digit-requires
     returns-2
-    is-name-byte-requires
-    returns-3
     is-word-byte-requires
-    returns-4)
+    returns-3)
