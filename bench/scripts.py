@@ -173,6 +173,26 @@ PAIRED_SITE = line("Q", 0, 3)
 PAIRED_ALL = line("Q", 1, 1)
 
 
+# ---- a table that runs round beside one that does not, for (f) and (h)
+
+def ring(word="RING", more=0, slots=0):
+    """A table of 96 rows, all there; of a ring so many rows more, which push out as many. Two questions and an INSERT; no answer kept."""
+    adds = [
+        f"O {slots}",
+        f"A TABLE recent (site, minute, level) {word} 96",
+        "A SELECT level FROM recent WHERE site = ? AND minute = ?",
+        "A SELECT minute, level FROM recent WHERE site = ?",
+        "A INSERT INTO recent VALUES (?, ?, ?)",
+    ]
+    return made(adds) + made([line("U", 0, i % 8 + 1, i // 8 + 1, 7 * i % 400) for i in range(96 + more)])
+
+
+WRAPPED = 40  # rows that were pushed out where a ring's oldest row lies in the middle of its area
+RING_ROW = line("Q", 0, 3, 7)
+RING_EIGHTH = line("Q", 1, 3)
+RING_INSERT = line("U", 0, 3, 99, 250)
+
+
 # ---- conditions of no, one, four and eight comparisons, for (f)
 
 CONDITIONS = {
@@ -307,6 +327,8 @@ def gate():
         piece(f"the gauge's calls, {slots} slots", gauge(slots, 10, count=400, parts=0))
     for count in (0, 40, 64):
         piece(f"updates beside {count} kept answers", held(count), *[["L", call, "K 2"] for call in UPDATES.values()])
+    piece("a ring, wrapped", ring(more=WRAPPED), ["L", RING_ROW, RING_EIGHTH, "C 4"], ["L", RING_INSERT, RING_EIGHTH, "C 200"])
+    piece("a ring beside kept answers", ring(more=WRAPPED, slots=8), ["L", RING_EIGHTH, RING_INSERT, RING_ROW, "C 120"])
     piece("clauses at rule 5's limit", clauses(), ["L", CLAUSES_UPDATE, "K 2"])
     piece("adding", one_table(8, 64), *[["L", text, "K 1"] for text in ADDS.values()])
     piece("the fullest state", fullest(rows=64), *[["L", call, "K 2"] for call in (FULL_FIRST, FULL_LAST, FULL_NEW, FULL_UPDATE, "S", "N", "F", "W 0", DEEPEST)])

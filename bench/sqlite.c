@@ -17,6 +17,15 @@ struct call {
 static sqlite3 *db;
 static sqlite3_stmt *queries[STATEMENTS], *updates[STATEMENTS];
 static int query_count, update_count;
+
+// A table that runs round: its name, its size, how many rows it has, and the statement that removes the oldest; of each INSERT its ring, or none.
+struct ring {
+    char name[64];
+    int size, rows;
+    sqlite3_stmt *remove;
+};
+static struct ring rings[STATEMENTS], *ring_of[STATEMENTS];
+static int ring_count;
 static struct call calls[CALLS];
 static unsigned char record[RECORD];
 static unsigned long long refused, steps, bytes, changed, sum;
@@ -36,13 +45,40 @@ static void open_store(void) {
         sqlite3_finalize(queries[i]);
     for (int i = 0; i < update_count; i++)
         sqlite3_finalize(updates[i]);
-    query_count = update_count = 0;
+    for (int i = 0; i < ring_count; i++)
+        sqlite3_finalize(rings[i].remove);
+    query_count = update_count = ring_count = 0;
     sqlite3_close(db);
     if (sqlite3_open(":memory:", &db) != SQLITE_OK)
         fail("open");
     run_text("PRAGMA journal_mode = OFF");
     run_text("PRAGMA synchronous = OFF");
     run_text("PRAGMA automatic_index = OFF");
+}
+
+// `TABLE name (a, b) RING n`: notes the ring, and how its oldest row goes.
+static void note_ring(const char *text) {
+    const char *size = strstr(text, ") RING ");
+    struct ring *r = &rings[ring_count];
+    char remove[256];
+    if (!size)
+        return;
+    sscanf(text, "TABLE %63s", r->name);
+    r->size = atoi(size + 7), r->rows = 0;
+    snprintf(remove, sizeof remove, "DELETE FROM %s WHERE rowid = (SELECT min(rowid) FROM %s)", r->name, r->name);
+    if (sqlite3_prepare_v3(db, remove, -1, SQLITE_PREPARE_PERSISTENT, &r->remove, 0) != SQLITE_OK)
+        fail(remove);
+    ring_count++;
+}
+
+// The ring that an INSERT is into, or none.
+static struct ring *inserts_round(const char *text) {
+    char name[64] = "";
+    sscanf(text, "INSERT INTO %63s", name);
+    for (int i = 0; i < ring_count; i++)
+        if (strcmp(rings[i].name, name) == 0)
+            return &rings[i];
+    return 0;
 }
 
 // `TABLE name (a, b) ROWS n` becomes `CREATE TABLE name (a INTEGER, b INTEGER)`; the other texts are SQLite's too.
@@ -57,9 +93,12 @@ static void add(const char *text) {
                 break;
         }
         run_text(made);
+        note_ring(text);
         return;
     }
     int asks = strncmp(text, "SELECT", 6) == 0;
+    if (!asks)
+        ring_of[update_count] = inserts_round(text);
     sqlite3_stmt **place = asks ? &queries[query_count++] : &updates[update_count++];
     if (sqlite3_prepare_v3(db, text, -1, SQLITE_PREPARE_PERSISTENT, place, 0) != SQLITE_OK)
         fail(text);
@@ -99,6 +138,15 @@ static void ask(const struct call *c, int summing) {
 
 static void update(const struct call *c) {
     sqlite3_stmt *s = updates[c->number];
+    struct ring *r = ring_of[c->number];
+    if (r && r->rows == r->size) {
+        if (sqlite3_step(r->remove) != SQLITE_DONE)
+            fail("remove");
+        sqlite3_reset(r->remove);
+        r->rows--;
+    }
+    if (r)
+        r->rows++;
     bind(s, c);
     if (sqlite3_step(s) != SQLITE_DONE)
         fail("update");

@@ -72,7 +72,7 @@ module _ (s : State) (T : Typed s) (h : soundState s ≡ true) where
 
   place-is : (x : Sentence) → noPlace beside x ≡ false → HasPlace s x
   unfolding noPlace
-  place-is (G.table t cs z) e =
+  place-is (G.table t cs ring z) e =
       let n : length (items cs) * natAbs z ≤ cellsLeft beside = ltb-false (cellsLeft beside) (length (items cs) * natAbs z) (or-right (leb most-tables (length (beside .tables))) _ e) in (
         below most-tables (length (beside .tables)) (s .«table_count») tables-there (or-left (leb most-tables (length (beside .tables))) _ e),
         omega (arith, n, left-is, S .areas),
@@ -85,7 +85,7 @@ module _ (s : State) (T : Typed s) (h : soundState s ≡ true) where
 
   is-place : (x : Sentence) → HasPlace s x → noPlace beside x ≡ false
   unfolding noPlace
-  is-place (G.table t cs z) p =
+  is-place (G.table t cs ring z) p =
       or-none (leb most-tables (length (beside .tables))) _ (is-below most-tables (length (beside .tables)) (s .«table_count») tables-there (p .0))
       (le-ltb (cellsLeft beside) (length (items cs) * natAbs z) (omega (arith, p .1, left-is)))
   is-place (G.select cs t w) p = is-below most-queries (length (beside .queries)) (s .«query_count») queries-there p

@@ -59,7 +59,7 @@ module _ (p q : Plain) (ts : schemas p ≡ schemas q) (qs : length (p .queries) 
 
   places-same : (s : Sentence) → noPlace p s ≡ noPlace q s
   unfolding noPlace
-  places-same (G.table t cs z) =
+  places-same (G.table t cs ring z) =
       ap₂ (λ (n k : ℕ). leb most-tables n || ltb k (length (items cs) * natAbs z)) tables-many
       (ap₂ (λ (n : ℕ) (x : List Schema). n - areasSize x) cells ts)
   places-same (G.select cs t w) = ap (leb most-queries) qs
@@ -90,7 +90,7 @@ no-rows true = refl
 no-rows false = refl
 
 schema-back : (t : Schema) → schemaOf (tableStruct t) ≡ t
-schema-back t = λ i. record { name = table-agrees t .name-is i; columns = table-agrees t .columns-are i; capacity = t .capacity }
+schema-back t = λ i. record { name = table-agrees t .name-is i; columns = table-agrees t .columns-are i; capacity = t .capacity; ring = t .ring }
 
 new-table : (t : Schema) (start : ℕ) (cells : List ℤ) → tableIn (tableStruct t) start cells ≡ record { schema = t; rows = [] }
 new-table t start cells =
@@ -151,7 +151,7 @@ Free p (changes u) = length (p .updates) < most-updates
 
 place-free : (p : Plain) (ts : List Schema) (s : Sentence) → noPlace p s ≡ false → Free p (statementOf ts s)
 unfolding noPlace statementOf
-place-free p ts (G.table t cs z) h = leb-false most-tables (length (p .tables)) (or-left (leb most-tables (length (p .tables))) _ h)
+place-free p ts (G.table t cs ring z) h = leb-false most-tables (length (p .tables)) (or-left (leb most-tables (length (p .tables))) _ h)
 place-free p ts (G.select cs t w) h = leb-false most-queries (length (p .queries)) h
 place-free p ts (G.pair cs t u w) h = leb-false most-queries (length (p .queries)) h
 place-free p ts (G.insert t vs) h = leb-false most-updates (length (p .updates)) h

@@ -11,8 +11,9 @@ use borrow.Author.Tests.{ltb-false}
 use lib.Dec.{leb, ltb}
 use lib.IntN.{ℤ}
 use lib.ListN.{length, getD, drop}
-use Rattle.lists.specs.Lists.{All, nil, cons, written}
-use Rattle.lists.proofs.Lists.{All-take}
+use Rattle.lists.specs.Lists.{All, nil, cons, turned, written}
+use Rattle.lists.proofs.Lists.{All-take, All-drop}
+use Rattle.lists.proofs.Turned.{All-turned}
 use Rattle.meaning.specs.Key.{Key}
 use Rattle.meaning.specs.Limits.{most-listed}
 use Rattle.meaning.specs.Statement.{Second}
@@ -94,11 +95,6 @@ module _ (s : Store) (n : ℕ) (vs : List ℤ) (buffer : List ℕ) where
 
 -- ---- a new one
 
-All-drop : {A : Type 0} {P : A → Type 0} {l : List A} (n : ℕ) → All P l → All P (drop n l)
-All-drop zero h = h
-All-drop (suc n) nil = nil
-All-drop (suc n) (cons p h) = All-drop n h
-
 -- rows in cells of 32 bits have 32 bits
 in-32 : (c n : ℕ) (l : List ℤ) → All Is32 l → All Row32 (rowsIn c n l)
 in-32 c zero l h = nil
@@ -107,8 +103,8 @@ in-32 c (suc n) l h = cons (All-take c h) (in-32 c n (drop c l) (All-drop c h))
 rows-32 : (s : State) (cells : List ℤ) (i : ℕ) → All Is32 cells → All Row32 (rowsAt s cells i)
 rows-32 s cells i h = go (leb (startOf s i + rowCells (tableAt s i)) (length cells))
   where
-    go : (b : Bool) → All Row32 (cond b (areaRows (tableAt s i .count) (tableAt s i .rows) (drop (startOf s i) cells)) [])
-    go true = in-32 (tableAt s i .count) (tableAt s i .rows) (drop (startOf s i) cells) (All-drop (startOf s i) h)
+    go : (b : Bool) → All Row32 (cond b (turned (tableAt s i .oldest) (areaRows (tableAt s i .count) (tableAt s i .rows) (drop (startOf s i) cells))) [])
+    go true = All-turned (tableAt s i .oldest) (in-32 (tableAt s i .count) (tableAt s i .rows) (drop (startOf s i) cells) (All-drop (startOf s i) h))
     go false = nil
 
 over-32 : (s : State) (cells : List ℤ) (i : ℕ) (o : Option Second) → All Is32 cells → All Row32 (rowsOver s cells i o)

@@ -10,7 +10,7 @@ use lib.Dec.{leb}
 use lib.IntN.{ℤ}
 use lib.ListN.{length, getD, take, drop, set, length-map}
 use lib.Seq.{length-take-le, split-at, set-split, set-at}
-use Rattle.lists.specs.Lists.{All}
+use Rattle.lists.specs.Lists.{All, turned}
 use Rattle.lists.proofs.Lists.{All-head, All-tail, All-right, All-take}
 use Rattle.meaning.specs.Meaning.{Row}
 use Rattle.meaning.specs.Cells.{rowsIn}
@@ -70,7 +70,7 @@ rows-within t start n r h =
     omega arith
 
 pub rows-used : (t : Table) (start : ℕ) (cells : List ℤ) → t .rows ≤ t .capacity → start + t .count * t .capacity ≤ length cells
-    → rowsUsed t start cells ≡ rowsIn (t .count) (t .rows) (drop start cells)
+    → rowsUsed t start cells ≡ turned (t .oldest) (rowsIn (t .count) (t .rows) (drop start cells))
 rows-used t start cells r h = rw (le-leb (start + rowCells t) (length cells) (rows-within t start (length cells) r h))
 
 -- ---- other cells
@@ -87,7 +87,7 @@ tables-same start (t ∷ ts) cells cells′ l F f =
     let own : rowsIn (t .count) (t .rows) (drop start cells′) ≡ rowsIn (t .count) (t .rows) (drop start cells) =
     f start (t .count) (t .rows) (omega arith) (omega arith) in
     ap₂ (λ (x : List Row) (y : List P.Table). record { schema = schemaOf t; rows = x } ∷ y)
-    (ap₂ (λ (n : ℕ) (x : List Row). cond (leb (start + rowCells t) n) x []) l own)
+    (ap₂ (λ (n : ℕ) (x : List Row). cond (leb (start + rowCells t) n) (turned (t .oldest) x) []) l own)
     (tables-same (start + t .count * t .capacity) ts cells cells′ l (All-tail F)
     (λ a c n h k. f a c n (omega arith) (omega arith)))
 
@@ -96,7 +96,7 @@ from-length start ts cells =
     sym (length-map (tablesFrom start ts cells) (λ (t : P.Table). t .schema)) ∙ ap length (schemas-from start ts cells) ∙ length-map ts schemaOf
 
 -- one table has other rows, and all cells but its area are as they were
-module _ (ts : List Table) (F : All (λ (t : Table). t .rows ≤ t .capacity) ts) (i : ℕ) (h : i < length ts) (n : ℕ) (cells cells′ : List ℤ) (l : length cells′ ≡ length cells) where
+module _ (ts : List Table) (F : All (λ (t : Table). t .rows ≤ t .capacity) ts) (i : ℕ) (h : i < length ts) (n k : ℕ) (cells cells′ : List ℤ) (l : length cells′ ≡ length cells) where
   abbrev t : Table
   t = getD ts i noTable
 
@@ -105,7 +105,7 @@ module _ (ts : List Table) (F : All (λ (t : Table). t .rows ≤ t .capacity) ts
 
   module _ (before : (a c n : ℕ) → a + n * c ≤ start → rowsIn c n (drop a cells′) ≡ rowsIn c n (drop a cells))
       (behind : (a c n : ℕ) → start + t .count * t .capacity ≤ a → rowsIn c n (drop a cells′) ≡ rowsIn c n (drop a cells)) where
-    pub tables-set : tablesFrom 0 (set ts i (withRows t n)) cells′ ≡ set (tablesFrom 0 ts cells) i (tableIn (withRows t n) start cells′)
+    pub tables-set : tablesFrom 0 (set ts i (withRows t n k)) cells′ ≡ set (tablesFrom 0 ts cells) i (tableIn (withRows t n k) start cells′)
     tables-set =
         let zero-first : 0 + start ≡ start = omega arith in
         let rest : List Table = drop (suc i) ts in
@@ -117,11 +117,11 @@ module _ (ts : List Table) (F : All (λ (t : Table). t .rows ≤ t .capacity) ts
         (λ a c n x y. behind a c n x) in
         let old : tablesFrom 0 ts cells ≡ tablesFrom 0 (take i ts) cells ++ tableIn t start cells ∷ tablesFrom (start + t .count * t .capacity) rest cells =
         ap (λ us. tablesFrom 0 us cells) split ∙ tables-append 0 (take i ts) (t ∷ rest) cells
-        ∙ ap (λ k. tablesFrom 0 (take i ts) cells ++ tablesFrom k (t ∷ rest) cells) zero-first in
-        ap (λ us. tablesFrom 0 us cells′) (set-split ts i (withRows t n) h)
-        ∙ tables-append 0 (take i ts) (withRows t n ∷ rest) cells′
-        ∙ ap (λ k. tablesFrom 0 (take i ts) cells′ ++ tablesFrom k (withRows t n ∷ rest) cells′) zero-first
-        ∙ ap₂ (λ (x y : List P.Table). x ++ tableIn (withRows t n) start cells′ ∷ y) first later
-        ∙ sym (set-at (tablesFrom 0 (take i ts) cells) (tableIn t start cells) _ (tableIn (withRows t n) start cells′) i
+        ∙ ap (λ j. tablesFrom 0 (take i ts) cells ++ tablesFrom j (t ∷ rest) cells) zero-first in
+        ap (λ us. tablesFrom 0 us cells′) (set-split ts i (withRows t n k) h)
+        ∙ tables-append 0 (take i ts) (withRows t n k ∷ rest) cells′
+        ∙ ap (λ j. tablesFrom 0 (take i ts) cells′ ++ tablesFrom j (withRows t n k ∷ rest) cells′) zero-first
+        ∙ ap₂ (λ (x y : List P.Table). x ++ tableIn (withRows t n k) start cells′ ∷ y) first later
+        ∙ sym (set-at (tablesFrom 0 (take i ts) cells) (tableIn t start cells) _ (tableIn (withRows t n k) start cells′) i
         (from-length 0 (take i ts) cells ∙ length-take-le i ts (omega arith)))
-        ∙ ap (λ us. set us i (tableIn (withRows t n) start cells′)) (sym old)
+        ∙ ap (λ us. set us i (tableIn (withRows t n k) start cells′)) (sym old)

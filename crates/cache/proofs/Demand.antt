@@ -33,7 +33,7 @@ use Rattle.cache.proofs.SoundMeans.{sound-exactly-if}
 use Rattle.cache.proofs.Openings.{opens-exactly-if, opening-taken, opening-refused, flush-drops-all}
 use Rattle.cache.proofs.Accepting.{accepted-exactly-if}
 use Rattle.cache.proofs.Answers.{new-answer, kept-answer, reads-for}
-use Rattle.cache.proofs.Refusals.{lowest-number, refused-changes-nothing}
+use Rattle.cache.proofs.Refusals.{lowest-number, rings-never-full, refused-changes-nothing}
 use Rattle.cache.proofs.StaysSound.{opens-sound, stays-sound}
 use Rattle.cache.proofs.Standing.{stands-for-plain}
 use Rattle.cache.proofs.Plainly.{does-as-plain}
@@ -180,6 +180,7 @@ answer-reads-back o cs v k buffer e =
 pub demands : Demands
 demands = record {
   lowest-number = lowest-number;
+  rings-never-full = rings-never-full;
   refused-changes-nothing = refused-changes-nothing;
   opens-exactly-if = opens-exactly-if;
   opening-taken = opening-taken;

@@ -7,11 +7,12 @@ use Prim.Native.Nat.{ℕ, zero, suc, _<_}
 use native.Mathlib.Omega.{arith}
 use lib.IntN.{ℤ}
 use lib.ListN.{length, length-map}
-use Rattle.lists.specs.Lists.{All, keep, count}
+use Rattle.lists.specs.Lists.{All, any, keep, count}
 use Rattle.lists.proofs.Lists.{All-map, keep-map}
 use Rattle.meaning.specs.Key.{Key}
 use Rattle.meaning.specs.Names.{Schema}
-use Rattle.meaning.specs.Pattern.{matches}
+use Rattle.meaning.specs.Meaning.{Row}
+use Rattle.meaning.specs.Pattern.{matchesTwo}
 use Rattle.meaning.specs.Statement as M
 use Rattle.meaning.specs.Plain as P
 use Rattle.meaning.specs.Plain.{Plain, matchesKey, refusal}
@@ -19,31 +20,32 @@ use Rattle.statement.specs.declared.Query.{Query}
 use Rattle.statement.specs.declared.Update.{Update}
 use Rattle.statement.specs.Sound.{soundQuery, soundUpdate, AgreesQuery, AgreesUpdate}
 use Rattle.pattern.specs.Stored.{matchesStored}
+use Rattle.pattern.proofs.Laws.{judgedStored}
 use Rattle.slots.specs.Keys.{keyRead, slotKey, heldKeys, valuesOf}
 use Rattle.slots.specs.Order.{heldSlots, dropBy}
 use Rattle.slots.proofs.Laws.{drop-held}
 use Rattle.cache.specs.declared.State.{State}
 use Rattle.cache.specs.Sound.{queryAt, schemasIn}
 use Rattle.cache.specs.Means.{Means, Typed}
-use Rattle.cache.specs.Calls.{settled, updates, updateAt, updateRefusal, isMatched, withChange, updateRefused, updateDone, updateOf}
+use Rattle.cache.specs.Calls.{settled, updates, updateAt, updateRefusal, pushedBy, isMatched, withChange, updateRefused, updateDone, updateOf}
 use Rattle.cache.specs.Run.{Store, Seen, stepUpdate, step}
-use Rattle.cache.specs.Demand.{keysHeld, DropsExactlyMatched}
+use Rattle.cache.specs.Demand.{lengthsLent, keysHeld, DropsExactlyMatched}
 use Rattle.cache.proofs.Sounds.{Sound, sound-is, query-at, update-at}
 use Rattle.cache.proofs.Meanings.{query-agrees, update-agrees}
-use Rattle.cache.proofs.Updating.{update-number, update-there}
+use Rattle.cache.proofs.Updating.{pushed-is, update-number, update-there, update-long}
 use Rattle.cache.proofs.Parts.{keep-same}
 
 -- ---- an update on a state that stands for the plain store
 
--- the patterns of sound stored statements match as those of their sentences
+-- the patterns of sound stored statements, with those of the rows that the update pushes out, match as those of their sentences
 abbrev pub MatchesMean : Type 0
 MatchesMean = (ts : List Schema) (q : Query) (r : M.Query) → AgreesQuery q r → (u : Update) (s : M.Update) → AgreesUpdate u s → soundQuery ts q ≡ true
-    → soundUpdate ts u ≡ true → (us qs : List ℤ) → matchesStored q u us qs ≡ matches r s us qs
+    → soundUpdate ts u ≡ true → (out : List Row) (us qs : List ℤ) → any (λ (v : Update). matchesStored q v us qs) (judgedStored u out) ≡ matchesTwo r s out us qs
 
 module _ (mean : MatchesMean) (s : State) (T : Typed s) (S : Sound s) (cells : List ℤ) (p : Plain) (m : Means s cells p) (n : ℕ)
-    (there : n < s .«update_count») (us : List ℤ) where
+    (there : n < s .«update_count») (long : length cells ≡ s .cells) (us : List ℤ) where
   -- a held slot is matched exactly if its key is
-  pub matched-is : All (λ (x : ℕ). isMatched s (updateAt s n) us x ≡ matchesKey p n us (keyRead (slotKey (s .keys) x))) (heldSlots (s .slots))
+  pub matched-is : All (λ (x : ℕ). isMatched s cells (updateAt s n) us x ≡ matchesKey p n us (keyRead (slotKey (s .keys) x))) (heldSlots (s .slots))
   unfolding isMatched matchesKey
   matched-is =
       All-map
@@ -51,11 +53,13 @@ module _ (mean : MatchesMean) (s : State) (T : Typed s) (S : Sound s) (cells : L
       mean (schemasIn s) (queryAt s (slotKey (s .keys) x .query)) (P.queryAt p (slotKey (s .keys) x .query))
       (query-agrees s T S cells p m (slotKey (s .keys) x .query) (k .there))
       (updateAt s n) (P.updateAt p n) (update-agrees s T S cells p m n there)
-      (query-at s T S (slotKey (s .keys) x .query) (k .there)) (update-at s T S n there) us (valuesOf (slotKey (s .keys) x)))
+      (query-at s T S (slotKey (s .keys) x .query) (k .there)) (update-at s T S n there) (pushedBy s cells (updateAt s n)) us (valuesOf (slotKey (s .keys) x))
+      ∙ ap (λ (out : List Row). matchesTwo (P.queryAt p (slotKey (s .keys) x .query)) (P.updateAt p n) out us (valuesOf (slotKey (s .keys) x)))
+      (pushed-is s T S cells p m n there long))
       (S .keys)
 
   abbrev test : ℕ → Bool
-  test = isMatched s (updateAt s n) us
+  test = isMatched s cells (updateAt s n) us
 
   abbrev match : Key → Bool
   match = matchesKey p n us
@@ -95,8 +99,10 @@ drops-exactly-matched mean s n us p T h m = go (updateRefusal (s .state) (length
         → (keysHeld (after k .0) ≡ keep (λ (k : Key). not (matchesKey p n us k)) (keysHeld s)) × (after k .1 .drops ≡ count (matchesKey p n us) (keysHeld s))
     go zero e z =
         let S : Sound (s .state) = sound-is (s .state) h in
-        let there : n < s .state .«update_count» = update-there s p T h m n us (sym (update-number s p T h m n us) ∙ e) in (
-          keys-stay mean (s .state) T S (s .cells) p m n there us,
-          keys-drop mean (s .state) T S (s .cells) p m n there us,
+        let r : refusal (lengthsLent s) p (P.change n us) ≡ 0 = sym (update-number s p T h m n us) ∙ e in
+        let there : n < s .state .«update_count» = update-there s p T h m n us r in
+        let long : length (s .cells) ≡ s .state .cells = update-long s p T h m n us r in (
+          keys-stay mean (s .state) T S (s .cells) p m n there long us,
+          keys-drop mean (s .state) T S (s .cells) p m n there long us,
         )
     go (suc k) e z = absurd (omega arith)

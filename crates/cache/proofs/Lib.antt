@@ -1,5 +1,6 @@
 pub mod Parts
 pub mod Sounds
+pub mod Starts
 pub mod SoundMeans
 pub mod Tested
 pub mod Settled
@@ -11,6 +12,7 @@ pub mod AskReturns
 pub mod Working
 pub mod Marks
 pub mod Marking
+pub mod Pushing
 pub mod DropsMarked
 pub mod UpdateReturns
 pub mod Flushing

@@ -1,6 +1,6 @@
 -- The loops that mark slots: the held slots walked through, the queries that hold an answer, the clauses of a query, and the queries. Each invariant says what is
 -- left to be done. Assumes nothing.
-use mathlib.Core.Path.{_≡_, refl, sym, ap, subst, _∙_}
+use mathlib.Core.Path.{_≡_, refl, sym, ap, ap₂, subst, _∙_}
 use mathlib.Core.Bool.{Bool, true, false, _&&_, _||_, cond, or-false}
 use mathlib.Core.List.{List, [], _∷_, map}
 use Prim.Native.Nat.{ℕ, zero, suc, _+_, _-_, _≤_, _<_}
@@ -18,9 +18,11 @@ use Rattle.lists.proofs.Places.{All-at, getD-inside}
 use Rattle.lists.proofs.Changed.{map-from}
 use Rattle.lists.proofs.Moved.{from-below}
 use Rattle.lists.proofs.Walks.{rest, rest-cons, rest-none, from-cons, from-none}
+use Rattle.statement.specs.declared.Table.{Table}
 use Rattle.statement.specs.declared.Query.{Query}
 use Rattle.statement.specs.declared.Update.{Update}
 use Rattle.statement.specs.Compiled.{noQuery}
+use Rattle.table.specs.Changed.{removalOf}
 use Rattle.pattern.specs.declared.Pattern.{Pattern}
 use Rattle.pattern.specs.Relevance.{isRead}
 use Rattle.pattern.specs.Stored.{clauseTotal, patternAt, filledOf, agreesStored}
@@ -30,7 +32,8 @@ use Rattle.slots.specs.declared.SlotList.{SlotList}
 use Rattle.slots.specs.Keys.{valuesOf, slotKey}
 use Rattle.slots.specs.Order.{soundSlots, heldSlots, isMarked}
 use Rattle.slots.proofs.Laws.{sound-is, held-below}
-use Rattle.cache.specs.Marks.{marked, markedEach, agreesAt, clauseTests, queryMarks, holdsAnswer, marksOver, marksOf}
+use Rattle.cache.specs.Marks.{marked, markedEach, agreesAt, clauseTests, queryMarks, holdsAnswer, marksOver, marksOf, marksBoth}
+use Rattle.cache.specs.Calls.{isPushing}
 use Rattle.cache.proofs.Marks.{no-mark, set-mark}
 
 -- ---- the held slots
@@ -202,16 +205,16 @@ other-marks : (keys : List Key) (s : SlotList) (q : ℕ) (query : Query) (u : Up
 other-marks keys s q query u us marks e =
     ap (λ (k : ℕ). markedEach (map (λ (i : ℕ). agreesAt keys q (filledOf us (patternAt query u i))) (from 0 k)) (heldSlots s) marks) (none-elsewhere query u e)
 
-module _ (keys : List Key) (s : SlotList) (queries : List Query) (n : ℕ) (u : Update) (us : List ℤ) where
+module _ (keys : List Key) (s : SlotList) (queries : List Query) (n : ℕ) (u : Update) (us : List ℤ) (marks₀ : List Bool) where
   pub record Queries (q : ℕ) (marks : List Bool) : Type 0 where
     pub within : q ≤ n
-    pub left : marksOver keys s queries u us (from q (n - q)) marks ≡ marksOf keys s queries n u us
+    pub left : marksOver keys s queries u us (from q (n - q)) marks ≡ marksOf keys s queries n u us marks₀
 
-  pub queries-start : Queries 0 (replicate 64 false)
+  pub queries-start : Queries 0 marks₀
   unfolding marksOf
-  queries-start = record { within = omega arith; left = ap (λ (k : ℕ). marksOver keys s queries u us (from 0 k) (replicate 64 false)) (sub-zero n) }
+  queries-start = record { within = omega arith; left = ap (λ (k : ℕ). marksOver keys s queries u us (from 0 k) marks₀) (sub-zero n) }
 
-  pub queries-end : (q : ℕ) (marks : List Bool) → n ≤ q → Queries q marks → marks ≡ marksOf keys s queries n u us
+  pub queries-end : (q : ℕ) (marks : List Bool) → n ≤ q → Queries q marks → marks ≡ marksOf keys s queries n u us marks₀
   queries-end q marks h Q = ap (λ (qs : List ℕ). marksOver keys s queries u us qs marks) (sym (from-none n q h)) ∙ Q .left
 
   module _ (q : ℕ) (marks : List Bool) (h : q < n) (Q : Queries q marks) (found : List Bool) (k : n ≤ 16) (e : found ≡ map (holdsAnswer keys s) (from 0 16)) where
@@ -225,7 +228,7 @@ module _ (keys : List Key) (s : SlotList) (queries : List Query) (n : ℕ) (u : 
         zero-plus q = omega arith
 
     turn-over : marksOver keys s queries u us (from (q + 1) (n - (q + 1))) (cond (holdsAnswer keys s q) (queryMarks keys s q (getD queries q noQuery) u us marks) marks)
-        ≡ marksOf keys s queries n u us
+        ≡ marksOf keys s queries n u us marks₀
     turn-over = ap (λ (qs : List ℕ). marksOver keys s queries u us qs marks) (sym (from-cons n q h)) ∙ Q .left
 
     pub queries-yes : (d : Query) (next : List Bool) → isMarked found q ≡ true → length queries ≡ 16 → next ≡ queryMarks keys s q (getD queries q d) u us marks → Queries (q + 1) next
@@ -251,3 +254,71 @@ module _ (keys : List Key) (s : SlotList) (queries : List Query) (n : ℕ) (u : 
         go : (b : Bool) → isMarked found q ≡ b → cond (holdsAnswer keys s q) (queryMarks keys s q (getD queries q noQuery) u us marks) marks ≡ marks
         go false f = rw (holds false f)
         go true f = rw (holds true f) (other-marks keys s q (getD queries q noQuery) u us marks (unlike f))
+
+-- ---- the update, and the removal of the row that it pushes out
+
+module _ (keys : List Key) (s : SlotList) (queries : List Query) (n : ℕ) (u : Update) (t : Table) (start : ℕ) (cells us : List ℤ) where
+  abbrev over : Update → List Bool → List Bool
+  over v marks = marksOf keys s queries n v us marks
+
+  abbrev goal : List Bool
+  goal = marksBoth keys s queries n u t start cells us
+
+  -- so many are still to be judged, v first
+  pub record Judging (left : ℕ) (v : Update) (marks : List Bool) : Type 0 where
+    pub few : left ≤ 2
+    pub both : left ≡ 2 → over (removalOf (u .table) t start cells) (over v marks) ≡ goal
+    pub last : left ≡ 1 → over v marks ≡ goal
+    pub done : left ≡ 0 → marks ≡ goal
+
+  pub judging-start : (none : List Bool) (left : ℕ) → none ≡ replicate 64 false → left ≡ cond (isPushing t u) 2 1 → Judging left u none
+  unfolding marksBoth
+  judging-start none left e l = go (isPushing t u) refl
+    where
+      own : over u none ≡ over u (replicate 64 false)
+      own = ap (over u) e
+
+      is : (b : Bool) → isPushing t u ≡ b → left ≡ cond b 2 1
+      is b p = l ∙ ap (λ (b : Bool). cond b 2 1) p
+
+      to : (b : Bool) → isPushing t u ≡ b → cond b (over (removalOf (u .table) t start cells) (over u (replicate 64 false))) (over u (replicate 64 false)) ≡ goal
+      to b p = ap (λ (b : Bool). cond b (over (removalOf (u .table) t start cells) (over u (replicate 64 false))) (over u (replicate 64 false))) (sym p)
+
+      go : (b : Bool) → isPushing t u ≡ b → Judging left u none
+      go true p =
+          let k : left ≡ 2 = is true p in
+          record {
+            few = omega (arith, k);
+            both = λ z. ap (over (removalOf (u .table) t start cells)) own ∙ to true p;
+            last = λ z. absurd (omega (arith, k, z));
+            done = λ z. absurd (omega (arith, k, z));
+          }
+      go false p =
+          let k : left ≡ 1 = is false p in
+          record { few = omega (arith, k); both = λ z. absurd (omega (arith, k, z)); last = λ z. own ∙ to false p; done = λ z. absurd (omega (arith, k, z)) }
+
+  module _ (left : ℕ) (v : Update) (marks : List Bool) (h : 0 < left) (J : Judging left v marks) (next : List Bool) (e : next ≡ over v marks) where
+    -- the removal comes next
+    pub judging-more : (w : Update) → w ≡ removalOf (u .table) t start cells → 0 < left - 1 → Judging (left - 1) w next
+    judging-more w r m =
+        let k : left ≡ 2 = omega (arith, J .few, m) in
+        record {
+          few = omega (arith, J .few);
+          both = λ z. absurd (omega (arith, k, z));
+          last = λ z. ap₂ over r e ∙ J .both k;
+          done = λ z. absurd (omega (arith, k, z));
+        }
+
+    -- nothing more
+    pub judging-last : left - 1 ≤ 0 → Judging (left - 1) v next
+    judging-last m =
+        let k : left ≡ 1 = omega (arith, h, m) in
+        record {
+          few = omega (arith, J .few);
+          both = λ z. absurd (omega (arith, k, z));
+          last = λ z. absurd (omega (arith, k, z));
+          done = λ z. e ∙ J .last k;
+        }
+
+  pub judging-end : (left : ℕ) (v : Update) (marks : List Bool) → left ≤ 0 → Judging left v marks → marks ≡ goal
+  judging-end left v marks h J = J .done (omega (arith, h))

@@ -155,13 +155,23 @@ module _ (keys : List Key) (s : SlotList) (queries : List Query) (u : Update) (u
       ∙ ap (λ (b : Bool). b || any matchedBy qs) (next-at q marks l)
       ∙ sym (or-assoc (isMarked marks y) (matchedBy q) (any matchedBy qs))
 
-  -- nothing else is marked
-  pub marks-match : (c : ℕ) → n ≡ 64 → key .query < c → isMarked (marksOf keys s queries c u us) y ≡ matchesStored (getD queries (key .query) noQuery) u us (valuesOf key)
+  -- as many marks as before
+  pub marks-length : (c : ℕ) (marks : List Bool) → length (marksOf keys s queries c u us marks) ≡ length marks
   unfolding marksOf
-  marks-match c e b =
+  marks-length c marks = go (from 0 c) marks
+    where
+      go : (qs : List ℕ) (marks : List Bool) → length (marksOver keys s queries u us qs marks) ≡ length marks
+      go [] marks = refl
+      go (q ∷ qs) marks = go qs (next q marks) ∙ next-length q marks
+
+  -- beside those that were marked, nothing else is
+  pub marks-match : (c : ℕ) → key .query < c → (marks : List Bool) → length marks ≡ n
+      → isMarked (marksOf keys s queries c u us marks) y ≡ (isMarked marks y || matchesStored (getD queries (key .query) noQuery) u us (valuesOf key))
+  unfolding marksOf
+  marks-match c b marks l =
       let M : ℕ → Bool = λ q. matchesStored (getD queries q noQuery) u us (valuesOf key) in
-      over-at (from 0 c) (replicate 64 false) (sym e)
-      ∙ ap (λ (b : Bool). b || any matchedBy (from 0 c)) (no-mark 64 y)
-      ∙ any-equal M (key .query) (from 0 c)
+      over-at (from 0 c) marks l
+      ∙ ap (λ (b : Bool). isMarked marks y || b)
+      (any-equal M (key .query) (from 0 c)
       ∙ ap (λ (b : Bool). M (key .query) && b) (any-member (key .query) (member-from 0 c (key .query) (omega arith) (omega arith)))
-      ∙ and-true (M (key .query))
+      ∙ and-true (M (key .query)))

@@ -26,7 +26,7 @@ use Rattle.statement.specs.declared.Statement.{Statement}
 use Rattle.statement.specs.Compiled.{noUpdate}
 use Rattle.statement.proofs.SoundQuery.{query-parts}
 use Rattle.table.proofs.ChangedMeans.{cells-length}
-use Rattle.pattern.proofs.Laws.{sound-few, matches-mean}
+use Rattle.pattern.proofs.Laws.{sound-few, judged-mean}
 use Rattle.slots.specs.declared.Found.{Found}
 use Rattle.slots.specs.declared.Found.the-variants.{At, Nothing}
 use Rattle.slots.specs.Keys.{keyOf, slotHas}
@@ -42,7 +42,7 @@ use Rattle.cache.specs.Demand.{lengthsLent}
 use Rattle.cache.proofs.Sounds.{Sound, sound-is, held-below, held-sound, query-at}
 use Rattle.cache.proofs.Meanings.{query-count, query-agrees}
 use Rattle.cache.proofs.Asking.{cache-means, read-asked, record-is, ask-number, new-number}
-use Rattle.cache.proofs.Updating.{update-there}
+use Rattle.cache.proofs.Updating.{update-there, update-long}
 use Rattle.cache.proofs.Plainly.{does-as-plain}
 use Rattle.cache.proofs.Dropping.{MatchesMean, matched-is}
 use Rattle.cache.proofs.Model.{heldIn, cacheOf}
@@ -249,7 +249,7 @@ module _ (s : Store) (p : Plain) (Ty : Typed (s .state)) (h : soundState (s .sta
 
 -- what crate `pattern` states of sound statements
 pub patterns-mean : MatchesMean
-patterns-mean ts q r A u s B h k us qs = matches-mean q r A u s B (sound-few ts q u h k) us qs
+patterns-mean ts q r A u s B h k out us qs = judged-mean q r A u s B (sound-few ts q u h k) out us qs
 
 module _ (s : Store) (p : Plain) (Ty : Typed (s .state)) (h : soundState (s .state) ≡ true)
     (m : Means (s .state) (s .cells) p) where
@@ -322,7 +322,7 @@ module _ (s : Store) (p : Plain) (Ty : Typed (s .state)) (h : soundState (s .sta
     drops-meet e g M = record {
       means = M;
       cached =
-          sym (cached-drop (s .state) Ty (sound-is (s .state) h) (s .memory) (isMatched (s .state) (updateAt (s .state) n) us) (matchesKey p n us) (matched-is patterns-mean (s .state) Ty (sound-is (s .state) h) (s .cells) p m n (update-there s p Ty h m n us e) us));
+          sym (cached-drop (s .state) Ty (sound-is (s .state) h) (s .memory) (isMatched (s .state) (s .cells) (updateAt (s .state) n) us) (matchesKey p n us) (matched-is patterns-mean (s .state) Ty (sound-is (s .state) h) (s .cells) p m n (update-there s p Ty h m n us e) (update-long s p Ty h m n us e) us));
       cells-long = cells-length (updateAt (s .state) n) _ _ (s .cells) us (eight n);
       memory-long = refl;
       bytes-same = refl;

@@ -37,7 +37,7 @@ module _ (s : State) (p : Plain) (t : length (p .tables) ≡ s .«table_count»)
 
   sentence-place : (x : Sentence) → noPlace p x ≡ false → hasPlace (structOf (statementOf (schemas p) x) .kind) s ≡ true
   unfolding noPlace structOf statementOf
-  sentence-place (G.table n cs z) h =
+  sentence-place (G.table n cs ring z) h =
       let l = leb-false most-tables (length (p .tables)) (or-left (leb most-tables (length (p .tables))) _ h) in
       lt-ltb (s .«table_count») most-tables (omega arith)
   sentence-place (G.select cs n w) h =

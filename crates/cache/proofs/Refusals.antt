@@ -1,13 +1,13 @@
 -- The number that a call gets is the lowest of document 01 that applies, and a call that gets one changes nothing. Assumes nothing.
 use mathlib.Core.Path.{_≡_, refl, sym, ap, _∙_, subst}
 use mathlib.Core.Logic.{_≢_}
-use mathlib.Core.Bool.{Bool, true, false, cond}
+use mathlib.Core.Bool.{Bool, true, false, not, _&&_, cond, and-false}
 use mathlib.Core.Option.{Option, none, some}
 use mathlib.Core.List.{List, [], _∷_, _++_}
 use Prim.Native.Nat.{ℕ, zero, suc, _<_}
 use native.Mathlib.Omega.{arith}
 use borrow.Author.Tests.{ltb-true}
-use lib.Dec.{ltb}
+use lib.Dec.{eqb, leb, ltb}
 use lib.IntN.{ℤ}
 use lib.ListN.{length}
 use Rattle.lists.proofs.Bools.{and-left, and-right}
@@ -18,6 +18,8 @@ use Rattle.meaning.specs.Plain.{orElse, lowestOf}
 use Rattle.meaning.specs.Demand.{rank}
 use Rattle.meaning.proofs.Accepted.{ascends, LowestIn, lowest-in}
 use Rattle.statement.specs.declared.Statement as D
+use Rattle.statement.specs.declared.Table.{Table}
+use Rattle.statement.specs.declared.Update.{Update}
 use Rattle.statement.specs.Catalog.{catalog}
 use Rattle.statement.specs.Compiled.{structOf, textConditions, structOfText, settled as compiledBy, compiledOf}
 use Rattle.slots.specs.declared.Found.{Found}
@@ -25,9 +27,9 @@ use Rattle.slots.specs.declared.Found.the-variants.{At, Nothing}
 use Rattle.cache.specs.declared.State.{State}
 use Rattle.cache.specs.declared.Added.{Added}
 use Rattle.cache.specs.declared.Flushed.{Flushed}
-use Rattle.cache.specs.Calls.{settled, unfit, compiledBeside, addRefused, addedOf, addedBy, addRefusal, addOf, Asks, asks as asked, askRefused, askConditions, askRefusal, cachedLength, askCached, newConditions, newRefusal, newly, askNew, askFound, foundIn, askOf, Updates, updates, updateRefused, updateAt, updateRefusal, updateDone, updateOf, emptied, flushOf}
+use Rattle.cache.specs.Calls.{settled, unfit, compiledBeside, addRefused, addedOf, addedBy, addRefusal, addOf, Asks, asks as asked, askRefused, askConditions, askRefusal, cachedLength, askCached, newConditions, newRefusal, newly, askNew, askFound, foundIn, askOf, Updates, updates, updateRefused, tableAt, updateAt, isFull, updateRefusal, updateDone, updateOf, emptied, flushOf}
 use Rattle.cache.specs.Run.{Store, Call, add, ask, update, flush, stepAdd, stepAsk, stepUpdate, stepFlush, step}
-use Rattle.cache.specs.Demand.{answerConditions, conditions, Lowest, LowestNumber, refusedWith, RefusedChangesNothing}
+use Rattle.cache.specs.Demand.{answerConditions, conditions, Lowest, LowestNumber, RingsNeverFull, refusedWith, RefusedChangesNothing}
 
 -- ---- a call that is settled by a number
 
@@ -261,6 +263,28 @@ lowest-number s c = subst (Lowest s c) (sym (number-is s c)) (record { given = l
   where
     l : LowestIn (conditions s c) (lowestOf (conditions s c))
     l = lowest-in 0 (conditions s c) (ascending s c)
+
+pub rings-never-full : RingsNeverFull
+rings-never-full s n vs r e =
+    go (unfit (s .state) (length (s .cells)) (length (s .memory))) (leb (s .state .«update_count») n) (not (eqb (length vs) (updateAt (s .state) n .parameters))) (sym number ∙ e)
+  where
+    free : isFull (s .state) (updateAt (s .state) n) ≡ false
+    free =
+        let u : Update = updateAt (s .state) n in
+        let t : Table = tableAt (s .state) (u .table) in
+        ap (λ (b : Bool). eqb (u .form) 0 && (not b && leb (t .capacity) (t .rows))) r ∙ and-false (eqb (u .form) 0)
+
+    number : step s (update n vs) .1 .got .refusal
+        ≡ orElse (unfit (s .state) (length (s .cells)) (length (s .memory))) 2 (orElse (leb (s .state .«update_count») n) 10 (orElse (not (eqb (length vs) (updateAt (s .state) n .parameters))) 11 0))
+    number =
+        number-is s (update n vs)
+        ∙ ap (λ (b : Bool). orElse (unfit (s .state) (length (s .cells)) (length (s .memory))) 2 (orElse (leb (s .state .«update_count») n) 10 (orElse (not (eqb (length vs) (updateAt (s .state) n .parameters))) 11 (orElse b 12 0)))) free
+
+    go : (a b c : Bool) → orElse a 2 (orElse b 10 (orElse c 11 0)) ≡ 12 → ⊥
+    go true b c h = absurd (omega arith)
+    go false true c h = absurd (omega arith)
+    go false false true h = absurd (omega arith)
+    go false false false h = absurd (omega arith)
 
 pub refused-changes-nothing : RefusedChangesNothing
 refused-changes-nothing s (add text) h = add-refused s text h

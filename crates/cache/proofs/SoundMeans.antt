@@ -22,6 +22,7 @@ use Rattle.cache.specs.Sound.{usedTables, schemasIn, IsSound, soundState
 use Rattle.cache.specs.Means.{Typed}
 use Rattle.cache.specs.Demand.{SoundExactlyIf}
 use Rattle.cache.proofs.Sounds as Tests
+use Rattle.cache.proofs.Starts.{rows-some, start-means, means-start}
 use Rattle.cache.proofs.Sounds.{Sound, sound-is, is-sound}
 
 module _ (s : State) (T : Typed s) where
@@ -45,6 +46,7 @@ module _ (s : State) (T : Typed s) where
         update-count = S .few-updates;
         areas = S .areas;
         rows = S .rows;
+        starts = All-map (λ t e. start-means t (e .0) (e .1)) (All-both (S .starts) (rows-some [] (usedTables s) (S .tables)));
         tables = λ before t behind e.
             table-sound (map schemaOf (before ++ behind)) t (fits before t behind e) .0 (tables-sound (usedTables s) .0 (S .tables) before t behind e);
         queries = All-map (λ q e. query-sound (schemasIn s) fit q (e .0) .0 (e .1)) (All-both (All-take (s .«query_count») (T .queries-fit)) (S .queries));
@@ -68,6 +70,7 @@ module _ (s : State) (T : Typed s) where
         few-updates = I .update-count;
         areas = I .areas;
         rows = I .rows;
+        starts = All-map means-start (I .starts);
         tables = tables;
         queries = All-map (λ q e. query-sound (schemasIn s) fit q (e .0) .1 (e .1)) (All-both (All-take (s .«query_count») (T .queries-fit)) (I .queries));
         updates = All-map (λ u e. update-sound (schemasIn s) fit u (e .0) .1 (e .1)) (All-both (All-take (s .«update_count») (T .updates-fit)) (I .updates));

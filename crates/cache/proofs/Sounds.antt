@@ -32,7 +32,7 @@ use Rattle.slots.specs.Keys.{slotKey, heldKeys, sameKey, heldTwice}
 use Rattle.slots.specs.Order.{heldSlots}
 use Rattle.slots.proofs.Laws as L
 use Rattle.cache.specs.declared.State.{State}
-use Rattle.cache.specs.Sound.{opening, soundSizes, soundCounts, usedTables, areasOf, soundAreas, rowsFit, soundRows, lengthAt, lengthFits, soundLengths, queryAt, soundKey, soundKeys, soundTables, soundAnswers, soundState, usedQueries, usedUpdates, OpeningWithin, KeyFits, schemasIn, sizesOf}
+use Rattle.cache.specs.Sound.{opening, soundSizes, soundCounts, usedTables, areasOf, soundAreas, startFits, rowsFit, soundRows, lengthAt, lengthFits, soundLengths, queryAt, soundKey, soundKeys, soundTables, soundAnswers, soundState, usedQueries, usedUpdates, OpeningWithin, KeyFits, schemasIn, sizesOf}
 use Rattle.cache.specs.Calls.{tableAt, updateAt}
 use Rattle.cache.specs.Means.{Typed}
 
@@ -94,6 +94,7 @@ pub record Sound (s : State) : Type 0 where
   pub few-updates : s .«update_count» ≤ most-updates
   pub areas : areasOf (usedTables s) ≤ s .cells
   pub rows : All (λ (t : Table). t .rows ≤ t .capacity) (usedTables s)
+  pub starts : All (λ (t : Table). startFits t ≡ true) (usedTables s)
   pub tables : S.soundTables [] (usedTables s) ≡ true
   pub queries : All (λ (q : Query). soundQuery (schemasIn s) q ≡ true) (usedQueries s)
   pub updates : All (λ (u : Update). soundUpdate (schemasIn s) u ≡ true) (usedUpdates s)
@@ -158,7 +159,8 @@ module _ (s : State) where
         few-queries = leb-true (s .«query_count») most-queries (and-left (leb (s .«query_count») most-queries) _ few);
         few-updates = leb-true (s .«update_count») most-updates (and-right (leb (s .«query_count») most-queries) _ few);
         areas = leb-true (areasOf (usedTables s)) (s .cells) (and-left (soundAreas s) _ ts);
-        rows = All-map (λ t e. leb-true (t .rows) (t .capacity) e) (all-true rowsFit (usedTables s) (and-left (soundRows s) _ ts₁));
+        rows = All-map (λ t e. leb-true (t .rows) (t .capacity) (and-left (leb (t .rows) (t .capacity)) _ e)) (all-true rowsFit (usedTables s) (and-left (soundRows s) _ ts₁));
+        starts = All-map (λ t e. and-right (leb (t .rows) (t .capacity)) (startFits t) e) (all-true rowsFit (usedTables s) (and-left (soundRows s) _ ts₁));
         tables = and-left tablesTest _ texts;
         queries = all-true (soundQuery (schemasIn s)) (usedQueries s) (and-left queriesTest _ statements);
         updates = all-true (soundUpdate (schemasIn s)) (usedUpdates s) (and-right queriesTest _ statements);
@@ -177,7 +179,7 @@ module _ (s : State) where
     unfolding soundTables tablesSound queriesSound updatesSound
     tables-hold =
         and-both (soundAreas s) _ (le-leb (areasOf (usedTables s)) (s .cells) (S .areas))
-        (and-both (soundRows s) _ (all-of rowsFit (All-map (λ t e. le-leb (t .rows) (t .capacity) e) (S .rows)))
+        (and-both (soundRows s) _ (all-of rowsFit (All-map (λ t e. and-both (leb (t .rows) (t .capacity)) (startFits t) (le-leb (t .rows) (t .capacity) (e .0)) (e .1)) (All-both (S .rows) (S .starts))))
         (and-both tablesTest _ (S .tables)
         (and-both queriesTest _ (all-of (soundQuery (schemasIn s)) (S .queries)) (all-of (soundUpdate (schemasIn s)) (S .updates)))))
 
@@ -232,6 +234,9 @@ module _ (s : State) (S : Sound s) where
 module _ (s : State) (T : Typed s) (S : Sound s) where
   pub rows-at : (i : ℕ) → i < s .«table_count» → tableAt s i .rows ≤ tableAt s i .capacity
   rows-at i h = All-first {P = λ (t : Table). t .rows ≤ t .capacity} (s .«table_count») (s .tables) i noTable (omega (arith, T .eight-tables, S .few-tables)) h (S .rows)
+
+  pub start-at : (i : ℕ) → i < s .«table_count» → startFits (tableAt s i) ≡ true
+  start-at i h = All-first {P = λ (t : Table). startFits t ≡ true} (s .«table_count») (s .tables) i noTable (omega (arith, T .eight-tables, S .few-tables)) h (S .starts)
 
   pub query-at : (i : ℕ) → i < s .«query_count» → soundQuery (schemasIn s) (queryAt s i) ≡ true
   query-at i h =

@@ -11,7 +11,7 @@ use borrow.Author.Tests.{ltb-true}
 use lib.Dec.{ltb}
 use lib.IntN.{ℤ}
 use lib.ListN.{length, getD, take, length-map, List·getD-map}
-use lib.Seq.{length-take-le, getD-take, take-take}
+use lib.Seq.{length-take-le, getD-take}
 use Rattle.lists.specs.Lists.{All, nil, cons}
 use Rattle.lists.proofs.Bools.{and-left}
 use Rattle.lists.proofs.Lists.{All-map, All-both, All-take}
@@ -29,14 +29,15 @@ use Rattle.statement.specs.Sound.{usedColumns, columnsAt, secondRead, soundSeco
 use Rattle.statement.proofs.SoundQuery.{query-parts}
 use Rattle.statement.proofs.SoundUpdate.{update-parts}
 use Rattle.cache.specs.declared.State.{State}
-use Rattle.cache.specs.Sound.{usedTables, areasOf, queryAt, usedQueries, usedUpdates, schemasIn, IsSound}
+use Rattle.cache.specs.Sound.{usedTables, queryAt, usedQueries, usedUpdates, schemasIn, IsSound}
 use Rattle.cache.specs.Means as L
 use Rattle.cache.specs.Means.{tablesIn, Compiled, Means, Typed}
 use Rattle.cache.specs.Calls.{startOf, tableAt, updateAt}
 use Rattle.cache.specs.Demand.{FromSentences, StandsForPlain}
 use Rattle.cache.proofs.Sounds.{Sound, sound-is, schemas-long, tables-fit, query-at, update-at, All-first}
 use Rattle.cache.proofs.SoundMeans.{sentence-holds}
-use Rattle.cache.proofs.Areas.{area-within, schemas-from}
+use Rattle.cache.proofs.Areas.{schemas-from}
+use Rattle.cache.proofs.Pushing.{area-inside as area-in}
 use Rattle.cache.proofs.StaysAdded.{columns-few}
 
 -- ---- lists of which each member is the compiled form of the other's
@@ -110,12 +111,7 @@ module _ (s : State) (T : Typed s) (S : Sound s) where
 
     -- its area
     pub area-inside : startOf s i + tableAt s i .count * tableAt s i .capacity ≤ s .cells
-    area-inside =
-        let below : i < length (usedTables s) = subst (λ (n : ℕ). i < n) (sym (length-take-le (s .«table_count») (s .tables) few-tables)) h in
-        let a : areasOf (take i (usedTables s)) + tableAt s i .count * tableAt s i .capacity ≤ areasOf (usedTables s) =
-        subst (λ (t : Table). areasOf (take i (usedTables s)) + t .count * t .capacity ≤ areasOf (usedTables s)) the-table (area-within (usedTables s) i below) in
-        let b : areasOf (take i (usedTables s)) ≡ startOf s i = ap areasOf (take-take i (s .«table_count») (s .tables) (omega arith)) in
-        omega (arith, S .areas)
+    area-inside = area-in s S few-tables i h
 
   -- the table of a question, and of an update, is there
   pub query-table : (i : ℕ) → i < s .«query_count» → queryAt s i .table < s .«table_count»
@@ -139,7 +135,7 @@ module _ (s : State) (T : Typed s) (S : Sound s) where
 
 -- a stored table that is the compiled form of a schema has it
 agrees-schema : (t : Table) (r : Schema) → AgreesTable t r → r ≡ schemaOf t
-agrees-schema t r A = λ j. record { name = sym (A .name-is) j; columns = sym (A .columns-are) j; capacity = sym (A .capacity-is) j }
+agrees-schema t r A = λ j. record { name = sym (A .name-is) j; columns = sym (A .columns-are) j; capacity = sym (A .capacity-is) j; ring = sym (A .ring-is) j }
 
 module _ (s : State) (cells : List ℤ) (I : IsSound s) where
   -- a statement of a sentence that passes

@@ -40,6 +40,7 @@ use Rattle.cache.specs.Calls.{addedTable, addedQuery, addedUpdate, compi
 use Rattle.cache.specs.Means.{Typed}
 use Rattle.cache.specs.Run.{Store, add, step}
 use Rattle.cache.proofs.Sounds.{Sound}
+use Rattle.cache.proofs.Starts.{start-first}
 use Rattle.cache.proofs.StaysCases.{by-add}
 use Rattle.cache.proofs.Parts.{take-more}
 
@@ -49,6 +50,7 @@ pub record Placed (tables queries updates used cells : ℕ) (r : Statement) : Ty
   pub table-place : r .kind ≡ 1 → tables < most-tables
   pub table-room : r .kind ≡ 1 → r .table .count * r .table .capacity ≤ cells - used
   pub table-empty : r .kind ≡ 1 → r .table .rows ≡ 0
+  pub table-first : r .kind ≡ 1 → r .table .oldest ≡ 0
   pub query-place : r .kind ≡ 2 → queries < most-queries
   pub update-place : r .kind ≡ 3 → updates < most-updates
 
@@ -61,6 +63,7 @@ module _ (p : Plain) where
     table-place = λ e. absurd (omega arith);
     table-room = λ e. absurd (omega arith);
     table-empty = λ e. absurd (omega arith);
+    table-first = λ e. absurd (omega arith);
     query-place = λ e. leb-false most-queries (length (p .queries)) h;
     update-place = λ e. absurd (omega arith);
   }
@@ -70,16 +73,18 @@ module _ (p : Plain) where
     table-place = λ e. absurd (omega arith);
     table-room = λ e. absurd (omega arith);
     table-empty = λ e. absurd (omega arith);
+    table-first = λ e. absurd (omega arith);
     query-place = λ e. absurd (omega arith);
     update-place = λ e. leb-false most-updates (length (p .updates)) h;
   }
 
   sentence-placed : (s : Sentence) → noPlace p s ≡ false → PlacedIn (structOf (statementOf (schemas p) s))
   unfolding noPlace structOf statementOf
-  sentence-placed (G.table t cs z) h = record {
+  sentence-placed (G.table t cs ring z) h = record {
     table-place = λ e. leb-false most-tables (length (p .tables)) (or-left (leb most-tables (length (p .tables))) _ h);
     table-room = λ e. ltb-false (cellsLeft p) (length (items cs) * natAbs z) (or-right (leb most-tables (length (p .tables))) _ h);
     table-empty = λ e. refl;
+    table-first = λ e. refl;
     query-place = λ e. absurd (omega arith);
     update-place = λ e. absurd (omega arith);
   }
@@ -117,6 +122,7 @@ module _ (text : List ℕ) (tables : List Table) (used queries updates cells : �
         table-place = λ e. subst (λ (n : ℕ). n < most-tables) t (P .table-place e);
         table-room = λ e. subst (λ (n : ℕ). r .table .count * r .table .capacity ≤ cells - n) a (P .table-room e);
         table-empty = P .table-empty;
+        table-first = P .table-first;
         query-place = λ e. subst (λ (n : ℕ). n < most-queries) q (P .query-place e);
         update-place = λ e. subst (λ (n : ℕ). n < most-updates) u (P .update-place e);
       }
@@ -148,6 +154,7 @@ module _ (s : State) (T : Typed s) (S : Sound s) where
       few-updates = S .few-updates;
       areas = S .areas;
       rows = S .rows;
+      starts = S .starts;
       tables = S .tables;
       queries = All-more (s .queries) (s .«query_count») q (omega (arith, T .sixteen-queries)) ok (S .queries);
       updates = S .updates;
@@ -167,6 +174,7 @@ module _ (s : State) (T : Typed s) (S : Sound s) where
     few-updates = omega arith;
     areas = S .areas;
     rows = S .rows;
+    starts = S .starts;
     tables = S .tables;
     queries = S .queries;
     updates = All-more (s .updates) (s .«update_count») u (omega (arith, T .sixteen-updates)) ok (S .updates);
@@ -207,7 +215,7 @@ tables-more before (a ∷ ts) t h k =
     (subst (λ (us : List Schema). soundTable us t ≡ true) (sym (append-assoc before (schemaOf a ∷ []) (map schemaOf ts))) k))
 
 module _ (s : State) (T : Typed s) (S : Sound s) (t : Table) (ok : soundTable (schemasIn s) t ≡ true) (place : s .«table_count» < most-tables)
-    (room : t .count * t .capacity ≤ s .cells - areasSize (schemasIn s)) (empty : t .rows ≡ 0) where
+    (room : t .count * t .capacity ≤ s .cells - areasSize (schemasIn s)) (empty : t .rows ≡ 0) (first : t .oldest ≡ 0) where
   abbrev created : State
   created = addedTable s t .state
 
@@ -229,6 +237,7 @@ module _ (s : State) (T : Typed s) (S : Sound s) (t : Table) (ok : soundTable (s
         let m : areasOf (usedTables created) ≡ areasOf (usedTables s) + t .count * t .capacity = ap areasOf used-more ∙ areas-more (usedTables s) t in
         omega (arith, S .areas);
     rows = All-more (s .tables) (s .«table_count») t (omega (arith, T .eight-tables)) (omega arith) (S .rows);
+    starts = All-more (s .tables) (s .«table_count») t (omega (arith, T .eight-tables)) (start-first t first) (S .starts);
     tables = ap (soundTables []) used-more ∙ tables-more [] (usedTables s) t (S .tables) ok;
     queries =
         subst (λ (ts : List Schema). All (λ (q : Query). soundQuery ts q ≡ true) (usedQueries s)) (sym schemas-more)
@@ -263,6 +272,6 @@ module _ (s : Store) (text : List ℕ) (T : Typed (s .state)) (S : Sound (s .sta
       by-add Sound s S text
       (λ h.
       let P = placed (h .1) in
-      table-added st T S (compiled .table) (sound (h .1) .table-sound (h .2)) (P .table-place (h .2)) (P .table-room (h .2)) (P .table-empty (h .2)))
+      table-added st T S (compiled .table) (sound (h .1) .table-sound (h .2)) (P .table-place (h .2)) (P .table-room (h .2)) (P .table-empty (h .2)) (P .table-first (h .2)))
       (λ h. query-added st T S (compiled .query) (sound (h .1) .query-sound (h .2)) (placed (h .1) .query-place (h .2)))
       (λ h. update-added st T S (compiled .update) (sound (h .1) .update-sound (h .2)) (placed (h .1) .update-place (h .2)))

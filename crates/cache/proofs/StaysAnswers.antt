@@ -68,6 +68,7 @@ module _ (s : State) (S : Sound s) where
     few-updates = S .few-updates;
     areas = S .areas;
     rows = S .rows;
+    starts = S .starts;
     tables = S .tables;
     queries = S .queries;
     updates = S .updates;

@@ -161,11 +161,11 @@ settings-fitting ss h a = (padded-length 8 noSetting (map settingStruct ss) (ome
 
 sentence-fits : (ts : List Schema) (s : Sentence) → pastLimit s ≡ false → Fitting (structOf (statementOf ts s))
 unfolding structOf statementOf
-sentence-fits ts (G.table t cs z) h =
-    let names = short-names (G.table t cs z) h in
+sentence-fits ts (G.table t cs ring z) h =
+    let names = short-names (G.table t cs ring z) h in
     record {
       table-fits = record {
-        eight = padded-length 8 noName (map nameStruct (items cs)) (omega (arith, length-map (items cs) nameStruct, few-columns (G.table t cs z) h));
+        eight = padded-length 8 noName (map nameStruct (items cs)) (omega (arith, length-map (items cs) nameStruct, few-columns (G.table t cs ring z) h));
         name-fits = name-fits t (All-head names);
         columns-fit = All-padded 8 noName refl (All-image nameStruct (All-map name-fits (All-left (items cs) _ (All-tail names))));
       };

@@ -30,6 +30,7 @@ empty-sound o F = record {
   few-updates = omega arith;
   areas = omega arith;
   rows = nil;
+  starts = nil;
   tables = refl;
   queries = nil;
   updates = nil;

@@ -1,16 +1,16 @@
 -- The test of a state, part by part, as the code computes it: sizes, counts, areas of tables, held slots, and what one part says of the whole. Assumes nothing.
-use mathlib.Core.Path.{_≡_, refl, sym, ap, ap₂, _∙_}
+use mathlib.Core.Path.{_≡_, refl, sym, ap, ap₂, _∙_, subst}
 use mathlib.Core.Bool.{Bool, true, false, not, _&&_, _||_, and-true, and-false, cond}
 use mathlib.Core.List.{List, [], _∷_, _++_, map}
 use Prim.Native.Nat.{ℕ, zero, suc, _+_, _-_, _*_, _%_, _≤_, _<_}
 use native.Mathlib.Nat.{mul-le-mul}
 use native.Mathlib.Omega.{arith}
-use borrow.Author.Tests.{leb-true, ltb-true, ltb-false, leb-false}
+use borrow.Author.Tests.{leb-true, ltb-true, ltb-false, leb-false, le-leb, eq-eqb}
 use lib.Dec.{eqb, leb, ltb}
 use lib.ListN.{length, take, getD, set, replicate, List·getD-map}
 use lib.Seq.{getD-take}
 use Rattle.lists.specs.Lists.{all}
-use Rattle.lists.proofs.Bools.{and-assoc, and-left, and-right, leb-not}
+use Rattle.lists.proofs.Bools.{and-assoc, and-both, and-left, and-right, leb-not}
 use Rattle.lists.proofs.Places.{getD-inside}
 use Rattle.lists.proofs.Walks.{rest, rest-cons, rest-none}
 use Rattle.meaning.specs.Plain.{openingRefused}
@@ -125,6 +125,31 @@ module _ (n : ℕ) (tables : List Table) where
 
   pub rows-end : (fit : Bool) (i : ℕ) → n ≤ i → Rows fit i → fit ≡ all rowsFit (take n tables)
   rows-end fit i h R = sym (and-true fit) ∙ ap (λ (ts : List Table). fit && all rowsFit ts) (sym (rest-none n i tables h)) ∙ R .left
+
+-- rows and starting place as one number: where that is at most the capacity, the oldest row lies first
+pub plain-fits : (t : Table) → t .capacity < 65536 → leb (t .rows + 65536 * t .oldest) (t .capacity) ≡ true → rowsFit t ≡ true
+plain-fits t few h =
+    let k : t .rows + 65536 * t .oldest ≤ t .capacity = leb-true (t .rows + 65536 * t .oldest) (t .capacity) h in
+    let z : t .oldest ≡ 0 = omega (arith, k, few) in
+    let r : t .rows ≤ t .capacity = omega (arith, k) in
+    and-both (leb (t .rows) (t .capacity)) _ (le-leb (t .rows) (t .capacity) r)
+    (ap (λ (b : Bool). b || (t .ring && (eqb (t .rows) (t .capacity) && ltb (t .oldest) (t .capacity)))) (eq-eqb (t .oldest) 0 z))
+
+-- all tables so far are such
+abbrev pub Plain : ℕ → List Table → Bool → ℕ → Type 0
+Plain n tables plain i = plain ≡ true → Rows n tables true i
+
+pub plain-more : (n : ℕ) (tables : List Table) → n ≤ length tables → (plain : Bool) (i : ℕ) (d : Table) (b : Bool)
+    → b ≡ leb (getD tables i d .rows + 65536 * getD tables i d .oldest) (getD tables i d .capacity) → getD tables i d .capacity < 65536
+    → Plain n tables plain i → Plain n tables (plain && (leb n i || b)) (i + 1)
+plain-more n tables h plain i d b s k P e =
+    let f : b ≡ true → rowsFit (getD tables i d) ≡ true = λ t. plain-fits (getD tables i d) k (sym s ∙ t) in
+    let R : Rows n tables (true && (leb n i || rowsFit (getD tables i d))) (i + 1) = rows-more n tables h true i d (P (and-left plain (leb n i || b) e)) in
+    subst (λ (x : Bool). Rows n tables x (i + 1)) (go (leb n i) b (and-right plain (leb n i || b) e) f) R
+  where
+    go : (l b : Bool) → (l || b) ≡ true → (b ≡ true → rowsFit (getD tables i d) ≡ true) → (l || rowsFit (getD tables i d)) ≡ true
+    go true b e f = refl
+    go false b e f = f e
 
 -- ---- held slots
 

@@ -101,8 +101,8 @@ module _ (s : State) (T : Typed s) where
     keys-fit = T .keys-fit;
   }
 
-  rows-typed : (i n : ℕ) → TableStructFits (withRows (tableAt s i) n)
-  rows-typed i n =
+  rows-typed : (i n k : ℕ) → TableStructFits (withRows (tableAt s i) n k)
+  rows-typed i n k =
       let F : TableStructFits (tableAt s i) = All-getD i noTable no-table (T .tables-fit) in
       record { eight = F .eight; name-fits = F .name-fits; columns-fit = F .columns-fit }
 
@@ -164,7 +164,7 @@ step-typed s (ask n vs buffer) T =
 step-typed s (update n vs) T =
     let st : State = s .state in
     by-update Typed s T n vs
-    (λ a. change-typed st T (updateAt st n .table) _ _ (rows-typed st T (updateAt st n .table) _) (drop-length (st .slots) (isMatched st (updateAt st n) vs)))
+    (λ a. change-typed st T (updateAt st n .table) _ _ (rows-typed st T (updateAt st n .table) _ _) (drop-length (st .slots) (isMatched st (s .cells) (updateAt st n) vs)))
 step-typed s flush T =
     let st : State = s .state in
     by-flush Typed s T (cache-typed st T _ (st .keys) (st .lengths) (drop-length (st .slots) (λ x. true)) refl refl (T .keys-fit))

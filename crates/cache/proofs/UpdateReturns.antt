@@ -1,5 +1,5 @@
 -- What each return of an update owes, over plain variables. Assumes nothing.
-use mathlib.Core.Path.{_≡_, refl, sym, ap, _∙_}
+use mathlib.Core.Path.{_≡_, refl, sym, ap, ap₂, _∙_}
 use mathlib.Core.Logic.{_≢_}
 use mathlib.Core.Bool.{Bool, true, false, not, _&&_}
 use mathlib.Core.List.{List}
@@ -10,7 +10,7 @@ use lib.Dec.{eqb, leb}
 use lib.IntN.{ℤ}
 use lib.ListN.{length, getD, length-map}
 use lib.Seq.{length-take-le}
-use Rattle.lists.specs.Lists.{count}
+use Rattle.lists.specs.Lists.{All, count}
 use Rattle.lists.proofs.Lists.{All-head, All-tail}
 use Rattle.lists.proofs.Places.{getD-inside}
 use Rattle.meaning.specs.Limits.{most-tables, most-updates, most-slots}
@@ -25,13 +25,14 @@ use Rattle.statement.proofs.SoundUpdate.{update-parts}
 use Rattle.table.specs.Changed.{changeOf, cellsAfter}
 use Rattle.table.specs.declared.changes.Changed.{Changed}
 use Rattle.slots.specs.declared.SlotList.{SlotList}
-use Rattle.slots.specs.Order.{heldSlots, dropBy, dropOf}
+use Rattle.slots.specs.Order.{heldSlots, isMarked, dropBy, dropOf}
 use Rattle.cache.specs.declared.State.{State}
 use Rattle.cache.specs.Sound.{usedTables, soundState, schemasIn}
-use Rattle.cache.specs.Marks.{marksOf}
+use Rattle.cache.specs.Marks.{marksBoth}
 use Rattle.cache.specs.Calls.{unfit, tableAt, startOf, updateAt, isFull, Updates, updates, updateConditions, updateRefusal, isMatched, withRows, withChange, updateRefused, updateDone, updateOf}
 use Rattle.cache.proofs.Sounds.{Sound, sound-is, All-first}
 use Rattle.cache.proofs.Settled.{settled-refused, settled-done, fit-is}
+use Rattle.cache.proofs.Pushing.{first-row}
 use Rattle.cache.proofs.DropsMarked.{drop-marked, drop-fewer, drop-count, marks-matched}
 
 -- ---- an update and its table, whatever stands in past the end
@@ -97,23 +98,25 @@ module _ (s : State) (cells memory update values : ℕ) where
       values-refused k = refusal-is false false true _ f there (ap not (ne-eqb values (updateAt s update .parameters) (λ e. k (e ∙ sym parameters-are)))) refl
 
       -- a table that is full, or is not
-      pub full-refused : values ≡ u .parameters → (e : Table) (b : Bool) → let t = getD (s .tables) (u .table) e in (eqb (u .form) 0 && leb (t .capacity) (t .rows)) ≡ b
+      pub full-refused : values ≡ u .parameters → (e : Table) (b : Bool) → let t = getD (s .tables) (u .table) e in (eqb (u .form) 0 && (not (t .ring) && leb (t .capacity) (t .rows))) ≡ b
           → orElse b 12 0 ≡ updateRefusal s cells memory update values
       full-refused k e b q =
           let t : getD (s .tables) (u .table) e ≡ tableAt s (u .table) = table-read s sound (L .tables) (u .table) e (table-there s sound L update h d) in
           refusal-is false false false b f there (ap not (eq-eqb values (updateAt s update .parameters) (k ∙ parameters-are)))
-          (ap (isFull s) (sym (update-read s sound L update h d)) ∙ ap (λ (t : Table). eqb (u .form) 0 && leb (t .capacity) (t .rows)) (sym t) ∙ q)
+          (ap (isFull s) (sym (update-read s sound L update h d)) ∙ ap (λ (t : Table). eqb (u .form) 0 && (not (t .ring) && leb (t .capacity) (t .rows))) (sym t) ∙ q)
 
   -- an update that is not refused
   pub record Accepted : Type 0 where
     pub sound : soundState s ≡ true
+    pub cells-are : cells ≡ s .cells
     pub there : update < s .«update_count»
 
   pub accepted : updateRefusal s cells memory update values ≡ 0 → Accepted
   unfolding updateRefusal
   accepted e =
       let a = clear 0 (updateConditions s cells memory update values) refl .0 e in
-      record { sound = fit-is s cells memory (All-head a) .sound; there = leb-false (s .«update_count») update (All-head (All-tail a)) }
+      let F = fit-is s cells memory (All-head a) in
+      record { sound = F .sound; cells-are = F .cells-are; there = leb-false (s .«update_count») update (All-head (All-tail a)) }
 
 -- ---- refused or done
 
@@ -130,10 +133,11 @@ module _ (s : State) (cells : List ℤ) (memory update : ℕ) (values : List ℤ
 
 -- ---- what is done
 
-module _ (s : State) (h : soundState s ≡ true) (long : length (s .slots .order) ≡ most-slots) (u : Update) (values : List ℤ) (gone : List Bool) (left : SlotList)
-    (g : gone ≡ marksOf (s .keys) (s .slots) (s .queries) (s .«query_count») u values) (l : left ≡ dropOf (s .slots) gone) where
+module _ (s : State) (h : soundState s ≡ true) (long : length (s .slots .order) ≡ most-slots) (lt : length (s .tables) ≡ most-tables) (u : Update) (k : u .table < s .«table_count»)
+    (cells values : List ℤ) (lent : length cells ≡ s .cells) (d : Table) (start : ℕ) (es : start ≡ startOf s (u .table)) (gone : List Bool) (left : SlotList)
+    (g : gone ≡ marksBoth (s .keys) (s .slots) (s .queries) (s .«query_count») u (getD (s .tables) (u .table) d) start cells values) (l : left ≡ dropOf (s .slots) gone) where
   abbrev test : ℕ → Bool
-  test = isMatched s u values
+  test = isMatched s cells u values
 
   S : Sound s
   S = sound-is s h
@@ -142,30 +146,38 @@ module _ (s : State) (h : soundState s ≡ true) (long : length (s .slots .order
   held-few = omega (arith, S .slots .few, S .slots .within)
 
   abbrev marks : List Bool
-  marks = marksOf (s .keys) (s .slots) (s .queries) (s .«query_count») u values
+  marks = marksBoth (s .keys) (s .slots) (s .queries) (s .«query_count») u (tableAt s (u .table)) (startOf s (u .table)) cells values
+
+  table-is : getD (s .tables) (u .table) d ≡ tableAt s (u .table)
+  table-is = table-read s h lt (u .table) d k
 
   dropped : left ≡ dropOf (s .slots) marks
-  dropped = l ∙ ap (dropOf (s .slots)) g
+  dropped =
+      l ∙ ap (dropOf (s .slots))
+      (g ∙ ap₂ (λ (t : Table) (n : ℕ). marksBoth (s .keys) (s .slots) (s .queries) (s .«query_count») u t n cells values) table-is es)
+
+  matched : All (λ x. isMarked marks x ≡ test x) (heldSlots (s .slots))
+  matched = marks-matched s S u cells values (first-row s S (omega (arith, S .few-tables)) (u .table) k cells lent u)
 
   pub left-fewer : left .held ≤ s .slots .held
-  left-fewer = rw dropped (drop-fewer test (s .slots) marks (marks-matched s u values S) held-few)
+  left-fewer = rw dropped (drop-fewer test (s .slots) marks matched held-few)
 
   left-is : left ≡ dropBy test (s .slots)
-  left-is = dropped ∙ drop-marked test (s .slots) marks (marks-matched s u values S)
+  left-is = dropped ∙ drop-marked test (s .slots) marks matched
 
   fewer-is : s .slots .held - left .held ≡ count test (heldSlots (s .slots))
-  fewer-is = rw dropped (drop-count test (s .slots) marks (marks-matched s u values S) held-few)
+  fewer-is = rw dropped (drop-count test (s .slots) marks matched held-few)
 
-  pub updated-is : length (s .tables) ≡ most-tables → u .table < s .«table_count» → (cells after : List ℤ) (d : Table) (start : ℕ) (done : Changed)
+  pub updated-is : (after : List ℤ) (done : Changed)
       → let t = getD (s .tables) (u .table) d in
-      start ≡ startOf s (u .table) → done ≡ changeOf u t start cells values → after ≡ cellsAfter u t start cells values
+      done ≡ changeOf u t start cells values → after ≡ cellsAfter u t start cells values
       → updates
       (record {
         refusal = 0;
         rows = done .count;
         invalidated = s .slots .held - left .held;
-        state = withChange s (u .table) (withRows t (done .rows)) left;
+        state = withChange s (u .table) (withRows t (done .rows) (done .oldest)) left;
       })
       after ≡ updateDone s cells u values
   unfolding updateDone
-  updated-is lt k cells after d start done es ed ea = rw (fewer-is, left-is, ed, ea, table-read s h lt (u .table) d k, es)
+  updated-is after done ed ea = rw (fewer-is, left-is, ed, ea, table-is, es)

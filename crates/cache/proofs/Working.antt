@@ -9,7 +9,8 @@ use borrow.Author.Tests.{le-ltb, le-leb, leb-true, leb-false, lt-ltb}
 use lib.Dec.{leb, ltb}
 use lib.IntN.{ℤ}
 use lib.ListN.{length, take, drop, getD, length-map}
-use Rattle.lists.specs.Lists.{All, nil, cons, keep, pairs, written}
+use Rattle.lists.specs.Lists.{All, nil, cons, keep, pairs, turned, written}
+use Rattle.lists.proofs.Turned.{length-turned}
 use Rattle.lists.proofs.Bools.{and-left, and-right}
 use Rattle.lists.proofs.Places.{getD-inside, length-keep}
 use Rattle.meaning.specs.Cells.{rowsIn}
@@ -41,8 +42,8 @@ use Rattle.cache.proofs.Inside.{behind-zero}
 rows-few : (t : Table) (start : ℕ) (cells : List ℤ) → length (rowsUsed t start cells) ≤ t .rows
 rows-few t start cells = go (leb (start + rowCells t) (length cells))
   where
-    go : (b : Bool) → length (cond b (areaRows (t .count) (t .rows) (drop start cells)) []) ≤ t .rows
-    go true = omega (arith, rows-length (t .count) (t .rows) (drop start cells))
+    go : (b : Bool) → length (cond b (turned (t .oldest) (areaRows (t .count) (t .rows) (drop start cells))) []) ≤ t .rows
+    go true = omega (arith, length-turned (t .oldest) (areaRows (t .count) (t .rows) (drop start cells)), rows-length (t .count) (t .rows) (drop start cells))
     go false = omega arith
 
 listed-few : (q : Query) (vs : List ℤ) (rows : List Row) → length (answerStored q vs rows) ≤ length rows

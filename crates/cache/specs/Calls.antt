@@ -2,20 +2,21 @@
 -- taken". Each is one record: the result, with the state in it, and the lent memories. Assumes nothing: these are definitions.
 use mathlib.Core.Bool.{Bool, false, not, _&&_, _||_, cond}
 use mathlib.Core.Option.{Option, none, some}
-use mathlib.Core.List.{List, [], _∷_}
+use mathlib.Core.List.{List, [], _∷_, map}
 use Prim.Native.Nat.{ℕ, zero, suc, _+_, _*_}
 use lib.Dec.{eqb, leb, ltb}
 use lib.IntN.{ℤ, pos}
 use lib.ListN.{length, take, drop, getD, set, replicate}
-use Rattle.lists.specs.Lists.{written, count, pairs}
+use Rattle.lists.specs.Lists.{written, count, any, pairs}
 use Rattle.meaning.specs.Limits.{most-tables, most-queries, most-updates, most-listed}
 use Rattle.meaning.specs.Statement.{Second}
+use Rattle.meaning.specs.Pattern.{removal}
 use Rattle.meaning.specs.Plain.{Opening, openingRefused, lowestOf}
 use Rattle.statement.specs.declared.Table.{Table}
 use Rattle.statement.specs.declared.Query.{Query}
 use Rattle.statement.specs.declared.Update.{Update}
 use Rattle.statement.specs.declared.Statement.{Statement}
-use Rattle.statement.specs.Compiled.{noTable, noQuery, noUpdate, compiledOf}
+use Rattle.statement.specs.Compiled.{noTable, noQuery, noUpdate, updateStruct, compiledOf}
 use Rattle.statement.specs.Sound.{secondRead}
 use Rattle.table.specs.Evaluated.{rowsUsed, answerStored, recordStored}
 use Rattle.table.specs.Changed.{changeOf, cellsAfter}
@@ -333,9 +334,11 @@ updates r cells = record { result = r; cells = cells }
 abbrev pub updateAt : State → ℕ → Update
 updateAt s i = getD (s .updates) i noUpdate
 
--- 12: "INSERT, table full"; form 0 is INSERT
+-- 12: "INSERT, table full"; form 0 is INSERT. Of a ring, A.4: "12 isn't given for it"
 abbrev pub isFull : State → Update → Bool
-isFull s u = eqb (u .form) 0 && leb (tableAt s (u .table) .capacity) (tableAt s (u .table) .rows)
+isFull s u =
+    let t = tableAt s (u .table) in
+    eqb (u .form) 0 && (not (t .ring) && leb (t .capacity) (t .rows))
 
 abbrev pub updateConditions : State → ℕ → ℕ → ℕ → ℕ → List (ℕ × Bool)
 updateConditions s cells memory update values =
@@ -348,15 +351,26 @@ updateConditions s cells memory update values =
 unfoldable pub updateRefusal : State → ℕ → ℕ → ℕ → ℕ → ℕ
 updateRefusal s cells memory update values = lowestOf (updateConditions s cells memory update values)
 
--- "A kept answer is dropped when a pattern, filled with the update's values, agrees with its key": that of the slot x
-unfoldable pub isMatched : State → Update → List ℤ → ℕ → Bool
-isMatched s u values x =
-    let k = slotKey (s .keys) x in
-    matchesStored (queryAt s (k .query)) u values (valuesOf k)
+-- A.4: "an INSERT into a full table first removes the oldest row": the row that goes, or none
+abbrev pub isPushing : Table → Update → Bool
+isPushing t u = t .ring && (eqb (u .form) 0 && leb (t .capacity) (t .rows))
 
--- the table with so many rows in use
-abbrev pub withRows : Table → ℕ → Table
-withRows t n = record { name = t .name; columns = t .columns; count = t .count; capacity = t .capacity; rows = n }
+abbrev pub pushedBy : State → List ℤ → Update → List (List ℤ)
+pushedBy s cells u = cond (isPushing (tableAt s (u .table)) u) (take 1 (rowsAt s cells (u .table))) []
+
+-- "When a row is pushed out, kept answers are judged for it as well": the update, and the removal of that row
+abbrev pub judged : State → List ℤ → Update → List Update
+judged s cells u = u ∷ map (λ (r : List ℤ). updateStruct (removal (u .table) r)) (pushedBy s cells u)
+
+-- "A kept answer is dropped when a pattern, filled with the update's values, agrees with its key": that of the slot x
+unfoldable pub isMatched : State → List ℤ → Update → List ℤ → ℕ → Bool
+isMatched s cells u values x =
+    let k = slotKey (s .keys) x in
+    any (λ (v : Update). matchesStored (queryAt s (k .query)) v values (valuesOf k)) (judged s cells u)
+
+-- the table with so many rows in use, the oldest of them at that place
+abbrev pub withRows : Table → ℕ → ℕ → Table
+withRows t n k = record { name = t .name; columns = t .columns; count = t .count; capacity = t .capacity; rows = n; oldest = k; ring = t .ring }
 
 unfoldable pub withChange : State → ℕ → Table → SlotList → State
 withChange s i t slots = record {
@@ -386,8 +400,8 @@ updateDone s cells u values =
       result = record {
         refusal = 0;
         rows = c .count;
-        invalidated = count (isMatched s u values) (heldSlots (s .slots));
-        state = withChange s (u .table) (withRows t (c .rows)) (dropBy (isMatched s u values) (s .slots));
+        invalidated = count (isMatched s cells u values) (heldSlots (s .slots));
+        state = withChange s (u .table) (withRows t (c .rows) (c .oldest)) (dropBy (isMatched s cells u values) (s .slots));
       };
       cells = cellsAfter u t (startOf s (u .table)) cells values;
     }

@@ -30,7 +30,7 @@ use Rattle.slots.specs.Order.{slotsOf}
 use Rattle.cache.specs.declared.State.{State}
 use Rattle.cache.specs.Sound.{opening, sizesOf, usedTables, schemasIn, areasOf, lengthAt, keysIn, OpeningWithin, IsSound, soundState}
 use Rattle.cache.specs.Means.{tablesIn, Means, Typed}
-use Rattle.cache.specs.Calls.{unfit, askConditions, cachedLength, bytesAt, newConditions, foundIn, updateConditions}
+use Rattle.cache.specs.Calls.{unfit, askConditions, cachedLength, bytesAt, newConditions, foundIn, tableAt, updateAt, updateConditions}
 use Rattle.cache.specs.Run.{Store, Start, openingOf, openedBy, opened, Call, add, ask, update, flush, Seen, step, after, gets, plainCall, bufferOf, gotOf, plainAfter, plainGets}
 
 -- ---- Demand 1: "If a call brings a text, number, state or lent memory that the store can't take, it gives the refusal number of document 01 and changes nothing. Every
@@ -65,6 +65,10 @@ pub record Lowest (s : Store) (c : Call) (n : ℕ) : Type 0 where
 
 abbrev pub LowestNumber : Type 0
 LowestNumber = (s : Store) (c : Call) → Lowest s c (step s c .1 .got .refusal)
+
+-- A.4, of a ring: "12 isn't given for it"
+abbrev pub RingsNeverFull : Type 0
+RingsNeverFull = (s : Store) (n : ℕ) (vs : List ℤ) → tableAt (s .state) (updateAt (s .state) n .table) .ring ≡ true → step s (update n vs) .1 .got .refusal ≢ 12
 
 -- "State and lent memories come back as they came, other results are 0"
 abbrev pub refusedWith : ℕ → List ℕ → Seen
@@ -122,7 +126,7 @@ StaysSound = (s : Store) (c : Call) → Typed (s .state) → soundState (s .stat
 
 -- 9: "no table or statement place, or too few cells left"; what there has to be
 abbrev pub HasPlace : State → Sentence → Type 0
-HasPlace s (G.table t cs z) = (s .«table_count» < 8) × (areasOf (usedTables s) + length (items cs) * natAbs z ≤ s .cells)
+HasPlace s (G.table t cs ring z) = (s .«table_count» < 8) × (areasOf (usedTables s) + length (items cs) * natAbs z ≤ s .cells)
 HasPlace s (G.select cs t w) = s .«query_count» < 16
 HasPlace s (G.pair cs t u w) = s .«query_count» < 16
 HasPlace s (G.insert t vs) = s .«update_count» < 16
@@ -311,6 +315,7 @@ AnswerReadsBack = (o : Start) (cs : List Call) → All Values32 cs → (k : Key)
 
 pub record Demands : Type 0 where
   pub lowest-number : LowestNumber
+  pub rings-never-full : RingsNeverFull
   pub refused-changes-nothing : RefusedChangesNothing
   pub opens-exactly-if : OpensExactlyIf
   pub opening-taken : OpeningTaken

@@ -4,8 +4,8 @@ use mathlib.Core.Path.{_≡_, refl}
 use mathlib.Core.List.{List, [], _∷_, _++_, map}
 use Prim.Native.Nat.{ℕ, _+_, _*_}
 use Prim.Native.String.{String}
-use lib.IntN.{pos}
-use lib.ListN.{length, replicate}
+use lib.IntN.{ℤ, pos}
+use lib.ListN.{length, take, getD, replicate}
 use Rattle.lists.specs.Lists.{bytes}
 use Rattle.meaning.specs.Tokens.{isNameByte, isWordByte, decimal, isName, word, negative, tokenFrom, firstToken, scan, tokens}
 use Rattle.meaning.specs.Grammar.{aCondition, aSentence, read}
@@ -16,10 +16,10 @@ use Rattle.meaning.specs.Record.{body, encode}
 use Rattle.meaning.specs.Cells.{stored}
 use Rattle.meaning.specs.Pattern.{contradictory, class, entry}
 use Rattle.meaning.specs.Plain.{openingRefused, noPlace, Out, refused, added, answered, rows, flushed, aTable, aQuery, anUpdate}
-use Rattle.statement.specs.Compiled.{compiledOf, structOf}
+use Rattle.statement.specs.Compiled.{noTable, compiledOf, structOf}
 use Rattle.statement.specs.Sound.{conditionNodes, soundCondition, soundConditionOn, soundQuery, soundTable, soundUpdate}
 use Rattle.table.specs.Evaluated.{answerStored, meetsStored}
-use Rattle.table.specs.Changed.{areaFits, cellsAfter, changeOf, changedOf, countAfter, fits, rowsAfter}
+use Rattle.table.specs.Changed.{areaFits, cellsAfter, changeOf, changedOf, countAfter, fits, laid, oldestAfter}
 use Rattle.soundness.specs.Soundness.{tablesSound, queriesSound, updatesSound}
 use Rattle.pattern.specs.Stored.{allAny, clausesRead, isFormed, jointClauses, matchesStored, patternsStored, relevant, startRead}
 use Rattle.slots.specs.Keys.{sameKey, keyOf, slotHas, findOf, heldTwice}
@@ -27,11 +27,11 @@ use Rattle.slots.specs.Order.{slotsOf, soundSlots, frontOf, takenOf, dropBy, op
 use Rattle.cache.specs.Sound.{opening, soundTables, soundAnswers, soundState}
 use Rattle.cache.specs.declared.State.{State}
 use Rattle.cache.specs.Calls.{settled, unfit, emptyState, openOf, addedBy, addRefusal, addOf, askRefusal, withCache, askCached, kept, keptMemory, recordAt, tooMany, newRefusal, askNew, askOf, updateRefusal, isMatched, withChange, updateDone, updateOf, flushOf}
-use Rattle.cache.specs.Run.{Start, opened, Call, add, ask, update, flush, Seen, step, gets, gotOf}
+use Rattle.cache.specs.Run.{Start, opened, Call, add, ask, update, flush, Seen, step, after, gets, gotOf}
 
 -- what the computations open
 unfoldable pub computing : Unit {0}
-unfolding isNameByte isWordByte decimal isName word negative tokenFrom firstToken scan tokens aCondition aSentence read pastLimit unknown taken miscounted twice statementOf body encode stored openingRefused noPlace compiledOf structOf conditionNodes soundCondition soundConditionOn soundQuery soundTable soundUpdate answerStored meetsStored areaFits cellsAfter changeOf changedOf countAfter fits rowsAfter tablesSound queriesSound updatesSound contradictory class entry allAny clausesRead isFormed jointClauses matchesStored patternsStored relevant startRead sameKey keyOf slotHas findOf heldTwice soundSlots frontOf takenOf slotsOpen soundTables soundAnswers soundState settled unfit emptyState openOf addedBy addRefusal addOf askRefusal withCache askCached kept keptMemory recordAt tooMany newRefusal askNew askOf updateRefusal isMatched dropBy withChange updateDone updateOf flushOf step
+unfolding isNameByte isWordByte decimal isName word negative tokenFrom firstToken scan tokens aCondition aSentence read pastLimit unknown taken miscounted twice statementOf body encode stored openingRefused noPlace compiledOf structOf conditionNodes soundCondition soundConditionOn soundQuery soundTable soundUpdate answerStored meetsStored areaFits cellsAfter changeOf changedOf countAfter fits laid oldestAfter tablesSound queriesSound updatesSound contradictory class entry allAny clausesRead isFormed jointClauses matchesStored patternsStored relevant startRead sameKey keyOf slotHas findOf heldTwice soundSlots frontOf takenOf slotsOpen soundTables soundAnswers soundState settled unfit emptyState openOf addedBy addRefusal addOf askRefusal withCache askCached kept keptMemory recordAt tooMany newRefusal askNew askOf updateRefusal isMatched dropBy withChange updateDone updateOf flushOf step
 computing = tt
 
 -- 4,096 cells, 256 bytes of kept memory, 4 slots of 64 bytes
@@ -147,6 +147,74 @@ pub moved-is : gets (opened desk) (texts
     ≡ added-lines ++ (plain (added anUpdate 1) ∷ plain (rows 1) ∷ new [] 1 ∷ line [] (rows 1) 0 0 1 ∷ new (120 ∷ []) 1 ∷ [])
 unfolding computing
 moved-is = refl
+
+-- A.4: a ring of three rows. The INSERT of minute 4 pushes minute 1 out, and drops the answers of both; that of minute 2 is kept
+abbrev ring-filled : List Call
+ring-filled =
+    ADD "TABLE recent (minute, level) RING 3"
+    ∷ ADD "INSERT INTO recent VALUES (?, ?)"
+    ∷ ADD "SELECT level FROM recent WHERE minute = ?"
+    ∷ ADD "DELETE FROM recent WHERE minute = ?"
+    ∷ DO 0 (1 ∷ 10 ∷ [])
+    ∷ DO 0 (2 ∷ 20 ∷ [])
+    ∷ DO 0 (3 ∷ 30 ∷ [])
+    ∷ []
+
+pub ring-is : gets (opened desk) (ring-filled
+    ++ (ASK 0 (1 ∷ []) ∷ ASK 0 (2 ∷ []) ∷ ASK 0 (4 ∷ []) ∷ DO 0 (4 ∷ 40 ∷ []) ∷ ASK 0 (2 ∷ []) ∷ ASK 0 (1 ∷ []) ∷ []))
+    ≡ added-lines
+    ++ (plain (added anUpdate 1)
+    ∷ plain (rows 1)
+    ∷ plain (rows 1)
+    ∷ plain (rows 1)
+    ∷ new (10 ∷ []) 3
+    ∷ new (20 ∷ []) 3
+    ∷ new [] 3
+    ∷ line [] (rows 1) 0 0 2
+    ∷ old (20 ∷ [])
+    ∷ new [] 3
+    ∷ [])
+unfolding computing
+ring-is = refl
+
+-- where the oldest row lies then, and the cells of the three rows
+abbrev lying : List Call → ℕ × List ℤ
+lying cs =
+    let s = after (opened desk) cs in
+    (getD (s .state .tables) 0 noTable .oldest, take 6 (s .cells))
+
+-- the new row takes the cells of the one removed
+pub pushed-lies : lying (ring-filled ++ (DO 0 (4 ∷ 40 ∷ []) ∷ [])) ≡ (1, map pos (4 ∷ 40 ∷ 2 ∷ 20 ∷ 3 ∷ 30 ∷ []))
+unfolding computing
+pushed-lies = refl
+
+-- a DELETE, also of no row, puts the oldest row first in the area again
+pub deleted-lies : lying (ring-filled ++ (DO 0 (4 ∷ 40 ∷ []) ∷ DO 1 (9 ∷ []) ∷ [])) ≡ (0, map pos (2 ∷ 20 ∷ 3 ∷ 30 ∷ 4 ∷ 40 ∷ []))
+unfolding computing
+deleted-lies = refl
+
+-- the row pushed out alone drops the answer: 4 is not in question
+pub one-is : gets (opened desk)
+    (ADD "TABLE a (b) RING 1"
+    ∷ ADD "INSERT INTO a VALUES (7)"
+    ∷ ADD "INSERT INTO a VALUES (4)"
+    ∷ ADD "SELECT b FROM a WHERE b > 5"
+    ∷ DO 0 []
+    ∷ ASK 0 []
+    ∷ DO 1 []
+    ∷ ASK 0 []
+    ∷ [])
+    ≡ plain (added aTable 0)
+    ∷ plain (added anUpdate 0)
+    ∷ plain (added anUpdate 1)
+    ∷ plain (added aQuery 0)
+    ∷ plain (rows 1)
+    ∷ new (7 ∷ []) 1
+    ∷ line [] (rows 1) 0 0 1
+    ∷ new [] 1
+    ∷ []
+unfolding computing
+one-is = refl
 
 -- a refused opening, "2 slots of 8, memory 15": its lengths are 0, so each call with others gets 2
 pub closed-is : gets (opened (record { cells = []; memory = replicate 15 7; slots = 2; slotBytes = 8 })) (ADD "TABLE a (b) ROWS 1" ∷ ASK 0 [] ∷ DO 0 [] ∷ flush ∷ [])

@@ -1,4 +1,4 @@
--- Which held slots an update invalidates, as the code marks them: each joint clause of a query and the update once, and beside it every held key of that query.
+-- Which held slots an update invalidates, as the code marks them beside those that are marked already: each joint clause of a query and the update once, and beside it every held key of that query.
 -- proofs/Marks shows that the slots marked are those whose key the update matches. Assumes nothing: these are definitions.
 use mathlib.Core.Bool.{Bool, true, false, _&&_, cond}
 use mathlib.Core.List.{List, [], _∷_, map}
@@ -7,15 +7,18 @@ use lib.Dec.{eqb}
 use lib.IntN.{ℤ}
 use lib.ListN.{getD, set, replicate}
 use Rattle.lists.specs.Lists.{any, from}
+use Rattle.statement.specs.declared.Table.{Table}
 use Rattle.statement.specs.declared.Query.{Query}
 use Rattle.statement.specs.declared.Update.{Update}
 use Rattle.statement.specs.Compiled.{noQuery}
+use Rattle.table.specs.Changed.{removalOf}
 use Rattle.pattern.specs.declared.Pattern.{Pattern}
 use Rattle.pattern.specs.Stored.{clauseTotal, patternAt, filledOf, agreesStored}
 use Rattle.slots.specs.declared.Key.{Key}
 use Rattle.slots.specs.declared.SlotList.{SlotList}
 use Rattle.slots.specs.Keys.{valuesOf, slotKey, heldKeys}
 use Rattle.slots.specs.Order.{heldSlots}
+use Rattle.cache.specs.Calls.{isPushing}
 
 -- marks with those members of a list marked that pass the test
 abbrev pub marked : (ℕ → Bool) → List ℕ → List Bool → List Bool
@@ -48,5 +51,11 @@ marksOver keys s queries u us [] marks = marks
 marksOver keys s queries u us (q ∷ qs) marks =
     marksOver keys s queries u us qs (cond (holdsAnswer keys s q) (queryMarks keys s q (getD queries q noQuery) u us marks) marks)
 
-unfoldable pub marksOf : List Key → SlotList → List Query → ℕ → Update → List ℤ → List Bool
-marksOf keys s queries n u us = marksOver keys s queries u us (from 0 n) (replicate 64 false)
+unfoldable pub marksOf : List Key → SlotList → List Query → ℕ → Update → List ℤ → List Bool → List Bool
+marksOf keys s queries n u us marks = marksOver keys s queries u us (from 0 n) marks
+
+-- the marks of an update of the table t, whose area starts there: its own and, where it pushes a row out, beside them those of the removal of that row
+unfoldable pub marksBoth : List Key → SlotList → List Query → ℕ → Update → Table → ℕ → List ℤ → List ℤ → List Bool
+marksBoth keys s queries n u t start cells us =
+    let marks = marksOf keys s queries n u us (replicate 64 false) in
+    cond (isPushing t u) (marksOf keys s queries n (removalOf (u .table) t start cells) us marks) marks

@@ -1,8 +1,8 @@
--- When a state is sound: document 01, "The store and its calls", "A state is sound when ..". First the sentence, half sentence by half sentence (`IsSound`): this is the
+-- When a state is sound: document 01, "The store and its calls", "A state is sound when ..", and requests A.1 and A.4. First the sentence, half sentence by half sentence (`IsSound`): this is the
 -- definition. Then one test, which the code computes for any state; that it is true exactly if the sentence holds is a claim (`Demand.SoundExactlyIf`). Entries past the
 -- counts do not matter. Assumes nothing: these are definitions.
 use mathlib.Core.Path.{_≡_}
-use mathlib.Core.Bool.{Bool, not, _&&_}
+use mathlib.Core.Bool.{Bool, true, not, _&&_, _||_}
 use mathlib.Core.List.{List, [], _∷_, _++_, map}
 use Prim.Native.Nat.{ℕ, _+_, _*_, _≤_, _<_}
 use lib.Dec.{eqb, leb, ltb}
@@ -86,6 +86,11 @@ pub record NamesEachOnce (l : SlotList) : Type 0 where
   pub slots : All (λ x. x < l .count) (slotsOf l)
   pub once : Distinct (slotsOf l)
 
+-- A.4, of the starting place: "in a sound state it is below the ring's size, and 0 unless a ring is full"
+pub record StartFits (t : Table) : Type 0 where
+  pub below : t .ring ≡ true → t .oldest < t .capacity
+  pub unless-full : (t .ring ≡ true → t .rows ≡ t .capacity → ⊥) → t .oldest ≡ 0
+
 pub record IsSound (s : State) : Type 0 where
   -- "its sizes pass refusal 1"
   pub sizes : OpeningWithin (sizesOf s)
@@ -97,6 +102,7 @@ pub record IsSound (s : State) : Type 0 where
   pub areas : areasOf (usedTables s) ≤ s .cells
   -- "no table holds more rows than its ROWS"
   pub rows : All (λ (t : Table). t .rows ≤ t .capacity) (usedTables s)
+  pub starts : All StartFits (usedTables s)
   -- "its tables and statements are such as refusals 4 to 8 let pass beside the rest"
   pub tables : (before : List Table) (t : Table) (behind : List Table) → usedTables s ≡ before ++ t ∷ behind → FromTable (map schemaOf (before ++ behind)) t
   pub queries : All (FromQuery (schemasIn s)) (usedQueries s)
@@ -123,9 +129,12 @@ soundCounts s = leb (s .«table_count») most-tables && (leb (s .«query_count»
 abbrev pub soundAreas : State → Bool
 soundAreas s = leb (areasOf (usedTables s)) (s .cells)
 
--- "no table holds more rows than its ROWS"
+-- "no table holds more rows than its ROWS"; its starting place is "below the ring's size, and 0 unless a ring is full"
+abbrev pub startFits : Table → Bool
+startFits t = eqb (t .oldest) 0 || (t .ring && (eqb (t .rows) (t .capacity) && ltb (t .oldest) (t .capacity)))
+
 abbrev pub rowsFit : Table → Bool
-rowsFit t = leb (t .rows) (t .capacity)
+rowsFit t = leb (t .rows) (t .capacity) && startFits t
 
 abbrev pub soundRows : State → Bool
 soundRows s = all rowsFit (usedTables s)

@@ -563,7 +563,7 @@ impl State {
         }
         let tables = self.tables;
         let t = tables[u.table as usize];
-        if (u.form == Update::INSERT) & (t.capacity <= t.rows) {
+        if (u.form == Update::INSERT) & (!t.ring & (t.capacity <= t.rows)) {
             return Refusal::FULL;
         }
         0
@@ -571,20 +571,22 @@ impl State {
 
     // The rows changed, and the slots of the answers that the update matches dropped.
     fn updated(mut self, cells: &mut [i32], u: Update, values: &[i32]) -> Updated
-        requires { ⌜ (soundState self ≡ true) × (u .table < self .«table_count») ⌝ }
+        requires { ⌜ (soundState self ≡ true) × (u .table < self .«table_count») × (length (now cells) ≡ self .cells) ⌝ }
         ensures { λ r. ⌜ updates r (now (cells .exit)) ≡ updateDone self (now (cells .entry)) u (now (values .entry)) ⌝ }
     {
         let slots = self.slots;
         let keys = self.keys;
         let queries = self.queries;
-        let gone = matching::matched(keys, slots, queries, self.query_count, u, values);
-        let left = slots.drop(gone);
+        let n = self.query_count;
         let tables = self.tables;
         let i = u.table as usize;
         let mut t = self.tables[i];
         let start = sound::areas(tables, i);
+        let gone = matching::dropped_by(keys, slots, queries, n, u, t, start, cells, values);
+        let left = slots.drop(gone);
         let done = table::change(u, t, start, cells, values);
         t.rows = done.rows;
+        t.oldest = done.oldest;
         self.tables[i] = t;
         self.slots = left;
         Updated {

@@ -4,17 +4,19 @@ use pattern::Pattern;
 use slots::Key;
 use slots::SlotList;
 use table::Query;
+use table::Table;
 use table::Update;
 ghost use mathlib.Core.Path.{_≡_};
 ghost use Prim.Native.Nat.{_≤_, _<_};
-ghost use mathlib.Core.Bool.{true, _&&_};
-ghost use lib.Dec.{eqb};
+ghost use mathlib.Core.Bool.{true, false, _&&_, cond};
+ghost use lib.Dec.{eqb, leb};
 ghost use mathlib.Core.List.{map};
+ghost use lib.ListN.{replicate};
 ghost use Rattle.lists.specs.Lists.{from};
 ghost use Rattle.pattern.specs.Stored.{agreesStored};
 ghost use Rattle.slots.specs.Keys.{valuesOf};
 ghost use Rattle.slots.specs.Order.{soundSlots};
-ghost use Rattle.cache.specs.Marks.{queryMarks, holdsAnswer, marksOf};
+ghost use Rattle.cache.specs.Marks.{queryMarks, holdsAnswer, marksOf, marksBoth};
 
 // Which queries hold an answer.
 fn queries_held(keys: [Key; SlotList::SLOTS], slots: SlotList) -> [bool; Query::QUERIES]
@@ -82,8 +84,16 @@ fn mark_query(
     marks
 }
 
-// The held slots whose key is matched by the update; there are n queries.
-pub fn matched(
+// No slot is marked.
+fn none() -> [bool; SlotList::SLOTS]
+    ensures { λ r. ⌜ r ≡ replicate 64 false ⌝ }
+{
+    [false; SlotList::SLOTS]
+}
+
+// Marks, beside those that are marked already, the held slots whose key is matched by the update; there are n queries.
+fn matched(
+    gone: [bool; SlotList::SLOTS],
     keys: [Key; SlotList::SLOTS],
     slots: SlotList,
     queries: [Query; Query::QUERIES],
@@ -92,10 +102,10 @@ pub fn matched(
     values: &[i32],
 ) -> [bool; SlotList::SLOTS]
     requires { ⌜ (soundSlots slots ≡ true) × (n ≤ 16) ⌝ }
-    ensures { λ r. ⌜ r ≡ marksOf keys slots queries n update (now (values .entry)) ⌝ }
+    ensures { λ r. ⌜ r ≡ marksOf keys slots queries n update (now (values .entry)) gone ⌝ }
 {
     let found = queries_held(keys, slots);
-    let mut marks = [false; SlotList::SLOTS];
+    let mut marks = gone;
     let mut q: u8 = 0;
     while q < n {
         let query = queries[q as usize];
@@ -105,6 +115,47 @@ pub fn matched(
             marks = next;
         }
         q += 1;
+    }
+    marks
+}
+
+// How many are to be judged: the update and, where it pushes a row out of a ring, the removal of that row.
+fn judged(form: u8, ring: bool, capacity: u16, rows: u16) -> u8
+    ensures { λ r. ⌜ r ≡ cond (ring && (eqb form 0 && leb capacity rows)) 2 1 ⌝ }
+{
+    if ring & ((form == Update::INSERT) & (capacity <= rows)) {
+        return 2;
+    }
+    1
+}
+
+// The held slots whose answers an update of the table drops, of which the area starts there: those that the update matches and, where it pushes a row out of a ring, those that
+// the removal of that row matches. One call in a loop: called at two places, `matched` would be given copies of the keys and the queries.
+pub fn dropped_by(
+    keys: [Key; SlotList::SLOTS],
+    slots: SlotList,
+    queries: [Query; Query::QUERIES],
+    n: u8,
+    update: Update,
+    table: Table,
+    start: usize,
+    cells: &[i32],
+    values: &[i32],
+) -> [bool; SlotList::SLOTS]
+    requires { ⌜ (soundSlots slots ≡ true) × (n ≤ 16) ⌝ }
+    ensures { λ r. ⌜ r ≡ marksBoth keys slots queries n update table start (now (cells .entry)) (now (values .entry)) ⌝ }
+{
+    let mut marks = none();
+    let mut v = update;
+    let mut left = judged(update.form, table.ring, table.capacity, table.rows);
+    while 0 < left {
+        let next = matched(marks, keys, slots, queries, n, v, values);
+        marks = next;
+        left -= 1;
+        if 0 < left {
+            let out = table::removal(update.table, table, start, cells);
+            v = out;
+        }
     }
     marks
 }

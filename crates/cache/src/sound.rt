@@ -6,8 +6,8 @@ use table::Query;
 use table::Table;
 use table::Update;
 ghost use mathlib.Core.Path.{_≡_};
-ghost use mathlib.Core.Bool.{true, not, _&&_, cond};
-ghost use Prim.Native.Nat.{_*_, _≤_};
+ghost use mathlib.Core.Bool.{true, not, _&&_, _||_, cond};
+ghost use Prim.Native.Nat.{_+_, _*_, _≤_, _<_};
 ghost use lib.Dec.{eqb, leb, ltb};
 ghost use lib.ListN.{take};
 ghost use Rattle.lists.specs.Lists.{all};
@@ -63,8 +63,15 @@ pub fn areas(tables: [Table; Table::TABLES], n: usize) -> usize
     cells
 }
 
-// Whether none of the first n tables holds more rows than its ROWS.
-pub fn rows_fit(tables: [Table; Table::TABLES], n: usize) -> bool
+// Whether the oldest row lies where it may: first, or anywhere in a ring that is full.
+fn start_fits(oldest: u16, ring: bool, rows: u16, capacity: u16) -> bool
+    ensures { λ r. ⌜ r ≡ (eqb oldest 0 || (ring && (eqb rows capacity && ltb oldest capacity))) ⌝ }
+{
+    (oldest == 0) | (ring & ((rows == capacity) & (oldest < capacity)))
+}
+
+// Whether none of the first n tables holds more rows than its ROWS, and the oldest of each lies where it may: table by table.
+fn each_fits(tables: [Table; Table::TABLES], n: usize) -> bool
     requires { ⌜ n ≤ 8 ⌝ }
     ensures { λ r. ⌜ r ≡ all rowsFit (take n tables) ⌝ }
 {
@@ -72,10 +79,37 @@ pub fn rows_fit(tables: [Table; Table::TABLES], n: usize) -> bool
     let mut i: usize = 0;
     while i < Table::TABLES {
         let t = tables[i];
-        fit = fit & ((n <= i) | (t.rows <= t.capacity));
+        let start = start_fits(t.oldest, t.ring, t.rows, t.capacity);
+        fit = fit & ((n <= i) | ((t.rows <= t.capacity) & start));
         i += 1;
     }
     fit
+}
+
+// Whether the rows are no more than fit and the oldest lies first. Rows and starting place, side by side in a table, are read as one number.
+fn lies_first(rows: u16, oldest: u16, capacity: u16) -> bool
+    ensures { λ r. ⌜ (r ≡ leb (rows + 65536 * oldest) capacity) × (capacity < 65536) ⌝ }
+{
+    (rows as u32) + 65536 * (oldest as u32) <= (capacity as u32)
+}
+
+// The same, told at once where the oldest row of each table lies first, which is so of all but wrapped rings.
+pub fn rows_fit(tables: [Table; Table::TABLES], n: usize) -> bool
+    requires { ⌜ n ≤ 8 ⌝ }
+    ensures { λ r. ⌜ r ≡ all rowsFit (take n tables) ⌝ }
+{
+    let mut plain = true;
+    let mut i: usize = 0;
+    while i < Table::TABLES {
+        let t = tables[i];
+        let first = lies_first(t.rows, t.oldest, t.capacity);
+        plain = plain & ((n <= i) | first);
+        i += 1;
+    }
+    if plain {
+        return true;
+    }
+    each_fits(tables, n)
 }
 
 // How many parameters each of the first n queries has; 0 behind them. The loop is not laid out flat: that would copy every query.

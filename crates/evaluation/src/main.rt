@@ -42,6 +42,8 @@ fn no_table() -> Table {
         count: 0,
         capacity: 0,
         rows: 0,
+        oldest: 0,
+        ring: false,
     }
 }
 
@@ -229,6 +231,7 @@ fn make(
         let c = table::change(u, t, start, cells, values);
         print_line(b"rows ", c.count as u64);
         t.rows = c.rows;
+        t.oldest = c.oldest;
         next[k] = t;
     }
     next

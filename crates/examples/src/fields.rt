@@ -139,6 +139,16 @@ fn table_with_count(mut t: Table, name: &[u8], v: usize) -> Table {
     t
 }
 
+// The table with another place of its oldest row, or made a ring (1) or none (0).
+fn table_with_start(mut t: Table, name: &[u8], v: usize) -> Table {
+    if same(name, b"start") {
+        t.oldest = low16(v);
+    } else if same(name, b"ring") {
+        t.ring = 0 < v;
+    }
+    t
+}
+
 // The table with a byte of a name changed.
 fn table_with_name(mut t: Table, name: &[u8], n: &[i32]) -> Table {
     let i = number(n, 1);
@@ -157,7 +167,8 @@ fn table_with_name(mut t: Table, name: &[u8], n: &[i32]) -> Table {
 fn with_table(mut s: State, name: &[u8], n: &[i32]) -> State {
     let i = number(n, 0);
     if i < Table::TABLES {
-        let t = table_with_count(s.tables[i], name, number(n, 1));
+        let v = number(n, 1);
+        let t = table_with_start(table_with_count(s.tables[i], name, v), name, v);
         s.tables[i] = table_with_name(t, name, n);
     }
     s

@@ -8,3 +8,4 @@ pub mod Runs
 pub mod Stacks
 pub mod Walks
 pub mod Repeats
+pub mod Turned

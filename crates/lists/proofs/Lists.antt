@@ -7,8 +7,8 @@ use mathlib.Core.List.{List, [], _∷_, _++_, map}
 use Prim.Native.Nat.{ℕ, zero, suc, _*_, _≤_, zero-le, suc-le-suc}
 use native.Mathlib.Nat.{zero-mul}
 use native.Mathlib.Omega.{arith}
-use lib.ListN.{length, getD, take, length-append, length-map}
-use Rattle.lists.specs.Lists.{any, all, All, nil, cons, DistinctBy, Distinct, consIf, keep, pairs, behind, unsnoc}
+use lib.ListN.{length, getD, take, drop, length-append, length-map}
+use Rattle.lists.specs.Lists.{any, all, All, nil, cons, DistinctBy, Distinct, consIf, keep, pairs, behind, unsnoc, flat}
 use Rattle.lists.proofs.Bools.{and-or, or-and, and-assoc, or-assoc, and-left, and-right, and-both, or-left, or-right}
 
 module _ {A : Type 0} where
@@ -48,6 +48,11 @@ module _ {A : Type 0} where
   All-take zero h = nil
   All-take (suc n) nil = nil
   All-take (suc n) (cons p h) = cons p (All-take n h)
+
+  pub All-drop : {P : A → Type 0} {l : List A} (n : ℕ) → All P l → All P (drop n l)
+  All-drop zero h = h
+  All-drop (suc n) nil = nil
+  All-drop (suc n) (cons p h) = All-drop n h
 
   pub All-mid : {P : A → Type 0} (a : List A) (x : A) (b : List A) → All P (a ++ x ∷ b) → All P (x ∷ a ++ b)
   All-mid a x b h = cons (All-head (All-right a h)) (All-append (All-left a (x ∷ b) h) (All-tail (All-right a h)))
@@ -179,6 +184,11 @@ module _ {A : Type 0} where
     map-take (suc n) [] = refl
     map-take (suc n) (x ∷ l) = ap (λ r. f x ∷ r) (map-take n l)
 
+    pub map-drop : (n : ℕ) (l : List A) → map f (drop n l) ≡ drop n (map f l)
+    map-drop zero l = refl
+    map-drop (suc n) [] = refl
+    map-drop (suc n) (x ∷ l) = map-drop n l
+
     pub map-same : {g : A → B} {l : List A} → All (λ x. g x ≡ f x) l → map g l ≡ map f l
     map-same nil = refl
     map-same (cons e h) = ap₂ (λ a b. a ∷ b) e (map-same h)
@@ -230,6 +240,11 @@ module _ {A : Type 0} where
 pub All-source : {A B : Type 0} {P : B → Type 0} (f : A → B) (l : List A) → All P (map f l) → All (λ x. P (f x)) l
 All-source f [] h = nil
 All-source f (x ∷ l) h = cons (All-head h) (All-source f l (All-tail h))
+
+-- a test of lists one after another, each made from a member
+pub any-flat-map : {A B : Type 0} (p : B → Bool) (f : A → List B) (xs : List A) → any p (flat (map f xs)) ≡ any (λ (x : A). any p (f x)) xs
+any-flat-map p f [] = refl
+any-flat-map p f (x ∷ xs) = any-append p (f x) (flat (map f xs)) ∙ ap (λ (b : Bool). any p (f x) || b) (any-flat-map p f xs)
 
 pub distinct-source : {A B C : Type 0} (f : A → B) (g : B → C) (l : List A) → DistinctBy g (map f l) → DistinctBy (λ x. g (f x)) l
 distinct-source f g [] d = tt

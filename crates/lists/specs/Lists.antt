@@ -84,6 +84,10 @@ module _ {A : Type 0} where
   unsnoc [] = none
   unsnoc (x ∷ xs) = behind x (unsnoc xs)
 
+  -- a list read from place k on, round: those before k come last
+  abbrev pub turned : ℕ → List A → List A
+  turned k xs = drop k xs ++ take k xs
+
   -- a list with ys in place of what stands from `at` on
   abbrev pub written : List A → ℕ → List A → List A
   written xs at ys = take at xs ++ ys ++ drop (at + length ys) xs

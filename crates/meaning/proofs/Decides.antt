@@ -14,8 +14,8 @@ use lib.ListN.{length}
 use Rattle.meaning.specs.Operator.{Operator}
 use Rattle.meaning.specs.Condition.{Comparison, Level, atom, conjunction, disjunction, Condition, compare, negate, group, alone, both, single, either, Where, always, under}
 use Rattle.meaning.specs.Tokens as T
-use Rattle.meaning.specs.Tokens.{Name, Token, keyword, name, operator, comma, lparen, rparen, dot, other, TABLE, ROWS, SELECT, FROM, WHERE, INSERT, INTO, VALUES, UPDATE, SET, DELETE, AND, OR, NOT}
-use Rattle.meaning.specs.Grammar.{Given, constant, mark, Term, column, given, Listed, last, next, Sentence, table, select, insert, update, delete, givenToken, spellName, spellGiven, spellSetting, spellList, spellCondition, spellWhere, spell, Reader, then, _>>=_, _>>_, done, passing, expect, nameOf, constantOf, operatorOf, aName, aGiven, aTerm, aDotted, commaSecond, isPaired, aSingle, aPair, spellDotted, spellTerm, pair, aSetting, aList, aComparison, aCondition, aWhere, aSentence, whole, read}
+use Rattle.meaning.specs.Tokens.{Name, Token, keyword, name, operator, comma, lparen, rparen, dot, other, TABLE, SELECT, FROM, WHERE, INSERT, INTO, VALUES, UPDATE, SET, DELETE, AND, OR, NOT}
+use Rattle.meaning.specs.Grammar.{Given, constant, mark, Term, column, given, Listed, last, next, Sentence, table, select, insert, update, delete, givenToken, spellName, spellGiven, spellSetting, spellList, spellCondition, spellWhere, sizeWord, spell, Reader, then, _>>=_, _>>_, done, passing, expect, nameOf, constantOf, operatorOf, aName, aGiven, aTerm, aDotted, commaSecond, isPaired, aSingle, aPair, spellDotted, spellTerm, pair, aSetting, aList, aComparison, aCondition, aWhere, aSizeWord, aSentence, whole, read}
 use Rattle.meaning.proofs.Readers.{some-none, some-same, either-first, either-second, tested-sound, passing-stops, begins, then-some, Sound, sound-read, fails-sound, done-sound, passing-sound, either-sound, bind-sound, aToken-sound, expect-sound}
 
 -- ---- soundness
@@ -102,13 +102,24 @@ module _ {C : Type 0} {col : C → List Token → List Token} {aColumn : Reader 
       → ts ≡ spellCondition col c more
   sound-condition n l = sound-read (condition-sound n l)
 
+-- ROWS or RING
+abbrev pub spellSize : Bool → List Token → List Token
+spellSize ring more = keyword (sizeWord ring) ∷ more
+
+pub size-sound : Exact spellSize aSizeWord
+size-sound = passing-sound (done-sound false (λ ts. refl)) (expect-sound (done-sound true (λ ts. refl)))
+
+pub size-complete : (ring : Bool) (more : List Token) → aSizeWord (spellSize ring more) ≡ some (ring, more)
+size-complete false more = refl
+size-complete true more = refl
+
 -- a WHERE and a sentence, with more tokens after them
 abbrev pub spellWhereTo : {C : Type 0} → (C → List Token → List Token) → Where (Term C) → List Token → List Token
 spellWhereTo col always more = more
 spellWhereTo col (under c) more = keyword WHERE ∷ spellCondition col c more
 
 abbrev pub spellTo : Sentence → List Token → List Token
-spellTo (table t cs z) more = keyword TABLE ∷ name t ∷ lparen ∷ spellList spellName cs (rparen ∷ keyword ROWS ∷ T.constant z ∷ more)
+spellTo (table t cs ring z) more = keyword TABLE ∷ name t ∷ lparen ∷ spellList spellName cs (rparen ∷ keyword (sizeWord ring) ∷ T.constant z ∷ more)
 spellTo (select cs t w) more = keyword SELECT ∷ spellList spellName cs (keyword FROM ∷ name t ∷ spellWhereTo spellName w more)
 spellTo (pair cs t u w) more = keyword SELECT ∷ spellList spellDotted cs (keyword FROM ∷ name t ∷ comma ∷ name u ∷ spellWhereTo spellDotted w more)
 spellTo (insert t vs) more = keyword INSERT ∷ keyword INTO ∷ name t ∷ keyword VALUES ∷ lparen ∷ spellList spellGiven vs (rparen ∷ more)
@@ -121,7 +132,7 @@ where-ends col (under c) = refl
 
 pub spell-ends : (s : Sentence) → spellTo s [] ≡ spell s
 unfolding spell
-spell-ends (table t cs z) = refl
+spell-ends (table t cs ring z) = refl
 spell-ends (select cs t w) = ap (λ us. keyword SELECT ∷ spellList spellName cs (keyword FROM ∷ name t ∷ us)) (where-ends spellName w)
 spell-ends (pair cs t u w) = ap (λ us. keyword SELECT ∷ spellList spellDotted cs (keyword FROM ∷ name t ∷ comma ∷ name u ∷ us)) (where-ends spellDotted w)
 spell-ends (insert t vs) = refl
@@ -135,8 +146,8 @@ pub sentence-sound : (n : ℕ) → Exact spellTo (aSentence n)
 unfolding aSentence
 sentence-sound n =
     passing-sound
-    (bind-sound name-sound (λ t. expect-sound (bind-sound (list-sound name-sound n) (λ cs. expect-sound (expect-sound
-    (bind-sound (aToken-sound constantOf T.constant constant-is) (λ z. done-sound (table t cs z) (λ ts. refl))))))))
+    (bind-sound name-sound (λ t. expect-sound (bind-sound (list-sound name-sound n) (λ cs. expect-sound (bind-sound size-sound (λ ring.
+    bind-sound (aToken-sound constantOf T.constant constant-is) (λ z. done-sound (table t cs ring z) (λ ts. refl))))))))
     (passing-sound
     (tested-sound isPaired
     (bind-sound (list-sound dotted-sound n) (λ cs. expect-sound (bind-sound name-sound (λ t. expect-sound (bind-sound name-sound (λ u.
@@ -362,9 +373,10 @@ behind-list sp f (next x xs) more = f x (comma ∷ spellList sp xs (keyword FROM
 
 complete-to : (s : Sentence) (n : ℕ) → 3 * length (spellTo s []) ≤ n → aSentence n (spellTo s []) ≡ some (s, [])
 unfolding aSentence
-complete-to (table t cs z) n h =
-    let more = rparen ∷ keyword ROWS ∷ T.constant z ∷ [] in
+complete-to (table t cs ring z) n h =
+    let more = rparen ∷ keyword (sizeWord ring) ∷ T.constant z ∷ [] in
     then-some _ (complete-list names cs more n (omega (arith, high-list names cs more)) refl)
+    ∙ then-some _ (size-complete ring (T.constant z ∷ []))
 complete-to (pair cs t u w) n h =
     let more = keyword FROM ∷ name t ∷ comma ∷ name u ∷ spellWhereTo spellDotted w [] in
     ap (λ (b : Bool). elim b [ true ↦ aPair n (spellList spellDotted cs more) | false ↦ aSingle n (spellList spellDotted cs more) ])

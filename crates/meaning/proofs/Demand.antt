@@ -9,7 +9,7 @@ use Rattle.meaning.proofs.Limits.{within-exactly-if}
 use Rattle.meaning.proofs.Accepted.{lowest-number, refused-changes-nothing, reads-exactly, one-sentence, accepted-exactly-if, accepted-is-added}
 use Rattle.meaning.proofs.Record.{record-reads-back}
 use Rattle.meaning.proofs.Within32.{answer-reads-back}
-use Rattle.meaning.proofs.Weakening.{patterns-weaken, answer-stays}
+use Rattle.meaning.proofs.Weakening.{patterns-weaken, pushed-weakens, answer-stays}
 
 pub demands : Demands
 demands = record {
@@ -33,5 +33,6 @@ demands = record {
   record-reads-back = record-reads-back;
   answer-reads-back = answer-reads-back;
   patterns-weaken = patterns-weaken;
+  pushed-weakens = pushed-weakens;
   answer-stays = answer-stays;
 }

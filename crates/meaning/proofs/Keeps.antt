@@ -23,9 +23,10 @@ use Rattle.meaning.specs.Meaning.{Row, answer, changed}
 use Rattle.meaning.specs.Limits.{most-listed}
 use Rattle.meaning.specs.Record.{encode}
 use Rattle.meaning.specs.Key.{Key}
-use Rattle.meaning.specs.Plain.{Lengths, Table, Plain, schemas, noTable, noQuery, noUpdate, tableAt, rowsOver, rowsFor, queryAt, updateAt, recordOf, tooMany, matchesKey, add, change, otherLengths, askConditions, lowestOf, refusal, adding, addedText, changedBy, does}
+use Rattle.meaning.specs.Plain.{Lengths, Table, Plain, schemas, noTable, noQuery, noUpdate, tableAt, rowsOver, rowsFor, queryAt, updateAt, recordOf, tooMany, pushed, remaining, matchesKey, add, change, otherLengths, askConditions, lowestOf, refusal, adding, addedText, changedBy, does}
 use Rattle.meaning.specs.Pattern.{Side, neither, first, second, secondSide, sideOf, isSide, startOf, secondStart}
 use Rattle.meaning.specs.Demand.{Acceptable, IsColumn, ChangesWithin, StandsBeside, rowsBeside, AnswerStays}
+use Rattle.meaning.proofs.Pushed.{pushed-remaining, remaining-has}
 use Rattle.meaning.proofs.Accepted.{clear, text-taken, Asked, key-asked, Changing, update-taken}
 use Rattle.meaning.proofs.WellFormed.{FitsTable, tests, SecondFits, WellFormed}
 use Rattle.meaning.proofs.Resolved.{Within}
@@ -120,7 +121,7 @@ module _ (stays : AnswerStays) (lent : Lengths) (p : Plain) (n : ℕ) (us : List
   fits = All-at n noUpdate (C .there) (W .updates-fit)
 
   abbrev after-it : Table
-  after-it = record { schema = t .schema; rows = changed (u .change) us (t .rows) }
+  after-it = record { schema = t .schema; rows = changed (u .change) us (remaining t (u .change)) }
 
   -- the rows of a table after the update
   abbrev rows-after : ℕ → List Row
@@ -130,7 +131,7 @@ module _ (stays : AnswerStays) (lent : Lengths) (p : Plain) (n : ℕ) (us : List
   unfolding changedBy
   other-table i ne = ap (λ (t : Table). t .rows) (getD-set-other (p .tables) (u .table) i after-it noTable ne)
 
-  same-table : (i : ℕ) → i ≡ u .table → rows-after i ≡ changed (u .change) us (t .rows)
+  same-table : (i : ℕ) → i ≡ u .table → rows-after i ≡ changed (u .change) us (remaining t (u .change))
   unfolding changedBy
   same-table i e =
       ap (λ (i : ℕ). getD (set (p .tables) (u .table) after-it) i noTable .rows) e
@@ -139,10 +140,10 @@ module _ (stays : AnswerStays) (lent : Lengths) (p : Plain) (n : ℕ) (us : List
   before : (i : ℕ) → i ≡ u .table → t .rows ≡ tableAt p i .rows
   before i e = ap (λ (i : ℕ). tableAt p i .rows) (sym e)
 
-  within : All (ChangesWithin (u .change)) (t .rows)
+  within : All (ChangesWithin (u .change)) (remaining t (u .change))
   within =
-      change-within (length (t .schema .columns)) (t .schema) (u .change) (t .rows) refl (fits .1) (All-at n noUpdate (C .there) (W .updates-in) .tested-in)
-      (All-at (u .table) noTable (fits .0) (W .rows-wide))
+      change-within (length (t .schema .columns)) (t .schema) (u .change) (remaining t (u .change)) refl (fits .1) (All-at n noUpdate (C .there) (W .updates-in) .tested-in)
+      (remaining-has t (u .change) (All-at (u .table) noTable (fits .0) (W .rows-wide)))
 
   first-is : q .table ≡ u .table → sideOf q u ≡ first
   unfolding sideOf
@@ -151,14 +152,17 @@ module _ (stays : AnswerStays) (lent : Lengths) (p : Plain) (n : ℕ) (us : List
   -- with these rows of the other table
   stays-beside : (m : Option Second) (s : Side) → q .second ≡ m → sideOf q u ≡ s → isSide s ≡ true → matchesKey p n us k ≡ false
       → (others : List Row) → All (StandsBeside q s) others
-      → answer q (k .values) (rowsBeside m s (changed (u .change) us (t .rows)) others) ≡ answer q (k .values) (rowsBeside m s (t .rows) others)
+      → answer q (k .values) (rowsBeside m s (changed (u .change) us (remaining t (u .change))) others) ≡ answer q (k .values) (rowsBeside m s (t .rows) others)
   unfolding matchesKey
   stays-beside m s d e is free others b =
-      subst (λ (m : Option Second). answer q (k .values) (rowsBeside m s (changed (u .change) us (t .rows)) others)
-      ≡ answer q (k .values) (rowsBeside m s (t .rows) others)) d
-      (subst (λ (s : Side). answer q (k .values) (rowsBeside (q .second) s (changed (u .change) us (t .rows)) others)
-      ≡ answer q (k .values) (rowsBeside (q .second) s (t .rows) others)) e
-      (stays q (k .values) u us (t .rows) others (A .values) within (subst (λ (s : Side). All (StandsBeside q s) others) (sym e) b) (ap isSide e ∙ is) free))
+      let c : Change = u .change in
+      let found : List Row = remaining t c in
+      subst (λ (m : Option Second). answer q (k .values) (rowsBeside m s (changed c us found) others)
+      ≡ answer q (k .values) (rowsBeside m s (pushed t c ++ found) others)) d
+      (subst (λ (s : Side). answer q (k .values) (rowsBeside (q .second) s (changed c us found) others)
+      ≡ answer q (k .values) (rowsBeside (q .second) s (pushed t c ++ found) others)) e
+      (stays q (k .values) u us (pushed t c) found others (A .values) within (subst (λ (s : Side). All (StandsBeside q s) others) (sym e) b) (ap isSide e ∙ is) free))
+      ∙ ap (λ (l : List Row). answer q (k .values) (rowsBeside m s l others)) (pushed-remaining t c)
 
   answer-over : (s : Option Second) → q .second ≡ s → SecondFits (p .tables) q s → matchesKey p n us k ≡ false
       → answer q (k .values) (rowsOver (changedBy p n us .tables) q s) ≡ answer q (k .values) (rowsOver (p .tables) q s)

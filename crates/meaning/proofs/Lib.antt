@@ -10,6 +10,7 @@ pub mod Names
 pub mod Dotted
 pub mod Resolved
 pub mod Limits
+pub mod Pushed
 pub mod WellFormed
 pub mod Within32
 pub mod Keeps

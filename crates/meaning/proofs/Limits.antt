@@ -59,7 +59,7 @@ given-within G.mark = ((λ h. tt), (λ h. refl))
 -- ---- lists
 
 lists-within : (s : Sentence) → (manyItems s ≡ false) ↔ All (Between 1 8) (listLengths s)
-lists-within (G.table t cs z) =
+lists-within (G.table t cs ring z) =
     let n : ℕ = length (items cs) in (
       (λ h. cons (items-some cs, ltb-false 8 n (or-left (ltb 8 n) false h)) nil),
       (λ h. or-none (ltb 8 n) false (le-ltb 8 n (All-head h .1)) refl),

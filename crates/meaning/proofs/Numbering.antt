@@ -124,7 +124,7 @@ module _ {C : Type 0} (place : C → ℕ) where
 
 pub marks-numbered : MarksNumbered
 unfolding statementOf
-marks-numbered ts (G.table t cs z) = tt
+marks-numbered ts (G.table t cs ring z) = tt
 marks-numbered ts (G.select cs t w) = where-marks (position (columnsOf ts t)) 0 w
 marks-numbered ts (G.pair cs t u w) =
     where-marks (pairPlace t (columnsOf ts t) u (columnsOf ts u)) 0 w

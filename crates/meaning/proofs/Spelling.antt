@@ -20,9 +20,9 @@ use Rattle.lists.proofs.Lists.{All-map, all-append, all-true, map-append}
 use Rattle.lists.proofs.Runs.{Ends, run-unique, drop-no}
 use Rattle.meaning.specs.Operator.{eq, ne, lt, le, gt, ge}
 use Rattle.meaning.specs.Condition.{Comparison, Level, Condition, compare, negate, group, alone, both, single, either, comparisons, sides, Where, always, under, operandsIn}
-use Rattle.meaning.specs.Tokens.{Keyword, TABLE, ROWS, SELECT, FROM, WHERE, INSERT, INTO, VALUES, UPDATE, SET, DELETE, AND, OR, NOT, Name, Token, keyword, name, constant, operator, mark, comma, lparen, rparen, dot, other, isDigit, isSmall, isNameByte, isWordByte, isSpace, isMinus, decimalOn, decimal, isName, folded, keywords, keywordOr, word, negative, signs, behindPrefix, signIn, tokenFrom, tokenHere, firstToken, scan, tokens}
+use Rattle.meaning.specs.Tokens.{Keyword, TABLE, ROWS, SELECT, FROM, WHERE, INSERT, INTO, VALUES, UPDATE, SET, DELETE, AND, OR, NOT, RING, Name, Token, keyword, name, constant, operator, mark, comma, lparen, rparen, dot, other, isDigit, isSmall, isNameByte, isWordByte, isSpace, isMinus, decimalOn, decimal, isName, folded, keywords, keywordOr, word, negative, signs, behindPrefix, signIn, tokenFrom, tokenHere, firstToken, scan, tokens}
 use Rattle.meaning.specs.Grammar as G
-use Rattle.meaning.specs.Grammar.{Given, Term, given, Listed, last, next, items, Dotted, Sentence, givenToken, spellName, spellDotted, spellGiven, spellSetting, spellList, spellTerm, spellCondition, spellWhere, spell}
+use Rattle.meaning.specs.Grammar.{Given, Term, given, Listed, last, next, items, Dotted, Sentence, givenToken, spellName, spellDotted, spellGiven, spellSetting, spellList, spellTerm, spellCondition, spellWhere, sizeWord, spell}
 use Rattle.meaning.specs.Limits.{termColumns, columnsNamed, allNames}
 use Rattle.meaning.specs.Demand.{HasText, KeywordsRemain}
 use Rattle.meaning.proofs.Readers.{some-none, some-same}
@@ -88,6 +88,7 @@ keywordText DELETE = "DELETE"
 keywordText AND = "AND"
 keywordText OR = "OR"
 keywordText NOT = "NOT"
+keywordText RING = "RING"
 
 keyword-word : (k : Keyword) → Word (bytes (keywordText k)) (keyword k)
 unfolding keywordText word isName isNameByte isWordByte
@@ -105,6 +106,7 @@ keyword-word DELETE = record { letters = refl; there = refl; means = refl }
 keyword-word AND = record { letters = refl; there = refl; means = refl }
 keyword-word OR = record { letters = refl; there = refl; means = refl }
 keyword-word NOT = record { letters = refl; there = refl; means = refl }
+keyword-word RING = record { letters = refl; there = refl; means = refl }
 
 -- the text of a token that is a keyword, else d
 abbrev textOr : List ℕ → Token → List ℕ
@@ -435,9 +437,9 @@ names-parted (c ∷ cs) =
 
 named-sentence : (s : Sentence) → all isNamed (spell s) ≡ all isName (allNames s)
 unfolding spell
-named-sentence (G.table t cs z) =
+named-sentence (G.table t cs ring z) =
     ap (λ (b : Bool). isName t && b)
-    (named-list spellName isName (λ n more. refl) cs (rparen ∷ keyword ROWS ∷ constant z ∷ []) ∙ sym (all-append isName (items cs) []))
+    (named-list spellName isName (λ n more. refl) cs (rparen ∷ keyword (sizeWord ring) ∷ constant z ∷ []) ∙ sym (all-append isName (items cs) []))
 named-sentence (G.select cs t w) =
     named-list spellName isName (λ n more. refl) cs (keyword FROM ∷ name t ∷ spellWhere spellName w)
     ∙ ap (λ (b : Bool). all isName (items cs) && (isName t && b)) (named-where spellName isName (λ n more. refl) w)

@@ -14,15 +14,15 @@ use borrow.Author.Tests.{eqb-true, eqb-false}
 use Rattle.lists.specs.Lists.{any, All, nil, cons, consIf, keep, pairs, flat}
 use Rattle.lists.specs.Tests.{decN, decZ, eqZ, eqZ-refl, eqList, eqList-refl}
 use Rattle.lists.proofs.Bools.{and-or, and-left, and-right, and-both, or-left, or-right, not-false, contra, clash, T→true, eqZ-true, yes-of}
-use Rattle.lists.proofs.Lists.{All-head, All-tail, All-map, All-every, All-both, All-left, All-right, any-append, any-false, any-implies, any-keep, any-map, any-pairs, keep-append, keep-no, map-append, map-same}
+use Rattle.lists.proofs.Lists.{All-head, All-tail, All-map, All-every, All-both, All-left, All-right, All-source, any-append, any-false, any-flat-map, any-implies, any-keep, any-map, any-pairs, keep-append, keep-no, map-append, map-same}
 use Rattle.lists.proofs.Changed.{eqList-true, any-distinct}
 use Rattle.meaning.specs.Operator.{truth}
 use Rattle.meaning.specs.Condition.{Comparison, Level, Condition, compare, negate, group, alone, both, single, either, Where, always, under, comparisons, operandsIn, sides, holds, eval, evalWhere, meets, clausesOf, replacedIn}
 use Rattle.meaning.specs.Statement as S
-use Rattle.meaning.specs.Statement.{Value, parameter, Operand, value, Second, Query, Change, insert, delete, update}
+use Rattle.meaning.specs.Statement.{Value, parameter, Operand, value, Second, Query, Change, insert, delete, update, Update}
 use Rattle.meaning.specs.Meaning.{Row, cell, valueOf, operandValue, meetsWhere, takes, selected, answer, newRow, assigned, changed}
-use Rattle.meaning.specs.Pattern.{differs, Side, neither, first, second, sideOf, beside, mattersIn, isSide, matters, secondStart, startOf, operandColumns, columnsUsed, moved, touches, Joint, column, ofValue, ofUpdate, ofQuery, setColumn, placedFrom, replacing, Clause, queryClauses, updateClauses, bothClauses, jointClauses, jointCount, most-clauses, contradictory, Entry-discrete, anything, sameEntry, Pattern, pattern, clausePatterns, chosen, patterns, agrees, matches}
-use Rattle.meaning.specs.Demand.{IsColumn, ChangesWithin, StandsBeside, PatternsWeaken, rowsBeside, AnswerStays}
+use Rattle.meaning.specs.Pattern.{differs, Side, neither, first, second, sideOf, beside, mattersIn, isSide, sameTable, matters, secondStart, startOf, operandColumns, columnsUsed, moved, touches, Joint, column, ofValue, ofUpdate, ofQuery, setColumn, placedFrom, replacing, Clause, queryClauses, updateClauses, bothClauses, jointClauses, jointCount, most-clauses, contradictory, Entry-discrete, anything, sameEntry, Pattern, pattern, clausePatterns, chosen, patterns, agrees, matches, removal, judged, matchesTwo}
+use Rattle.meaning.specs.Demand.{IsColumn, ChangesWithin, StandsBeside, PatternsWeaken, PushedWeakens, rowsBeside, AnswerStays}
 use Rattle.meaning.proofs.Clauses.{clausesOf-mean, evalWhere-replaced}
 use Rattle.meaning.proofs.Classes.{jointValue, not-contradictory, pattern-agrees}
 
@@ -332,6 +332,19 @@ patterns-weaken q qs u us r o n w b h =
     ap₂ (λ (b : Bool) (n : ℕ). any (agrees us qs) (chosen b (ltb most-clauses (jointCount q (u .change))) n (jointClauses k q (u .change)))) can (sym n)
     ∙ chosen-agrees (met .0) us qs (ltb most-clauses (jointCount q (u .change))) (jointClauses k q (u .change)) (met .1)
 
+-- the values of a row as constants are that row
+pub row-again : (us : List ℤ) (r : Row) → newRow (map S.constant r) us ≡ r
+row-again us [] = refl
+row-again us (z ∷ r) = ap (λ (l : Row). z ∷ l) (row-again us r)
+
+-- if the question takes a row that is pushed out, a pattern that is worked out for it agrees
+pub pushed-weakens : PushedWeakens
+unfolding matters
+pushed-weakens q qs t us r o n is b h =
+    let v : Update = removal t r in
+    patterns-weaken q qs v us [] o n tt b
+    (and-both (sameTable q v) (mattersIn q qs (sideOf q v) (v .change) us [] o) is (ap (λ (x : Row). takes q qs (beside (sideOf q v) x o)) (row-again us r) ∙ h))
+
 -- ---- a change that shows nowhere: each row gives a list, and the lists stand one after another
 
 blocks : (Row → List Row) → List Row → List Row
@@ -480,10 +493,12 @@ pairs-behind : (rows : List Row) → pairs ([] ∷ []) rows ≡ rows
 pairs-behind [] = refl
 pairs-behind (r ∷ rows) = ap (λ (l : List Row). r ∷ l) (pairs-behind rows)
 
--- where no pattern agrees the answer stays
-pub answer-stays : AnswerStays
+-- where no pattern of the update agrees the answer stays
+unmatched-stays : (q : Query) (qs : List ℤ) (u : Update) (us : List ℤ) (rows others : List Row) → length qs ≡ q .parameters → All (ChangesWithin (u .change)) rows
+    → All (StandsBeside q (sideOf q u)) others → sameTable q u ≡ true → matches q u us qs ≡ false
+    → answer q qs (rowsBeside (q .second) (sideOf q u) (changed (u .change) us rows) others) ≡ answer q qs (rowsBeside (q .second) (sideOf q u) rows others)
 unfolding matters Unmoved
-answer-stays q qs u us rows others n w b is h = go (q .second) refl (sideOf q u) refl b
+unmatched-stays q qs u us rows others n w b is h = go (q .second) refl (sideOf q u) refl b
   where
     unmoved : (s : Side) → sideOf q u ≡ s → (r o : Row) → ChangesWithin (u .change) r → StandsBeside q s o → mattersIn q qs s (u .change) us r o ≡ false
     unmoved s e r o k j =
@@ -505,3 +520,73 @@ answer-stays q qs u us rows others n w b is h = go (q .second) refl (sideOf q u)
         ∙ ap (answer q qs) (pairs-behind rows)
     go (some x) d first e b = first-stays q qs (u .change) us rows others (λ r k. All-map (λ o j. unmoved first e r o k j) b) w
     go (some x) d second e b = second-stays q qs (u .change) us rows others (All-map (λ o j r k. unmoved second e r o k j) b) w
+
+-- ---- rows that a ring pushed out
+
+-- an update and the rows that it pushes out match exactly if one of those that are judged does
+pub matches-two : (q : Query) (u : Update) (out : List Row) (us qs : List ℤ) → matchesTwo q u out us qs ≡ any (λ (v : Update). matches q v us qs) (judged u out)
+unfolding matchesTwo matches
+matches-two q u out us qs = any-flat-map (agrees us qs) (patterns q) (judged u out)
+
+-- they are of the update's table
+same-side : (q : Query) (u : Update) (r : Row) → sideOf q (removal (u .table) r) ≡ sideOf q u
+unfolding sideOf
+same-side q u r = refl
+
+-- where no pattern agrees that is worked out for a row, the question does not take it
+untaken : (q : Query) (qs : List ℤ) (u : Update) (us : List ℤ) (r o : Row) → length qs ≡ q .parameters → sameTable q u ≡ true → (s : Side) → sideOf q u ≡ s
+    → StandsBeside q s o → matches q (removal (u .table) r) us qs ≡ false → takes q qs (beside s r o) ≡ false
+untaken q qs u us r o n is s e b h =
+    let d : sideOf q (removal (u .table) r) ≡ s = same-side q u r ∙ e in
+    subst (λ (s : Side). takes q qs (beside s r o) ≡ false) d
+    (contra (takes q qs (beside (sideOf q (removal (u .table) r)) r o)) (matches q (removal (u .table) r) us qs)
+    (pushed-weakens q qs (u .table) us r o n (ap isSide (same-side q u r) ∙ is) (subst (λ (s : Side). StandsBeside q s o) (sym d) b)) h)
+
+blocks-none : (f : Row → List Row) {out : List Row} (rows : List Row) → All (λ r. f r ≡ []) out → blocks f (out ++ rows) ≡ blocks f rows
+unfolding blocks
+blocks-none f rows nil = refl
+blocks-none f rows (cons e h) = ap₂ _++_ e (blocks-none f rows h)
+
+module _ (q : Query) (qs : List ℤ) (out rows : List Row) where
+  -- rows that are taken beside no other one show nowhere
+  first-unseen : (others : List Row) → All (λ r. All (λ o. takes q qs (r ++ o) ≡ false) others) out → answer q qs (pairs (out ++ rows) others) ≡ answer q qs (pairs rows others)
+  first-unseen others h =
+      first-blocks q qs (out ++ rows) others
+      ∙ blocks-none (λ r. answer q qs (map (λ (o : Row). r ++ o) others)) rows (All-map (λ r k. all-none q qs r others k) h)
+      ∙ sym (first-blocks q qs rows others)
+
+  second-unseen : (others : List Row) → All (λ o. All (λ r. takes q qs (o ++ r) ≡ false) out) others → answer q qs (pairs others (out ++ rows)) ≡ answer q qs (pairs others rows)
+  second-unseen [] h = refl
+  second-unseen (o ∷ others) h =
+      answer-append q qs (map (λ (r : Row). o ++ r) (out ++ rows)) (pairs others (out ++ rows))
+      ∙ ap₂ _++_
+      (row-blocks q qs o (out ++ rows) ∙ blocks-none (λ r. one q qs (o ++ r)) rows (All-map (λ r k. one-none q qs (o ++ r) k) (All-head h)) ∙ sym (row-blocks q qs o rows))
+      (second-unseen others (All-tail h))
+      ∙ sym (answer-append q qs (map (λ (r : Row). o ++ r) rows) (pairs others rows))
+
+-- where no pattern that is worked out for one of the rows agrees they show nowhere
+unmatched-unseen : (q : Query) (qs : List ℤ) (u : Update) (us : List ℤ) (out rows others : List Row) → length qs ≡ q .parameters
+    → All (StandsBeside q (sideOf q u)) others → sameTable q u ≡ true → All (λ r. matches q (removal (u .table) r) us qs ≡ false) out
+    → answer q qs (rowsBeside (q .second) (sideOf q u) (out ++ rows) others) ≡ answer q qs (rowsBeside (q .second) (sideOf q u) rows others)
+unmatched-unseen q qs u us out rows others n b is h = go (q .second) refl (sideOf q u) refl b
+  where
+    go : (m : Option Second) → q .second ≡ m → (s : Side) → sideOf q u ≡ s → All (StandsBeside q s) others
+        → answer q qs (rowsBeside m s (out ++ rows) others) ≡ answer q qs (rowsBeside m s rows others)
+    go m d neither e b = clash is (ap isSide e)
+    go none d first e b =
+        ap (answer q qs) (sym (pairs-alone (out ++ rows)))
+        ∙ first-unseen q qs out rows ([] ∷ []) (All-map (λ r k. cons (untaken q qs u us r [] n is first e tt k) nil) h)
+        ∙ ap (answer q qs) (pairs-alone rows)
+    go none d second e b =
+        ap (answer q qs) (sym (pairs-behind (out ++ rows)))
+        ∙ second-unseen q qs out rows ([] ∷ []) (cons (All-map (λ r k. untaken q qs u us r [] n is second e (sym (ap secondStart d)) k) h) nil)
+        ∙ ap (answer q qs) (pairs-behind rows)
+    go (some x) d first e b = first-unseen q qs out rows others (All-map (λ r k. All-map (λ o j. untaken q qs u us r o n is first e j k) b) h)
+    go (some x) d second e b = second-unseen q qs out rows others (All-map (λ o j. All-map (λ r k. untaken q qs u us r o n is second e j k) h) b)
+
+-- where no pattern of the two agrees the answer stays
+pub answer-stays : AnswerStays
+answer-stays q qs u us out rows others n w b is h =
+    let none : All (λ (v : Update). matches q v us qs ≡ false) (judged u out) = any-false (λ (v : Update). matches q v us qs) (judged u out) (sym (matches-two q u out us qs) ∙ h) in
+    unmatched-stays q qs u us rows others n w b is (All-head none)
+    ∙ sym (unmatched-unseen q qs u us out rows others n b is (All-source (removal (u .table)) out (All-tail none)))

@@ -25,11 +25,12 @@ use Rattle.meaning.specs.Names.{Schema, noSchema, sameName, tableNames, 
 use Rattle.meaning.specs.Statement.{Value, Operand, Second, Query, Change, insert, delete, update, Update, creates, asks, changes, numberedAll, settings, resolvedWhere, settingMarks, statementOf}
 use Rattle.meaning.specs.Meaning.{Row, newRow, valueOf, meetsWhere, assigned, updatedRow, changed}
 use Rattle.meaning.specs.Cells.{areaSize, areasSize}
-use Rattle.meaning.specs.Plain.{Lengths, Table, Plain, schemas, noTable, noUpdate, tableAt, updateAt, cellsLeft, Opening, opened, Call, add, ask, change, flush, noPlace, isInsert, full, refusal, refused, adding, addedText, changedBy, does, guard, step, after}
+use Rattle.meaning.specs.Plain.{Lengths, Table, Plain, schemas, noTable, noUpdate, tableAt, updateAt, cellsLeft, Opening, opened, Call, add, ask, change, flush, noPlace, isInsert, remaining, full, refusal, refused, adding, addedText, changedBy, does, guard, step, after}
 use Rattle.meaning.proofs.Names.{has-position, position-is, all-known}
 use Rattle.meaning.proofs.Dotted.{all-of-pair}
 use Rattle.meaning.proofs.Resolve.{same-name}
 use Rattle.meaning.specs.Demand.{Acceptable}
+use Rattle.meaning.proofs.Pushed.{remaining-has, remaining-short, remaining-room}
 use Rattle.meaning.proofs.Accepted.{text-taken, Changing, update-taken}
 use Rattle.meaning.proofs.Resolved.{items-some, numbered-length, Within, tested-inside, set-inside, selected-inside}
 
@@ -83,7 +84,7 @@ pub record UpdateFits (t : Schema) (u : Update) : Type 0 where
   pub tested-in : All (Within (length (t .columns))) (operandsIn (tests (u .change)))
 
 pub record WellFormed (p : Plain) : Type 0 where
-  -- a row has its table's columns, and a table no more rows than its ROWS
+  -- a row has its table's columns, and a table no more rows than its ROWS or RING
   pub rows-wide : All (λ (t : Table). All (λ (r : Row). length r ≡ length (t .schema .columns)) (t .rows)) (p .tables)
   pub rows-few : All (λ (t : Table). length (t .rows) ≤ t .schema .capacity) (p .tables)
   -- an update's table is there and its change fits it
@@ -288,14 +289,14 @@ module _ (p : Plain) (W : WellFormed p) where
   -- the statement of a text that is not refused
   statement-well : (lent : Lengths) (text : List ℕ) (s : Sentence) → Acceptable lent p text s → WellFormed (adding p (statementOf (schemas p) s))
   unfolding statementOf unknown miscounted twice noPlace
-  statement-well lent text (G.table t cs z) T =
-      let size : (1 ≤ natAbs z) × (natAbs z ≤ most-rows) = capacity-fits z (rows-inside (G.table t cs z) (T .within)) in
+  statement-well lent text (G.table t cs ring z) T =
+      let size : (1 ≤ natAbs z) × (natAbs z ≤ most-rows) = capacity-fits z (rows-inside (G.table t cs ring z) (T .within)) in
       let full : leb most-tables (length (p .tables)) ≡ false = or-left (leb most-tables (length (p .tables))) (ltb (cellsLeft p) (length (items cs) * natAbs z)) (T .place) in
       let few : ltb (cellsLeft p) (length (items cs) * natAbs z) ≡ false = or-right (leb most-tables (length (p .tables))) (ltb (cellsLeft p) (length (items cs) * natAbs z)) (T .place) in
       let left : length (items cs) * natAbs z ≤ p .lengths .cells - areasSize (schemas p) = ltb-false (cellsLeft p) (length (items cs) * natAbs z) few in
       let fit : areasSize (schemas p) ≤ p .lengths .cells = W .areas-fit in
-      table-well (record { name = t; columns = items cs; capacity = natAbs z })
-      (record { some-columns = items-some cs; few-columns = few-listed (G.table t cs z) (T .within); some-rows = size .0; few-rows = size .1 })
+      table-well (record { name = t; columns = items cs; capacity = natAbs z; ring = ring })
+      (record { some-columns = items-some cs; few-columns = few-listed (G.table t cs ring z) (T .within); some-rows = size .0; few-rows = size .1 })
       (leb-false most-tables (length (p .tables)) full)
       (omega arith)
   statement-well lent text (G.select cs t w) T =
@@ -424,12 +425,14 @@ changed-wide t (insert os) vs rows f h = All-append h (cons (length-map os (valu
 changed-wide t (delete g) vs rows f h = All-keep (λ (r : Row). not (meetsWhere g vs r)) (λ r e k. e) h
 changed-wide t (update ss g) vs rows f h = All-image (updatedRow ss g vs) (All-map (λ r e. updated-length ss g vs r ∙ e) h)
 
--- and an INSERT into a table that is not full leaves it within its ROWS
-changed-few : (c : Change) (vs : List ℤ) (rows : List Row) (n : ℕ) → length rows ≤ n → (isInsert c && leb n (length rows)) ≡ false → length (changed c vs rows) ≤ n
+-- and an INSERT into a table that is not full, or a ring, leaves it within its ROWS or RING
+changed-few : (t : Table) (c : Change) (vs : List ℤ) → 1 ≤ t .schema .capacity → length (t .rows) ≤ t .schema .capacity
+    → (isInsert c && (not (t .schema .ring) && leb (t .schema .capacity) (length (t .rows)))) ≡ false → length (changed c vs (remaining t c)) ≤ t .schema .capacity
 unfolding changed
-changed-few (insert os) vs rows n h f = one-more rows (newRow os vs) n (leb-false n (length rows) f)
-changed-few (delete g) vs rows n h f = omega (arith, length-keep (λ (r : Row). not (meetsWhere g vs r)) rows)
-changed-few (update ss g) vs rows n h f = omega (arith, length-map rows (updatedRow ss g vs))
+changed-few t (insert os) vs one h f = one-more (remaining t (insert os)) (newRow os vs) (t .schema .capacity) (remaining-room t os one h f)
+changed-few t (delete g) vs one h f =
+    omega (arith, h, remaining-short t (delete g), length-keep (λ (r : Row). not (meetsWhere g vs r)) (remaining t (delete g)))
+changed-few t (update ss g) vs one h f = omega (arith, h, remaining-short t (update ss g), length-map (remaining t (update ss g)) (updatedRow ss g vs))
 
 module _ (p : Plain) (n : ℕ) (us : List ℤ) where
   -- the columns of tables stay
@@ -438,7 +441,7 @@ module _ (p : Plain) (n : ℕ) (us : List ℤ) where
   schemas-stay =
       let u : Update = updateAt p n in
       let t : Table = tableAt p (u .table) in
-      map-set-same (λ (t : Table). t .schema) (p .tables) (u .table) (record { schema = t .schema; rows = changed (u .change) us (t .rows) }) noTable refl
+      map-set-same (λ (t : Table). t .schema) (p .tables) (u .table) (record { schema = t .schema; rows = changed (u .change) us (remaining t (u .change)) }) noTable refl
 
   pub schema-stays : (i : ℕ) → tableAt (changedBy p n us) i .schema ≡ tableAt p i .schema
   schema-stays i = sym (schema-at (changedBy p n us) i) ∙ ap (λ (ts : List Schema). getD ts i noSchema) schemas-stay ∙ schema-at p i
@@ -448,7 +451,7 @@ module _ (p : Plain) (n : ℕ) (us : List ℤ) where
   tables-stay =
       let u : Update = updateAt p n in
       let t : Table = tableAt p (u .table) in
-      length-set (p .tables) (u .table) (record { schema = t .schema; rows = changed (u .change) us (t .rows) })
+      length-set (p .tables) (u .table) (record { schema = t .schema; rows = changed (u .change) us (remaining t (u .change)) })
 
   grows-rows : Grows p (changedBy p n us)
   grows-rows i h = (omega (arith, tables-stay), schema-stays i)
@@ -460,15 +463,15 @@ module _ (p : Plain) (n : ℕ) (us : List ℤ) where
       let t : Table = tableAt p (u .table) in
       let fits : Fits p u = All-at n noUpdate h (W .updates-fit) in
       record {
-        rows-wide = All-set (u .table) (record { schema = t .schema; rows = changed (u .change) us (t .rows) })
-            (changed-wide (t .schema) (u .change) us (t .rows) (fits .1) (All-at (u .table) noTable (fits .0) (W .rows-wide))) (W .rows-wide);
-        rows-few = All-set (u .table) (record { schema = t .schema; rows = changed (u .change) us (t .rows) })
-            (changed-few (u .change) us (t .rows) (t .schema .capacity) (All-at (u .table) noTable (fits .0) (W .rows-few)) f) (W .rows-few);
+        rows-wide = All-set (u .table) (record { schema = t .schema; rows = changed (u .change) us (remaining t (u .change)) })
+            (changed-wide (t .schema) (u .change) us (remaining t (u .change)) (fits .1) (remaining-has t (u .change) (All-at (u .table) noTable (fits .0) (W .rows-wide)))) (W .rows-wide);
+        rows-few = All-set (u .table) (record { schema = t .schema; rows = changed (u .change) us (remaining t (u .change)) })
+            (changed-few t (u .change) us (All-at (u .table) noTable (fits .0) (W .tables-fit) .some-rows) (All-at (u .table) noTable (fits .0) (W .rows-few)) f) (W .rows-few);
         updates-fit = fits-grows p (changedBy p n us) grows-rows (W .updates-fit);
         updates-in = limits-grow p (changedBy p n us) grows-rows (W .updates-fit) (W .updates-in);
         queries-fit = queries-grow p (changedBy p n us) grows-rows (W .queries-fit) (W .pairs-fit);
         pairs-fit = pairs-grow p (changedBy p n us) grows-rows (W .queries-fit) (W .pairs-fit);
-        tables-fit = All-set (u .table) (record { schema = t .schema; rows = changed (u .change) us (t .rows) })
+        tables-fit = All-set (u .table) (record { schema = t .schema; rows = changed (u .change) us (remaining t (u .change)) })
             (All-at (u .table) noTable (fits .0) (W .tables-fit)) (W .tables-fit);
         areas-fit = subst (λ (ts : List Schema). areasSize ts ≤ p .lengths .cells) (sym schemas-stay) (W .areas-fit);
         few-tables = omega (arith, tables-stay, W .few-tables);

@@ -22,9 +22,10 @@ use Rattle.meaning.specs.Names.{columnsOf}
 use Rattle.meaning.specs.Statement.{Value, constant, parameter, Operand, Second, Query, Change, insert, delete, update, Update, numbered, numberedAll, settings, statementOf}
 use Rattle.meaning.specs.Meaning.{Row, cell, valueOf, meetsWhere, takes, selected, answer, assigned, updatedRow, changed}
 use Rattle.meaning.specs.Key.{Key}
-use Rattle.meaning.specs.Plain.{Lengths, Table, Plain, schemas, noTable, noQuery, noUpdate, tableAt, queryAt, updateAt, rowsOver, rowsFor, recordOf, tooMany, Opening, opened, Call, add, ask, change, flush, askConditions, conditions, refusal, refused, answered, adding, addedText, changedBy, does, guard, step, after}
+use Rattle.meaning.specs.Plain.{Lengths, Table, Plain, schemas, noTable, noQuery, noUpdate, tableAt, queryAt, updateAt, rowsOver, rowsFor, recordOf, remaining, tooMany, Opening, opened, Call, add, ask, change, flush, askConditions, conditions, refusal, refused, answered, adding, addedText, changedBy, does, guard, step, after}
 use Rattle.meaning.specs.Demand.{Acceptable, ReadsBack, IsRow, Is32, Call32, rowsListed, AnswerReadsBack}
 use Rattle.meaning.proofs.Accepted.{clear, text-taken, key-asked}
+use Rattle.meaning.proofs.Pushed.{remaining-has}
 use Rattle.meaning.proofs.WellFormed.{SecondFits, WellFormed, Reads, opened-well, after-well}
 use Rattle.meaning.proofs.Record.{record-reads-back}
 
@@ -75,7 +76,7 @@ settings-32 columns m (s ∷ ss) h = cons (numbered-32 m (s .1) (All-head h)) (s
 
 statement-32 : (p : Plain) → Store32 p → (s : Sentence) → pastLimit s ≡ false → Store32 (adding p (statementOf (schemas p) s))
 unfolding statementOf
-statement-32 p S (G.table t cs z) h = record { rows = All-append (S .rows) (cons nil nil); writes = S .writes }
+statement-32 p S (G.table t cs ring z) h = record { rows = All-append (S .rows) (cons nil nil); writes = S .writes }
 statement-32 p S (G.select cs t w) h = record { rows = S .rows; writes = S .writes }
 statement-32 p S (G.pair cs t u w) h = record { rows = S .rows; writes = S .writes }
 statement-32 p S (G.insert t vs) h =
@@ -116,8 +117,8 @@ module _ (us : List ℤ) (small : All Is32 us) where
       let u : Update = updateAt p n in
       let t : Table = tableAt p (u .table) in
       record {
-        rows = All-set (u .table) (record { schema = t .schema; rows = changed (u .change) us (t .rows) })
-            (changed-32 (u .change) (t .rows) (All-getD n noUpdate tt (S .writes)) (All-getD (u .table) noTable nil (S .rows))) (S .rows);
+        rows = All-set (u .table) (record { schema = t .schema; rows = changed (u .change) us (remaining t (u .change)) })
+            (changed-32 (u .change) (remaining t (u .change)) (All-getD n noUpdate tt (S .writes)) (remaining-has t (u .change) (All-getD (u .table) noTable nil (S .rows)))) (S .rows);
         writes = S .writes;
       }
 

@@ -20,9 +20,9 @@ use Rattle.meaning.specs.Key.{Key}
 use Rattle.meaning.specs.Limits.{most-text, most-items, most-listed, rowsOf, whereOf, allNames, givens, markCount, isWithin32, pastLimit}
 use Rattle.meaning.specs.Names.{Schema, unknown, taken, miscounted, twice}
 use Rattle.meaning.specs.Statement.{Value, constant, parameter, Operand, column, value, Second, Query, Change, insert, delete, update, Update, Statement, creates, asks, changes, statementOf}
-use Rattle.meaning.specs.Meaning.{Row, answer, changed}
+use Rattle.meaning.specs.Meaning.{Row, takes, answer, changed}
 use Rattle.meaning.specs.Record.{encode, isRecord, columnsIn, rowCount, rowRefusal, rowPart, numbersOf}
-use Rattle.meaning.specs.Pattern.{Side, neither, first, second, sideOf, sameTable, startOf, matters, matches}
+use Rattle.meaning.specs.Pattern.{Side, neither, first, second, sideOf, sameTable, startOf, beside, matters, matches, removal, matchesTwo}
 use Rattle.meaning.specs.Plain.{Lengths, Plain, schemas, rowsFor, queryAt, Opening, opened, Call, add, ask, change, flush, otherLengths, noPlace, conditions, refusal, refused, answered, adding, placed, step, after}
 
 -- ---- Demand 1: "If a call brings a text, number, state or lent memory that the store can't take, it gives the refusal number of document 01 and changes
@@ -145,7 +145,7 @@ Between least most n = (least ≤ n) × (n ≤ most)
 
 -- how many columns a table has, are selected, or set; how many values are inserted; DELETE has no list
 abbrev pub listLengths : Sentence → List ℕ
-listLengths (G.table t cs z) = length (items cs) ∷ []
+listLengths (G.table t cs ring z) = length (items cs) ∷ []
 listLengths (G.select cs t w) = length (items cs) ∷ []
 listLengths (G.pair cs t u w) = length (items cs) ∷ []
 listLengths (G.insert t vs) = length (items vs) ∷ []
@@ -260,6 +260,11 @@ abbrev pub PatternsWeaken : Type 0
 PatternsWeaken = (q : Query) (qs : List ℤ) (u : Update) (us : List ℤ) (r o : Row) → length qs ≡ q .parameters → ChangesWithin (u .change) r
     → StandsBeside q (sideOf q u) o → matters q qs u us r o ≡ true → matches q u us qs ≡ true
 
+-- A.4, "When a row is pushed out, kept answers are judged for it as well": if the question takes it, a pattern that is worked out for it agrees
+abbrev pub PushedWeakens : Type 0
+PushedWeakens = (q : Query) (qs : List ℤ) (t : ℕ) (us : List ℤ) (r o : Row) → length qs ≡ q .parameters → sameTable q (removal t r) ≡ true
+    → StandsBeside q (sideOf q (removal t r)) o → takes q qs (beside (sideOf q (removal t r)) r o) ≡ true → matches q (removal t r) us qs ≡ true
+
 -- the rows that the question tests, where the updated table holds `rows` and the other one, if there is one, `others`
 abbrev pub rowsBeside : Option Second → Side → List Row → List Row → List Row
 rowsBeside none side rows others = rows
@@ -267,10 +272,11 @@ rowsBeside (some s) neither rows others = pairs rows others
 rowsBeside (some s) first rows others = pairs rows others
 rowsBeside (some s) second rows others = pairs others rows
 
+-- the update finds `rows`, and where it pushed rows out of a ring these stood before them
 abbrev pub AnswerStays : Type 0
-AnswerStays = (q : Query) (qs : List ℤ) (u : Update) (us : List ℤ) (rows others : List Row) → length qs ≡ q .parameters → All (ChangesWithin (u .change)) rows
-    → All (StandsBeside q (sideOf q u)) others → sameTable q u ≡ true → matches q u us qs ≡ false
-    → answer q qs (rowsBeside (q .second) (sideOf q u) (changed (u .change) us rows) others) ≡ answer q qs (rowsBeside (q .second) (sideOf q u) rows others)
+AnswerStays = (q : Query) (qs : List ℤ) (u : Update) (us : List ℤ) (out rows others : List Row) → length qs ≡ q .parameters → All (ChangesWithin (u .change)) rows
+    → All (StandsBeside q (sideOf q u)) others → sameTable q u ≡ true → matchesTwo q u out us qs ≡ false
+    → answer q qs (rowsBeside (q .second) (sideOf q u) (changed (u .change) us rows) others) ≡ answer q qs (rowsBeside (q .second) (sideOf q u) (out ++ rows) others)
 
 -- ---- all of these
 
@@ -295,4 +301,5 @@ pub record Demands : Type 0 where
   pub record-reads-back : RecordReadsBack
   pub answer-reads-back : AnswerReadsBack
   pub patterns-weaken : PatternsWeaken
+  pub pushed-weakens : PushedWeakens
   pub answer-stays : AnswerStays

@@ -1,4 +1,4 @@
--- The edges of document 01, "Limits", "Statement texts" and "Numbers for a call not taken", and of requests A.1 and A.2: texts, each with the number that
+-- The edges of document 01, "Limits", "Statement texts" and "Numbers for a call not taken", and of requests A.1, A.2 and A.4: texts, each with the number that
 -- adding it gives, or 0 where it is taken, by computation. Each limit stands at its last good value and one past it. Assumes nothing.
 use mathlib.Core.Path.{_≡_, refl}
 use mathlib.Core.Bool.{true}
@@ -639,13 +639,14 @@ capitals = first (
     ∷ (bytes "TABLE " ++ (195 ∷ 132 ∷ bytes " (b) ROWS 1"), 4)
     ∷ [])
 
--- "Words spelled exactly as a keyword, all capitals, remain keywords", and no others; a word of a later request is a name until then
+-- "Words spelled exactly as a keyword, all capitals, remain keywords", and no others; a word of a later request is a name until then, as RING was before A.4
 abbrev pub exact : Group
 exact = first (
     edge "TABLE Table (Rows, sELECT, from, Where, INSERt, into, values) ROWS 1" 0
     ∷ edge "TABLE update (Set, delete, aND, Or, not) ROWS 1" 0
     ∷ edge "TABLE ROWS3 (TABLES, AND_, ORB, NOTE) ROWS 1" 0
-    ∷ edge "TABLE RING (a) ROWS 1" 0
+    ∷ edge "TABLE RING (a) ROWS 1" 4
+    ∷ edge "TABLE NEAREST (LIMIT) ROWS 1" 0
     ∷ edge "TABLE t (TABLE) ROWS 1" 4
     ∷ edge "TABLE t (a, NOT) ROWS 1" 4
     ∷ edge "Table t (a) ROWS 1" 4
@@ -718,6 +719,102 @@ paired = typed (
     ∷ edge "SELECT Stage.FLOW FROM stage, Stage" 6
     ∷ [])
 
+-- ---- request A.4: tables that run round
+
+-- "RING takes 1 to 512", and like ROWS a constant
+abbrev pub ring-sizes : Group
+ring-sizes = first (
+    edge "TABLE recent (minute, level) RING 96" 0
+    ∷ edge "TABLE t (a) RING 0" 5
+    ∷ edge "TABLE t (a) RING 1" 0
+    ∷ edge "TABLE t (a) RING 512" 0
+    ∷ edge "TABLE t (a) RING 513" 5
+    ∷ edge "TABLE t (a) RING -0" 5
+    ∷ edge "TABLE t (a) RING -1" 5
+    ∷ edge "TABLE t (a) RING 0512" 0
+    ∷ edge "TABLE t (a) RING 99999999999" 5
+    ∷ edge "TABLE t (a) RING ?" 4
+    ∷ edge "TABLE t (a) RING a" 4
+    ∷ edge "TABLE t (a) RING" 4
+    ∷ edge "TABLE t (a, b, c, d, e, f, g, h) RING 1" 0
+    ∷ edge "TABLE t (a, b, c, d, e, f, g, h, i) RING 1" 5
+    ∷ edge "TABLE abcdefghijklm (a) RING 1" 5
+    ∷ edge "TABLE t (a, a) RING 1" 7
+    ∷ [])
+
+-- one of ROWS and RING, at its place
+abbrev pub ring-or-rows : Group
+ring-or-rows = first (
+    edge "TABLE t (a) ROWS 1 RING 1" 4
+    ∷ edge "TABLE t (a) RING 1 ROWS 1" 4
+    ∷ edge "TABLE t (a) ROWS RING 1" 4
+    ∷ edge "TABLE t (a) RING ROWS 1" 4
+    ∷ edge "TABLE t (a) RING RING 1" 4
+    ∷ edge "TABLE t (a) RING 1 1" 4
+    ∷ edge "TABLE t (a) RING (1)" 4
+    ∷ edge "TABLE t (a) 1 RING" 4
+    ∷ edge "TABLE t RING 1 (a)" 4
+    ∷ edge "TABLE t (a RING 1)" 4
+    ∷ edge "TABLE t () RING 1" 4
+    ∷ edge "TABLE RING 1" 4
+    ∷ edge "RING t (a) ROWS 1" 4
+    ∷ edge "TABLE t(a)RING 1" 0
+    ∷ edge "TABLE t(a)RING-1" 5
+    ∷ [])
+
+-- RING is a keyword, and `ring` a name
+abbrev pub ring-words : Group
+ring-words = first (
+    edge "TABLE t (a) ring 1" 4
+    ∷ edge "TABLE t (a) Ring 1" 4
+    ∷ edge "TABLE t (a) RINGS 1" 4
+    ∷ edge "TABLE t (a) RING1" 4
+    ∷ edge "TABLE RING (a) RING 1" 4
+    ∷ edge "TABLE t (RING) ROWS 1" 4
+    ∷ edge "TABLE t (a, RING) RING 1" 4
+    ∷ edge "TABLE ring (a) ROWS 1" 0
+    ∷ edge "TABLE Ring (RINg) RING 1" 0
+    ∷ edge "TABLE RING1 (RINGS, RING_, rING) RING 1" 0
+    ∷ [])
+
+-- the other forms speak of a ring as of any table, and know no RING
+abbrev pub ring-forms : Group
+ring-forms = record {
+  cells = 8;
+  before = "TABLE t (a, b) RING 1" ∷ "TABLE u (a, c) ROWS 1" ∷ [];
+  edges =
+      edge "SELECT a, b FROM t WHERE a = ?" 0
+      ∷ edge "SELECT t.a FROM t, u WHERE t.a = u.a" 0
+      ∷ edge "SELECT u.a FROM u, t" 0
+      ∷ edge "INSERT INTO t VALUES (?, 1)" 0
+      ∷ edge "UPDATE t SET a = ? WHERE b = 1" 0
+      ∷ edge "DELETE FROM t" 0
+      ∷ edge "SELECT a FROM t RING 1" 4
+      ∷ edge "SELECT RING FROM t" 4
+      ∷ edge "SELECT a FROM RING" 4
+      ∷ edge "DELETE FROM t WHERE RING = 1" 4
+      ∷ edge "UPDATE t SET RING = 1" 4
+      ∷ edge "SELECT ring FROM t" 6
+      ∷ edge "DELETE FROM ring" 6
+      ∷ edge "TABLE t (a) ROWS 1" 7
+      ∷ edge "TABLE T (a) RING 1" 7
+      ∷ edge "TABLE u (a) RING 1" 7
+      ∷ edge "INSERT INTO t VALUES (1)" 8
+      ∷ edge "INSERT INTO t VALUES (1, 2, 3)" 8
+      ∷ [];
+}
+
+-- "counts as the table's ROWS": the cells that it takes, and those that are left beside it
+abbrev pub ring-cells : Group
+ring-cells = record { cells = 6; before = []; edges = edge "TABLE t (a, b) RING 3" 0 ∷ edge "TABLE t (a) RING 6" 0 ∷ edge "TABLE t (a) RING 7" 9 ∷ edge "TABLE t (a, b) RING 4" 9 ∷ [] }
+
+abbrev pub ring-left : Group
+ring-left = record {
+  cells = 10;
+  before = "TABLE t (a, b) RING 3" ∷ [];
+  edges = edge "TABLE u (a, b) RING 2" 0 ∷ edge "TABLE u (a, b) ROWS 2" 0 ∷ edge "TABLE u (a) RING 5" 9 ∷ edge "TABLE u (a) ROWS 5" 9 ∷ edge "TABLE t (a) RING 5" 7 ∷ [];
+}
+
 -- ---- the table
 
 abbrev pub table : List Group
@@ -771,6 +868,12 @@ table =
     ∷ looked-up
     ∷ repeated
     ∷ paired
+    ∷ ring-sizes
+    ∷ ring-or-rows
+    ∷ ring-words
+    ∷ ring-forms
+    ∷ ring-cells
+    ∷ ring-left
     ∷ []
 
 columns-hold : Holds columns
@@ -969,6 +1072,30 @@ paired-hold : Holds paired
 unfolding computing
 paired-hold = record { taken = refl; numbers-are = refl }
 
+ring-sizes-hold : Holds ring-sizes
+unfolding computing
+ring-sizes-hold = record { taken = refl; numbers-are = refl }
+
+ring-or-rows-hold : Holds ring-or-rows
+unfolding computing
+ring-or-rows-hold = record { taken = refl; numbers-are = refl }
+
+ring-words-hold : Holds ring-words
+unfolding computing
+ring-words-hold = record { taken = refl; numbers-are = refl }
+
+ring-forms-hold : Holds ring-forms
+unfolding computing
+ring-forms-hold = record { taken = refl; numbers-are = refl }
+
+ring-cells-hold : Holds ring-cells
+unfolding computing
+ring-cells-hold = record { taken = refl; numbers-are = refl }
+
+ring-left-hold : Holds ring-left
+unfolding computing
+ring-left-hold = record { taken = refl; numbers-are = refl }
+
 pub all-hold : All Holds table
 all-hold =
     cons columns-hold
@@ -1020,4 +1147,10 @@ all-hold =
     (cons looked-up-hold
     (cons repeated-hold
     (cons paired-hold
-    nil))))))))))))))))))))))))))))))))))))))))))))))))
+    (cons ring-sizes-hold
+    (cons ring-or-rows-hold
+    (cons ring-words-hold
+    (cons ring-forms-hold
+    (cons ring-cells-hold
+    (cons ring-left-hold
+    nil))))))))))))))))))))))))))))))))))))))))))))))))))))))

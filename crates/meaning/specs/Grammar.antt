@@ -1,4 +1,4 @@
--- The grammar of sentences: document 01, "Statement texts", and request A.1. A sentence is a tree; `spell` gives its tokens; `read` finds the sentence whose
+-- The grammar of sentences: document 01, "Statement texts", and requests A.1 and A.4. A sentence is a tree; `spell` gives its tokens; `read` finds the sentence whose
 -- tokens it is given (`proofs/Decides.antt`). There is no limit here. Assumes nothing: these are definitions.
 use mathlib.Core.Bool.{Bool, true, false}
 use mathlib.Core.Option.{Option, none, some}
@@ -9,7 +9,7 @@ use lib.ListN.{length}
 use Rattle.meaning.specs.Operator.{Operator}
 use Rattle.meaning.specs.Condition.{Level, atom, conjunction, disjunction, Condition, compare, negate, group, alone, both, single, either, Where, always, under}
 use Rattle.meaning.specs.Tokens as T
-use Rattle.meaning.specs.Tokens.{Name, Token, keyword, name, operator, comma, lparen, rparen, dot, other, sameToken, TABLE, ROWS, SELECT, FROM, WHERE, INSERT, INTO, VALUES, UPDATE, SET, DELETE, AND, OR, NOT, tokens}
+use Rattle.meaning.specs.Tokens.{Name, Token, keyword, name, operator, comma, lparen, rparen, dot, other, sameToken, Keyword, TABLE, ROWS, SELECT, FROM, WHERE, INSERT, INTO, VALUES, UPDATE, SET, DELETE, AND, OR, NOT, RING, tokens}
 
 -- ---- trees
 
@@ -36,9 +36,10 @@ abbrev pub items : {A : Type 0} → Listed A → List A
 items (last x) = x ∷ []
 items (next x xs) = x ∷ items xs
 
--- the five forms; SELECT is from one table, or from two (A.1: "with every column written `stage.level`")
+-- the five forms; TABLE says its size by ROWS, or by RING where the Boolean is true (A.4: "`TABLE recent (minute, level) RING 96`"); SELECT is from one table, or
+-- from two (A.1: "with every column written `stage.level`")
 pub data Sentence : Type 0 where
-  table : Name → Listed Name → ℤ → Sentence
+  table : Name → Listed Name → Bool → ℤ → Sentence
   select : Listed Name → Name → Where (Term Name) → Sentence
   pair : Listed Dotted → Name → Name → Where (Term Dotted) → Sentence
   insert : Name → Listed Given → Sentence
@@ -86,8 +87,12 @@ module _ {C : Type 0} (spellColumn : C → List Token → List Token) where
   spellWhere always = []
   spellWhere (under c) = keyword WHERE ∷ spellCondition c []
 
+abbrev pub sizeWord : Bool → Keyword
+sizeWord false = ROWS
+sizeWord true = RING
+
 unfoldable pub spell : Sentence → List Token
-spell (table t cs n) = keyword TABLE ∷ name t ∷ lparen ∷ spellList spellName cs (rparen ∷ keyword ROWS ∷ T.constant n ∷ [])
+spell (table t cs ring z) = keyword TABLE ∷ name t ∷ lparen ∷ spellList spellName cs (rparen ∷ keyword (sizeWord ring) ∷ T.constant z ∷ [])
 spell (select cs t w) = keyword SELECT ∷ spellList spellName cs (keyword FROM ∷ name t ∷ spellWhere spellName w)
 spell (pair cs t u w) = keyword SELECT ∷ spellList spellDotted cs (keyword FROM ∷ name t ∷ comma ∷ name u ∷ spellWhere spellDotted w)
 spell (insert t vs) = keyword INSERT ∷ keyword INTO ∷ name t ∷ keyword VALUES ∷ lparen ∷ spellList spellGiven vs (rparen ∷ [])
@@ -234,15 +239,19 @@ module _ {C : Type 0} (aColumn : Reader C) where
 
 -- ---- the five forms, after their first word
 
+-- ROWS or RING
+abbrev pub aSizeWord : Reader Bool
+aSizeWord = passing (keyword ROWS) (done false) (expect (keyword RING) >> done true)
+
 abbrev pub aTable : ℕ → Reader Sentence
 aTable n = do
   t ← aName
   expect lparen
   cs ← aList aName n
   expect rparen
-  expect (keyword ROWS)
+  ring ← aSizeWord
   z ← aToken constantOf
-  done (table t cs z)
+  done (table t cs ring z)
 
 -- SELECT from one table
 abbrev pub aSingle : ℕ → Reader Sentence

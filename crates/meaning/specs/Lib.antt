@@ -17,3 +17,4 @@ pub mod Demand
 pub mod Examples
 pub mod Edges
 pub mod Paired
+pub mod Rings

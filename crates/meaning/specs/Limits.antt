@@ -72,7 +72,7 @@ tooLong text = ltb most-text (length text)
 -- ---- what stands in a sentence, in the text's order
 
 abbrev pub tableNamed : Sentence → Name
-tableNamed (table t cs z) = t
+tableNamed (table t cs ring z) = t
 tableNamed (select cs t w) = t
 tableNamed (pair cs t u w) = t
 tableNamed (insert t vs) = t
@@ -81,7 +81,7 @@ tableNamed (delete t w) = t
 
 -- the columns of its list, and the constants and question marks of its list; DELETE has no list
 abbrev pub listColumns : Sentence → List Name
-listColumns (table t cs z) = items cs
+listColumns (table t cs ring z) = items cs
 listColumns (select cs t w) = items cs
 listColumns (pair cs t u w) = map (λ (c : Dotted). c .1) (items cs)
 listColumns (insert t vs) = []
@@ -89,7 +89,7 @@ listColumns (update t ss w) = map (λ (s : Name × Given). s .0) (items ss)
 listColumns (delete t w) = []
 
 abbrev pub listGivens : Sentence → List Given
-listGivens (table t cs z) = []
+listGivens (table t cs ring z) = []
 listGivens (select cs t w) = []
 listGivens (pair cs t u w) = []
 listGivens (insert t vs) = items vs
@@ -97,7 +97,7 @@ listGivens (update t ss w) = map (λ (s : Name × Given). s .1) (items ss)
 listGivens (delete t w) = []
 
 abbrev pub rowsOf : Sentence → List ℤ
-rowsOf (table t cs z) = z ∷ []
+rowsOf (table t cs ring z) = z ∷ []
 rowsOf (select cs t w) = []
 rowsOf (pair cs t u w) = []
 rowsOf (insert t vs) = []
@@ -110,7 +110,7 @@ bareTerm (column c) = column (c .1)
 bareTerm (given v) = given v
 
 abbrev pub whereOf : Sentence → Where (Term Name)
-whereOf (table t cs z) = always
+whereOf (table t cs ring z) = always
 whereOf (select cs t w) = w
 whereOf (pair cs t u w) = replacedIn bareTerm w
 whereOf (insert t vs) = always
@@ -127,7 +127,7 @@ termColumns [] = []
 termColumns (column n ∷ ts) = n ∷ termColumns ts
 termColumns (given v ∷ ts) = termColumns ts
 
--- all columns (of a dotted one, its name); all constants (but ROWS) and question marks
+-- all columns (of a dotted one, its name); all constants (but those of ROWS and RING) and question marks
 abbrev pub columnsNamed : Sentence → List Name
 columnsNamed s = listColumns s ++ termColumns (operandsIn (whereOf s))
 
@@ -136,7 +136,7 @@ givens s = listGivens s ++ termGivens (operandsIn (whereOf s))
 
 -- the dotted columns of a question over two tables
 abbrev pub dottedNamed : Sentence → List Dotted
-dottedNamed (table t cs z) = []
+dottedNamed (table t cs ring z) = []
 dottedNamed (select cs t w) = []
 dottedNamed (pair cs t u w) = items cs ++ termColumns (operandsIn w)
 dottedNamed (insert t vs) = []
@@ -145,7 +145,7 @@ dottedNamed (delete t w) = []
 
 -- its second table, and the table of each dotted column
 abbrev pub furtherTables : Sentence → List Name
-furtherTables (table t cs z) = []
+furtherTables (table t cs ring z) = []
 furtherTables (select cs t w) = []
 furtherTables (pair cs t u w) = u ∷ map (λ (c : Dotted). c .0) (dottedNamed (pair cs t u w))
 furtherTables (insert t vs) = []
@@ -170,7 +170,7 @@ markCount (v ∷ vs) = markIn v + markCount vs
 abbrev pub manyItems : Sentence → Bool
 manyItems s = ltb most-items (length (listColumns s)) || ltb most-items (length (listGivens s))
 
--- "ROWS of a table: 1 to 512"
+-- "ROWS of a table: 1 to 512"; A.4: "RING takes 1 to 512 and counts as the table's ROWS"
 abbrev pub rowsOutside : Sentence → Bool
 rowsOutside s = any (λ (z : ℤ). not (leZ (pos 1) z && leZ z (pos most-rows))) (rowsOf s)
 

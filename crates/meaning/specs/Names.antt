@@ -11,11 +11,12 @@ use Rattle.meaning.specs.Tokens.{Name}
 use Rattle.meaning.specs.Grammar.{Given, items, Dotted, Sentence, table, select, pair, insert, update, delete}
 use Rattle.meaning.specs.Limits.{columnsNamed, dottedNamed}
 
--- what a TABLE text says; `capacity` is its ROWS
+-- what a TABLE text says; `capacity` is its ROWS or RING, and `ring` whether it is a RING (A.4)
 pub record Schema : Type 0 where
   pub name : Name
   pub columns : List Name
   pub capacity : ℕ
+  pub ring : Bool
 
 abbrev pub sameName : Name → Name → Bool
 sameName m n = eqList eqb m n
@@ -32,7 +33,7 @@ abbrev pub tableNames : List Schema → List Name
 tableNames ts = map (λ (t : Schema). t .name) ts
 
 abbrev pub noSchema : Schema
-noSchema = record { name = []; columns = []; capacity = 0 }
+noSchema = record { name = []; columns = []; capacity = 0; ring = false }
 
 -- the columns of the table of that name
 abbrev pub columnsOf : List Schema → Name → List Name
@@ -59,7 +60,7 @@ pairMissing ts t u cs =
     || any (λ (c : Dotted). not (isOf t (columnsOf ts t) c || isOf u (columnsOf ts u) c)) cs)
 
 unfoldable pub unknown : List Schema → Sentence → Bool
-unknown ts (table t cs z) = false
+unknown ts (table t cs ring z) = false
 unknown ts (select cs t w) = missing ts t (columnsNamed (select cs t w))
 unknown ts (pair cs t u w) = pairMissing ts t u (dottedNamed (pair cs t u w))
 unknown ts (insert t vs) = missing ts t (columnsNamed (insert t vs))
@@ -68,7 +69,7 @@ unknown ts (delete t w) = missing ts t (columnsNamed (delete t w))
 
 -- refusal 7: "table name taken, or column twice in TABLE or SET"; a column may be selected twice
 unfoldable pub taken : List Schema → Sentence → Bool
-taken ts (table t cs z) = has (tableNames ts) t || repeats sameName (items cs)
+taken ts (table t cs ring z) = has (tableNames ts) t || repeats sameName (items cs)
 taken ts (select cs t w) = false
 taken ts (pair cs t u w) = false
 taken ts (insert t vs) = false
@@ -77,7 +78,7 @@ taken ts (delete t w) = false
 
 -- refusal 8: "INSERT values not one a column"
 unfoldable pub miscounted : List Schema → Sentence → Bool
-miscounted ts (table t cs z) = false
+miscounted ts (table t cs ring z) = false
 miscounted ts (select cs t w) = false
 miscounted ts (pair cs t u w) = false
 miscounted ts (insert t vs) = not (eqb (length (items vs)) (length (columnsOf ts t)))
@@ -86,7 +87,7 @@ miscounted ts (delete t w) = false
 
 -- refusal 15: "Naming one table twice gives 15, looked for after 8"
 unfoldable pub twice : Sentence → Bool
-twice (table t cs z) = false
+twice (table t cs ring z) = false
 twice (select cs t w) = false
 twice (pair cs t u w) = sameName t u
 twice (insert t vs) = false

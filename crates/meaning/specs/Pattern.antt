@@ -1,5 +1,5 @@
 -- Which kept answers an update can change: document 01, "Patterns", rules 1 to 7. F is the query's condition, G the update's. For a question over two tables
--- A.1: "An update of one table is judged as before, with the other table's columns as free operands."
+-- A.1: "An update of one table is judged as before, with the other table's columns as free operands." For a row that a ring pushes out A.4, at the end.
 -- Assumes nothing: these are definitions.
 use mathlib.Core.Bool.{Bool, true, false, not, _&&_, _||_, cond}
 use mathlib.Core.Option.{Option, none, some}
@@ -8,7 +8,7 @@ use Prim.Native.Nat.{ℕ, suc, _+_, _*_, min}
 use lib.IntN.{ℤ}
 use lib.ListN.{replicate}
 use lib.Dec.{eqb, ltb}
-use Rattle.lists.specs.Lists.{any, keep, pairs, distinct, from}
+use Rattle.lists.specs.Lists.{any, keep, pairs, distinct, flat, from}
 use Rattle.lists.specs.Tests.{isYes, decN, decZ, eqZ, eqList}
 use Rattle.meaning.specs.Operator.{Operator, eq, ne, lt, le, gt, ge, truth}
 use Rattle.meaning.specs.Condition.{Comparison, sides, Where, operandsIn, clausesOf, countOf, replacedIn}
@@ -294,3 +294,21 @@ agrees us (z ∷ zs) (e ∷ es) = agreesAt us e z && agrees us zs es
 -- the update with the values us matches the query with the values qs
 unfoldable pub matches : Query → Update → List ℤ → List ℤ → Bool
 matches q u us qs = any (agrees us qs) (patterns q u)
+
+-- ---- A.4: "When a row is pushed out, kept answers are judged for it as well: F with its columns replaced by that row's values is worked into patterns"
+
+-- rule 3 of an INSERT of these values: the row r of table t goes
+abbrev pub removal : ℕ → Row → Update
+removal t r = record { table = t; change = insert (map S.constant r); parameters = 0 }
+
+-- what is judged where an update pushes the rows `out` out (one, or none): the update, and each of these rows
+abbrev pub judged : Update → List Row → List Update
+judged u out = u ∷ map (removal (u .table)) out
+
+-- "the patterns of the two": those of the row "after those of the INSERT, and 64 bounds each list alone"
+abbrev pub patternsOfTwo : Query → Update → List Row → List Pattern
+patternsOfTwo q u out = flat (map (patterns q) (judged u out))
+
+-- the update with the values us, which pushes the rows `out` out, matches the query with the values qs
+unfoldable pub matchesTwo : Query → Update → List Row → List ℤ → List ℤ → Bool
+matchesTwo q u out us qs = any (agrees us qs) (patternsOfTwo q u out)

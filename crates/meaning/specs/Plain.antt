@@ -1,12 +1,12 @@
--- The plain store: document 01, "The plain store" and "Numbers for a call not taken"; request A.1. It keeps no answer, and is fed only which call is made, its text
+-- The plain store: document 01, "The plain store" and "Numbers for a call not taken"; requests A.1 and A.4. It keeps no answer, and is fed only which call is made, its text
 -- or numbers, and the lengths lent. Assumes nothing: these are definitions.
-use mathlib.Core.Bool.{Bool, true, false, not, _&&_, _||_}
+use mathlib.Core.Bool.{Bool, true, false, not, _&&_, _||_, cond}
 use mathlib.Core.Option.{Option, none, some}
 use mathlib.Core.List.{List, [], _∷_, _++_, map}
 use Prim.Native.Nat.{ℕ, zero, suc, _+_, _*_, _-_}
 use lib.Dec.{leb, ltb, eqb}
 use lib.IntN.{ℤ, natAbs}
-use lib.ListN.{length, getD, set}
+use lib.ListN.{length, take, drop, getD, set}
 use Rattle.lists.specs.Lists.{pairs}
 use Rattle.meaning.specs.Condition.{always}
 use Rattle.meaning.specs.Key.{Key}
@@ -18,7 +18,7 @@ use Rattle.meaning.specs.Statement.{Second, Query, Change, insert, delet
 use Rattle.meaning.specs.Meaning.{Row, answer, changed, rowsChanged}
 use Rattle.meaning.specs.Cells.{areasSize}
 use Rattle.meaning.specs.Record.{encode}
-use Rattle.meaning.specs.Pattern.{matches}
+use Rattle.meaning.specs.Pattern.{matchesTwo}
 
 -- ---- what it holds
 
@@ -92,9 +92,29 @@ rowsRead p k =
     let q : Query = queryAt p (k .query) in
     rowsReadOver (p .tables) q (q .second)
 
--- "An update not refused matches a key when a pattern of the two, filled with the update's values, agrees with the key, kept or not."
+abbrev pub isInsert : Change → Bool
+isInsert (insert os) = true
+isInsert (delete g) = false
+isInsert (update ss g) = false
+
+-- A.4: "an INSERT into a full table first removes the oldest row": the row that goes, or none; rows stand oldest first
+abbrev pub isPushing : Schema → ℕ → Change → Bool
+isPushing t rows c = t .ring && (isInsert c && leb (t .capacity) rows)
+
+abbrev pub pushed : Table → Change → List Row
+pushed t c = cond (isPushing (t .schema) (length (t .rows)) c) (take 1 (t .rows)) []
+
+-- the rows that the change finds
+abbrev pub remaining : Table → Change → List Row
+remaining t c = drop (length (pushed t c)) (t .rows)
+
+abbrev pub pushedBy : Plain → ℕ → List Row
+pushedBy p n = pushed (tableAt p (updateAt p n .table)) (updateAt p n .change)
+
+-- "An update not refused matches a key when a pattern of the two, filled with the update's values, agrees with the key, kept or not." A.4: those of a row
+-- pushed out "count among the patterns of the two"
 unfoldable pub matchesKey : Plain → ℕ → List ℤ → Key → Bool
-matchesKey p n us k = matches (queryAt p (k .query)) (updateAt p n) us (k .values)
+matchesKey p n us k = matchesTwo (queryAt p (k .query)) (updateAt p n) (pushedBy p n) us (k .values)
 
 -- ---- opening
 
@@ -147,24 +167,19 @@ itsSentence f (some s) = f s
 
 -- 9: "no table or statement place, or too few cells left"
 unfoldable pub noPlace : Plain → Sentence → Bool
-noPlace p (G.table t cs z) = leb most-tables (length (p .tables)) || ltb (cellsLeft p) (length (items cs) * natAbs z)
+noPlace p (G.table t cs ring z) = leb most-tables (length (p .tables)) || ltb (cellsLeft p) (length (items cs) * natAbs z)
 noPlace p (G.select cs t w) = leb most-queries (length (p .queries))
 noPlace p (G.pair cs t u w) = leb most-queries (length (p .queries))
 noPlace p (G.insert t vs) = leb most-updates (length (p .updates))
 noPlace p (G.update t ss w) = leb most-updates (length (p .updates))
 noPlace p (G.delete t w) = leb most-updates (length (p .updates))
 
--- 12: "INSERT, table full"
-abbrev pub isInsert : Change → Bool
-isInsert (insert os) = true
-isInsert (delete g) = false
-isInsert (update ss g) = false
-
+-- 12: "INSERT, table full"; of a ring, A.4: "12 isn't given for it"
 unfoldable pub full : Plain → ℕ → Bool
 full p n =
     let u : Update = updateAt p n in
     let t : Table = tableAt p (u .table) in
-    isInsert (u .change) && leb (t .schema .capacity) (length (t .rows))
+    isInsert (u .change) && (not (t .schema .ring) && leb (t .schema .capacity) (length (t .rows)))
 
 -- the numbers that a call can get, each with its condition, in the order in which they are looked for: that of the table, and 15 "after 8", 16 "after 12"
 abbrev pub addConditions : Lengths → Plain → List ℕ → Option Sentence → List (ℕ × Bool)
@@ -254,14 +269,14 @@ unfoldable pub addedText : Plain → Option Sentence → Plain × Out
 addedText p none = (p, refused 4)
 addedText p (some s) = (adding p (statementOf (schemas p) s), placed p (statementOf (schemas p) s))
 
--- "an update changes its table's list as Meaning says"
+-- "an update changes its table's list as Meaning says", and an INSERT into a full ring first removes the oldest row
 unfoldable pub changedBy : Plain → ℕ → List ℤ → Plain
 changedBy p n us =
     let u : Update = updateAt p n in
     let t : Table = tableAt p (u .table) in
     record {
       lengths = p .lengths;
-      tables = set (p .tables) (u .table) (record { schema = t .schema; rows = changed (u .change) us (t .rows) });
+      tables = set (p .tables) (u .table) (record { schema = t .schema; rows = changed (u .change) us (remaining t (u .change)) });
       queries = p .queries;
       updates = p .updates;
     }

@@ -1,6 +1,6 @@
 -- Statements with names resolved: what a sentence says beside the tables that there are. Columns and tables are positions, counted from 0;
 -- "Question marks are numbered from 1, left to right" through the whole statement. Parentheses and NOTs stay.
--- Document 01, "Statement texts"; request A.1. Assumes nothing: these are definitions.
+-- Document 01, "Statement texts"; requests A.1 and A.4. Assumes nothing: these are definitions.
 use mathlib.Core.Option.{Option, none, some}
 use mathlib.Core.List.{List, [], _∷_, map}
 use Prim.Native.Nat.{ℕ, suc, _+_}
@@ -97,7 +97,7 @@ abbrev pub settingMarks : List (Name × Given) → ℕ
 settingMarks ss = markCount (map (λ (s : Name × Given). s .1) ss)
 
 unfoldable pub statementOf : List Schema → Sentence → Statement
-statementOf ts (G.table t cs z) = creates (record { name = t; columns = items cs; capacity = natAbs z })
+statementOf ts (G.table t cs ring z) = creates (record { name = t; columns = items cs; capacity = natAbs z; ring = ring })
 statementOf ts (G.select cs t w) =
     asks (record {
       table = position (tableNames ts) t;

@@ -6,7 +6,8 @@ use Prim.Native.Nat.{ℕ, suc, _+_, _≤_, _<_, min}
 use native.Mathlib.Omega.{arith}
 use lib.IntN.{ℤ, pos}
 use lib.ListN.{length, take, getD, replicate, length-map, length-take, List·getD-eq-default}
-use borrow.Author.Tests.{lt-ltb, le-ltb}
+use borrow.Author.Tests.{lt-ltb, le-ltb, ltb-false}
+use lib.Dec.{ltb}
 use lib.Seq.{getD-take}
 use Rattle.lists.specs.Tests.{eqZ}
 use Rattle.meaning.specs.Pattern as P
@@ -17,7 +18,7 @@ use Rattle.pattern.specs.declared.Entry.{Entry}
 use Rattle.pattern.specs.declared.Entry.the-variants.{Constant, Parameter}
 use Rattle.pattern.specs.declared.Place.{Place}
 use Rattle.pattern.specs.declared.Pattern.{Pattern}
-use Rattle.pattern.specs.Stored.{relevant, joint, allAny, entryCount, clauseTotal, patternStruct, noPattern, clausePattern, patternAt, filledEntry, entryRead, placeRead, agreesStored}
+use Rattle.pattern.specs.Stored.{relevant, joint, allAny, entryCount, clauseCount, clauseTotal, patternStruct, noPattern, clausePattern, patternAt, filledEntry, entryRead, placeRead, agreesStored}
 use Rattle.pattern.proofs.Mapped.{getD-map-in, getD-any}
 use Rattle.pattern.proofs.Searching.{Pairwise, pair-more, pair-done}
 use Rattle.pattern.proofs.Relevant.{take-few}
@@ -78,8 +79,12 @@ module _ (entries : List Place) (values : List ℤ) (n : ℕ) where
         getD-map-in placeRead (take n entries) i d (placeRead e) (omega (arith, length-take n entries)) ∙ ap placeRead (getD-take n entries i d h ∙ sym ee) in
         pair-more (agrees []) qs es (λ x y. agreesAt [] y x) (λ x y l m. refl) good b i z (placeRead e) (omega (arith, qs-length)) (omega (arith, es-length)) q r eb inv
 
-    agree-all : (good : Bool) (i : ℕ) → n ≤ i → Agreeing good i → good ≡ agrees [] qs es
-    agree-all good i h inv = pair-done (agrees []) qs es refl good i (omega (arith, qs-length)) (omega (arith, es-length)) inv
+    -- at the end, or where one does not agree
+    agree-all : (good : Bool) (i : ℕ) → (good && ltb i n) ≡ false → Agreeing good i → good ≡ agrees [] qs es
+    agree-all true i h inv =
+        let past : n ≤ i = ltb-false i n h in
+        pair-done (agrees []) qs es refl true i (omega (arith, qs-length)) (omega (arith, es-length)) inv
+    agree-all false i h inv = inv
 
 module _ (p : Pattern) (values : List ℤ) (count : ℕ) (pl : length (p .entries) ≡ 8) (vl : length values ≡ 8) where
   pub not-there : p .there ≡ false → false ≡ agreesStored p (take count values)
@@ -94,7 +99,7 @@ module _ (p : Pattern) (values : List ℤ) (count : ℕ) (pl : length (p .entrie
       let k : length (take count values) ≡ min count 8 = length-take count values ∙ ap (min count) vl in
       sym (ap₂ _&&_ e (agrees-short (take count values) (map placeRead (take (p .count) (p .entries))) (λ q. ne (sym m ∙ sym q ∙ k))))
 
-  pub agree-done : (n : ℕ) → n ≡ min (p .count) 8 → n ≡ min count 8 → (good : Bool) (i : ℕ) → n ≤ i → p .there ≡ true → Agreeing (p .entries) values n good i
+  pub agree-done : (n : ℕ) → n ≡ min (p .count) 8 → n ≡ min count 8 → (good : Bool) (i : ℕ) → (good && ltb i n) ≡ false → p .there ≡ true → Agreeing (p .entries) values n good i
       → good ≡ agreesStored p (take count values)
   unfolding agreesStored
   agree-done n en em good i h t inv =
@@ -117,20 +122,35 @@ module _ (q : Query) (u : Update) where
   unfolding clauseTotal
   total-worked e f = sym (ap₂ (λ (b t : Bool). cond b (cond t 1 (length (joint q u))) 0) e f)
 
-  pub at-past : (i : ℕ) → clauseTotal q u ≤ i → noPattern ≡ patternAt q u i
+  pub count-many : allAny q u ≡ true → 1 ≡ clauseCount q u
+  count-many e = sym (ap (λ (t : Bool). cond t 1 (length (joint q u))) e)
+
+  pub count-worked : allAny q u ≡ false → length (joint q u) ≡ clauseCount q u
+  count-worked e = sym (ap (λ (t : Bool). cond t 1 (length (joint q u))) e)
+
+  -- those that are looked at are among them
+  pub total-few : (i : ℕ) → i < clauseTotal q u → i < clauseCount q u
+  unfolding clauseTotal
+  total-few i h = go (relevant q u) h
+    where
+      go : (b : Bool) → i < cond b (clauseCount q u) 0 → i < clauseCount q u
+      go true h = h
+      go false h = absurd (omega arith)
+
+  pub at-past : (i : ℕ) → clauseCount q u ≤ i → noPattern ≡ patternAt q u i
   unfolding patternAt
   at-past i h =
       sym (ap (λ (b : Bool). cond b (cond (allAny q u) (patternStruct (replicate (entryCount q) anything)) (clausePattern (entryCount q) (getD (joint q u) i []))) noPattern)
-      (le-ltb i (clauseTotal q u) h))
+      (le-ltb i (clauseCount q u) h))
 
-  pub at-many : (i : ℕ) → i < clauseTotal q u → allAny q u ≡ true → patternStruct (replicate (entryCount q) anything) ≡ patternAt q u i
+  pub at-many : (i : ℕ) → i < clauseCount q u → allAny q u ≡ true → patternStruct (replicate (entryCount q) anything) ≡ patternAt q u i
   unfolding patternAt
   at-many i h e =
       sym (ap₂ (λ (b t : Bool). cond b (cond t (patternStruct (replicate (entryCount q) anything)) (clausePattern (entryCount q) (getD (joint q u) i []))) noPattern)
-      (lt-ltb i (clauseTotal q u) h) e)
+      (lt-ltb i (clauseCount q u) h) e)
 
-  pub at-worked : (i : ℕ) → i < clauseTotal q u → allAny q u ≡ false → clausePattern (entryCount q) (getD (joint q u) i []) ≡ patternAt q u i
+  pub at-worked : (i : ℕ) → i < clauseCount q u → allAny q u ≡ false → clausePattern (entryCount q) (getD (joint q u) i []) ≡ patternAt q u i
   unfolding patternAt
   at-worked i h e =
       sym (ap₂ (λ (b t : Bool). cond b (cond t (patternStruct (replicate (entryCount q) anything)) (clausePattern (entryCount q) (getD (joint q u) i []))) noPattern)
-      (lt-ltb i (clauseTotal q u) h) e)
+      (lt-ltb i (clauseCount q u) h) e)

@@ -1,5 +1,5 @@
 -- Laws of the patterns of stored statements, for callers: they may be judged one clause at a time; of statements that sentences compile to they are the patterns of
--- the sentences, so that where none agrees the answer stays; and there are few. Assumes nothing.
+-- the sentences, with those of a row that a ring pushes out, so that where none agrees the answer stays; and there are few. Assumes nothing.
 use mathlib.Core.Path.{_≡_, refl, sym, ap, ap₂, _∙_}
 use mathlib.Core.Bool.{Bool, true, false, not, _&&_, _||_, cond}
 use mathlib.Core.List.{List, [], _∷_, _++_, map}
@@ -13,7 +13,7 @@ use borrow.Author.Tests.{lt-ltb, le-leb, ltb-false}
 use Rattle.lists.specs.Lists.{any, All, nil, cons, keep, pairs, from}
 use Rattle.lists.specs.Tests.{eqList}
 use Rattle.lists.proofs.Bools.{and-both}
-use Rattle.lists.proofs.Lists.{All-every, All-keep, All-image, map-take}
+use Rattle.lists.proofs.Lists.{All-every, All-keep, All-image, any-same, any-map, map-take}
 use Rattle.lists.proofs.Places.{All-at, length-keep}
 use Rattle.lists.proofs.Moved.{from-count}
 use Rattle.lists.proofs.Changed.{any-places, All-distinct, length-distinct}
@@ -26,13 +26,13 @@ use Rattle.meaning.specs.Statement as M
 use Rattle.meaning.specs.Statement.{insert, delete, update}
 use Rattle.meaning.specs.Meaning.{Row, answer, changed}
 use Rattle.meaning.specs.Pattern as P
-use Rattle.meaning.specs.Pattern.{Side, neither, first, second, sideOf, isSide, startOf, sameTable, Joint, column, constant, asked, given, ofValue, ofUpdate, ofQuery, moved, placedFrom, replacing, operandColumns, Clause, same, label, class, contradictory, constants, updateMarks, number, mark, anything, classEntry, entry, pattern, sameEntry, clausePatterns, chosen, jointCount, most-clauses, agreesAt, agrees}
+use Rattle.meaning.specs.Pattern.{Side, neither, first, second, sideOf, isSide, startOf, sameTable, Joint, column, constant, asked, given, ofValue, ofUpdate, ofQuery, moved, placedFrom, replacing, operandColumns, Clause, same, label, class, contradictory, constants, updateMarks, number, mark, anything, classEntry, entry, pattern, sameEntry, clausePatterns, chosen, jointCount, most-clauses, agreesAt, agrees, removal, matchesTwo}
 use Rattle.meaning.specs.Demand.{ChangesWithin, StandsBeside, rowsBeside}
 use Rattle.meaning.proofs.Classes.{marks-have}
 use Rattle.meaning.proofs.Clauses.{clausesOf-replaced, joint-length}
 use Rattle.meaning.proofs.Postfix.{sides-in, postfix-where}
-use Rattle.meaning.proofs.Weakening.{any-clause, answer-stays}
-use Rattle.statement.specs.Compiled.{padded, leftSide, rightSide, newValue, formOfChange, settingsOfChange, whereOfChange}
+use Rattle.meaning.proofs.Weakening.{any-clause, matches-two, answer-stays}
+use Rattle.statement.specs.Compiled.{padded, leftSide, rightSide, newValue, formOfChange, settingsOfChange, whereOfChange, updateStruct}
 use Rattle.statement.specs.Sound.{valueRead, operandRead, usedComparisons, usedSettings, secondRead, settingsRead, settingOperands, conditionNodes, columnsAt, soundQuery, soundUpdate, AgreesCondition, AgreesQuery, AgreesUpdate}
 use Rattle.statement.proofs.Assembled.{take-padded}
 use Rattle.statement.proofs.SoundSettings.{placed-values}
@@ -46,15 +46,14 @@ use Rattle.statement.specs.declared.Query.{Query}
 use Rattle.statement.specs.declared.Value.{Value}
 use Rattle.statement.specs.declared.Update.{Update}
 use Rattle.table.specs.Evaluated.{answerStored}
-use Rattle.table.specs.Changed.{rowsAfter}
 use Rattle.table.proofs.Means.{answer-means}
-use Rattle.table.proofs.ChangedMeans.{rows-mean}
 use Rattle.pattern.specs.declared.Pattern.{Pattern}
 use Rattle.pattern.specs.declared.Entry.the-variants.{Any}
 use Rattle.pattern.specs.Relevance.{isRead}
 use Rattle.pattern.specs.Stored.{sideBy, sideRead, startBy, startRead, columnsUsed, touches, relevant, clausesRead, queryClauses, bothClauses, jointClauses, joint, isFormed, allAny, entryCount, patternsStored, matchesStored, clauseTotal, entryStruct, placed, placeStruct, patternStruct, noPattern, clausePattern, patternAt, filledEntry, filledPlace, filledOf, entryRead, placeRead, agreesStored}
 use Rattle.pattern.proofs.Least.{lowest-within}
 use Rattle.pattern.proofs.Clauses.{joint-have}
+use Rattle.pattern.proofs.Removal.{removal-agrees}
 use Rattle.pattern.proofs.Relevant.{other-table}
 use Rattle.pattern.proofs.Agreeing.{total-none}
 
@@ -151,7 +150,7 @@ matches-one-by-one q u us zs = go (relevant q u) (allAny q u)
     total r b = cond r (cond b 1 (length (joint q u))) 0
 
     at : Bool → Bool → ℕ → Pattern
-    at r b i = cond (ltb i (total r b)) (cond b (patternStruct (replicate n anything)) (clausePattern n (getD (joint q u) i []))) noPattern
+    at r b i = cond (ltb i (cond b 1 (length (joint q u)))) (cond b (patternStruct (replicate n anything)) (clausePattern n (getD (joint q u) i []))) noPattern
 
     go : (r b : Bool) → any (λ (i : ℕ). agreesStored (filledOf us (at r b i)) zs) (from 0 (total r b)) ≡ any (agrees us zs) (chosen r b n (joint q u))
     go false b = refl
@@ -269,22 +268,44 @@ module _ (q : Query) (r : M.Query) (A : AgreesQuery q r) (u : Update) (s : M.Upd
   unfolding matchesStored P.matches
   matches-mean us qs = ap (any (agrees us qs)) patterns-mean
 
-  -- where none agrees, the answer is the same before the update and after it
-  pub unmatched-stays : (qs us : List ℤ) (rows others : List Row) → length qs ≡ r .parameters → All (ChangesWithin (s .change)) rows → All (StandsBeside r (sideOf r s)) others
-      → sameTable r s ≡ true → matchesStored q u us qs ≡ false
-      → answer r qs (rowsBeside (r .second) (sideOf r s) (changed (s .change) us rows) others) ≡ answer r qs (rowsBeside (r .second) (sideOf r s) rows others)
-  unmatched-stays qs us rows others n w b t h = answer-stays r qs s us rows others n w b t (sym (matches-mean us qs) ∙ h)
+-- ---- A.4: the update, and the removal of each row that it pushes out
+
+abbrev pub judgedStored : Update → List Row → List Update
+judgedStored u out = u ∷ map (λ (x : Row). updateStruct (removal (u .table) x)) out
+
+module _ (q : Query) (r : M.Query) (A : AgreesQuery q r) (u : Update) (s : M.Update) (B : AgreesUpdate u s) (few : Few q u) where
+  removal-means : (us qs : List ℤ) (x : Row) → matchesStored q (updateStruct (removal (u .table) x)) us qs ≡ P.matches r (removal (s .table) x) us qs
+  removal-means us qs x =
+      matches-mean q r A (updateStruct (removal (u .table) x)) (removal (u .table) x) (removal-agrees (u .table) x)
+      (record { parameters = few .parameters; query-comparisons = few .query-comparisons; update-comparisons = omega arith }) us qs
+      ∙ ap (λ (k : ℕ). P.matches r (removal k x) us qs) (B .table-is)
+
+  -- they match as those of the sentences
+  pub judged-mean : (out : List Row) (us qs : List ℤ) → any (λ (v : Update). matchesStored q v us qs) (judgedStored u out) ≡ matchesTwo r s out us qs
+  judged-mean out us qs =
+      ap₂ _||_ (matches-mean q r A u s B few us qs)
+      (any-map (λ (x : Row). updateStruct (removal (u .table) x)) (λ (v : Update). matchesStored q v us qs) out
+      ∙ any-same (All-every (removal-means us qs) out)
+      ∙ sym (any-map (removal (s .table)) (λ (v : M.Update). P.matches r v us qs) out))
+      ∙ sym (matches-two r s out us qs)
+
+  -- where none agrees, the answer is the same before the update and after it; the rows pushed out stood before those that it finds
+  pub unmatched-stays : (qs us : List ℤ) (out rows others : List Row) → length qs ≡ r .parameters → All (ChangesWithin (s .change)) rows
+      → All (StandsBeside r (sideOf r s)) others → sameTable r s ≡ true → any (λ (v : Update). matchesStored q v us qs) (judgedStored u out) ≡ false
+      → answer r qs (rowsBeside (r .second) (sideOf r s) (changed (s .change) us rows) others) ≡ answer r qs (rowsBeside (r .second) (sideOf r s) (out ++ rows) others)
+  unmatched-stays qs us out rows others n w b t h = answer-stays r qs s us out rows others n w b t (sym (judged-mean out us qs) ∙ h)
 
   -- and so on stored statements
-  pub stored-stays : (qs us : List ℤ) (rows others : List Row) → length qs ≡ q .parameters → All (ChangesWithin (s .change)) rows → All (StandsBeside r (sideOf r s)) others
-      → isSide (sideRead q u) ≡ true → matchesStored q u us qs ≡ false
-      → answerStored q qs (rowsBeside (secondRead q) (sideRead q u) (rowsAfter (u .form) u us rows) others) ≡ answerStored q qs (rowsBeside (secondRead q) (sideRead q u) rows others)
-  stored-stays qs us rows others n w b t h =
-      answer-means q r A qs (rowsBeside (secondRead q) (sideRead q u) (rowsAfter (u .form) u us rows) others)
-      ∙ (λ i. answer r qs (rowsBeside (A .second-is i) (side-is i) (rows-mean u us rows s B i) others))
-      ∙ unmatched-stays qs us rows others (n ∙ A .parameters-are) w b (sym (ap isSide side-is) ∙ t) h
-      ∙ sym ((λ i. answer r qs (rowsBeside (A .second-is i) (side-is i) rows others)))
-      ∙ sym (answer-means q r A qs (rowsBeside (secondRead q) (sideRead q u) rows others))
+  pub stored-stays : (qs us : List ℤ) (out rows others : List Row) → length qs ≡ q .parameters → All (ChangesWithin (s .change)) rows
+      → All (StandsBeside r (sideOf r s)) others → isSide (sideRead q u) ≡ true → any (λ (v : Update). matchesStored q v us qs) (judgedStored u out) ≡ false
+      → answerStored q qs (rowsBeside (secondRead q) (sideRead q u) (changed (s .change) us rows) others) ≡ answerStored q qs (rowsBeside (secondRead q) (sideRead q u) (out ++ rows) others)
+  stored-stays qs us out rows others n w b t h =
+      let side : sideRead q u ≡ sideOf r s = side-is q r A u s B few in
+      answer-means q r A qs (rowsBeside (secondRead q) (sideRead q u) (changed (s .change) us rows) others)
+      ∙ (λ i. answer r qs (rowsBeside (A .second-is i) (side i) (changed (s .change) us rows) others))
+      ∙ unmatched-stays qs us out rows others (n ∙ A .parameters-are) w b (sym (ap isSide side) ∙ t) h
+      ∙ sym ((λ i. answer r qs (rowsBeside (A .second-is i) (side i) (out ++ rows) others)))
+      ∙ sym (answer-means q r A qs (rowsBeside (secondRead q) (sideRead q u) (out ++ rows) others))
 
 -- ---- a query of other tables has none (rule 1)
 

@@ -1,6 +1,7 @@
 pub mod OperandCodes
 pub mod Least
 pub mod Clauses
+pub mod Removal
 pub mod Laws
 pub mod Formed
 pub mod Selecting

@@ -28,7 +28,7 @@ use Rattle.pattern.specs.declared.Patterns.{Patterns}
 use Rattle.pattern.specs.Stored.{relevant, joint, allAny, entryCount, clauseTotal, placed, placeStruct, patternStruct, noPattern, patternAt, patternsStored, patternList, entryRead, placeRead}
 use Rattle.pattern.proofs.Laws.{CountedEntry, joint-counted, pattern-counted, any-counted, pattern-length}
 use Rattle.statement.proofs.Assembled.{take-padded}
-use Rattle.pattern.proofs.Agreeing.{at-many, at-worked}
+use Rattle.pattern.proofs.Agreeing.{total-few, at-many, at-worked}
 use Rattle.pattern.proofs.Mapped.{from-last}
 
 -- ---- equal entries
@@ -224,8 +224,8 @@ module _ (q : Query) (u : Update) where
       by-clause false e = one (pattern n c) e regular
 
       go : (b : Bool) → allAny q u ≡ b → Offers n (patternAt q u i) (cond b (replicate n anything ∷ []) (worked i))
-      go true e = one (replicate n anything) (sym (at-many q u i h e)) (record { counted = any-counted n; long = length-replicate n anything })
-      go false e = by-clause (contradictory c) (sym (at-worked q u i h e))
+      go true e = one (replicate n anything) (sym (at-many q u i (total-few q u i h) e)) (record { counted = any-counted n; long = length-replicate n anything })
+      go false e = by-clause (contradictory c) (sym (at-worked q u i (total-few q u i h) e))
 
   -- ---- the array
 

@@ -102,9 +102,12 @@ matchesStored q u us qs = any (agrees us qs) (patternsStored q u)
 
 -- ---- the same one clause at a time
 
--- how many joint clauses there are to look at
+-- how many joint clauses there are by rules 3 to 5, and to look at by rules 1 and 2
+abbrev pub clauseCount : Query → Update → ℕ
+clauseCount q u = cond (allAny q u) 1 (length (joint q u))
+
 unfoldable pub clauseTotal : Query → Update → ℕ
-clauseTotal q u = cond (relevant q u) (cond (allAny q u) 1 (length (joint q u))) 0
+clauseTotal q u = cond (relevant q u) (clauseCount q u) 0
 
 -- question marks of the update are counted from 0 in structs
 abbrev pub entryStruct : P.Entry → Entry
@@ -128,10 +131,10 @@ noPattern = record { there = false; entries = replicate 8 (placed Any); count = 
 abbrev pub clausePattern : ℕ → Clause → Pattern
 clausePattern n cs = cond (contradictory cs) noPattern (patternStruct (pattern n cs))
 
--- the pattern of clause i
+-- the pattern of clause i, whether rules 1 and 2 let the clauses be looked at or not
 unfoldable pub patternAt : Query → Update → ℕ → Pattern
 patternAt q u i =
-    cond (ltb i (clauseTotal q u))
+    cond (ltb i (clauseCount q u))
     (cond (allAny q u) (patternStruct (replicate (entryCount q) anything)) (clausePattern (entryCount q) (getD (joint q u) i [])))
     noPattern
 

@@ -68,15 +68,16 @@ impl Pattern {
             return false;
         }
         let entries = self.entries;
-        let mut good = true;
         let mut i: usize = 0;
         while i < n {
             let place = entries[i];
             let entry = place.entry;
-            good = good & filling::agrees(entry, values[i]);
+            if !filling::agrees(entry, values[i]) {
+                return false;
+            }
             i += 1;
         }
-        good
+        true
     }
 }
 
@@ -134,13 +135,10 @@ pub fn clause_total(query: Query, update: Update) -> u8
     p.total as u8
 }
 
-// The pattern of joint clause i, if it has one.
+// The pattern of joint clause i, if it has one. That the update can matter to the query at all is for `clause_total` to tell, once for all clauses.
 pub fn clause_pattern(query: Query, update: Update, i: u8) -> Pattern
     ensures { λ r. ⌜ r ≡ patternAt query update i ⌝ }
 {
-    if !relevance::relevant(query, update) {
-        return labels::no_pattern();
-    }
     let p = pairing::paired(query, update);
     if p.many {
         if i == 0 {

@@ -176,7 +176,7 @@ module _ (s ls : List ℕ) (e : Entry) (ts : List Schema) (cells : ℕ) where
       → taken ≡ (has (tableNames ts) (nameOfStruct name) || repeats sameName (namesOf columns (e .listed)))
       → size ≡ e .listed * capacity → full ≡ (leb 8 (length ts) || ltb (cells - areasSize ts) size)
       → number ≡ lowestBy false taken false false full
-      → r ≡ settled number (created (record { name = name; columns = columns; count = e .listed; capacity = capacity; rows = 0 }))
+      → r ≡ settled number (created (record { name = name; columns = columns; count = e .listed; capacity = capacity; rows = 0; oldest = 0; ring = e .ring }))
       → r ≡ tableOn s ls e ts cells
   unfolding tableOn
   table-made name columns capacity taken full size number r ea ec ek et ez ef em er =
@@ -187,7 +187,7 @@ module _ (s ls : List ℕ) (e : Entry) (ts : List Schema) (cells : ℕ) where
       ef ∙ ap (λ (k : ℕ). leb 8 (length ts) || ltb (cells - areasSize ts) k) (ez ∙ ap (λ (k : ℕ). e .listed * k) ek) in
       let c : e .listed ≡ length (listedOn false s ls e) = sym (listed-count false s ls e) in
       er ∙ λ j. settled ((em ∙ ap₂ (λ (x y : Bool). lowestBy false x false false y) t f) j)
-      (created (record { name = ea j; columns = ec j; count = c j; capacity = ek j; rows = 0 }))
+      (created (record { name = ea j; columns = ec j; count = c j; capacity = ek j; rows = 0; oldest = 0; ring = e .ring }))
 
 -- ---- by the form
 

@@ -88,7 +88,7 @@ module _ (s ls ps : List ℕ) (e : Entry) (x : Sentence) (E : Entered s ls ps e 
         omega (arith, E .nodes-are, few-nodes (whereOf x) .1 l)
 
 noted-few : (s ls ps : List ℕ) (e : Entry) (x : Sentence) → Entered s ls ps e x → e .c .nodes ≤ 15 → (b : Bool) → length (leaves (nodesOn b s (e .c .nodes) ps)) ≤ 8
-noted-few s ls ps e (table t cs z) E h = none-noted s ps (e .c .nodes) h (E .nodes-are)
+noted-few s ls ps e (table t cs ring z) E h = none-noted s ps (e .c .nodes) h (E .nodes-are)
 noted-few s ls ps e (select cs t w) E h = few-noted s ps (e .c .nodes) h false w (E .noted h)
 noted-few s ls ps e (pair cs t u w) E h = few-noted s ps (e .c .nodes) h true w (E .noted h)
 noted-few s ls ps e (insert t vs) E h = none-noted s ps (e .c .nodes) h (E .nodes-are)
@@ -142,7 +142,7 @@ abbrev decided : Plain → List Schema → Sentence → Statement
 decided p ts x = settled (lowestBy (unknown ts x) (taken ts x) (miscounted ts x) (twice x) (noPlace p x)) (structOf (statementOf ts x))
 
 abbrev isTable : Sentence → Bool
-isTable (table t cs z) = true
+isTable (table t cs ring z) = true
 isTable (select cs t w) = false
 isTable (pair cs t u w) = false
 isTable (insert t vs) = false
@@ -156,10 +156,10 @@ module _ (s ls ps : List ℕ) (e : Entry) (tables : List Table) (used queries up
   abbrev S : List Schema
   S = there tables used queries updates cells
 
-  table-compiles : (t : Name) (cs : Listed Name) (z : ℤ) → Entered s ls ps e (table t cs z) → pastLimit (table t cs z) ≡ false → tableOn s ls e S cells ≡ decided P S (table t cs z)
+  table-compiles : (t : Name) (cs : Listed Name) (ring : Bool) (z : ℤ) → Entered s ls ps e (table t cs ring z) → pastLimit (table t cs ring z) ≡ false → tableOn s ls e S cells ≡ decided P S (table t cs ring z)
   unfolding tableOn unknown taken miscounted twice noPlace statementOf structOf
-  table-compiles t cs z E w =
-      let x = table t cs z in
+  table-compiles t cs ring z E w =
+      let x = table t cs ring z in
       let n : shortName (nameOn s (e .table)) ≡ t = table-kept s ls ps e x E w in
       let l : listedOn false s ls e ≡ items cs = ap (map shortName) (E .names few) ∙ whole-columns shortName isLong whole-name (items cs) (short-listed x w) in
       let r : rowsOn s (e .rows) ≡ natAbs z = ap (λ (k : T.Token). rowsIn (valueOf k)) (E .rows) ∙ whole-rows z (inside-rows x w) in
@@ -167,7 +167,7 @@ module _ (s ls ps : List ℕ) (e : Entry) (tables : List Table) (used queries up
       let k : length S ≡ length (P .tables) = sym (length-map S rowless) in
       λ j. settled
       (lowestBy false (has (tableNames S) (n j) || repeats sameName (l j)) false false (leb 8 (k j) || ltb (cells - areasSize (q j)) (E .listed-are j * r j)))
-      (created (tableStruct (record { name = n j; columns = l j; capacity = r j })))
+      (created (tableStruct (record { name = n j; columns = l j; capacity = r j; ring = E .ring j })))
 
   asks-few : leb 16 queries ≡ leb 16 (length (P .queries))
   asks-few = ap (leb 16) (sym (length-replicate queries noQuery))
@@ -315,7 +315,7 @@ module _ (s ls ps : List ℕ) (e : Entry) (tables : List Table) (used queries up
 
   form-compiles : (x : Sentence) → isTable x ≡ false → Entered s ls ps e x → pastLimit x ≡ false → e .c .nodes ≤ 15 → has (tableNames S) (tableNamed x) ≡ true
       → formed (tableNamed x) (eqb (e .form) 5) ≡ decided P S x
-  form-compiles (table t cs z) b E w h k = clash refl b
+  form-compiles (table t cs ring z) b E w h k = clash refl b
   form-compiles (select cs t q) b E w h k =
       ap (formed t) (ne-eqb (e .form) 5 (λ l. omega (arith, E .form)))
       ∙ sym (form-select s ls ps e (columnsOf S t) (position (tableNames S) t) queries updates _ refl (E .form))
@@ -337,7 +337,7 @@ module _ (s ls ps : List ℕ) (e : Entry) (tables : List Table) (used queries up
   -- a table that is not there
   unknown-table : (x : Sentence) → isTable x ≡ false → has (tableNames S) (tableNamed x) ≡ false → refusedBy 6 ≡ decided P S x
   unfolding unknown
-  unknown-table (table t cs z) b k = clash refl b
+  unknown-table (table t cs ring z) b k = clash refl b
   unknown-table (select cs t q) b k = rw k
   unknown-table (pair cs t u q) b k = rw k
   unknown-table (insert t vs) b k = rw k
@@ -359,7 +359,7 @@ module _ (s ls ps : List ℕ) (e : Entry) (tables : List Table) (used queries up
 
   -- a TABLE
   of-table : (x : Sentence) → e .form ≡ 0 → Entered s ls ps e x → pastLimit x ≡ false → tableOn s ls e S cells ≡ decided P S x
-  of-table (table t cs z) h E w = table-compiles t cs z E w
+  of-table (table t cs ring z) h E w = table-compiles t cs ring z E w
   of-table (select cs t q) h E w = absurd (omega (arith, E .form))
   of-table (pair cs t u q) h E w = absurd (omega (arith, E .form))
   of-table (insert t vs) h E w = absurd (omega (arith, E .form))
@@ -367,7 +367,7 @@ module _ (s ls ps : List ℕ) (e : Entry) (tables : List Table) (used queries up
   of-table (delete t q) h E w = absurd (omega (arith, E .form))
 
 no-table : (s ls ps : List ℕ) (e : Entry) (x : Sentence) → Entered s ls ps e x → (e .form ≡ 0 → ⊥) → isTable x ≡ false
-no-table s ls ps e (table t cs z) E h = absurd (h (E .form))
+no-table s ls ps e (table t cs ring z) E h = absurd (h (E .form))
 no-table s ls ps e (select cs t q) E h = refl
 no-table s ls ps e (pair cs t u q) E h = refl
 no-table s ls ps e (insert t vs) E h = refl

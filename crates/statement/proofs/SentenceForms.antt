@@ -10,18 +10,19 @@ use lib.ListN.{length, drop}
 use Rattle.lists.proofs.Bools.{clash}
 use Rattle.meaning.specs.Condition.{Condition, disjunction, Where, always, under, operandsIn}
 use Rattle.meaning.specs.Postfix.{nodesIn}
-use Rattle.meaning.specs.Tokens.{Name, Token, keyword, comma, lparen, rparen, ROWS, FROM, WHERE, INTO, VALUES, SET, tokens}
-use Rattle.meaning.specs.Grammar.{Given, items, Sentence, table, select, pair, insert, update, delete, Reader, then, _>>=_, done, expect, aToken, constantOf, aName, aDotted, aList, aSetting, aGiven, aCondition, aWhere, aTable, aSingle, aPair, anInsert, anUpdate}
+use Rattle.meaning.specs.Tokens.{Name, Token, keyword, comma, lparen, rparen, FROM, WHERE, INTO, VALUES, SET, tokens}
+use Rattle.meaning.specs.Grammar.{Given, items, Sentence, table, select, pair, insert, update, delete, Reader, then, _>>=_, done, expect, aToken, constantOf, aName, aDotted, aList, aSetting, aGiven, aSizeWord, aCondition, aWhere, aTable, aSingle, aPair, anInsert, anUpdate}
 use Rattle.meaning.specs.Limits.{tableNamed, listGivens, bareTerm, whereOf, termGivens, markCount, givens}
 use Rattle.meaning.proofs.Dotted.{bare-givens}
 use Rattle.meaning.proofs.Readers.{begins, passing-stops, passing-yes}
 use Rattle.statement.specs.declared.conditions.Cursor.{Cursor}
 use Rattle.statement.specs.declared.sentences.Placed.{Placed}
 use Rattle.statement.specs.declared.sentences.Listing.{Listing}
+use Rattle.statement.specs.declared.sentences.Sized.{Sized}
 use Rattle.statement.specs.declared.sentences.Entry.{Entry}
 use Rattle.statement.specs.Places.{nameOn, nodesOn}
 use Rattle.statement.specs.Reading.{Stands, Operand, aColumn, movedTo, Meets, Reads}
-use Rattle.statement.specs.Sentences.{partsOf, itemOn, Ready, Within, Takes, Counts, Expects, isLongName, Names, outsideRows, CountsRows, names, values, settings, columns, listPast, ReadsList, wherePast, Filters, ReadsWhere, formOf, listLength, RowsAt, SecondAt, NodesAt, NamesAt, GivensAt, Entered, Starts, ReadsForm, Lists, Deletes}
+use Rattle.statement.specs.Sentences.{partsOf, itemOn, Ready, Within, Takes, Counts, Expects, isLongName, Names, Sizes, outsideRows, CountsRows, names, values, settings, columns, listPast, ReadsList, wherePast, Filters, ReadsWhere, formOf, listLength, ringOf, RowsAt, SecondAt, NodesAt, NamesAt, GivensAt, Entered, Starts, ReadsForm, Lists, Deletes}
 use Rattle.statement.proofs.Steps.{Goes}
 use Rattle.statement.proofs.SentenceLimits.{sorted, ownPast, past-limit, nodes-replaced}
 use Rattle.statement.proofs.SentenceReaders.{failed-before, finds, goes-on, counts-then}
@@ -84,8 +85,8 @@ module _ (s ls : List ℕ) (b : Bool) (c m : Cursor) (p : Bool) (a : ℕ) (ps : 
   entered : termGivens (operandsIn y) ≡ termGivens (operandsIn (whereOf x)) → length (nodesIn y) ≡ length (nodesIn (whereOf x))
       → ((n : ℕ) → (n ≤ 15 → nodesOn b s n ps′ ≡ nodesIn y) → NodesAt s n ps′ x)
       → r .c .ok ≡ true → r .form ≡ formOf x → (p || wherePast b y) ≡ ownPast x → a ≡ markCount (listGivens x) → nameOn s (r .table) ≡ tableNamed x
-      → RowsAt s (r .rows) x → SecondAt s (r .second) x → r .listed ≡ listLength x → NamesAt s (r .listed) ls x → GivensAt s (r .listed) ls x → Entered s ls ps′ r x
-  entered asked same nodes-at ok form past marks named rows second listed columns-at values-at =
+      → RowsAt s (r .rows) x → r .ring ≡ ringOf x → SecondAt s (r .second) x → r .listed ≡ listLength x → NamesAt s (r .listed) ls x → GivensAt s (r .listed) ls x → Entered s ls ps′ r x
+  entered asked same nodes-at ok form past marks named rows ring second listed columns-at values-at =
       let e : r .c .over ≡ ownPast x = over-is ∙ past in
       let f : r .c .marks ≡ markCount (givens x) = omega (arith, w .marks-are, h .marks-are, st .marks, ap markCount asked, marks-append (listGivens x) (termGivens (operandsIn (whereOf x)))) in
       let g : r .c .nodes ≡ length (nodesIn (whereOf x)) = omega (arith, w .nodes-are, no-nodes) in
@@ -95,6 +96,7 @@ module _ (s ls : List ℕ) (b : Bool) (c m : Cursor) (p : Bool) (a : ℕ) (ps : 
         past = past-limit x ∙ rw (e, f, g, listed);
         table = named;
         rows = rows;
+        ring = ring;
         listed-are = listed;
         marks-are = f;
         nodes-are = g;
@@ -113,28 +115,27 @@ pub list-starts : (s : List ℕ) (c : Cursor) → Ready s c → Within s c 0
 list-starts s c r = record { ready = r; small = omega arith; few = λ _. omega arith }
 
 module _ (s : List ℕ) (c : Cursor) (st : Starts s false c) where
-  pub of-table : (n : Placed) (c₁ : Cursor) (xs ys : List ℕ) (l : Listing) (c₂ c₃ : Cursor) (r : Placed)
-      → Names s c n → Expects s 7 (n .c) c₁ → ReadsList names s xs c₁ 0 ys l → Expects s 8 (l .c) c₂ → Expects s 16 c₂ c₃ → CountsRows s c₃ r
-      → Lists aTable s c ys (record { c = r .c; form = 0; table = n .place; second = 0; rows = r .place; listed = l .listed })
-  of-table n c₁ xs ys l c₂ c₃ r h₁ h₂ h₃ h₄ h₅ h₆ ps k i =
+  pub of-table : (n : Placed) (c₁ : Cursor) (xs ys : List ℕ) (l : Listing) (c₂ : Cursor) (d : Sized) (r : Placed)
+      → Names s c n → Expects s 7 (n .c) c₁ → ReadsList names s xs c₁ 0 ys l → Expects s 8 (l .c) c₂ → Sizes s c₂ d → CountsRows s (d .c) r
+      → Lists aTable s c ys (record { c = r .c; form = 0; table = n .place; second = 0; rows = r .place; listed = l .listed; ring = d .ring })
+  of-table n c₁ xs ys l c₂ d r h₁ h₂ h₃ h₄ h₅ h₆ ps k i =
       let list = h₃ k (omega arith) in
       let open′ = h₂ lparen refl in
       let close = h₄ rparen refl in
-      let word = h₅ (keyword ROWS) refl in
-      goes-on s _ _ Q (n .c) (r .c) (aName (tokens (drop (c .at) s))) (h₁ .takes (st .ok)) (λ f. h₆ .fails (word .fails (close .fails (list .fails (open′ .fails f))))) (λ t b₁ q₁.
-      goes-on s _ _ Q c₁ (r .c) (expect lparen (tokens (drop (n .c .at) s))) (open′ .takes (b₁ .ok)) (λ f. h₆ .fails (word .fails (close .fails (list .fails f)))) (λ u₂ b₂ q₂.
-      goes-on s _ _ Q (l .c) (r .c) (aList aName k (tokens (drop (c₁ .at) s))) (list .takes (b₂ .ok)) (λ f. h₆ .fails (word .fails (close .fails f))) (λ cs b₃ q₃.
-      goes-on s _ _ Q c₂ (r .c) (expect rparen (tokens (drop (l .c .at) s))) (close .takes (b₃ .ok)) (λ f. h₆ .fails (word .fails f)) (λ u₄ b₄ q₄.
-      goes-on s _ _ Q c₃ (r .c) (expect (keyword ROWS) (tokens (drop (c₂ .at) s))) (word .takes (b₄ .ok)) (λ f. h₆ .fails f) (λ u₅ b₅ q₅.
-      goes-on s _ _ Q (r .c) (r .c) (aToken constantOf (tokens (drop (c₃ .at) s))) (h₆ .takes (b₅ .ok)) (λ f. f) (λ z b₆ q₆. (
+      goes-on s _ _ Q (n .c) (r .c) (aName (tokens (drop (c .at) s))) (h₁ .takes (st .ok)) (λ f. h₆ .fails (h₅ .fails (close .fails (list .fails (open′ .fails f))))) (λ t b₁ q₁.
+      goes-on s _ _ Q c₁ (r .c) (expect lparen (tokens (drop (n .c .at) s))) (open′ .takes (b₁ .ok)) (λ f. h₆ .fails (h₅ .fails (close .fails (list .fails f)))) (λ u₂ b₂ q₂.
+      goes-on s _ _ Q (l .c) (r .c) (aList aName k (tokens (drop (c₁ .at) s))) (list .takes (b₂ .ok)) (λ f. h₆ .fails (h₅ .fails (close .fails f))) (λ cs b₃ q₃.
+      goes-on s _ _ Q c₂ (r .c) (expect rparen (tokens (drop (l .c .at) s))) (close .takes (b₃ .ok)) (λ f. h₆ .fails (h₅ .fails f)) (λ u₄ b₄ q₄.
+      goes-on s _ _ Q (d .c) (r .c) (aSizeWord (tokens (drop (c₂ .at) s))) (h₅ .takes (b₄ .ok)) (λ f. h₆ .fails f) (λ ring b₅ q₅.
+      goes-on s _ _ Q (r .c) (r .c) (aToken constantOf (tokens (drop (d .c .at) s))) (h₆ .takes (b₅ .ok)) (λ f. f) (λ z b₆ q₆. (
         b₆,
-        entered s ys false c (r .c) _ _ ps E ps (table t cs z) always st
-            (counts-then c c₃ (r .c) _ _ _ _ (counts-then c c₂ c₃ _ _ _ _ (counts-then c (l .c) c₂ _ _ _ _ (counts-then c c₁ (l .c) _ _ _ _ (counts-then c (n .c) c₁ _ _ _ _ (q₁ .0) q₂) (q₃ .counts)) q₄) q₅) (q₆ .0))
-            (filters-nothing false s (r .c) ps) refl refl (λ n i. tt) (b₆ .ok) refl (order (isLongName t) (listPast (items cs) []) (outsideRows z)) refl (q₁ .1) (q₆ .1) tt (q₃ .listed-are ∙ zero-add (length (items cs))) (q₃ .noted) tt,
+        entered s ys false c (r .c) _ _ ps E ps (table t cs ring z) always st
+            (counts-then c (d .c) (r .c) _ _ _ _ (counts-then c c₂ (d .c) _ _ _ _ (counts-then c (l .c) c₂ _ _ _ _ (counts-then c c₁ (l .c) _ _ _ _ (counts-then c (n .c) c₁ _ _ _ _ (q₁ .0) q₂) (q₃ .counts)) q₄) (q₅ .0)) (q₆ .0))
+            (filters-nothing false s (r .c) ps) refl refl (λ n i. tt) (b₆ .ok) refl (order (isLongName t) (listPast (items cs) []) (outsideRows z)) refl (q₁ .1) (q₆ .1) (q₅ .1) tt (q₃ .listed-are ∙ zero-add (length (items cs))) (q₃ .noted) tt,
       )))))))
     where
       E : Entry
-      E = record { c = r .c; form = 0; table = n .place; second = 0; rows = r .place; listed = l .listed }
+      E = record { c = r .c; form = 0; table = n .place; second = 0; rows = r .place; listed = l .listed; ring = d .ring }
 
       Q : Sentence → Type 0
       Q = Entered s ys ps E
@@ -144,7 +145,7 @@ module _ (s : List ℕ) (c : Cursor) (st : Starts s false c) where
 
   pub of-single : (xs ys : List ℕ) (l : Listing) (c₁ : Cursor) (n : Placed) (ps : List ℕ) (r : Cursor) (ps′ : List ℕ)
       → ReadsList names s xs c 0 ys l → Expects s 18 (l .c) c₁ → Names s c₁ n → ReadsWhere s (n .c) ps r ps′
-      → ReadsForm aSingle s c ys ps′ (record { c = r; form = 1; table = n .place; second = 0; rows = 0; listed = l .listed })
+      → ReadsForm aSingle s c ys ps′ (record { c = r; form = 1; table = n .place; second = 0; rows = 0; listed = l .listed; ring = false })
   of-single xs ys l c₁ n ps r ps′ h₁ h₂ h₃ h₄ k i =
       let list = h₁ k (omega arith) in
       let word = h₂ (keyword FROM) refl in
@@ -156,11 +157,11 @@ module _ (s : List ℕ) (c : Cursor) (st : Starts s false c) where
       goes-on s _ _ Q r r (aWhere aName k (tokens (drop (n .c .at) s))) (h₄ false (m .dotted ∙ st .dotted) k i .takes (b₃ .ok)) (λ f. f) (λ w b₄ q₄. (
         b₄,
         entered s ys false c (n .c) _ _ ps E ps′ (select cs t w) w st m q₄ refl refl (λ n z. z)
-            (b₄ .ok) refl (order (isLongName t) (listPast (items cs) []) (wherePast false w)) refl (q₃ .1) tt tt (q₁ .listed-are ∙ zero-add (length (items cs))) (q₁ .noted) tt,
+            (b₄ .ok) refl (order (isLongName t) (listPast (items cs) []) (wherePast false w)) refl (q₃ .1) tt refl tt (q₁ .listed-are ∙ zero-add (length (items cs))) (q₁ .noted) tt,
       )))))
     where
       E : Entry
-      E = record { c = r; form = 1; table = n .place; second = 0; rows = 0; listed = l .listed }
+      E = record { c = r; form = 1; table = n .place; second = 0; rows = 0; listed = l .listed; ring = false }
 
       Q : Sentence → Type 0
       Q = Entered s ys ps′ E
@@ -170,7 +171,7 @@ module _ (s : List ℕ) (c : Cursor) (st : Starts s false c) where
 
   pub of-insert : (c₁ : Cursor) (n : Placed) (c₂ c₃ : Cursor) (xs ys : List ℕ) (l : Listing) (r : Cursor)
       → Expects s 21 c c₁ → Names s c₁ n → Expects s 22 (n .c) c₂ → Expects s 7 c₂ c₃ → ReadsList values s xs c₃ 0 ys l → Expects s 8 (l .c) r
-      → Lists anInsert s c ys (record { c = r; form = 2; table = n .place; second = 0; rows = 0; listed = l .listed })
+      → Lists anInsert s c ys (record { c = r; form = 2; table = n .place; second = 0; rows = 0; listed = l .listed; ring = false })
   of-insert c₁ n c₂ c₃ xs ys l r h₁ h₂ h₃ h₄ h₅ h₆ ps k i =
       let into = h₁ (keyword INTO) refl in
       let word = h₃ (keyword VALUES) refl in
@@ -186,11 +187,11 @@ module _ (s : List ℕ) (c : Cursor) (st : Starts s false c) where
         b₆,
         entered s ys false c r _ _ ps E ps (insert t vs) always st
             (counts-then c (l .c) r _ _ _ _ (counts-then c c₃ (l .c) _ _ _ _ (counts-then c c₂ c₃ _ _ _ _ (counts-then c (n .c) c₂ _ _ _ _ (counts-then c c₁ (n .c) _ _ _ _ q₁ (q₂ .0)) q₃) q₄) (q₅ .counts)) q₆)
-            (filters-nothing false s r ps) refl refl (λ n i. tt) (b₆ .ok) refl (order (isLongName t) (listPast [] (items vs))) (omega arith) (q₂ .1) tt tt (q₅ .listed-are ∙ zero-add (length (items vs))) tt (q₅ .noted),
+            (filters-nothing false s r ps) refl refl (λ n i. tt) (b₆ .ok) refl (order (isLongName t) (listPast [] (items vs))) (omega arith) (q₂ .1) tt refl tt (q₅ .listed-are ∙ zero-add (length (items vs))) tt (q₅ .noted),
       )))))))
     where
       E : Entry
-      E = record { c = r; form = 2; table = n .place; second = 0; rows = 0; listed = l .listed }
+      E = record { c = r; form = 2; table = n .place; second = 0; rows = 0; listed = l .listed; ring = false }
 
       Q : Sentence → Type 0
       Q = Entered s ys ps E
@@ -200,7 +201,7 @@ module _ (s : List ℕ) (c : Cursor) (st : Starts s false c) where
 
   pub of-update : (n : Placed) (c₁ : Cursor) (xs ys : List ℕ) (l : Listing) (ps : List ℕ) (r : Cursor) (ps′ : List ℕ)
       → Names s c n → Expects s 24 (n .c) c₁ → ReadsList settings s xs c₁ 0 ys l → ReadsWhere s (l .c) ps r ps′
-      → ReadsForm anUpdate s c ys ps′ (record { c = r; form = 3; table = n .place; second = 0; rows = 0; listed = l .listed })
+      → ReadsForm anUpdate s c ys ps′ (record { c = r; form = 3; table = n .place; second = 0; rows = 0; listed = l .listed; ring = false })
   of-update n c₁ xs ys l ps r ps′ h₁ h₂ h₃ h₄ k i =
       let word = h₂ (keyword SET) refl in
       let list = h₃ k (omega arith) in
@@ -214,13 +215,13 @@ module _ (s : List ℕ) (c : Cursor) (st : Starts s false c) where
         b₄,
         entered s ys false c (l .c) _ _ ps E ps′ (update t ss w) w st m q₄ refl refl (λ n z. z)
             (b₄ .ok) refl (order (isLongName t) (listPast (map (λ (x : Name × Given). x .0) (items ss)) (map (λ (x : Name × Given). x .1) (items ss))) (wherePast false w)) (omega arith)
-            (q₁ .1) tt tt (q₃ .listed-are ∙ zero-add (length (items ss)))
+            (q₁ .1) tt refl tt (q₃ .listed-are ∙ zero-add (length (items ss)))
             (λ m. sym (map-items (λ (x : Name × Given). x .0) (itemOn settings s) (l .listed) ys) ∙ ap (map (λ (x : Name × Given). x .0)) (q₃ .noted m))
             (λ m. sym (map-items (λ (x : Name × Given). x .1) (itemOn settings s) (l .listed) ys) ∙ ap (map (λ (x : Name × Given). x .1)) (q₃ .noted m)),
       )))))
     where
       E : Entry
-      E = record { c = r; form = 3; table = n .place; second = 0; rows = 0; listed = l .listed }
+      E = record { c = r; form = 3; table = n .place; second = 0; rows = 0; listed = l .listed; ring = false }
 
       Q : Sentence → Type 0
       Q = Entered s ys ps′ E
@@ -230,7 +231,7 @@ module _ (s : List ℕ) (c : Cursor) (st : Starts s false c) where
 
   pub of-delete : (c₁ : Cursor) (n : Placed) (ps : List ℕ) (r : Cursor) (ps′ : List ℕ)
       → Expects s 18 c c₁ → Names s c₁ n → ReadsWhere s (n .c) ps r ps′
-      → Deletes s c ps′ (record { c = r; form = 4; table = n .place; second = 0; rows = 0; listed = 0 })
+      → Deletes s c ps′ (record { c = r; form = 4; table = n .place; second = 0; rows = 0; listed = 0; ring = false })
   of-delete c₁ n ps r ps′ h₁ h₂ h₃ ls k i =
       let word = h₁ (keyword FROM) refl in
       let tail = h₃ (n .c .dotted) refl k i in
@@ -238,10 +239,10 @@ module _ (s : List ℕ) (c : Cursor) (st : Starts s false c) where
       goes-on s _ _ Q (n .c) r (aName (tokens (drop (c₁ .at) s))) (h₂ .takes (b₁ .ok)) (λ f. tail .fails f) (λ t b₂ q₂.
       let m : Counts c (n .c) (false || isLongName t) 0 = counts-then c c₁ (n .c) _ _ _ _ q₁ (q₂ .0) in
       goes-on s _ _ Q r r (aWhere aName k (tokens (drop (n .c .at) s))) (h₃ false (m .dotted ∙ st .dotted) k i .takes (b₂ .ok)) (λ f. f) (λ w b₃ q₃.
-      (b₃, entered s ls false c (n .c) _ _ ps E ps′ (delete t w) w st m q₃ refl refl (λ n z. z) (b₃ .ok) refl refl refl (q₂ .1) tt tt refl tt tt))))
+      (b₃, entered s ls false c (n .c) _ _ ps E ps′ (delete t w) w st m q₃ refl refl (λ n z. z) (b₃ .ok) refl refl refl (q₂ .1) tt refl tt refl tt tt))))
     where
       E : Entry
-      E = record { c = r; form = 4; table = n .place; second = 0; rows = 0; listed = 0 }
+      E = record { c = r; form = 4; table = n .place; second = 0; rows = 0; listed = 0; ring = false }
 
       Q : Sentence → Type 0
       Q = Entered s ls ps′ E
@@ -250,7 +251,7 @@ module _ (s : List ℕ) (c : Cursor) (st : Starts s false c) where
 module _ (s : List ℕ) (c : Cursor) (st : Starts s true c) where
   pub of-pair : (xs ys : List ℕ) (l : Listing) (c₁ : Cursor) (n : Placed) (c₂ : Cursor) (o : Placed) (ps : List ℕ) (r : Cursor) (ps′ : List ℕ)
       → ReadsList columns s xs c 0 ys l → Expects s 18 (l .c) c₁ → Names s c₁ n → Expects s 6 (n .c) c₂ → Names s c₂ o → ReadsWhere s (o .c) ps r ps′
-      → ReadsForm aPair s c ys ps′ (record { c = r; form = 5; table = n .place; second = o .place; rows = 0; listed = l .listed })
+      → ReadsForm aPair s c ys ps′ (record { c = r; form = 5; table = n .place; second = o .place; rows = 0; listed = l .listed; ring = false })
   of-pair xs ys l c₁ n c₂ o ps r ps′ h₁ h₂ h₃ h₄ h₅ h₆ k i =
       let list = h₁ k (omega arith) in
       let word = h₂ (keyword FROM) refl in
@@ -266,11 +267,11 @@ module _ (s : List ℕ) (c : Cursor) (st : Starts s true c) where
       goes-on s _ _ Q r r (aWhere aDotted k (tokens (drop (o .c .at) s))) (h₆ true (m .dotted ∙ st .dotted) k i .takes (b₅ .ok)) (λ f. f) (λ w b₆ q₆. (
         b₆,
         entered s ys true c (o .c) _ _ ps E ps′ (pair cs t u w) w st m q₆ (sym (bare-givens w)) (sym (nodes-replaced bareTerm w)) (λ n z. z)
-            (b₆ .ok) refl (order (isLongName t) (isLongName u) (listPast (partsOf (items cs)) []) (wherePast true w)) refl (q₃ .1) tt (q₅ .1) (q₁ .listed-are ∙ zero-add (length (items cs))) (q₁ .noted) tt,
+            (b₆ .ok) refl (order (isLongName t) (isLongName u) (listPast (partsOf (items cs)) []) (wherePast true w)) refl (q₃ .1) tt refl (q₅ .1) (q₁ .listed-are ∙ zero-add (length (items cs))) (q₁ .noted) tt,
       )))))))
     where
       E : Entry
-      E = record { c = r; form = 5; table = n .place; second = o .place; rows = 0; listed = l .listed }
+      E = record { c = r; form = 5; table = n .place; second = o .place; rows = 0; listed = l .listed; ring = false }
 
       Q : Sentence → Type 0
       Q = Entered s ys ps′ E

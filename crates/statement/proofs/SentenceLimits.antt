@@ -142,7 +142,7 @@ abbrev plainPast : Sentence → Bool
 plainPast x = isLongName (tableNamed x) || (listPast (listColumns x) (listGivens x) || (rowsOutside x || wherePast false (whereOf x)))
 
 abbrev pub ownPast : Sentence → Bool
-ownPast (table t cs z) = plainPast (table t cs z)
+ownPast (table t cs ring z) = plainPast (table t cs ring z)
 ownPast (select cs t w) = plainPast (select cs t w)
 ownPast (pair cs t u w) = isLongName t || (isLongName u || (listPast (partsOf (items cs)) [] || wherePast true w))
 ownPast (insert t vs) = plainPast (insert t vs)
@@ -150,7 +150,7 @@ ownPast (update t ss w) = plainPast (update t ss w)
 ownPast (delete t w) = plainPast (delete t w)
 
 many-items : (x : Sentence) → manyItems x ≡ ltb most-items (listLength x)
-many-items (table t cs z) = or-false _
+many-items (table t cs ring z) = or-false _
 many-items (select cs t w) = or-false _
 many-items (pair cs t u w) = simp (length-map, or-false)
 many-items (insert t vs) = refl
@@ -229,7 +229,7 @@ module _ (cs : Listed Dotted) (t u : Name) (w : Where (Term Dotted)) where
 -- past a limit by itself, or too many of something
 pub past-limit : (x : Sentence)
     → pastLimit x ≡ (ownPast x || (ltb most-items (listLength x) || (ltb most-marks (markCount (givens x)) || ltb most-comparisons ((length (nodesIn (whereOf x)) + 1) / 2))))
-past-limit (table t cs z) = past-plain (table t cs z) refl
+past-limit (table t cs ring z) = past-plain (table t cs ring z) refl
 past-limit (select cs t w) = past-plain (select cs t w) refl
 past-limit (pair cs t u w) = past-pair cs t u w
 past-limit (insert t vs) = past-plain (insert t vs) refl

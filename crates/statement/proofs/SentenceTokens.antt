@@ -1,4 +1,4 @@
--- The readers of one token: a token that its kind tells, a name, a value, the constant of ROWS. Assumes nothing.
+-- The readers of one token: a token that its kind tells, a name, a value, ROWS or RING and the constant behind it. Assumes nothing.
 use mathlib.Core.Path.{_≡_, refl, sym, ap, ap₂, _∙_}
 use mathlib.Core.Bool.{Bool, true, false, not, cond, _&&_, _||_, or-false, or-true}
 use mathlib.Core.Option.{Option, none, some}
@@ -6,27 +6,28 @@ use mathlib.Core.List.{List, [], _∷_}
 use Prim.Native.Nat.{ℕ, _+_, _-_, _≤_, _<_}
 use native.Mathlib.Nat.{add-zero, le-trans}
 use native.Mathlib.Omega.{arith}
-use borrow.Author.Tests.{leb-true, le-leb}
+use borrow.Author.Tests.{leb-true, le-leb, eqb-true, eqb-false, ne-eqb}
 use lib.Dec.{leb, eqb}
 use lib.IntN.{ℤ, pos, negsuc}
 use lib.ListN.{length, drop}
 use lib.Signed.{ltZ}
-use Rattle.lists.proofs.Bools.{and-left, and-right, clash, leZ-not, not-and, not-not}
+use Rattle.lists.proofs.Bools.{and-left, and-right, or-left, or-right, clash, leZ-not, not-and, not-not}
 use Rattle.meaning.specs.Tokens as T
-use Rattle.meaning.specs.Tokens.{Name, keyword, name, operator, comma, lparen, rparen, dot, other, tokens}
-use Rattle.meaning.specs.Grammar.{Given, constant, mark, done, fails, expect, aToken, nameOf, constantOf, aName, aGiven}
+use Rattle.meaning.specs.Tokens.{Name, keyword, name, operator, comma, lparen, rparen, dot, other, ROWS, RING, tokens}
+use Rattle.meaning.specs.Grammar.{Given, constant, mark, Reader, then, _>>_, done, fails, expect, aToken, nameOf, constantOf, aName, aGiven, aSizeWord}
 use Rattle.meaning.specs.Limits.{isWithin32, outside32, markCount}
-use Rattle.meaning.proofs.Readers.{aToken-some, aToken-none, passing-stops, expect-here}
+use Rattle.meaning.proofs.Readers.{aToken-some, aToken-none, passing-stops, passing-yes, expect-here}
 use Rattle.token.specs.declared.Token.{Token}
 use Rattle.token.specs.Tokens.{kindOf, valueOf, tokenAt}
 use Rattle.token.proofs.Laws.{Reads, start-next, next-inside}
 use Rattle.token.proofs.TokenKinds.{isFixed}
 use Rattle.statement.specs.declared.conditions.Cursor.{Cursor}
 use Rattle.statement.specs.declared.sentences.Placed.{Placed}
+use Rattle.statement.specs.declared.sentences.Sized.{Sized}
 use Rattle.statement.specs.Places.{tokenOn, givenOn}
 use Rattle.statement.specs.Reading.{Stands, tokenPast, past, marksAt, movedTo}
-use Rattle.statement.specs.Sentences.{Ready, Before, Counts, Expects, ExpectsToken, isLongName, Names, Gives, isBetween, outsideRows, isRowsPast, CountsRows}
-use Rattle.statement.proofs.Steps.{Look, ended, seen, look, stands-there, name-length, goes, stops}
+use Rattle.statement.specs.Sentences.{Ready, Before, Counts, Expects, ExpectsToken, isLongName, Names, Gives, Sizes, isSize, isBetween, outsideRows, isRowsPast, CountsRows}
+use Rattle.statement.proofs.Steps.{Look, ended, seen, look, stands-there, name-length, Goes, goes, stops}
 use Rattle.statement.proofs.SentenceReaders.{failed-before, finds-none, finds, ready-after, stands-moved}
 
 -- ---- what the token u says that was read at a place
@@ -226,7 +227,57 @@ module _ (s : List ℕ) (k : ℕ) (c : Cursor) where
         (record { ok = i; stands = stands-moved s c (u .next) st (omega (arith, g .on)) (g .within); left = refl })
         (record { dotted = refl; moved = g .on; over = sym (or-false (c .over)); marks-are = sym (add-zero (c .marks)); nodes-are = refl })
 
--- ---- a name, a value, the constant of ROWS
+-- ---- ROWS or RING
+
+-- where ROWS does not stand, RING does
+ringWord : Reader Bool
+ringWord = expect (keyword RING) >> done true
+
+module _ (s : List ℕ) (c : Cursor) where
+  pub size-failed : (r : Sized) → c .ok ≡ false → r .c .ok ≡ false → Sizes s c r
+  size-failed r e f = failed-before s aSizeWord _ c (r .c) e f
+
+  module _ (u : Token) (e : u ≡ tokenAt s (c .at)) where
+    no-rows : (u .kind ≡ 16 → ⊥) → aSizeWord (tokens (drop (c .at) s)) ≡ ringWord (tokens (drop (c .at) s))
+    unfolding ringWord
+    no-rows h = passing-stops (keyword ROWS) (done false) ringWord (tokens (drop (c .at) s)) (stops s (c .at) u e (keyword ROWS) h)
+
+    no-ring : (u .kind ≡ 30 → ⊥) → ringWord (tokens (drop (c .at) s)) ≡ none
+    unfolding ringWord
+    no-ring h = ap (λ o. then o (λ x. done true)) (passing-stops (keyword RING) (done tt) fails (tokens (drop (c .at) s)) (stops s (c .at) u e (keyword RING) h))
+
+    pub size-none : (r : Sized) → isSize (u .kind) ≡ false → r .c .ok ≡ false → Sizes s c r
+    size-none r h f =
+        finds-none s aSizeWord _ c (r .c)
+        (no-rows (eqb-false (u .kind) 16 (or-left (eqb (u .kind) 16) _ h)) ∙ no-ring (eqb-false (u .kind) 30 (or-right (eqb (u .kind) 16) _ h))) f
+
+    module _ (k : c .ok ≡ true) (st : Stands s c) where
+      -- the word w, which says b
+      sized : (w : T.Token) (b ring : Bool) → ring ≡ b → Goes s (c .at) (u .next) w → aSizeWord (tokens (drop (c .at) s)) ≡ some (b, tokens (drop (u .next) s))
+          → Sizes s c (record { c = movedTo (u .next) c; ring = ring })
+      sized w b ring p g q =
+          finds s aSizeWord _ c (movedTo (u .next) c) b (tokens (drop (u .next) s)) k q
+          (record { ok = k; stands = stands-moved s c (u .next) st (omega (arith, g .on)) (g .within); left = refl })
+          (record { dotted = refl; moved = g .on; over = sym (or-false (c .over)); marks-are = sym (add-zero (c .marks)); nodes-are = refl }, p)
+
+      pub size-found : isSize (u .kind) ≡ true → Sizes s c (record { c = movedTo (u .next) c; ring = eqb (u .kind) 30 })
+      unfolding ringWord
+      size-found h = go (eqb (u .kind) 16) refl
+        where
+          go : (b : Bool) → eqb (u .kind) 16 ≡ b → Sizes s c (record { c = movedTo (u .next) c; ring = eqb (u .kind) 30 })
+          go true p =
+              let i : u .kind ≡ 16 = eqb-true (u .kind) 16 p in
+              let g : Goes s (c .at) (u .next) (keyword ROWS) = goes s (c .at) u e (keyword ROWS) refl i in
+              sized (keyword ROWS) false (eqb (u .kind) 30) (ne-eqb (u .kind) 30 (λ q. omega arith)) g
+              (ap aSizeWord (g .after) ∙ passing-yes (keyword ROWS) (done false) ringWord (tokens (drop (u .next) s)))
+          go false p =
+              let j : eqb (u .kind) 30 ≡ true = sym (ap (λ (b : Bool). b || eqb (u .kind) 30) p) ∙ h in
+              let i : u .kind ≡ 30 = eqb-true (u .kind) 30 j in
+              let g : Goes s (c .at) (u .next) (keyword RING) = goes s (c .at) u e (keyword RING) refl i in
+              sized (keyword RING) true (eqb (u .kind) 30) j g
+              (no-rows (λ q. omega arith) ∙ ap ringWord (g .after) ∙ ap (λ o. then o (λ x. done true)) (expect-here (keyword RING) (tokens (drop (u .next) s))))
+
+-- ---- a name, a value, the constant of ROWS or RING
 
 -- behind the token u, with b passed and m question marks more
 abbrev pub stepped : Cursor → Token → Bool → ℕ → Cursor
@@ -347,6 +398,9 @@ module _ (s : List ℕ) (c : Cursor) where
 module _ (s : List ℕ) (h : length s ≤ 256) (c : Cursor) where
   pub ready-expect : (t : T.Token) (r : Cursor) → ExpectsToken s t c r → Ready s r
   ready-expect t r a = ready-after s (expect t) _ c r h a
+
+  pub ready-size : (r : Sized) → Sizes s c r → Ready s (r .c)
+  ready-size r a = ready-after s aSizeWord _ c (r .c) h a
 
   pub ready-name : (r : Placed) → Names s c r → Ready s (r .c)
   ready-name r a = ready-after s aName _ c (r .c) h a

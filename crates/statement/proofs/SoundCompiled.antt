@@ -139,6 +139,7 @@ table-agrees t =
       column-lengths = ap (map (λ (n : Name). n .len)) e ∙ map-twice nameStruct (λ (n : Name). n .len) (t .columns);
       columns-are = ap (map nameOfStruct) e ∙ map-twice nameStruct nameOfStruct (t .columns) ∙ names (t .columns);
       capacity-is = refl;
+      ring-is = refl;
     }
   where
     names : (ns : List T.Name) → map (λ (n : T.Name). nameOfStruct (nameStruct n)) ns ≡ ns
@@ -147,7 +148,7 @@ table-agrees t =
 
 statement-agrees : (ts : List Schema) (s : Sentence) → AgreesStatement (statementOf ts s)
 unfolding statementOf
-statement-agrees ts (G.table t cs z) = table-agrees _
+statement-agrees ts (G.table t cs ring z) = table-agrees _
 statement-agrees ts (G.select cs t w) = record {
   table-is = refl;
   second-is = refl;

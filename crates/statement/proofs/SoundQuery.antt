@@ -458,7 +458,7 @@ module _ (ts : List Schema) (q : Query) where
 
   sentence-query : (s : Sentence) → Passes ts s → isAsk (statementOf ts s) ≡ true → AgreesQuery q (asked (statementOf ts s)) → soundQuery ts q ≡ true
   unfolding statementOf
-  sentence-query (G.table t cs z) P a A = clash a refl
+  sentence-query (G.table t cs ring z) P a A = clash a refl
   sentence-query (G.select cs t w) P a A = select-query cs t w P A
   sentence-query (G.pair cs t u w) P a A = pair-query cs t u w P A
   sentence-query (G.insert t vs) P a A = clash a refl

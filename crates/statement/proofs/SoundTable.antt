@@ -121,7 +121,7 @@ module _ (others : List Schema) (t : Table) (F : TableStructFits t) (P : Parts o
   columns = listed (map nameOfStruct (usedColumns t)) (omega (arith, columns-many, P .some-columns))
 
   abbrev sentence : Sentence
-  sentence = G.table (nameOfStruct (t .name)) (columns .0) (pos (t .capacity))
+  sentence = G.table (nameOfStruct (t .name)) (columns .0) (t .ring) (pos (t .capacity))
 
   named : items (columns .0) ++ [] ≡ map nameOfStruct (usedColumns t)
   named = append-nil (items (columns .0)) ∙ columns .1
@@ -168,7 +168,7 @@ module _ (others : List Schema) (t : Table) (F : TableStructFits t) (P : Parts o
   table-source = record {
     sentence = sentence;
     passes = sentence-passes;
-    schema = record { name = nameOfStruct (t .name); columns = items (columns .0); capacity = t .capacity };
+    schema = record { name = nameOfStruct (t .name); columns = items (columns .0); capacity = t .capacity; ring = t .ring };
     says = refl;
     agrees = record {
       name-length = sym (name-length (t .name) (F .name-fits) (P .name-sound));
@@ -177,6 +177,7 @@ module _ (others : List Schema) (t : Table) (F : TableStructFits t) (P : Parts o
       column-lengths = lengths-are good-columns ∙ ap (map length) (sym (columns .1));
       columns-are = sym (columns .1);
       capacity-is = refl;
+      ring-is = refl;
     };
   }
 
@@ -184,8 +185,8 @@ module _ (others : List Schema) (t : Table) (F : TableStructFits t) (P : Parts o
 
 abbrev created : Statement → Schema
 created (creates t) = t
-created (asks q) = record { name = []; columns = []; capacity = 0 }
-created (changes u) = record { name = []; columns = []; capacity = 0 }
+created (asks q) = record { name = []; columns = []; capacity = 0; ring = false }
+created (changes u) = record { name = []; columns = []; capacity = 0; ring = false }
 
 abbrev isCreate : Statement → Bool
 isCreate (creates t) = true
@@ -209,11 +210,11 @@ few-bytes (n ∷ ns) h =
     (few-bytes ns (or-right (ltb most-name (length n)) _ h))
 
 module _ (others : List Schema) (t : Table) where
-  create-table : (n : T.Name) (cs : Listed T.Name) (z : ℤ) → Passes others (G.table n cs z) → AgreesTable t (created (statementOf others (G.table n cs z)))
+  create-table : (n : T.Name) (cs : Listed T.Name) (ring : Bool) (z : ℤ) → Passes others (G.table n cs ring z) → AgreesTable t (created (statementOf others (G.table n cs ring z)))
       → soundTable others t ≡ true
   unfolding statementOf taken
-  create-table n cs z P A =
-      let s : Sentence = G.table n cs z in
+  create-table n cs ring z P A =
+      let s : Sentence = G.table n cs ring z in
       let L : Limits s = limits-of s (P .within) in
       let ns : List T.Name = items cs in
       let long : any (λ (m : T.Name). ltb most-name (length m)) (n ∷ ns) ≡ false =
@@ -241,7 +242,7 @@ module _ (others : List Schema) (t : Table) where
 
   sentence-table : (s : Sentence) → Passes others s → isCreate (statementOf others s) ≡ true → AgreesTable t (created (statementOf others s)) → soundTable others t ≡ true
   unfolding statementOf
-  sentence-table (G.table n cs z) P a A = create-table n cs z P A
+  sentence-table (G.table n cs ring z) P a A = create-table n cs ring z P A
   sentence-table (G.select cs n w) P a A = clash a refl
   sentence-table (G.pair cs n m w) P a A = clash a refl
   sentence-table (G.insert n vs) P a A = clash a refl

@@ -504,7 +504,7 @@ module _ (ts : List Schema) (u : Update) where
 
   sentence-update : (s : Sentence) → Passes ts s → isChange (statementOf ts s) ≡ true → AgreesUpdate u (changed (statementOf ts s)) → soundUpdate ts u ≡ true
   unfolding statementOf
-  sentence-update (G.table t cs z) P a A = clash a refl
+  sentence-update (G.table t cs ring z) P a A = clash a refl
   sentence-update (G.select cs t w) P a A = clash a refl
   sentence-update (G.pair cs t v w) P a A = clash a refl
   sentence-update (G.insert t vs) P a A = insert-update t vs P A

@@ -187,7 +187,7 @@ abbrev pub unknownOn : ℕ → List ℕ → Condition → Bool
 unknownOn width at condition = not (placesBelow width at && conditionBelow width condition)
 
 abbrev pub schemaOn : List ℕ → List ℕ → Entry → Schema
-schemaOn s ls e = record { name = shortName (nameOn s (e .table)); columns = listedOn false s ls e; capacity = rowsOn s (e .rows) }
+schemaOn s ls e = record { name = shortName (nameOn s (e .table)); columns = listedOn false s ls e; capacity = rowsOn s (e .rows); ring = e .ring }
 
 -- beside the tables ts
 unfoldable pub tableOn : List ℕ → List ℕ → Entry → List Schema → ℕ → Statement

@@ -33,7 +33,7 @@ pairScope n t m u = record { dotted = true; name = n; columns = t .columns; coun
 
 -- what a table's TABLE text says
 abbrev pub schemaOf : Table → Schema
-schemaOf t = record { name = nameOfStruct (t .name); columns = namesOf (t .columns) (t .count); capacity = t .capacity }
+schemaOf t = record { name = nameOfStruct (t .name); columns = namesOf (t .columns) (t .count); capacity = t .capacity; ring = t .ring }
 
 abbrev pub schemasOf : List Table → ℕ → List Schema
 schemasOf tables used = map schemaOf (take used tables)

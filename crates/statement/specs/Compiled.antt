@@ -1,5 +1,5 @@
 -- What a text compiles to: the statement of its sentence, in the types of the code, or the number of its refusal. Assumes nothing: these are definitions.
-use mathlib.Core.Bool.{Bool}
+use mathlib.Core.Bool.{Bool, false}
 use mathlib.Core.Option.{Option, none, some}
 use mathlib.Core.List.{List, [], _∷_, _++_, map}
 use Prim.Native.Nat.{ℕ, zero, suc, _+_, _*_, _-_}
@@ -46,10 +46,12 @@ tableStruct t = record {
   count = length (t .columns);
   capacity = t .capacity;
   rows = 0;
+  oldest = 0;
+  ring = t .ring;
 }
 
 abbrev pub noTable : Table
-noTable = tableStruct (record { name = []; columns = []; capacity = 0 })
+noTable = tableStruct (record { name = []; columns = []; capacity = 0; ring = false })
 
 -- ---- conditions
 

@@ -1,5 +1,6 @@
 -- Texts beside a table t of the columns a and b with 3 rows, which takes all cells, and what they compile to. Assumes nothing: each holds by computing.
 use mathlib.Core.Path.{_≡_, refl}
+use mathlib.Core.Bool.{true, false}
 use mathlib.Core.List.{List, [], _∷_}
 use Prim.Native.Nat.{ℕ, _+_, _*_}
 use Prim.Native.String.{String}
@@ -11,7 +12,7 @@ use Rattle.meaning.specs.Limits.{pastLimit}
 use Rattle.meaning.specs.Names.{unknown, taken, miscounted, twice}
 use Rattle.meaning.specs.Statement.{statementOf}
 use Rattle.meaning.specs.Plain.{otherLengths, noPlace}
-use Rattle.statement.specs.Compiled.{padded, tableStruct, comparisonWith, noComparison, noSetting, asked, changing, refusedBy, structOf, compiledOf}
+use Rattle.statement.specs.Compiled.{padded, tableStruct, comparisonWith, noComparison, noSetting, created, asked, changing, refusedBy, structOf, compiledOf}
 use Rattle.statement.specs.declared.Operand.{Operand}
 use Rattle.statement.specs.declared.Table.{Table}
 use Rattle.statement.specs.declared.Statement.{Statement}
@@ -22,7 +23,7 @@ unfolding isNameByte isWordByte decimal isName word negative tokenFrom firstToke
 computing = tt
 
 abbrev t : Table
-t = tableStruct (record { name = bytes "t"; columns = bytes "a" ∷ bytes "b" ∷ []; capacity = 3 })
+t = tableStruct (record { name = bytes "t"; columns = bytes "a" ∷ bytes "b" ∷ []; capacity = 3; ring = false })
 
 abbrev constant : ℤ → Operand
 constant z = record { code = 0; number = z }
@@ -74,6 +75,13 @@ update-b-a :
 unfolding computing
 update-b-a = refl
 
+-- RING is kept beside its size (A.4), where cells are left for it
+table-ring :
+    compiledOf (bytes "TABLE r (c) RING 2") (t ∷ []) 1 0 0 8
+    ≡ created (tableStruct (record { name = bytes "r"; columns = bytes "c" ∷ []; capacity = 2; ring = true }))
+unfolding computing
+table-ring = refl
+
 -- no sentence; past a limit; an unknown column; a taken name; too few values; no cells left
 refused-4 : compiled "SELECT FROM t" ≡ refusedBy 4
 unfolding computing
@@ -101,7 +109,7 @@ refused-9 = refl
 
 -- beside t and a table u of the columns a and c (A.1): columns are counted through both
 abbrev u : Table
-u = tableStruct (record { name = bytes "u"; columns = bytes "a" ∷ bytes "c" ∷ []; capacity = 3 })
+u = tableStruct (record { name = bytes "u"; columns = bytes "a" ∷ bytes "c" ∷ []; capacity = 3; ring = false })
 
 abbrev paired : String → Statement
 paired text = compiledOf (bytes text) (t ∷ u ∷ []) 2 0 0 12

@@ -14,7 +14,7 @@ use Rattle.meaning.specs.Condition.{Where, always, under, operandsIn}
 use Rattle.meaning.specs.Postfix.{nodesIn}
 use Rattle.meaning.specs.Tokens as T
 use Rattle.meaning.specs.Tokens.{Name, Token, tokens}
-use Rattle.meaning.specs.Grammar.{Given, Dotted, items, Sentence, table, select, pair, insert, update, delete, Reader, expect, constantOf, aToken, aName, aDotted, aGiven, aSetting, aList, aWhere, aDelete, aSentence}
+use Rattle.meaning.specs.Grammar.{Given, Dotted, items, Sentence, table, select, pair, insert, update, delete, Reader, expect, constantOf, aToken, aName, aDotted, aGiven, aSetting, aList, aSizeWord, aWhere, aDelete, aSentence}
 use Rattle.meaning.specs.Limits.{most-name, most-rows, most-items, most-marks, most-comparisons, tableNamed, whereOf, termGivens, markCount, givens, outside32, pastLimit}
 use Rattle.token.specs.declared.Token.{Token as Read}
 use Rattle.token.specs.Tokens.{kindOf, tokenAt}
@@ -23,6 +23,7 @@ use Rattle.statement.specs.Reading.{Stands, Operand, aColumn, longColumn
 use Rattle.statement.specs.declared.conditions.Cursor.{Cursor}
 use Rattle.statement.specs.declared.sentences.Placed.{Placed}
 use Rattle.statement.specs.declared.sentences.Listing.{Listing}
+use Rattle.statement.specs.declared.sentences.Sized.{Sized}
 use Rattle.statement.specs.declared.sentences.Entry.{Entry}
 
 -- ---- what is noted of a list: two numbers an item, the place of its name and that of its value
@@ -94,7 +95,15 @@ Columns s c r = After s aDotted (λ x. Counts c (r .c) (longColumn true x) 0 × 
 abbrev pub Gives : List ℕ → Cursor → Placed → Type 0
 Gives s c r = After s aGiven (λ v. Counts c (r .c) (outside32 v) (markCount (v ∷ [])) × (givenOn s (r .place) ≡ v)) c (r .c)
 
--- ROWS is 1 to 512
+-- A.4: ROWS, or RING, which `ring` tells
+abbrev pub Sizes : List ℕ → Cursor → Sized → Type 0
+Sizes s c r = After s aSizeWord (λ b. Counts c (r .c) false 0 × (r .ring ≡ b)) c (r .c)
+
+-- the kinds of the two words
+abbrev pub isSize : ℕ → Bool
+isSize k = eqb k 16 || eqb k 30
+
+-- ROWS or RING is 1 to 512
 abbrev pub outsideRows : ℤ → Bool
 outsideRows z = not (leZ (pos 1) z && leZ z (pos most-rows))
 
@@ -208,7 +217,7 @@ isCommaSecond s t = eqb (t .kind) 18 && eqb (tokenAt s (tokenAt s (t .next) .nex
 
 -- the numbers of the forms
 abbrev pub formOf : Sentence → ℕ
-formOf (table t cs z) = 0
+formOf (table t cs ring z) = 0
 formOf (select cs t w) = 1
 formOf (insert t vs) = 2
 formOf (update t ss w) = 3
@@ -217,7 +226,7 @@ formOf (pair cs t u w) = 5
 
 -- how many items the list has
 abbrev pub listLength : Sentence → ℕ
-listLength (table t cs z) = length (items cs)
+listLength (table t cs ring z) = length (items cs)
 listLength (select cs t w) = length (items cs)
 listLength (pair cs t u w) = length (items cs)
 listLength (insert t vs) = length (items vs)
@@ -228,9 +237,18 @@ listLength (delete t w) = 0
 abbrev pub overOn : Entry → Bool
 overOn r = r .c .over || (ltb most-items (r .listed) || (ltb most-marks (r .c .marks) || ltb most-comparisons ((r .c .nodes + 1) / 2)))
 
--- a TABLE's ROWS stands at p
+-- A.4: whether a TABLE has RING
+abbrev pub ringOf : Sentence → Bool
+ringOf (table t cs ring z) = ring
+ringOf (select cs t w) = false
+ringOf (pair cs t u w) = false
+ringOf (insert t vs) = false
+ringOf (update t ss w) = false
+ringOf (delete t w) = false
+
+-- the constant of a TABLE's ROWS or RING stands at p
 abbrev pub RowsAt : List ℕ → ℕ → Sentence → Type 0
-RowsAt s p (table t cs z) = tokenOn s p ≡ T.constant z
+RowsAt s p (table t cs ring z) = tokenOn s p ≡ T.constant z
 RowsAt s p (select cs t w) = Unit {0}
 RowsAt s p (pair cs t u w) = Unit {0}
 RowsAt s p (insert t vs) = Unit {0}
@@ -239,7 +257,7 @@ RowsAt s p (delete t w) = Unit {0}
 
 -- the first n items that are noted name the columns of the list, in the forms that name columns
 abbrev pub NamesAt : List ℕ → ℕ → List ℕ → Sentence → Type 0
-NamesAt s n ls (table t cs z) = n ≤ most-items → namesOn s n ls ≡ items cs
+NamesAt s n ls (table t cs ring z) = n ≤ most-items → namesOn s n ls ≡ items cs
 NamesAt s n ls (select cs t w) = n ≤ most-items → namesOn s n ls ≡ items cs
 NamesAt s n ls (pair cs t u w) = n ≤ most-items → dottedOn s n ls ≡ items cs
 NamesAt s n ls (insert t vs) = Unit {0}
@@ -248,7 +266,7 @@ NamesAt s n ls (delete t w) = Unit {0}
 
 -- they give the values of the list, in the forms that give values
 abbrev pub GivensAt : List ℕ → ℕ → List ℕ → Sentence → Type 0
-GivensAt s n ls (table t cs z) = Unit {0}
+GivensAt s n ls (table t cs ring z) = Unit {0}
 GivensAt s n ls (select cs t w) = Unit {0}
 GivensAt s n ls (pair cs t u w) = Unit {0}
 GivensAt s n ls (insert t vs) = n ≤ most-items → givensOn s n ls ≡ items vs
@@ -257,7 +275,7 @@ GivensAt s n ls (delete t w) = Unit {0}
 
 -- A.1: its second table's name stands at p
 abbrev pub SecondAt : List ℕ → ℕ → Sentence → Type 0
-SecondAt s p (table t cs z) = Unit {0}
+SecondAt s p (table t cs ring z) = Unit {0}
 SecondAt s p (select cs t w) = Unit {0}
 SecondAt s p (pair cs t u w) = nameOn s p ≡ u
 SecondAt s p (insert t vs) = Unit {0}
@@ -266,7 +284,7 @@ SecondAt s p (delete t w) = Unit {0}
 
 -- the first n nodes that are noted are those of its WHERE
 abbrev pub NodesAt : List ℕ → ℕ → List ℕ → Sentence → Type 0
-NodesAt s n ps (table t cs z) = Unit {0}
+NodesAt s n ps (table t cs ring z) = Unit {0}
 NodesAt s n ps (select cs t w) = n ≤ 15 → nodesOn false s n ps ≡ nodesIn w
 NodesAt s n ps (pair cs t u w) = n ≤ 15 → nodesOn true s n ps ≡ nodesIn w
 NodesAt s n ps (insert t vs) = Unit {0}
@@ -280,6 +298,7 @@ pub record Entered (s ls ps : List ℕ) (r : Entry) (x : Sentence) : Type 0 wher
   pub past : pastLimit x ≡ overOn r
   pub table : nameOn s (r .table) ≡ tableNamed x
   pub rows : RowsAt s (r .rows) x
+  pub ring : r .ring ≡ ringOf x
   pub listed-are : r .listed ≡ listLength x
   pub marks-are : r .c .marks ≡ markCount (givens x)
   pub nodes-are : r .c .nodes ≡ length (nodesIn (whereOf x))

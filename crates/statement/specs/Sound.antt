@@ -149,6 +149,7 @@ pub record AgreesTable (t : Table) (r : Schema) : Type 0 where
   pub column-lengths : map (λ (n : Name). n .len) (usedColumns t) ≡ map length (r .columns)
   pub columns-are : map nameOfStruct (usedColumns t) ≡ r .columns
   pub capacity-is : t .capacity ≡ r .capacity
+  pub ring-is : t .ring ≡ r .ring
 
 -- a sentence that passes, and its statement, of which the struct is the compiled form
 pub record FromQuery (ts : List Schema) (q : Query) : Type 0 where

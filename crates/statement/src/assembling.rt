@@ -206,6 +206,8 @@ fn no_table() -> Table
         count: 0,
         capacity: 0,
         rows: 0,
+        oldest: 0,
+        ring: false,
     }
 }
 

@@ -47,6 +47,8 @@ pub fn table(
         count: listed,
         capacity,
         rows: 0,
+        oldest: 0,
+        ring: e.ring,
     };
     assembling::created(refusals::lowest(false, taken, false, false, full), t)
 }

@@ -22,7 +22,8 @@ impl Name {
     pub const BYTES: usize = 12;
 }
 
-// A table: what its TABLE text says, and how many rows are in use. `capacity` is its ROWS.
+// A table: what its TABLE text says, how many rows are in use, and the place of the oldest row in the area (A.4: its starting place; 0 but in a ring that is full). `capacity` is
+// its ROWS or its RING, and `ring` says which.
 #[repr(C)]
 pub struct Table {
     pub name: Name,
@@ -30,6 +31,8 @@ pub struct Table {
     pub count: u8,
     pub capacity: u16,
     pub rows: u16,
+    pub oldest: u16,
+    pub ring: bool,
 }
 
 impl Table {
@@ -230,7 +233,7 @@ impl Refusal {
     pub const NUMBER: u8 = 10;
 
     pub const VALUES: u8 = 11;
-    // A table that is full; an answer buffer that is too short.
+    // A table that is full and no ring; an answer buffer that is too short.
     pub const FULL: u8 = 12;
 
     pub const BUFFER: u8 = 13;

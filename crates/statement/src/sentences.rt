@@ -12,7 +12,7 @@ ghost use Rattle.meaning.specs.Limits.{most-text};
 ghost use Rattle.meaning.specs.Tokens.{tokens};
 ghost use Rattle.meaning.specs.Grammar.{sentence, isPaired, aTable, aSelect, aSingle, aPair, anInsert, anUpdate};
 ghost use Rattle.statement.specs.Reading.{marksAt};
-ghost use Rattle.statement.specs.Sentences.{Ready, Expects, Names, Columns, Gives, CountsRows, isBetween, isRowsPast, PutsItem, kindAt, isCommaSecond, Within, ReadsItem, ReadsList, ReadsWhere, Starts, ReadsForm, Lists, Deletes, ReadsAny, Noted};
+ghost use Rattle.statement.specs.Sentences.{Ready, Expects, Names, Columns, Gives, Sizes, isSize, CountsRows, isBetween, isRowsPast, PutsItem, kindAt, isCommaSecond, Within, ReadsItem, ReadsList, ReadsWhere, Starts, ReadsForm, Lists, Deletes, ReadsAny, Noted};
 
 // A cursor behind a token, and where the token starts.
 pub struct Placed {
@@ -26,8 +26,14 @@ pub struct Listing {
     pub listed: u16,
 }
 
+// A cursor behind ROWS or RING, and whether it was RING.
+pub struct Sized {
+    pub c: Cursor,
+    pub ring: bool,
+}
+
 // A sentence as it is read: where the reader stands, its form, the place of its table's name, in a question over two tables that of the second one's, that of the
-// constant of ROWS, and how many items its list has.
+// constant of ROWS or RING, how many items its list has, and whether it has RING.
 pub struct Entry {
     pub c: Cursor,
     pub form: u8,
@@ -35,6 +41,7 @@ pub struct Entry {
     pub second: u16,
     pub rows: u16,
     pub listed: u16,
+    pub ring: bool,
 }
 
 impl Entry {
@@ -165,14 +172,41 @@ fn read_value(text: &[u8], c: Cursor) -> Placed
     }
 }
 
-// Whether the constant of ROWS is outside 1 to 512.
+fn is_size(kind: u8) -> bool
+    ensures { λ r. ⌜ r ≡ isSize kind ⌝ }
+{
+    (kind == Token::ROWS) | (kind == Token::RING)
+}
+
+// ROWS or RING (A.4).
+fn read_size(text: &[u8], c: Cursor) -> Sized
+    requires { ⌜ Ready (now text) c ⌝ }
+    ensures { λ r. ⌜ Sizes (now (text .entry)) c r ⌝ }
+{
+    let mut p = c;
+    if !p.ok {
+        return Sized { c: p, ring: false };
+    }
+    let t = token::next(text, p.at as usize);
+    if !is_size(t.kind) {
+        p.ok = false;
+        return Sized { c: p, ring: false };
+    }
+    p.at = t.next as u16;
+    Sized {
+        c: p,
+        ring: t.kind == Token::RING,
+    }
+}
+
+// Whether the constant of ROWS or RING is outside 1 to 512.
 fn is_rows_past(t: Token) -> bool
     ensures { λ r. ⌜ r ≡ isRowsPast (t .kind) (t .value) ⌝ }
 {
     (t.kind == Token::BIG) | ((t.value < 1) | ((Table::ROWS as i32) < t.value))
 }
 
-// The constant of ROWS.
+// The constant of ROWS or RING.
 fn read_rows(text: &[u8], c: Cursor) -> Placed
     requires { ⌜ Ready (now text) c ⌝ }
     ensures { λ r. ⌜ CountsRows (now (text .entry)) c r ⌝ }
@@ -308,17 +342,15 @@ fn read_where(text: &[u8], places: &mut [u16; Cursor::PLACES], c: Cursor) -> Cur
 
 // ---- the forms, after their first word
 
-// TABLE name ( names ) ROWS constant
+// TABLE name ( names ) ROWS constant, or RING in place of ROWS (A.4)
 fn read_table(text: &[u8], list: &mut [u16; Entry::LIST], c: Cursor) -> Entry
     requires { ⌜ Starts (now text) false c ⌝ }
     ensures { λ r. ⌜ Lists aTable (now (text .entry)) c (now (list .exit)) r ⌝ }
 {
     let t = read_name(text, c);
     let l = read_list(text, list, expect(text, t.c, Token::OPEN), 0, NAMES);
-    let r = read_rows(
-        text,
-        expect(text, expect(text, l.c, Token::CLOSE), Token::ROWS),
-    );
+    let w = read_size(text, expect(text, l.c, Token::CLOSE));
+    let r = read_rows(text, w.c);
     let d = r.c;
     Entry {
         c: d,
@@ -327,6 +359,7 @@ fn read_table(text: &[u8], list: &mut [u16; Entry::LIST], c: Cursor) -> Entry
         second: 0,
         rows: r.place,
         listed: l.listed,
+        ring: w.ring,
     }
 }
 
@@ -349,6 +382,7 @@ fn read_single(
         second: 0,
         rows: 0,
         listed: l.listed,
+        ring: false,
     }
 }
 
@@ -372,6 +406,7 @@ fn read_pair(
         second: u.place,
         rows: 0,
         listed: l.listed,
+        ring: false,
     }
 }
 
@@ -433,6 +468,7 @@ fn read_insert(text: &[u8], list: &mut [u16; Entry::LIST], c: Cursor) -> Entry
         second: 0,
         rows: 0,
         listed: l.listed,
+        ring: false,
     }
 }
 
@@ -455,6 +491,7 @@ fn read_update(
         second: 0,
         rows: 0,
         listed: l.listed,
+        ring: false,
     }
 }
 
@@ -471,6 +508,7 @@ fn read_delete(text: &[u8], places: &mut [u16; Cursor::PLACES], c: Cursor) -> En
         second: 0,
         rows: 0,
         listed: 0,
+        ring: false,
     }
 }
 
@@ -517,6 +555,7 @@ fn read_form(
         second: 0,
         rows: 0,
         listed: 0,
+        ring: false,
     }
 }
 

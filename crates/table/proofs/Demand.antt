@@ -17,10 +17,11 @@ use lib.Dec.{leb, ltb}
 use lib.IntN.{ℤ, pos}
 use lib.ListN.{length, take, drop, length-map, length-append}
 use lib.Seq.{length-take-le}
-use Rattle.lists.specs.Lists.{All, nil, cons, keep, all, repeats, pairs}
+use Rattle.lists.specs.Lists.{All, nil, cons, keep, all, repeats, pairs, turned}
 use Rattle.lists.proofs.Bools.{and-left, and-right}
-use Rattle.lists.proofs.Lists.{All-take, All-every, All-getD, All-keep, All-image}
+use Rattle.lists.proofs.Lists.{All-take, All-drop, All-every, All-getD, All-keep, All-image}
 use Rattle.lists.proofs.Places.{length-keep}
+use Rattle.lists.proofs.Turned.{All-turned, length-turned}
 use Rattle.meaning.specs.Demand.{Is32, IsRow, ReadsBack}
 use Rattle.meaning.specs.Limits.{most-items, most-rows, most-listed}
 use Rattle.meaning.specs.Meaning.{Row, cell, answer}
@@ -42,11 +43,6 @@ use Rattle.table.specs.Demand.{leaves, Askable, SelectReadsBack, SelectM
 use Rattle.table.specs.Evaluated.{meetsStored, rowCells, rowsUsed, selectedStored, answerStored, recordStored, selectedBy, selectedIn, rowsPaired, pairsUsed, pairsRead, pairedRefusal, saidBy, pairedIn, pairedPut, pairSays, pairLeaves}
 use Rattle.table.proofs.Means.{meets-where, answer-means}
 
-All-drop : {A : Type 0} {P : A → Type 0} {l : List A} (n : ℕ) → All P l → All P (drop n l)
-All-drop zero h = h
-All-drop (suc n) nil = nil
-All-drop (suc n) (cons p h) = All-drop n h
-
 -- ---- the rows of a table in cells of 32 bits
 
 rows-32 : (c n : ℕ) (cells : List ℤ) → All Is32 cells → All Row32 (rowsIn c n cells)
@@ -57,21 +53,22 @@ module _ (t : Table) (start : ℕ) (cells : List ℤ) where
   used-32 : All Is32 cells → All Row32 (rowsUsed t start cells)
   used-32 h = go (leb (start + rowCells t) (length cells))
     where
-      go : (b : Bool) → All Row32 (cond b (rowsIn (t .count) (t .rows) (drop start cells)) [])
-      go true = rows-32 (t .count) (t .rows) (drop start cells) (All-drop start h)
+      go : (b : Bool) → All Row32 (cond b (turned (t .oldest) (rowsIn (t .count) (t .rows) (drop start cells))) [])
+      go true = All-turned (t .oldest) (rows-32 (t .count) (t .rows) (drop start cells) (All-drop start h))
       go false = nil
 
   used-few : length (rowsUsed t start cells) ≤ t .rows
   used-few = go (leb (start + rowCells t) (length cells))
     where
-      go : (b : Bool) → length (cond b (rowsIn (t .count) (t .rows) (drop start cells)) []) ≤ t .rows
-      go true = omega (arith, rows-length (t .count) (t .rows) (drop start cells))
+      go : (b : Bool) → length (cond b (turned (t .oldest) (rowsIn (t .count) (t .rows) (drop start cells))) []) ≤ t .rows
+      go true = omega (arith, length-turned (t .oldest) (rowsIn (t .count) (t .rows) (drop start cells)), rows-length (t .count) (t .rows) (drop start cells))
       go false = omega arith
 
   -- where they lie inside the cells, they are all that the table has
   pub used-all : start + rowCells t ≤ length cells → length (rowsUsed t start cells) ≡ t .rows
   used-all h =
-      ap (λ (b : Bool). length (cond b (rowsIn (t .count) (t .rows) (drop start cells)) [])) (le-leb (start + rowCells t) (length cells) h)
+      ap (λ (b : Bool). length (cond b (turned (t .oldest) (rowsIn (t .count) (t .rows) (drop start cells))) [])) (le-leb (start + rowCells t) (length cells) h)
+      ∙ length-turned (t .oldest) (rowsIn (t .count) (t .rows) (drop start cells))
       ∙ rows-length (t .count) (t .rows) (drop start cells)
 
 -- ---- the buffer

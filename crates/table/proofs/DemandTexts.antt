@@ -13,6 +13,7 @@ use Rattle.statement.specs.Compiled.{structOf, compiledOf}
 use Rattle.statement.specs.Sound.{AgreesCondition}
 use Rattle.statement.proofs.SoundCompiled.{query-agrees, update-agrees, compiled-is}
 use Rattle.table.specs.Demand.{PositionsFound, Demands}
+use Rattle.table.proofs.DemandRings.{reads-oldest-first, full-ring-pushes, new-row-takes-cells, delete-lays-oldest-first, update-stays-in-place}
 use Rattle.table.proofs.Demand.{select-reads-back, select-means, rows-read, row-test-means, select-pair-reads-back, select-pair-means, too-many-exactly-if, refused-leaves-buffer, pair-rows-read, pair-reads-at-most, pair-test-means}
 
 pub positions-found : PositionsFound
@@ -47,4 +48,9 @@ demands = record {
   pair-rows-read = pair-rows-read;
   pair-reads-at-most = pair-reads-at-most;
   pair-test-means = pair-test-means;
+  reads-oldest-first = reads-oldest-first;
+  full-ring-pushes = full-ring-pushes;
+  new-row-takes-cells = new-row-takes-cells;
+  delete-lays-oldest-first = delete-lays-oldest-first;
+  update-stays-in-place = update-stays-in-place;
 }

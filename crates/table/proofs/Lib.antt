@@ -1,9 +1,12 @@
 pub mod Copied
 pub mod Assigning
 pub mod Work
+pub mod Round
+pub mod Reversing
 pub mod Updating
 pub mod Deleting
 pub mod Fitting
+pub mod Removing
 pub mod Signs
 pub mod Linking
 pub mod Means
@@ -15,4 +18,5 @@ pub mod Pairing
 pub mod Recording
 pub mod Answered
 pub mod Demand
+pub mod DemandRings
 pub mod DemandTexts

@@ -2,6 +2,7 @@
 --     Left            what holds with `left` rows left from cell `at` on
 --     update-start    before the first row
 --     update-turn     after a row: r is 1 where p holds of it, and row′ is what it is then
+--     update-set      after a row of which p holds, and update-stay after any other
 --     update-done     after the last
 -- Assumes nothing.
 use Prim.Native.Nat.{ℕ, zero, suc, _+_, _-_, _*_, _≤_}
@@ -9,7 +10,7 @@ use mathlib.Core.Path.{_≡_, refl, sym, ap, ap₂, _∙_, subst}
 use mathlib.Core.Bool.{Bool, true, false, cond}
 use mathlib.Core.List.{List, _++_, map, append-assoc}
 use native.Mathlib.Omega.{arith}
-use borrow.Rule.Slice.PartMut.{putMid, same-len-mid}
+use borrow.Rule.Slice.PartMut.{putMid, same-len-mid, put-same}
 use lib.IntN.{ℤ}
 use lib.ListN.{length, take, drop, length-drop, take-append-drop}
 use lib.Seq.{length-take-le}
@@ -94,6 +95,27 @@ module _ (p : List ℤ → Bool) (f : List ℤ → List ℤ) (c used : ℕ) (a�
         subst (λ (k : ℕ). r ≡ cond (p (take k (drop at a))) 1 0 → row′ ≡ settled p f (take k (drop at a)) → Left p f c used a₀ (putMid at k a row′) (at + c) (suc m - 1) (found + r)) e
         (subst (λ (k : ℕ). r ≡ cond (p (take c (drop at a))) 1 0 → row′ ≡ settled p f (take c (drop at a)) → Left p f c used a₀ (putMid at c a row′) (at + c) k (found + r)) o
         (turn a at m found r row′ L))
+
+    -- a row that meets the condition is set, and any other stays as it was; a′ and found′ are the area and the count then
+    left-at : (a a′ : List ℤ) (at left found found′ : ℕ) → a′ ≡ a → found′ ≡ found → Left p f c used a₀ a at left found → Left p f c used a₀ a′ at left found′
+    left-at a a′ at left found found′ ea ef L =
+        subst (λ (l : List ℤ). Left p f c used a₀ l at left found′) (sym ea) (subst (λ (k : ℕ). Left p f c used a₀ a at left k) (sym ef) L)
+
+    pub update-set : (a a′ : List ℤ) (at left found found′ : ℕ) (row′ : List ℤ) → 1 ≤ left → Left p f c used a₀ a at left found
+        → p (take (at + c - at) (drop at a)) ≡ true → row′ ≡ f (take (at + c - at) (drop at a)) → a′ ≡ putMid at (at + c - at) a row′ → found′ ≡ found + 1
+        → Left p f c used a₀ a′ (at + c) (left - 1) found′
+    update-set a a′ at left found found′ row′ h L t e ea ef =
+        let row : List ℤ = take (at + c - at) (drop at a) in
+        left-at (putMid at (at + c - at) a row′) a′ (at + c) (left - 1) (found + 1) found′ ea ef
+        (update-turn a at left found 1 row′ h L (cond-true (p row) 1 0 t) (e ∙ cond-true (p row) (f row) row t))
+
+    pub update-stay : (a a′ : List ℤ) (at left found found′ : ℕ) → 1 ≤ left → Left p f c used a₀ a at left found → p (take (at + c - at) (drop at a)) ≡ false → a′ ≡ a → found′ ≡ found
+        → Left p f c used a₀ a′ (at + c) (left - 1) found′
+    update-stay a a′ at left found found′ h L t ea ef =
+        let row : List ℤ = take (at + c - at) (drop at a) in
+        let none : found ≡ found + 0 = omega arith in
+        left-at (putMid at (at + c - at) a row) a′ (at + c) (left - 1) (found + 0) found′ (ea ∙ sym (put-same at (at + c - at) a)) (ef ∙ none)
+        (update-turn a at left found 0 row h L (cond-false (p row) 1 0 t) (cond-false (p row) (f row) row t))
 
     pub update-done : (a : List ℤ) (at left found : ℕ) → left ≤ 0 → used * c ≤ length a₀ → Left p f c used a₀ a at left found → (found ≡ count p (rowsIn c used a₀)) × (a ≡ stored a₀ (used * c) (map (settled p f) (rowsIn c used a₀)))
     update-done a at zero found z h L =

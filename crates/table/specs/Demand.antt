@@ -1,33 +1,39 @@
--- The demands and requests A.1 and A.3 as claims, as far as questions of the table layer can say them; what is asked of the arguments is what their types and a sound state give. Each is
+-- The demands and requests A.1, A.3 and A.4 as claims, as far as the table layer can say them; what is asked of the arguments is what their types and a sound state give. Each is
 -- proved in proofs/Demand.antt. Assumes nothing: these are definitions.
 use mathlib.Core.Path.{_≡_}
 use mathlib.Core.Logic.{_≢_, _↔_}
+use mathlib.Core.Bool.{true, not, cond}
 use mathlib.Core.Option.{some}
-use mathlib.Core.List.{List, _++_, map}
-use Prim.Native.Nat.{ℕ, _+_, _*_, _≤_, _<_}
+use mathlib.Core.List.{List, [], _∷_, _++_, map}
+use Prim.Native.Nat.{ℕ, _+_, _-_, _*_, _≤_, _<_}
+use lib.Dec.{ltb}
 use lib.IntN.{ℤ}
-use lib.ListN.{length, take}
-use Rattle.lists.specs.Lists.{All, pairs}
+use lib.ListN.{length, take, drop, getD}
+use Rattle.lists.specs.Lists.{All, keep, pairs, written}
 use Rattle.meaning.specs.Demand.{Is32, ReadsBack}
 use Rattle.meaning.specs.Limits.{most-items, most-rows, most-listed}
 use Rattle.meaning.specs.Condition.{Where}
 use Rattle.meaning.specs.Grammar as G
 use Rattle.meaning.specs.Grammar.{Given, Term, Listed, Dotted, items, sentence}
-use Rattle.meaning.specs.Meaning.{Row, meetsWhere, answer}
+use Rattle.meaning.specs.Meaning.{Row, meetsWhere, newRow, updatedRow, answer}
+use Rattle.meaning.specs.Cells.{areaOf, rowsIn}
 use Rattle.meaning.specs.Names.{Schema, columnsOf, position, pairPlace}
 use Rattle.meaning.specs.Statement as M
-use Rattle.meaning.specs.Statement.{settingMarks, resolvedWhere}
+use Rattle.meaning.specs.Statement.{insert, delete, update, settingMarks, resolvedWhere}
 use Rattle.meaning.specs.Tokens.{Name}
 use Rattle.answer.specs.Answer.{put}
 use Rattle.statement.specs.declared.Condition.{Condition}
 use Rattle.statement.specs.declared.Query.{Query}
 use Rattle.statement.specs.declared.Statement.{Statement}
 use Rattle.statement.specs.declared.Table.{Table}
+use Rattle.statement.specs.declared.Update.{Update}
 use Rattle.statement.specs.Catalog.{schemasOf}
 use Rattle.statement.specs.Compiled.{compiledOf}
-use Rattle.statement.specs.Sound.{AgreesCondition, AgreesQuery}
+use Rattle.statement.specs.Sound.{AgreesCondition, AgreesQuery, AgreesUpdate}
 use Rattle.table.specs.Evaluated.{rowCells, rowsUsed, answerStored, recordStored, selectedIn, pairsUsed, pairSays, pairLeaves}
 use Rattle.table.specs.Tests.{longest, passes, Prepared}
+use Rattle.table.specs.Changed.{isFullRing, fits, rowsBefore, changeOf, cellsAfter}
+use Rattle.table.specs.declared.changes.Changed.{Changed}
 use Rattle.table.specs.declared.listing.Selected.{Selected}
 
 -- what `select` promises: its result, and the buffer
@@ -139,6 +145,54 @@ PairTestMeans = (c : Condition) (vs : List ℤ) (targets places : List ℕ) (num
     → (w : Where M.Operand) → AgreesCondition c w → (row other : Row) → length row ≤ most-items → length other ≤ most-items
     → passes targets places numbers start (row ++ other) ≡ meetsWhere w vs (row ++ other)
 
+-- ---- Request A.4: "Rows still read oldest first, wherever the first row lies in the area"
+
+-- the place of the row i behind place k of n, round
+abbrev pub placeRound : ℕ → ℕ → ℕ → ℕ
+placeRound n k i = cond (ltb (k + i) n) (k + i) (k + i - n)
+
+-- row i read is the one that many places behind the oldest, and round; there is no other row
+abbrev pub ReadsOldestFirst : Type 0
+ReadsOldestFirst = (t : Table) (start : ℕ) (cells : List ℤ) → start + rowCells t ≤ length cells → t .oldest < t .rows
+    → (length (rowsUsed t start cells) ≡ t .rows)
+    × ((i : ℕ) → i < t .rows → getD (rowsUsed t start cells) i [] ≡ areaOf (start + placeRound (t .rows) (t .oldest) i * t .count) (t .count) cells)
+
+-- a stored update of the sentence s, which fits the table
+pub record Makes (u : Update) (s : M.Update) (t : Table) (start : ℕ) (cells : List ℤ) : Type 0 where
+  pub array : length (u .settings) ≡ most-items
+  pub agrees : AgreesUpdate u s
+  pub fits-in : fits u t start cells ≡ true
+
+-- the table after an update
+abbrev pub tableAfter : Table → Changed → Table
+tableAfter t c = record { name = t .name; columns = t .columns; count = t .count; capacity = t .capacity; rows = c .rows; oldest = c .oldest; ring = t .ring }
+
+-- "an INSERT into a full table first removes the oldest row": it counts one row, and those read then are all but the first, and the new one
+abbrev pub FullRingPushes : Type 0
+FullRingPushes = (u : Update) (s : M.Update) (t : Table) (start : ℕ) (cells vs : List ℤ) (os : List M.Value) → Makes u s t start cells → s .change ≡ insert os → isFullRing t ≡ true
+    → (changeOf u t start cells vs .count ≡ 1)
+    × (rowsUsed (tableAfter t (changeOf u t start cells vs)) start (cellsAfter u t start cells vs) ≡ drop 1 (rowsUsed t start cells) ++ (newRow os vs ∷ []))
+
+-- "The new row takes the cells of the one removed": the row read first lay in these cells, and no other cell changes
+abbrev pub NewRowTakesCells : Type 0
+NewRowTakesCells = (u : Update) (s : M.Update) (t : Table) (start : ℕ) (cells vs : List ℤ) (os : List M.Value) → Makes u s t start cells → s .change ≡ insert os → isFullRing t ≡ true
+    → (getD (rowsUsed t start cells) 0 [] ≡ areaOf (start + t .oldest * t .count) (t .count) cells)
+    × (length (newRow os vs) ≡ t .count)
+    × (cellsAfter u t start cells vs ≡ written cells (start + t .oldest * t .count) (newRow os vs))
+
+-- "after any DELETE the oldest row lies first in the area again": also after one that deletes no row; the rows as they lie are then the rows kept, oldest first
+abbrev pub DeleteLaysOldestFirst : Type 0
+DeleteLaysOldestFirst = (u : Update) (s : M.Update) (t : Table) (start : ℕ) (cells vs : List ℤ) (w : Where M.Operand) → Makes u s t start cells → s .change ≡ delete w
+    → (changeOf u t start cells vs .oldest ≡ 0)
+    × (rowsIn (t .count) (changeOf u t start cells vs .rows) (drop start (cellsAfter u t start cells vs)) ≡ keep (λ (r : Row). not (meetsWhere w vs r)) (rowsUsed t start cells))
+
+-- an UPDATE moves no row
+abbrev pub UpdateStaysInPlace : Type 0
+UpdateStaysInPlace = (u : Update) (s : M.Update) (t : Table) (start : ℕ) (cells vs : List ℤ) (ss : List (ℕ × M.Value)) (w : Where M.Operand) → Makes u s t start cells
+    → s .change ≡ update ss w
+    → (changeOf u t start cells vs .oldest ≡ t .oldest)
+    × (rowsIn (t .count) (changeOf u t start cells vs .rows) (drop start (cellsAfter u t start cells vs)) ≡ map (updatedRow ss w vs) (rowsBefore t start cells))
+
 -- ---- all of these
 
 pub record Demands : Type 0 where
@@ -154,3 +208,8 @@ pub record Demands : Type 0 where
   pub pair-rows-read : PairRowsRead
   pub pair-reads-at-most : PairReadsAtMost
   pub pair-test-means : PairTestMeans
+  pub reads-oldest-first : ReadsOldestFirst
+  pub full-ring-pushes : FullRingPushes
+  pub new-row-takes-cells : NewRowTakesCells
+  pub delete-lays-oldest-first : DeleteLaysOldestFirst
+  pub update-stays-in-place : UpdateStaysInPlace

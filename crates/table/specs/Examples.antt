@@ -11,28 +11,30 @@ use Rattle.meaning.specs.Tokens.{isNameByte, isWordByte, decimal, isName, word,
 use Rattle.meaning.specs.Grammar.{aCondition, aSentence, read}
 use Rattle.meaning.specs.Limits.{pastLimit}
 use Rattle.meaning.specs.Names.{unknown, taken, miscounted, twice}
-use Rattle.meaning.specs.Statement.{statementOf}
+use Rattle.meaning.specs.Statement.{insert, constant, statementOf}
 use Rattle.meaning.specs.Plain.{otherLengths, noPlace}
 use Rattle.meaning.specs.Meaning.{Row}
 use Rattle.meaning.specs.Cells.{stored}
 use Rattle.meaning.specs.Record.{body, encode}
+use Rattle.answer.specs.Answer.{put}
 use Rattle.statement.specs.declared.Query.{Query}
 use Rattle.statement.specs.declared.Table.{Table}
 use Rattle.statement.specs.declared.Statement.{Statement}
-use Rattle.statement.specs.Compiled.{nameStruct, structOf, compiledOf}
+use Rattle.statement.specs.Compiled.{nameStruct, updateStruct, structOf, compiledOf}
 use Rattle.statement.specs.Sound.{conditionNodes}
-use Rattle.table.specs.Changed.{rowsAfter, countAfter, areaFits, fits, changedOf, cellsAfter}
+use Rattle.table.specs.Changed.{laid, oldestAfter, countAfter, areaFits, fits, changedOf, changeOf, cellsAfter, oldestRow, removalOf}
 use Rattle.table.specs.Evaluated.{meetsStored, rowsUsed, answerStored, recordStored, selectedIn, pairsUsed, pairedIn, pairSays, pairLeaves}
 use Rattle.table.specs.Tests.{nextAt, passes}
+use Rattle.table.specs.declared.changes.Changed.{Changed}
 use Rattle.table.specs.declared.listing.Selected.{Selected}
 
 -- what the computations open
 computing : Unit {0}
-unfolding isNameByte isWordByte decimal isName word negative tokenFrom firstToken scan tokens aCondition aSentence read pastLimit unknown taken miscounted twice statementOf otherLengths noPlace structOf compiledOf conditionNodes meetsStored answerStored body encode stored rowsAfter countAfter areaFits fits changedOf cellsAfter nextAt passes
+unfolding isNameByte isWordByte decimal isName word negative tokenFrom firstToken scan tokens aCondition aSentence read pastLimit unknown taken miscounted twice statementOf otherLengths noPlace structOf compiledOf conditionNodes meetsStored answerStored body encode stored laid oldestAfter countAfter areaFits fits changedOf changeOf cellsAfter nextAt passes removalOf
 computing = tt
 
 abbrev t : Table
-t = record { name = nameStruct (bytes "t"); columns = map nameStruct (bytes "a" ∷ bytes "b" ∷ []); count = 2; capacity = 3; rows = 2 }
+t = record { name = nameStruct (bytes "t"); columns = map nameStruct (bytes "a" ∷ bytes "b" ∷ []); count = 2; capacity = 3; rows = 2; oldest = 0; ring = false }
 
 abbrev low : ℤ
 low = negℤ (pos 2147483648)
@@ -123,11 +125,11 @@ too-short = refl
 -- ---- A.1: questions over t and a second table u of the columns a and c with the rows (7, 31), (8, 20) and (7, 32) behind it
 
 abbrev u : Table
-u = record { name = nameStruct (bytes "u"); columns = map nameStruct (bytes "a" ∷ bytes "c" ∷ []); count = 2; capacity = 3; rows = 3 }
+u = record { name = nameStruct (bytes "u"); columns = map nameStruct (bytes "a" ∷ bytes "c" ∷ []); count = 2; capacity = 3; rows = 3; oldest = 0; ring = false }
 
 -- the same tables without rows
 abbrev none-of : Table → Table
-none-of s = record { name = s .name; columns = s .columns; count = s .count; capacity = s .capacity; rows = 0 }
+none-of s = record { name = s .name; columns = s .columns; count = s .count; capacity = s .capacity; rows = 0; oldest = 0; ring = false }
 
 abbrev both-cells : List ℤ
 both-cells = pos 7 ∷ pos 120 ∷ pos 8 ∷ low ∷ pos 5 ∷ pos 6 ∷ pos 7 ∷ pos 31 ∷ pos 8 ∷ pos 20 ∷ pos 7 ∷ pos 32 ∷ []
@@ -180,7 +182,7 @@ unfolding computing
 pair-written = refl
 
 -- a table of more than 8 columns, which no text makes, has no row in a pair
-pub too-wide : pairsUsed (record { name = t .name; columns = t .columns; count = 9; capacity = 1; rows = 1 }) 0 u 6 both-cells ≡ []
+pub too-wide : pairsUsed (record { name = t .name; columns = t .columns; count = 9; capacity = 1; rows = 1; oldest = 0; ring = false }) 0 u 6 both-cells ≡ []
 too-wide = refl
 
 -- "an answer of more than 65,535 rows gives 16", whatever the buffer; 65,535 rows in a short buffer give 13
@@ -188,3 +190,94 @@ pub most-rows-said : (pairedIn [] 7 0 (replicate 65536 []) ≡ record { refusal 
     × (pairedIn [] 7 0 (replicate 65535 []) ≡ record { refusal = 13; scanned = 0; length = 0 })
 unfolding computing
 most-rows-said = (refl, refl)
+
+-- ---- A.4: a ring `recent` of the columns minute and level with 3 rows, (1, 10), (2, 20) and (3, 30) at first
+
+-- with so many rows in use, of which the one at that place is the oldest
+abbrev recent : ℕ → ℕ → Table
+recent rows oldest = record {
+  name = nameStruct (bytes "recent");
+  columns = map nameStruct (bytes "minute" ∷ bytes "level" ∷ []);
+  count = 2;
+  capacity = 3;
+  rows = rows;
+  oldest = oldest;
+  ring = true;
+}
+
+abbrev filled : List ℤ
+filled = pos 1 ∷ pos 10 ∷ pos 2 ∷ pos 20 ∷ pos 3 ∷ pos 30 ∷ []
+
+-- after the row (4, 40): the oldest is the one at place 1
+abbrev wrapped : List ℤ
+wrapped = pos 4 ∷ pos 40 ∷ pos 2 ∷ pos 20 ∷ pos 3 ∷ pos 30 ∷ []
+
+abbrev of-ring : String → Statement
+of-ring text = compiledOf (bytes text) (recent 3 0 ∷ []) 1 0 0 6
+
+-- the cells after an update of a full ring whose oldest row lies there, what it counts, and where the oldest lies then
+abbrev ring-changed : ℕ → List ℤ → String → List ℤ × Changed
+ring-changed k cells text = (cellsAfter (of-ring text .update) (recent 3 k) 0 cells [], changeOf (of-ring text .update) (recent 3 k) 0 cells [])
+
+abbrev now-at : ℕ → ℕ → ℕ → Changed
+now-at count rows oldest = record { count = count; rows = rows; oldest = oldest }
+
+-- "The new row takes the cells of the one removed"
+pub pushed-out : ring-changed 0 filled "INSERT INTO recent VALUES (4, 40)" ≡ (wrapped, now-at 1 3 1)
+unfolding computing
+pushed-out = refl
+
+-- behind the last place comes the first
+pub place-wraps : ring-changed 2 wrapped "INSERT INTO recent VALUES (5, 50)" ≡ (pos 4 ∷ pos 40 ∷ pos 2 ∷ pos 20 ∷ pos 5 ∷ pos 50 ∷ [], now-at 1 3 0)
+unfolding computing
+place-wraps = refl
+
+-- "after any DELETE the oldest row lies first in the area again": of no row, and of one
+pub turned-again : ring-changed 1 wrapped "DELETE FROM recent WHERE minute = 9" ≡ (pos 2 ∷ pos 20 ∷ pos 3 ∷ pos 30 ∷ pos 4 ∷ pos 40 ∷ [], now-at 0 3 0)
+unfolding computing
+turned-again = refl
+
+pub deleted-round : ring-changed 1 wrapped "DELETE FROM recent WHERE minute = 3" ≡ (pos 2 ∷ pos 20 ∷ pos 4 ∷ pos 40 ∷ pos 0 ∷ pos 0 ∷ [], now-at 1 2 0)
+unfolding computing
+deleted-round = refl
+
+-- an UPDATE moves no row
+pub set-in-place : ring-changed 1 wrapped "UPDATE recent SET level = 21 WHERE minute = 2" ≡ (pos 4 ∷ pos 40 ∷ pos 2 ∷ pos 21 ∷ pos 3 ∷ pos 30 ∷ [], now-at 1 3 1)
+unfolding computing
+set-in-place = refl
+
+-- a ring that is not full takes the row behind the others
+pub not-yet-full : (cellsAfter (of-ring "INSERT INTO recent VALUES (3, 30)" .update) (recent 2 0) 0 (pos 1 ∷ pos 10 ∷ pos 2 ∷ pos 20 ∷ pos 0 ∷ pos 0 ∷ []) [] ≡ filled)
+    × (changeOf (of-ring "INSERT INTO recent VALUES (3, 30)" .update) (recent 2 0) 0 (pos 1 ∷ pos 10 ∷ pos 2 ∷ pos 20 ∷ pos 0 ∷ pos 0 ∷ []) [] ≡ now-at 1 3 0)
+unfolding computing
+not-yet-full = (refl, refl)
+
+-- "Rows still read oldest first, wherever the first row lies in the area": the record of all rows, and a byte behind it that stays
+pub read-round : put (replicate 33 9) 0 (recordStored (of-ring "SELECT minute, level FROM recent" .query) [] (rowsUsed (recent 3 1) 0 wrapped))
+    ≡ 0 ∷ 0 ∷ 0 ∷ 28 ∷ 1 ∷ 2 ∷ 0 ∷ 3
+    ∷ 0 ∷ 0 ∷ 0 ∷ 2 ∷ 0 ∷ 0 ∷ 0 ∷ 20
+    ∷ 0 ∷ 0 ∷ 0 ∷ 3 ∷ 0 ∷ 0 ∷ 0 ∷ 30
+    ∷ 0 ∷ 0 ∷ 0 ∷ 4 ∷ 0 ∷ 0 ∷ 0 ∷ 40
+    ∷ 9 ∷ []
+unfolding computing
+read-round = refl
+
+pub said-round : selectedIn (replicate 32 0) (rowsUsed (recent 3 1) 0 wrapped) (recordStored (of-ring "SELECT minute, level FROM recent" .query) [] (rowsUsed (recent 3 1) 0 wrapped))
+    ≡ record { refusal = 0; scanned = 3; length = 32 }
+unfolding computing
+said-round = refl
+
+-- in both places of a pair
+pub paired-round : pairsUsed (recent 3 1) 0 (recent 3 2) 0 wrapped
+    ≡ (pos 2 ∷ pos 20 ∷ pos 3 ∷ pos 30 ∷ []) ∷ (pos 2 ∷ pos 20 ∷ pos 4 ∷ pos 40 ∷ []) ∷ (pos 2 ∷ pos 20 ∷ pos 2 ∷ pos 20 ∷ [])
+    ∷ (pos 3 ∷ pos 30 ∷ pos 3 ∷ pos 30 ∷ []) ∷ (pos 3 ∷ pos 30 ∷ pos 4 ∷ pos 40 ∷ []) ∷ (pos 3 ∷ pos 30 ∷ pos 2 ∷ pos 20 ∷ [])
+    ∷ (pos 4 ∷ pos 40 ∷ pos 3 ∷ pos 30 ∷ []) ∷ (pos 4 ∷ pos 40 ∷ pos 4 ∷ pos 40 ∷ []) ∷ (pos 4 ∷ pos 40 ∷ pos 2 ∷ pos 20 ∷ [])
+    ∷ []
+unfolding computing
+paired-round = refl
+
+-- the row that the next INSERT pushes out, and its removal: an INSERT of 2 and 20 into table 5; of a table without rows an INSERT of no values
+pub goes-next : (oldestRow (recent 3 1) 0 wrapped ≡ pos 2 ∷ pos 20 ∷ []) × (removalOf 5 (recent 3 1) 0 wrapped ≡ updateStruct (record { table = 5; change = insert (constant (pos 2) ∷ constant (pos 20) ∷ []); parameters = 0 }))
+    × (removalOf 5 (recent 0 0) 0 wrapped .count ≡ 0)
+unfolding computing
+goes-next = (refl, refl, refl)

@@ -9,6 +9,7 @@ pub use answer::row;
 pub use answer::row_refusal;
 pub use changes::Changed;
 pub use changes::change;
+pub use changes::removal;
 pub use listing::Selected;
 pub use listing::select;
 pub use pairs::select_pair;

@@ -37,6 +37,8 @@ fn empty() -> Store {
         count: 0,
         capacity: 0,
         rows: 0,
+        oldest: 0,
+        ring: false,
     };
     Store {
         tables: [none; Table::TABLES],
@@ -203,7 +205,11 @@ fn print_update(u: Update) {
 
 fn print_table(t: Table) {
     print_item(b" columns ", t.count as u64);
-    print_item(b" rows ", t.capacity as u64);
+    if t.ring {
+        print_item(b" ring ", t.capacity as u64);
+    } else {
+        print_item(b" rows ", t.capacity as u64);
+    }
 }
 
 // One more, up to a limit.

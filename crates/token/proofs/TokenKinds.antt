@@ -11,7 +11,7 @@ use lib.ListN.{getD}
 use Rattle.lists.proofs.Bools.{clash}
 use Rattle.meaning.specs.Operator.{Operator, eq, ne, lt, le, gt, ge}
 use Rattle.meaning.specs.Tokens as M
-use Rattle.meaning.specs.Tokens.{Keyword, TABLE, ROWS, SELECT, FROM, WHERE, INSERT, INTO, VALUES, UPDATE, SET, DELETE, AND, OR, NOT, Name, keyword, name, constant, operator, mark, comma, lparen, rparen, dot, other}
+use Rattle.meaning.specs.Tokens.{Keyword, TABLE, ROWS, SELECT, FROM, WHERE, INSERT, INTO, VALUES, UPDATE, SET, DELETE, AND, OR, NOT, RING, Name, keyword, name, constant, operator, mark, comma, lparen, rparen, dot, other}
 use Rattle.meaning.specs.Limits.{isWithin32}
 use Rattle.token.specs.Tokens.{kindOf, valueOf}
 
@@ -52,6 +52,7 @@ fixedAt k =
     ∷ keyword OR
     ∷ keyword NOT
     ∷ dot
+    ∷ keyword RING
     ∷ [])
     k
     other
@@ -86,6 +87,7 @@ fixed-keyword DELETE = by-computing refl refl
 fixed-keyword AND = by-computing refl refl
 fixed-keyword OR = by-computing refl refl
 fixed-keyword NOT = by-computing refl refl
+fixed-keyword RING = by-computing refl refl
 
 -- a name, a constant, or a token that holds nothing
 abbrev Cases : M.Token → Type 0

@@ -8,11 +8,11 @@ use lib.ListN.{length, drop}
 use Rattle.lists.specs.Lists.{dropWhile}
 use Rattle.meaning.specs.Operator.{Operator, eq, ne, lt, le, gt, ge}
 use Rattle.meaning.specs.Tokens as M
-use Rattle.meaning.specs.Tokens.{Keyword, TABLE, ROWS, SELECT, FROM, WHERE, INSERT, INTO, VALUES, UPDATE, SET, DELETE, AND, OR, NOT, keyword, name, constant, operator, mark, comma, lparen, rparen, dot, other, isSpace, firstToken}
+use Rattle.meaning.specs.Tokens.{Keyword, TABLE, ROWS, SELECT, FROM, WHERE, INSERT, INTO, VALUES, UPDATE, SET, DELETE, AND, OR, NOT, RING, keyword, name, constant, operator, mark, comma, lparen, rparen, dot, other, isSpace, firstToken}
 use Rattle.meaning.specs.Limits.{isWithin32}
 use Rattle.token.specs.declared.Token.{Token}
 
--- the comparisons and the keywords, numbered
+-- the comparisons and the keywords, numbered; 14 is no keyword's, since the dot has the kind 29
 abbrev pub operatorNumber : Operator → ℕ
 operatorNumber eq = 0
 operatorNumber ne = 1
@@ -36,6 +36,7 @@ keywordNumber DELETE = 10
 keywordNumber AND = 11
 keywordNumber OR = 12
 keywordNumber NOT = 13
+keywordNumber RING = 15
 
 -- the kind: 0 is the end of the text, which is no token
 abbrev pub kindOf : M.Token → ℕ

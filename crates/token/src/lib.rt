@@ -78,6 +78,8 @@ impl Token {
     pub const NOT: u8 = 28;
 
     pub const DOT: u8 = 29;
+    // Keywords of later requests.
+    pub const RING: u8 = 30;
 }
 
 // The runs of bytes that `run_end` follows.
@@ -265,11 +267,19 @@ fn packed(text: &[u8], at: usize, end: usize) -> u64
     w
 }
 
-// The kind of a word of n bytes that are the number w: first the later half of the keywords.
+// The kind of a word of n bytes that are the number w: first the keywords of later requests.
+fn more_keyword(n: usize, w: u64) -> u8
+    ensures { λ r. ⌜ r ≡ kindAmong (drop 14 keywords) n w ⌝ }
+{
+    either((n == 4) & (w == 0x52494E47), Token::RING, Token::OTHER)
+}
+
+// Then the later half of document 01's.
 fn late_keyword(n: usize, w: u64) -> u8
     ensures { λ r. ⌜ r ≡ kindAmong (drop 7 keywords) n w ⌝ }
 {
-    let mut k = either((n == 3) & (w == 0x4E4F54), Token::NOT, Token::OTHER);
+    let mut k = more_keyword(n, w);
+    k = either((n == 3) & (w == 0x4E4F54), Token::NOT, k);
     k = either((n == 2) & (w == 0x4F52), Token::OR, k);
     k = either((n == 3) & (w == 0x414E44), Token::AND, k);
     k = either((n == 6) & (w == 0x44454C455445), Token::DELETE, k);

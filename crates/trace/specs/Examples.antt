@@ -14,7 +14,7 @@ use Rattle.meaning.specs.Names.{unknown, taken, miscounted, twice}
 use Rattle.meaning.specs.Statement.{statementOf}
 use Rattle.meaning.specs.Meaning.{answer, changed, rowsChanged}
 use Rattle.meaning.specs.Record.{body, encode}
-use Rattle.meaning.specs.Pattern.{sideOf, jointClauses, class, contradictory, entry, patterns, matches}
+use Rattle.meaning.specs.Pattern.{sideOf, jointClauses, class, contradictory, entry, patterns, matchesTwo}
 use Rattle.meaning.specs.Plain.{Opening, openingRefused, Call, add, ask, change, flush, otherLengths, noPlace, full, refusal, recordOf, tooMany, matchesKey, Out, refused, added, answered, rows, flushed, aTable, aQuery, anUpdate, addedText, changedBy, rowsBy}
 use Rattle.meaning.specs.Key.{Key}
 use Rattle.meaning.specs.Paired.{long, first-question}
@@ -23,7 +23,7 @@ use Rattle.trace.specs.Model.{Seen, Model, step, outs, slotSize, opened}
 
 -- what the computations open
 computing : Unit {0}
-unfolding isNameByte isWordByte decimal isName word negative tokenFrom firstToken scan tokens aCondition aSentence read pastLimit unknown taken miscounted twice statementOf answer changed rowsChanged body encode jointClauses class contradictory entry patterns matches openingRefused otherLengths noPlace full refusal recordOf tooMany sideOf matchesKey addedText changedBy rowsBy
+unfolding isNameByte isWordByte decimal isName word negative tokenFrom firstToken scan tokens aCondition aSentence read pastLimit unknown taken miscounted twice statementOf answer changed rowsChanged body encode jointClauses class contradictory entry patterns matchesTwo openingRefused otherLengths noPlace full refusal recordOf tooMany sideOf matchesKey addedText changedBy rowsBy
 computing = tt
 
 -- 4,096 cells, 256 bytes of kept memory, 4 slots of 64 bytes

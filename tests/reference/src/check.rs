@@ -1,8 +1,8 @@
-//! The reference itself on document 01's examples, and on examples worked out by hand: questions over two tables, and
-//! names in capitals.
+//! The reference itself on document 01's examples, and on examples worked out by hand: questions over two tables, names
+//! in capitals, and tables that run round.
 
 use crate::front::{Front, Mode};
-use crate::pattern::{patterns, Place};
+use crate::pattern::{patterns, patterns_of_pushed, Place};
 use crate::shown::Texts;
 use crate::text::{Catalogue, Statement};
 
@@ -251,11 +251,11 @@ SELECT stage.level FROM stage, stage => refused 15
 DELETE FROM rating WHERE site = flow => update 0 delete 1 marks 0 if c0=c2
 ";
 
-/// Names in capitals (A.2). RING and NULL are names until requests A.4 and A.5 make them keywords: then another name goes
-/// into the third line, and the last three show the keywords.
+/// Names in capitals (A.2). NULL is a name until request A.5 makes it a keyword: then the last two lines change.
 const KEYPAD: &str = "ADD TABLE STAGE (SITE, Level_2) ROWS 3 => table 0
 ADD TABLE stage (a) ROWS 1 => refused 7
-ADD TABLE Table (Select, RING) ROWS 1 => table 1
+ADD TABLE Table (Select, RING) ROWS 1 => refused 4
+ADD TABLE Table (Select, Ring) ROWS 1 => table 1
 ADD TABLE T (A, a) ROWS 1 => refused 7
 ADD TABLE T (ROWS3) ROWS 1 => table 2
 ADD SELECT SITE FROM Stage Where SITE = 1 => refused 4
@@ -304,7 +304,9 @@ ADD TABLE u (a) ROWS3 => refused 4
 ADD TABLE ROWS (a) ROWS 1 => refused 4
 ADD SELECT Ring FROM TAble => query 3
 ADD SELECT NULL FROM STAGE => refused 6
-ADD TABLE NULL (RING, Null) ROWS 1 => table 4
+ADD SELECT RING FROM Table => refused 4
+ADD TABLE NULL (RING, Null) ROWS 1 => refused 4
+ADD TABLE NULL (ring, Null) ROWS 1 => table 4
 ";
 
 /// The lines of `KEYPAD`, for the generator.
@@ -342,6 +344,263 @@ SPOIL column 2 1 0 111 => flushed
 SPOIL column 2 1 1 82 => refused 2
 ";
 
+/// A table that runs round (A.4): what is read, kept and dropped. Key 1 goes for the row pushed out, key 4 for the one
+/// inserted.
+const RINGS: &str = "ADD TABLE recent (minute, level) RING 3 => table 0
+ADD INSERT INTO recent VALUES (?, ?) => update 0
+ADD DELETE FROM recent WHERE minute = ? => update 1
+ADD UPDATE recent SET level = ? WHERE minute = ? => update 2
+ADD SELECT level FROM recent WHERE minute = ? => query 0
+ADD SELECT minute, level FROM recent => query 1
+DO 0 1 10 => rows 1 dropped 0
+DO 0 2 20 => rows 1 dropped 0
+DO 0 3 30 => rows 1 dropped 0
+ASK 0 1 => new read 3 : 10
+ASK 0 2 => new read 3 : 20
+ASK 0 4 => new read 3 :
+DO 0 4 40 => rows 1 dropped 2
+ASK 0 2 => kept read 0 : 20
+ASK 0 1 => new read 3 :
+ASK 1 => new read 3 : 2 20 / 3 30 / 4 40
+DO 2 21 2 => rows 1 dropped 2
+ASK 1 => new read 3 : 2 21 / 3 30 / 4 40
+DO 1 9 => rows 0 dropped 1
+ASK 1 => new read 3 : 2 21 / 3 30 / 4 40
+DO 1 3 => rows 1 dropped 1
+ASK 1 => new read 2 : 2 21 / 4 40
+DO 0 5 50 => rows 1 dropped 1
+DO 0 6 60 => rows 1 dropped 0
+ASK 1 => new read 3 : 4 40 / 5 50 / 6 60
+DO 0 7 => refused 11
+DO 0 7 70 80 => refused 11
+DO 0 7 70 => rows 1 dropped 1
+DO 0 8 80 => rows 1 dropped 0
+DO 0 9 90 => rows 1 dropped 0
+DO 0 10 99 => rows 1 dropped 0
+ASK 1 => new read 3 : 8 80 / 9 90 / 10 99
+ASK 0 8 => new read 3 : 80
+DO 0 8 81 => rows 1 dropped 2
+ASK 0 8 => new read 3 : 81
+ASK 1 => new read 3 : 9 90 / 10 99 / 8 81
+DO 2 0 8 => rows 1 dropped 2
+ASK 1 => new read 3 : 9 90 / 10 99 / 8 0
+";
+
+/// A ring of one row: the row pushed out and the one inserted are judged alike.
+const RING_OF_ONE: &str = "ADD TABLE one (a) RING 1 => table 0
+ADD INSERT INTO one VALUES (?) => update 0
+ADD SELECT a FROM one WHERE a > 5 => query 0
+ADD SELECT a FROM one WHERE a = ? => query 1
+ADD DELETE FROM one WHERE a = -1 => update 1
+DO 0 7 => rows 1 dropped 0
+ASK 0 => new read 1 : 7
+DO 0 4 => rows 1 dropped 1
+ASK 0 => new read 1 :
+ASK 1 4 => new read 1 : 4
+ASK 1 3 => new read 1 :
+ASK 1 2 => new read 1 :
+DO 0 3 => rows 1 dropped 3
+ASK 1 3 => new read 1 : 3
+ASK 0 => new read 1 :
+DO 0 3 => rows 1 dropped 2
+ASK 1 3 => new read 1 : 3
+DO 1 => rows 0 dropped 0
+DO 0 8 => rows 1 dropped 1
+ASK 1 3 => new read 1 :
+ASK 1 8 => new read 1 : 8
+DO 1 => rows 0 dropped 0
+ASK 1 8 => kept read 0 : 8
+";
+
+/// Rings in questions over two tables, on either side. The other table's columns are free.
+const RING_PAIRS: &str = "ADD TABLE recent (site, level) RING 2 => table 0
+ADD TABLE rating (site, flow) ROWS 3 => table 1
+ADD TABLE late (site) RING 2 => table 2
+ADD INSERT INTO recent VALUES (?, ?) => update 0
+ADD INSERT INTO rating VALUES (?, ?) => update 1
+ADD INSERT INTO late VALUES (?) => update 2
+ADD SELECT recent.level, rating.flow FROM recent, rating WHERE recent.site = rating.site AND recent.site = ? => query 0
+ADD SELECT rating.flow, recent.level FROM rating, recent WHERE recent.site = rating.site AND rating.site = ? => query 1
+ADD SELECT late.site, recent.site FROM late, recent => query 2
+DO 1 1 100 => rows 1 dropped 0
+DO 1 2 200 => rows 1 dropped 0
+DO 1 3 300 => rows 1 dropped 0
+DO 1 4 400 => refused 12
+DO 0 1 10 => rows 1 dropped 0
+DO 0 2 20 => rows 1 dropped 0
+ASK 0 1 => new read 8 : 10 100
+ASK 1 1 => new read 9 : 100 10
+ASK 0 2 => new read 8 : 20 200
+ASK 1 2 => new read 9 : 200 20
+DO 0 3 30 => rows 1 dropped 2
+ASK 0 2 => kept read 0 : 20 200
+ASK 1 2 => kept read 0 : 200 20
+ASK 0 1 => new read 8 :
+ASK 1 1 => new read 9 :
+DO 2 5 => rows 1 dropped 0
+DO 2 6 => rows 1 dropped 0
+DO 2 7 => rows 1 dropped 0
+ASK 2 => new read 6 : 6 2 / 6 3 / 7 2 / 7 3
+DO 0 1 11 => rows 1 dropped 4
+ASK 2 => new read 6 : 6 3 / 6 1 / 7 3 / 7 1
+DO 2 8 => rows 1 dropped 1
+ASK 2 => new read 6 : 7 3 / 7 1 / 8 3 / 8 1
+ASK 1 3 => new read 9 : 300 30
+ASK 1 1 => new read 9 : 100 11
+ASK 0 1 => new read 8 : 11 100
+DO 0 9 90 => rows 1 dropped 2
+ASK 0 1 => kept read 0 : 11 100
+ASK 1 1 => kept read 0 : 100 11
+ASK 1 3 => new read 9 :
+";
+
+/// Rings: texts taken and refused.
+const RING_TEXTS: &str = "ADD TABLE t (a) RING 0 => refused 5
+ADD TABLE t (a) RING 513 => refused 5
+ADD TABLE t (a) RING -1 => refused 5
+ADD TABLE t (a) RING 99999999999 => refused 5
+ADD TABLE t (a) RING ? => refused 4
+ADD TABLE t (a) RING => refused 4
+ADD TABLE t (a) RING a => refused 4
+ADD TABLE t (a) ROWS 1 RING 1 => refused 4
+ADD TABLE t (a) RING 1 ROWS 1 => refused 4
+ADD TABLE t (a) ROWS RING 1 => refused 4
+ADD TABLE t (a) RING ROWS 1 => refused 4
+ADD TABLE t (a) RING RING 1 => refused 4
+ADD TABLE t (a) RING 1 1 => refused 4
+ADD TABLE t (a) RING (1) => refused 4
+ADD TABLE t (a) RING - 1 => refused 4
+ADD TABLE t (a) RING1 => refused 4
+ADD TABLE t (a) RING_ 1 => refused 4
+ADD TABLE t (a) ring 1 => refused 4
+ADD TABLE t (a) Ring 1 => refused 4
+ADD TABLE t (a) RINg 1 => refused 4
+ADD TABLE t (a) RING 0 x => refused 4
+ADD TABLE t () RING 1 => refused 4
+ADD TABLE t RING 1 => refused 4
+ADD TABLE RING (a) RING 1 => refused 4
+ADD TABLE t (RING) RING 1 => refused 4
+ADD TABLE t (a, a) RING 1 => refused 7
+ADD TABLE t (a, A) RING 0 => refused 5
+ADD TABLE thirteen_byte (a) RING 1 => refused 5
+ADD TABLE t (a,b,c,d,e,f,g,h,i) RING 1 => refused 5
+ADD TABLE ring (ring, a)RING-1 => refused 5
+ADD TABLE ring (ring, a)RING 0002 => table 0
+ADD TABLE Ring (a) RING 1 => refused 7
+ADD TABLE RING1 (RINGS) RING 512 => table 1
+ADD TABLE t (a, b, c, d, e, f, g) RING 512 => refused 9
+ADD TABLE t (a, b, c, d, e, f) RING 512 => table 2
+ADD TABLE u (a, b, c, d) RING 128 => refused 9
+ADD TABLE u (a, b, c, d) RING 126 => table 3
+ADD INSERT INTO Ring VALUES (?, ?) => update 0
+ADD INSERT INTO ring VALUES (?) => refused 8
+ADD INSERT INTO RING VALUES (?, ?) => refused 4
+ADD SELECT Ring FROM riNG WHERE ring = ? => query 0
+ADD SELECT RING FROM ring => refused 4
+ADD SELECT a FROM RING => refused 4
+ADD SELECT a FROM ring WHERE RING = 1 => refused 4
+ADD SELECT ring.RING FROM ring, t => refused 4
+ADD SELECT ring.ring FROM ring, t WHERE t.a = Ring.RIng => query 1
+ADD SELECT a FROM ring RING 3 => refused 4
+ADD UPDATE ring SET RING = 1 => refused 4
+ADD UPDATE ring SET ring = 1, RINg = 2 => refused 7
+ADD DELETE FROM RING => refused 4
+ADD DELETE FROM ring WHERE ring = a => update 1
+ADD TABLE a (a) RING 1 => table 4
+ADD TABLE b (a) RING 1 => table 5
+ADD TABLE c (a) RING 1 => table 6
+ADD TABLE d (a) RING 2 => refused 9
+ADD TABLE d (a) RING 1 => table 7
+ADD TABLE e (a) RING 1 => refused 9
+";
+
+/// Rings, as `texts` prints them.
+const RINGS_SHOWN: &str = "TABLE stage (site, level) ROWS 3 => table 0 columns 2 rows 3
+TABLE recent (minute, level) RING 3 => table 1 columns 2 ring 3
+TABLE one (a) RING 1 => table 2 columns 1 ring 1
+SELECT level FROM recent WHERE NOT minute = ? => query 0 on 1 selects 1 marks 1 if c0<>?1
+INSERT INTO recent VALUES (?, 5) => update 0 insert 1 values ?1 5 marks 1
+TABLE much (a, b) RING 44 => refused 9
+TABLE much (a, b) RING 43 => table 3 columns 2 ring 43
+";
+
+/// Rings: states that are sound or not. Table 0 is a full ring of 3, wrapped by one row, and then turned; table 1 is a
+/// full table that is no ring, table 2 a ring that is not full.
+const RING_STATES: &str = "OPEN 64 64 4 16 => opened
+ADD TABLE r (a, b) RING 3 => table 0
+ADD TABLE t (a) ROWS 2 => table 1
+ADD TABLE s (a) RING 4 => table 2
+ADD INSERT INTO r VALUES (?, ?) => update 0
+ADD INSERT INTO t VALUES (?) => update 1
+ADD INSERT INTO s VALUES (?) => update 2
+ADD DELETE FROM r WHERE a = ? => update 3
+ADD SELECT a FROM r => query 0
+SPOIL start 0 0 => flushed
+SPOIL start 0 1 => refused 2
+DO 0 1 10 => rows 1 dropped 0
+DO 0 2 20 => rows 1 dropped 0
+SPOIL start 0 1 => refused 2
+SPOIL start 0 2 => refused 2
+DO 0 3 30 => rows 1 dropped 0
+SPOIL start 0 0 => flushed
+SPOIL start 0 1 => flushed
+SPOIL start 0 2 => flushed
+SPOIL start 0 3 => refused 2
+SPOIL start 0 512 => refused 2
+SPOIL ring 0 0 => flushed
+SPOIL ring 0 1 => flushed
+SPOIL capacity 0 4 => flushed
+SPOIL rows 0 2 => flushed
+DO 0 4 40 => rows 1 dropped 0
+SPOIL start 0 0 => flushed
+SPOIL start 0 1 => flushed
+SPOIL start 0 2 => flushed
+SPOIL start 0 3 => refused 2
+SPOIL ring 0 0 => refused 2
+SPOIL ring 0 1 => flushed
+SPOIL capacity 0 3 => flushed
+SPOIL capacity 0 4 => refused 2
+SPOIL capacity 0 2 => refused 2
+SPOIL rows 0 3 => flushed
+SPOIL rows 0 2 => refused 2
+SPOIL rows 0 0 => refused 2
+SPOIL rows 0 4 => refused 2
+DO 1 5 => rows 1 dropped 0
+DO 1 6 => rows 1 dropped 0
+SPOIL start 1 0 => flushed
+SPOIL start 1 1 => refused 2
+SPOIL ring 1 1 => flushed
+DO 2 7 => rows 1 dropped 0
+SPOIL start 2 0 => flushed
+SPOIL start 2 1 => refused 2
+SPOIL start 2 4 => refused 2
+SPOIL ring 2 0 => flushed
+SPOIL start 3 1 => flushed
+SPOIL ring 3 1 => flushed
+DO 3 9 => rows 0 dropped 0
+SPOIL rows 0 2 => flushed
+SPOIL ring 0 0 => flushed
+SPOIL capacity 0 4 => flushed
+LEND 63 64 => 
+SPOIL start 0 0 => refused 2
+LEND 64 64 => 
+ASK 0 64 => new read 3 bytes 20 : 2 / 3 / 4
+SET start 0 2 => 
+ASK 0 64 => new read 3 bytes 20 : 4 / 2 / 3
+DO 0 8 80 => rows 1 dropped 0
+ASK 0 64 => new read 3 bytes 20 : 2 / 3 / 8
+SET ring 0 0 => 
+DO 0 9 90 => refused 12
+ASK 0 64 => new read 3 bytes 20 : 2 / 3 / 8
+SET ring 1 1 => 
+DO 1 7 => rows 1 dropped 0
+";
+
+/// The lines of `RINGS`, for the generator.
+pub fn ring_lines() -> impl Iterator<Item = &'static str> {
+    RINGS.lines().map(|line| line.split_once(" => ").expect("each line has two sides").0)
+}
+
 /// Left the line, right what it prints.
 fn prints(name: &str, table: &str, mut answer: impl FnMut(&[u8]) -> Option<String>) -> bool {
     let mut held = true;
@@ -359,6 +618,118 @@ fn prints(name: &str, table: &str, mut answer: impl FnMut(&[u8]) -> Option<Strin
 fn lines_hold(mode: Mode, table: &str) -> bool {
     let mut front = Front::new(mode);
     prints(&format!("{mode:?}"), table, |line| front.line(line))
+}
+
+/// After a line the first table's area and starting place are these.
+fn cells_hold(lines: &[(&str, &[i32], usize)]) -> bool {
+    let mut front = Front::new(Mode::Desk);
+    let mut held = true;
+    for (line, cells, start) in lines {
+        front.line(line.as_bytes());
+        let found = front.store.area_now(0);
+        if found != (*cells, *start) {
+            println!("cells after `{line}`: {found:?}, expected {:?}", (cells, start));
+            held = false;
+        }
+    }
+    held
+}
+
+fn ring_cells_hold() -> bool {
+    let three = cells_hold(&[
+        ("ADD TABLE recent (minute, level) RING 3", &[0, 0, 0, 0, 0, 0], 0),
+        ("ADD INSERT INTO recent VALUES (?, ?)", &[0, 0, 0, 0, 0, 0], 0),
+        ("ADD DELETE FROM recent WHERE minute = ?", &[0, 0, 0, 0, 0, 0], 0),
+        ("ADD UPDATE recent SET level = ? WHERE minute = ?", &[0, 0, 0, 0, 0, 0], 0),
+        ("ADD TABLE other (a) RING 2", &[0, 0, 0, 0, 0, 0], 0),
+        ("ADD DELETE FROM other", &[0, 0, 0, 0, 0, 0], 0),
+        ("DO 0 1 10", &[1, 10, 0, 0, 0, 0], 0),
+        ("DO 0 2 20", &[1, 10, 2, 20, 0, 0], 0),
+        ("DO 0 3 30", &[1, 10, 2, 20, 3, 30], 0),
+        ("DO 0 4 40", &[4, 40, 2, 20, 3, 30], 1),
+        ("DO 3", &[4, 40, 2, 20, 3, 30], 1),
+        ("DO 0 5", &[4, 40, 2, 20, 3, 30], 1),
+        ("DO 1", &[4, 40, 2, 20, 3, 30], 1),
+        ("DO 1 9", &[2, 20, 3, 30, 4, 40], 0),
+        ("DO 0 5 50", &[5, 50, 3, 30, 4, 40], 1),
+        ("DO 2 41 4", &[5, 50, 3, 30, 4, 41], 1),
+        ("DO 2 0 9", &[5, 50, 3, 30, 4, 41], 1),
+        ("DO 0 6 60", &[5, 50, 6, 60, 4, 41], 2),
+        ("DO 1 5", &[4, 41, 6, 60, 0, 0], 0),
+        ("DO 0 7 70", &[4, 41, 6, 60, 7, 70], 0),
+        ("DO 0 8 80", &[8, 80, 6, 60, 7, 70], 1),
+        ("DO 0 9 90", &[8, 80, 9, 90, 7, 70], 2),
+        ("DO 0 10 99", &[8, 80, 9, 90, 10, 99], 0),
+        ("DO 0 11 91", &[11, 91, 9, 90, 10, 99], 1),
+        ("FLUSH", &[11, 91, 9, 90, 10, 99], 1),
+        ("DO 1 9", &[10, 99, 11, 91, 0, 0], 0),
+    ]);
+    let one = cells_hold(&[
+        ("ADD TABLE one (a) RING 1", &[0], 0),
+        ("ADD INSERT INTO one VALUES (?)", &[0], 0),
+        ("ADD DELETE FROM one WHERE a = ?", &[0], 0),
+        ("DO 0 7", &[7], 0),
+        ("DO 0 4", &[4], 0),
+        ("DO 1 7", &[4], 0),
+        ("DO 1 4", &[0], 0),
+        ("DO 1 4", &[0], 0),
+        ("DO 0 -1", &[-1], 0),
+    ]);
+    three && one
+}
+
+/// The patterns of a row that goes from the first table.
+fn pushed_patterns_hold(question: &str, row: [i32; 2], expected: &[Vec<Place>]) -> bool {
+    let mut catalogue = Catalogue::default();
+    for text in ["TABLE stage (site, level) RING 3", "TABLE rating (site, flow) RING 3", question] {
+        let statement: Statement = catalogue.read(100, text.as_bytes()).expect("an example's text is taken");
+        catalogue.append(statement);
+    }
+    let found = patterns_of_pushed(&catalogue.questions[0], 0, &row);
+    if found != expected {
+        println!("patterns of `{question}` and the row {row:?}: {found:?}, expected {expected:?}");
+    }
+    found == expected
+}
+
+/// Rule 7 keeps each pattern once; eighteen clauses are the most that eight comparisons give.
+fn ring_patterns_hold() -> bool {
+    use Place::{Any, Constant};
+    let flow = "SELECT rating.flow FROM stage, rating WHERE stage.site = ? AND stage.site = rating.site";
+    let second = "SELECT rating.flow FROM rating, stage WHERE rating.site = ? AND stage.site = rating.site";
+    let less = "SELECT stage.level FROM rating, stage WHERE stage.level < rating.flow AND rating.flow = 4 AND rating.site = ?";
+    let eighteen = "SELECT level FROM stage WHERE (site = ? OR site = ? OR site = 1) AND (level = ? OR level = 1 OR level = 2) \
+                    AND (site = 1 OR level = 1)";
+    [
+        pushed_patterns_hold(Q, [3, 30], &[vec![Constant(3)]]),
+        pushed_patterns_hold("SELECT level FROM stage WHERE site = 4", [3, 30], &[]),
+        pushed_patterns_hold("SELECT level FROM stage WHERE site = 3", [3, 30], &[vec![]]),
+        pushed_patterns_hold("SELECT level FROM stage", [3, 30], &[vec![]]),
+        pushed_patterns_hold("SELECT level FROM stage WHERE site < ?", [3, 30], &[vec![Any]]),
+        pushed_patterns_hold("SELECT level FROM stage WHERE site = level", [3, 30], &[]),
+        pushed_patterns_hold("SELECT level FROM stage WHERE site = level", [3, 3], &[vec![]]),
+        pushed_patterns_hold("SELECT level FROM stage WHERE site = ? AND ? = level", [3, 30], &[vec![Constant(3), Constant(30)]]),
+        pushed_patterns_hold("SELECT level FROM stage WHERE site = ? OR level = ?", [3, 30], &[
+            vec![Constant(3), Any],
+            vec![Any, Constant(30)],
+        ]),
+        pushed_patterns_hold("SELECT level FROM stage WHERE NOT (site <> ? AND level >= 30)", [3, 30], &[vec![Constant(3)]]),
+        pushed_patterns_hold("SELECT site FROM rating WHERE site = ?", [3, 30], &[]),
+        pushed_patterns_hold(flow, [3, 30], &[vec![Constant(3)]]),
+        pushed_patterns_hold(second, [3, 30], &[vec![Constant(3)]]),
+        pushed_patterns_hold(less, [3, 30], &[]),
+        pushed_patterns_hold(less, [3, 3], &[vec![Any]]),
+        pushed_patterns_hold(eighteen, [1, 2], &[
+            vec![Constant(1), Any, Constant(2)],
+            vec![Constant(1), Any, Any],
+            vec![Any, Constant(1), Constant(2)],
+            vec![Any, Constant(1), Any],
+            vec![Any, Any, Constant(2)],
+            vec![Any, Any, Any],
+        ]),
+    ]
+    .iter()
+    .all(|&held| held)
 }
 
 fn texts_hold(table: &str) -> bool {
@@ -522,5 +893,17 @@ pub fn check() -> bool {
     let names = [lines_hold(Mode::Desk, KEYPAD), lines_hold(Mode::Calls, KEYPAD_STATES)];
     let names_held = names.iter().filter(|&&held| held).count();
     println!("examples of names in capitals: {names_held} of {} lists hold of the reference", names.len());
-    held == results.len() && pairs_held == pairs.len() && names_held == names.len()
+    let rings = [
+        lines_hold(Mode::Desk, RINGS),
+        lines_hold(Mode::Desk, RING_OF_ONE),
+        lines_hold(Mode::Desk, RING_PAIRS),
+        lines_hold(Mode::Desk, RING_TEXTS),
+        lines_hold(Mode::Calls, RING_STATES),
+        texts_hold(RINGS_SHOWN),
+        ring_cells_hold(),
+        ring_patterns_hold(),
+    ];
+    let rings_held = rings.iter().filter(|&&held| held).count();
+    println!("examples of tables that run round: {rings_held} of {} lists hold of the reference", rings.len());
+    held == results.len() && pairs_held == pairs.len() && names_held == names.len() && rings_held == rings.len()
 }

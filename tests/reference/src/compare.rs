@@ -187,6 +187,9 @@ impl Tally {
         for (what, n) in &made.names {
             self.add(&format!("text: {what}"), *n);
         }
+        for (what, n) in &made.rings {
+            self.add(&format!("ring: {what}"), *n);
+        }
     }
 
     pub fn print(&self) {

@@ -218,8 +218,9 @@ impl Front {
             }
             b"FLUSH" if words.len() == 1 => Some(Some(self.flush())),
             b"SPOIL" | b"SET" if words.len() >= 3 => {
-                self.unfixed = true;
                 let part = std::str::from_utf8(words[1]).ok()?;
+                // Of these lines the language fixes only those that spoil what a ring adds to a table.
+                self.unfixed |= words[0] == b"SET" || !["start", "ring"].contains(&part);
                 let numbers = values(&words[2..])?;
                 if words[0] == b"SET" {
                     return self.store.set(part, &numbers).map(|()| None);

@@ -1,7 +1,7 @@
 //! Random scripts. A seed gives a profile and then the lines; the reference runs along, so that most lines can be
 //! biased to be taken (existing tables, columns, marks, keys kept, buffers that just fit).
 
-use crate::check::keypad_lines;
+use crate::check::{keypad_lines, ring_lines};
 use crate::front::{Front, Mode, BUFFER, CALLS_BYTES};
 use crate::text::{is_name, same_name, Change, KEYWORDS};
 use std::collections::BTreeMap;
@@ -125,6 +125,8 @@ pub struct Generated {
     pub pairs: BTreeMap<String, usize>,
     /// What came of texts with capitals in names.
     pub names: BTreeMap<String, usize>,
+    /// What came of tables that run round.
+    pub rings: BTreeMap<String, usize>,
 }
 
 struct Generator {
@@ -135,16 +137,18 @@ struct Generator {
     square: bool,
     /// Begins with the examples of names in capitals.
     keypad: bool,
+    /// Begins with the examples of a table that runs round.
+    rings: bool,
     front: Front,
     made: Generated,
 }
 
-const TABLE_NAMES: [&str; 9] = ["t", "u", "stage", "log1", "ab_c", "xz", "twelve_bytes", "select", "v9"];
-const COLUMN_NAMES: [&str; 11] =
-    ["a", "b", "c", "d", "site", "level", "e", "f_", "z", "rows", "twelve_bytes"];
+const TABLE_NAMES: [&str; 10] = ["t", "u", "stage", "log1", "ab_c", "xz", "twelve_bytes", "select", "v9", "ring"];
+const COLUMN_NAMES: [&str; 12] =
+    ["a", "b", "c", "d", "site", "level", "e", "f_", "z", "rows", "twelve_bytes", "ring"];
 /// Words that later requests make keywords. In capitals they are names until they are in `KEYWORDS`, in other letters
 /// always.
-const LATER: [&str; 10] = ["ring", "null", "is", "count", "sum", "min", "max", "nearest", "on", "limit"];
+const LATER: [&str; 9] = ["null", "is", "count", "sum", "min", "max", "nearest", "on", "limit"];
 const RELATIONS: [&str; 6] = ["=", "<>", "<", "<=", ">", ">="];
 const EDGES: [&str; 12] = [
     "-2147483648", "2147483647", "-2147483647", "2147483646", "0", "-1", "1", "-0", "-00000000000002147483648",
@@ -569,6 +573,7 @@ impl Generator {
         let (c, d) = (self.column(&columns), self.column(&columns));
         let odd = self.random.pick(&[
             "_A", "1A", "A_", "A1", "A_1", "ROWS3", "ROWS_", "3ROWS", "NOT_", "AND3", "-A", "1_A", "A-1", "ROWSROWS", "É", "aÉ",
+            "RING3", "RING_", "RINGS", "3RING", "aRING",
             "ABCDEFGHIJKL", "ABCDEFGHIJKLM", "ABCDEFGHIJK_", "ABCDEFGHIJK_1", "Z0123456789Z", "Z0123456789ZZ", "A.B", "K\u{212a}",
             "A@", "@A", "A[", "[A", "A`", "`A", "A{", "{A",
         ]);
@@ -586,7 +591,7 @@ impl Generator {
             12 => format!("TABLE {odd} ( a ) ROWS 1"),
             13 => format!("TABLE new ( {odd} ) ROWS 1"),
             14 => format!("SELECT {c} FROM {table} WHERE {odd} = 1"),
-            15 => format!("TABLE new ( a ) {} 3", self.random.pick(&["Rows", "rows", "ROWs", "ROWS3", "ROWS_", "rOWS"])),
+            15 => format!("TABLE new ( a ) {} 3", self.random.pick(&["Rows", "rows", "ROWs", "ROWS3", "ROWS_", "rOWS", "Ring", "ring", "RINg", "RING3", "RING_"])),
             // Taken, repeated, or named twice.
             16 => format!("TABLE {} ( a ) ROWS 1", self.random.pick(&[&upper, &lower])),
             17 => format!("TABLE new ( {} , {c} , b1 ) ROWS 1", c.to_ascii_uppercase()),
@@ -697,7 +702,18 @@ impl Generator {
             }
         }
         let left = self.front.lent.0.saturating_sub(self.front.store.catalogue.cells_used());
+        // Small rings fill soon and run round often.
+        let is_ring = self.random.chance(if self.profile == Profile::Full { 50 } else { 34 });
+        let small = self.random.pick(&[1, 2, 2, 3, 3, 3, 4, 5, 8]);
         let rows = match self.profile {
+            Profile::Openings if is_ring && self.random.chance(70) => small,
+            Profile::Large if is_ring => self.random.pick(&[512, 128, 127, 20, 5, 3]),
+            Profile::Full | Profile::Openings | Profile::Large => 0,
+            _ if is_ring && self.random.chance(94) => small.min((left / count).clamp(1, 512)),
+            _ => 0,
+        };
+        let rows = match self.profile {
+            _ if rows > 0 => rows,
             Profile::Full if self.random.chance(40) => (left / count + self.random.below(2)).min(9),
             Profile::Full => self.random.between(1, 4),
             Profile::Openings if self.mode == Mode::Desk && left / count > 512 => self.random.pick(&[512, 500, 333]),
@@ -708,7 +724,8 @@ impl Generator {
         let mut all = words("TABLE");
         all.extend([name, String::from("(")]);
         all.extend(Self::listed(columns.into_iter().map(|column| vec![column]).collect()));
-        all.extend([String::from(")"), String::from("ROWS"), rows.to_string()]);
+        all.extend([")", if is_ring { "RING" } else { "ROWS" }].map(String::from));
+        all.push(rows.to_string());
         all
     }
 
@@ -892,6 +909,221 @@ impl Generator {
         self.try_pair(question, update);
     }
 
+    // ------------------------------------------------------------ rings
+
+    /// Statements about a ring; its questions select few rows, and its DELETE often none.
+    fn ring_statements(&mut self, table: &Named) {
+        let (c, d) = (self.random.pick(&table.1), self.random.pick(&table.1));
+        let name = &table.0;
+        if self.random.chance(70) {
+            let f = self.random.pick(&["c = ?", "c = ?", "c = ?", "? = c AND d <> 0", "c < ?", "c = ? OR d = ?", "NOT c <> ?"]);
+            let named = |word: &str| match word {
+                "c" => c.clone(),
+                "d" => d.clone(),
+                _ => word.to_string(),
+            };
+            let f = f.split(' ').map(named).collect::<Vec<_>>().join(" ");
+            let question = self.question_of(name, &d, &f);
+            self.add(&question);
+        }
+        if self.random.chance(60) {
+            self.add(&words(&format!("SELECT {} FROM {name}", table.1.join(" , "))));
+        }
+        if self.random.chance(70) {
+            let relation = self.random.pick(&["=", "=", "=", ">"]);
+            self.add(&words(&format!("DELETE FROM {name} WHERE {c} {relation} ?")));
+        }
+        if self.random.chance(50) {
+            self.add(&words(&format!("UPDATE {name} SET {d} = ? WHERE {c} = ?")));
+        }
+    }
+
+    /// An update that there is of a table, of the kind that is asked for: its number and marks.
+    fn update_of(&mut self, table: usize, is_such: fn(&Change) -> bool) -> Option<(usize, usize)> {
+        let updates = self.front.store.catalogue.updates.iter().enumerate();
+        let found: Vec<(usize, usize)> =
+            updates.filter(|(_, u)| u.table == table && is_such(&u.change)).map(|(n, u)| (n, u.marks)).collect();
+        (!found.is_empty()).then(|| self.random.pick(&found))
+    }
+
+    /// A value of the ring's oldest row, of another row, or any.
+    fn ring_value(&mut self, table: usize) -> i32 {
+        let rows = self.front.store.rows_now(table).to_vec();
+        let roll = self.random.below(100);
+        match rows.first() {
+            Some(oldest) if roll < 50 => self.random.pick(oldest),
+            Some(_) if roll < 70 => {
+                let row = self.random.pick(&rows);
+                self.random.pick(&row)
+            }
+            _ => self.value(),
+        }
+    }
+
+    /// An ask of a question over the ring, with values of its rows.
+    fn ring_ask(&mut self, table: usize) -> Option<String> {
+        let questions = self.front.store.catalogue.questions.iter().enumerate();
+        let found: Vec<(usize, usize)> =
+            questions.filter(|(_, q)| q.tables.contains(&table)).map(|(n, q)| (n, q.marks)).collect();
+        if found.is_empty() {
+            return None;
+        }
+        let (n, marks) = self.random.pick(&found);
+        let mut values: Vec<i32> = Vec::new();
+        for _ in 0..4 {
+            values = (0..marks).map(|_| self.ring_value(table)).collect();
+            // Most such answers hold a row.
+            if self.front.store.length_now(n, &values).is_some_and(|length| length > 8) {
+                break;
+            }
+        }
+        let buffer = match self.mode {
+            Mode::Calls => format!(" {}", self.enough(n, &values)),
+            Mode::Desk => String::new(),
+        };
+        Some(format!("ASK {n}{buffer}{}", self.written(&values)))
+    }
+
+    /// An update of a ring. A DELETE takes mostly no row.
+    fn ring_update(&mut self, table: usize, is_such: fn(&Change) -> bool) {
+        let Some((n, marks)) = self.update_of(table, is_such) else {
+            return;
+        };
+        let deletes = matches!(self.front.store.catalogue.updates[n].change, Change::Delete);
+        let values: Vec<i32> = match self.random.below(10) {
+            0..=6 if deletes => vec![77; marks],
+            0 | 1 => (0..marks).map(|_| self.ring_value(table)).collect(),
+            // Mostly other values than those of the row that goes.
+            2..=5 => (0..marks).map(|_| self.value().saturating_add(4)).collect(),
+            _ => (0..marks).map(|_| self.value()).collect(),
+        };
+        let text = self.written(&values);
+        self.emit_text(&format!("DO {n}{text}"));
+    }
+
+    /// Questions over a ring that is full, updates of it, and the questions again.
+    fn ring_calls(&mut self) {
+        let is_insert = |change: &Change| matches!(change, Change::Insert(_));
+        let catalogue = &self.front.store.catalogue;
+        let mut rings: Vec<usize> = (0..catalogue.tables.len()).filter(|&t| catalogue.tables[t].ring).collect();
+        rings.retain(|&t| catalogue.updates.iter().any(|u| u.table == t && is_insert(&u.change)));
+        if rings.is_empty() {
+            return self.ask();
+        }
+        let table = self.random.pick(&rings);
+        let size = self.front.store.catalogue.tables[table].rows;
+        for _ in self.front.store.height(table)..size.min(self.front.store.height(table) + 8) {
+            self.ring_update(table, is_insert);
+        }
+        let mut asked = Vec::new();
+        for _ in 0..self.random.between(1, 3) {
+            if let Some(line) = self.ring_ask(table) {
+                self.emit_text(&line);
+                asked.push(line);
+            }
+        }
+        for _ in 0..self.random.between(1, 4) {
+            match self.random.below(10) {
+                0..=4 => self.ring_update(table, is_insert),
+                5 | 6 => self.ring_update(table, |change| matches!(change, Change::Delete)),
+                7 => self.ring_update(table, |change| matches!(change, Change::Set(_))),
+                _ => {
+                    if let Some(line) = self.ring_ask(table) {
+                        self.emit_text(&line);
+                    }
+                }
+            }
+        }
+        for line in asked {
+            self.emit_text(&line);
+        }
+        if self.mode == Mode::Calls && self.random.chance(50) {
+            // A table that is no ring is sound only if the oldest row lies first: this shows whether it does.
+            let spoil = match self.random.below(4) {
+                0 => format!("start {table} {}", self.random.pick(&[0, 1, size - 1, size, size + 1])),
+                1 => format!("ring {table} 1"),
+                _ => format!("ring {table} 0"),
+            };
+            self.emit_text(&format!("SPOIL {spoil}"));
+        }
+    }
+
+    /// What the line did about tables that run round.
+    fn ring_outcomes(&self, line: &[u8], printed: &str) -> Vec<String> {
+        let store = &self.front.store;
+        let catalogue = &store.catalogue;
+        let text = String::from_utf8_lossy(line);
+        let n: Option<usize> = text.split(' ').nth(1).and_then(|word| word.parse().ok());
+        let mut all = Vec::new();
+        if text.starts_with("SPOIL ") {
+            all.push(format!("state spoiled, {printed}"));
+        }
+        let mut typed = text.split(|c: char| !c.is_ascii_alphanumeric() && c != '_');
+        if text.starts_with("ADD ") && typed.any(|word| word == "RING") {
+            match printed.strip_prefix("table ") {
+                Some(_) if catalogue.tables.last().is_some_and(|table| table.ring) => all.push(String::from("added")),
+                None if printed.starts_with("refused") => all.push(format!("text with RING, {printed}")),
+                _ => {}
+            }
+        }
+        if let Some(question) = n.and_then(|n| catalogue.questions.get(n)).filter(|_| text.starts_with("ASK ")) {
+            let wrapped = question.tables.iter().filter(|&&table| store.is_wrapped(table)).count();
+            if wrapped > 0 && printed.starts_with("new") {
+                let over = if question.tables.len() == 2 { " over two tables" } else { "" };
+                let which = if wrapped == 2 { "both" } else { "rows" };
+                all.push(format!("asked{over}, new, {which} run round"));
+            }
+        }
+        let Some(update) = n.and_then(|n| catalogue.updates.get(n)).filter(|_| text.starts_with("DO ")) else {
+            return all;
+        };
+        let table = &catalogue.tables[update.table];
+        if !table.ring {
+            return all;
+        }
+        let is_full = store.height(update.table) == table.rows;
+        if printed == "refused 11" && is_full && matches!(update.change, Change::Insert(_)) {
+            all.push(String::from("INSERT with a wrong number of values, ring full"));
+        }
+        let Some((rows, _)) = printed.strip_prefix("rows ").and_then(|rest| rest.split_once(" dropped ")) else {
+            return all;
+        };
+        let report = &store.last_ring;
+        match update.change {
+            Change::Insert(_) if report.pushed => {
+                all.push(String::from("row pushed out"));
+                if table.rows == 1 {
+                    all.push(String::from("row pushed out of a ring of one"));
+                } else if !store.is_wrapped(update.table) {
+                    all.push(String::from("row pushed out of the last place"));
+                }
+            }
+            Change::Insert(_) => all.push(String::from("INSERT, not full")),
+            Change::Set(_) if report.start != 0 && rows != "0" => all.push(String::from("UPDATE of rows that run round")),
+            Change::Delete if report.start != 0 => {
+                let rows = if rows == "0" { "no row" } else { "rows" };
+                all.push(format!("turned by DELETE of {rows}"));
+            }
+            _ => {}
+        }
+        for (what, questions) in [("alone", &report.alone), ("and the INSERT", &report.both)] {
+            for &question in questions {
+                let over = match catalogue.questions[question].tables[..] {
+                    [_] => "",
+                    [first, _] if first == update.table => " over two tables, the ring first",
+                    _ => " over two tables, the ring second",
+                };
+                all.push(format!("answer{over} dropped for the row pushed out {what}"));
+            }
+        }
+        if report.pushed {
+            let stayed = store.kept_keys();
+            let over_ring = stayed.iter().filter(|(q, _)| catalogue.questions[*q].tables.contains(&update.table));
+            all.extend(over_ring.map(|_| String::from("answer over the ring left when a row was pushed out")));
+        }
+        all
+    }
+
     fn set_value(&mut self, marks: &mut usize, percent: usize) -> Vec<String> {
         if *marks > 0 && self.random.chance(percent) {
             *marks -= 1;
@@ -1053,10 +1285,56 @@ impl Generator {
         dotted_words(&miss)
     }
 
+    /// As `designed_miss`, about RING; some are taken.
+    fn ring_miss(&mut self) -> Vec<String> {
+        let (table, columns) = self.some_table();
+        let c = self.column(&columns);
+        let eight = "a1 , a2 , a3 , a4 , a5 , a6 , a7 , a8";
+        let miss = match self.random.below(30) {
+            0..=3 => {
+                let size = self.random.pick(&[
+                    "0", "513", "-1", "512", "1", "0003", "-0", "99999999999", "-513", "2147483648", "?", "x", "RING", "( 3 )", "= 3",
+                    "- 3", "3 3", "3 ROWS 3", "3 RING 3", "3 , 4", "3 x", "0 x", "3 WHERE a = 1", "3a", "",
+                ]);
+                format!("TABLE new ( a ) RING {size}")
+            }
+            4 => format!("TABLE new ( a ) ROWS {} RING {}", self.random.between(0, 2), self.random.between(0, 2)),
+            5 => format!("TABLE new ( a ) {} 3", self.random.pick(&["ROWS RING", "RING ROWS", "RING RING", ", RING", "( RING"])),
+            6 => format!("TABLE new ( a ) {} 3", self.random.pick(&["ring", "Ring", "RINg", "rING", "RINGS", "RING_", "_RING", "RIN", "RING3"])),
+            7 => String::from("TABLE new ( a ) RING3"),
+            8 => String::from("TABLE RING ( a ) RING 3"),
+            9 => String::from("TABLE new ( RING ) RING 3"),
+            10 => String::from("TABLE ring ( ring ) RING 2"),
+            11 => String::from("TABLE Ring ( Ring , rows ) ROWS 2"),
+            12 => String::from("TABLE new RING 3 ( a )"),
+            13 => String::from("TABLE new RING 3"),
+            14 => String::from("TABLE new ( ) RING 3"),
+            15 => format!("TABLE {table} ( a ) RING {}", self.random.pick(&["3", "0"])),
+            16 => format!("TABLE new ( a , b , a ) RING {}", self.random.pick(&["3", "513"])),
+            17 => format!("TABLE new ( {eight} ) RING {}", self.random.pick(&["512", "513", "256", "1"])),
+            18 => format!("TABLE new ( {eight} , a9 ) RING 1"),
+            19 => String::from("TABLE thirteen_byte ( a ) RING 1"),
+            20 => format!("SELECT RING FROM {table}"),
+            21 => format!("SELECT {c} FROM {table} WHERE RING = 1"),
+            22 => format!("SELECT {c} FROM {table} RING 3"),
+            23 => String::from("SELECT a FROM RING"),
+            24 => String::from("SELECT ring FROM Ring WHERE riNG = ?"),
+            25 => format!("UPDATE {table} SET RING = 1"),
+            26 => format!("UPDATE {table} SET {c} = RING"),
+            27 => self.random.pick(&["DELETE FROM RING", "DELETE FROM ring", "INSERT INTO RING VALUES ( 1 )", "RING 3", "RING"]).to_string(),
+            28 => format!("INSERT INTO {table} VALUES ( RING )"),
+            _ => format!("RING new ( a ) ROWS 3"),
+        };
+        words(&miss).into_iter().filter(|word| !word.is_empty()).collect()
+    }
+
     /// Sentences past a limit, with unknown or taken names, or none by form.
     fn designed_miss(&mut self) -> Vec<String> {
         if self.random.chance(45) {
             return self.pair_miss();
+        }
+        if self.random.chance(28) {
+            return self.ring_miss();
         }
         let (table, columns) = self.some_table();
         let c = self.column(&columns);
@@ -1130,7 +1408,7 @@ impl Generator {
             2 if at + 1 < tokens.len() => tokens.swap(at, at + 1),
             3 => tokens[at] = tokens[at].to_lowercase(),
             4 => tokens[at] = tokens[at].to_uppercase(),
-            5 => tokens[at] = self.random.pick(&["(", ")", ",", "?", "=", "<", "AND", "OR", "NOT", "WHERE", "nil", "0", "-1", "SET", "FROM", "."]).to_string(),
+            5 => tokens[at] = self.random.pick(&["(", ")", ",", "?", "=", "<", "AND", "OR", "NOT", "WHERE", "nil", "0", "-1", "SET", "FROM", ".", "RING", "ROWS"]).to_string(),
             6 => tokens.insert(at, self.random.pick(&["(", ")", ",", "?", "NOT", "-", "a", "1", "."]).to_string()),
             7 => {
                 let odd = self.random.pick(&["_", "1", "x", "X", "-", ";", "\t", "\r", "é", "'", "*", ".", "\u{0}", "\u{7f}", "<", "=", ">"]);
@@ -1239,6 +1517,9 @@ impl Generator {
         }
         for what in self.name_outcomes(line, printed) {
             *self.made.names.entry(what).or_default() += 1;
+        }
+        for what in self.ring_outcomes(line, printed) {
+            *self.made.rings.entry(what).or_default() += 1;
         }
     }
 
@@ -1739,6 +2020,9 @@ impl Generator {
         if self.random.chance(6) {
             return self.touch_pair();
         }
+        if self.random.chance(if matches!(self.profile, Profile::Full | Profile::Repeats) { 8 } else { 4 }) {
+            return self.ring_calls();
+        }
         let odd = if matches!(self.profile, Profile::Misses | Profile::Edges | Profile::Mixed) { 10 } else { 4 };
         if self.mode == Mode::Desk && self.random.chance(odd) {
             return if self.random.chance(50) { self.odd_desk_line() } else { self.changed_desk_line() };
@@ -1767,6 +2051,9 @@ impl Generator {
             if self.random.chance(90) {
                 let text = self.insert_into(&table.name, table.columns.len());
                 self.add(&text);
+            }
+            if table.ring && self.random.chance(if self.profile == Profile::Full { 85 } else { 60 }) {
+                self.ring_statements(&(table.name, table.columns));
             }
         }
         for _ in 0..self.random.between(0, 2) {
@@ -1801,13 +2088,21 @@ impl Generator {
             }
         };
         let sizes = self.random.pick(&sizes);
+        // A ring of that many rows is full, and the next row pushes one out.
+        let [first_size, second_size] = [(sizes.0, 1), (sizes.1, 2)].map(|(rows, more): (usize, usize)| {
+            if self.random.chance(40) {
+                format!("RING {rows}")
+            } else {
+                format!("ROWS {}", (rows + more).min(512))
+            }
+        });
         let wide = if self.random.chance(30) { ", w" } else { "" };
         let more = if wide.is_empty() { "" } else { ", 7" };
         let first = self.front.store.catalogue.updates.len();
         let question = self.front.store.catalogue.questions.len();
         for text in [
-            format!("TABLE p (a{wide}) ROWS {}", (sizes.0 + 1).min(512)),
-            format!("TABLE q (b) ROWS {}", (sizes.1 + 2).min(512)),
+            format!("TABLE p (a{wide}) {}", first_size),
+            format!("TABLE q (b) {}", second_size),
             format!("INSERT INTO p VALUES (?{more})"),
             "INSERT INTO q VALUES (?)".to_string(),
             "DELETE FROM p WHERE a = ?".to_string(),
@@ -1902,12 +2197,12 @@ impl Generator {
         }
     }
 
-    /// The examples of names in capitals, in a store such as `desk` opens.
-    fn keypad(&mut self) {
+    /// Examples, in a store such as `desk` opens.
+    fn examples(&mut self, lines: impl Iterator<Item = &'static str>) {
         if self.mode == Mode::Calls {
             self.emit_text("OPEN 4096 256 4 64");
         }
-        for line in keypad_lines() {
+        for line in lines {
             match line.strip_prefix("ASK ") {
                 Some(asked) if self.mode == Mode::Calls => {
                     let (n, values) = asked.split_once(' ').map_or((asked, String::new()), |(n, v)| (n, format!(" {v}")));
@@ -1920,7 +2215,10 @@ impl Generator {
 
     fn script(mut self, mut length: usize) -> Generated {
         if self.keypad {
-            self.keypad();
+            self.examples(keypad_lines());
+        }
+        if self.rings {
+            self.examples(ring_lines());
         }
         if self.square {
             self.square();
@@ -2001,9 +2299,18 @@ pub fn script(mode: Mode, seed: u64, length: usize) -> Generated {
         drops: [0; 3],
         pairs: BTreeMap::new(),
         names: BTreeMap::new(),
+        rings: BTreeMap::new(),
     };
     let special = seed / 10 % 8 == 0;
-    let (square, keypad) = (special && profile == Profile::Large, special && profile == Profile::Misses);
-    let generator = Generator { random: Random::new(seed), mode, profile, square, keypad, front: Front::new(mode), made };
+    let generator = Generator {
+        random: Random::new(seed),
+        mode,
+        profile,
+        square: special && profile == Profile::Large,
+        keypad: special && profile == Profile::Misses,
+        rings: special && profile == Profile::Full,
+        front: Front::new(mode),
+        made,
+    };
     generator.script(length)
 }

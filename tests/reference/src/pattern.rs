@@ -1,5 +1,5 @@
 //! Patterns, rules 1 to 7 of document 01, straight from its text. A question over two tables is judged by the same
-//! rules: the columns of the table that is not updated stay columns.
+//! rules: the columns of the table that is not updated stay columns. So is a row that is pushed out of a ring.
 
 use crate::meaning::compare;
 use crate::text::{Change, Column, Condition, Operand, Question, Relation, Update};
@@ -187,7 +187,7 @@ fn pattern_of(clause: &Clause, marks: usize) -> Option<Pattern> {
     Some((1..=marks).map(place).collect())
 }
 
-/// The patterns of a question and an update.
+/// The patterns of a question and an update, without those of a row pushed out.
 pub fn patterns(question: &Question, update: &Update) -> Vec<Pattern> {
     // Rule 1.
     if !question.tables.contains(&update.table) {
@@ -233,10 +233,30 @@ pub fn patterns(question: &Question, update: &Update) -> Vec<Pattern> {
         }
     };
     assert_eq!(list.len(), worked_out);
-    // Rules 6 and 7.
+    patterns_of(&list, question.marks)
+}
+
+/// The patterns of a question and a row that an INSERT pushes out of a ring (A.4): F with the ring's columns replaced by
+/// the row's values. Rule 5 bounds this list alone.
+pub fn patterns_of_pushed(question: &Question, table: usize, row: &[i32]) -> Vec<Pattern> {
+    if !question.tables.contains(&table) {
+        return vec![];
+    }
+    if count(&question.condition) > 64 {
+        return vec![vec![Place::Any; question.marks]];
+    }
+    let list = clauses(&question.condition, &|operand| match operand {
+        Operand::Column(c) if c.table == table => Term::Constant(row[c.place]),
+        other => question_term(other),
+    });
+    patterns_of(&list, question.marks)
+}
+
+/// Rules 6 and 7.
+fn patterns_of(list: &[Clause], marks: usize) -> Vec<Pattern> {
     let mut found: Vec<Pattern> = Vec::new();
-    for clause in &list {
-        if let Some(pattern) = pattern_of(clause, question.marks) {
+    for clause in list {
+        if let Some(pattern) = pattern_of(clause, marks) {
             if !found.contains(&pattern) {
                 found.push(pattern);
             }

@@ -53,7 +53,10 @@ fn if_part(condition: &Option<Condition<Operand>>, place: Shown) -> String {
 /// The columns of a question over two tables are counted through both.
 fn statement(catalogue: &Catalogue, statement: &Statement) -> String {
     match statement {
-        Statement::Table(table) => format!(" columns {} rows {}", table.columns.len(), table.rows),
+        Statement::Table(table) => {
+            let rows = if table.ring { "ring" } else { "rows" };
+            format!(" columns {} {rows} {}", table.columns.len(), table.rows)
+        }
         Statement::Question(question) => {
             let place = |column| catalogue.counted(question, column);
             let tables: String = question.tables.iter().map(|t| format!(" {t}")).collect();

@@ -1,5 +1,5 @@
-//! Which states are sound, by document 01's sentence and requests A.1 and A.2 of document 02, for the lines SPOIL of the
-//! program `examples`. A line changes one part of a copy of the state. Parts are these papers': what the program alone
+//! Which states are sound, by document 01's sentence and requests A.1, A.2 and A.4 of document 02, for the lines SPOIL of
+//! the program `examples`. A line changes one part of a copy of the state. Parts are these papers': what the program alone
 //! knows (its numbers for comparisons, connectives and forms of updates) is not here. A state's names are in small letters.
 
 use crate::store::Kept;
@@ -10,9 +10,12 @@ use crate::text::{COMPARISONS, LIST, MARKS, NAME, QUESTIONS, ROWS, TABLES, UPDAT
 pub struct TablePart {
     pub name: Vec<u8>,
     pub columns: Vec<Vec<u8>>,
-    /// ROWS, and the rows held.
+    /// ROWS or RING, and the rows held.
     pub capacity: usize,
     pub rows: usize,
+    pub ring: bool,
+    /// The starting place: where the oldest row lies.
+    pub start: usize,
 }
 
 /// Columns are places counted through the question's tables, the first table's before the second's.
@@ -115,6 +118,8 @@ impl State {
                 && !has_repeat(&t.columns)
                 && (1..=ROWS as usize).contains(&t.capacity)
                 && t.rows <= t.capacity
+                && t.start < t.capacity
+                && (t.start == 0 || t.ring && t.rows == t.capacity)
         };
         tables.len() <= TABLES
             && tables.iter().all(table_passes)
@@ -221,6 +226,8 @@ impl State {
             ("order", &[at]) => put(Some(&mut self.order), at, size),
             ("capacity", &[t]) => with(&mut self.tables, t, |table| table.capacity = size),
             ("rows", &[t]) => with(&mut self.tables, t, |table| table.rows = size),
+            ("start", &[t]) => with(&mut self.tables, t, |table| table.start = size),
+            ("ring", &[t]) if size <= 1 => with(&mut self.tables, t, |table| table.ring = size == 1),
             ("columns", &[t]) => with(&mut self.tables, t, |table| table.columns.resize(size, vec![])),
             ("namelen", &[t]) => with(&mut self.tables, t, |table| table.name.resize(size, 0)),
             ("name", &[t, at]) => with(&mut self.tables, t, |table| put(Some(&mut table.name), at, byte)),

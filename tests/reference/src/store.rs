@@ -3,7 +3,7 @@
 //! anew only on one of four grounds. The calls whose names end in `_here` are the store alone, for `bench.rs`.
 
 use crate::meaning::{cell, holds, number, record, Rows, RECORD_ROWS};
-use crate::pattern::{agrees, patterns};
+use crate::pattern::{agrees, patterns, patterns_of_pushed};
 use crate::plain::Plain;
 use crate::sound::{sizes_pass, QuestionPart, State, TablePart};
 use crate::text::{Catalogue, Change, Statement};
@@ -26,7 +26,8 @@ pub struct Kept {
 #[derive(Clone)]
 enum Event {
     Answered(Key),
-    Updated(usize, Vec<i32>),
+    /// The update, its values, and the row that it pushed out.
+    Updated(usize, Vec<i32>, Option<Vec<i32>>),
     Flushed,
 }
 
@@ -56,6 +57,8 @@ pub struct Store {
     pub catalogue: Catalogue,
     /// Rows that each table holds.
     counts: Vec<usize>,
+    /// The starting place of each table: where its oldest row lies in its area.
+    starts: Vec<usize>,
     /// The slot list, held ones first.
     pub order: Vec<usize>,
     pub held: usize,
@@ -73,6 +76,18 @@ pub struct Store {
     pub last_length: usize,
     pub last_evicted: bool,
     pub last_dropped: Vec<usize>,
+    /// What the last update did about a ring, counted for the same report.
+    pub last_ring: RingReport,
+}
+
+/// The questions of the answers dropped for the row pushed out alone, and for this and the INSERT; where the oldest row of
+/// the updated table lay before.
+#[derive(Clone, Default)]
+pub struct RingReport {
+    pub pushed: bool,
+    pub alone: Vec<usize>,
+    pub both: Vec<usize>,
+    pub start: usize,
 }
 
 impl Store {
@@ -84,6 +99,7 @@ impl Store {
             memory: vec![0; bytes],
             catalogue: Catalogue::default(),
             counts: vec![],
+            starts: vec![],
             order: (0..slots).collect(),
             held: 0,
             kept: vec![None; slots],
@@ -95,6 +111,7 @@ impl Store {
             last_length: 0,
             last_evicted: false,
             last_dropped: vec![],
+            last_ring: RingReport::default(),
         }
     }
 
@@ -122,8 +139,10 @@ impl Store {
         self.catalogue.tables[..table].iter().map(|t| t.columns.len() * t.rows).sum()
     }
 
+    /// Rows count from the oldest one; in a ring they run round from its starting place.
     fn row_start(&self, table: usize, row: usize) -> usize {
-        self.area(table) + row * self.catalogue.tables[table].columns.len()
+        let place = (self.starts[table] + row) % self.catalogue.tables[table].rows;
+        self.area(table) + place * self.catalogue.tables[table].columns.len()
     }
 
     fn row(&self, table: usize, row: usize) -> Vec<i32> {
@@ -157,6 +176,7 @@ impl Store {
         let statement = self.catalogue.read(self.cells.len(), text)?;
         if let Statement::Table(_) = statement {
             self.counts.push(0);
+            self.starts.push(0);
         }
         Ok(self.catalogue.append(statement))
     }
@@ -256,6 +276,7 @@ impl Store {
 
     /// The rows inserted, matched or deleted, and the kept answers dropped.
     pub fn update(&mut self, lent: (usize, usize), n: u64, values: &[i32]) -> Result<(usize, usize), u8> {
+        let pushed = self.plain.pushed_out(n);
         let result = self.update_here(lent, n, values);
         if self.was_set {
             return result;
@@ -263,7 +284,7 @@ impl Store {
         let plain = self.plain.update(lent, n, values);
         assert_eq!(result.map(|(rows, _)| rows), plain, "an update agrees with the plain store");
         if result.is_ok() {
-            self.history.push(Event::Updated(n as usize, values.to_vec()));
+            self.history.push(Event::Updated(n as usize, values.to_vec(), pushed));
         }
         self.check();
         result
@@ -281,14 +302,25 @@ impl Store {
         let table = update.table;
         let count = self.counts[table];
         let width = self.catalogue.tables[table].columns.len();
+        let size = self.catalogue.tables[table].rows;
+        let is_full = count == size;
+        // The row that is pushed out is looked at before anything changes.
+        let pushes = matches!(update.change, Change::Insert(_)) && is_full && self.catalogue.tables[table].ring;
+        let pushed = pushes.then(|| self.row(table, 0));
+        let start = self.starts[table];
         let rows = match &update.change {
             Change::Insert(operands) => {
-                if count == self.catalogue.tables[table].rows {
-                    return Err(12);
-                }
                 let row: Vec<i32> = operands.iter().map(|&o| number(o, &[], values)).collect();
-                self.put_row(table, count, &row);
-                self.counts[table] += 1;
+                if pushes {
+                    // The new row takes the cells of the oldest; the next place holds the oldest from now on.
+                    self.put_row(table, 0, &row);
+                    self.starts[table] = (start + 1) % size;
+                } else if is_full {
+                    return Err(12);
+                } else {
+                    self.put_row(table, count, &row);
+                    self.counts[table] += 1;
+                }
                 1
             }
             Change::Set(sets) => {
@@ -306,34 +338,48 @@ impl Store {
                 matched
             }
             Change::Delete => {
-                let mut stay = 0;
-                for i in 0..count {
-                    let row = self.row(table, i);
-                    if !holds(&update.condition, &[(table, &row)], values) {
-                        self.put_row(table, stay, &row);
-                        stay += 1;
-                    }
+                // Also where no row goes, the oldest row that stays lies first from now on.
+                let mut stay = self.rows(table);
+                stay.retain(|row| !holds(&update.condition, &[(table, row)], values));
+                self.starts[table] = 0;
+                for (i, row) in stay.iter().enumerate() {
+                    self.put_row(table, i, row);
                 }
-                for i in stay..count {
+                for i in stay.len()..count {
                     self.put_row(table, i, &vec![0; width]);
                 }
-                self.counts[table] = stay;
-                count - stay
+                self.counts[table] = stay.len();
+                count - stay.len()
             }
         };
-        let dropped: Vec<usize> = (0..self.slots)
-            .filter(|&slot| self.kept[slot].as_ref().is_some_and(|k| self.matches(n as usize, values, &k.key)))
-            .collect();
+        let mut dropped = Vec::new();
+        let mut report = RingReport { pushed: pushes, start, ..RingReport::default() };
+        for slot in 0..self.slots {
+            let Some(kept) = &self.kept[slot] else { continue };
+            let (by_update, by_pushed) = self.matching(n as usize, values, pushed.as_deref(), &kept.key);
+            if by_update || by_pushed {
+                dropped.push(slot);
+            }
+            if by_pushed {
+                let questions = if by_update { &mut report.both } else { &mut report.alone };
+                questions.push(kept.key.question);
+            }
+        }
+        self.last_ring = report;
         self.last_dropped = dropped.iter().map(|&slot| self.kept[slot].as_ref().unwrap().key.question).collect();
         self.drop_slots(&dropped);
         Ok((rows, dropped.len()))
     }
 
-    /// Does a pattern of the two, filled with the update's values, agree with the key?
-    fn matches(&self, update: usize, values: &[i32], key: &Key) -> bool {
-        patterns(&self.catalogue.questions[key.question], &self.catalogue.updates[update])
-            .iter()
-            .any(|pattern| agrees(pattern, values, &key.values))
+    /// Does a pattern of the two, filled with the update's values, agree with the key: one of the update's own, and one of
+    /// the row that it pushed out?
+    fn matching(&self, update: usize, values: &[i32], pushed: Option<&[i32]>, key: &Key) -> (bool, bool) {
+        let question = &self.catalogue.questions[key.question];
+        let update = &self.catalogue.updates[update];
+        let by_update = patterns(question, update);
+        let by_pushed = pushed.map_or(vec![], |row| patterns_of_pushed(question, update.table, row));
+        let agree = |list: Vec<_>| list.iter().any(|pattern| agrees(pattern, values, &key.values));
+        (agree(by_update), agree(by_pushed))
     }
 
     fn drop_slots(&mut self, dropped: &[usize]) {
@@ -384,6 +430,8 @@ impl Store {
                 columns: table.columns.iter().map(folded).collect(),
                 capacity: table.rows,
                 rows: self.counts[number],
+                ring: table.ring,
+                start: self.starts[number],
             })
         };
         State {
@@ -404,11 +452,14 @@ impl Store {
     pub fn set(&mut self, part: &str, numbers: &[i32]) -> Option<()> {
         let mut state = self.state();
         state.spoil(part, numbers)?;
-        if !state.is_sound() || !["length", "keyvalue", "capacity"].contains(&part) {
+        if !state.is_sound() || !["length", "keyvalue", "capacity", "start", "ring"].contains(&part) {
             return None;
         }
-        for (table, part) in self.catalogue.tables.iter_mut().zip(state.tables.iter().flatten()) {
+        let parts = state.tables.iter().flatten();
+        for ((table, start), part) in self.catalogue.tables.iter_mut().zip(&mut self.starts).zip(parts) {
             table.rows = part.capacity;
+            table.ring = part.ring;
+            *start = part.start;
         }
         self.kept = state.kept;
         self.was_set = true;
@@ -432,8 +483,9 @@ impl Store {
         for event in since {
             match event {
                 Event::Flushed => return Some(Ground::UpdatedOrFlushed),
-                Event::Updated(update, values) => {
-                    if self.matches(*update, values, key) {
+                Event::Updated(update, values, pushed) => {
+                    let (by_update, by_pushed) = self.matching(*update, values, pushed.as_deref(), key);
+                    if by_update || by_pushed {
                         return Some(Ground::UpdatedOrFlushed);
                     }
                 }
@@ -474,7 +526,31 @@ impl Store {
         for table in 0..self.catalogue.tables.len() {
             assert!(self.counts[table] <= self.catalogue.tables[table].rows);
             assert_eq!(self.rows(table), self.plain.rows(table), "the cells hold the plain store's rows");
+            self.check_area(table);
         }
+    }
+
+    /// The cells of a table's area, one by one: the plain store's rows run round from the starting place, and every other
+    /// cell is 0, as the opening and DELETEs leave it.
+    fn check_area(&self, table: usize) {
+        let rows = self.plain.rows(table);
+        let size = self.catalogue.tables[table].rows;
+        let width = self.catalogue.tables[table].columns.len();
+        let start = self.plain.starting_place(table);
+        assert_eq!(self.starts[table], start, "the oldest row lies where the pushes since the last DELETE left it");
+        let area = self.area(table);
+        for (place, cells) in self.cells[area..area + size * width].chunks(width).enumerate() {
+            let row = rows.get((place + size - start) % size);
+            let right = row.map_or_else(|| cells.iter().all(|&cell| cell == 0), |row| row == cells);
+            assert!(right, "place {place} of table {table}'s area holds its row, or zeros");
+        }
+    }
+
+    /// A table's area and its starting place, for the examples.
+    pub fn area_now(&self, table: usize) -> (&[i32], usize) {
+        let area = self.area(table);
+        let table_here = &self.catalogue.tables[table];
+        (&self.cells[area..area + table_here.rows * table_here.columns.len()], self.starts[table])
     }
 
     /// The length of a question's record now, if it has one, for the generator.
@@ -493,7 +569,17 @@ impl Store {
 
     /// Would an INSERT into this table be refused? For the generator.
     pub fn is_full(&self, table: usize) -> bool {
-        self.counts[table] == self.catalogue.tables[table].rows
+        self.counts[table] == self.catalogue.tables[table].rows && !self.catalogue.tables[table].ring
+    }
+
+    /// A table's rows, the oldest first, for the generator.
+    pub fn rows_now(&self, table: usize) -> &[Vec<i32>] {
+        self.plain.rows(table)
+    }
+
+    /// The rows of a table run round: the oldest one does not lie first. For the generator.
+    pub fn is_wrapped(&self, table: usize) -> bool {
+        self.starts[table] != 0
     }
 
     /// The keys kept, for the generator.

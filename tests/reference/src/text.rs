@@ -64,18 +64,21 @@ impl Operand {
 /// A whole sentence, with nothing looked up and no limit looked at.
 #[derive(Clone, PartialEq, Debug)]
 enum Sentence {
-    Table { name: String, columns: Vec<String>, rows: Option<i32> },
+    /// `rows`: what stands behind ROWS or RING.
+    Table { name: String, columns: Vec<String>, rows: Option<i32>, ring: bool },
     Select { columns: Vec<Named>, tables: Vec<String>, condition: Option<Condition<Written>> },
     Insert { table: String, values: Vec<Written> },
     Update { table: String, sets: Vec<(String, Written)>, condition: Option<Condition<Written>> },
     Delete { table: String, condition: Option<Condition<Written>> },
 }
 
+/// `rows` is the table's ROWS, or its RING, which counts as that.
 #[derive(Clone, Debug)]
 pub struct Table {
     pub name: String,
     pub columns: Vec<String>,
     pub rows: usize,
+    pub ring: bool,
 }
 
 /// `tables` are one or two, in the order of the text.
@@ -141,8 +144,8 @@ enum Token {
 }
 
 /// Keywords are words spelled just so; in other letters, and until a request makes a word one of these, it is a name.
-pub const KEYWORDS: [&str; 14] = [
-    "TABLE", "ROWS", "SELECT", "FROM", "WHERE", "INSERT", "INTO", "VALUES", "UPDATE", "SET", "DELETE", "AND", "OR",
+pub const KEYWORDS: [&str; 15] = [
+    "TABLE", "ROWS", "RING", "SELECT", "FROM", "WHERE", "INSERT", "INTO", "VALUES", "UPDATE", "SET", "DELETE", "AND", "OR",
     "NOT",
 ];
 
@@ -367,13 +370,16 @@ impl Reader {
             self.sign("(")?;
             let columns = self.list(Reader::name)?;
             self.sign(")")?;
-            self.keyword("ROWS")?;
+            let ring = self.keyword("RING").is_some();
+            if !ring {
+                self.keyword("ROWS")?;
+            }
             let rows = match self.tokens.get(self.at)? {
                 Token::Constant(number) => *number,
                 _ => return None,
             };
             self.at += 1;
-            Sentence::Table { name, columns, rows }
+            Sentence::Table { name, columns, rows, ring }
         } else if self.keyword("SELECT").is_some() {
             let columns = self.list(Reader::column)?;
             self.keyword("FROM")?;
@@ -505,12 +511,12 @@ impl Catalogue {
         }
         let marks = reader.marks;
         let statement = match &sentence {
-            Sentence::Table { name, columns, rows } => {
+            Sentence::Table { name, columns, rows, ring } => {
                 if self.table(name).is_ok() || has_repeat(columns) {
                     return Err(7);
                 }
                 let rows = rows.expect("limits were looked at") as usize;
-                Statement::Table(Table { name: name.clone(), columns: columns.clone(), rows })
+                Statement::Table(Table { name: name.clone(), columns: columns.clone(), rows, ring: *ring })
             }
             Sentence::Select { columns, tables, condition } => {
                 let tables = tables.iter().map(|name| self.table(name)).collect::<Result<Vec<_>, u8>>()?;

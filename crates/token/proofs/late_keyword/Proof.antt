@@ -3,6 +3,9 @@
 use Rattle.token.proofs.late_keyword.Statement.{statement}
 use Rattle.token.proofs.late_keyword.Tie as tie
 
+more-keyword-requires : tie.Need-more-keyword-requires
+more-keyword-requires c κs = tt
+
 either-requires : tie.Need-either-requires
 either-requires c κs = tt
 
@@ -25,12 +28,13 @@ either-requires-7 : tie.Need-either-requires-7
 either-requires-7 c κs = tt
 
 returns : tie.Need-returns
-returns c = rw (c .either7 .ensures, c .before .either6 .ensures, c .before .before .either5 .ensures, c .before .before .before .either4 .ensures, c .before .before .before .before .either3 .ensures, c .before .before .before .before .before .either2 .ensures, c .before .before .before .before .before .before .either .ensures)
+returns c = rw (c .either7 .ensures, c .before .either6 .ensures, c .before .before .either5 .ensures, c .before .before .before .either4 .ensures, c .before .before .before .before .either3 .ensures, c .before .before .before .before .before .either2 .ensures, c .before .before .before .before .before .before .either .ensures, c .before .before .before .before .before .before .before .more-keyword .ensures)
 
 pub late-keyword-spec : {M : Type 1} → statement M
 late-keyword-spec =
     tie.close
     (tie.spec
+    more-keyword-requires
     either-requires
     either-requires-2
     either-requires-3

@@ -33,7 +33,7 @@ mul-u c = omega (arith, array-copy-out-u c)
 updated-requires : tie.Need-updated-requires
 updated-requires c κs =
     let K = known (c .before .before .before) in
-    (K .sound, table-there _ (K .sound) (long (c .before .before .before .before .before .before)) _ (K .there) _)
+    (K .sound, table-there _ (K .sound) (long (c .before .before .before .before .before .before)) _ (K .there) _, K .cells-are)
 
 same-length : tie.Need-same-length
 same-length c = search needs

@@ -68,13 +68,13 @@ array-copy-out-t c =
 
 returns-4 : tie.Need-returns-4
 returns-4 c =
-    let e = c .before .before .before .before .before .before .before .before .before .before in
-    full-refused _ _ _ _ _ (fit (e .before .before)) (e .if2 .left) (long (e .before .before .before .before .before)) _ (c .before .before .before .before .before .before .if3 .left) _ true (c .if4 .taken)
+    let e = c .before .before .before .before .before .before .before .before .before .before .before in
+    full-refused _ _ _ _ _ (fit (e .before .before)) (e .if2 .left) (long (e .before .before .before .before .before)) _ (c .before .before .before .before .before .before .before .if3 .left) _ true (c .if4 .taken)
 
 returns-5 : tie.Need-returns-5
 returns-5 c =
-    let e = c .before .before .before .before .before .before .before .before .before .before in
-    full-refused _ _ _ _ _ (fit (e .before .before)) (e .if2 .left) (long (e .before .before .before .before .before)) _ (c .before .before .before .before .before .before .if3 .left) _ false (c .if4 .left)
+    let e = c .before .before .before .before .before .before .before .before .before .before .before in
+    full-refused _ _ _ _ _ (fit (e .before .before)) (e .if2 .left) (long (e .before .before .before .before .before)) _ (c .before .before .before .before .before .before .before .if3 .left) _ false (c .if4 .left)
 
 pub update-refusal-spec : {M : Type 1} → statement M
 update-refusal-spec =

@@ -21,12 +21,6 @@ order-long c = search needs
 inside : (c : tie.Start) → c .args .u .table < 8
 inside c = table-below _ (c .pre .0) _ (c .pre .1)
 
-matched-requires : tie.Need-matched-requires
-matched-requires c κs = let S = sound-is _ (c .before .before .before .pre .0) in (is-sound _ (S .slots), S .few-queries)
-
-drop-requires : tie.Need-drop-requires
-drop-requires c κs = search needs
-
 cast-i : tie.Need-cast-i
 cast-i c = search needs
 
@@ -34,10 +28,16 @@ mul-t : tie.Need-mul-t
 mul-t c = search needs
 
 element-copy-out-t : tie.Need-element-copy-out-t
-element-copy-out-t c = inside (c .before .before .before .before .before .before .before)
+element-copy-out-t c = inside (c .before .before .before .before .before)
 
 areas-requires : tie.Need-areas-requires
-areas-requires c κs = omega (arith, inside (c .before .before .before .before .before .before .before .before))
+areas-requires c κs = omega (arith, inside (c .before .before .before .before .before .before))
+
+dropped-by-requires : tie.Need-dropped-by-requires
+dropped-by-requires c κs = let S = sound-is _ (c .before .before .before .before .before .before .before .before .pre .0) in (is-sound _ (S .slots), S .few-queries)
+
+drop-requires : tie.Need-drop-requires
+drop-requires c κs = search needs
 
 change-requires : tie.Need-change-requires
 change-requires c κs = search needs
@@ -46,12 +46,12 @@ mul-t-2 : tie.Need-mul-t-2
 mul-t-2 c = search needs
 
 element-set-from-t : tie.Need-element-set-from-t
-element-set-from-t c = inside (c .before .before .before .before .before .before .before .before .before .before .before .before)
+element-set-from-t c = inside (c .before .before .before .before .before .before .before .before .before .before .before .before .before)
 
-sub-t16 : tie.Need-sub-t16
-sub-t16 c =
-    let s = c .before .before .before .before .before .before .before .before .before .before .before .before .before .before in
-    left-fewer _ (s .pre .0) (order-long s) _ _ _ _ (c .before .before .before .before .before .before .before .before .before .before .matched .ensures) (c .before .before .before .before .before .before .before .before .before .drop .ensures)
+sub-t27 : tie.Need-sub-t27
+sub-t27 c =
+    let s = c .before .before .before .before .before .before .before .before .before .before .before .before .before .before .before in
+    left-fewer _ (s .pre .0) (order-long s) (tables-long s) _ (s .pre .1) _ _ (s .pre .2) _ _ (c .before .before .before .before .before .before .before .before .areas .ensures) _ _ (c .before .before .before .before .before .before .dropped-by .ensures) (c .before .before .before .before .before .drop .ensures)
 
 same-length : tie.Need-same-length
 same-length c = search needs
@@ -59,9 +59,8 @@ same-length c = search needs
 returns : tie.Need-returns
 unfolding withChange
 returns c =
-    let s = c .before .before .before .before .before .before .before .before .before .before .before .before .before .before in
-    updated-is _ (s .pre .0) (order-long s) _ _ _ _ (c .before .before .before .before .before .before .before .before .before .before .matched .ensures) (c .before .before .before .before .before .before .before .before .before .drop .ensures) (tables-long s) (s .pre .1) _ _ _ _ _
-    (c .before .before .before .before .before .areas .ensures)
+    let s = c .before .before .before .before .before .before .before .before .before .before .before .before .before .before .before in
+    updated-is _ (s .pre .0) (order-long s) (tables-long s) _ (s .pre .1) _ _ (s .pre .2) _ _ (c .before .before .before .before .before .before .before .before .areas .ensures) _ _ (c .before .before .before .before .before .before .dropped-by .ensures) (c .before .before .before .before .before .drop .ensures) _ _
     (c .before .before .before .change .ensures .0)
     (c .before .before .before .change .ensures .1)
 
@@ -69,15 +68,15 @@ pub updated-spec : {M : Type 1} → statement M
 updated-spec =
     tie.close
     (tie.spec
-    matched-requires
-    drop-requires
     cast-i
     mul-t
     element-copy-out-t
     areas-requires
+    dropped-by-requires
+    drop-requires
     change-requires
     mul-t-2
     element-set-from-t
-    sub-t16
+    sub-t27
     same-length
     returns)

@@ -15,7 +15,7 @@ use Rattle.cache.proofs.matching.matched.Statement.{statement}
 use Rattle.cache.proofs.matching.matched.Tie as tie
 
 abbrev Inv-loop : tie.InvT-loop
-Inv-loop keys slots n update values queries found marks₀ q₀ marks q = (soundSlots slots ≡ true) × (n ≤ 16) × (length queries ≡ 16) × (found ≡ map (holdsAnswer keys slots) (from 0 16)) × Queries keys slots queries n update values q marks
+Inv-loop keys slots n update values queries found marks₀ q₀ marks q = (soundSlots slots ≡ true) × (n ≤ 16) × (length queries ≡ 16) × (found ≡ map (holdsAnswer keys slots) (from 0 16)) × Queries keys slots queries n update values marks₀ q marks
 
 abbrev μ-loop : tie.MeasureT-loop
 μ-loop keys slots n update values queries found marks₀ q₀ marks q = n - q
@@ -25,8 +25,8 @@ queries-held-requires c κs = search needs
 
 loop-holds : tie.Need-loop-holds Inv-loop μ-loop
 loop-holds c =
-    let l : length (c .before .args .t3) ≡ 16 = search needs in
-    (c .before .pre .0, c .before .pre .1, l, c .queries-held .ensures, queries-start _ _ _ _ _ _)
+    let l : length (c .before .args .t4) ≡ 16 = search needs in
+    (c .before .pre .0, c .before .pre .1, l, c .queries-held .ensures, queries-start _ _ _ _ _ _ _)
 
 cast-query : tie.Need-cast-query Inv-loop μ-loop
 cast-query c = search needs
@@ -64,13 +64,13 @@ loop-again c =
       l .inv .2,
       l .inv .3,
       ⊎-elim
-          (λ w. rw (w .2) (queries-yes _ _ _ _ _ _ _ _ t (l .inv .4) _ (l .inv .1) (l .inv .3) _ _ (and-left _ _ (w .0 .taken)) (l .inv .2) (w .1 .ensures)))
-          (λ w. rw (w .1) (queries-no _ _ _ _ _ _ _ _ t (l .inv .4) _ (l .inv .1) (l .inv .3) _ _ (c .before .reads .ensures) (l .inv .2) (w .0 .left)))
+          (λ w. rw (w .2) (queries-yes _ _ _ _ _ _ _ _ _ t (l .inv .4) _ (l .inv .1) (l .inv .3) _ _ (and-left _ _ (w .0 .taken)) (l .inv .2) (w .1 .ensures)))
+          (λ w. rw (w .1) (queries-no _ _ _ _ _ _ _ _ _ t (l .inv .4) _ (l .inv .1) (l .inv .3) _ _ (c .before .reads .ensures) (l .inv .2) (w .0 .left)))
           (c .if1 .came),
     )
 
 returns : tie.Need-returns Inv-loop μ-loop
-returns c = let l = c .before .loop in queries-end _ _ _ _ _ _ _ _ (c .loop-test .left) (l .inv .4)
+returns c = let l = c .before .loop in queries-end _ _ _ _ _ _ _ _ _ (c .loop-test .left) (l .inv .4)
 
 pub matched-spec : {M : Type 1} → statement M
 matched-spec =

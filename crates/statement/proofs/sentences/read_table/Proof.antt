@@ -3,11 +3,11 @@
 use mathlib.Core.Path.{refl}
 use mathlib.Core.Bool.{false}
 use native.Mathlib.Omega.{arith}
-use Rattle.meaning.specs.Tokens.{keyword, lparen, rparen, ROWS}
+use Rattle.meaning.specs.Tokens.{lparen, rparen}
 use Rattle.statement.specs.Sentences.{names}
 use Rattle.statement.proofs.SentenceForms.{ready-start, list-starts, of-table}
 use Rattle.statement.proofs.SentenceLists.{ready-list}
-use Rattle.statement.proofs.SentenceTokens.{ready-expect, ready-name}
+use Rattle.statement.proofs.SentenceTokens.{ready-expect, ready-size, ready-name}
 use Rattle.statement.proofs.sentences.read_table.Statement.{statement}
 use Rattle.statement.proofs.sentences.read_table.Tie as tie
 
@@ -23,18 +23,18 @@ read-list-requires c κs = list-starts (c .before .before .before .before .args 
 expect-requires-2 : tie.Need-expect-requires-2
 expect-requires-2 c κs = (ready-list names (c .before .before .before .before .before .args .text .now) (c .before .before .before .before .before .pre .stands .short) (c .before .before .before .before .before .args .list .now) (c .before .expect .result) 0 _ (c .read-list .result) (c .read-list .ensures), omega arith)
 
-expect-requires-3 : tie.Need-expect-requires-3
-expect-requires-3 c κs = (ready-expect (c .before .before .before .before .before .before .args .text .now) (c .before .before .before .before .before .before .pre .stands .short) (c .before .read-list .result .c) (rparen) (c .expect2 .result) (c .expect2 .ensures (rparen) refl), omega arith)
+read-size-requires : tie.Need-read-size-requires
+read-size-requires c κs = ready-expect (c .before .before .before .before .before .before .args .text .now) (c .before .before .before .before .before .before .pre .stands .short) (c .before .read-list .result .c) (rparen) (c .expect2 .result) (c .expect2 .ensures (rparen) refl)
 
 read-rows-requires : tie.Need-read-rows-requires
-read-rows-requires c κs = ready-expect (c .before .before .before .before .before .before .before .args .text .now) (c .before .before .before .before .before .before .before .pre .stands .short) (c .before .expect2 .result) (keyword ROWS) (c .expect3 .result) (c .expect3 .ensures (keyword ROWS) refl)
+read-rows-requires c κs = ready-size (c .before .before .before .before .before .before .before .args .text .now) (c .before .before .before .before .before .before .before .pre .stands .short) (c .before .expect2 .result) (c .read-size .result) (c .read-size .ensures)
 
 returns : tie.Need-returns
 returns c =
     let z = c .before .before .before .before .before .before .before .before .before in
     let a = z .args in
-    of-table (a .text .now) (a .c) (z .pre) (c .before .before .before .before .before .before .before .read-name .result) _ (a .list .now) _ (c .before .before .before .before .read-list .result) _ _ (c .before .read-rows .result)
-    (c .before .before .before .before .before .before .before .read-name .ensures) (c .before .before .before .before .before .expect .ensures) (c .before .before .before .before .read-list .ensures) (c .before .before .before .expect2 .ensures) (c .before .before .expect3 .ensures) (c .before .read-rows .ensures)
+    of-table (a .text .now) (a .c) (z .pre) (c .before .before .before .before .before .before .before .read-name .result) _ (a .list .now) _ (c .before .before .before .before .read-list .result) _ (c .before .before .read-size .result) (c .before .read-rows .result)
+    (c .before .before .before .before .before .before .before .read-name .ensures) (c .before .before .before .before .before .expect .ensures) (c .before .before .before .before .read-list .ensures) (c .before .before .before .expect2 .ensures) (c .before .before .read-size .ensures) (c .before .read-rows .ensures)
 
 pub read-table-spec : {M : Type 1} → statement M
 read-table-spec =
@@ -44,6 +44,6 @@ read-table-spec =
     expect-requires
     read-list-requires
     expect-requires-2
-    expect-requires-3
+    read-size-requires
     read-rows-requires
     returns)

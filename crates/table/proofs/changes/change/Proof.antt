@@ -1,13 +1,13 @@
 -- `change` meets its contract: what an update does to its area, among all cells. Assumes nothing.
 use borrow.Author.Needs.{needs}
 use Prim.Native.Nat.{_+_, _-_, _*_, _≤_}
-use mathlib.Core.Path.{_≡_, sym, _∙_}
-use mathlib.Core.Bool.{true}
+use mathlib.Core.Path.{_≡_, sym, _∙_, subst}
+use mathlib.Core.Bool.{Bool, true}
 use native.Mathlib.Omega.{arith}
 use borrow.Author.Tests.{not-true, not-false}
-use lib.ListN.{length}
-use Rattle.table.specs.Changed.{areaFits}
-use Rattle.table.proofs.Fitting.{area-inside, formTest, refused, refused-area, refused-form, change-fits, done}
+use lib.ListN.{length, take, drop}
+use Rattle.table.specs.Changed.{areaFits, ChangeFits}
+use Rattle.table.proofs.Fitting.{area-inside, formTest, refused, refused-area, refused-form, change-fits, Promised, done}
 use Rattle.table.proofs.changes.change.Statement.{statement}
 use Rattle.table.proofs.changes.change.Tie as tie
 
@@ -51,8 +51,11 @@ mul-end c = record { fits = omega (arith, within (c .before)) }
 add-end : tie.Need-add-end
 add-end c = record { fits = omega (arith, within (c .before)) }
 
+is-full-requires : tie.Need-is-full-requires
+is-full-requires c κs = search needs
+
 mul-change-area : tie.Need-mul-change-area
-mul-change-area c = record { fits = omega (arith, within (c .before)) }
+mul-change-area c = record { fits = omega (arith, within (c .before .before)) }
 
 sub-change-area : tie.Need-sub-change-area
 sub-change-area c = search needs
@@ -61,22 +64,24 @@ part-change-area-start : tie.Need-part-change-area-start
 part-change-area-start c = search needs
 
 part-change-area-end : tie.Need-part-change-area-end
-part-change-area-end c = omega (arith, within (c .before))
+part-change-area-end c = omega (arith, within (c .before .before))
 
 change-area-requires : tie.Need-change-area-requires
 change-area-requires c κs =
-    let s = c .before .before .before .before .before .before .before .args in
+    let s = c .before .before .before .before .before .before .before .before .args in
     let k : s .table .capacity ≤ 65535 = search needs in
     let w : s .table .count ≤ 255 = search needs in
-    (omega arith, change-fits (s .update) (s .table) (s .start) (s .cells .now) (s .values .now) (area-yes (c .before .before)) (form-yes (c .before .before)) (s .start + s .table .count * s .table .capacity - s .start) (omega arith) k)
+    let f = change-fits (s .update) (s .table) (s .start) (s .cells .now) (s .values .now) (area-yes (c .before .before .before)) (form-yes (c .before .before .before)) (s .start + s .table .count * s .table .capacity - s .start) (omega arith) k in
+    (omega arith, subst (λ (b : Bool). ChangeFits b (s .table .oldest) (s .update .form) (s .update .count) (s .table .count) (s .table .rows) (length (take (s .start + s .table .count * s .table .capacity - s .start) (drop (s .start) (s .cells .now))))) (sym (c .before .is-full .ensures)) f)
 
 same-length : tie.Need-same-length
 same-length c = search needs
 
 returns-3 : tie.Need-returns-3
 returns-3 c =
-    let s = c .before .before .before .before .before .before .before .before .before .args in
-    done (s .update) (s .table) (s .start) (s .cells .now) (s .values .now) (area-yes (c .before .before .before .before)) (form-yes (c .before .before .before .before)) (s .start + s .table .count * s .table .capacity - s .start) (omega arith) (c .before .change-area .result) (c .before .change-area .last .0) (c .before .change-area .ensures)
+    let s = c .before .before .before .before .before .before .before .before .before .before .args in
+    let d = c .before .change-area in
+    done (s .update) (s .table) (s .start) (s .cells .now) (s .values .now) (area-yes (c .before .before .before .before .before)) (form-yes (c .before .before .before .before .before)) (s .start + s .table .count * s .table .capacity - s .start) (omega arith) (d .result) (d .last .0) (subst (λ (b : Bool). Promised (s .update) (s .values .now) (s .table .count) (s .table .rows) (take (s .start + s .table .count * s .table .capacity - s .start) (drop (s .start) (s .cells .now))) b (s .table .oldest) (s .update .form) (d .result) (d .last .0)) (c .before .before .before .is-full .ensures) (d .ensures))
 
 pub change-spec : {M : Type 1} → statement M
 change-spec =
@@ -90,6 +95,7 @@ change-spec =
     cast-end
     mul-end
     add-end
+    is-full-requires
     mul-change-area
     sub-change-area
     part-change-area-start

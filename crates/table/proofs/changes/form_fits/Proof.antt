@@ -11,7 +11,7 @@ returns : tie.Need-returns
 returns c = let s = c .before .before .args in form-many (s .update) (s .table) (c .if1 .taken)
 
 returns-2 : tie.Need-returns-2
-returns-2 c = let s = c .before .before .before .before .before .before .before .args in form-insert (s .update) (s .table) (c .before .before .before .before .before .if1 .left) (c .before .before .before .if2 .taken)
+returns-2 c = let s = c .before .before .before .before .before .before .before .before .before .args in form-insert (s .update) (s .table) (c .before .before .before .before .before .before .before .if1 .left) (c .before .before .before .before .before .if2 .taken)
 
 returns-3 : tie.Need-returns-3
 returns-3 c = let s = c .before .before .before .before .args in form-other (s .update) (s .table) (c .before .before .if1 .left) (c .if2 .left)

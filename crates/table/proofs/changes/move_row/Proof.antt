@@ -7,7 +7,7 @@ use borrow.Author.Needs.{needs}
 use lib.IntN.{pos}
 use lib.ListN.{length, drop, length-set, length-drop}
 use lib.Seq.{paste, paste-zero}
-use Rattle.table.proofs.Copied.{pasted, read-ahead}
+use Rattle.table.proofs.Copied.{pasted, paste-own, read-ahead}
 use Rattle.table.proofs.changes.move_row.Statement.{statement}
 use Rattle.table.proofs.changes.move_row.Tie as tie
 
@@ -17,8 +17,11 @@ Inv-loop area₀ from to columns i₀ area i = (i ≤ columns) × (length area �
 abbrev μ-loop : tie.MeasureT-loop
 μ-loop area₀ from to columns i₀ area i = columns - i
 
+returns : tie.Need-returns Inv-loop μ-loop
+returns c = let s = c .before .args in paste-own (s .area .now) (s .from) (s .to) (s .columns) (c .if1 .taken)
+
 loop-holds : tie.Need-loop-holds Inv-loop μ-loop
-loop-holds c = (omega arith, refl, paste-zero (c .args .area .now) (c .args .to) (drop (c .args .from) (c .args .area .now)))
+loop-holds c = let s = c .before .args in (omega arith, refl, paste-zero (s .area .now) (s .to) (drop (s .from) (s .area .now)))
 
 add-area : tie.Need-add-area Inv-loop μ-loop
 add-area c = omega arith
@@ -29,11 +32,11 @@ mul-area c = omega arith
 slice-copy-out-area : tie.Need-slice-copy-out-area Inv-loop μ-loop
 slice-copy-out-area c = omega arith
 
-add-t11 : tie.Need-add-t11 Inv-loop μ-loop
-add-t11 c = omega arith
+add-t12 : tie.Need-add-t12 Inv-loop μ-loop
+add-t12 c = omega arith
 
-mul-t12 : tie.Need-mul-t12 Inv-loop μ-loop
-mul-t12 c = omega arith
+mul-t13 : tie.Need-mul-t13 Inv-loop μ-loop
+mul-t13 c = omega arith
 
 slice-set-from-area : tie.Need-slice-set-from-area Inv-loop μ-loop
 slice-set-from-area c = omega arith
@@ -46,21 +49,21 @@ loop-less c = omega arith
 
 loop-again : tie.Need-loop-again Inv-loop μ-loop
 loop-again c =
-    let s = c .before .before .before .args in
+    let s = c .before .before .before .before .args in
     let i = c .before .before .loop .i in
     let e = c .before .before .loop .inv .2 in (
       omega arith,
       simp length-set (omega arith),
       pasted (s .area .now) (s .to) (drop (s .from) (s .area .now)) i (pos 0) (c .before .before .loop .area) (s .to + i) _ (omega arith) (simp length-drop (omega arith)) e refl
-          (search needs ∙ read-ahead (s .area .now) (s .from) (s .to) i (pos 0) (c .before .before .loop .area) (c .before .before .before .pre .0) (omega arith) e),
+          (search needs ∙ read-ahead (s .area .now) (s .from) (s .to) i (pos 0) (c .before .before .loop .area) (c .before .before .before .before .pre .0) (omega arith) e),
     )
 
 same-length : tie.Need-same-length Inv-loop μ-loop
 same-length c = c .before .loop .inv .1
 
-returns : tie.Need-returns Inv-loop μ-loop
-returns c =
-    let s = c .before .before .args in
+returns-2 : tie.Need-returns-2 Inv-loop μ-loop
+returns-2 c =
+    let s = c .before .before .before .args in
     let e : c .before .loop .i ≡ s .columns = omega arith in
     c .before .loop .inv .2 ∙ ap (λ (k : ℕ). paste (s .area .now) (s .to) (drop (s .from) (s .area .now)) k) e
 
@@ -70,15 +73,16 @@ move-row-spec =
     (tie.spec
     Inv-loop
     μ-loop
+    returns
     loop-holds
     add-area
     mul-area
     slice-copy-out-area
-    add-t11
-    mul-t12
+    add-t12
+    mul-t13
     slice-set-from-area
     add-i
     loop-less
     loop-again
     same-length
-    returns)
+    returns-2)

@@ -1,8 +1,8 @@
 -- `update_rows` meets its contract. The invariant: the rows left, worked on by the test of the prepared numbers, give what is wanted (`Left`); of the rows in use that
 -- test says what the condition says (`rows-pass`). The measure is the rows left. Assumes nothing.
 use Prim.Native.Nat.{_+_, _-_, _*_, _≤_}
-use mathlib.Core.Path.{_≡_, ap, _∙_}
-use mathlib.Core.Bool.{Bool, cond}
+use mathlib.Core.Logic.{⊎-elim}
+use mathlib.Core.Path.{_≡_, sym, ap, _∙_}
 use mathlib.Core.List.{List, map}
 use native.Mathlib.Omega.{arith}
 use borrow.Author.Needs.{needs}
@@ -14,9 +14,8 @@ use Rattle.statement.specs.Sound.{settingRead}
 use Rattle.table.specs.Evaluated.{meetsStored}
 use Rattle.table.specs.Tests.{passes}
 use Rattle.table.proofs.Assigning.{made, assigned-length}
-use Rattle.table.proofs.Selecting.{rowAt}
 use Rattle.table.proofs.Tested.{rows-pass, keep-same, settled-same}
-use Rattle.table.proofs.Updating.{Left, update-start, update-turn, update-done}
+use Rattle.table.proofs.Updating.{Left, update-start, update-set, update-stay, update-done}
 use Rattle.table.proofs.Work.{row-room}
 use Rattle.table.proofs.changes.update_rows.Statement.{statement}
 use Rattle.table.proofs.changes.update_rows.Tie as tie
@@ -40,19 +39,6 @@ agreed c =
 -- in a turn the next row lies within the area
 room : (c : tie.In-loop Inv-loop μ-loop) → c .before .loop .at + c .before .before .before .before .before .before .args .columns ≤ length (c .before .loop .area)
 room c = omega (arith, row-room (c .before .loop .left) (c .before .before .before .before .before .before .args .columns) (c .loop-test .taken), c .before .loop .inv .room)
-
--- a turn, where the row has come back
-turned : tie.Need-loop-again Inv-loop μ-loop
-turned c =
-    let s = c .before .before .before .before .before .before .before .before .before .before .before .before .before .before .before .args in
-    let t = c .before .before .before .before .before .before .before .before .before .before .before .before .before .before .prepare .result in
-    let l = c .before .before .before .before .before .before .before .before .before .before .loop in
-    let f = made (s .values .now) (take (s .n) (s .settings)) in
-    let row = rowAt (s .columns) (l .area) (l .at) in
-    let e = c .before .before .before .meets .ensures .0 in
-    update-turn (passes (t .targets) (t .places) (t .numbers) (t .start)) f (s .columns) (s .used) (s .area .now) (λ r. assigned-length (map settingRead (take (s .n) (s .settings))) (s .values .now) r)
-    (l .area) (l .at) (l .left) (l .found) (c .before .update-row .result) (c .before .update-row .last .0) (c .before .before .before .before .before .before .before .before .before .loop-test .taken) (l .inv)
-    (c .before .update-row .ensures .0 ∙ ap (λ (b : Bool). cond b 1 0) e) (c .before .update-row .ensures .1 ∙ ap (λ (b : Bool). cond b (f row) row) e)
 
 prepare-requires : tie.Need-prepare-requires Inv-loop μ-loop
 prepare-requires c κs = search needs
@@ -79,23 +65,23 @@ part-meets-end c = omega (arith, room (c .before .before .before .before))
 meets-requires : tie.Need-meets-requires Inv-loop μ-loop
 meets-requires c κs = c .before .before .before .before .before .before .before .before .before .before .prepare .ensures .forward
 
-mul-update-row : tie.Need-mul-update-row Inv-loop μ-loop
-mul-update-row c = omega (arith, room (c .before .before .before .before .before .before))
+mul-assign : tie.Need-mul-assign Inv-loop μ-loop
+mul-assign c = omega (arith, room (c .before .before .before .before .before .before .before))
 
-sub-update-row : tie.Need-sub-update-row Inv-loop μ-loop
-sub-update-row c = omega arith
+sub-assign : tie.Need-sub-assign Inv-loop μ-loop
+sub-assign c = omega arith
 
-part-update-row-start : tie.Need-part-update-row-start Inv-loop μ-loop
-part-update-row-start c = omega arith
+part-assign-start : tie.Need-part-assign-start Inv-loop μ-loop
+part-assign-start c = omega arith
 
-part-update-row-end : tie.Need-part-update-row-end Inv-loop μ-loop
-part-update-row-end c = omega (arith, room (c .before .before .before .before .before .before))
+part-assign-end : tie.Need-part-assign-end Inv-loop μ-loop
+part-assign-end c = omega (arith, room (c .before .before .before .before .before .before .before))
 
-update-row-requires : tie.Need-update-row-requires Inv-loop μ-loop
-update-row-requires c κs = c .before .before .before .before .before .before .before .before .before .before .before .before .before .pre .2
+assign-requires : tie.Need-assign-requires Inv-loop μ-loop
+assign-requires c κs = c .before .before .before .before .before .before .before .before .before .before .before .before .before .before .pre .2
 
 add-found : tie.Need-add-found Inv-loop μ-loop
-add-found c = omega (arith, turned c .few)
+add-found c = omega (arith, c .before .before .before .before .before .before .before .before .before .before .before .loop .inv .few, c .before .before .before .before .before .before .before .before .before .before .loop-test .taken)
 
 sub-left : tie.Need-sub-left Inv-loop μ-loop
 sub-left c = omega arith
@@ -104,7 +90,18 @@ loop-less : tie.Need-loop-less Inv-loop μ-loop
 loop-less c = omega arith
 
 loop-again : tie.Need-loop-again Inv-loop μ-loop
-loop-again c = turned c
+loop-again c =
+    let s = c .before .before .before .before .before .before .before .before .before .before .before .before .before .args in
+    let t = c .before .before .before .before .before .before .before .before .before .before .before .before .prepare .result in
+    let l = c .before .before .before .before .before .before .before .before .loop in
+    let h = c .before .before .before .before .before .before .before .loop-test .taken in
+    let e = c .before .meets .ensures .0 in
+    let p = passes (t .targets) (t .places) (t .numbers) (t .start) in
+    let f = made (s .values .now) (take (s .n) (s .settings)) in
+    ⊎-elim
+    (λ w. update-set p f (s .columns) (s .used) (s .area .now) (λ r. assigned-length (map settingRead (take (s .n) (s .settings))) (s .values .now) r) (l .area) (c .if1 .area) (l .at) (l .left) (l .found) (c .if1 .found) (w .2 .last .0) h (l .inv) (sym e ∙ w .0 .taken) (w .2 .ensures) (w .4) (w .5))
+    (λ w. update-stay p f (s .columns) (s .used) (s .area .now) (λ r. assigned-length (map settingRead (take (s .n) (s .settings))) (s .values .now) r) (l .area) (c .if1 .area) (l .at) (l .left) (l .found) (c .if1 .found) h (l .inv) (sym e ∙ w .0 .left) (w .1) (w .2))
+    (c .if1 .came)
 
 same-length : tie.Need-same-length Inv-loop μ-loop
 same-length c = c .before .loop .inv .same
@@ -137,11 +134,11 @@ update-rows-spec =
     part-meets-start
     part-meets-end
     meets-requires
-    mul-update-row
-    sub-update-row
-    part-update-row-start
-    part-update-row-end
-    update-row-requires
+    mul-assign
+    sub-assign
+    part-assign-start
+    part-assign-end
+    assign-requires
     add-found
     sub-left
     loop-less
