@@ -193,6 +193,30 @@ RING_EIGHTH = line("Q", 1, 3)
 RING_INSERT = line("U", 0, 3, 99, 250)
 
 
+# ---- rows with nulls beside rows without, for (f)
+
+NULL = -2147483648
+
+
+def iced(every=0):
+    """A table of 512 rows, with no null, or with one for every so many levels. Three questions; no slot."""
+    adds = [
+        "O 0",
+        "A TABLE stages (site, day, level) ROWS 512",
+        "A SELECT day FROM stages WHERE level < ?",
+        "A SELECT day FROM stages WHERE NOT level < ?",
+        "A SELECT day FROM stages WHERE level IS NULL",
+        "A INSERT INTO stages VALUES (?, ?, ?)",
+    ]
+    levels = [NULL if every and i % every == 0 else 7 * i % 400 for i in range(512)]
+    return made(adds) + made([line("U", 0, i % 8 + 1, i // 8 + 1, level) for i, level in enumerate(levels)])
+
+
+LOW_WATER = line("Q", 0, 50)
+NOT_LOW = line("Q", 1, 350)
+ICED = line("Q", 2)
+
+
 # ---- conditions of no, one, four and eight comparisons, for (f)
 
 CONDITIONS = {
@@ -329,6 +353,7 @@ def gate():
         piece(f"updates beside {count} kept answers", held(count), *[["L", call, "K 2"] for call in UPDATES.values()])
     piece("a ring, wrapped", ring(more=WRAPPED), ["L", RING_ROW, RING_EIGHTH, "C 4"], ["L", RING_INSERT, RING_EIGHTH, "C 200"])
     piece("a ring beside kept answers", ring(more=WRAPPED, slots=8), ["L", RING_EIGHTH, RING_INSERT, RING_ROW, "C 120"])
+    piece("rows with nulls", iced(8), ["L", LOW_WATER, NOT_LOW, ICED, "C 4"])
     piece("clauses at rule 5's limit", clauses(), ["L", CLAUSES_UPDATE, "K 2"])
     piece("adding", one_table(8, 64), *[["L", text, "K 1"] for text in ADDS.values()])
     piece("the fullest state", fullest(rows=64), *[["L", call, "K 2"] for call in (FULL_FIRST, FULL_LAST, FULL_NEW, FULL_UPDATE, "S", "N", "F", "W 0", DEEPEST)])

@@ -11,12 +11,12 @@ use lib.ListN.{length, drop, replicate, length-append, length-map, length-replic
 use Rattle.lists.specs.Lists.{All, nil, cons}
 use Rattle.lists.proofs.Bools.{or-left, or-right, not-false}
 use Rattle.lists.proofs.Lists.{All-head, All-tail, All-map, All-append, All-left, All-right, All-image, any-false}
-use Rattle.meaning.specs.Condition.{Where, comparisonsIn, operandsIn, sides}
+use Rattle.meaning.specs.Condition.{Where, mappedIn, comparisonsIn, operandsIn, sides}
 use Rattle.meaning.specs.Postfix.{Node, leaf, allOf, anyOf, nodesIn, leaves}
 use Rattle.meaning.specs.Resolve.{resolveNodes, marksPast}
 use Rattle.meaning.specs.Tokens.{Name}
 use Rattle.meaning.specs.Grammar as G
-use Rattle.meaning.specs.Grammar.{Given, mark, Term, given, items, Dotted, Sentence, sentence}
+use Rattle.meaning.specs.Grammar.{Given, mark, Term, given, comparison, items, Dotted, Sentence, sentence}
 use Rattle.meaning.specs.Limits.{most-items, most-name, most-comparisons, listColumns, listGivens, allNames, whereOf, termGivens, givens, markIn, outside32, isWithin32, pastLimit}
 use Rattle.meaning.specs.Names.{Schema, position, columnsOf, pairPlace}
 use Rattle.meaning.specs.Statement as M
@@ -178,7 +178,7 @@ sentence-fits ts (G.select cs t w) h =
       table-fits = no-table;
       query-fits = record {
         eight = padded-length 8 0 at (omega (arith, length-map (items cs) (position (columnsOf ts t)), few-columns (G.select cs t w) h));
-        condition-fits = where-fits (position (columnsOf ts t)) 0 w (few-tested (G.select cs t w) h) (small-tested (G.select cs t w) h);
+        condition-fits = where-fits (position (columnsOf ts t)) 0 (mappedIn comparison w) (few-tested (G.select cs t w) h) (small-tested (G.select cs t w) h);
       };
       update-fits = no-update;
     }
@@ -190,8 +190,8 @@ sentence-fits ts (G.pair cs t u w) h =
       query-fits = record {
         eight = padded-length 8 0 (map place (items cs)) (omega (arith, length-map (items cs) place, length-map (items cs) (λ (c : Dotted). c .1), few-columns s h));
         condition-fits =
-            where-fits place 0 w (subst (λ (n : ℕ). n ≤ most-comparisons) (bare-count w) (few-tested s h))
-            (subst (All Small) (bare-givens w) (small-tested s h));
+            where-fits place 0 (mappedIn comparison w) (subst (λ (n : ℕ). n ≤ most-comparisons) (bare-count (mappedIn comparison w)) (few-tested s h))
+            (subst (All Small) (bare-givens (mappedIn comparison w)) (small-tested s h));
       };
       update-fits = no-update;
     }
@@ -212,12 +212,20 @@ sentence-fits ts (G.update t ss w) h =
     record {
       table-fits = no-table;
       query-fits = no-query;
-      update-fits = record { eight = F .0; constants = F .1; condition-fits = where-fits (position (columnsOf ts t)) (settingMarks (items ss)) w (few-tested s h) (small-tested s h) };
+      update-fits = record {
+        eight = F .0;
+        constants = F .1;
+        condition-fits = where-fits (position (columnsOf ts t)) (settingMarks (items ss)) (mappedIn comparison w) (few-tested s h) (small-tested s h);
+      };
     }
 sentence-fits ts (G.delete t w) h = record {
   table-fits = no-table;
   query-fits = no-query;
-  update-fits = record { eight = refl; constants = All-replicate 8 noSetting refl; condition-fits = where-fits (position (columnsOf ts t)) 0 w (few-tested (G.delete t w) h) (small-tested (G.delete t w) h) };
+  update-fits = record {
+    eight = refl;
+    constants = All-replicate 8 noSetting refl;
+    condition-fits = where-fits (position (columnsOf ts t)) 0 (mappedIn comparison w) (few-tested (G.delete t w) h) (small-tested (G.delete t w) h);
+  };
 }
 
 -- ---- any text

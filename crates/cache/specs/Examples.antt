@@ -12,6 +12,7 @@ use Rattle.meaning.specs.Grammar.{aCondition, aSentence, read}
 use Rattle.meaning.specs.Limits.{pastLimit}
 use Rattle.meaning.specs.Names.{unknown, taken, miscounted, twice}
 use Rattle.meaning.specs.Statement.{statementOf}
+use Rattle.meaning.specs.Operator.{null}
 use Rattle.meaning.specs.Record.{body, encode}
 use Rattle.meaning.specs.Cells.{stored}
 use Rattle.meaning.specs.Pattern.{contradictory, class, entry}
@@ -215,6 +216,31 @@ pub one-is : gets (opened desk)
     ∷ []
 unfolding computing
 one-is = refl
+
+-- A.5: an inserted null drops the answer to IS NULL, which lists it then, and no other; the key of null is found again
+pub null-is : gets (opened desk)
+    (ADD "TABLE stage (site, level) ROWS 3"
+    ∷ ADD "INSERT INTO stage VALUES (?, -2147483648)"
+    ∷ ADD "SELECT site FROM stage WHERE level IS NULL"
+    ∷ ADD "SELECT site FROM stage WHERE level < ?"
+    ∷ ASK 0 []
+    ∷ ask 1 (null ∷ []) buffer
+    ∷ DO 0 (7 ∷ [])
+    ∷ ASK 0 []
+    ∷ ask 1 (null ∷ []) buffer
+    ∷ [])
+    ≡ plain (added aTable 0)
+    ∷ plain (added anUpdate 0)
+    ∷ plain (added aQuery 0)
+    ∷ plain (added aQuery 1)
+    ∷ new [] 0
+    ∷ new [] 0
+    ∷ line [] (rows 1) 0 0 1
+    ∷ new (7 ∷ []) 1
+    ∷ old []
+    ∷ []
+unfolding computing
+null-is = refl
 
 -- a refused opening, "2 slots of 8, memory 15": its lengths are 0, so each call with others gets 2
 pub closed-is : gets (opened (record { cells = []; memory = replicate 15 7; slots = 2; slotBytes = 8 })) (ADD "TABLE a (b) ROWS 1" ∷ ASK 0 [] ∷ DO 0 [] ∷ flush ∷ [])

@@ -4,6 +4,7 @@ use script::number;
 use script::same;
 use slots::Key;
 use slots::SlotList;
+use table::Comparison;
 use table::Condition;
 use table::Name;
 use table::Query;
@@ -174,6 +175,24 @@ fn with_table(mut s: State, name: &[u8], n: &[i32]) -> State {
     s
 }
 
+// ---- conditions
+
+// The condition with the operator of a comparison changed, by its number.
+fn operator_with(mut c: Condition, i: usize, op: usize) -> Condition {
+    if i < Condition::COMPARISONS {
+        let mut k = c.comparisons[i];
+        k.op = low8(op);
+        c.comparisons[i] = k;
+    }
+    c
+}
+
+// .. to a null test: 0 IS NULL, 1 IS NOT NULL.
+fn null_with(c: Condition, n: &[i32]) -> Condition {
+    let test = low8(number(n, 2)) as usize;
+    operator_with(c, number(n, 1), Comparison::IS_NULL as usize + test)
+}
+
 // ---- queries
 
 fn condition_with(mut c: Condition, name: &[u8], n: &[i32]) -> Condition {
@@ -185,11 +204,9 @@ fn condition_with(mut c: Condition, name: &[u8], n: &[i32]) -> Condition {
             c.steps[i] = low8(number(n, 2));
         }
     } else if same(name, b"qop") {
-        if i < Condition::COMPARISONS {
-            let mut k = c.comparisons[i];
-            k.op = low8(number(n, 2));
-            c.comparisons[i] = k;
-        }
+        return operator_with(c, i, number(n, 2));
+    } else if same(name, b"qnull") {
+        return null_with(c, n);
     }
     c
 }
@@ -249,6 +266,9 @@ fn update_with(mut u: Update, name: &[u8], n: &[i32]) -> Update {
             setting.column = low8(number(n, 2));
             u.settings[i] = setting;
         }
+    } else if same(name, b"unull") {
+        let c = u.condition;
+        u.condition = null_with(c, n);
     }
     u
 }

@@ -2,7 +2,7 @@
 -- rule 6 does not remove the clause, and its pattern agrees with the query's values (rules 6 and 7). Assumes nothing.
 use mathlib.Core.Path.{_≡_, refl, sym, ap, ap₂, subst, _∙_}
 use mathlib.Core.Logic.{_↔_}
-use mathlib.Core.Bool.{Bool, true, false, not, _&&_, _||_, cond}
+use mathlib.Core.Bool.{Bool, true, false, not, _&&_, _||_, cond, false≢true}
 use mathlib.Core.List.{List, [], _∷_, map, List·Memᴰ as Member}
 use Prim.Native.Nat.{ℕ, zero, suc, _≤_, min}
 use native.Mathlib.Nat.{min-eq-left, min-eq-right}
@@ -16,16 +16,16 @@ use Rattle.lists.specs.Tests.{isYes, decN, decZ, eqZ}
 use Rattle.lists.proofs.Bools.{clash, true→T, eqZ-same, eqZ-true, yes-of}
 use Rattle.lists.proofs.Lists.{All-head, All-tail, All-map, All-every, All-kept, all-true, any-none}
 use Rattle.lists.proofs.Changed.{member-has, members-have, map-from}
-use Rattle.meaning.specs.Operator.{Operator, eq, ne, lt, le, gt, ge, truth}
+use Rattle.meaning.specs.Operator.{Operator, eq, ne, lt, le, gt, ge, related, isNull, known, unknown, isTrue, Predicate, by, is-null, is-not-null, truth}
 use Rattle.meaning.specs.Condition.{Comparison, sides, holds, meets}
 use Rattle.meaning.specs.Meaning.{Row, cell, valueAt}
-use Rattle.meaning.specs.Pattern.{Joint, Joint-discrete, column, constant, asked, given, Clause, same, rename, join, labelsOn, label, class, constants, updateMarks, differ, strict, falseOf, broken, contradictory, Entry, lowest, classEntry, entry, pattern, agreesAt, agrees}
+use Rattle.meaning.specs.Pattern.{Joint, Joint-discrete, column, constant, asked, given, Clause, same, rename, join, labelsOn, label, class, constants, updateMarks, differ, strict, neverOf, falseOf, broken, contradictory, Entry, lowest, classEntry, entry, pattern, agreesAt, agrees}
 
 -- ---- the labels
 
 -- x = y
 abbrev pub equals : Joint → Joint → Comparison Joint
-equals x y = record { left = x; op = eq; right = y }
+equals x y = record { left = x; op = by eq; right = y }
 
 -- the equivalence that the `=` comparisons of a clause generate
 pub data Linked (cs : Clause) : Joint → Joint → Type 0 where
@@ -42,7 +42,7 @@ linked-back (through h k) = through (linked-back k) (linked-back h)
 
 -- what an `=` comparison joins is related by R
 abbrev pub Joins : (Joint → Joint → Type 0) → Comparison Joint → Type 0
-Joins R c = c .op ≡ eq → R (c .left) (c .right)
+Joins R c = c .op ≡ by eq → R (c .left) (c .right)
 
 -- every equivalence that relates what `=` joins relates each operand to its label
 module _ (R : Joint → Joint → Type 0) (r-refl : (x : Joint) → R x x) (r-sym : (x y : Joint) → R x y → R y x)
@@ -54,20 +54,22 @@ module _ (R : Joint → Joint → Type 0) (r-refl : (x : Joint) → R x x) (r-sy
       go (yes p) = rw p h
       go (no n) = r-refl x
 
-  join-within : (o : Operator) (a b x : Joint) → (o ≡ eq → R a b) → R x (join o a b x)
-  join-within eq a b x h = rename-within a b x (h refl)
-  join-within ne a b x h = r-refl x
-  join-within lt a b x h = r-refl x
-  join-within le a b x h = r-refl x
-  join-within gt a b x h = r-refl x
-  join-within ge a b x h = r-refl x
+  join-within : (p : Predicate) (a b x : Joint) → (p ≡ by eq → R a b) → R x (join p a b x)
+  join-within (by eq) a b x h = rename-within a b x (h refl)
+  join-within (by ne) a b x h = r-refl x
+  join-within (by lt) a b x h = r-refl x
+  join-within (by le) a b x h = r-refl x
+  join-within (by gt) a b x h = r-refl x
+  join-within (by ge) a b x h = r-refl x
+  join-within is-null a b x h = r-refl x
+  join-within is-not-null a b x h = r-refl x
 
   labels-within : (f : Joint → Joint) → ((x : Joint) → R x (f x)) → (cs : Clause) → All (Joins R) cs → (x : Joint) → R x (labelsOn f cs x)
   labels-within f hf [] h x = hf x
   labels-within f hf (c ∷ cs) h x =
       labels-within (λ x. join (c .op) (f (c .left)) (f (c .right)) (f x)) step cs (All-tail h) x
     where
-      ends : c .op ≡ eq → R (f (c .left)) (f (c .right))
+      ends : c .op ≡ by eq → R (f (c .left)) (f (c .right))
       ends e =
           r-trans (f (c .left)) (c .left) (f (c .right)) (r-sym (c .left) (f (c .left)) (hf (c .left)))
           (r-trans (c .left) (c .right) (f (c .right)) (All-head h e) (hf (c .right)))
@@ -92,15 +94,15 @@ rename-joins a b = go (Joint-discrete decN decZ a a) (Joint-discrete decN decZ b
     go (yes p) (no n) = refl
     go (no n) e = absurd (n refl)
 
-join-joins : (o : Operator) (a b : Joint) → o ≡ eq → join o a b a ≡ join o a b b
-join-joins o a b e = rw e (rename-joins a b)
+join-joins : (p : Predicate) (a b : Joint) → p ≡ by eq → join p a b a ≡ join p a b b
+join-joins p a b e = rw e (rename-joins a b)
 
 -- what `=` joins has one label
 labels-join : (f : Joint → Joint) (cs : Clause) → All (Joins (λ x y. labelsOn f cs x ≡ labelsOn f cs y)) cs
 labels-join f [] = nil
 labels-join f (c ∷ cs) = cons here (labels-join (λ x. join (c .op) (f (c .left)) (f (c .right)) (f x)) cs)
   where
-    here : c .op ≡ eq → labelsOn f (c ∷ cs) (c .left) ≡ labelsOn f (c ∷ cs) (c .right)
+    here : c .op ≡ by eq → labelsOn f (c ∷ cs) (c .left) ≡ labelsOn f (c ∷ cs) (c .right)
     here e = labels-kept (λ x. join (c .op) (f (c .left)) (f (c .right)) (f x)) cs (c .left) (c .right) (join-joins (c .op) (f (c .left)) (f (c .right)) e)
 
 -- the comparisons of a clause, as links of it
@@ -122,27 +124,48 @@ labels-linked cs x y = (λ e. through (subst (Linked cs x) e (own x)) (linked-ba
 
 -- ---- lists of numbers that are all w
 
-eq-holds : (o : Operator) (a b : ℤ) → truth o a b ≡ true → o ≡ eq → a ≡ b
-eq-holds o a b h e = eqZ-true a b (sym (ap (λ (p : Operator). truth p a b) e) ∙ h)
+-- where a comparison by one of the six is true, the numbers stand so to each other, and neither is null
+pub related-holds : (o : Operator) (a b : ℤ) → truth (by o) a b ≡ true → (related o a b ≡ true) × (isNull a ≡ false) × (isNull b ≡ false)
+related-holds o a b h = go (isNull a) (isNull b) refl refl h
+  where
+    go : (m n : Bool) → isNull a ≡ m → isNull b ≡ n → isTrue (cond (m || n) unknown (known (related o a b))) ≡ true
+        → (related o a b ≡ true) × (isNull a ≡ false) × (isNull b ≡ false)
+    go true n e f k = absurd (false≢true k)
+    go false true e f k = absurd (false≢true k)
+    go false false e f k = (k, e, f)
 
-strict-differs : (o : Operator) (a : ℤ) → truth o a a ≡ true → strict o ≡ false
-strict-differs eq a h = refl
-strict-differs ne a h = clash h (ap not (eqZ-same a))
-strict-differs lt a h = absurd (<ℤ-irrefl {a = a} (ltZ-yes (true→T (ltZ a a) h)))
-strict-differs le a h = refl
-strict-differs gt a h = absurd (<ℤ-irrefl {a = a} (ltZ-yes (true→T (ltZ a a) h)))
-strict-differs ge a h = refl
+eq-holds : (p : Predicate) (a b : ℤ) → truth p a b ≡ true → p ≡ by eq → a ≡ b
+eq-holds p a b h e = eqZ-true a b (related-holds eq a b (sym (ap (λ (p : Predicate). truth p a b) e) ∙ h) .0)
+
+strict-differs : (p : Predicate) (a : ℤ) → truth p a a ≡ true → strict p ≡ false
+strict-differs (by eq) a h = refl
+strict-differs (by ne) a h = clash (related-holds ne a a h .0) (ap not (eqZ-same a))
+strict-differs (by lt) a h = absurd (<ℤ-irrefl {a = a} (ltZ-yes (true→T (ltZ a a) (related-holds lt a a h .0))))
+strict-differs (by le) a h = refl
+strict-differs (by gt) a h = absurd (<ℤ-irrefl {a = a} (ltZ-yes (true→T (ltZ a a) (related-holds gt a a h .0))))
+strict-differs (by ge) a h = refl
+strict-differs is-null a h = refl
+strict-differs is-not-null a h = refl
+
+-- no side of a comparison that is true has the null constant in its class
+never-not : (p : Predicate) (a b : ℤ) (ys zs : List ℤ) → All (λ (y : ℤ). y ≡ a) ys → All (λ (z : ℤ). z ≡ b) zs → truth p a b ≡ true
+    → (neverOf p ys || neverOf p zs) ≡ false
+never-not (by o) a b ys zs hy hz h =
+    let k = related-holds o a b h in
+    ap₂ _||_ (any-none isNull (All-map (λ y e. ap isNull e ∙ k .1) hy)) (any-none isNull (All-map (λ z e. ap isNull e ∙ k .2) hz))
+never-not is-null a b ys zs hy hz h = refl
+never-not is-not-null a b ys zs hy hz h = refl
 
 pub differ-none : (w : ℤ) (zs : List ℤ) → All (λ (z : ℤ). z ≡ w) zs → differ zs ≡ false
 differ-none w [] h = refl
 differ-none w (y ∷ zs) h =
     any-none (λ (z : ℤ). not (eqZ y z)) (All-map (λ z e. ap not (ap₂ eqZ (All-head h) e ∙ eqZ-same w)) (All-tail h))
 
-falseOf-not : (o : Operator) (a b : ℤ) (ys zs : List ℤ)
-    → All (λ (y : ℤ). y ≡ a) ys → All (λ (z : ℤ). z ≡ b) zs → truth o a b ≡ true → falseOf o ys zs ≡ false
-falseOf-not o a b [] zs hy hz h = refl
-falseOf-not o a b (y ∷ ys) [] hy hz h = refl
-falseOf-not o a b (y ∷ ys) (z ∷ zs) hy hz h = ap not (ap₂ (truth o) (All-head hy) (All-head hz) ∙ h)
+falseOf-not : (p : Predicate) (a b : ℤ) (ys zs : List ℤ)
+    → All (λ (y : ℤ). y ≡ a) ys → All (λ (z : ℤ). z ≡ b) zs → truth p a b ≡ true → falseOf p ys zs ≡ false
+falseOf-not p a b [] zs hy hz h = refl
+falseOf-not p a b (y ∷ ys) [] hy hz h = refl
+falseOf-not p a b (y ∷ ys) (z ∷ zs) hy hz h = ap not (ap₂ (truth p) (All-head hy) (All-head hz) ∙ h)
 
 module _ (us : List ℤ) (w : ℤ) where
   lowest-is : (k : ℕ) (ks : List ℕ) → valueAt us k ≡ w → All (λ (m : ℕ). valueAt us m ≡ w) ks → valueAt us (lowest k ks) ≡ w
@@ -226,8 +249,11 @@ module _ (r : Row) (us qs : List ℤ) (cs : Clause) (met : meets (jointValue r u
   unbroken : (c : Comparison Joint) → holds (jointValue r us qs) c ≡ true → broken cs c ≡ false
   unbroken c h =
       ap₂ _||_ (apart c h)
-      (falseOf-not (c .op) (jointValue r us qs (c .left)) (jointValue r us qs (c .right)) (constants (class cs (c .left)))
+      (ap₂ _||_
+      (never-not (c .op) (jointValue r us qs (c .left)) (jointValue r us qs (c .right)) (constants (class cs (c .left)))
       (constants (class cs (c .right))) (class-constants (c .left)) (class-constants (c .right)) h)
+      (falseOf-not (c .op) (jointValue r us qs (c .left)) (jointValue r us qs (c .right)) (constants (class cs (c .left)))
+      (constants (class cs (c .right))) (class-constants (c .left)) (class-constants (c .right)) h))
 
   -- rule 6 removes no clause that is met
   pub not-contradictory : contradictory cs ≡ false

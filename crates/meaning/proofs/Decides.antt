@@ -12,11 +12,11 @@ use native.Mathlib.Omega.{arith}
 use lib.IntN.{ℤ}
 use lib.ListN.{length}
 use Rattle.meaning.specs.Operator.{Operator}
-use Rattle.meaning.specs.Condition.{Comparison, Level, atom, conjunction, disjunction, Condition, compare, negate, group, alone, both, single, either, Where, always, under}
+use Rattle.meaning.specs.Condition.{Level, atom, conjunction, disjunction, Tree, compare, negate, group, alone, both, single, either, Optional, always, under}
 use Rattle.meaning.specs.Tokens as T
-use Rattle.meaning.specs.Tokens.{Name, Token, keyword, name, operator, comma, lparen, rparen, dot, other, TABLE, SELECT, FROM, WHERE, INSERT, INTO, VALUES, UPDATE, SET, DELETE, AND, OR, NOT}
-use Rattle.meaning.specs.Grammar.{Given, constant, mark, Term, column, given, Listed, last, next, Sentence, table, select, insert, update, delete, givenToken, spellName, spellGiven, spellSetting, spellList, spellCondition, spellWhere, sizeWord, spell, Reader, then, _>>=_, _>>_, done, passing, expect, nameOf, constantOf, operatorOf, aName, aGiven, aTerm, aDotted, commaSecond, isPaired, aSingle, aPair, spellDotted, spellTerm, pair, aSetting, aList, aComparison, aCondition, aWhere, aSizeWord, aSentence, whole, read}
-use Rattle.meaning.proofs.Readers.{some-none, some-same, either-first, either-second, tested-sound, passing-stops, begins, then-some, Sound, sound-read, fails-sound, done-sound, passing-sound, either-sound, bind-sound, aToken-sound, expect-sound}
+use Rattle.meaning.specs.Tokens.{Name, Token, keyword, name, operator, comma, lparen, rparen, dot, other, TABLE, SELECT, FROM, WHERE, INSERT, INTO, VALUES, UPDATE, SET, DELETE, AND, OR, NOT, IS, NULL}
+use Rattle.meaning.specs.Grammar.{Given, constant, mark, Term, column, given, Test, compares, tests-null, tests-not-null, Listed, last, next, Sentence, table, select, insert, update, delete, givenToken, spellName, spellGiven, spellSetting, spellList, spellTest, spellCondition, spellWhere, sizeWord, spell, Reader, then, _>>=_, _>>_, done, passing, expect, nameOf, constantOf, operatorOf, aName, aGiven, aTerm, aDotted, commaSecond, isPaired, aSingle, aPair, spellDotted, spellTerm, pair, aSetting, aList, aNull, aRest, behind, aComparison, aCondition, aWhere, aSizeWord, aSentence, whole, read}
+use Rattle.meaning.proofs.Readers.{some-none, some-same, either-first, either-second, tested-sound, passing-stops, begins, then-some, Sound, sound-read, fails-sound, done-sound, passing-sound, either-sound, bind-sound, made-sound, aToken-sound, expect-sound}
 
 -- ---- soundness
 
@@ -80,9 +80,18 @@ list-sound s zero = fails-sound
 list-sound s (suc n) = bind-sound s (λ x. passing-sound (bind-sound (list-sound s n) (λ xs. done-sound _ (λ ts. refl))) (done-sound _ (λ ts. refl)))
 
 module _ {C : Type 0} {col : C → List Token → List Token} {aColumn : Reader C} (s : Exact col aColumn) where
+  null-sound : (c : C) → Sound (λ ts. col c (keyword IS ∷ ts)) (spellTest col) (aNull aColumn c)
+  null-sound c = passing-sound (expect-sound (done-sound (tests-not-null c) (λ ts. refl))) (expect-sound (done-sound (tests-null c) (λ ts. refl)))
+
+  rest-sound : (a : Term C) → Sound (spellTerm col a) (spellTest col) (aRest aColumn a)
+  rest-sound a = bind-sound (aToken-sound operatorOf operator operator-is) (λ o. bind-sound (term-sound s) (λ b. done-sound (compares a o b) (λ ts. refl)))
+
+  behind-sound : (a : Term C) → Sound (spellTerm col a) (spellTest col) (behind aColumn a)
+  behind-sound (column c) = passing-sound (null-sound c) (rest-sound (column c))
+  behind-sound (given v) = rest-sound (given v)
+
   pub comparison-sound : Exact (spellCondition col) (aComparison aColumn)
-  comparison-sound =
-      bind-sound (term-sound s) (λ a. bind-sound (aToken-sound operatorOf operator operator-is) (λ o. bind-sound (term-sound s) (λ b. done-sound _ (λ ts. refl))))
+  comparison-sound = bind-sound (term-sound s) (λ a. made-sound compare (λ c ts. refl) (behind-sound a))
 
   pub condition-sound : (n : ℕ) (l : Level) → Exact (spellCondition col {l = l}) (aCondition aColumn n l)
   unfolding aCondition
@@ -96,9 +105,9 @@ module _ {C : Type 0} {col : C → List Token → List Token} {aColumn : Reader 
   condition-sound (suc n) disjunction =
       bind-sound (condition-sound n conjunction) (λ c.
       passing-sound (bind-sound (condition-sound n disjunction) (λ d. done-sound _ (λ ts. refl))) (done-sound _ (λ ts. refl)))
-      -- what the reader finds is spelled by the tokens that it was given
 
-  pub sound-condition : (n : ℕ) (l : Level) (ts : List Token) (c : Condition (Term C) l) (more : List Token) → aCondition aColumn n l ts ≡ some (c, more)
+  -- what the reader finds is spelled by the tokens that it was given
+  pub sound-condition : (n : ℕ) (l : Level) (ts : List Token) (c : Tree (Test C) l) (more : List Token) → aCondition aColumn n l ts ≡ some (c, more)
       → ts ≡ spellCondition col c more
   sound-condition n l = sound-read (condition-sound n l)
 
@@ -114,7 +123,7 @@ size-complete false more = refl
 size-complete true more = refl
 
 -- a WHERE and a sentence, with more tokens after them
-abbrev pub spellWhereTo : {C : Type 0} → (C → List Token → List Token) → Where (Term C) → List Token → List Token
+abbrev pub spellWhereTo : {C : Type 0} → (C → List Token → List Token) → Optional (Test C) → List Token → List Token
 spellWhereTo col always more = more
 spellWhereTo col (under c) more = keyword WHERE ∷ spellCondition col c more
 
@@ -126,7 +135,7 @@ spellTo (insert t vs) more = keyword INSERT ∷ keyword INTO ∷ name t ∷ keyw
 spellTo (update t ss w) more = keyword UPDATE ∷ name t ∷ keyword SET ∷ spellList spellSetting ss (spellWhereTo spellName w more)
 spellTo (delete t w) more = keyword DELETE ∷ keyword FROM ∷ name t ∷ spellWhereTo spellName w more
 
-pub where-ends : {C : Type 0} (col : C → List Token → List Token) (w : Where (Term C)) → spellWhereTo col w [] ≡ spellWhere col w
+pub where-ends : {C : Type 0} (col : C → List Token → List Token) (w : Optional (Test C)) → spellWhereTo col w [] ≡ spellWhere col w
 where-ends col always = refl
 where-ends col (under c) = refl
 
@@ -200,7 +209,7 @@ Stops conjunction more = begins (keyword AND) more ≡ false
 Stops disjunction more = (begins (keyword AND) more ≡ false) × (begins (keyword OR) more ≡ false)
 
 -- how many calls deep a condition is read, at most
-abbrev pub height : {C : Type 0} {l : Level} → Condition (Term C) l → ℕ
+abbrev pub height : {A : Type 0} {l : Level} → Tree A l → ℕ
 height (compare c) = 1
 height (negate c) = suc (height c)
 height (group c) = suc (height c)
@@ -235,25 +244,50 @@ module _ {C : Type 0} {col : C → List Token → List Token} {aColumn : Reader 
       ∙ then-some (λ (v : Given). done (given v)) (given-complete v more)
 
   -- an operand begins a comparison
-  pub compares : (n : ℕ) (x : Term C) (more : List Token) → aCondition aColumn (suc n) atom (spellTerm col x more) ≡ aComparison aColumn (spellTerm col x more)
+  pub begins-comparison : (n : ℕ) (x : Term C) (more : List Token) → aCondition aColumn (suc n) atom (spellTerm col x more) ≡ aComparison aColumn (spellTerm col x more)
   unfolding aCondition
-  compares n (column m) more =
+  begins-comparison n (column m) more =
       let e = k .starts m more .2 in
       subst (λ ts. aCondition aColumn (suc n) atom ts ≡ aComparison aColumn ts) (sym e) refl
-  compares n (given (constant z)) more = refl
-  compares n (given mark) more = refl
+  begins-comparison n (given (constant z)) more = refl
+  begins-comparison n (given mark) more = refl
 
-  pub comparison-complete : (c : Comparison (Term C)) (more : List Token) → aComparison aColumn (spellCondition col (compare c) more) ≡ some (compare c, more)
+  -- the first operand of a test, and what stands behind it
+  abbrev firstTerm : Test C → Term C
+  firstTerm (compares a o b) = a
+  firstTerm (tests-null c) = column c
+  firstTerm (tests-not-null c) = column c
+
+  abbrev spellRest : Test C → List Token → List Token
+  spellRest (compares a o b) more = operator o ∷ spellTerm col b more
+  spellRest (tests-null c) more = keyword IS ∷ keyword NULL ∷ more
+  spellRest (tests-not-null c) more = keyword IS ∷ keyword NOT ∷ keyword NULL ∷ more
+
+  spell-first : (c : Test C) (more : List Token) → spellTest col c more ≡ spellTerm col (firstTerm c) (spellRest c more)
+  spell-first (compares a o b) more = refl
+  spell-first (tests-null c) more = refl
+  spell-first (tests-not-null c) more = refl
+
+  rest-complete : (c : Test C) (more : List Token) → behind aColumn (firstTerm c) (spellRest c more) ≡ some (c, more)
+  rest-complete (compares (column n) o b) more = then-some _ (term-complete b more)
+  rest-complete (compares (given v) o b) more = then-some _ (term-complete b more)
+  rest-complete (tests-null c) more = refl
+  rest-complete (tests-not-null c) more = refl
+
+  pub comparison-complete : (c : Test C) (more : List Token) → aComparison aColumn (spellTest col c more) ≡ some (compare c, more)
   comparison-complete c more =
-      then-some _ (term-complete (c .left) (operator (c .op) ∷ spellTerm col (c .right) more))
-      ∙ then-some _ (term-complete (c .right) more)
+      ap (aComparison aColumn) (spell-first c more)
+      ∙ then-some _ (term-complete (firstTerm c) (spellRest c more))
+      ∙ then-some _ (rest-complete c more)
 
   -- with calls enough the reader finds each condition in its spelling
-  pub complete-condition : {l : Level} (c : Condition (Term C) l) (more : List Token) (n : ℕ) → height c ≤ n → Stops l more
+  pub complete-condition : {l : Level} (c : Tree (Test C) l) (more : List Token) (n : ℕ) → height c ≤ n → Stops l more
       → aCondition aColumn n l (spellCondition col c more) ≡ some (c, more)
   unfolding aCondition
   complete-condition (compare c) more zero h s = absurd (omega arith)
-  complete-condition (compare c) more (suc n) h s = compares n (c .left) _ ∙ comparison-complete c more
+  complete-condition (compare c) more (suc n) h s =
+      subst (λ ts. aCondition aColumn (suc n) atom ts ≡ aComparison aColumn ts) (sym (spell-first c more)) (begins-comparison n (firstTerm c) (spellRest c more))
+      ∙ comparison-complete c more
   complete-condition (negate c) more zero h s = absurd (omega arith)
   complete-condition (negate c) more (suc n) h s = then-some _ (complete-condition c more n (omega arith) tt)
   complete-condition (group c) more zero h s = absurd (omega arith)
@@ -281,8 +315,14 @@ module _ {C : Type 0} {col : C → List Token → List Token} {aColumn : Reader 
   term-long (column n) more = k .long n more
   term-long (given v) more = le-refl (suc (length more))
 
-  pub high : {l : Level} (c : Condition (Term C) l) (more : List Token) → height c + 3 * length more + spare l ≤ 3 * length (spellCondition col c more)
-  high (compare c) more = omega (arith, term-long (c .left) (operator (c .op) ∷ spellTerm col (c .right) more), term-long (c .right) more)
+  -- a test has three tokens or more
+  test-long : (c : Test C) (more : List Token) → 3 + length more ≤ length (spellTest col c more)
+  test-long (compares a o b) more = omega (arith, term-long a (operator o ∷ spellTerm col b more), term-long b more)
+  test-long (tests-null c) more = omega (arith, k .long c (keyword IS ∷ keyword NULL ∷ more))
+  test-long (tests-not-null c) more = omega (arith, k .long c (keyword IS ∷ keyword NOT ∷ keyword NULL ∷ more))
+
+  pub high : {l : Level} (c : Tree (Test C) l) (more : List Token) → height c + 3 * length more + spare l ≤ 3 * length (spellCondition col c more)
+  high (compare c) more = omega (arith, test-long c more)
   high (negate c) more = omega (arith, high c more)
   high (group c) more = omega (arith, high c (rparen ∷ more))
   high (alone c) more = omega (arith, high c more)
@@ -291,7 +331,7 @@ module _ {C : Type 0} {col : C → List Token → List Token} {aColumn : Reader 
   high (either c d) more = omega (arith, high c (keyword OR ∷ spellCondition col d more), high d more)
 
 -- a WHERE
-abbrev pub heightIn : {C : Type 0} → Where (Term C) → ℕ
+abbrev pub heightIn : {A : Type 0} → Optional A → ℕ
 heightIn always = 0
 heightIn (under c) = height c
 
@@ -299,11 +339,11 @@ abbrev pub StopsWhere : List Token → Type 0
 StopsWhere more = (begins (keyword WHERE) more ≡ false) × Stops disjunction more
 
 module _ {C : Type 0} {col : C → List Token → List Token} {aColumn : Reader C} (k : Column col aColumn) where
-  pub complete-where : (w : Where (Term C)) (more : List Token) (n : ℕ) → heightIn w ≤ n → StopsWhere more → aWhere aColumn n (spellWhereTo col w more) ≡ some (w, more)
+  pub complete-where : (w : Optional (Test C)) (more : List Token) (n : ℕ) → heightIn w ≤ n → StopsWhere more → aWhere aColumn n (spellWhereTo col w more) ≡ some (w, more)
   complete-where always more n h s = passing-stops _ _ _ more (s .0)
   complete-where (under c) more n h s = then-some _ (complete-condition k c more n h (s .1))
 
-  pub high-where : (w : Where (Term C)) (more : List Token) → heightIn w + 3 * length more ≤ 3 * length (spellWhereTo col w more)
+  pub high-where : (w : Optional (Test C)) (more : List Token) → heightIn w + 3 * length more ≤ 3 * length (spellWhereTo col w more)
   high-where always more = omega arith
   high-where (under c) more = omega (arith, high k c more)
 
@@ -390,7 +430,7 @@ complete-to (select cs t w) n h =
     ∙ then-some _ (complete-list names cs more n (omega (arith, high-list names cs more)) refl)
     ∙ then-some _ (complete-where bare w [] n (omega (arith, high-where bare w [], high-list names cs more)) (refl, (refl, refl)))
   where
-    no-comma : (w : Where (Term Name)) → commaSecond (name t ∷ spellWhereTo spellName w []) ≡ false
+    no-comma : (w : Optional (Test Name)) → commaSecond (name t ∷ spellWhereTo spellName w []) ≡ false
     no-comma always = refl
     no-comma (under c) = refl
 complete-to (insert t vs) n h = then-some _ (complete-list givens vs (rparen ∷ []) n (omega (arith, high-list givens vs (rparen ∷ []))) refl)
@@ -398,7 +438,7 @@ complete-to (update t ss w) n h =
     then-some _ (complete-list settings ss (spellWhereTo spellName w []) n (omega (arith, high-list settings ss (spellWhereTo spellName w []))) (stops w))
     ∙ then-some _ (complete-where bare w [] n (omega (arith, high-where bare w [], high-list settings ss (spellWhereTo spellName w []))) (refl, (refl, refl)))
   where
-    stops : (w : Where (Term Name)) → begins comma (spellWhereTo spellName w []) ≡ false
+    stops : (w : Optional (Test Name)) → begins comma (spellWhereTo spellName w []) ≡ false
     stops always = refl
     stops (under c) = refl
 complete-to (delete t w) n h = then-some _ (complete-where bare w [] n (omega (arith, high-where bare w [])) (refl, (refl, refl)))

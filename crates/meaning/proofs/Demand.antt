@@ -10,6 +10,7 @@ use Rattle.meaning.proofs.Accepted.{lowest-number, refused-changes-noth
 use Rattle.meaning.proofs.Record.{record-reads-back}
 use Rattle.meaning.proofs.Within32.{answer-reads-back}
 use Rattle.meaning.proofs.Weakening.{patterns-weaken, pushed-weakens, answer-stays}
+use Rattle.meaning.proofs.Nulls.{null-unknown, others-known, three-values, takes-true, null-tests, opposites, null-tests-in-patterns, never-true}
 
 pub demands : Demands
 demands = record {
@@ -35,4 +36,12 @@ demands = record {
   patterns-weaken = patterns-weaken;
   pushed-weakens = pushed-weakens;
   answer-stays = answer-stays;
+  null-unknown = null-unknown;
+  others-known = others-known;
+  three-values = three-values;
+  takes-true = takes-true;
+  null-tests = null-tests;
+  opposites = opposites;
+  null-tests-in-patterns = null-tests-in-patterns;
+  never-true = never-true;
 }

@@ -20,6 +20,8 @@ pub mod Clauses
 pub mod Few
 pub mod Classes
 pub mod Weakening
+pub mod Nulls
 pub mod Demand
 pub mod Postfix
+pub mod Written
 pub mod Resolve

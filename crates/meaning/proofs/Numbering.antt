@@ -4,10 +4,10 @@ use mathlib.Core.List.{List, [], _∷_, _++_, map, append-nil}
 use Prim.Native.Nat.{ℕ, zero, suc, _+_}
 use native.Mathlib.Omega.{arith}
 use Rattle.lists.specs.Lists.{from}
-use Rattle.meaning.specs.Condition.{Comparison, Level, Condition, compare, negate, group, alone, both, single, either, comparisons, sides, Where, always, under, operandsIn}
+use Rattle.meaning.specs.Condition.{Comparison, Level, Condition, compare, negate, group, alone, both, single, either, comparisons, sides, Where, always, under, operandsIn, mappedIn}
 use Rattle.meaning.specs.Tokens.{Name}
 use Rattle.meaning.specs.Grammar as G
-use Rattle.meaning.specs.Grammar.{Given, mark, Term, given, items}
+use Rattle.meaning.specs.Grammar.{Given, mark, Term, given, comparison, items}
 use Rattle.meaning.specs.Limits.{termGivens, markIn, markCount}
 use Rattle.meaning.specs.Names.{columnsOf, position, pairPlace}
 use Rattle.meaning.specs.Statement.{Value, constant, parameter, Operand, column, value, numbered, numberedAll, settings, markInTerm, operandOf, comparisonOf, resolved, resolvedWhere, settingMarks, statementOf}
@@ -125,15 +125,15 @@ module _ {C : Type 0} (place : C → ℕ) where
 pub marks-numbered : MarksNumbered
 unfolding statementOf
 marks-numbered ts (G.table t cs ring z) = tt
-marks-numbered ts (G.select cs t w) = where-marks (position (columnsOf ts t)) 0 w
+marks-numbered ts (G.select cs t w) = where-marks (position (columnsOf ts t)) 0 (mappedIn comparison w)
 marks-numbered ts (G.pair cs t u w) =
-    where-marks (pairPlace t (columnsOf ts t) u (columnsOf ts u)) 0 w
-    ∙ ap (λ (vs : List Given). from 1 (markCount vs)) (sym (bare-givens w))
+    where-marks (pairPlace t (columnsOf ts t) u (columnsOf ts u)) 0 (mappedIn comparison w)
+    ∙ ap (λ (vs : List Given). from 1 (markCount vs)) (sym (bare-givens (mappedIn comparison w)))
 marks-numbered ts (G.insert t vs) = value-marks 0 (items vs) ∙ ap (from 1) (sym (ap markCount (append-nil (items vs))))
 marks-numbered ts (G.update t ss w) =
     let n : ℕ = settingMarks (items ss) in
-    let k : ℕ = markCount (termGivens (operandsIn w)) in
-    ap₂ _++_ (set-marks (columnsOf ts t) 0 (items ss)) (where-marks (position (columnsOf ts t)) n w ∙ from-same (suc n) (1 + n) k k (omega arith) refl)
+    let k : ℕ = markCount (termGivens (operandsIn (mappedIn comparison w))) in
+    ap₂ _++_ (set-marks (columnsOf ts t) 0 (items ss)) (where-marks (position (columnsOf ts t)) n (mappedIn comparison w) ∙ from-same (suc n) (1 + n) k k (omega arith) refl)
     ∙ sym (from-append 1 n k)
-    ∙ ap (from 1) (sym (count-append (map (λ (s : Name × Given). s .1) (items ss)) (termGivens (operandsIn w))))
-marks-numbered ts (G.delete t w) = where-marks (position (columnsOf ts t)) 0 w
+    ∙ ap (from 1) (sym (count-append (map (λ (s : Name × Given). s .1) (items ss)) (termGivens (operandsIn (mappedIn comparison w)))))
+marks-numbered ts (G.delete t w) = where-marks (position (columnsOf ts t)) 0 (mappedIn comparison w)

@@ -9,12 +9,12 @@ use native.Mathlib.Omega.{arith}
 use lib.IntN.{ℤ}
 use lib.ListN.{length, length-append}
 use Rattle.lists.specs.Lists.{All, nil, cons, pairs}
-use Rattle.lists.proofs.Bools.{not-not, not-and, not-or}
 use Rattle.lists.proofs.Lists.{All-head, All-tail, All-append, All-pairs}
 use Rattle.lists.proofs.Stacks.{regroup}
+use Rattle.meaning.specs.Operator.{isTrue, compared}
 use Rattle.meaning.specs.Condition.{Comparison, Level, atom, conjunction, disjunction, Condition, compare, negate, group, alone, both, single, either, Where, always, under, comparisons, sides, comparisonsIn, operandsIn, depth, depthIn, holds, eval, evalWhere, clauses, clausesOf}
 use Rattle.meaning.specs.Postfix.{Node, leaf, allOf, anyOf, top, joined, signed, joinAll, joinAny, nodes, nodesIn, leaves, stepOn, runOn, truthOf, clausesOfNodes, balancedOn, isPostfix}
-use Rattle.meaning.proofs.Clauses.{opposite-negates, polar}
+use Rattle.meaning.proofs.Clauses.{opposite-negates, polar, true-not, true-and, true-or}
 
 -- ---- run on a stack
 
@@ -73,39 +73,27 @@ module _ {O A : Type 0} (one : Comparison O → A) (all any : A → A → A) whe
 
 -- ---- truth
 
-polar-not : (p b : Bool) → polar p (not b) ≡ polar (not p) b
-polar-not true b = refl
-polar-not false b = not-not b
-
-polar-and : (p a b : Bool) → polar p (a && b) ≡ cond p _&&_ _||_ (polar p a) (polar p b)
-polar-and true a b = refl
-polar-and false a b = sym (not-and a b)
-
-polar-or : (p a b : Bool) → polar p (a || b) ≡ cond p _||_ _&&_ (polar p a) (polar p b)
-polar-or true a b = refl
-polar-or false a b = sym (not-or a b)
-
 module _ {O : Type 0} where
-  holds-signed : (v : O → ℤ) (p : Bool) (c : Comparison O) → polar p (holds v c) ≡ holds v (signed p c)
+  holds-signed : (v : O → ℤ) (p : Bool) (c : Comparison O) → isTrue (polar p (compared (c .op) (v (c .left)) (v (c .right)))) ≡ holds v (signed p c)
   holds-signed v true c = refl
-  holds-signed v false c = sym (opposite-negates (c .op) (v (c .left)) (v (c .right)))
+  holds-signed v false c = ap isTrue (sym (opposite-negates (c .op) (v (c .left)) (v (c .right))))
 
-  pub truth-folds : (v : O → ℤ) → Folds (holds v) _&&_ _||_ (λ l p c. polar p (eval v c))
+  pub truth-folds : (v : O → ℤ) → Folds (holds v) _&&_ _||_ (λ l p c. isTrue (polar p (eval v c)))
   truth-folds v =
       record {
         at-compare = holds-signed v;
-        at-negate = λ p c. polar-not p (eval v c);
+        at-negate = λ p c. true-not p (eval v c);
         at-group = λ p c. refl;
         at-alone = λ p c. refl;
-        at-both = λ p c d. polar-and p (eval v c) (eval v d);
+        at-both = λ p c d. true-and p (eval v c) (eval v d);
         at-single = λ p c. refl;
-        at-either = λ p c d. polar-or p (eval v c) (eval v d);
+        at-either = λ p c d. true-or p (eval v c) (eval v d);
       }
 
   -- the nodes of a condition are true exactly where it is
   pub truth-postfix : (v : O → ℤ) (w : Where O) → truthOf v (nodesIn w) ≡ evalWhere v w
   truth-postfix v always = refl
-  truth-postfix v (under c) = top-nodes (holds v) _&&_ _||_ (λ l p c. polar p (eval v c)) (truth-folds v) true c true
+  truth-postfix v (under c) = top-nodes (holds v) _&&_ _||_ (λ l p c. isTrue (polar p (eval v c))) (truth-folds v) true c true
 
   -- ---- clauses
 

@@ -159,6 +159,15 @@ module _ {A : Type 0} {before : List Token → List Token} {sp : A → List Toke
       at ts none h = tt
       at ts (some x) h = subst (λ us. Spelled sp (k (x .0) (x .1)) (before us)) (sym h) (q (x .0) .finds (x .1))
 
+-- what r reads, made into something else that is spelled the same
+pub made-sound : {A B : Type 0} {before : List Token → List Token} {sp : A → List Token → List Token} {sq : B → List Token → List Token} {r : Reader A} (f : A → B)
+    → ((x : A) (ts : List Token) → sp x ts ≡ sq (f x) ts) → Sound before sp r → Sound before sq (r >>= λ x. done (f x))
+made-sound {A} {B} {before} {sp} {sq} {r} f e s = record { finds = λ ts. at ts (r ts) (s .finds ts) }
+  where
+    at : (ts : List Token) (o : Option (A × List Token)) → Spelled sp o (before ts) → Spelled sq (then o (λ x. done (f x))) (before ts)
+    at ts none h = tt
+    at ts (some x) h = h ∙ e (x .0) (x .1)
+
 -- one token, which f takes only where it spells what f makes of it
 pub aToken-sound : {A : Type 0} (f : Token → Option A) (g : A → Token) → ((t : Token) (x : A) → f t ≡ some x → t ≡ g x) → Sound (λ ts. ts) (λ x ts. g x ∷ ts) (aToken f)
 aToken-sound f g h = record { finds = λ ts. at ts (aToken f ts) refl }

@@ -1,8 +1,8 @@
 -- Names resolved and question marks numbered in a condition in postfix order: it is what the condition itself gives; joins, constants and the number of
--- question marks stay; the tests of the outcome hold of it; and what passes the tests comes from a condition that names columns of the table, or of the two.
+-- question marks stay; the tests of the outcome hold of it; and what passes the tests comes from a condition as it is written, that names columns of the table, or of the two.
 -- Assumes nothing.
 use mathlib.Core.Path.{_≡_, refl, sym, ap, ap₂, _∙_, subst}
-use mathlib.Core.Bool.{Bool, true, false, not, _&&_, _||_, cond, or-true}
+use mathlib.Core.Bool.{Bool, true, false, not, _&&_, _||_, cond, or-true, false≢true}
 use mathlib.Core.List.{List, [], _∷_, _++_}
 use Prim.Native.Nat.{ℕ, zero, suc, _+_, _-_, _≤_, _<_}
 use native.Mathlib.Nat.{le-of-suc-le-suc, not-suc-le-zero, add-zero}
@@ -11,23 +11,25 @@ use borrow.Author.Tests.{ltb-true, ltb-false, lt-ltb, eqb-true, eq-eqb}
 use lib.Dec.{eqb, eqb-refl, ltb}
 use lib.IntN.{ℤ}
 use lib.ListN.{length, getD}
-use Rattle.lists.specs.Lists.{All, any, all, repeats}
+use Rattle.lists.specs.Lists.{All, nil, cons, any, all, repeats}
 use Rattle.lists.specs.Tests.{eqList-refl}
 use Rattle.lists.proofs.Bools.{T→true, and-left, and-right, and-both, or-left, or-right, not-false, contra}
-use Rattle.lists.proofs.Lists.{any-false}
+use Rattle.lists.proofs.Lists.{All-head, All-tail, any-false}
 use Rattle.lists.proofs.Places.{All-at}
-use Rattle.meaning.specs.Condition.{Comparison, Level, Condition, compare, negate, group, alone, both, single, either, Where, always, under, comparisons, sides, comparisonsIn, operandsIn, depthIn, renamed}
+use Rattle.meaning.specs.Operator.{Predicate, by, is-null, is-not-null}
+use Rattle.meaning.specs.Condition.{Comparison, Level, Condition, compare, negate, group, alone, both, single, either, Optional, Where, always, under, comparisons, sides, comparisonsIn, operandsIn, depthIn, mappedIn, renamed}
 use Rattle.meaning.specs.Postfix.{Node, leaf, allOf, anyOf, signed, joinAll, joinAny, nodes, nodesIn, leaves, balancedOn, isPostfix}
 use Rattle.meaning.specs.Tokens.{Name}
 use Rattle.meaning.specs.Grammar as G
-use Rattle.meaning.specs.Grammar.{mark, Term, given, Dotted}
+use Rattle.meaning.specs.Grammar.{mark, Term, given, Test, comparison, Dotted}
 use Rattle.meaning.specs.Limits.{termGivens, termColumns, markCount, isWithin32, outside32}
 use Rattle.meaning.specs.Names.{sameName, has, position, isOf, pairPlace}
 use Rattle.meaning.specs.Statement.{Operand, column, value, constant, parameter, markInTerm, operandOf, comparisonOf, resolved, resolvedWhere}
-use Rattle.meaning.specs.Resolve.{marksPast, marksAfter, resolveNodes, termConstants, operandConstants, markInOperand, parameterCount, isNumbered, numberedOn, numberedFrom, isBelow, columnsBelow}
+use Rattle.meaning.specs.Resolve.{marksPast, marksAfter, resolveNodes, termConstants, operandConstants, markInOperand, parameterCount, isNumbered, numberedOn, numberedFrom, isBelow, columnsBelow, isTestBy, isTest, areTests}
 use Rattle.meaning.proofs.Names.{same-is, has-position}
 use Rattle.meaning.proofs.Dotted.{pair-inside}
 use Rattle.meaning.proofs.Postfix.{sides-nodes, sides-in, leaves-in, postfix-where, where-postfix}
+use Rattle.meaning.proofs.Written.{IsTest, Fits, written, nodes-back, nodes-tests}
 
 -- ---- the marks passed
 
@@ -197,6 +199,24 @@ module _ {C : Type 0} (place : C → ℕ) where
   resolve-numbered m (allOf ∷ ns) = resolve-numbered m ns
   resolve-numbered m (anyOf ∷ ns) = resolve-numbered m ns
 
+  test-resolved : (m n : ℕ) (p : Predicate) (a b : Term C) → Fits p a b → isTestBy p (operandOf place m a) (operandOf place n b) ≡ true
+  test-resolved m n (by o) a b h = refl
+  test-resolved m n is-null (G.column c) (G.column d) h = eq-eqb (place c) (place d) (ap place h)
+  test-resolved m n is-null (G.column c) (given v) h = absurd h
+  test-resolved m n is-null (given v) b h = absurd h
+  test-resolved m n is-not-null (G.column c) (G.column d) h = eq-eqb (place c) (place d) (ap place h)
+  test-resolved m n is-not-null (G.column c) (given v) h = absurd h
+  test-resolved m n is-not-null (given v) b h = absurd h
+
+  -- its null tests are of columns
+  pub resolve-tests : (m : ℕ) (ns : List (Node (Term C))) → All IsTest (leaves ns) → areTests (resolveNodes place m ns) ≡ true
+  resolve-tests m [] h = refl
+  resolve-tests m (leaf c ∷ ns) h =
+      and-both (isTest (comparisonOf place m c)) _ (test-resolved m (m + markInTerm (c .left)) (c .op) (c .left) (c .right) (All-head h))
+      (resolve-tests (marksPast m c) ns (All-tail h))
+  resolve-tests m (allOf ∷ ns) h = resolve-tests m ns h
+  resolve-tests m (anyOf ∷ ns) h = resolve-tests m ns h
+
 -- columns, some of them strange; the others have their places among the first `width`
 module _ {C : Type 0} (place : C → ℕ) (width : ℕ) (strange : C → Bool) (inside : (c : C) → strange c ≡ false → place c < width) where
   below-next : (m : ℕ) (t : Term C) (ts : List (Term C)) (os : List Operand) → any strange (termColumns (t ∷ ts)) ≡ false
@@ -218,17 +238,20 @@ module _ {C : Type 0} (place : C → ℕ) (width : ℕ) (strange : C → Bool) (
   resolve-below m (allOf ∷ ns) h = resolve-below m ns h
   resolve-below m (anyOf ∷ ns) h = resolve-below m ns h
 
-  -- the nodes of a WHERE of which no column is strange pass the three tests
-  pub where-passes : (m : ℕ) (w : Where (Term C)) → any strange (termColumns (operandsIn w)) ≡ false
-      → (isPostfix (nodesIn (resolvedWhere place m w)) ≡ true)
-      × (columnsBelow width (nodesIn (resolvedWhere place m w)) ≡ true)
-      × (numberedFrom m (nodesIn (resolvedWhere place m w)) ≡ true)
-  where-passes m w h = (
-    postfix-where (resolvedWhere place m w),
-    ap (columnsBelow width) (resolve-where place m w)
-        ∙ resolve-below m (nodesIn w) (ap (λ os. any strange (termColumns os)) (sides-in w) ∙ h),
-    ap (numberedFrom m) (resolve-where place m w) ∙ resolve-numbered place m (nodesIn w),
-  )
+  -- the nodes of a WHERE of which no column is strange pass the four tests
+  pub where-passes : (m : ℕ) (w : Optional (Test C)) → any strange (termColumns (operandsIn (mappedIn comparison w))) ≡ false
+      → (isPostfix (nodesIn (resolvedWhere place m (mappedIn comparison w))) ≡ true)
+      × (columnsBelow width (nodesIn (resolvedWhere place m (mappedIn comparison w))) ≡ true)
+      × (numberedFrom m (nodesIn (resolvedWhere place m (mappedIn comparison w))) ≡ true)
+      × (areTests (nodesIn (resolvedWhere place m (mappedIn comparison w))) ≡ true)
+  where-passes m v h =
+      let w : Where (Term C) = mappedIn comparison v in (
+        postfix-where (resolvedWhere place m w),
+        ap (columnsBelow width) (resolve-where place m w)
+            ∙ resolve-below m (nodesIn w) (ap (λ os. any strange (termColumns os)) (sides-in w) ∙ h),
+        ap (numberedFrom m) (resolve-where place m w) ∙ resolve-numbered place m (nodesIn w),
+        ap areTests (resolve-where place m w) ∙ resolve-tests place m (nodesIn w) (nodes-tests v),
+      )
 
 -- the constants of terms that are outside 32 bits
 pub outside-constants : {C : Type 0} (ts : List (Term C)) → any outside32 (termGivens ts) ≡ any (λ (z : ℤ). not (isWithin32 z)) (termConstants ts)
@@ -274,15 +297,15 @@ pub record Columns {C : Type 0} (place : C → ℕ) (width : ℕ) (strange : C �
   pub known : (i : ℕ) → i < width → strange (at i) ≡ false
   pub there : (i : ℕ) → i < width → place (at i) ≡ i
 
--- a WHERE of which the nodes ns come, and what is in it
+-- a WHERE, as it is written, of which the nodes ns come, and what is in it
 pub record Source {C : Type 0} (place : C → ℕ) (strange : C → Bool) (m : ℕ) (ns : List (Node Operand)) : Type 0 where
-  pub source : Where (Term C)
-  pub resolves : nodesIn (resolvedWhere place m source) ≡ ns
-  pub known : any strange (termColumns (operandsIn source)) ≡ false
-  pub constants : termConstants (operandsIn source) ≡ operandConstants (sides (leaves ns))
-  pub marks : markCount (termGivens (operandsIn source)) ≡ parameterCount (sides (leaves ns))
-  pub size : length (comparisonsIn source) ≡ length (leaves ns)
-  pub shallow : length (leaves ns) ≤ 8 → depthIn source ≤ 8
+  pub source : Optional (Test C)
+  pub resolves : nodesIn (resolvedWhere place m (mappedIn comparison source)) ≡ ns
+  pub known : any strange (termColumns (operandsIn (mappedIn comparison source))) ≡ false
+  pub constants : termConstants (operandsIn (mappedIn comparison source)) ≡ operandConstants (sides (leaves ns))
+  pub marks : markCount (termGivens (operandsIn (mappedIn comparison source))) ≡ parameterCount (sides (leaves ns))
+  pub size : length (comparisonsIn (mappedIn comparison source)) ≡ length (leaves ns)
+  pub shallow : length (leaves ns) ≤ 8 → depthIn (mappedIn comparison source) ≤ 8
 
 module _ {C : Type 0} (place : C → ℕ) (width : ℕ) (strange : C → Bool) (at : ℕ → C) (K : Columns place width strange at) where
   -- a term of which the operand comes
@@ -342,24 +365,45 @@ module _ {C : Type 0} (place : C → ℕ) (width : ℕ) (strange : C → Bool) (
   resolve-unresolved m (allOf ∷ ns) h k = ap (λ r. allOf ∷ r) (resolve-unresolved m ns h k)
   resolve-unresolved m (anyOf ∷ ns) h k = ap (λ r. anyOf ∷ r) (resolve-unresolved m ns h k)
 
-  -- nodes that pass the three tests come from a WHERE of which no column is strange
-  pub where-source : (m : ℕ) (ns : List (Node Operand)) → isPostfix ns ≡ true → columnsBelow width ns ≡ true → numberedFrom m ns ≡ true → Source place strange m ns
-  where-source m ns p h k =
+  test-unresolved : (p : Predicate) (a b : Operand) → isTestBy p a b ≡ true → Fits p (termAt a) (termAt b)
+  test-unresolved (by o) a b h = tt
+  test-unresolved is-null (column i) (column j) h = ap at (eqb-true i j h)
+  test-unresolved is-null (column i) (value v) h = absurd (false≢true h)
+  test-unresolved is-null (value v) b h = absurd (false≢true h)
+  test-unresolved is-not-null (column i) (column j) h = ap at (eqb-true i j h)
+  test-unresolved is-not-null (column i) (value v) h = absurd (false≢true h)
+  test-unresolved is-not-null (value v) b h = absurd (false≢true h)
+
+  -- its null tests are of columns
+  unresolved-tests : (ns : List (Node Operand)) → areTests ns ≡ true → All IsTest (leaves (unresolved ns))
+  unresolved-tests [] h = nil
+  unresolved-tests (leaf c ∷ ns) h =
+      cons (test-unresolved (c .op) (c .left) (c .right) (and-left (isTest c) _ h)) (unresolved-tests ns (and-right (isTest c) _ h))
+  unresolved-tests (allOf ∷ ns) h = unresolved-tests ns h
+  unresolved-tests (anyOf ∷ ns) h = unresolved-tests ns h
+
+  -- nodes that pass the four tests come from a WHERE of which no column is strange
+  pub where-source : (m : ℕ) (ns : List (Node Operand)) → isPostfix ns ≡ true → columnsBelow width ns ≡ true → numberedFrom m ns ≡ true → areTests ns ≡ true
+      → Source place strange m ns
+  where-source m ns p h k t =
       let ts : List (Node (Term C)) = unresolved ns in
       let back : resolveNodes place m ts ≡ ns = resolve-unresolved m ns h k in
       let q : isPostfix ts ≡ true = sym (resolve-postfix place m ts) ∙ ap isPostfix back ∙ p in
       let b : (w : Where (Term C)) × (nodesIn w ≡ ts) × (length (leaves ts) ≤ 8 → depthIn w ≤ 8) = where-postfix ts q in
       let w : Where (Term C) = b .0 in
+      let e : mappedIn comparison (mappedIn written w) ≡ w =
+      nodes-back w (subst (λ us. All IsTest (leaves us)) (sym (b .1)) (unresolved-tests ns t)) in
       let inside : sides (leaves ts) ≡ operandsIn w = ap (λ us. sides (leaves us)) (sym (b .1)) ∙ sides-in w in
+      let operands : operandsIn (mappedIn comparison (mappedIn written w)) ≡ sides (leaves ts) = ap operandsIn e ∙ sym inside in
       let many : length (leaves ts) ≡ length (leaves ns) = sym (resolve-leaves place m ts) ∙ ap (λ us. length (leaves us)) back in
       record {
-        source = w;
-        resolves = resolve-where place m w ∙ ap (resolveNodes place m) (b .1) ∙ back;
-        known = ap (λ os. any strange (termColumns os)) (sym inside) ∙ unresolved-known ns h;
-        constants = ap termConstants (sym inside) ∙ sym (resolve-constants place m ts) ∙ ap (λ us. operandConstants (sides (leaves us))) back;
-        marks = ap (λ os. markCount (termGivens os)) (sym inside) ∙ sym (resolve-marks place m ts) ∙ ap (λ us. parameterCount (sides (leaves us))) back;
-        size = sym (leaves-in w) ∙ ap (λ us. length (leaves us)) (b .1) ∙ many;
-        shallow = λ s. b .2 (subst (λ i. i ≤ 8) (sym many) s);
+        source = mappedIn written w;
+        resolves = ap (λ x. nodesIn (resolvedWhere place m x)) e ∙ resolve-where place m w ∙ ap (resolveNodes place m) (b .1) ∙ back;
+        known = ap (λ os. any strange (termColumns os)) operands ∙ unresolved-known ns h;
+        constants = ap termConstants operands ∙ sym (resolve-constants place m ts) ∙ ap (λ us. operandConstants (sides (leaves us))) back;
+        marks = ap (λ os. markCount (termGivens os)) operands ∙ sym (resolve-marks place m ts) ∙ ap (λ us. parameterCount (sides (leaves us))) back;
+        size = ap (λ x. length (comparisonsIn x)) e ∙ sym (leaves-in w) ∙ ap (λ us. length (leaves us)) (b .1) ∙ many;
+        shallow = λ s. subst (λ x. depthIn x ≤ 8) (sym e) (b .2 (subst (λ i. i ≤ 8) (sym many) s));
       }
 
 -- ---- the columns of a table, and of two

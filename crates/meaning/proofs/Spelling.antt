@@ -19,10 +19,10 @@ use Rattle.lists.proofs.Bools.{and-assoc, and-left, and-right, and-both, clash}
 use Rattle.lists.proofs.Lists.{All-map, all-append, all-true, map-append}
 use Rattle.lists.proofs.Runs.{Ends, run-unique, drop-no}
 use Rattle.meaning.specs.Operator.{eq, ne, lt, le, gt, ge}
-use Rattle.meaning.specs.Condition.{Comparison, Level, Condition, compare, negate, group, alone, both, single, either, comparisons, sides, Where, always, under, operandsIn}
-use Rattle.meaning.specs.Tokens.{Keyword, TABLE, ROWS, SELECT, FROM, WHERE, INSERT, INTO, VALUES, UPDATE, SET, DELETE, AND, OR, NOT, RING, Name, Token, keyword, name, constant, operator, mark, comma, lparen, rparen, dot, other, isDigit, isSmall, isNameByte, isWordByte, isSpace, isMinus, decimalOn, decimal, isName, folded, keywords, keywordOr, word, negative, signs, behindPrefix, signIn, tokenFrom, tokenHere, firstToken, scan, tokens}
+use Rattle.meaning.specs.Condition.{Comparison, Level, Tree, compare, negate, group, alone, both, single, either, comparisons, sides, Optional, always, under, operandsIn, mapped, mappedIn}
+use Rattle.meaning.specs.Tokens.{Keyword, TABLE, ROWS, SELECT, FROM, WHERE, INSERT, INTO, VALUES, UPDATE, SET, DELETE, AND, OR, NOT, RING, IS, NULL, Name, Token, keyword, name, constant, operator, mark, comma, lparen, rparen, dot, other, isDigit, isSmall, isNameByte, isWordByte, isSpace, isMinus, decimalOn, decimal, isName, folded, keywords, keywordOr, word, negative, signs, behindPrefix, signIn, tokenFrom, tokenHere, firstToken, scan, tokens}
 use Rattle.meaning.specs.Grammar as G
-use Rattle.meaning.specs.Grammar.{Given, Term, given, Listed, last, next, items, Dotted, Sentence, givenToken, spellName, spellDotted, spellGiven, spellSetting, spellList, spellTerm, spellCondition, spellWhere, sizeWord, spell}
+use Rattle.meaning.specs.Grammar.{Given, Term, given, Test, compares, tests-null, tests-not-null, comparison, Listed, last, next, items, Dotted, Sentence, givenToken, spellName, spellDotted, spellGiven, spellSetting, spellList, spellTerm, spellTest, spellCondition, spellWhere, sizeWord, spell}
 use Rattle.meaning.specs.Limits.{termColumns, columnsNamed, allNames}
 use Rattle.meaning.specs.Demand.{HasText, KeywordsRemain}
 use Rattle.meaning.proofs.Readers.{some-none, some-same}
@@ -89,6 +89,8 @@ keywordText AND = "AND"
 keywordText OR = "OR"
 keywordText NOT = "NOT"
 keywordText RING = "RING"
+keywordText IS = "IS"
+keywordText NULL = "NULL"
 
 keyword-word : (k : Keyword) → Word (bytes (keywordText k)) (keyword k)
 unfolding keywordText word isName isNameByte isWordByte
@@ -107,6 +109,8 @@ keyword-word AND = record { letters = refl; there = refl; means = refl }
 keyword-word OR = record { letters = refl; there = refl; means = refl }
 keyword-word NOT = record { letters = refl; there = refl; means = refl }
 keyword-word RING = record { letters = refl; there = refl; means = refl }
+keyword-word IS = record { letters = refl; there = refl; means = refl }
+keyword-word NULL = record { letters = refl; there = refl; means = refl }
 
 -- the text of a token that is a keyword, else d
 abbrev textOr : List ℕ → Token → List ℕ
@@ -398,23 +402,37 @@ module _ {C : Type 0} (col : C → List Token → List Token) (good : C → Bool
   named-two cs ds a b c h k =
       h ∙ ap (λ (x : Bool). namesIn cs && x) k ∙ and-assoc (namesIn cs) (namesIn ds) c ∙ ap (λ (x : Bool). x && c) (sym (names-append cs ds))
 
-  named-condition : {l : Level} (c : Condition (Term C) l) (more : List Token) → all isNamed (spellCondition col c more) ≡ (namesIn (comparisons c) && all isNamed more)
-  named-condition (compare c) more =
-      named-term (c .left) (c .right ∷ []) (operator (c .op) ∷ spellTerm col (c .right) more) (all isNamed more) (named-term (c .right) [] more (all isNamed more) refl)
+  -- a null test names its column once, and as a comparison twice
+  named-null : (a b : Bool) → (a && b) ≡ ((a && (a && true)) && b)
+  named-null true b = refl
+  named-null false b = refl
+
+  named-test : (c : Test C) (more : List Token) → all isNamed (spellTest col c more) ≡ (namesIn (comparison c ∷ []) && all isNamed more)
+  named-test (compares x o y) more =
+      named-term x (y ∷ []) (operator o ∷ spellTerm col y more) (all isNamed more) (named-term y [] more (all isNamed more) refl)
+  named-test (tests-null c) more = one c (keyword IS ∷ keyword NULL ∷ more) ∙ named-null (good c) (all isNamed more)
+  named-test (tests-not-null c) more = one c (keyword IS ∷ keyword NOT ∷ keyword NULL ∷ more) ∙ named-null (good c) (all isNamed more)
+
+  -- the comparisons of what is written
+  abbrev testsIn : {l : Level} → Tree (Test C) l → List (Comparison (Term C))
+  testsIn c = comparisons (mapped comparison c)
+
+  named-condition : {l : Level} (c : Tree (Test C) l) (more : List Token) → all isNamed (spellCondition col c more) ≡ (namesIn (testsIn c) && all isNamed more)
+  named-condition (compare c) more = named-test c more
   named-condition (negate c) more = named-condition c more
   named-condition (group c) more = named-condition c (rparen ∷ more)
   named-condition (alone c) more = named-condition c more
   named-condition (both c d) more =
-      named-two (comparisons c) (comparisons d) (all isNamed (spellCondition col (both c d) more)) (all isNamed (spellCondition col d more)) (all isNamed more)
+      named-two (testsIn c) (testsIn d) (all isNamed (spellCondition col (both c d) more)) (all isNamed (spellCondition col d more)) (all isNamed more)
       (named-condition c (keyword AND ∷ spellCondition col d more)) (named-condition d more)
   named-condition (single c) more = named-condition c more
   named-condition (either c d) more =
-      named-two (comparisons c) (comparisons d) (all isNamed (spellCondition col (either c d) more)) (all isNamed (spellCondition col d more)) (all isNamed more)
+      named-two (testsIn c) (testsIn d) (all isNamed (spellCondition col (either c d) more)) (all isNamed (spellCondition col d more)) (all isNamed more)
       (named-condition c (keyword OR ∷ spellCondition col d more)) (named-condition d more)
 
-  named-where : (w : Where (Term C)) → all isNamed (spellWhere col w) ≡ all good (termColumns (operandsIn w))
+  named-where : (w : Optional (Test C)) → all isNamed (spellWhere col w) ≡ all good (termColumns (operandsIn (mappedIn comparison w)))
   named-where always = refl
-  named-where (under c) = named-condition c [] ∙ and-true (namesIn (comparisons c))
+  named-where (under c) = named-condition c [] ∙ and-true (namesIn (testsIn c))
 
 -- the two names of a dotted column
 abbrev bothNames : Dotted → Bool
@@ -443,13 +461,13 @@ named-sentence (G.table t cs ring z) =
 named-sentence (G.select cs t w) =
     named-list spellName isName (λ n more. refl) cs (keyword FROM ∷ name t ∷ spellWhere spellName w)
     ∙ ap (λ (b : Bool). all isName (items cs) && (isName t && b)) (named-where spellName isName (λ n more. refl) w)
-    ∙ swap (all isName (items cs)) (isName t) (all isName (termColumns (operandsIn w)))
-    ∙ ap (λ (b : Bool). isName t && b) (sym (all-append isName (items cs) (termColumns (operandsIn w))))
+    ∙ swap (all isName (items cs)) (isName t) (all isName (termColumns (operandsIn (mappedIn comparison w))))
+    ∙ ap (λ (b : Bool). isName t && b) (sym (all-append isName (items cs) (termColumns (operandsIn (mappedIn comparison w)))))
 named-sentence (G.pair cs t u w) =
-    let ds : List Dotted = termColumns (operandsIn w) in
+    let ds : List Dotted = termColumns (operandsIn (mappedIn comparison w)) in
     let firsts : List Name = map (λ (c : Dotted). c .0) (items cs ++ ds) in
     let columns : map (λ (c : Dotted). c .1) (items cs ++ ds) ≡ columnsNamed (G.pair cs t u w) =
-    map-append (λ (c : Dotted). c .1) (items cs) ds ∙ ap (λ (ns : List Name). map (λ (c : Dotted). c .1) (items cs) ++ ns) (sym (bare-columns w)) in
+    map-append (λ (c : Dotted). c .1) (items cs) ds ∙ ap (λ (ns : List Name). map (λ (c : Dotted). c .1) (items cs) ++ ns) (sym (bare-columns (mappedIn comparison w))) in
     named-list spellDotted bothNames named-dotted cs (keyword FROM ∷ name t ∷ comma ∷ name u ∷ spellWhere spellDotted w)
     ∙ ap (λ (b : Bool). all bothNames (items cs) && (isName t && (isName u && b))) (named-where spellDotted bothNames named-dotted w)
     ∙ swap (all bothNames (items cs)) (isName t) (isName u && all bothNames ds)
@@ -465,7 +483,7 @@ named-sentence (G.update t ss w) =
     ap (λ (b : Bool). isName t && b)
     (named-list spellSetting (λ (s : Name × Given). isName (s .0)) named-setting ss (spellWhere spellName w)
     ∙ ap₂ _&&_ (all-map (λ (s : Name × Given). s .0) isName (items ss)) (named-where spellName isName (λ n more. refl) w)
-    ∙ sym (all-append isName columns (termColumns (operandsIn w))))
+    ∙ sym (all-append isName columns (termColumns (operandsIn (mappedIn comparison w)))))
 named-sentence (G.delete t w) = ap (λ (b : Bool). isName t && b) (named-where spellName isName (λ n more. refl) w)
 
 -- ---- the claim

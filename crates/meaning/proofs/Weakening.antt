@@ -16,7 +16,7 @@ use Rattle.lists.specs.Tests.{decN, decZ, eqZ, eqZ-refl, eqList, eqList-refl}
 use Rattle.lists.proofs.Bools.{and-or, and-left, and-right, and-both, or-left, or-right, not-false, contra, clash, T→true, eqZ-true, yes-of}
 use Rattle.lists.proofs.Lists.{All-head, All-tail, All-map, All-every, All-both, All-left, All-right, All-source, any-append, any-false, any-flat-map, any-implies, any-keep, any-map, any-pairs, keep-append, keep-no, map-append, map-same}
 use Rattle.lists.proofs.Changed.{eqList-true, any-distinct}
-use Rattle.meaning.specs.Operator.{truth}
+use Rattle.meaning.specs.Operator.{not₃, and₃, or₃, isTrue, compared}
 use Rattle.meaning.specs.Condition.{Comparison, Level, Condition, compare, negate, group, alone, both, single, either, Where, always, under, comparisons, operandsIn, sides, holds, eval, evalWhere, meets, clausesOf, replacedIn}
 use Rattle.meaning.specs.Statement as S
 use Rattle.meaning.specs.Statement.{Value, parameter, Operand, value, Second, Query, Change, insert, delete, update, Update}
@@ -100,18 +100,18 @@ module _ {O : Type 0} (v w : O → ℤ) where
   sides-same (c ∷ cs) h = cons (All-head h, All-head (All-tail h)) (sides-same cs (All-tail (All-tail h)))
 
   eval-same : {l : Level} (c : Condition O l) → All (λ (d : Comparison O). (v (d .left) ≡ w (d .left)) × (v (d .right) ≡ w (d .right))) (comparisons c) → eval v c ≡ eval w c
-  eval-same (compare c) h = ap₂ (truth (c .op)) (All-head h .0) (All-head h .1)
-  eval-same (negate c) h = ap not (eval-same c h)
+  eval-same (compare c) h = ap₂ (compared (c .op)) (All-head h .0) (All-head h .1)
+  eval-same (negate c) h = ap not₃ (eval-same c h)
   eval-same (group c) h = eval-same c h
   eval-same (alone c) h = eval-same c h
-  eval-same (both c d) h = ap₂ _&&_ (eval-same c (All-left (comparisons c) (comparisons d) h)) (eval-same d (All-right (comparisons c) h))
+  eval-same (both c d) h = ap₂ and₃ (eval-same c (All-left (comparisons c) (comparisons d) h)) (eval-same d (All-right (comparisons c) h))
   eval-same (single c) h = eval-same c h
-  eval-same (either c d) h = ap₂ _||_ (eval-same c (All-left (comparisons c) (comparisons d) h)) (eval-same d (All-right (comparisons c) h))
+  eval-same (either c d) h = ap₂ or₃ (eval-same c (All-left (comparisons c) (comparisons d) h)) (eval-same d (All-right (comparisons c) h))
 
   -- a WHERE says the same of two valuations that give its operands the same values
   evalWhere-same : (c : Where O) → All (λ (o : O). v o ≡ w o) (operandsIn c) → evalWhere v c ≡ evalWhere w c
   evalWhere-same always h = refl
-  evalWhere-same (under c) h = eval-same c (sides-same (comparisons c) h)
+  evalWhere-same (under c) h = ap isTrue (eval-same c (sides-same (comparisons c) h))
 
 -- a row that differs is taken before or after
 differs-taken : (a b e : Bool) → ((a && not b) || ((not a && b) || (a && (b && not e)))) ≡ true → (a || b) ≡ true

@@ -16,10 +16,10 @@ use Rattle.lists.specs.Lists.{All, nil, cons, any}
 use Rattle.lists.proofs.Bools.{or-left, or-right, not-false, and-left, and-right, clash}
 use Rattle.lists.proofs.Lists.{All-map, All-both, All-append, All-left, All-right, All-keep, All-image, map-append}
 use Rattle.lists.proofs.Places.{All-at, All-set, length-keep}
-use Rattle.meaning.specs.Condition.{Where, always, operandsIn}
+use Rattle.meaning.specs.Condition.{Where, always, operandsIn, mappedIn}
 use Rattle.meaning.specs.Tokens.{Name}
 use Rattle.meaning.specs.Grammar as G
-use Rattle.meaning.specs.Grammar.{Given, items, Dotted, Sentence, sentence}
+use Rattle.meaning.specs.Grammar.{Given, Term, comparison, items, Dotted, Sentence, sentence}
 use Rattle.meaning.specs.Limits.{most-items, most-rows, most-marks, most-tables, most-queries, most-updates, listColumns, listGivens, givens, markCount, columnsNamed, termColumns, manyItems, rowsOutside, manyMarks, manyComparisons, deep, longName, bigConstant, pastLimit}
 use Rattle.meaning.specs.Names.{Schema, noSchema, sameName, tableNames, columnsOf, has, position, pairPlace, missing, unknown, miscounted, twice}
 use Rattle.meaning.specs.Statement.{Value, Operand, Second, Query, Change, insert, delete, update, Update, creates, asks, changes, numberedAll, settings, resolvedWhere, settingMarks, statementOf}
@@ -301,26 +301,28 @@ module _ (p : Plain) (W : WellFormed p) where
       (omega arith)
   statement-well lent text (G.select cs t w) T =
       let s : Sentence = G.select cs t w in
+      let x : Where (Term Name) = mappedIn comparison w in
       let n : ℕ = position (tableNames (schemas p)) t in
       let C : List Name = columnsOf (schemas p) t in
-      let known : All (λ c. position C c < length C) (items cs ++ termColumns (operandsIn w)) = known-columns p t (columnsNamed s) (T .known) in
+      let known : All (λ c. position C c < length C) (items cs ++ termColumns (operandsIn x)) = known-columns p t (columnsNamed s) (T .known) in
       let e : getD (schemas p) n noSchema ≡ tableAt p n .schema = schema-at p n in
       let l : length (map (position C) (items cs)) ≡ length (items cs) = length-map (items cs) (position C) in
-      query-well (record { table = n; second = none; selected = map (position C) (items cs); condition = resolvedWhere (position C) 0 w; parameters = markCount (givens s) })
+      query-well (record { table = n; second = none; selected = map (position C) (items cs); condition = resolvedWhere (position C) 0 x; parameters = markCount (givens s) })
       (record {
         there = known-table p t (columnsNamed s) (T .known);
         some-selected = omega (arith, items-some cs);
         few-selected = omega (arith, few-listed s (T .within));
         few-marks = marks-few s (T .within);
         selected-in = subst (λ (t : Schema). All (λ i. i < length (t .columns)) (map (position C) (items cs))) e
-            (selected-inside C (items cs) (All-left (items cs) (termColumns (operandsIn w)) known));
-        tested-in = subst (λ (t : Schema). All (Within (length (t .columns))) (operandsIn (resolvedWhere (position C) 0 w))) e
-            (tested-inside (position C) (length C) 0 w (All-right (items cs) known));
+            (selected-inside C (items cs) (All-left (items cs) (termColumns (operandsIn x)) known));
+        tested-in = subst (λ (t : Schema). All (Within (length (t .columns))) (operandsIn (resolvedWhere (position C) 0 x))) e
+            (tested-inside (position C) (length C) 0 x (All-right (items cs) known));
       })
       tt
       (leb-false most-queries (length (p .queries)) (T .place))
   statement-well lent text (G.pair cs t u w) T =
       let s : Sentence = G.pair cs t u w in
+      let x : Where (Term Dotted) = mappedIn comparison w in
       let n : ℕ = position (tableNames (schemas p)) t in
       let m : ℕ = position (tableNames (schemas p)) u in
       let C : List Name = columnsOf (schemas p) t in
@@ -331,8 +333,8 @@ module _ (p : Plain) (W : WellFormed p) where
       let k₂ : not (has (tableNames (schemas p)) u) ≡ false = or-left (not (has (tableNames (schemas p)) u)) _ r₁ in
       let there₁ : n < length (p .tables) = known-table p t [] (ap (λ b. b || false) k₁) in
       let there₂ : m < length (p .tables) = known-table p u [] (ap (λ b. b || false) k₂) in
-      let known : All (λ c. place c < length C + length D) (items cs ++ termColumns (operandsIn w)) =
-      all-of-pair t C u D (items cs ++ termColumns (operandsIn w)) (or-right (not (has (tableNames (schemas p)) u)) _ r₁) in
+      let known : All (λ c. place c < length C + length D) (items cs ++ termColumns (operandsIn x)) =
+      all-of-pair t C u D (items cs ++ termColumns (operandsIn x)) (or-right (not (has (tableNames (schemas p)) u)) _ r₁) in
       let e : length C + length D ≡ length (tableAt p n .schema .columns) + length (tableAt p m .schema .columns) =
       ap₂ (λ (x y : Schema). length (x .columns) + length (y .columns)) (schema-at p n) (schema-at p m) in
       let l : length (map place (items cs)) ≡ length (items cs) = length-map (items cs) place in
@@ -342,7 +344,7 @@ module _ (p : Plain) (W : WellFormed p) where
         table = n;
         second = some (record { table = m; start = length C });
         selected = map place (items cs);
-        condition = resolvedWhere place 0 w;
+        condition = resolvedWhere place 0 x;
         parameters = markCount (givens s);
       })
       (record {
@@ -350,8 +352,8 @@ module _ (p : Plain) (W : WellFormed p) where
         some-selected = omega (arith, items-some cs);
         few-selected = omega (arith, few, length-map (items cs) (λ (c : Dotted). c .1));
         few-marks = marks-few s (T .within);
-        selected-in = subst (λ (n : ℕ). All (λ i. i < n) (map place (items cs))) e (All-image place (All-left (items cs) (termColumns (operandsIn w)) known));
-        tested-in = subst (λ (n : ℕ). All (Within n) (operandsIn (resolvedWhere place 0 w))) e (tested-inside place (length C + length D) 0 w (All-right (items cs) known));
+        selected-in = subst (λ (n : ℕ). All (λ i. i < n) (map place (items cs))) e (All-image place (All-left (items cs) (termColumns (operandsIn x)) known));
+        tested-in = subst (λ (n : ℕ). All (Within n) (operandsIn (resolvedWhere place 0 x))) e (tested-inside place (length C + length D) 0 x (All-right (items cs) known));
       }) (
         there₂,
         ap (λ (t : Schema). length (t .columns)) (schema-at p n),
@@ -373,34 +375,36 @@ module _ (p : Plain) (W : WellFormed p) where
       (leb-false most-updates (length (p .updates)) (T .place))
   statement-well lent text (G.update t ss w) T =
       let s : Sentence = G.update t ss w in
+      let x : Where (Term Name) = mappedIn comparison w in
       let n : ℕ = position (tableNames (schemas p)) t in
       let C : List Name = columnsOf (schemas p) t in
       let m : ℕ = settingMarks (items ss) in
       let set-names : List Name = map (λ (s : Name × Given). s .0) (items ss) in
-      let known : All (λ c. position C c < length C) (set-names ++ termColumns (operandsIn w)) = known-columns p t (columnsNamed s) (T .known) in
+      let known : All (λ c. position C c < length C) (set-names ++ termColumns (operandsIn x)) = known-columns p t (columnsNamed s) (T .known) in
       let e : getD (schemas p) n noSchema ≡ tableAt p n .schema = schema-at p n in
-      update-well (record { table = n; change = update (settings C 0 (items ss)) (resolvedWhere (position C) m w); parameters = markCount (givens s) }) (
+      update-well (record { table = n; change = update (settings C 0 (items ss)) (resolvedWhere (position C) m x); parameters = markCount (givens s) }) (
         known-table p t (columnsNamed s) (T .known),
         subst (λ (t : Schema). All (λ (s : ℕ × Value). s .0 < length (t .columns)) (settings C 0 (items ss))) e
-            (set-inside C 0 (items ss) (All-left set-names (termColumns (operandsIn w)) known)),
+            (set-inside C 0 (items ss) (All-left set-names (termColumns (operandsIn x)) known)),
       )
       (record {
         few-marks = marks-few s (T .within);
-        tested-in = subst (λ (t : Schema). All (Within (length (t .columns))) (operandsIn (resolvedWhere (position C) m w))) e
-            (tested-inside (position C) (length C) m w (All-right set-names known));
+        tested-in = subst (λ (t : Schema). All (Within (length (t .columns))) (operandsIn (resolvedWhere (position C) m x))) e
+            (tested-inside (position C) (length C) m x (All-right set-names known));
       })
       (leb-false most-updates (length (p .updates)) (T .place))
   statement-well lent text (G.delete t w) T =
       let s : Sentence = G.delete t w in
+      let x : Where (Term Name) = mappedIn comparison w in
       let n : ℕ = position (tableNames (schemas p)) t in
       let C : List Name = columnsOf (schemas p) t in
-      let known : All (λ c. position C c < length C) (termColumns (operandsIn w)) = known-columns p t (columnsNamed s) (T .known) in
+      let known : All (λ c. position C c < length C) (termColumns (operandsIn x)) = known-columns p t (columnsNamed s) (T .known) in
       let e : getD (schemas p) n noSchema ≡ tableAt p n .schema = schema-at p n in
-      update-well (record { table = n; change = delete (resolvedWhere (position C) 0 w); parameters = markCount (givens s) })
+      update-well (record { table = n; change = delete (resolvedWhere (position C) 0 x); parameters = markCount (givens s) })
       (known-table p t (columnsNamed s) (T .known), tt)
       (record {
         few-marks = marks-few s (T .within);
-        tested-in = subst (λ (t : Schema). All (Within (length (t .columns))) (operandsIn (resolvedWhere (position C) 0 w))) e (tested-inside (position C) (length C) 0 w known);
+        tested-in = subst (λ (t : Schema). All (Within (length (t .columns))) (operandsIn (resolvedWhere (position C) 0 x))) e (tested-inside (position C) (length C) 0 x known);
       })
       (leb-false most-updates (length (p .updates)) (T .place))
 

@@ -1,35 +1,42 @@
 -- Conditions, over operands of any kind O: document 01, "NOT binds tightest, then AND, then OR, and a condition in parentheses may again hold AND,
--- OR and NOT." Their truth ("Meaning"), their clauses (rule 4) and how many these are (rule 5). Assumes nothing: these are definitions.
-use mathlib.Core.Bool.{Bool, true, false, not, _&&_, _||_}
+-- OR and NOT." Their truth ("Meaning", and A.5 in three values), their clauses (rule 4) and how many these are (rule 5). Assumes nothing: these are definitions.
+use mathlib.Core.Bool.{Bool, true, false}
 use mathlib.Core.List.{List, [], _∷_, _++_}
 use Prim.Native.Nat.{ℕ, _+_, _*_, max}
 use lib.IntN.{ℤ}
 use Rattle.lists.specs.Lists.{pairs, all}
-use Rattle.meaning.specs.Operator.{Operator, truth, opposite}
+use Rattle.meaning.specs.Operator.{Predicate, Truth, isTrue, not₃, and₃, or₃, compared, truth, opposite}
 
 pub record Comparison (O : Type 0) : Type 0 where
   pub left : O
-  pub op : Operator
+  pub op : Predicate
   pub right : O
 
 -- what AND joins; what OR joins; a whole condition
 pub data Level : Type 0 where
   atom conjunction disjunction : Level
 
--- one constructor for each form: parentheses (`group`) and NOTs stay in the tree
-pub data Condition (O : Type 0) : Level → Type 0 where
-  compare : Comparison O → Condition O atom
-  negate : Condition O atom → Condition O atom
-  group : Condition O disjunction → Condition O atom
-  alone : Condition O atom → Condition O conjunction
-  both : Condition O atom → Condition O conjunction → Condition O conjunction
-  single : Condition O conjunction → Condition O disjunction
-  either : Condition O conjunction → Condition O disjunction → Condition O disjunction
+-- conditions with comparisons of any type A, one constructor for each form: parentheses (`group`) and NOTs stay in the tree
+pub data Tree (A : Type 0) : Level → Type 0 where
+  compare : A → Tree A atom
+  negate : Tree A atom → Tree A atom
+  group : Tree A disjunction → Tree A atom
+  alone : Tree A atom → Tree A conjunction
+  both : Tree A atom → Tree A conjunction → Tree A conjunction
+  single : Tree A conjunction → Tree A disjunction
+  either : Tree A conjunction → Tree A disjunction → Tree A disjunction
 
 -- an optional WHERE
-pub data Where (O : Type 0) : Type 0 where
-  always : Where O
-  under : Condition O disjunction → Where O
+pub data Optional (A : Type 0) : Type 0 where
+  always : Optional A
+  under : Tree A disjunction → Optional A
+
+-- those whose comparisons have two sides
+abbrev pub Condition : Type 0 → Level → Type 0
+Condition O l = Tree (Comparison O) l
+
+abbrev pub Where : Type 0 → Type 0
+Where O = Optional (Comparison O)
 
 module _ {O : Type 0} where
   -- ---- what is in it, from left to right
@@ -71,22 +78,24 @@ module _ {O : Type 0} where
 
   -- ---- truth, where v gives each operand's value
 
+  -- a comparison is true
   abbrev pub holds : (O → ℤ) → Comparison O → Bool
   holds v c = truth (c .op) (v (c .left)) (v (c .right))
 
-  abbrev pub eval : {l : Level} → (O → ℤ) → Condition O l → Bool
-  eval v (compare c) = holds v c
-  eval v (negate c) = not (eval v c)
+  -- "A comparison with it is unknown, AND, OR and NOT follow that standard's three values, .."
+  abbrev pub eval : {l : Level} → (O → ℤ) → Condition O l → Truth
+  eval v (compare c) = compared (c .op) (v (c .left)) (v (c .right))
+  eval v (negate c) = not₃ (eval v c)
   eval v (group c) = eval v c
   eval v (alone c) = eval v c
-  eval v (both c d) = eval v c && eval v d
+  eval v (both c d) = and₃ (eval v c) (eval v d)
   eval v (single c) = eval v c
-  eval v (either c d) = eval v c || eval v d
+  eval v (either c d) = or₃ (eval v c) (eval v d)
 
-  -- "An absent WHERE always holds."
+  -- ".. and WHERE takes only rows whose condition is true."; "An absent WHERE always holds."
   abbrev pub evalWhere : (O → ℤ) → Where O → Bool
   evalWhere v always = true
-  evalWhere v (under c) = eval v c
+  evalWhere v (under c) = isTrue (eval v c)
 
   -- ---- clauses (rule 4)
 
@@ -134,6 +143,22 @@ module _ {O : Type 0} where
   countOf always = 1
   countOf (under c) = clauseCount true c
 
+-- ---- each comparison replaced
+
+module _ {A B : Type 0} where
+  abbrev pub mapped : {l : Level} → (A → B) → Tree A l → Tree B l
+  mapped f (compare c) = compare (f c)
+  mapped f (negate c) = negate (mapped f c)
+  mapped f (group c) = group (mapped f c)
+  mapped f (alone c) = alone (mapped f c)
+  mapped f (both c d) = both (mapped f c) (mapped f d)
+  mapped f (single c) = single (mapped f c)
+  mapped f (either c d) = either (mapped f c) (mapped f d)
+
+  abbrev pub mappedIn : (A → B) → Optional A → Optional B
+  mappedIn f always = always
+  mappedIn f (under c) = under (mapped f c)
+
 -- ---- each operand replaced
 
 module _ {O P : Type 0} where
@@ -141,14 +166,7 @@ module _ {O P : Type 0} where
   renamed f c = record { left = f (c .left); op = c .op; right = f (c .right) }
 
   abbrev pub replaced : {l : Level} → (O → P) → Condition O l → Condition P l
-  replaced f (compare c) = compare (renamed f c)
-  replaced f (negate c) = negate (replaced f c)
-  replaced f (group c) = group (replaced f c)
-  replaced f (alone c) = alone (replaced f c)
-  replaced f (both c d) = both (replaced f c) (replaced f d)
-  replaced f (single c) = single (replaced f c)
-  replaced f (either c d) = either (replaced f c) (replaced f d)
+  replaced f = mapped (renamed f)
 
   abbrev pub replacedIn : (O → P) → Where O → Where P
-  replacedIn f always = always
-  replacedIn f (under c) = under (replaced f c)
+  replacedIn f = mappedIn (renamed f)

@@ -1,8 +1,8 @@
--- The demands as claims, as far as the definitions of document 01 alone can say them. Each is proved in proofs/Demand.antt.
+-- The demands as claims, as far as the definitions of document 01 and of the requests alone can say them. Each is proved in proofs/Demand.antt.
 -- Assumes nothing: these are definitions.
 use mathlib.Core.Path.{_≡_}
-use mathlib.Core.Logic.{_↔_, _≢_}
-use mathlib.Core.Bool.{Bool, true, false, _&&_, _||_, cond}
+use mathlib.Core.Logic.{_↔_, _≢_, _⊎_}
+use mathlib.Core.Bool.{Bool, true, false, not, _&&_, _||_, cond}
 use mathlib.Core.Option.{Option, none, some}
 use mathlib.Core.List.{List, [], _∷_, _++_, map}
 use Prim.Native.Nat.{ℕ, suc, _+_, _*_, _≤_, _<_}
@@ -11,7 +11,9 @@ use lib.Dec.{eqb}
 use lib.IntN.{ℤ, pos, negsuc}
 use lib.ListN.{length, getD}
 use Rattle.lists.specs.Lists.{All, bytes, any, all, from, pairs}
-use Rattle.meaning.specs.Condition.{comparisonsIn, operandsIn, depthIn}
+use Rattle.meaning.specs.Operator as O
+use Rattle.meaning.specs.Operator.{Operator, related, null, isNull, Truth, known, not₃, and₃, or₃, Predicate, by, is-null, is-not-null, compared, truth, opposite}
+use Rattle.meaning.specs.Condition.{Comparison, Condition, disjunction, under, eval, comparisonsIn, operandsIn, depthIn}
 use Rattle.meaning.specs.Tokens as T
 use Rattle.meaning.specs.Tokens.{Token, Keyword, Name, isSmall, isCapital, isWordByte, isName, folded, keywords, isKeyword, word, firstToken, tokens}
 use Rattle.meaning.specs.Grammar as G
@@ -20,9 +22,9 @@ use Rattle.meaning.specs.Key.{Key}
 use Rattle.meaning.specs.Limits.{most-text, most-items, most-listed, rowsOf, whereOf, allNames, givens, markCount, isWithin32, pastLimit}
 use Rattle.meaning.specs.Names.{Schema, unknown, taken, miscounted, twice}
 use Rattle.meaning.specs.Statement.{Value, constant, parameter, Operand, column, value, Second, Query, Change, insert, delete, update, Update, Statement, creates, asks, changes, statementOf}
-use Rattle.meaning.specs.Meaning.{Row, takes, answer, changed}
+use Rattle.meaning.specs.Meaning.{Row, operandValue, meetsWhere, takes, answer, changed}
 use Rattle.meaning.specs.Record.{encode, isRecord, columnsIn, rowCount, rowRefusal, rowPart, numbersOf}
-use Rattle.meaning.specs.Pattern.{Side, neither, first, second, sideOf, sameTable, startOf, beside, matters, matches, removal, matchesTwo}
+use Rattle.meaning.specs.Pattern.{Side, neither, first, second, sideOf, sameTable, startOf, beside, matters, Joint, Clause, class, constants, broken, contradictory, matches, removal, matchesTwo}
 use Rattle.meaning.specs.Plain.{Lengths, Plain, schemas, rowsFor, queryAt, Opening, opened, Call, add, ask, change, flush, otherLengths, noPlace, conditions, refusal, refused, answered, adding, placed, step, after}
 
 -- ---- Demand 1: "If a call brings a text, number, state or lent memory that the store can't take, it gives the refusal number of document 01 and changes
@@ -278,6 +280,57 @@ AnswerStays = (q : Query) (qs : List ℤ) (u : Update) (us : List ℤ) (out rows
     → All (StandsBeside q (sideOf q u)) others → sameTable q u ≡ true → matchesTwo q u out us qs ≡ false
     → answer q qs (rowsBeside (q .second) (sideOf q u) (changed (u .change) us rows) others) ≡ answer q qs (rowsBeside (q .second) (sideOf q u) (out ++ rows) others)
 
+-- ---- A.5: "From now on -2147483648 is the null of ISO/IEC 9075."
+
+-- "A comparison with it is unknown": by each of the six operators, with the null on either side or on both
+abbrev pub NullUnknown : Type 0
+NullUnknown = (o : Operator) (z : ℤ) → (compared (by o) null z ≡ O.unknown) × (compared (by o) z null ≡ O.unknown)
+
+-- and one of two other numbers is true or false, as document 01 has it
+abbrev pub OthersKnown : Type 0
+OthersKnown = (o : Operator) (y z : ℤ) → y ≢ null → z ≢ null → compared (by o) y z ≡ known (related o y z)
+
+-- "AND, OR and NOT follow that standard's three values": when each is true and when false; else it is unknown
+pub record ThreeValues : Type 0 where
+  pub not-true : (t : Truth) → (not₃ t ≡ known true) ↔ (t ≡ known false)
+  pub not-false : (t : Truth) → (not₃ t ≡ known false) ↔ (t ≡ known true)
+  pub and-true : (s t : Truth) → (and₃ s t ≡ known true) ↔ ((s ≡ known true) × (t ≡ known true))
+  pub and-false : (s t : Truth) → (and₃ s t ≡ known false) ↔ ((s ≡ known false) ⊎ (t ≡ known false))
+  pub or-true : (s t : Truth) → (or₃ s t ≡ known true) ↔ ((s ≡ known true) ⊎ (t ≡ known true))
+  pub or-false : (s t : Truth) → (or₃ s t ≡ known false) ↔ ((s ≡ known false) × (t ≡ known false))
+
+-- "and WHERE takes only rows whose condition is true": those of a question, an UPDATE and a DELETE
+abbrev pub TakesTrue : Type 0
+TakesTrue = (c : Condition Operand disjunction) (vs : List ℤ) (r : Row) → (meetsWhere (under c) vs r ≡ true) ↔ (eval (operandValue r vs) c ≡ known true)
+
+-- "`level IS NULL` and `level IS NOT NULL`, on columns, count as comparisons": on a column both sides are its number
+abbrev pub NullTests : Type 0
+NullTests = (z : ℤ) → ((truth is-null z z ≡ true) ↔ (z ≡ null)) × ((truth is-not-null z z ≡ true) ↔ (z ≢ null))
+
+-- "each the opposite of the other", in rule 4's "fixed table of the six comparisons and their opposites", now of eight: document 01 has that "opposite twice
+-- is itself, and it negates the truth"
+pub record Opposites : Type 0 where
+  pub null-test : opposite is-null ≡ is-not-null
+  pub twice-itself : (p : Predicate) → opposite (opposite p) ≡ p
+  pub negates : (p : Predicate) (y z : ℤ) → compared (opposite p) y z ≡ not₃ (compared p y z)
+
+-- "In the patterns IS NULL and IS NOT NULL are tested on the class's constant where there is one": where it is false of that the clause goes by this comparison;
+-- where there is none it does not
+pub record OnConstant (cs : Clause) (x : Joint) : Type 0 where
+  pub null-constant : (z : ℤ) (zs : List ℤ) → constants (class cs x) ≡ z ∷ zs
+      → (broken cs (record { left = x; op = is-null; right = x }) ≡ not (isNull z)) × (broken cs (record { left = x; op = is-not-null; right = x }) ≡ isNull z)
+  pub no-constant : constants (class cs x) ≡ []
+      → (broken cs (record { left = x; op = is-null; right = x }) ≡ false) × (broken cs (record { left = x; op = is-not-null; right = x }) ≡ false)
+
+abbrev pub NullTestsInPatterns : Type 0
+NullTestsInPatterns = (cs : Clause) (x : Joint) → OnConstant cs x
+
+-- "any other comparison with an operand whose class holds the null constant is never true": a clause with such a comparison goes
+abbrev pub NeverTrue : Type 0
+NeverTrue = (before after : Clause) (c : Comparison Joint) (o : Operator) → c .op ≡ by o
+    → let cs : Clause = before ++ c ∷ after in
+    any isNull (constants (class cs (c .left)) ++ constants (class cs (c .right))) ≡ true → contradictory cs ≡ true
+
 -- ---- all of these
 
 pub record Demands : Type 0 where
@@ -303,3 +356,11 @@ pub record Demands : Type 0 where
   pub patterns-weaken : PatternsWeaken
   pub pushed-weakens : PushedWeakens
   pub answer-stays : AnswerStays
+  pub null-unknown : NullUnknown
+  pub others-known : OthersKnown
+  pub three-values : ThreeValues
+  pub takes-true : TakesTrue
+  pub null-tests : NullTests
+  pub opposites : Opposites
+  pub null-tests-in-patterns : NullTestsInPatterns
+  pub never-true : NeverTrue

@@ -1,4 +1,4 @@
--- The edges of document 01, "Limits", "Statement texts" and "Numbers for a call not taken", and of requests A.1, A.2 and A.4: texts, each with the number that
+-- The edges of document 01, "Limits", "Statement texts" and "Numbers for a call not taken", and of requests A.1, A.2, A.4 and A.5: texts, each with the number that
 -- adding it gives, or 0 where it is taken, by computation. Each limit stands at its last good value and one past it. Assumes nothing.
 use mathlib.Core.Path.{_≡_, refl}
 use mathlib.Core.Bool.{true}
@@ -639,7 +639,7 @@ capitals = first (
     ∷ (bytes "TABLE " ++ (195 ∷ 132 ∷ bytes " (b) ROWS 1"), 4)
     ∷ [])
 
--- "Words spelled exactly as a keyword, all capitals, remain keywords", and no others; a word of a later request is a name until then, as RING was before A.4
+-- "Words spelled exactly as a keyword, all capitals, remain keywords", and no others; a word of a later request is a name until then, as RING was before A.4, and IS and NULL before A.5
 abbrev pub exact : Group
 exact = first (
     edge "TABLE Table (Rows, sELECT, from, Where, INSERt, into, values) ROWS 1" 0
@@ -815,6 +815,118 @@ ring-left = record {
   edges = edge "TABLE u (a, b) RING 2" 0 ∷ edge "TABLE u (a, b) ROWS 2" 0 ∷ edge "TABLE u (a) RING 5" 9 ∷ edge "TABLE u (a) ROWS 5" 9 ∷ edge "TABLE t (a) RING 5" 7 ∷ [];
 }
 
+-- ---- request A.5: nulls
+
+-- IS and NULL are keywords, in capitals alone
+abbrev pub null-words : Group
+null-words = first (
+    edge "TABLE NULL (a) ROWS 1" 4
+    ∷ edge "TABLE IS (a) ROWS 1" 4
+    ∷ edge "TABLE t (a, NULL) ROWS 1" 4
+    ∷ edge "TABLE t (IS) ROWS 1" 4
+    ∷ edge "TABLE t (a) ROWS NULL" 4
+    ∷ edge "TABLE null (a) ROWS 1" 0
+    ∷ edge "TABLE Null (Is, iS) ROWS 1" 7
+    ∷ edge "TABLE nULL (Is) ROWS 1" 0
+    ∷ edge "TABLE t (is) ROWS 1" 0
+    ∷ edge "TABLE NULLS (ISNULL, NULL_, IS2, NOTNULL) ROWS 1" 0
+    ∷ [])
+
+-- "`level IS NULL` and `level IS NOT NULL`, on columns, count as comparisons"
+abbrev pub null-tests : Group
+null-tests = two (
+    edge "SELECT a FROM t WHERE a IS NULL" 0
+    ∷ edge "SELECT a FROM t WHERE a IS NOT NULL" 0
+    ∷ edge "SELECT a FROM t WHERE NOT a IS NULL" 0
+    ∷ edge "SELECT a FROM t WHERE NOT a IS NOT NULL" 0
+    ∷ edge "SELECT a FROM t WHERE (a IS NULL)" 0
+    ∷ edge "SELECT a FROM t WHERE NOT(a IS NULL OR b=1)AND B IS NOT NULL" 0
+    ∷ edge "SELECT a FROM t WHERE b = ? AND a IS NULL OR a = -2147483648" 0
+    ∷ edge "UPDATE t SET a = -2147483648 WHERE b IS NULL" 0
+    ∷ edge "DELETE FROM t WHERE a IS NOT NULL" 0
+    ∷ edge "SELECT a FROM t WHERE c IS NULL" 6
+    ∷ edge "UPDATE t SET a = 1 WHERE c IS NOT NULL" 6
+    ∷ edge "DELETE FROM t WHERE null IS NULL" 6
+    ∷ edge "SELECT a FROM t WHERE abcdefghijkl IS NULL" 6
+    ∷ edge "SELECT a FROM t WHERE abcdefghijklm IS NULL" 5
+    ∷ edge "DELETE FROM t WHERE a IS NULL OR abcdefghijklm IS NOT NULL" 5
+    ∷ [])
+
+-- on columns, and of no other form; the null itself is written -2147483648
+abbrev pub no-null-tests : Group
+no-null-tests = two (
+    edge "SELECT a FROM t WHERE ? IS NULL" 4
+    ∷ edge "SELECT a FROM t WHERE 5 IS NULL" 4
+    ∷ edge "SELECT a FROM t WHERE -2147483648 IS NOT NULL" 4
+    ∷ edge "SELECT a FROM t WHERE (a) IS NULL" 4
+    ∷ edge "SELECT a FROM t WHERE a = 1 IS NULL" 4
+    ∷ edge "SELECT a FROM t WHERE IS NULL" 4
+    ∷ edge "SELECT a FROM t WHERE a IS" 4
+    ∷ edge "SELECT a FROM t WHERE a IS NOT" 4
+    ∷ edge "SELECT a FROM t WHERE a IS NOT NOT NULL" 4
+    ∷ edge "SELECT a FROM t WHERE a IS NULL NULL" 4
+    ∷ edge "SELECT a FROM t WHERE a IS NULL = 1" 4
+    ∷ edge "SELECT a FROM t WHERE a IS NULL IS NULL" 4
+    ∷ edge "SELECT a FROM t WHERE a IS 5" 4
+    ∷ edge "SELECT a FROM t WHERE a IS ?" 4
+    ∷ edge "SELECT a FROM t WHERE a IS b" 4
+    ∷ edge "SELECT a FROM t WHERE a IS NOT b" 4
+    ∷ edge "SELECT a FROM t WHERE a IS (NULL)" 4
+    ∷ edge "SELECT a FROM t WHERE a IS = NULL" 4
+    ∷ edge "SELECT a FROM t WHERE a NULL" 4
+    ∷ edge "SELECT a FROM t WHERE a NOT NULL" 4
+    ∷ edge "SELECT a FROM t WHERE NOT NULL" 4
+    ∷ edge "SELECT a FROM t WHERE a ISNULL" 4
+    ∷ edge "SELECT a FROM t WHERE a IS NULLS" 4
+    ∷ edge "SELECT a FROM t WHERE a is null" 4
+    ∷ edge "SELECT a FROM t WHERE a IS null" 4
+    ∷ edge "SELECT a FROM t WHERE a IS not NULL" 4
+    ∷ edge "SELECT a FROM t WHERE a Is NULL" 4
+    ∷ edge "SELECT a FROM t WHERE a = NULL" 4
+    ∷ edge "SELECT a FROM t WHERE NULL = a" 4
+    ∷ edge "SELECT a FROM t WHERE a <> NULL" 4
+    ∷ edge "UPDATE t SET a = NULL" 4
+    ∷ edge "UPDATE t SET a IS NULL" 4
+    ∷ edge "INSERT INTO t VALUES (NULL, 1)" 4
+    ∷ edge "INSERT INTO t VALUES (1, -2147483648)" 0
+    ∷ edge "SELECT NULL FROM t" 4
+    ∷ edge "SELECT a IS NULL FROM t" 4
+    ∷ [])
+
+-- each is one of the eight comparisons; the NOT of IS NOT NULL is none around it; it has no question mark
+abbrev pub null-limits : Group
+null-limits = eight (
+    edge "SELECT a FROM t WHERE a IS NULL AND b = 1 AND c = 1 AND d = 1 AND e = 1 AND f = 1 AND g = 1 AND h IS NOT NULL" 0
+    ∷ edge "SELECT a FROM t WHERE a IS NULL AND b = 1 AND c = 1 AND d = 1 AND e = 1 AND f = 1 AND g = 1 AND h IS NOT NULL AND a = 1" 5
+    ∷ edge "DELETE FROM t WHERE a IS NULL OR b IS NULL OR c IS NULL OR d IS NULL OR e IS NULL OR f IS NULL OR g IS NULL OR h IS NULL" 0
+    ∷ edge "DELETE FROM t WHERE a IS NULL OR b IS NULL OR c IS NULL OR d IS NULL OR e IS NULL OR f IS NULL OR g IS NULL OR h IS NULL OR a IS NULL" 5
+    ∷ edge "SELECT a FROM t WHERE NOT NOT NOT NOT NOT NOT NOT NOT a IS NULL" 0
+    ∷ edge "SELECT a FROM t WHERE NOT NOT NOT NOT NOT NOT NOT NOT NOT a IS NULL" 5
+    ∷ edge "SELECT a FROM t WHERE NOT NOT NOT NOT NOT NOT NOT NOT a IS NOT NULL" 0
+    ∷ edge "SELECT a FROM t WHERE NOT NOT NOT NOT NOT NOT NOT NOT NOT a IS NOT NULL" 5
+    ∷ edge "SELECT a FROM t WHERE ((((((((a IS NOT NULL))))))))" 0
+    ∷ edge "SELECT a FROM t WHERE (((((((((a IS NULL)))))))))" 5
+    ∷ edge "SELECT a FROM t WHERE ? = ? AND ? = ? AND ? = ? AND ? = ? AND a IS NULL AND b IS NOT NULL" 0
+    ∷ [])
+
+-- over two tables the column is dotted
+abbrev pub null-pairs : Group
+null-pairs = three (
+    edge "SELECT t.a FROM t, u WHERE t.a IS NULL" 0
+    ∷ edge "SELECT t.a FROM t, u WHERE NOT u . c IS NOT NULL AND t.a = u.a" 0
+    ∷ edge "SELECT t.a FROM t, u WHERE a IS NULL" 4
+    ∷ edge "SELECT t.a FROM t, u WHERE t.a.b IS NULL" 4
+    ∷ edge "SELECT t.a FROM t, u WHERE t. IS NULL" 4
+    ∷ edge "SELECT t.a FROM t, u WHERE t.NULL IS NULL" 4
+    ∷ edge "SELECT t.a FROM t, u WHERE t.a IS u.a" 4
+    ∷ edge "SELECT a FROM t WHERE t.a IS NULL" 4
+    ∷ edge "SELECT t.a FROM t, u WHERE v.d IS NULL" 6
+    ∷ edge "SELECT t.a FROM t, u WHERE t.c IS NOT NULL" 6
+    ∷ edge "SELECT t.a FROM t, u WHERE nil.a IS NULL" 6
+    ∷ edge "SELECT t.a FROM t, u WHERE t.abcdefghijklm IS NULL" 5
+    ∷ edge "SELECT t.a FROM t, t WHERE t.b IS NULL" 15
+    ∷ [])
+
 -- ---- the table
 
 abbrev pub table : List Group
@@ -874,6 +986,11 @@ table =
     ∷ ring-forms
     ∷ ring-cells
     ∷ ring-left
+    ∷ null-words
+    ∷ null-tests
+    ∷ no-null-tests
+    ∷ null-limits
+    ∷ null-pairs
     ∷ []
 
 columns-hold : Holds columns
@@ -1096,6 +1213,26 @@ ring-left-hold : Holds ring-left
 unfolding computing
 ring-left-hold = record { taken = refl; numbers-are = refl }
 
+null-words-hold : Holds null-words
+unfolding computing
+null-words-hold = record { taken = refl; numbers-are = refl }
+
+null-tests-hold : Holds null-tests
+unfolding computing
+null-tests-hold = record { taken = refl; numbers-are = refl }
+
+no-null-tests-hold : Holds no-null-tests
+unfolding computing
+no-null-tests-hold = record { taken = refl; numbers-are = refl }
+
+null-limits-hold : Holds null-limits
+unfolding computing
+null-limits-hold = record { taken = refl; numbers-are = refl }
+
+null-pairs-hold : Holds null-pairs
+unfolding computing
+null-pairs-hold = record { taken = refl; numbers-are = refl }
+
 pub all-hold : All Holds table
 all-hold =
     cons columns-hold
@@ -1153,4 +1290,9 @@ all-hold =
     (cons ring-forms-hold
     (cons ring-cells-hold
     (cons ring-left-hold
-    nil))))))))))))))))))))))))))))))))))))))))))))))))))))))
+    (cons null-words-hold
+    (cons null-tests-hold
+    (cons no-null-tests-hold
+    (cons null-limits-hold
+    (cons null-pairs-hold
+    nil)))))))))))))))))))))))))))))))))))))))))))))))))))))))))))

@@ -1,5 +1,5 @@
 -- Document 01, "Examples": the ten starred rows as one table, from the texts of the statements, and "Slips a marker would catch", each by computation;
--- with them the names of request A.2; those of A.1 and A.4 are in `Paired` and `Rings`. Assumes nothing.
+-- with them the names of request A.2; those of A.1, A.4 and A.5 are in `Paired`, `Rings` and `Nulls`. Assumes nothing.
 use mathlib.Core.Path.{_≡_, refl}
 use mathlib.Core.Bool.{Bool, true, false, cond}
 use mathlib.Core.List.{List, [], _∷_, _++_, map}
@@ -334,6 +334,10 @@ words =
     ∷ ("ROWS3", T.name (bytes "rows3"))
     ∷ ("RING", T.keyword T.RING)
     ∷ ("Ring", T.name (bytes "ring"))
+    ∷ ("NULL", T.keyword T.NULL)
+    ∷ ("Null", T.name (bytes "null"))
+    ∷ ("IS", T.keyword T.IS)
+    ∷ ("ISNULL", T.name (bytes "isnull"))
     ∷ ("WHERE_", T.name (bytes "where_"))
     ∷ ("_A", T.other)
     ∷ ("1A", T.other)

@@ -1,4 +1,4 @@
--- The grammar of sentences: document 01, "Statement texts", and requests A.1 and A.4. A sentence is a tree; `spell` gives its tokens; `read` finds the sentence whose
+-- The grammar of sentences: document 01, "Statement texts", and requests A.1, A.4 and A.5. A sentence is a tree; `spell` gives its tokens; `read` finds the sentence whose
 -- tokens it is given (`proofs/Decides.antt`). There is no limit here. Assumes nothing: these are definitions.
 use mathlib.Core.Bool.{Bool, true, false}
 use mathlib.Core.Option.{Option, none, some}
@@ -6,10 +6,10 @@ use mathlib.Core.List.{List, [], _∷_}
 use Prim.Native.Nat.{ℕ, zero, suc, _*_}
 use lib.IntN.{ℤ}
 use lib.ListN.{length}
-use Rattle.meaning.specs.Operator.{Operator}
-use Rattle.meaning.specs.Condition.{Level, atom, conjunction, disjunction, Condition, compare, negate, group, alone, both, single, either, Where, always, under}
+use Rattle.meaning.specs.Operator.{Operator, by, is-null, is-not-null}
+use Rattle.meaning.specs.Condition.{Comparison, Level, atom, conjunction, disjunction, Tree, compare, negate, group, alone, both, single, either, Optional, always, under}
 use Rattle.meaning.specs.Tokens as T
-use Rattle.meaning.specs.Tokens.{Name, Token, keyword, name, operator, comma, lparen, rparen, dot, other, sameToken, Keyword, TABLE, ROWS, SELECT, FROM, WHERE, INSERT, INTO, VALUES, UPDATE, SET, DELETE, AND, OR, NOT, RING, tokens}
+use Rattle.meaning.specs.Tokens.{Name, Token, keyword, name, operator, comma, lparen, rparen, dot, other, sameToken, Keyword, TABLE, ROWS, SELECT, FROM, WHERE, INSERT, INTO, VALUES, UPDATE, SET, DELETE, AND, OR, NOT, RING, IS, NULL, tokens}
 
 -- ---- trees
 
@@ -27,6 +27,17 @@ pub data Term (C : Type 0) : Type 0 where
   column : C → Term C
   given : Given → Term C
 
+-- a comparison as it is written: two operands with an operator between; A.5: "`level IS NULL` and `level IS NOT NULL`, on columns"
+pub data Test (C : Type 0) : Type 0 where
+  compares : Term C → Operator → Term C → Test C
+  tests-null tests-not-null : C → Test C
+
+-- as a comparison of two sides: a null test has its column on both
+abbrev pub comparison : {C : Type 0} → Test C → Comparison (Term C)
+comparison (compares a o b) = record { left = a; op = by o; right = b }
+comparison (tests-null c) = record { left = column c; op = is-null; right = column c }
+comparison (tests-not-null c) = record { left = column c; op = is-not-null; right = column c }
+
 -- "No list is empty."
 pub data Listed (A : Type 0) : Type 0 where
   last : A → Listed A
@@ -40,11 +51,11 @@ items (next x xs) = x ∷ items xs
 -- from two (A.1: "with every column written `stage.level`")
 pub data Sentence : Type 0 where
   table : Name → Listed Name → Bool → ℤ → Sentence
-  select : Listed Name → Name → Where (Term Name) → Sentence
-  pair : Listed Dotted → Name → Name → Where (Term Dotted) → Sentence
+  select : Listed Name → Name → Optional (Test Name) → Sentence
+  pair : Listed Dotted → Name → Name → Optional (Test Dotted) → Sentence
   insert : Name → Listed Given → Sentence
-  update : Name → Listed (Name × Given) → Where (Term Name) → Sentence
-  delete : Name → Where (Term Name) → Sentence
+  update : Name → Listed (Name × Given) → Optional (Test Name) → Sentence
+  delete : Name → Optional (Test Name) → Sentence
 
 -- ---- spelling: the tokens of each, with more after them
 
@@ -74,8 +85,13 @@ module _ {C : Type 0} (spellColumn : C → List Token → List Token) where
   spellTerm (column c) more = spellColumn c more
   spellTerm (given v) more = givenToken v ∷ more
 
-  abbrev pub spellCondition : {l : Level} → Condition (Term C) l → List Token → List Token
-  spellCondition (compare c) more = spellTerm (c .left) (operator (c .op) ∷ spellTerm (c .right) more)
+  abbrev pub spellTest : Test C → List Token → List Token
+  spellTest (compares a o b) more = spellTerm a (operator o ∷ spellTerm b more)
+  spellTest (tests-null c) more = spellColumn c (keyword IS ∷ keyword NULL ∷ more)
+  spellTest (tests-not-null c) more = spellColumn c (keyword IS ∷ keyword NOT ∷ keyword NULL ∷ more)
+
+  abbrev pub spellCondition : {l : Level} → Tree (Test C) l → List Token → List Token
+  spellCondition (compare c) more = spellTest c more
   spellCondition (negate c) more = keyword NOT ∷ spellCondition c more
   spellCondition (group c) more = lparen ∷ spellCondition c (rparen ∷ more)
   spellCondition (alone c) more = spellCondition c more
@@ -83,7 +99,7 @@ module _ {C : Type 0} (spellColumn : C → List Token → List Token) where
   spellCondition (single c) more = spellCondition c more
   spellCondition (either c d) more = spellCondition c (keyword OR ∷ spellCondition d more)
 
-  abbrev pub spellWhere : Where (Term C) → List Token
+  abbrev pub spellWhere : Optional (Test C) → List Token
   spellWhere always = []
   spellWhere (under c) = keyword WHERE ∷ spellCondition c []
 
@@ -213,15 +229,30 @@ module _ {C : Type 0} (aColumn : Reader C) where
   abbrev pub aTerm : Reader (Term C)
   aTerm = either-of (aColumn >>= λ n. done (column n)) (aGiven >>= λ v. done (given v))
 
-  abbrev pub aComparison : Reader (Condition (Term C) atom)
-  aComparison = do
-    a ← aTerm
+  -- behind IS
+  abbrev pub aNull : C → Reader (Test C)
+  aNull c = passing (keyword NOT) (expect (keyword NULL) >> done (tests-not-null c)) (expect (keyword NULL) >> done (tests-null c))
+
+  -- behind a first operand: an operator and a second one
+  abbrev pub aRest : Term C → Reader (Test C)
+  aRest a = do
     o ← aToken operatorOf
     b ← aTerm
-    done (compare (record { left = a; op = o; right = b }))
+    done (compares a o b)
+
+  -- or, behind a column, IS
+  abbrev pub behind : Term C → Reader (Test C)
+  behind (column c) = passing (keyword IS) (aNull c) (aRest (column c))
+  behind (given v) = aRest (given v)
+
+  abbrev pub aComparison : Reader (Tree (Test C) atom)
+  aComparison = do
+    a ← aTerm
+    c ← behind a
+    done (compare c)
 
   -- a condition of a level, at most n calls deep
-  unfoldable pub aCondition : ℕ → (l : Level) → Reader (Condition (Term C) l)
+  unfoldable pub aCondition : ℕ → (l : Level) → Reader (Tree (Test C) l)
   aCondition zero l = fails
   aCondition (suc n) atom =
       passing (keyword NOT) (aCondition n atom >>= λ c. done (negate c))
@@ -234,7 +265,7 @@ module _ {C : Type 0} (aColumn : Reader C) where
     c ← aCondition n conjunction
     passing (keyword OR) (aCondition n disjunction >>= λ d. done (either c d)) (done (single c))
 
-  abbrev pub aWhere : ℕ → Reader (Where (Term C))
+  abbrev pub aWhere : ℕ → Reader (Optional (Test C))
   aWhere n = passing (keyword WHERE) (aCondition n disjunction >>= λ c. done (under c)) (done always)
 
 -- ---- the five forms, after their first word

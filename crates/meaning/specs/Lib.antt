@@ -18,3 +18,4 @@ pub mod Examples
 pub mod Edges
 pub mod Paired
 pub mod Rings
+pub mod Nulls

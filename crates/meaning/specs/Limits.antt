@@ -7,9 +7,9 @@ use lib.IntN.{ℤ, pos, negℤ}
 use lib.ListN.{length}
 use lib.Signed.{leZ}
 use Rattle.lists.specs.Lists.{any}
-use Rattle.meaning.specs.Condition.{Where, always, replacedIn, comparisonsIn, operandsIn, depthIn}
+use Rattle.meaning.specs.Condition.{Where, always, mappedIn, replacedIn, comparisonsIn, operandsIn, depthIn}
 use Rattle.meaning.specs.Tokens.{Name}
-use Rattle.meaning.specs.Grammar.{Given, constant, mark, Term, column, given, items, Dotted, Sentence, table, select, pair, insert, update, delete}
+use Rattle.meaning.specs.Grammar.{Given, constant, mark, Term, column, given, comparison, items, Dotted, Sentence, table, select, pair, insert, update, delete}
 
 -- ---- the table of limits
 
@@ -109,13 +109,14 @@ abbrev pub bareTerm : Term Dotted → Term Name
 bareTerm (column c) = column (c .1)
 bareTerm (given v) = given v
 
+-- its condition; null tests count as comparisons
 abbrev pub whereOf : Sentence → Where (Term Name)
 whereOf (table t cs ring z) = always
-whereOf (select cs t w) = w
-whereOf (pair cs t u w) = replacedIn bareTerm w
+whereOf (select cs t w) = mappedIn comparison w
+whereOf (pair cs t u w) = replacedIn bareTerm (mappedIn comparison w)
 whereOf (insert t vs) = always
-whereOf (update t ss w) = w
-whereOf (delete t w) = w
+whereOf (update t ss w) = mappedIn comparison w
+whereOf (delete t w) = mappedIn comparison w
 
 abbrev pub termGivens : {C : Type 0} → List (Term C) → List Given
 termGivens [] = []
@@ -138,7 +139,7 @@ givens s = listGivens s ++ termGivens (operandsIn (whereOf s))
 abbrev pub dottedNamed : Sentence → List Dotted
 dottedNamed (table t cs ring z) = []
 dottedNamed (select cs t w) = []
-dottedNamed (pair cs t u w) = items cs ++ termColumns (operandsIn w)
+dottedNamed (pair cs t u w) = items cs ++ termColumns (operandsIn (mappedIn comparison w))
 dottedNamed (insert t vs) = []
 dottedNamed (update t ss w) = []
 dottedNamed (delete t w) = []

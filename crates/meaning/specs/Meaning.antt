@@ -28,7 +28,7 @@ abbrev pub operandValue : Row → List ℤ → Operand → ℤ
 operandValue r vs (column i) = cell r i
 operandValue r vs (value v) = valueOf vs v
 
--- whether a row meets a WHERE, with the values of the question marks
+-- whether a row meets a WHERE (A.5: its condition is true), with the values of the question marks
 abbrev pub meetsWhere : Where Operand → List ℤ → Row → Bool
 meetsWhere w vs r = evalWhere (operandValue r vs) w
 

@@ -1,5 +1,6 @@
 -- Which kept answers an update can change: document 01, "Patterns", rules 1 to 7. F is the query's condition, G the update's. For a question over two tables
--- A.1: "An update of one table is judged as before, with the other table's columns as free operands." For a row that a ring pushes out A.4, at the end.
+-- A.1: "An update of one table is judged as before, with the other table's columns as free operands." For a row that a ring pushes out A.4, at the end. Nulls
+-- (A.5) are in rule 6.
 -- Assumes nothing: these are definitions.
 use mathlib.Core.Bool.{Bool, true, false, not, _&&_, _||_, cond}
 use mathlib.Core.Option.{Option, none, some}
@@ -10,7 +11,7 @@ use lib.ListN.{replicate}
 use lib.Dec.{eqb, ltb}
 use Rattle.lists.specs.Lists.{any, keep, pairs, distinct, flat, from}
 use Rattle.lists.specs.Tests.{isYes, decN, decZ, eqZ, eqList}
-use Rattle.meaning.specs.Operator.{Operator, eq, ne, lt, le, gt, ge, truth}
+use Rattle.meaning.specs.Operator.{eq, ne, lt, le, gt, ge, Predicate, by, is-null, is-not-null, isNull, truth}
 use Rattle.meaning.specs.Condition.{Comparison, sides, Where, operandsIn, clausesOf, countOf, replacedIn}
 use Rattle.meaning.specs.Statement as S
 use Rattle.meaning.specs.Statement.{Value, parameter, Operand, value, Second, Query, Change, insert, delete, update, Update}
@@ -169,13 +170,15 @@ same x y = isYes (Joint-discrete decN decZ x y)
 abbrev pub rename : Joint → Joint → Joint → Joint
 rename a b x = cond (same x a) b x
 
-abbrev pub join : Operator → Joint → Joint → Joint → Joint
-join eq a b = rename a b
-join ne a b = λ x. x
-join lt a b = λ x. x
-join le a b = λ x. x
-join gt a b = λ x. x
-join ge a b = λ x. x
+abbrev pub join : Predicate → Joint → Joint → Joint → Joint
+join (by eq) a b = rename a b
+join (by ne) a b = λ x. x
+join (by lt) a b = λ x. x
+join (by le) a b = λ x. x
+join (by gt) a b = λ x. x
+join (by ge) a b = λ x. x
+join is-null a b = λ x. x
+join is-not-null a b = λ x. x
 
 abbrev pub labelsOn : (Joint → Joint) → Clause → Joint → Joint
 labelsOn f [] = f
@@ -208,16 +211,24 @@ differ [] = false
 differ (y ∷ zs) = any (λ (z : ℤ). not (eqZ y z)) zs
 
 -- ".. if `<>` `<` `>` has both sides in one class, .."
-abbrev pub strict : Operator → Bool
-strict eq = false
-strict ne = true
-strict lt = true
-strict le = false
-strict gt = true
-strict ge = false
+abbrev pub strict : Predicate → Bool
+strict (by eq) = false
+strict (by ne) = true
+strict (by lt) = true
+strict (by le) = false
+strict (by gt) = true
+strict (by ge) = false
+strict is-null = false
+strict is-not-null = false
 
--- ".. or if a comparison is false of the constants of its sides' classes."
-abbrev pub falseOf : Operator → List ℤ → List ℤ → Bool
+-- A.5: "any other comparison with an operand whose class holds the null constant is never true"
+abbrev pub neverOf : Predicate → List ℤ → Bool
+neverOf (by o) zs = any isNull zs
+neverOf is-null zs = false
+neverOf is-not-null zs = false
+
+-- ".. or if a comparison is false of the constants of its sides' classes."; A.5: "IS NULL and IS NOT NULL are tested on the class's constant where there is one"
+abbrev pub falseOf : Predicate → List ℤ → List ℤ → Bool
 falseOf o [] zs = false
 falseOf o (y ∷ ys) [] = false
 falseOf o (y ∷ ys) (z ∷ zs) = not (truth o y z)
@@ -225,7 +236,8 @@ falseOf o (y ∷ ys) (z ∷ zs) = not (truth o y z)
 abbrev pub broken : Clause → Comparison Joint → Bool
 broken cs c =
     (strict (c .op) && same (label cs (c .left)) (label cs (c .right)))
-    || falseOf (c .op) (constants (class cs (c .left))) (constants (class cs (c .right)))
+    || ((neverOf (c .op) (constants (class cs (c .left))) || neverOf (c .op) (constants (class cs (c .right))))
+    || falseOf (c .op) (constants (class cs (c .left))) (constants (class cs (c .right))))
 
 unfoldable pub contradictory : Clause → Bool
 contradictory cs = any (λ (x : Joint). differ (constants (class cs x))) (sides cs) || any (broken cs) cs

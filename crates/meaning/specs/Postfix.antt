@@ -70,7 +70,7 @@ module _ {O : Type 0} where
     runOn [] st = st
     runOn (n ∷ ns) st = runOn ns (stepOn n st)
 
-  -- "An absent WHERE always holds"
+  -- whether it is true: without NOT, what is true of the parts is enough (A.5); "An absent WHERE always holds"
   abbrev pub truthOf : (O → ℤ) → List (Node O) → Bool
   truthOf v ns = top true (runOn (holds v) _&&_ _||_ ns [])
 

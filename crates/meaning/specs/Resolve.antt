@@ -1,11 +1,12 @@
 -- Names resolved and question marks numbered in a condition in postfix order, from left to right; and tests of the outcome: whether its columns are those of a
--- table, and whether its question marks are numbered so. Assumes nothing: these are definitions.
-use mathlib.Core.Bool.{Bool, true, _&&_}
+-- table, whether its question marks are numbered so, and whether its null tests are of columns. Assumes nothing: these are definitions.
+use mathlib.Core.Bool.{Bool, true, false, _&&_}
 use mathlib.Core.List.{List, [], _∷_}
 use Prim.Native.Nat.{ℕ, suc, _+_}
 use lib.Dec.{eqb, ltb}
 use lib.IntN.{ℤ}
 use Rattle.lists.specs.Lists.{all}
+use Rattle.meaning.specs.Operator.{Predicate, by, is-null, is-not-null}
 use Rattle.meaning.specs.Condition.{Comparison, sides}
 use Rattle.meaning.specs.Postfix.{Node, leaf, allOf, anyOf, leaves}
 use Rattle.meaning.specs.Grammar as G
@@ -76,3 +77,20 @@ isBelow n (value v) = true
 
 abbrev pub columnsBelow : ℕ → List (Node Operand) → Bool
 columnsBelow n ns = all (isBelow n) (sides (leaves ns))
+
+-- A.5: a null test has one column on both sides
+abbrev pub sameColumn : Operand → Operand → Bool
+sameColumn (column i) (column j) = eqb i j
+sameColumn (column i) (value v) = false
+sameColumn (value v) o = false
+
+abbrev pub isTestBy : Predicate → Operand → Operand → Bool
+isTestBy (by o) a b = true
+isTestBy is-null a b = sameColumn a b
+isTestBy is-not-null a b = sameColumn a b
+
+abbrev pub isTest : Comparison Operand → Bool
+isTest c = isTestBy (c .op) (c .left) (c .right)
+
+abbrev pub areTests : List (Node Operand) → Bool
+areTests ns = all isTest (leaves ns)

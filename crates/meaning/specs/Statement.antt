@@ -1,15 +1,15 @@
 -- Statements with names resolved: what a sentence says beside the tables that there are. Columns and tables are positions, counted from 0;
 -- "Question marks are numbered from 1, left to right" through the whole statement. Parentheses and NOTs stay.
--- Document 01, "Statement texts"; requests A.1 and A.4. Assumes nothing: these are definitions.
+-- Document 01, "Statement texts"; requests A.1, A.4 and A.5. Assumes nothing: these are definitions.
 use mathlib.Core.Option.{Option, none, some}
 use mathlib.Core.List.{List, [], _∷_, map}
 use Prim.Native.Nat.{ℕ, suc, _+_}
 use lib.IntN.{ℤ, natAbs}
 use lib.ListN.{length}
-use Rattle.meaning.specs.Condition.{Comparison, Level, Condition, compare, negate, group, alone, both, single, either, comparisons, sides, Where, always, under}
+use Rattle.meaning.specs.Condition.{Comparison, Level, Condition, compare, negate, group, alone, both, single, either, comparisons, sides, Where, always, under, mappedIn}
 use Rattle.meaning.specs.Tokens.{Name}
 use Rattle.meaning.specs.Grammar as G
-use Rattle.meaning.specs.Grammar.{Given, mark, Term, given, items, Sentence}
+use Rattle.meaning.specs.Grammar.{Given, mark, Term, given, comparison, items, Sentence}
 use Rattle.meaning.specs.Limits.{givens, termGivens, markIn, markCount}
 use Rattle.meaning.specs.Names.{Schema, tableNames, columnsOf, position, pairPlace}
 
@@ -103,7 +103,7 @@ statementOf ts (G.select cs t w) =
       table = position (tableNames ts) t;
       second = none;
       selected = map (position (columnsOf ts t)) (items cs);
-      condition = resolvedWhere (position (columnsOf ts t)) 0 w;
+      condition = resolvedWhere (position (columnsOf ts t)) 0 (mappedIn comparison w);
       parameters = markCount (givens (G.select cs t w));
     })
 statementOf ts (G.pair cs t u w) =
@@ -111,7 +111,7 @@ statementOf ts (G.pair cs t u w) =
       table = position (tableNames ts) t;
       second = some (record { table = position (tableNames ts) u; start = length (columnsOf ts t) });
       selected = map (pairPlace t (columnsOf ts t) u (columnsOf ts u)) (items cs);
-      condition = resolvedWhere (pairPlace t (columnsOf ts t) u (columnsOf ts u)) 0 w;
+      condition = resolvedWhere (pairPlace t (columnsOf ts t) u (columnsOf ts u)) 0 (mappedIn comparison w);
       parameters = markCount (givens (G.pair cs t u w));
     })
 statementOf ts (G.insert t vs) =
@@ -123,12 +123,12 @@ statementOf ts (G.insert t vs) =
 statementOf ts (G.update t ss w) =
     changes (record {
       table = position (tableNames ts) t;
-      change = update (settings (columnsOf ts t) 0 (items ss)) (resolvedWhere (position (columnsOf ts t)) (settingMarks (items ss)) w);
+      change = update (settings (columnsOf ts t) 0 (items ss)) (resolvedWhere (position (columnsOf ts t)) (settingMarks (items ss)) (mappedIn comparison w));
       parameters = markCount (givens (G.update t ss w));
     })
 statementOf ts (G.delete t w) =
     changes (record {
       table = position (tableNames ts) t;
-      change = delete (resolvedWhere (position (columnsOf ts t)) 0 w);
+      change = delete (resolvedWhere (position (columnsOf ts t)) 0 (mappedIn comparison w));
       parameters = markCount (givens (G.delete t w));
     })

@@ -1,4 +1,4 @@
--- The tokens of a text: document 01, "Statement texts", first paragraph, and requests A.2 and A.4. Assumes nothing: these are definitions.
+-- The tokens of a text: document 01, "Statement texts", first paragraph, and requests A.2, A.4 and A.5. Assumes nothing: these are definitions.
 use mathlib.Core.Bool.{Bool, true, false, _&&_, _||_, cond}
 use mathlib.Core.Option.{Option, none, some}
 use mathlib.Core.List.{List, [], _∷_, map}
@@ -13,7 +13,7 @@ use Rattle.meaning.specs.Operator.{Operator, eq, ne, lt, le, gt, ge, Ope
 
 -- "Capital words are keywords."
 pub data Keyword : Type 0 where
-  TABLE ROWS SELECT FROM WHERE INSERT INTO VALUES UPDATE SET DELETE AND OR NOT RING : Keyword
+  TABLE ROWS SELECT FROM WHERE INSERT INTO VALUES UPDATE SET DELETE AND OR NOT RING IS NULL : Keyword
   deriving Discrete as Keyword-discrete
 
 -- a name is its bytes
@@ -102,6 +102,8 @@ keywords =
     ∷ ("OR", OR)
     ∷ ("NOT", NOT)
     ∷ ("RING", RING)
+    ∷ ("IS", IS)
+    ∷ ("NULL", NULL)
     ∷ []
 
 -- A.2, "Words spelled exactly as a keyword, all capitals, remain keywords": the keyword that w is, else the token t

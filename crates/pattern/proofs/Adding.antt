@@ -20,7 +20,7 @@ use Rattle.meaning.specs.Statement as M
 use Rattle.meaning.specs.Pattern.{Joint}
 use Rattle.statement.specs.declared.Comparison.{Comparison}
 use Rattle.statement.specs.declared.Condition.{Condition}
-use Rattle.statement.specs.Operators.{operatorAt}
+use Rattle.statement.specs.Operators.{predicateAt}
 use Rattle.statement.specs.Sound.{comparisonRead, usedComparisons}
 use Rattle.pattern.specs.Least.{Coded, codeOf, coded}
 use Rattle.pattern.specs.Masks.{select, comparisonsRead}
@@ -49,7 +49,7 @@ module _ (codes ops : List ℕ) (n a b o : ℕ) (long : 2 * n + 1 < length codes
   pub kept : clauseAt codes′ ops′ n ≡ clauseAt codes ops n
   kept = map-same (comparisonAt codes ops) (All-map (λ k h. kept-at k (omega arith)) (from-below 0 n))
 
-  last-at : comparisonAt codes′ ops′ n ≡ record { left = a; op = operatorAt o; right = b }
+  last-at : comparisonAt codes′ ops′ n ≡ record { left = a; op = predicateAt o; right = b }
   last-at =
       let l : getD codes′ (2 * n) 0 ≡ a =
       getD-set-other (set codes (2 * n) a) (2 * n + 1) (2 * n) b 0 (λ e. omega arith) ∙ getD-set-same codes (2 * n) a 0 (omega arith) in
@@ -57,7 +57,7 @@ module _ (codes ops : List ℕ) (n a b o : ℕ) (long : 2 * n + 1 < length codes
       let q : getD ops′ n 0 ≡ o = getD-set-same ops n o 0 room in
       rw (l, r, q)
 
-  pub grown : clauseAt codes′ ops′ (suc n) ≡ clauseAt codes ops n ++ (record { left = a; op = operatorAt o; right = b } ∷ [])
+  pub grown : clauseAt codes′ ops′ (suc n) ≡ clauseAt codes ops n ++ (record { left = a; op = predicateAt o; right = b } ∷ [])
   grown =
       let z : 0 + n ≡ n = omega arith in
       ap (map (comparisonAt codes′ ops′)) (from-last 0 n)
@@ -101,7 +101,7 @@ module _ (g : M.Operand → Joint) where
     add-start h l r = record { codes-long = h; ops-long = l; few = omega arith; sum = refl; narrow = nil; readable = r; marks-stay = refl }
 
     module _ (codes ops : List ℕ) (at left i : ℕ) (A : Adding codes ops at left i) (x : C.Comparison M.Operand) (h : i < length cs) (hx : getD cs i x ≡ x) (n-few : n₀ ≤ 8) (i-few : i < 8)
-        (a b o : ℕ) (ca : Coding (g (x .left)) a) (cb : Coding (g (x .right)) b) (eo : operatorAt o ≡ x .op) where
+        (a b o : ℕ) (ca : Coding (g (x .left)) a) (cb : Coding (g (x .right)) b) (eo : predicateAt o ≡ x .op) where
       next-is : drop i cs ≡ x ∷ drop (i + 1) cs
       next-is = drop-cons cs i x h ∙ ap₂ (λ (y : C.Comparison M.Operand) (k : ℕ). y ∷ drop k cs) hx (sym (add-one i))
 
@@ -114,7 +114,7 @@ module _ (g : M.Operand → Joint) where
       abbrev new : C.Comparison ℕ
       new = renamed codeOf (renamed g x)
 
-      new-is : _≡_ {A = C.Comparison ℕ} (record { left = a; op = operatorAt o; right = b }) new
+      new-is : _≡_ {A = C.Comparison ℕ} (record { left = a; op = predicateAt o; right = b }) new
       new-is = λ j. record { left = ca .is j; op = eo j; right = cb .is j }
 
       abbrev rest : Coded

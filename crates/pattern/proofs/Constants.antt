@@ -1,7 +1,7 @@
 -- Constants and their numbers, as the machine works them out. Assumes nothing.
-use Prim.Native.Nat.{ℕ, suc, _-_, _^_, _≤_, _<_}
+use Prim.Native.Nat.{ℕ, _-_, _^_, _≤_, _<_}
 use mathlib.Core.Path.{_≡_, refl, ap}
-use mathlib.Core.Bool.{Bool, true, false, cond, _&&_}
+use mathlib.Core.Bool.{Bool, true, false, _&&_}
 use native.Mathlib.Omega.{arith}
 use borrow.Author.Tests.{ltb-true, le-leb}
 use lib.Dec.{ltb}
@@ -12,6 +12,7 @@ use mir.Facts.{toZ-pos, sfits-widen}
 use Rattle.meaning.specs.Limits.{isWithin32}
 use Rattle.answer.proofs.Signed.{raised}
 use Rattle.pattern.specs.Least.{constantCode, codeConstant}
+use Rattle.pattern.proofs.OperandCodes.{constantBy}
 
 -- ---- the constant of a number
 
@@ -19,7 +20,7 @@ module _ (n : ℕ) (h : n < 4294967296) where
   pub constant-32 : SFits w32 (codeConstant n)
   constant-32 = go (ltb n 2147483648) refl
     where
-      go : (b : Bool) → ltb n 2147483648 ≡ b → SFits w32 (cond b (negsuc (2147483648 - suc n)) (pos (n - 2147483648)))
+      go : (b : Bool) → ltb n 2147483648 ≡ b → SFits w32 (constantBy b n)
       go true e = let l = ltb-true n 2147483648 e in record { sfits = omega arith }
       go false e = record { sfits = omega arith }
 

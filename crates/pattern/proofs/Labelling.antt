@@ -15,11 +15,11 @@ use Rattle.lists.proofs.Bools.{or-assoc}
 use Rattle.lists.proofs.Lists.{All-map, All-image, any-map, map-take, map-same}
 use Rattle.lists.proofs.Places.{All-at}
 use Rattle.lists.proofs.Moved.{from-count, from-below}
-use Rattle.meaning.specs.Operator.{Operator, eq, ne, lt, le, gt, ge}
+use Rattle.meaning.specs.Operator.{eq, ne, lt, le, gt, ge, Predicate, by, is-null, is-not-null}
 use Rattle.meaning.specs.Condition.{Comparison, renamed}
 use Rattle.meaning.specs.Pattern.{number, mark, anything}
 use Rattle.statement.specs.Compiled.{padded, markPlace}
-use Rattle.statement.specs.Operators.{operatorAt}
+use Rattle.statement.specs.Operators.{predicateAt}
 use Rattle.pattern.specs.declared.Entry.the-variants.{Constant, Parameter, Any}
 use Rattle.pattern.specs.declared.Place.{Place}
 use Rattle.pattern.specs.declared.Pattern.{Pattern}
@@ -62,17 +62,19 @@ min-readable a b r s = go (leb a b) refl
     go true e = let l = leb-true a b e in let m : a ≡ min a b = omega arith in subst Readable m r
     go false e = let l = leb-false a b e in let m : b ≡ min a b = omega arith in subst Readable m s
 
-join-readable : (o : Operator) (a b x : ℕ) → Readable a → Readable b → Readable x → Readable (joinLeast o a b x)
-join-readable eq a b x r s t = go (eqb x (max a b))
+join-readable : (p : Predicate) (a b x : ℕ) → Readable a → Readable b → Readable x → Readable (joinLeast p a b x)
+join-readable (by eq) a b x r s t = go (eqb x (max a b))
   where
     go : (e : Bool) → Readable (cond e (min a b) x)
     go true = min-readable a b r s
     go false = t
-join-readable ne a b x r s t = t
-join-readable lt a b x r s t = t
-join-readable le a b x r s t = t
-join-readable gt a b x r s t = t
-join-readable ge a b x r s t = t
+join-readable (by ne) a b x r s t = t
+join-readable (by lt) a b x r s t = t
+join-readable (by le) a b x r s t = t
+join-readable (by gt) a b x r s t = t
+join-readable (by ge) a b x r s t = t
+join-readable is-null a b x r s t = t
+join-readable is-not-null a b x r s t = t
 
 -- ---- labels
 
@@ -99,8 +101,8 @@ module _ (codes ops : List ℕ) (n : ℕ) where
     abbrev right : ℕ
     right = getD labels (2 * i + 1) 0
 
-    abbrev op : Operator
-    op = operatorAt (getD ops i 0)
+    abbrev op : Predicate
+    op = predicateAt (getD ops i 0)
 
     side : (k : ℕ) → k < 40 → getD labels k 0 ≡ L .f (getD codes k 0)
     side k l = ap (λ (x : List ℕ). getD x k 0) (L .labels-are) ∙ getD-map-in (L .f) codes k 0 0 (omega arith)
@@ -192,7 +194,7 @@ entry-any n h =
 module _ (f : ℕ → ℕ) (codes ops : List ℕ) where
   renamed-at : (k : ℕ) → 2 * k + 1 < length codes → comparisonAt (map f codes) ops k ≡ renamed f (comparisonAt codes ops k)
   renamed-at k h =
-      ap₂ (λ (a b : ℕ). record { left = a; op = operatorAt (getD ops k 0); right = b })
+      ap₂ (λ (a b : ℕ). record { left = a; op = predicateAt (getD ops k 0); right = b })
       (getD-map-in f codes (2 * k) 0 0 (omega arith)) (getD-map-in f codes (2 * k + 1) 0 0 h)
 
   renamed-clause : (n : ℕ) → 2 * n ≤ length codes → clauseAt (map f codes) ops n ≡ map (renamed f) (clauseAt codes ops n)

@@ -1,5 +1,5 @@
 -- Labels by the least code are those of rules 6 and 7: two operands have one label exactly if the `=` comparisons of the clause link them, the label is the least
--- code in the class, so it is that of the class's constant, else of its lowest update mark. Assumes nothing.
+-- code in the class, so it is that of the class's constant, else of its lowest update mark; it is 0 exactly if the class holds the null constant. Assumes nothing.
 use mathlib.Core.Path.{_≡_, refl, sym, ap, ap₂, subst, _∙_}
 use mathlib.Core.Logic.{_⊎_, inl, inr}
 use mathlib.Core.Bool.{Bool, true, false, not, _&&_, _||_, cond}
@@ -7,21 +7,21 @@ use mathlib.Core.List.{List, [], _∷_, List·Memᴰ as Member, List·Memᴰ·he
 use Prim.Native.Nat.{ℕ, _+_, _≤_, _<_, min, max}
 use native.Mathlib.Decide.{decLe}
 use native.Mathlib.Omega.{arith}
-use lib.IntN.{ℤ, pos}
+use lib.IntN.{ℤ}
 use lib.Dec.{eqb, ltb}
 use borrow.Author.Tests.{ltb-true, ltb-false, eqb-true, eqb-false, lt-ltb, le-ltb, eq-eqb}
 use Rattle.lists.specs.Lists.{any, All, nil, cons}
 use Rattle.lists.specs.Tests.{decN, decZ, eqZ}
-use Rattle.lists.proofs.Bools.{or-left, or-right, not-false, iff, eqZ-true, yes-of, is-yes}
+use Rattle.lists.proofs.Bools.{or-left, or-right, not-false, iff, clash, eqZ-true, yes-of, is-yes}
 use Rattle.lists.proofs.Lists.{All-head, All-tail, All-map, All-every, All-keep, All-source, any-map, any-none, any-false, any-same}
 use Rattle.lists.proofs.Changed.{member-has, members-have, member-keep}
-use Rattle.meaning.specs.Operator.{Operator, eq, ne, lt, le, gt, ge, truth}
+use Rattle.meaning.specs.Operator.{eq, ne, lt, le, gt, ge, null, isNull, Predicate, by, is-null, is-not-null, truth}
 use Rattle.meaning.specs.Condition.{Comparison, sides, renamed}
 use Rattle.meaning.specs.Limits.{isWithin32}
-use Rattle.meaning.specs.Pattern.{Joint, Joint-discrete, column, constant, asked, given, Clause, same, label, class, constants, updateMarks, differ, strict, falseOf, broken, contradictory, mark, lowest, markEntry, classEntry, entry}
+use Rattle.meaning.specs.Pattern.{Joint, Joint-discrete, column, constant, asked, given, Clause, same, label, class, constants, updateMarks, differ, strict, neverOf, falseOf, broken, contradictory, mark, lowest, markEntry, classEntry, entry}
 use Rattle.meaning.proofs.Classes.{Linked, itself, joined, reversed, through, linked-back, Joins, clause-joins, labels-linked, constants-have, marks-have, differ-none}
-use Rattle.pattern.specs.Least.{marks-from, codeOf, isConstant, constantCode, Coded, coded, renameCode, joinLeast, leastOn, least, clashes, clashesOn, fails, contradicts, entryOfCode, leastEntry}
-use Rattle.pattern.proofs.OperandCodes.{Fits, constant-below, truth-codes, same-code, operandEntry, entry-of-code, below-constant}
+use Rattle.pattern.specs.Least.{marks-from, codeOf, isConstant, constantCode, codeConstant, Coded, coded, renameCode, joinLeast, leastOn, least, clashes, clashesOn, neverCode, fails, contradicts, entryOfCode, leastEntry}
+use Rattle.pattern.proofs.OperandCodes.{Fits, constant-below, code-constant, same-code, operandEntry, entry-of-code, below-constant}
 
 -- ---- labels only fall, and `=` joins them
 
@@ -32,13 +32,15 @@ rename-falls a b n = go (eqb n (max a b)) refl
     go true e = let h = eqb-true n (max a b) e in omega arith
     go false e = omega arith
 
-join-falls : (o : Operator) (a b n : ℕ) → joinLeast o a b n ≤ n
-join-falls eq a b n = rename-falls a b n
-join-falls ne a b n = omega arith
-join-falls lt a b n = omega arith
-join-falls le a b n = omega arith
-join-falls gt a b n = omega arith
-join-falls ge a b n = omega arith
+join-falls : (p : Predicate) (a b n : ℕ) → joinLeast p a b n ≤ n
+join-falls (by eq) a b n = rename-falls a b n
+join-falls (by ne) a b n = omega arith
+join-falls (by lt) a b n = omega arith
+join-falls (by le) a b n = omega arith
+join-falls (by gt) a b n = omega arith
+join-falls (by ge) a b n = omega arith
+join-falls is-null a b n = omega arith
+join-falls is-not-null a b n = omega arith
 
 least-falls : (f : ℕ → ℕ) → ((n : ℕ) → f n ≤ n) → (cs : Coded) (n : ℕ) → leastOn f cs n ≤ n
 least-falls f h [] n = h n
@@ -50,21 +52,21 @@ least-kept f [] m n e = e
 least-kept f (c ∷ cs) m n e =
     least-kept (λ k. joinLeast (c .op) (f (c .left)) (f (c .right)) (f k)) cs m n (ap (joinLeast (c .op) (f (c .left)) (f (c .right))) e)
 
-joins-least : (o : Operator) (a b : ℕ) → o ≡ eq → joinLeast o a b a ≡ joinLeast o a b b
-joins-least o a b e = rw e (go (eqb a (max a b)) (eqb b (max a b)) refl refl)
+joins-least : (p : Predicate) (a b : ℕ) → p ≡ by eq → joinLeast p a b a ≡ joinLeast p a b b
+joins-least p a b e = rw e (go (eqb a (max a b)) (eqb b (max a b)) refl refl)
   where
     go : (s t : Bool) → eqb a (max a b) ≡ s → eqb b (max a b) ≡ t → cond s (min a b) a ≡ cond t (min a b) b
-    go true true p q = refl
-    go true false p q = let h = eqb-true a (max a b) p in omega arith
-    go false true p q = let h = eqb-true b (max a b) q in omega arith
-    go false false p q = let h = eqb-false a (max a b) p in let k = eqb-false b (max a b) q in omega arith
+    go true true f g = refl
+    go true false f g = let h = eqb-true a (max a b) f in omega arith
+    go false true f g = let h = eqb-true b (max a b) g in omega arith
+    go false false f g = let h = eqb-false a (max a b) f in let k = eqb-false b (max a b) g in omega arith
 
 -- what `=` joins has one label
-least-joins : (f : ℕ → ℕ) (cs : Coded) → All (λ (c : Comparison ℕ). c .op ≡ eq → leastOn f cs (c .left) ≡ leastOn f cs (c .right)) cs
+least-joins : (f : ℕ → ℕ) (cs : Coded) → All (λ (c : Comparison ℕ). c .op ≡ by eq → leastOn f cs (c .left) ≡ leastOn f cs (c .right)) cs
 least-joins f [] = nil
 least-joins f (c ∷ cs) = cons here (least-joins (λ k. joinLeast (c .op) (f (c .left)) (f (c .right)) (f k)) cs)
   where
-    here : c .op ≡ eq → leastOn f (c ∷ cs) (c .left) ≡ leastOn f (c ∷ cs) (c .right)
+    here : c .op ≡ by eq → leastOn f (c ∷ cs) (c .left) ≡ leastOn f (c ∷ cs) (c .right)
     here e = least-kept (λ k. joinLeast (c .op) (f (c .left)) (f (c .right)) (f k)) cs (c .left) (c .right) (joins-least (c .op) (f (c .left)) (f (c .right)) e)
 
 -- the label of an operand
@@ -111,13 +113,15 @@ module _ {cs : Clause} where
         go false e d = sn
 
 module _ {cs : Clause} where
-  join-stands : (o : Operator) {l r x : Joint} {a b n : ℕ} → (o ≡ eq → Linked cs l r) → Stands cs l a → Stands cs r b → Stands cs x n → Stands cs x (joinLeast o a b n)
-  join-stands eq link sa sb sn = rename-stands (link refl) sa sb sn
-  join-stands ne link sa sb sn = sn
-  join-stands lt link sa sb sn = sn
-  join-stands le link sa sb sn = sn
-  join-stands gt link sa sb sn = sn
-  join-stands ge link sa sb sn = sn
+  join-stands : (p : Predicate) {l r x : Joint} {a b n : ℕ} → (p ≡ by eq → Linked cs l r) → Stands cs l a → Stands cs r b → Stands cs x n → Stands cs x (joinLeast p a b n)
+  join-stands (by eq) link sa sb sn = rename-stands (link refl) sa sb sn
+  join-stands (by ne) link sa sb sn = sn
+  join-stands (by lt) link sa sb sn = sn
+  join-stands (by le) link sa sb sn = sn
+  join-stands (by gt) link sa sb sn = sn
+  join-stands (by ge) link sa sb sn = sn
+  join-stands is-null link sa sb sn = sn
+  join-stands is-not-null link sa sb sn = sn
 
 module _ (cs : Clause) where
   -- labels that stand for operands of their classes
@@ -163,19 +167,21 @@ module _ (cs : Clause) where
         let same-z = single (y .0) (z .0) (subst Fits (y .1) (sa .fits)) (subst Fits (z .1) (sb .fits)) (through back forth) in
         sa .is-code ∙ ap codeOf (y .1) ∙ ap constantCode same-z ∙ sym (sb .is-code ∙ ap codeOf (z .1))
 
-    no-clash : (o : Operator) {l r : Joint} {a b : ℕ} → (o ≡ eq → Linked cs l r) → Stands cs l a → Stands cs r b → clashes o a b ≡ false
-    no-clash eq {a = a} {b = b} link sa sb = go (isConstant (max a b)) refl
+    no-clash : (p : Predicate) {l r : Joint} {a b : ℕ} → (p ≡ by eq → Linked cs l r) → Stands cs l a → Stands cs r b → clashes p a b ≡ false
+    no-clash (by eq) {a = a} {b = b} link sa sb = go (isConstant (max a b)) refl
       where
         go : (t : Bool) → isConstant (max a b) ≡ t → (t && not (eqb a b)) ≡ false
         go true e =
             let h = ltb-true (max a b) marks-from e in
             ap not (eq-eqb a b (one-constant (link refl) sa sb (omega arith) (omega arith)))
         go false e = refl
-    no-clash ne link sa sb = refl
-    no-clash lt link sa sb = refl
-    no-clash le link sa sb = refl
-    no-clash gt link sa sb = refl
-    no-clash ge link sa sb = refl
+    no-clash (by ne) link sa sb = refl
+    no-clash (by lt) link sa sb = refl
+    no-clash (by le) link sa sb = refl
+    no-clash (by gt) link sa sb = refl
+    no-clash (by ge) link sa sb = refl
+    no-clash is-null link sa sb = refl
+    no-clash is-not-null link sa sb = refl
 
     no-clashes : (f : ℕ → ℕ) → Standing f → (ds : Clause) → Part ds → clashesOn f (coded ds) ≡ false
     no-clashes f s [] p = refl
@@ -184,7 +190,7 @@ module _ (cs : Clause) where
         (no-clashes (λ n. joinLeast (d .op) (f (codeOf (d .left))) (f (codeOf (d .right))) (f n)) (after-stands f s p) ds (rest p))
 
 -- where no constants clash each keeps its own label
-rename-fixed : (a b n : ℕ) → clashes eq a b ≡ false → n < marks-from → renameCode (max a b) (min a b) n ≡ n
+rename-fixed : (a b n : ℕ) → clashes (by eq) a b ≡ false → n < marks-from → renameCode (max a b) (min a b) n ≡ n
 rename-fixed a b n h k = go (eqb n (max a b)) refl
   where
     go : (t : Bool) → eqb n (max a b) ≡ t → cond t (min a b) n ≡ n
@@ -194,13 +200,15 @@ rename-fixed a b n h k = go (eqb n (max a b)) refl
         omega (arith, eqb-true a b q)
     go false e = refl
 
-join-fixed : (o : Operator) (a b n : ℕ) → clashes o a b ≡ false → n < marks-from → joinLeast o a b n ≡ n
-join-fixed eq a b n h k = rename-fixed a b n h k
-join-fixed ne a b n h k = refl
-join-fixed lt a b n h k = refl
-join-fixed le a b n h k = refl
-join-fixed gt a b n h k = refl
-join-fixed ge a b n h k = refl
+join-fixed : (p : Predicate) (a b n : ℕ) → clashes p a b ≡ false → n < marks-from → joinLeast p a b n ≡ n
+join-fixed (by eq) a b n h k = rename-fixed a b n h k
+join-fixed (by ne) a b n h k = refl
+join-fixed (by lt) a b n h k = refl
+join-fixed (by le) a b n h k = refl
+join-fixed (by gt) a b n h k = refl
+join-fixed (by ge) a b n h k = refl
+join-fixed is-null a b n h k = refl
+join-fixed is-not-null a b n h k = refl
 
 least-fixed : (f : ℕ → ℕ) → ((n : ℕ) → n < marks-from → f n ≡ n) → (cs : Coded) → clashesOn f cs ≡ false → (n : ℕ) → n < marks-from → leastOn f cs n ≡ n
 least-fixed f fixed [] h n k = fixed n k
@@ -335,20 +343,62 @@ module _ (cs : Clause) (fit : All Fits (sides cs)) where
       (labels-linked cs x y .1 (stands-meet (stands x h) (stands y k) (eqb-true (leastOf cs x) (leastOf cs y) e))))
       (λ e. eq-eqb (leastOf cs x) (leastOf cs y) (linked-least (labels-linked cs x y .0 (yes-of (Joint-discrete decN decZ (label cs x) (label cs y)) e))))
 
+  -- A.5: a class holds the null constant exactly if its label is that constant's code, the least of all; also where constants clash
+
+  module _ (x : Joint) (h : Fits x) (m : (z : ℤ) → x ≡ constant z → Member x (sides cs)) where
+    null-there : leastOf cs x ≡ 0 → any isNull (constants (class cs x)) ≡ true
+    null-there e = go (any isNull (constants (class cs x))) refl
+      where
+        s : Stands cs x (leastOf cs x)
+        s = stands x h
+
+        is-null-constant : s .operand ≡ constant null
+        is-null-constant = same-code (s .operand) (constant null) (s .fits) refl (sym (s .is-code) ∙ e)
+
+        member : Member null (constants (class cs x))
+        member = member-constants (class-has cs x (m null) (subst (Linked cs x) is-null-constant (s .linked)))
+
+        go : (b : Bool) → any isNull (constants (class cs x)) ≡ b → b ≡ true
+        go true f = refl
+        go false f = clash refl (member-has (any-false isNull (constants (class cs x)) f) member)
+
+    null-absent : (leastOf cs x ≡ 0 → ⊥) → any isNull (constants (class cs x)) ≡ false
+    null-absent n = any-none isNull (All-map (λ z p. go z (p .0) (isNull z) refl) (constants-have (class-linked cs x fit)))
+      where
+        go : (z : ℤ) → Linked cs x (constant z) → (b : Bool) → isNull z ≡ b → b ≡ false
+        go z link true e =
+            let f = least-falls (λ n. n) (λ n. omega arith) (coded cs) (constantCode z) in
+            let k : constantCode z ≡ 0 = ap constantCode (eqZ-true z null e) in
+            absurd (n (omega (arith, linked-least link)))
+        go z link false e = refl
+
+    null-label : any isNull (constants (class cs x)) ≡ eqb (leastOf cs x) 0
+    null-label = go (eqb (leastOf cs x) 0) refl
+      where
+        go : (b : Bool) → eqb (leastOf cs x) 0 ≡ b → any isNull (constants (class cs x)) ≡ b
+        go true e = null-there (eqb-true (leastOf cs x) 0 e)
+        go false e = null-absent (eqb-false (leastOf cs x) 0 e)
+
+  never-label : (p : Predicate) (x : Joint) → Fits x → ((z : ℤ) → x ≡ constant z → Member x (sides cs))
+      → neverCode p (leastOf cs x) ≡ neverOf p (constants (class cs x))
+  never-label (by o) x h m = sym (null-label x h m)
+  never-label is-null x h m = refl
+  never-label is-not-null x h m = refl
+
 -- a label, and the constants of its class
 abbrev Numbered : ℕ → List ℤ → Type 0
 Numbered n [] = marks-from ≤ n
 Numbered n (z ∷ zs) = (n ≡ constantCode z) × (isWithin32 z ≡ true)
 
 -- a comparison of labels that are constants is that of the classes' constants
-numbered-false : (o : Operator) (a b : ℕ) (ys zs : List ℤ) → Numbered a ys → Numbered b zs
-    → (isConstant (max a b) && not (truth o (pos a) (pos b))) ≡ falseOf o ys zs
-numbered-false o a b [] zs h k = rw (le-ltb (max a b) marks-from (omega arith))
-numbered-false o a b (y ∷ ys) [] h k = rw (le-ltb (max a b) marks-from (omega arith))
-numbered-false o a b (y ∷ ys) (z ∷ zs) h k =
+numbered-false : (p : Predicate) (a b : ℕ) (ys zs : List ℤ) → Numbered a ys → Numbered b zs
+    → (isConstant (max a b) && not (truth p (codeConstant a) (codeConstant b))) ≡ falseOf p ys zs
+numbered-false p a b [] zs h k = rw (le-ltb (max a b) marks-from (omega arith))
+numbered-false p a b (y ∷ ys) [] h k = rw (le-ltb (max a b) marks-from (omega arith))
+numbered-false p a b (y ∷ ys) (z ∷ zs) h k =
     let below-y = constant-below y (h .1) in
     let below-z = constant-below z (k .1) in
-    rw (h .0, k .0, lt-ltb (max (constantCode y) (constantCode z)) marks-from (omega arith)) (ap not (truth-codes o y z (h .1) (k .1)))
+    rw (h .0, k .0, lt-ltb (max (constantCode y) (constantCode z)) marks-from (omega arith)) (ap not (ap₂ (truth p) (code-constant y (h .1)) (code-constant z (k .1))))
 
 module _ (cs : Clause) (fit : All Fits (sides cs)) (single : Single cs) where
   -- of an operand that is no constant, or stands in the clause
@@ -371,8 +421,10 @@ module _ (cs : Clause) (fit : All Fits (sides cs)) (single : Single cs) where
   fails-broken : (c : Comparison Joint) → Member c cs → fails (c .op) (leastOf cs (c .left)) (leastOf cs (c .right)) ≡ broken cs c
   fails-broken c m =
       ap₂ _||_ (ap (λ (t : Bool). strict (c .op) && t) (same-label cs fit (c .left) (c .right) left-fits right-fits))
+      (ap₂ _||_
+      (ap₂ _||_ (never-label cs fit (c .op) (c .left) left-fits (λ z e. sides-of m .0)) (never-label cs fit (c .op) (c .right) right-fits (λ z e. sides-of m .1)))
       (numbered-false (c .op) (leastOf cs (c .left)) (leastOf cs (c .right)) (constants (class cs (c .left))) (constants (class cs (c .right)))
-      (numbered (c .left) left-fits (λ z e. sides-of m .0)) (numbered (c .right) right-fits (λ z e. sides-of m .1)))
+      (numbered (c .left) left-fits (λ z e. sides-of m .0)) (numbered (c .right) right-fits (λ z e. sides-of m .1))))
     where
       left-fits : Fits (c .left)
       left-fits = member-has fit (sides-of m .0)

@@ -1,17 +1,17 @@
--- The code of an operand: operands that fit have different codes, the order of the codes is that of the constants, and constants come before update marks and
--- these before all others. Assumes nothing.
+-- The code of an operand: operands that fit have different codes, the order of the codes is that of the constants, null the least, and constants come before update
+-- marks and these before all others. Assumes nothing.
 use mathlib.Core.Path.{_≡_, refl, sym, ap, _∙_}
-use mathlib.Core.Bool.{true, not, cond}
+use mathlib.Core.Bool.{Bool, true, false, cond}
 use Prim.Native.Nat.{ℕ, suc, _+_, _-_, _≤_, _<_}
 use native.Mathlib.Omega.{arith}
 use lib.IntN.{ℤ, pos, negsuc}
-use lib.Signed.{ltZ, leZ}
+use lib.Signed.{ltZ}
 use lib.Dec.{eqb, ltb, leb}
-use borrow.Author.Tests.{leb-true, eqb-true, lt-ltb, le-ltb, eq-eqb}
+use borrow.Author.Tests.{leb-true, ltb-true, ltb-false, eqb-true, lt-ltb, le-ltb, eq-eqb}
 use Rattle.lists.specs.Tests.{eqZ}
-use Rattle.lists.proofs.Bools.{and-left, leZ-not, iff, eqZ-same, eqZ-true}
+use Rattle.lists.proofs.Bools.{and-left, iff, eqZ-same, eqZ-true}
 use Rattle.statement.proofs.SentenceLimits.{same-test}
-use Rattle.meaning.specs.Operator.{Operator, eq, ne, lt, le, gt, ge, truth}
+use Rattle.meaning.specs.Operator.{isNull}
 use Rattle.meaning.specs.Limits.{isWithin32}
 use Rattle.meaning.specs.Pattern.{Joint, column, constant, asked, given, Entry, number, mark, anything}
 use Rattle.pattern.specs.Least.{marks-from, asked-from, columns-from, constantCode, codeOf, codeConstant, entryOfCode}
@@ -45,32 +45,43 @@ code-constant (negsuc n) h =
     let e : 2147483648 - suc (2147483647 - n) ≡ n = omega arith in
     rw (lt-ltb (2147483647 - n) 2147483648 (omega arith)) (ap negsuc e)
 
-eq-codes : (y z : ℤ) → isWithin32 y ≡ true → isWithin32 z ≡ true → eqb (constantCode y) (constantCode z) ≡ eqZ y z
-eq-codes y z h k =
-    iff (eqb (constantCode y) (constantCode z)) (eqZ y z)
-    (λ e. rw (sym (code-constant y h) ∙ ap codeConstant (eqb-true (constantCode y) (constantCode z) e) ∙ code-constant z k) (eqZ-same z))
-    (λ e. eq-eqb (constantCode y) (constantCode z) (ap constantCode (eqZ-true y z e)))
+-- the constant of a code, by whether it is below that of 0
+abbrev pub constantBy : Bool → ℕ → ℤ
+constantBy b n = cond b (negsuc (2147483648 - suc n)) (pos (n - 2147483648))
 
-lt-codes : (y z : ℤ) → isWithin32 y ≡ true → isWithin32 z ≡ true → ltb (constantCode y) (constantCode z) ≡ ltZ y z
-lt-codes (pos m) (pos n) h k = same-test (2147483648 + m) (2147483648 + n) m n (λ e. omega arith) (λ e. omega arith)
-lt-codes (pos m) (negsuc n) h k = le-ltb (2147483648 + m) (2147483647 - n) (omega arith)
-lt-codes (negsuc m) (pos n) h k = lt-ltb (2147483647 - m) (2147483648 + n) (omega arith)
-lt-codes (negsuc m) (negsuc n) h k =
-    let a = negsuc-below m h in
-    let b = negsuc-below n k in
-    same-test (2147483647 - m) (2147483647 - n) n m (λ e. omega arith) (λ e. omega arith)
+code-back : (n : ℕ) → constantCode (codeConstant n) ≡ n
+code-back n = go (ltb n 2147483648) refl
+  where
+    go : (b : Bool) → ltb n 2147483648 ≡ b → constantCode (constantBy b n) ≡ n
+    go true e = let h = ltb-true n 2147483648 e in omega arith
+    go false e = let h = ltb-false n 2147483648 e in omega arith
 
-le-codes : (y z : ℤ) → isWithin32 y ≡ true → isWithin32 z ≡ true → leb (constantCode y) (constantCode z) ≡ leZ y z
-le-codes y z h k = leZ-not (pos (constantCode y)) (pos (constantCode z)) ∙ ap not (lt-codes z y k h) ∙ sym (leZ-not y z)
+-- constants stand to each other as their codes do
+module _ (a b : ℕ) where
+  pub eq-codes : eqZ (codeConstant a) (codeConstant b) ≡ eqb a b
+  eq-codes =
+      iff (eqZ (codeConstant a) (codeConstant b)) (eqb a b)
+      (λ e. eq-eqb a b (sym (code-back a) ∙ ap constantCode (eqZ-true (codeConstant a) (codeConstant b) e) ∙ code-back b))
+      (λ e. ap (λ (n : ℕ). eqZ (codeConstant n) (codeConstant b)) (eqb-true a b e) ∙ eqZ-same (codeConstant b))
 
--- a comparison of codes is that of the constants
-pub truth-codes : (o : Operator) (y z : ℤ) → isWithin32 y ≡ true → isWithin32 z ≡ true → truth o (pos (constantCode y)) (pos (constantCode z)) ≡ truth o y z
-truth-codes eq y z h k = eq-codes y z h k
-truth-codes ne y z h k = ap not (eq-codes y z h k)
-truth-codes lt y z h k = lt-codes y z h k
-truth-codes le y z h k = le-codes y z h k
-truth-codes gt y z h k = lt-codes z y k h
-truth-codes ge y z h k = le-codes z y k h
+  pub lt-codes : ltZ (codeConstant a) (codeConstant b) ≡ ltb a b
+  lt-codes = go (ltb a 2147483648) (ltb b 2147483648) refl refl
+    where
+      go : (s t : Bool) → ltb a 2147483648 ≡ s → ltb b 2147483648 ≡ t → ltZ (constantBy s a) (constantBy t b) ≡ ltb a b
+      go true true e f =
+          let h = ltb-true a 2147483648 e in
+          let k = ltb-true b 2147483648 f in
+          same-test (2147483648 - suc b) (2147483648 - suc a) a b (λ l. omega arith) (λ l. omega arith)
+      go true false e f = let h = ltb-true a 2147483648 e in let k = ltb-false b 2147483648 f in sym (lt-ltb a b (omega arith))
+      go false true e f = let h = ltb-false a 2147483648 e in let k = ltb-true b 2147483648 f in sym (le-ltb a b (omega arith))
+      go false false e f =
+          let h = ltb-false a 2147483648 e in
+          let k = ltb-false b 2147483648 f in
+          same-test (a - 2147483648) (b - 2147483648) a b (λ l. omega arith) (λ l. omega arith)
+
+-- A.5: the null constant has the least code
+pub null-code : (n : ℕ) → isNull (codeConstant n) ≡ eqb n 0
+null-code n = eq-codes n 0
 
 -- ---- operands
 

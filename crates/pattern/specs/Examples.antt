@@ -1,5 +1,5 @@
--- Document 01, "Examples": the starred rows on patterns, from the texts of the statements, by computation on what the texts compile to; and A.1, a question over two
--- tables. Assumes nothing: each holds by computing.
+-- Document 01, "Examples": the starred rows on patterns, from the texts of the statements, by computation on what the texts compile to; A.1, a question over two
+-- tables; and A.5, null. Assumes nothing: each holds by computing.
 use mathlib.Core.Path.{_≡_, refl}
 use mathlib.Core.Bool.{true, false}
 use mathlib.Core.List.{List, [], _∷_}
@@ -10,6 +10,7 @@ use Rattle.meaning.specs.Tokens.{isNameByte, isWordByte, decimal, isName, word,
 use Rattle.meaning.specs.Grammar.{aCondition, aSentence, read}
 use Rattle.meaning.specs.Limits.{pastLimit}
 use Rattle.meaning.specs.Names.{unknown, taken, miscounted, twice}
+use Rattle.meaning.specs.Operator.{null}
 use Rattle.meaning.specs.Statement.{statementOf}
 use Rattle.meaning.specs.Plain.{otherLengths, noPlace}
 use Rattle.meaning.specs.Pattern.{Pattern, number, mark, anything, class, contradictory, entry}
@@ -194,3 +195,27 @@ pub insert-last :
     ≡ ((mark 1 ∷ []) ∷ [])
 unfolding computing
 insert-last = refl
+
+-- ---- A.5: null
+
+-- "IS NULL and IS NOT NULL are tested on the class's constant where there is one": the new row is told by its level
+abbrev unread : String
+unread = "SELECT site FROM stage WHERE level IS NULL AND site = ?"
+
+pub insert-null : Holds unread "INSERT INTO stage VALUES (?, -2147483648)" ((mark 1 ∷ []) ∷ [])
+unfolding computing
+insert-null = (refl, refl, refl)
+
+pub insert-read : Holds unread "INSERT INTO stage VALUES (?, 5)" []
+unfolding computing
+insert-read = (refl, refl, refl)
+
+-- "any other comparison with an operand whose class holds the null constant is never true"
+pub delete-null : Holds Q "DELETE FROM stage WHERE level <= -2147483648" []
+unfolding computing
+delete-null = (refl, refl, refl)
+
+-- a key's null is a number like its others: SET level = ? WHERE site = ? with 120 and null agrees with the key of null
+pub null-agrees : agreesStored (filledOf (pos 120 ∷ null ∷ []) second) (null ∷ []) ≡ true
+unfolding computing
+null-agrees = refl

@@ -9,14 +9,14 @@ use lib.ListN.{getD, take, drop, replicate}
 use Rattle.lists.specs.Lists.{All, from}
 use Rattle.meaning.specs.Condition.{Comparison, sides, renamed}
 use Rattle.meaning.specs.Limits.{isWithin32}
-use Rattle.meaning.specs.Operator.{Operator, eq, ne, lt, le, gt, ge}
+use Rattle.meaning.specs.Operator.{eq, ne, lt, le, gt, ge, Predicate, by, is-null, is-not-null}
 use Rattle.meaning.specs.Pattern.{Joint, column, constant, asked, given, Clause, ofValue, moved, placedFrom, replacing}
 use Rattle.meaning.specs.Statement as M
 use Rattle.statement.specs.declared.Condition.{Condition}
 use Rattle.statement.specs.declared.Setting.{Setting}
 use Rattle.statement.specs.Sound.{valueRead}
 use Rattle.statement.specs.Compiled.{padded, newValue}
-use Rattle.statement.specs.Operators.{operatorAt}
+use Rattle.statement.specs.Operators.{predicateAt}
 use Rattle.pattern.specs.Least.{marks-from, asked-from, codeOf, Coded, coded, least, clashesOn, fails, contradicts, entryOfCode, leastEntry}
 use Rattle.pattern.specs.Stored.{placeStruct, placed, patternStruct, noPattern}
 use Rattle.pattern.specs.declared.Entry.the-variants.{Any}
@@ -27,7 +27,7 @@ use Rattle.pattern.specs.declared.labels.Labels.{Labels}
 use Rattle.pattern.specs.declared.joint.Joined.{Joined}
 
 abbrev pub comparisonAt : List ℕ → List ℕ → ℕ → Comparison ℕ
-comparisonAt codes ops k = record { left = getD codes (2 * k) 0; op = operatorAt (getD ops k 0); right = getD codes (2 * k + 1) 0 }
+comparisonAt codes ops k = record { left = getD codes (2 * k) 0; op = predicateAt (getD ops k 0); right = getD codes (2 * k + 1) 0 }
 
 -- the clause of the first n comparisons
 abbrev pub clauseAt : List ℕ → List ℕ → ℕ → Coded
@@ -39,13 +39,15 @@ failing c = fails (c .op) (c .left) (c .right)
 
 -- ---- `=` alone joins
 
-abbrev pub isJoin : Operator → Bool
-isJoin eq = true
-isJoin ne = false
-isJoin lt = false
-isJoin le = false
-isJoin gt = false
-isJoin ge = false
+abbrev pub isJoin : Predicate → Bool
+isJoin (by eq) = true
+isJoin (by ne) = false
+isJoin (by lt) = false
+isJoin (by le) = false
+isJoin (by gt) = false
+isJoin (by ge) = false
+isJoin is-null = false
+isJoin is-not-null = false
 
 -- ---- operands of stored statements
 

@@ -7,8 +7,9 @@ use Prim.Native.Nat.{ℕ, _+_, _-_, min, max}
 use lib.IntN.{ℤ, pos, negsuc, _-ℤ_}
 use lib.Dec.{eqb, ltb}
 use Rattle.lists.specs.Lists.{any, from}
-use Rattle.meaning.specs.Operator.{Operator, eq, ne, lt, le, gt, ge, truth}
+use Rattle.meaning.specs.Operator.{eq, ne, lt, le, gt, ge, Predicate, by, is-null, is-not-null, truth}
 use Rattle.meaning.specs.Condition.{Comparison, renamed}
+use Rattle.statement.specs.Operators.{isNullTest}
 use Rattle.meaning.specs.Pattern.{Joint, column, constant, asked, given, Clause, strict, Entry, number, mark, anything}
 
 -- the first code that is no constant; of the query's question marks; of columns
@@ -48,13 +49,15 @@ coded cs = map (renamed codeOf) cs
 abbrev pub renameCode : ℕ → ℕ → ℕ → ℕ
 renameCode from to x = cond (eqb x from) to x
 
-abbrev pub joinLeast : Operator → ℕ → ℕ → ℕ → ℕ
-joinLeast eq a b = renameCode (max a b) (min a b)
-joinLeast ne a b = λ x. x
-joinLeast lt a b = λ x. x
-joinLeast le a b = λ x. x
-joinLeast gt a b = λ x. x
-joinLeast ge a b = λ x. x
+abbrev pub joinLeast : Predicate → ℕ → ℕ → ℕ → ℕ
+joinLeast (by eq) a b = renameCode (max a b) (min a b)
+joinLeast (by ne) a b = λ x. x
+joinLeast (by lt) a b = λ x. x
+joinLeast (by le) a b = λ x. x
+joinLeast (by gt) a b = λ x. x
+joinLeast (by ge) a b = λ x. x
+joinLeast is-null a b = λ x. x
+joinLeast is-not-null a b = λ x. x
 
 abbrev pub leastOn : (ℕ → ℕ) → Coded → ℕ → ℕ
 leastOn f [] = f
@@ -65,20 +68,28 @@ least cs = leastOn (λ x. x) cs
 
 -- ---- rule 6: an `=` that joins two different constants; a comparison that cannot hold of its labels
 
-abbrev pub clashes : Operator → ℕ → ℕ → Bool
-clashes eq a b = isConstant (max a b) && not (eqb a b)
-clashes ne a b = false
-clashes lt a b = false
-clashes le a b = false
-clashes gt a b = false
-clashes ge a b = false
+abbrev pub clashes : Predicate → ℕ → ℕ → Bool
+clashes (by eq) a b = isConstant (max a b) && not (eqb a b)
+clashes (by ne) a b = false
+clashes (by lt) a b = false
+clashes (by le) a b = false
+clashes (by gt) a b = false
+clashes (by ge) a b = false
+clashes is-null a b = false
+clashes is-not-null a b = false
 
 abbrev pub clashesOn : (ℕ → ℕ) → Coded → Bool
 clashesOn f [] = false
 clashesOn f (c ∷ cs) = clashes (c .op) (f (c .left)) (f (c .right)) || clashesOn (λ x. joinLeast (c .op) (f (c .left)) (f (c .right)) (f x)) cs
 
-abbrev pub fails : Operator → ℕ → ℕ → Bool
-fails o a b = (strict o && eqb a b) || (isConstant (max a b) && not (truth o (pos a) (pos b)))
+-- A.5: the null constant has the least code of all, 0, so a class holds it exactly if that is its label
+abbrev pub neverCode : Predicate → ℕ → Bool
+neverCode p a = not (isNullTest p) && eqb a 0
+
+abbrev pub fails : Predicate → ℕ → ℕ → Bool
+fails p a b =
+    (strict p && eqb a b)
+    || ((neverCode p a || neverCode p b) || (isConstant (max a b) && not (truth p (codeConstant a) (codeConstant b))))
 
 unfoldable pub contradicts : Coded → Bool
 contradicts cs = clashesOn (λ x. x) cs || any (λ (c : Comparison ℕ). fails (c .op) (least cs (c .left)) (least cs (c .right))) cs

@@ -10,13 +10,12 @@ ghost use mathlib.Core.Path.{_≡_};
 ghost use mathlib.Core.Bool.{_||_};
 ghost use mathlib.Core.List.{map};
 ghost use Prim.Native.Nat.{_+_, _*_, _≤_, _<_, min, max};
-ghost use lib.IntN.{pos};
 ghost use lib.ListN.{length};
 ghost use Rattle.lists.specs.Lists.{All, any};
 ghost use Rattle.meaning.specs.Operator.{truth};
 ghost use Rattle.meaning.specs.Pattern.{strict as strictOf};
-ghost use Rattle.statement.specs.Operators.{operatorAt, orderOf};
-ghost use Rattle.pattern.specs.Least.{renameCode, joinLeast, clashes as clashOf, fails as failOf, codeConstant, entryOfCode};
+ghost use Rattle.statement.specs.Operators.{predicateAt, orderOf};
+ghost use Rattle.pattern.specs.Least.{renameCode, joinLeast, clashes as clashOf, neverCode, fails as failOf, codeConstant, entryOfCode};
 ghost use Rattle.pattern.specs.Stored.{entryStruct, noPattern};
 ghost use Rattle.pattern.specs.Flat.{isJoin, failing, clauseAt, Readable, Ready, Labelled, placesOf, codedPattern};
 
@@ -42,8 +41,10 @@ impl Labels {
 
     pub const FROM_COLUMNS: u64 = 4295098368;
 
-    // The number of the constant 0.
+    // The number of the constant 0; of the null constant, the least of all.
     pub const ZERO: u64 = 2147483648;
+
+    pub const NULL: u64 = 0;
 }
 
 // ---- labels
@@ -80,7 +81,7 @@ fn relabel(labels: &mut [u64; Labels::OPERANDS], from: u64, to: u64)
 
 // Whether a comparison by this number is `=`.
 fn is_join(op: u8) -> bool
-    ensures { λ r. ⌜ r ≡ isJoin (operatorAt op) ⌝ }
+    ensures { λ r. ⌜ r ≡ isJoin (predicateAt op) ⌝ }
 {
     op == Comparison::EQ
 }
@@ -88,7 +89,7 @@ fn is_join(op: u8) -> bool
 // What a comparison whose sides have the labels a and b does to the labels.
 fn join(labels: &mut [u64; Labels::OPERANDS], op: u8, a: u64, b: u64)
     requires { ⌜ length (now labels) ≡ 40 ⌝ }
-    ensures { λ _. ⌜ now (labels .exit) ≡ map (joinLeast (operatorAt op) a b) (now (labels .entry)) ⌝ }
+    ensures { λ _. ⌜ now (labels .exit) ≡ map (joinLeast (predicateAt op) a b) (now (labels .entry)) ⌝ }
 {
     if is_join(op) {
         relabel(labels, greater(a, b), lesser(a, b));
@@ -97,7 +98,7 @@ fn join(labels: &mut [u64; Labels::OPERANDS], op: u8, a: u64, b: u64)
 
 // Whether an `=` of these labels joins two different constants.
 fn clashes(op: u8, a: u64, b: u64) -> bool
-    ensures { λ r. ⌜ r ≡ clashOf (operatorAt op) a b ⌝ }
+    ensures { λ r. ⌜ r ≡ clashOf (predicateAt op) a b ⌝ }
 {
     is_join(op) & (greater(a, b) < Labels::FROM_MARKS) & (a != b)
 }
@@ -126,17 +127,20 @@ fn label_all(codes: [u64; Labels::OPERANDS], ops: [u8; Labels::COMPARISONS], n: 
 
 // ---- contradictions
 
-// Whether a comparison by this number is false of equal sides.
+// Whether a comparison by this number is false of equal sides, whatever they are.
 fn strict(op: u8) -> bool
-    ensures { λ r. ⌜ r ≡ strictOf (operatorAt op) ⌝ }
+    ensures { λ r. ⌜ r ≡ strictOf (predicateAt op) ⌝ }
 {
-    !Comparison::truth(op, Order::EQUAL)
+    (op != Comparison::IS_NULL) & !Comparison::truth(op, Order::EQUAL)
 }
 
-// How two numbers stand.
+// How two constants stand, by their numbers.
 fn order(a: u64, b: u64) -> u8
-    ensures { λ r. ⌜ r ≡ orderOf (pos a) (pos b) ⌝ }
+    ensures { λ r. ⌜ r ≡ orderOf (codeConstant a) (codeConstant b) ⌝ }
 {
+    if lesser(a, b) == Labels::NULL {
+        return Order::UNKNOWN;
+    }
     if a < b {
         return Order::LESS;
     }
@@ -146,19 +150,29 @@ fn order(a: u64, b: u64) -> u8
     Order::GREATER
 }
 
-// Whether two constants compare so, by their numbers.
+// Whether two constants compare so, by their numbers. A null test (A.5) looks at the left one alone.
 fn compare(op: u8, a: u64, b: u64) -> bool
-    ensures { λ r. ⌜ r ≡ truth (operatorAt op) (pos a) (pos b) ⌝ }
+    ensures { λ r. ⌜ r ≡ truth (predicateAt op) (codeConstant a) (codeConstant b) ⌝ }
 {
+    if Comparison::tests_null(op) {
+        return Comparison::truth(op, order(a, a));
+    }
     Comparison::truth(op, order(a, b))
 }
 
-// Whether a comparison cannot hold of its sides' labels.
+// Whether a comparison is never true, since the class of a side holds the null constant (A.5); null tests aside.
+fn never(op: u8, a: u64, b: u64) -> bool
+    ensures { λ r. ⌜ r ≡ (neverCode (predicateAt op) a || neverCode (predicateAt op) b) ⌝ }
+{
+    (lesser(a, b) == Labels::NULL) & !Comparison::tests_null(op)
+}
+
+// Whether a comparison cannot be true of its sides' labels.
 fn fails(op: u8, a: u64, b: u64) -> bool
-    ensures { λ r. ⌜ r ≡ failOf (operatorAt op) a b ⌝ }
+    ensures { λ r. ⌜ r ≡ failOf (predicateAt op) a b ⌝ }
 {
     let constants = greater(a, b) < Labels::FROM_MARKS;
-    (strict(op) & (a == b)) | (constants & !compare(op, a, b))
+    (strict(op) & (a == b)) | (never(op, a, b) | (constants & !compare(op, a, b)))
 }
 
 // Whether some comparison of a clause cannot hold of its sides' labels.

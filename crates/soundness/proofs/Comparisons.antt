@@ -16,7 +16,7 @@ use Rattle.meaning.specs.Statement as M
 use Rattle.meaning.specs.Resolve.{markInOperand, parameterCount, isNumbered, numberedOn, numberedFrom, isBelow, columnsBelow}
 use Rattle.meaning.specs.Limits.{most-comparisons, most-marks}
 use Rattle.statement.specs.Compiled.{leftSide, rightSide}
-use Rattle.statement.specs.Sound.{operandRead, comparisonRead, usedSteps, usedComparisons, conditionNodes, conditionMarks, soundCondition, soundConditionOn}
+use Rattle.statement.specs.Sound.{operandRead, comparisonRead, usedSteps, usedComparisons, conditionNodes, conditionMarks, soundPredicate, soundCondition, soundConditionOn}
 use Rattle.statement.specs.declared.Comparison.{Comparison}
 use Rattle.statement.specs.declared.Condition.{Condition}
 use Rattle.statement.proofs.Stored.{read-length, read-leaves}
@@ -27,7 +27,7 @@ use Rattle.soundness.proofs.Steps.{steps-postfix}
 -- ---- comparisons as they are read
 
 abbrev operators : List Comparison → Bool
-operators cs = all (λ (k : Comparison). ltb (k .op) 6) cs
+operators cs = all soundPredicate cs
 
 abbrev operands : List Comparison → List M.Operand
 operands cs = sides (map comparisonRead cs)
@@ -40,14 +40,14 @@ asked columns m p cs =
 module _ (columns : ℕ) where
   fits-is : (m : ℕ) (c : Comparison)
       → comparisonFits columns m c
-      ≡ (ltb (c .op) 6 && ((isBelow columns (operandRead (leftSide c)) && isBelow columns (operandRead (rightSide c)))
+      ≡ (soundPredicate c && ((isBelow columns (operandRead (leftSide c)) && isBelow columns (operandRead (rightSide c)))
       && (isNumbered m (operandRead (leftSide c)) && isNumbered (m + markInOperand (operandRead (leftSide c))) (operandRead (rightSide c)))))
   fits-is m c =
       let a = operandRead (leftSide c) in
       let b = operandRead (rightSide c) in
       let m′ = m + markInOperand a in
-      sym (and-assoc (ltb (c .op) 6) (isBelow columns a && isNumbered m a) (isBelow columns b && isNumbered m′ b))
-      ∙ ap (λ (x : Bool). ltb (c .op) 6 && x) (interchange (isBelow columns a) (isNumbered m a) (isBelow columns b) (isNumbered m′ b))
+      sym (and-assoc (soundPredicate c) (isBelow columns a && isNumbered m a) (isBelow columns b && isNumbered m′ b))
+      ∙ ap (λ (x : Bool). soundPredicate c && x) (interchange (isBelow columns a) (isNumbered m a) (isBelow columns b) (isNumbered m′ b))
 
   grouped : (o w k o′ w′ k′ e : Bool) → ((o && (w && k)) && (o′ && (w′ && (k′ && e)))) ≡ ((o && o′) && ((w && w′) && ((k && k′) && e)))
   grouped o w k o′ w′ k′ e =
@@ -65,9 +65,9 @@ module _ (columns : ℕ) where
       let e : m + comparisonMarks c ≡ m″ = omega arith in
       let f : m″ + parameterCount os ≡ m + (markInOperand a + (markInOperand b + parameterCount os)) = omega arith in
       ap₂ _&&_ (fits-is m c) (ap (λ (k : ℕ). comparisonsOn columns k p cs) e ∙ comparisons-asked m″ p cs)
-      ∙ grouped (ltb (c .op) 6) (isBelow columns a && isBelow columns b) (isNumbered m a && isNumbered m′ b)
+      ∙ grouped (soundPredicate c) (isBelow columns a && isBelow columns b) (isNumbered m a && isNumbered m′ b)
       (operators cs) (all (isBelow columns) os) (numberedOn m″ os) (eqb p (m″ + parameterCount os))
-      ∙ ap (λ (x : Bool). (ltb (c .op) 6 && operators cs) && x)
+      ∙ ap (λ (x : Bool). (soundPredicate c && operators cs) && x)
       (ap₂ _&&_ (sym (and-assoc (isBelow columns a) (isBelow columns b) (all (isBelow columns) os)))
       (ap₂ _&&_ (sym (and-assoc (isNumbered m a) (isNumbered m′ b) (numberedOn m″ os))) (ap (eqb p) f)))
 

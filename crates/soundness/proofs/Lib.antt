@@ -2,6 +2,7 @@ pub mod Tests
 pub mod Apart
 pub mod Codes
 pub mod Numbering
+pub mod Operators
 pub mod Packed
 pub mod Tables
 pub mod Steps

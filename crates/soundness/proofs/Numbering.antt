@@ -13,6 +13,7 @@ use Rattle.meaning.specs.Statement as M
 use Rattle.meaning.specs.Resolve.{markInOperand, isNumbered, isBelow}
 use Rattle.statement.specs.Built.{markInSide}
 use Rattle.statement.specs.Compiled.{leftSide, rightSide}
+use Rattle.statement.specs.Sound.{soundPredicate}
 use Rattle.statement.specs.declared.Operand.{Operand}
 use Rattle.statement.specs.declared.Comparison.{Comparison}
 use Rattle.statement.proofs.ByKind.{is-constant, is-column, is-mark}
@@ -77,28 +78,28 @@ module _ (columns : ℕ) where
 
   comparison-up : (m : ℕ) (c : Comparison) → m ≤ afterComparison columns m c
   unfolding afterComparison
-  comparison-up m c = cond-up (ltb (c .op) 6) m (afterSides columns m c) (afterSides columns m c + 64) (sides-up m c) (omega (arith, sides-up m c))
+  comparison-up m c = cond-up (soundPredicate c) m (afterSides columns m c) (afterSides columns m c + 64) (sides-up m c) (omega (arith, sides-up m c))
 
   pub comparison-top : (m : ℕ) (c : Comparison) → afterComparison columns m c ≤ m + 192
   unfolding afterComparison
   comparison-top m c =
       let t : afterSides columns m c ≤ m + 128 = omega (arith, side-top m (leftSide c), side-top (afterSide columns m (leftSide c)) (rightSide c)) in
-      cond-top (ltb (c .op) 6) (m + 192) (afterSides columns m c) (afterSides columns m c + 64) (omega arith) (omega arith)
+      cond-top (soundPredicate c) (m + 192) (afterSides columns m c) (afterSides columns m c + 64) (omega arith) (omega arith)
 
   comparison-yes : (m : ℕ) (c : Comparison) → comparisonFits columns m c ≡ true → afterComparison columns m c ≡ m + comparisonMarks c
   unfolding afterComparison
   comparison-yes m c h =
       let l : Bool = sideFits columns m (leftSide c) in
-      let both : (ltb (c .op) 6 && l) ≡ true = and-left (ltb (c .op) 6 && l) _ h in
-      let e : afterSide columns m (leftSide c) ≡ m + markInSide (leftSide c) = side-yes m (leftSide c) (and-right (ltb (c .op) 6) l both) in
+      let both : (soundPredicate c && l) ≡ true = and-left (soundPredicate c && l) _ h in
+      let e : afterSide columns m (leftSide c) ≡ m + markInSide (leftSide c) = side-yes m (leftSide c) (and-right (soundPredicate c) l both) in
       let f : afterSides columns m c ≡ (m + markInSide (leftSide c)) + markInSide (rightSide c) =
-      ap (λ (k : ℕ). afterSide columns k (rightSide c)) e ∙ side-yes (m + markInSide (leftSide c)) (rightSide c) (and-right (ltb (c .op) 6 && l) _ h) in
+      ap (λ (k : ℕ). afterSide columns k (rightSide c)) e ∙ side-yes (m + markInSide (leftSide c)) (rightSide c) (and-right (soundPredicate c && l) _ h) in
       let g : afterSides columns m c ≡ m + comparisonMarks c = omega arith in
-      ap (λ (b : Bool). cond b (afterSides columns m c) (afterSides columns m c + 64)) (and-left (ltb (c .op) 6) l both) ∙ g
+      ap (λ (b : Bool). cond b (afterSides columns m c) (afterSides columns m c + 64)) (and-left (soundPredicate c) l both) ∙ g
 
   comparison-no : (m : ℕ) (c : Comparison) → comparisonFits columns m c ≡ false → m + 64 ≤ afterComparison columns m c
   unfolding afterComparison
-  comparison-no m c h = go (ltb (c .op) 6) (sideFits columns m (leftSide c)) (sideFits columns (m + markInSide (leftSide c)) (rightSide c)) refl refl h
+  comparison-no m c h = go (soundPredicate c) (sideFits columns m (leftSide c)) (sideFits columns (m + markInSide (leftSide c)) (rightSide c)) refl refl h
     where
       go : (o l r : Bool) → sideFits columns m (leftSide c) ≡ l → sideFits columns (m + markInSide (leftSide c)) (rightSide c) ≡ r → ((o && l) && r) ≡ false
           → m + 64 ≤ cond o (afterSides columns m c) (afterSides columns m c + 64)

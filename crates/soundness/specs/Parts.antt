@@ -16,7 +16,7 @@ use Rattle.meaning.specs.Statement.{value}
 use Rattle.statement.specs.Built.{markInValue, markInSide}
 use Rattle.statement.specs.Catalog.{nameOfStruct, schemaOf}
 use Rattle.statement.specs.Compiled.{padded, leftSide, rightSide, newValue}
-use Rattle.statement.specs.Sound.{valueRead, operandRead, usedColumns, soundName}
+use Rattle.statement.specs.Sound.{valueRead, operandRead, usedColumns, soundName, soundPredicate}
 use Rattle.statement.specs.declared.Name.{Name}
 use Rattle.statement.specs.declared.Table.{Table}
 use Rattle.statement.specs.declared.Operand.{Operand}
@@ -85,7 +85,7 @@ abbrev pub sideFits : ℕ → ℕ → Operand → Bool
 sideFits columns m o = isBelow columns (operandRead o) && isNumbered m (operandRead o)
 
 abbrev pub comparisonFits : ℕ → ℕ → Comparison → Bool
-comparisonFits columns m c = (ltb (c .op) 6 && sideFits columns m (leftSide c)) && sideFits columns (m + markInSide (leftSide c)) (rightSide c)
+comparisonFits columns m c = (soundPredicate c && sideFits columns m (leftSide c)) && sideFits columns (m + markInSide (leftSide c)) (rightSide c)
 
 abbrev pub comparisonMarks : Comparison → ℕ
 comparisonMarks c = markInSide (leftSide c) + markInSide (rightSide c)
@@ -103,7 +103,7 @@ abbrev pub afterSides : ℕ → ℕ → Comparison → ℕ
 afterSides columns m c = afterSide columns (afterSide columns m (leftSide c)) (rightSide c)
 
 unfoldable pub afterComparison : ℕ → ℕ → Comparison → ℕ
-afterComparison columns m c = cond (ltb (c .op) 6) (afterSides columns m c) (afterSides columns m c + 64)
+afterComparison columns m c = cond (soundPredicate c) (afterSides columns m c) (afterSides columns m c + 64)
 
 abbrev pub afterAll : ℕ → ℕ → List Comparison → ℕ
 afterAll columns m [] = m

@@ -8,7 +8,7 @@ ghost use mathlib.Core.Path.{_≡_};
 ghost use mathlib.Core.Bool.{cond};
 ghost use Prim.Native.Nat.{_-_, _*_, _≤_, _<_};
 ghost use lib.ListN.{take, drop};
-ghost use Rattle.statement.specs.Sound.{soundConditionOn};
+ghost use Rattle.statement.specs.Sound.{soundPredicate, soundConditionOn};
 ghost use Rattle.soundness.specs.Parts.{depthAfter, stepsOn, afterSide, afterComparison, afterAll};
 
 // ---- steps
@@ -70,6 +70,16 @@ fn after_side(o: Operand, columns: u8, m: u32) -> u32
     }
 }
 
+// Whether a comparison's operator fits its sides: one of the six, or a null test (A.5) with one column on both sides.
+fn operator_fits(c: Comparison) -> bool
+    ensures { λ r. ⌜ r ≡ soundPredicate c ⌝ }
+{
+    if c.op < Comparison::IS_NULL {
+        return true;
+    }
+    (c.op < Comparison::OPERATORS) & (c.left == c.right) & (c.left != 0) & (c.left % 2 == 0)
+}
+
 // The next number behind a comparison.
 fn after_comparison(c: Comparison, columns: u8, m: u32) -> u32
     requires { ⌜ m ≤ 4096 ⌝ }
@@ -79,7 +89,7 @@ fn after_comparison(c: Comparison, columns: u8, m: u32) -> u32
     let b = c.right_side();
     let left = after_side(a, columns, m);
     let right = after_side(b, columns, left);
-    if c.op < Comparison::OPERATORS {
+    if operator_fits(c) {
         right
     } else {
         right + MISFIT

@@ -1,32 +1,36 @@
--- The two sides of a comparison and its operator: what each way through `read_comparison` knows. Assumes nothing.
+-- The two sides of a comparison and its operator, or a column and its null test: what each way through `read_comparison` and `read_null` knows. Assumes nothing.
 use mathlib.Core.Path.{_≡_, refl, sym, ap, ap₂, subst, _∙_}
-use mathlib.Core.Bool.{Bool, true, false, cond, _||_}
+use mathlib.Core.Logic.{_≢_}
+use mathlib.Core.Bool.{Bool, true, false, cond, _&&_, _||_}
 use mathlib.Core.Option.{Option, none, some}
 use mathlib.Core.List.{List, [], _∷_, _++_}
 use Prim.Native.Nat.{ℕ, _+_, _-_, _≤_, _<_}
+use native.Mathlib.Decide.{ℕ-discrete}
+use native.Mathlib.Nat.{le-refl}
 use native.Mathlib.Omega.{arith}
-use borrow.Author.Tests.{lt-ltb}
-use lib.Dec.{ltb}
+use borrow.Author.Tests.{lt-ltb, eq-eqb, eqb-true}
+use lib.Dec.{eqb, ltb}
 use lib.ListN.{length, drop}
-use Rattle.lists.proofs.Bools.{clash}
-use Rattle.meaning.specs.Operator.{Operator, opposite}
+use Rattle.lists.proofs.Bools.{clash, and-left, and-right, and-both}
+use Rattle.meaning.specs.Operator.{Operator, Predicate, opposite}
 use Rattle.meaning.specs.Condition.{compare}
 use Rattle.meaning.specs.Postfix.{leaf, signed}
 use Rattle.meaning.specs.Tokens as T
-use Rattle.meaning.specs.Tokens.{tokens}
-use Rattle.meaning.specs.Grammar.{constant, mark, Term, column, given, aToken, aTerm, operatorOf, aComparison}
+use Rattle.meaning.specs.Tokens.{tokens, keyword, NOT, IS, NULL}
+use Rattle.meaning.specs.Grammar.{constant, mark, Term, column, given, Test, compares, tests-null, tests-not-null, comparison, Reader, then, _>>_, done, fails, expect, aToken, aTerm, operatorOf, aNull, aRest, behind, aComparison}
 use Rattle.meaning.specs.Limits.{most-depth, markCount, termGivens}
-use Rattle.meaning.proofs.Readers.{aToken-some, aToken-none, then-some, then-none}
+use Rattle.meaning.proofs.Readers.{begins, passing-yes, passing-stops, expect-here, aToken-some, aToken-none, then-some, then-none}
 use Rattle.token.specs.declared.Token.{Token}
 use Rattle.token.specs.Tokens.{kindOf, operatorNumber, tokenAt}
-use Rattle.statement.specs.Operators.{operatorAt, oppositeOf}
-use Rattle.statement.specs.Places.{termOn, nodeOn, nodesOn}
-use Rattle.statement.specs.Reading.{isComparison, Operand, aColumn, withSides, withNode, PutsNode, Stands, Spans, IsOperand, Sides, ReadsSide, Found, Meets}
+use Rattle.token.proofs.Laws.{next-inside}
+use Rattle.statement.specs.Operators.{predicateAt, predicateNumber, oppositeOf}
+use Rattle.statement.specs.Places.{Column, termOn, nodeOn, nodesOn}
+use Rattle.statement.specs.Reading.{isComparison, Operand, aColumn, withSides, withNode, PutsNode, endedAt, PutsNull, Stands, Spans, IsOperand, Sides, ReadsSide, Found, Meets, Reaches, TestsNull}
 use Rattle.statement.specs.declared.conditions.Cursor.{Cursor}
 use Rattle.statement.specs.declared.conditions.Side.{Side}
-use Rattle.statement.proofs.OperatorLaws.{operator-back, operator-few, opposite-is, opposite-few}
-use Rattle.statement.proofs.Operands.{append-marks, no-operator, is-operator}
-use Rattle.statement.proofs.Steps.{Look, ended, seen, look}
+use Rattle.statement.proofs.OperatorLaws.{predicate-back, predicate-few, opposite-is, opposite-few}
+use Rattle.statement.proofs.Operands.{append-marks, isColumn, column-is, first-column, no-operator, is-operator}
+use Rattle.statement.proofs.Steps.{Look, ended, seen, look, Goes, goes, stops}
 
 -- ---- an operand
 
@@ -90,87 +94,225 @@ module _ (s : List ℕ) (at : ℕ) (u : Token) (e : u ≡ tokenAt s at) where
 -- ---- a comparison's node
 
 -- the node of the number k is a comparison
-leaf-at : (d : Bool) (s : List ℕ) (k a b : ℕ) (o : Operator) (x y : Operand d) → k < 6 → operatorAt k ≡ o → termOn d s a ≡ x → termOn d s b ≡ y
+leaf-at : (d : Bool) (s : List ℕ) (k a b : ℕ) (o : Predicate) (x y : Operand d) → k < 8 → predicateAt k ≡ o → termOn d s a ≡ x → termOn d s b ≡ y
     → nodeOn d s k a b ≡ leaf (record { left = x; op = o; right = y })
-leaf-at d s k a b o x y h p q r = rw (lt-ltb k 6 h) (λ i. leaf (record { left = q i; op = p i; right = r i }))
+leaf-at d s k a b o x y h p q r = rw (lt-ltb k 8 h) (λ i. leaf (record { left = q i; op = p i; right = r i }))
 
-node-is : (d : Bool) (s : List ℕ) (positive : Bool) (a b : ℕ) (o : Operator) (x y : Operand d) → termOn d s a ≡ x → termOn d s b ≡ y
-    → nodeOn d s (cond positive (operatorNumber o) (oppositeOf (operatorNumber o))) a b ≡ leaf (signed positive (record { left = x; op = o; right = y }))
-node-is d s true a b o x y q r = leaf-at d s (operatorNumber o) a b o x y (operator-few o) (operator-back o) q r
+node-is : (d : Bool) (s : List ℕ) (positive : Bool) (a b : ℕ) (o : Predicate) (x y : Operand d) → termOn d s a ≡ x → termOn d s b ≡ y
+    → nodeOn d s (cond positive (predicateNumber o) (oppositeOf (predicateNumber o))) a b ≡ leaf (signed positive (record { left = x; op = o; right = y }))
+node-is d s true a b o x y q r = leaf-at d s (predicateNumber o) a b o x y (predicate-few o) (predicate-back o) q r
 node-is d s false a b o x y q r =
-    leaf-at d s (oppositeOf (operatorNumber o)) a b (opposite o) x y (opposite-few (operatorNumber o) (operator-few o))
-    (opposite-is (operatorNumber o) (operator-few o) ∙ ap opposite (operator-back o)) q r
+    leaf-at d s (oppositeOf (predicateNumber o)) a b (opposite o) x y (opposite-few (predicateNumber o) (predicate-few o))
+    (opposite-is (predicateNumber o) (predicate-few o) ∙ ap opposite (predicate-back o)) q r
 
 few-marks : {C : Type 0} (x : Term C) → markCount (termGivens (x ∷ [])) ≤ 1
 few-marks (column n) = omega arith
 few-marks (given (constant z)) = omega arith
 few-marks (given mark) = omega arith
 
--- the sides u and w were read, with the token v between them, and their node was put
-module _ (d : Bool) (s : List ℕ) (positive : Bool) (depth : ℕ) (c : Cursor) (eq : c .dotted ≡ d) (xs : List ℕ) (ys : List ℕ) (u : Side) (v : Token) (w : Side) (x y : Operand d) (o : Operator)
-    (a : Spans s (c .at) u (tokens (drop (u .next) s))) (p : IsOperand d s u x) (g : Sign s (u .next) v o) (b : Spans s (v .next) w (tokens (drop (w .next) s))) (q : IsOperand d s w y) where
-  found : Stands s c → (r : Cursor) → PutsNode xs (withSides depth u w c) (cond positive (v .kind - 9) (oppositeOf (v .kind - 9))) (u .start) (w .start) ys r
-      → Found d s positive depth c xs r ys (compare (record { left = x; op = o; right = y })) (tokens (drop (w .next) s))
-  found st r put = subst (λ z. Found d s positive depth c xs z ys (compare (record { left = x; op = o; right = y })) (tokens (drop (w .next) s))) (sym (put .counted)) here
+-- the sides u and w of the test t were read, up to w's end, and its node was put, with the number k
+module _ (d : Bool) (s : List ℕ) (positive : Bool) (depth : ℕ) (c : Cursor) (eq : c .dotted ≡ d) (xs ys : List ℕ) (u w : Side) (t : Test (Column d))
+    (p : IsOperand d s u (comparison t .left)) (q : IsOperand d s w (comparison t .right)) (far : c .at + 2 ≤ w .next) (within : w .next ≤ length s) where
+  found : Stands s c → (r : Cursor) (k : ℕ) → k ≡ predicateNumber (comparison t .op)
+      → PutsNode xs (withSides depth u w c) (cond positive k (oppositeOf k)) (u .start) (w .start) ys r
+      → Found d s positive depth c xs r ys (compare t) (tokens (drop (w .next) s))
+  found st r k number put = subst (λ z. Found d s positive depth c xs z ys (compare t) (tokens (drop (w .next) s))) (sym (put .counted)) here
     where
-      number : v .kind - 9 ≡ operatorNumber o
-      number = let n = g .number in omega arith
+      x : Operand d
+      x = comparison t .left
 
-      node : nodeOn d s (cond positive (v .kind - 9) (oppositeOf (v .kind - 9))) (u .start) (w .start) ≡ leaf (signed positive (record { left = x; op = o; right = y }))
-      node = ap (λ k. nodeOn d s (cond positive k (oppositeOf k)) (u .start) (w .start)) number ∙ node-is d s positive (u .start) (w .start) o x y (p .here) (q .here)
+      y : Operand d
+      y = comparison t .right
 
-      here : Found d s positive depth c xs (withNode (withSides depth u w c)) ys (compare (record { left = x; op = o; right = y })) (tokens (drop (w .next) s))
+      node : nodeOn d s (cond positive k (oppositeOf k)) (u .start) (w .start) ≡ leaf (signed positive (comparison t))
+      node =
+          ap (λ j. nodeOn d s (cond positive j (oppositeOf j)) (u .start) (w .start)) number
+          ∙ node-is d s positive (u .start) (w .start) (comparison t .op) x y (p .here) (q .here)
+
+      here : Found d s positive depth c xs (withNode (withSides depth u w c)) ys (compare t) (tokens (drop (w .next) s))
       here =
           record {
             ok = refl;
             dotted = eq;
-            moved = omega (arith, a .on, g .on, b .on);
-            stands = record { short = st .short; inside = b .within; few-nodes = omega (arith, a .on, g .on, b .on, st .few-nodes); few-marks = omega (arith, a .on, g .on, b .on, st .few-marks, p .marks, q .marks, few-marks x, few-marks y) };
+            moved = omega arith;
+            stands = record {
+              short = st .short;
+              inside = within;
+              few-nodes = omega (arith, st .few-nodes);
+              few-marks = omega (arith, st .few-marks, p .marks, q .marks, few-marks x, few-marks y);
+            };
             left = refl;
             over = ap₂ (λ (m n : Bool). c .over || (ltb most-depth depth || (m || n))) (p .over) (q .over);
             nodes-are = refl;
             marks-are = omega (arith, p .marks, q .marks, append-marks (x ∷ []) (y ∷ []));
             noted = λ h. put .noted d s (omega arith) ∙ ap (λ n. nodesOn d s (c .nodes) xs ++ (n ∷ [])) node;
-            spread = omega (arith, a .on, g .on, b .on);
+            spread = omega arith;
           }
+
+-- ---- the answers of `read_null`: what follows IS
+
+-- what `put_null` asks, of any token
+pub null-fits : (s : List ℕ) (c : Cursor) (a : Side) (at : ℕ) → Stands s c → Reaches s c a at → (from : ℕ) (u : Token) → u ≡ tokenAt s from
+    → (c .nodes < 256) × (c .marks ≤ 256) × (a .marks ≤ 1) × (a .start ≤ 256) × (u .next ≤ 256)
+null-fits s c a at st R from u e =
+    omega (arith, st .short, st .few-nodes, st .few-marks, R .on, R .within, R .begun, R .unmarked, ap (λ (v : Token). v .next) e, next-inside s from)
+
+module _ (d : Bool) (s : List ℕ) (positive : Bool) (depth : ℕ) (c : Cursor) (eq : c .dotted ≡ d) (xs : List ℕ) (a : Side) (at : ℕ)
+    (st : Stands s c) (R : Reaches s c a at) (x : Column d) (p : IsOperand d s a (column x)) (r : Cursor) (ys : List ℕ) where
+  abbrev Answers : Option (Test (Column d) × List T.Token) → Type 0
+  Answers o = Meets d s positive depth c xs r ys (then o (λ t. done (compare t)))
+
+  -- NULL makes the test t, or there is none
+  ends : (t : Test (Column d)) → IsOperand d s a (comparison t .left) → IsOperand d s a (comparison t .right)
+      → (from : ℕ) → at ≤ from → (u : Token) → u ≡ tokenAt s from
+      → PutsNull xs c positive depth a (predicateNumber (comparison t .op)) u ys r → Answers ((expect (keyword NULL) >> done t) (tokens (drop from s)))
+  ends t l q from le u e put = go (ℕ-discrete (u .kind) 32)
+    where
+      go : Dec (u .kind ≡ 32) → Answers ((expect (keyword NULL) >> done t) (tokens (drop from s)))
+      go (yes k) =
+          let g : Goes s from (u .next) (keyword NULL) = goes s from u e (keyword NULL) refl k in
+          subst Answers (sym (ap (expect (keyword NULL) >> done t) (g .after) ∙ then-some (λ _. done t) (expect-here (keyword NULL) (tokens (drop (u .next) s)))))
+          (found d s positive depth c eq xs ys a (endedAt (u .next) a) t l (record { here = q .here; over = q .over; marks = q .marks }) (omega (arith, R .on, g .on)) (g .within)
+          st r (predicateNumber (comparison t .op)) refl (put .puts k))
+      go (no k) =
+          subst Answers (sym (then-none (λ _. done t) (passing-stops (keyword NULL) (done tt) fails (tokens (drop from s)) (stops s from u e (keyword NULL) k))))
+          (put .fails k)
+
+  -- either with NOT before it
+  abbrev negated : Reader (Test (Column d))
+  negated = expect (keyword NULL) >> done (tests-not-null x)
+
+  abbrev plain : Reader (Test (Column d))
+  plain = expect (keyword NULL) >> done (tests-null x)
+
+  module _ (v : Token) (e : v ≡ tokenAt s at) where
+    pub null-negated : v .kind ≡ 28 → (u : Token) → u ≡ tokenAt s (v .next) → PutsNull xs c positive depth a 7 u ys r → Answers (aNull (aColumn d) x (tokens (drop at s)))
+    null-negated k u f put =
+        let g : Goes s at (v .next) (keyword NOT) = goes s at v e (keyword NOT) refl k in
+        subst Answers (sym (ap (aNull (aColumn d) x) (g .after) ∙ passing-yes (keyword NOT) negated plain (tokens (drop (v .next) s))))
+        (ends (tests-not-null x) p p (v .next) (omega (arith, g .on)) u f put)
+
+    pub null-plain : v .kind ≢ 28 → PutsNull xs c positive depth a 6 v ys r → Answers (aNull (aColumn d) x (tokens (drop at s)))
+    null-plain k put =
+        subst Answers (sym (passing-stops (keyword NOT) negated plain (tokens (drop at s)) (stops s at v e (keyword NOT) k)))
+        (ends (tests-null x) p p at (le-refl at) v e put)
 
 -- ---- the answers of `read_comparison`, whose sides are a and w
 
+-- what follows an operand, but IS behind a column
+behind-rest : {C : Type 0} (aColumn : Reader C) (x : Term C) (ts : List T.Token) → (isColumn x ≡ true → begins (keyword IS) ts ≡ false) → behind aColumn x ts ≡ aRest aColumn x ts
+behind-rest aColumn (column n) ts h = passing-stops (keyword IS) (aNull aColumn n) (aRest aColumn (column n)) ts (h refl)
+behind-rest aColumn (given v) ts h = refl
+
 module _ (d : Bool) (s : List ℕ) (positive : Bool) (depth : ℕ) (c : Cursor) (eq : c .dotted ≡ d) (xs : List ℕ) (r : Cursor) (ys : List ℕ) where
-  misses : aComparison (aColumn d) (tokens (drop (c .at) s)) ≡ none → r .ok ≡ false → Meets d s positive depth c xs r ys (aComparison (aColumn d) (tokens (drop (c .at) s)))
+  abbrev Answer : Type 0
+  Answer = Meets d s positive depth c xs r ys (aComparison (aColumn d) (tokens (drop (c .at) s)))
+
+  misses : aComparison (aColumn d) (tokens (drop (c .at) s)) ≡ none → r .ok ≡ false → Answer
   misses e ok = subst (Meets d s positive depth c xs r ys) (sym e) ok
 
-  module _ (a : Side) (k₁ : Sides s (c .at) a (IsOperand d s a) (aTerm (aColumn d) (tokens (drop (c .at) s)))) where
-    pub no-left : a .ok ≡ false → r .ok ≡ false → Meets d s positive depth c xs r ys (aComparison (aColumn d) (tokens (drop (c .at) s)))
+  module _ (first : Token) (e₁ : first ≡ tokenAt s (c .at)) (a : Side) (k₁ : Sides s (c .at) a (IsOperand d s a) (aTerm (aColumn d) (tokens (drop (c .at) s)))) where
+    pub no-left : a .ok ≡ false → r .ok ≡ false → Answer
     no-left h = misses (then-none _ (side-none s (c .at) a (IsOperand d s a) (aTerm (aColumn d) (tokens (drop (c .at) s))) k₁ h))
 
     module _ (h₁ : a .ok ≡ true) (v : Token) (e₂ : v ≡ tokenAt s (a .next)) where
-      pub no-sign : isComparison (v .kind) ≡ false → r .ok ≡ false → Meets d s positive depth c xs r ys (aComparison (aColumn d) (tokens (drop (c .at) s)))
-      no-sign h = let m = side s (c .at) a (IsOperand d s a) (aTerm (aColumn d) (tokens (drop (c .at) s))) k₁ h₁ in misses (then-some _ (m .found) ∙ then-none _ (sign-none s (a .next) v e₂ h))
+      abbrev left : Reached s (c .at) a (IsOperand d s a) (aTerm (aColumn d) (tokens (drop (c .at) s)))
+      left = side s (c .at) a (IsOperand d s a) (aTerm (aColumn d) (tokens (drop (c .at) s))) k₁ h₁
 
-      module _ (h₂ : isComparison (v .kind) ≡ true) (w : Side) (k₃ : Sides s (v .next) w (IsOperand d s w) (aTerm (aColumn d) (tokens (drop (v .next) s)))) where
-        pub no-right : w .ok ≡ false → r .ok ≡ false → Meets d s positive depth c xs r ys (aComparison (aColumn d) (tokens (drop (c .at) s)))
-        no-right h =
-            let m = side s (c .at) a (IsOperand d s a) (aTerm (aColumn d) (tokens (drop (c .at) s))) k₁ h₁ in
-            let o = sign s (a .next) v e₂ h₂ in
-            misses (then-some _ (m .found) ∙ then-some _ (o .1 .reads) ∙ then-none _ (side-none s (v .next) w (IsOperand d s w) (aTerm (aColumn d) (tokens (drop (v .next) s))) k₃ h))
+      -- the left side is a column exactly if its first token is a name
+      left-column : isColumn (left .value) ≡ eqb (first .kind) 2
+      left-column = first-column d s (c .at) first e₁ (left .value) (tokens (drop (a .next) s)) (left .found)
 
-        -- all three are there
-        pub fits : w .ok ≡ true → Stands s c → (c .nodes < 256) × (c .marks ≤ 256) × (a .marks ≤ 1) × (w .marks ≤ 1) × (a .start ≤ 256) × (w .start ≤ 256) × (w .next ≤ 256)
-        fits h₃ st =
-            let m = side s (c .at) a (IsOperand d s a) (aTerm (aColumn d) (tokens (drop (c .at) s))) k₁ h₁ in
-            let n = side s (v .next) w (IsOperand d s w) (aTerm (aColumn d) (tokens (drop (v .next) s))) k₃ h₃ in
-            omega (arith, m .spans .on, m .spans .within, m .spans .begun, m .is .marks, few-marks (m .value), n .spans .on, n .spans .within, n .spans .begun, n .is .marks, few-marks (n .value), st .short, st .inside, st .few-nodes, st .few-marks)
+      -- behind a column IS follows
+      module _ (h₂ : (eqb (v .kind) 31 && eqb (first .kind) 2) ≡ true) where
+        is-there : Goes s (a .next) (v .next) (keyword IS)
+        is-there = goes s (a .next) v e₂ (keyword IS) refl (eqb-true (v .kind) 31 (and-left (eqb (v .kind) 31) _ h₂))
 
-        pub compares : w .ok ≡ true → Stands s c
-            → PutsNode xs (withSides depth a w c) (cond positive (v .kind - 9) (oppositeOf (v .kind - 9))) (a .start) (w .start) ys r
-            → Meets d s positive depth c xs r ys (aComparison (aColumn d) (tokens (drop (c .at) s)))
-        compares h₃ st put =
-            let m = side s (c .at) a (IsOperand d s a) (aTerm (aColumn d) (tokens (drop (c .at) s))) k₁ h₁ in
-            let o = sign s (a .next) v e₂ h₂ in
-            let n = side s (v .next) w (IsOperand d s w) (aTerm (aColumn d) (tokens (drop (v .next) s))) k₃ h₃ in
-            subst (Meets d s positive depth c xs r ys) (sym (then-some _ (m .found) ∙ then-some _ (o .1 .reads) ∙ then-some _ (n .found)))
-            (found d s positive depth c eq xs ys a v w (m .value) (n .value) (o .0) (m .spans) (m .is) (o .1) (n .spans) (n .is) st r put)
+        column-there : (n : Column d) × (left .value ≡ column n)
+        column-there = column-is (left .value) (left-column ∙ and-right (eqb (v .kind) 31) _ h₂)
+
+        pub null-reaches : Reaches s c a (v .next)
+        null-reaches = record {
+          on = omega (arith, left .spans .on, is-there .on);
+          within = is-there .within;
+          begun = omega (arith, left .spans .begun, is-there .on);
+          unmarked = left .is .marks ∙ ap (λ t. markCount (termGivens (t ∷ []))) (column-there .1);
+        }
+
+        pub tests : TestsNull s positive depth c xs a (v .next) r ys → Answer
+        tests h =
+            let n : Column d = column-there .0 in
+            let e : left .value ≡ column n = column-there .1 in
+            subst (Meets d s positive depth c xs r ys)
+            (sym
+            (then-some _ (left .found)
+            ∙ ap (λ o. then o (λ t. done (compare t)))
+            (ap₂ (behind (aColumn d)) e (is-there .after) ∙ passing-yes (keyword IS) (aNull (aColumn d) n) (aRest (aColumn d) (column n)) (tokens (drop (v .next) s)))))
+            (h d eq n (subst (IsOperand d s a) e (left .is)))
+
+      -- or it does not
+      module _ (h₂ : (eqb (v .kind) 31 && eqb (first .kind) 2) ≡ false) where
+        no-is : isColumn (left .value) ≡ true → begins (keyword IS) (tokens (drop (a .next) s)) ≡ false
+        no-is e = stops s (a .next) v e₂ (keyword IS) (λ k. clash (and-both (eqb (v .kind) 31) _ (eq-eqb (v .kind) 31 k) (sym left-column ∙ e)) h₂)
+
+        -- what the rest makes of it
+        then-rest : (o : Option (Test (Column d) × List T.Token)) → aRest (aColumn d) (left .value) (tokens (drop (a .next) s)) ≡ o
+            → aComparison (aColumn d) (tokens (drop (c .at) s)) ≡ then o (λ t. done (compare t))
+        then-rest o e =
+            then-some _ (left .found)
+            ∙ ap (λ o. then o (λ t. done (compare t))) (behind-rest (aColumn d) (left .value) (tokens (drop (a .next) s)) no-is ∙ e)
+
+        pub no-sign : isComparison (v .kind) ≡ false → r .ok ≡ false → Answer
+        no-sign h = misses (then-rest none (then-none _ (sign-none s (a .next) v e₂ h)))
+
+        module _ (h₃ : isComparison (v .kind) ≡ true) (w : Side) (k₃ : Sides s (v .next) w (IsOperand d s w) (aTerm (aColumn d) (tokens (drop (v .next) s)))) where
+          abbrev between : (o : Operator) × Sign s (a .next) v o
+          between = sign s (a .next) v e₂ h₃
+
+          pub no-right : w .ok ≡ false → r .ok ≡ false → Answer
+          no-right h =
+              misses
+              (then-rest none
+              (then-some _ (between .1 .reads) ∙ then-none _ (side-none s (v .next) w (IsOperand d s w) (aTerm (aColumn d) (tokens (drop (v .next) s))) k₃ h)))
+
+          -- all three are there
+          module _ (h₄ : w .ok ≡ true) (st : Stands s c) where
+            abbrev right : Reached s (v .next) w (IsOperand d s w) (aTerm (aColumn d) (tokens (drop (v .next) s)))
+            right = side s (v .next) w (IsOperand d s w) (aTerm (aColumn d) (tokens (drop (v .next) s))) k₃ h₄
+
+            pub fits : (c .nodes < 256) × (c .marks ≤ 256) × (a .marks ≤ 1) × (w .marks ≤ 1) × (a .start ≤ 256) × (w .start ≤ 256) × (w .next ≤ 256)
+            fits =
+                let m = left in
+                let n = right in
+                omega (
+                  arith,
+                  m .spans .on,
+                  m .spans .within,
+                  m .spans .begun,
+                  m .is .marks,
+                  few-marks (m .value),
+                  n .spans .on,
+                  n .spans .within,
+                  n .spans .begun,
+                  n .is .marks,
+                  few-marks (n .value),
+                  st .short,
+                  st .inside,
+                  st .few-nodes,
+                  st .few-marks,
+                )
+
+            pub compared : PutsNode xs (withSides depth a w c) (cond positive (v .kind - 9) (oppositeOf (v .kind - 9))) (a .start) (w .start) ys r → Answer
+            compared put =
+                let m = left in
+                let n = right in
+                let o : Operator = between .0 in
+                let g : Sign s (a .next) v o = between .1 in
+                let number : v .kind - 9 ≡ operatorNumber o = omega (arith, g .number) in
+                subst (Meets d s positive depth c xs r ys)
+                (sym (then-rest (some (compares (m .value) o (n .value), tokens (drop (w .next) s))) (then-some _ (g .reads) ∙ then-some _ (n .found))))
+                (found d s positive depth c eq xs ys a w (compares (m .value) o (n .value)) (m .is) (n .is) (omega (arith, m .spans .on, g .on, n .spans .on)) (n .spans .within)
+                st r (v .kind - 9) number put)
 
 -- for every b the sides of a comparison are read as the cursor says
 pub side-as : (s : List ℕ) (first : Token) (r : Side) (c d : Bool) → c ≡ d → ReadsSide c s first r → ReadsSide d s first r

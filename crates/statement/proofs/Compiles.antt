@@ -11,11 +11,11 @@ use lib.IntN.{ℤ, natAbs}
 use lib.ListN.{length, take, drop, length-map, length-replicate}
 use Rattle.lists.specs.Lists.{any, repeats, from}
 use Rattle.lists.proofs.Bools.{or-left, or-right, clash}
-use Rattle.meaning.specs.Condition.{Where, always, under, comparisonsIn, operandsIn}
+use Rattle.meaning.specs.Condition.{Optional, Where, always, under, mappedIn, comparisonsIn, operandsIn}
 use Rattle.meaning.specs.Postfix.{Node, nodesIn, leaves}
 use Rattle.meaning.specs.Tokens as T
 use Rattle.meaning.specs.Tokens.{Name}
-use Rattle.meaning.specs.Grammar.{Given, Term, Dotted, Listed, items, Sentence, table, select, pair, insert, update, delete, sentence}
+use Rattle.meaning.specs.Grammar.{Given, Term, Test, comparison, Dotted, Listed, items, Sentence, table, select, pair, insert, update, delete, sentence}
 use Rattle.meaning.specs.Limits.{tooLong, tableNamed, whereOf, termColumns, termGivens, outside32, givens, markCount, pastLimit}
 use Rattle.meaning.specs.Names.{Schema, sameName, has, position, tableNames, columnsOf, missing, isOf, pairPlace, pairMissing, unknown, taken, miscounted, twice}
 use Rattle.meaning.specs.Statement.{settings, settingMarks, numberedAll, resolvedWhere, statementOf}
@@ -89,11 +89,11 @@ module _ (s ls ps : List ℕ) (e : Entry) (x : Sentence) (E : Entered s ls ps e 
 
 noted-few : (s ls ps : List ℕ) (e : Entry) (x : Sentence) → Entered s ls ps e x → e .c .nodes ≤ 15 → (b : Bool) → length (leaves (nodesOn b s (e .c .nodes) ps)) ≤ 8
 noted-few s ls ps e (table t cs ring z) E h = none-noted s ps (e .c .nodes) h (E .nodes-are)
-noted-few s ls ps e (select cs t w) E h = few-noted s ps (e .c .nodes) h false w (E .noted h)
-noted-few s ls ps e (pair cs t u w) E h = few-noted s ps (e .c .nodes) h true w (E .noted h)
+noted-few s ls ps e (select cs t w) E h = few-noted s ps (e .c .nodes) h false (mappedIn comparison w) (E .noted h)
+noted-few s ls ps e (pair cs t u w) E h = few-noted s ps (e .c .nodes) h true (mappedIn comparison w) (E .noted h)
 noted-few s ls ps e (insert t vs) E h = none-noted s ps (e .c .nodes) h (E .nodes-are)
-noted-few s ls ps e (update t ss w) E h = few-noted s ps (e .c .nodes) h false w (E .noted h)
-noted-few s ls ps e (delete t w) E h = few-noted s ps (e .c .nodes) h false w (E .noted h)
+noted-few s ls ps e (update t ss w) E h = few-noted s ps (e .c .nodes) h false (mappedIn comparison w) (E .noted h)
+noted-few s ls ps e (delete t w) E h = few-noted s ps (e .c .nodes) h false (mappedIn comparison w) (E .noted h)
 
 pub fits-read : (s ls ps : List ℕ) (e : Entry) (x : Sentence) → Entered s ls ps e x → overOn e ≡ false → Fits s ps e
 fits-read s ls ps e x E h = record {
@@ -115,13 +115,14 @@ module _ (s ls ps : List ℕ) (e : Entry) (x : Sentence) (E : Entered s ls ps e 
       (ap (λ (os : List (Term Name)). any isLong (termColumns os)) (sides-in (whereOf x)) ∙ short-tested x w)
       (ap (λ (os : List (Term Name)). any outside32 (termGivens os)) (sides-in (whereOf x)) ∙ within-tested x w)
 
-dotted-kept : (s ps : List ℕ) (e : Entry) (cs : Listed Dotted) (t u : Name) (q : Where (Term Dotted)) → pastLimit (pair cs t u q) ≡ false
-    → nodesOn true s (e .c .nodes) ps ≡ nodesIn q → keptOn true s (e .c .nodes) ps ≡ nodesIn q
-dotted-kept s ps e cs t u q w h =
+dotted-kept : (s ps : List ℕ) (e : Entry) (cs : Listed Dotted) (t u : Name) (v : Optional (Test Dotted)) → pastLimit (pair cs t u v) ≡ false
+    → nodesOn true s (e .c .nodes) ps ≡ nodesIn (mappedIn comparison v) → keptOn true s (e .c .nodes) ps ≡ nodesIn (mappedIn comparison v)
+dotted-kept s ps e cs t u v w h =
+    let q : Where (Term Dotted) = mappedIn comparison v in
     ap (shortNodes (shortColumn true)) h
     ∙ whole-nodes (shortColumn true) isLongDotted whole-dotted (nodesIn q)
-    (ap (λ (os : List (Term Dotted)). any isLongDotted (termColumns os)) (sides-in q) ∙ dotted-tested cs t u q w)
-    (ap (λ (os : List (Term Dotted)). any outside32 (termGivens os)) (sides-in q) ∙ dotted-within cs t u q w)
+    (ap (λ (os : List (Term Dotted)). any isLongDotted (termColumns os)) (sides-in q) ∙ dotted-tested cs t u v w)
+    (ap (λ (os : List (Term Dotted)). any outside32 (termGivens os)) (sides-in q) ∙ dotted-within cs t u v w)
 
 -- its condition, and whether its columns are known
 module _ (d : Bool) (s ps : List ℕ) (e : Entry) (q : Where (Term (Column d))) (k : keptOn d s (e .c .nodes) ps ≡ nodesIn q) (place : Column d → ℕ) where
@@ -190,11 +191,12 @@ module _ (s ls ps : List ℕ) (e : Entry) (tables : List Table) (used queries up
     missing-is : (cs : List Name) → any lacks cs ≡ missing S t cs
     missing-is cs = ap (λ (b : Bool). not b || any lacks cs) (sym known)
 
-    select-compiles : (cs : Listed Name) (q : Where (Term Name)) → Entered s ls ps e (select cs t q) → pastLimit (select cs t q) ≡ false
-        → selectOn false (position C) (length C) s ls ps e i 0 0 false queries ≡ decided P S (select cs t q)
+    select-compiles : (cs : Listed Name) (v : Optional (Test Name)) → Entered s ls ps e (select cs t v) → pastLimit (select cs t v) ≡ false
+        → selectOn false (position C) (length C) s ls ps e i 0 0 false queries ≡ decided P S (select cs t v)
     unfolding selectOn unknown taken miscounted twice noPlace statementOf structOf
-    select-compiles cs q E w =
-        let x = select cs t q in
+    select-compiles cs v E w =
+        let x = select cs t v in
+        let q : Where (Term Name) = mappedIn comparison v in
         let l : listedOn false s ls e ≡ items cs = ap (map shortName) (E .names few) ∙ whole-columns shortName isLong whole-name (items cs) (short-listed x w) in
         let k : keptOn false s (e .c .nodes) ps ≡ nodesIn q = nodes-kept s ls ps e x E w (E .noted nodes) in
         let u : unknownOn (length C) (placesOf C (listedOn false s ls e)) (conditionOn false (position C) s ps e 0) ≡ missing S t (items cs ++ termColumns (operandsIn q)) =
@@ -219,11 +221,12 @@ module _ (s ls ps : List ℕ) (e : Entry) (tables : List Table) (used queries up
         λ j. settled (lowestBy (u j) false (not (eqb (E .listed-are j) (length C))) false (changes-few j))
         (changing (record { form = 0; table = i; settings = padded 8 noSetting (a j); count = c j; parameters = E .marks-are j; condition = conditionStruct [] }))
 
-    update-compiles : (ss : Listed (Name × Given)) (q : Where (Term Name)) → Entered s ls ps e (update t ss q) → pastLimit (update t ss q) ≡ false
-        → updateOn s ls ps e C i updates ≡ decided P S (update t ss q)
+    update-compiles : (ss : Listed (Name × Given)) (v : Optional (Test Name)) → Entered s ls ps e (update t ss v) → pastLimit (update t ss v) ≡ false
+        → updateOn s ls ps e C i updates ≡ decided P S (update t ss v)
     unfolding updateOn unknown taken miscounted twice noPlace statementOf structOf
-    update-compiles ss q E w =
-        let x = update t ss q in
+    update-compiles ss v E w =
+        let x = update t ss v in
+        let q : Where (Term Name) = mappedIn comparison v in
         let names = map (λ (p : Name × Given). p .0) (items ss) in
         let values = map (λ (p : Name × Given). p .1) (items ss) in
         let l : listedOn false s ls e ≡ names = ap (map shortName) (E .names few) ∙ whole-columns shortName isLong whole-name names (short-listed x w) in
@@ -242,10 +245,11 @@ module _ (s ls ps : List ℕ) (e : Entry) (tables : List Table) (used queries up
         λ j. settled (lowestBy (u j) (repeats sameName (l j)) false false (changes-few j))
         (changing (record { form = 1; table = i; settings = padded 8 noSetting (a j); count = c j; parameters = E .marks-are j; condition = d j }))
 
-    delete-compiles : (q : Where (Term Name)) → Entered s ls ps e (delete t q) → pastLimit (delete t q) ≡ false → deleteOn s ps e C i updates ≡ decided P S (delete t q)
+    delete-compiles : (v : Optional (Test Name)) → Entered s ls ps e (delete t v) → pastLimit (delete t v) ≡ false → deleteOn s ps e C i updates ≡ decided P S (delete t v)
     unfolding deleteOn unknown taken miscounted twice noPlace statementOf structOf
-    delete-compiles q E w =
-        let x = delete t q in
+    delete-compiles v E w =
+        let x = delete t v in
+        let q : Where (Term Name) = mappedIn comparison v in
         let k : keptOn false s (e .c .nodes) ps ≡ nodesIn q = nodes-kept s ls ps e x E w (E .noted nodes) in
         let u : unknownOn (length C) [] (conditionOn false (position C) s ps e 0) ≡ missing S t (termColumns (operandsIn q)) =
         unknown-kept false s ps e q k (position C) (length C) lacks (name-below C) [] 0 ∙ missing-is (termColumns (operandsIn q)) in
@@ -255,7 +259,7 @@ module _ (s ls ps : List ℕ) (e : Entry) (tables : List Table) (used queries up
 
     -- ---- of two tables
 
-    module _ (u : Name) (cs : Listed Dotted) (q : Where (Term Dotted)) (E : Entered s ls ps e (pair cs t u q)) (w : pastLimit (pair cs t u q) ≡ false) where
+    module _ (u : Name) (cs : Listed Dotted) (v : Optional (Test Dotted)) (E : Entered s ls ps e (pair cs t u v)) (w : pastLimit (pair cs t u v) ≡ false) where
       abbrev D : List Name
       D = columnsOf S u
 
@@ -268,11 +272,12 @@ module _ (s ls ps : List ℕ) (e : Entry) (tables : List Table) (used queries up
       both-missing-is : has (tableNames S) u ≡ true → (xs : List Dotted) → any lacks-both xs ≡ pairMissing S t u xs
       both-missing-is h xs = ap₂ (λ (a b : Bool). not a || (not b || any lacks-both xs)) (sym known) (sym h)
 
-      both-there : has (tableNames S) u ≡ true → pairWith t C u D s ls ps e i (position (tableNames S) u) queries ≡ decided P S (pair cs t u q)
+      both-there : has (tableNames S) u ≡ true → pairWith t C u D s ls ps e i (position (tableNames S) u) queries ≡ decided P S (pair cs t u v)
       unfolding selectOn unknown taken miscounted twice noPlace statementOf structOf
       both-there h =
-          let l : listedOn true s ls e ≡ items cs = ap (map (shortColumn true)) (E .names few) ∙ whole-columns (shortColumn true) isLongDotted whole-dotted (items cs) (dotted-listed cs t u q w) in
-          let k : keptOn true s (e .c .nodes) ps ≡ nodesIn q = dotted-kept s ps e cs t u q w (E .noted nodes) in
+          let q : Where (Term Dotted) = mappedIn comparison v in
+          let l : listedOn true s ls e ≡ items cs = ap (map (shortColumn true)) (E .names few) ∙ whole-columns (shortColumn true) isLongDotted whole-dotted (items cs) (dotted-listed cs t u v w) in
+          let k : keptOn true s (e .c .nodes) ps ≡ nodesIn q = dotted-kept s ps e cs t u v w (E .noted nodes) in
           let n : unknownOn (length C + length D) (map place (listedOn true s ls e)) (conditionOn true place s ps e 0) ≡ pairMissing S t u (items cs ++ termColumns (operandsIn q)) =
           unknown-kept true s ps e q k place (length C + length D) lacks-both (dotted-below t C u D) (listedOn true s ls e) 0
           ∙ ap (λ (xs : List Dotted). any lacks-both (xs ++ termColumns (operandsIn q))) l
@@ -290,20 +295,20 @@ module _ (s ls ps : List ℕ) (e : Entry) (tables : List Table) (used queries up
             condition = d j;
           }))
 
-      second-unknown : has (tableNames S) u ≡ false → refusedBy 6 ≡ decided P S (pair cs t u q)
+      second-unknown : has (tableNames S) u ≡ false → refusedBy 6 ≡ decided P S (pair cs t u v)
       unfolding unknown
       second-unknown h = rw (known, h)
 
       abbrev chosen : Name → Bool → Statement
       chosen n b = cond b (pairWith t C n (columnsOf S n) s ls ps e i (position (tableNames S) n) queries) (refusedBy 6)
 
-      pair-compiles : pairOn t C s ls ps e S i queries ≡ decided P S (pair cs t u q)
+      pair-compiles : pairOn t C s ls ps e S i queries ≡ decided P S (pair cs t u v)
       pair-compiles =
-          ap (λ (n : Name). chosen n (ltb (position (tableNames S) n) (length S))) (ap shortName (E .second) ∙ whole-name u (short-second cs t u q w))
+          ap (λ (n : Name). chosen n (ltb (position (tableNames S) n) (length S))) (ap shortName (E .second) ∙ whole-name u (short-second cs t u v w))
           ∙ ap (chosen u) (ap (ltb (position (tableNames S) u)) (sym (length-map S (λ (t : Schema). t .name))) ∙ has-ltb (tableNames S) u)
           ∙ go (has (tableNames S) u) refl
         where
-          go : (b : Bool) → has (tableNames S) u ≡ b → chosen u b ≡ decided P S (pair cs t u q)
+          go : (b : Bool) → has (tableNames S) u ≡ b → chosen u b ≡ decided P S (pair cs t u v)
           go true h = both-there h
           go false h = second-unknown h
 

@@ -14,10 +14,10 @@ use Rattle.lists.specs.Lists.{any}
 use Rattle.lists.proofs.Bools.{or-left, or-right, not-false, clash, and-left, and-right, or-assoc}
 use Rattle.lists.proofs.Lists.{any-append, map-append}
 use Rattle.meaning.specs.Condition as Q
-use Rattle.meaning.specs.Condition.{Where, sides, operandsIn}
+use Rattle.meaning.specs.Condition.{Optional, Where, mappedIn, sides, operandsIn}
 use Rattle.meaning.specs.Postfix.{Node, leaf, allOf, anyOf, leaves}
 use Rattle.meaning.specs.Tokens.{Name}
-use Rattle.meaning.specs.Grammar.{Given, constant, mark, Term, column, given, Dotted, Listed, items, Sentence, pair}
+use Rattle.meaning.specs.Grammar.{Given, constant, mark, Term, column, given, Test, comparison, Dotted, Listed, items, Sentence, pair}
 use Rattle.meaning.specs.Limits.{tableNamed, furtherTables, listColumns, listGivens, whereOf, termColumns, termGivens, isWithin32, outside32, manyItems, rowsOutside, manyMarks, manyComparisons, deep, longName, bigConstant, pastLimit}
 use Rattle.meaning.proofs.Dotted.{bare-givens, bare-columns}
 use Rattle.statement.specs.Built.{shortName, shortGiven, shortColumn, shortTerm, shortNodes, rowsIn}
@@ -82,9 +82,12 @@ dotted-short (c ∷ xs) h k =
     let r : any isLongDotted xs ≡ false = dotted-short xs (or-right (isLong (c .0)) _ h) (or-right (isLong (c .1)) _ k) in
     λ i. (a i || b i) || r i
 
-module _ (cs : Listed Dotted) (t u : Name) (w : Where (Term Dotted)) (h : pastLimit (pair cs t u w) ≡ false) where
+module _ (cs : Listed Dotted) (t u : Name) (v : Optional (Test Dotted)) (h : pastLimit (pair cs t u v) ≡ false) where
   abbrev x : Sentence
-  x = pair cs t u w
+  x = pair cs t u v
+
+  abbrev w : Where (Term Dotted)
+  w = mappedIn comparison v
 
   abbrev first : Dotted → Name
   first c = c .0

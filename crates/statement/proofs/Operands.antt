@@ -1,25 +1,28 @@
 -- Operands and operators, by the kind of their tokens. Assumes nothing.
-use mathlib.Core.Path.{_≡_, refl, ap, _∙_}
+use mathlib.Core.Path.{_≡_, refl, sym, ap, _∙_}
 use mathlib.Core.Bool.{Bool, true, false, not, cond, _&&_}
 use mathlib.Core.Option.{Option, none, some}
 use mathlib.Core.List.{List, [], _∷_, _++_}
 use Prim.Native.Nat.{ℕ, _+_, _-_, _≤_, _<_}
 use native.Mathlib.Omega.{arith}
-use lib.ListN.{length}
-use lib.Dec.{leb, ltb}
+use lib.ListN.{length, drop}
+use lib.Dec.{eqb, leb, ltb}
 use borrow.Author.Tests.{leb-true, lt-leb, le-leb}
 use Rattle.lists.proofs.Bools.{and-left, and-right, and-both, clash}
 use Rattle.meaning.specs.Operator.{Operator}
 use Rattle.meaning.specs.Condition.{Comparison, sides}
 use Rattle.meaning.specs.Tokens as T
-use Rattle.meaning.specs.Tokens.{Token, keyword, name, operator, comma, lparen, rparen, dot, other}
-use Rattle.meaning.specs.Grammar.{constant, mark, Term, column, given, aToken, aTerm, nameOf, operatorOf}
+use Rattle.meaning.specs.Tokens.{Token, tokens, keyword, name, operator, comma, lparen, rparen, dot, other}
+use Rattle.meaning.specs.Grammar.{constant, mark, Term, column, given, spellName, spellDotted, spellTerm, aToken, aTerm, nameOf, operatorOf}
 use Rattle.meaning.specs.Limits.{isWithin32, markCount, termGivens}
-use Rattle.meaning.proofs.Readers.{some-none}
-use Rattle.token.specs.Tokens.{kindOf, operatorNumber}
-use Rattle.statement.specs.Places.{tokenOn, termOn}
+use Rattle.meaning.proofs.Readers.{some-none, sound-read}
+use Rattle.meaning.proofs.Decides.{Exact, name-sound, dotted-sound, term-sound}
+use Rattle.token.specs.declared.Token.{Token as Read}
+use Rattle.token.specs.Tokens.{kindOf, operatorNumber, tokenAt}
+use Rattle.statement.specs.Places.{tokenOn, Column, termOn}
 use Rattle.statement.specs.Reading.{tokenPast, isOperand, isComparison, marksAt, Operand, aColumn, termPast}
 use Rattle.statement.proofs.OperatorLaws.{operator-few}
+use Rattle.statement.proofs.Steps.{Look, ended, seen, look}
 
 -- ---- question marks
 
@@ -135,6 +138,52 @@ is-term b lparen start next l h e = clash e refl
 is-term b rparen start next l h e = clash e refl
 is-term b dot start next l h e = clash e refl
 is-term b other start next l h e = clash e refl
+
+-- ---- columns among them
+
+abbrev pub isColumn : {C : Type 0} → Term C → Bool
+isColumn (column n) = true
+isColumn (given v) = false
+
+pub column-is : {C : Type 0} (x : Term C) → isColumn x ≡ true → (n : C) × (x ≡ column n)
+column-is (column n) e = (n, refl)
+column-is (given v) e = clash e refl
+
+-- a name is the first token of a column, and of no other operand
+abbrev spelling : (b : Bool) → Column b → List Token → List Token
+spelling false = spellName
+spelling true = spellDotted
+
+spelled-so : (b : Bool) → Exact (spelling b) (aColumn b)
+spelled-so false = name-sound
+spelled-so true = dotted-sound
+
+begins-column : (b : Bool) (x : Operand b) (more : List Token) (t : Token) (ts : List Token) → t ∷ ts ≡ spellTerm (spelling b) x more → isColumn x ≡ eqb (kindOf t) 2
+begins-column b x more t ts e = go b x e
+  where
+    first : List Token → Token
+    first [] = other
+    first (u ∷ us) = u
+
+    within : (w : Bool) → false ≡ eqb (cond w 3 4) 2
+    within true = refl
+    within false = refl
+
+    go : (b : Bool) (x : Operand b) → t ∷ ts ≡ spellTerm (spelling b) x more → isColumn x ≡ eqb (kindOf t) 2
+    go false (column n) q = sym (ap (λ us. eqb (kindOf (first us)) 2) q)
+    go true (column n) q = sym (ap (λ us. eqb (kindOf (first us)) 2) q)
+    go b (given (constant z)) q = within (isWithin32 z) ∙ sym (ap (λ us. eqb (kindOf (first us)) 2) q)
+    go b (given mark) q = sym (ap (λ us. eqb (kindOf (first us)) 2) q)
+
+pub first-column : (b : Bool) (s : List ℕ) (at : ℕ) (u : Read) → u ≡ tokenAt s at → (x : Operand b) (more : List Token) → aTerm (aColumn b) (tokens (drop at s)) ≡ some (x, more)
+    → isColumn x ≡ eqb (u .kind) 2
+first-column b s at u e x more f = go (look s at u e)
+  where
+    go : Look s at u → isColumn x ≡ eqb (u .kind) 2
+    go (ended z q) = some-none (sym f ∙ ap (aTerm (aColumn b)) q ∙ no-term b)
+    go (seen v) =
+        begins-column b x more (v .token) (tokens (drop (u .next) s)) (sym (v .left) ∙ sound-read (term-sound (spelled-so b)) (tokens (drop at s)) x more f)
+        ∙ ap (λ k. eqb k 2) (v .kind)
 
 -- ---- operators
 

@@ -21,7 +21,7 @@ use Rattle.meaning.specs.Resolve.{markInOperand}
 use Rattle.statement.specs.declared.Operand.{Operand}
 use Rattle.statement.specs.declared.Value.{Value}
 use Rattle.statement.specs.Sound.{valueRead, operandRead}
-use Rattle.statement.proofs.OperatorLaws.{operator-number}
+use Rattle.statement.proofs.OperatorLaws.{predicate-number}
 use Rattle.statement.proofs.ByKind.{column-read, parameter-read}
 use Rattle.statement.specs.Places.{Column}
 use Rattle.statement.specs.Compiled.{valueStruct, operandStruct, comparisonWith, comparisonStruct}
@@ -79,7 +79,7 @@ short-mark G.mark = refl
 -- ---- comparisons
 
 -- a comparison of sides made one after the other
-pub comparison-made : (d : Bool) (s : List ℕ) (place : Column d → ℕ) (op left right m n : ℕ) (a b : Operand) → op < 6
+pub comparison-made : (d : Bool) (s : List ℕ) (place : Column d → ℕ) (op left right m n : ℕ) (a b : Operand) → op < 8
     → a ≡ operandStruct (operandOf place m (sideOn d s left)) → n ≡ m + markInSide a
     → b ≡ operandStruct (operandOf place n (sideOn d s right))
     → comparisonWith a op b ≡ comparisonStruct (comparisonOf place m (renamed (shortTerm (shortColumn d)) (comparisonOn d s op left right)))
@@ -87,4 +87,4 @@ comparison-made d s place op left right m n a b h ea en eb =
     let t = sideOn d s left in
     let q : n ≡ m + markInTerm t = en ∙ ap (λ (k : ℕ). m + k) (ap markInSide ea ∙ mark-side place m t) in
     let r : b ≡ operandStruct (operandOf place (m + markInTerm t) (sideOn d s right)) = eb ∙ ap (λ (k : ℕ). operandStruct (operandOf place k (sideOn d s right))) q in
-    λ i. comparisonWith (ea i) (sym (operator-number op h) i) (r i)
+    λ i. comparisonWith (ea i) (sym (predicate-number op h) i) (r i)

@@ -8,15 +8,15 @@ use native.Mathlib.Nat.{le-refl}
 use native.Mathlib.Omega.{arith}
 use lib.ListN.{length, drop, length-append}
 use Rattle.lists.proofs.Bools.{clash, or-assoc}
-use Rattle.meaning.specs.Condition.{Level, atom, conjunction, disjunction, Condition, negate, group, alone, both, single, either, comparisons}
+use Rattle.meaning.specs.Condition.{Level, atom, conjunction, disjunction, mapped, negate, group, alone, both, single, either, comparisons}
 use Rattle.meaning.specs.Postfix.{Node, nodes, joinAll, joinAny}
 use Rattle.meaning.specs.Tokens as T
 use Rattle.meaning.specs.Tokens.{tokens, keyword, lparen, rparen, NOT, AND, OR}
-use Rattle.meaning.specs.Grammar.{Reader, then, _>>=_, _>>_, done, fails, passing, expect, aCondition}
+use Rattle.meaning.specs.Grammar.{comparison, Reader, then, _>>=_, _>>_, done, fails, passing, expect, aCondition}
 use Rattle.meaning.proofs.Readers.{begins, passing-yes, passing-stops, expect-here}
 use Rattle.meaning.proofs.Decides.{reads-not, reads-open, reads-compare, reads-and, reads-or}
 use Rattle.statement.specs.Places.{andCode, orCode, nodeOn, nodesOn}
-use Rattle.statement.specs.Reading.{movedTo, withNode, PutsNode, Stands, Operand, aColumn, conditionPast, marksIn, Found, Meets, rank, Compares, Reads, Passed, Passes, Closes}
+use Rattle.statement.specs.Reading.{movedTo, withNode, PutsNode, Stands, Operand, Written, aColumn, conditionPast, marksIn, Found, Meets, rank, Compares, Reads, Passed, Passes, Closes}
 use Rattle.statement.specs.declared.conditions.Cursor.{Cursor}
 use Rattle.statement.proofs.Operands.{marks-of-both}
 use Rattle.statement.proofs.Steps.{Goes}
@@ -25,29 +25,30 @@ use Rattle.statement.proofs.Steps.{Goes}
 
 module _ (b : Bool) (s : List ℕ) (positive : Bool) (depth : ℕ) (c : Cursor) (xs : List ℕ) where
   -- t and then d were read, with the token between them, and the node that joins them was put: u is what they make
-  module _ {lo hi : Level} (t : Condition (Operand b) lo) (d u : Condition (Operand b) hi) (p : Cursor) (ys : List ℕ) (q : Cursor) (zs : List ℕ) (next : ℕ) (node : ℕ) (join : Node (Operand b))
-      (over-is : conditionPast b depth u ≡ (conditionPast b depth t || conditionPast b depth d))
-      (marks-is : marksIn u ≡ marksIn t + marksIn d)
-      (nodes-is : nodes positive u ≡ nodes positive t ++ (nodes positive d ++ (join ∷ [])))
+  module _ {lo hi : Level} (t : Written b lo) (d u : Written b hi) (p : Cursor) (ys : List ℕ) (q : Cursor) (zs : List ℕ) (next : ℕ) (node : ℕ) (join : Node (Operand b))
+      (over-is : conditionPast b depth (mapped comparison u) ≡ (conditionPast b depth (mapped comparison t) || conditionPast b depth (mapped comparison d)))
+      (marks-is : marksIn (mapped comparison u) ≡ marksIn (mapped comparison t) + marksIn (mapped comparison d))
+      (nodes-is : nodes positive (mapped comparison u) ≡ nodes positive (mapped comparison t) ++ (nodes positive (mapped comparison d) ++ (join ∷ [])))
       (node-is : nodeOn b s node 0 0 ≡ join) where
     joined : (more left : List T.Token) → Found b s positive depth c xs p ys t more → p .at < next → Found b s positive depth (movedTo next p) ys q zs d left
         → (r : Cursor) (ws : List ℕ) → PutsNode zs q node 0 0 ws r → Found b s positive depth c xs r ws u left
     joined more left f on g r ws put = subst (λ z. Found b s positive depth c xs z ws u left) (sym (put .counted)) here
       where
-        many : length (nodes positive u) ≡ length (nodes positive t) + length (nodes positive d) + 1
+        many : length (nodes positive (mapped comparison u)) ≡ length (nodes positive (mapped comparison t)) + length (nodes positive (mapped comparison d)) + 1
         many = ap length nodes-is ∙ simp length-append (omega arith)
 
-        regrouped : ((nodesOn b s (c .nodes) xs ++ nodes positive t) ++ nodes positive d) ++ (join ∷ []) ≡ nodesOn b s (c .nodes) xs ++ (nodes positive t ++ (nodes positive d ++ (join ∷ [])))
+        regrouped : ((nodesOn b s (c .nodes) xs ++ nodes positive (mapped comparison t)) ++ nodes positive (mapped comparison d)) ++ (join ∷ [])
+            ≡ nodesOn b s (c .nodes) xs ++ (nodes positive (mapped comparison t) ++ (nodes positive (mapped comparison d) ++ (join ∷ [])))
         regrouped = simp append-assoc
 
         st : Stands s q
         st = g .stands
 
-        notes : q .nodes + 1 ≤ 15 → nodesOn b s (q .nodes + 1) ws ≡ nodesOn b s (c .nodes) xs ++ nodes positive u
+        notes : q .nodes + 1 ≤ 15 → nodesOn b s (q .nodes + 1) ws ≡ nodesOn b s (c .nodes) xs ++ nodes positive (mapped comparison u)
         notes h =
             put .noted b s (omega arith)
-            ∙ ap (λ ns. ns ++ (nodeOn b s node 0 0 ∷ [])) (g .noted (omega arith) ∙ ap (λ ns. ns ++ nodes positive d) (f .noted (omega (arith, g .nodes-are))))
-            ∙ ap (λ n. ((nodesOn b s (c .nodes) xs ++ nodes positive t) ++ nodes positive d) ++ (n ∷ [])) node-is
+            ∙ ap (λ ns. ns ++ (nodeOn b s node 0 0 ∷ [])) (g .noted (omega arith) ∙ ap (λ ns. ns ++ nodes positive (mapped comparison d)) (f .noted (omega (arith, g .nodes-are))))
+            ∙ ap (λ n. ((nodesOn b s (c .nodes) xs ++ nodes positive (mapped comparison t)) ++ nodes positive (mapped comparison d)) ++ (n ∷ [])) node-is
             ∙ regrouped
             ∙ ap (λ ns. nodesOn b s (c .nodes) xs ++ ns) (sym nodes-is)
 
@@ -59,7 +60,8 @@ module _ (b : Bool) (s : List ℕ) (positive : Bool) (depth : ℕ) (c : Cursor) 
               moved = omega (arith, f .moved, g .moved);
               stands = record { short = st .short; inside = st .inside; few-nodes = omega (arith, g .spread, f .stands .few-nodes); few-marks = st .few-marks };
               left = g .left;
-              over = g .over ∙ ap (λ z. z || conditionPast b depth d) (f .over) ∙ sym (or-assoc (c .over) (conditionPast b depth t) (conditionPast b depth d)) ∙ ap (λ z. c .over || z) (sym over-is);
+              over = g .over ∙ ap (λ z. z || conditionPast b depth (mapped comparison d)) (f .over)
+                  ∙ sym (or-assoc (c .over) (conditionPast b depth (mapped comparison t)) (conditionPast b depth (mapped comparison d))) ∙ ap (λ z. c .over || z) (sym over-is);
               nodes-are = omega (arith, g .nodes-are, f .nodes-are, many);
               marks-are = omega (arith, g .marks-are, f .marks-are, marks-is);
               noted = notes;
@@ -67,12 +69,15 @@ module _ (b : Bool) (s : List ℕ) (positive : Bool) (depth : ℕ) (c : Cursor) 
             }
 
 -- a condition as another one that says the same
-abbrev Same : (b : Bool) {lo hi : Level} → Bool → ℕ → Condition (Operand b) lo → Bool → ℕ → Condition (Operand b) hi → Type 0
-Same b p d t q e u = (conditionPast b d t ≡ conditionPast b e u) × (marksIn t ≡ marksIn u) × (nodes p t ≡ nodes q u)
+abbrev Same : (b : Bool) {lo hi : Level} → Bool → ℕ → Written b lo → Bool → ℕ → Written b hi → Type 0
+Same b p d t q e u =
+    (conditionPast b d (mapped comparison t) ≡ conditionPast b e (mapped comparison u))
+    × (marksIn (mapped comparison t) ≡ marksIn (mapped comparison u))
+    × (nodes p (mapped comparison t) ≡ nodes q (mapped comparison u))
 
 -- what was found under p and d, from a later place on, is found under q and e, from an earlier one on
-found-as : (b : Bool) {lo hi : Level} (s : List ℕ) (p : Bool) (d : ℕ) (q : Bool) (e : ℕ) (c : Cursor) (at : ℕ) (xs : List ℕ) (r : Cursor) (ys : List ℕ) (t : Condition (Operand b) lo) (u : Condition (Operand b) hi)
-    (more : List T.Token) → Same b p d t q e u → c .at ≤ at → Found b s p d (movedTo at c) xs r ys t more → Found b s q e c xs r ys u more
+found-as : (b : Bool) {lo hi : Level} (s : List ℕ) (p : Bool) (d : ℕ) (q : Bool) (e : ℕ) (c : Cursor) (at : ℕ) (xs : List ℕ) (r : Cursor) (ys : List ℕ)
+    (t : Written b lo) (u : Written b hi) (more : List T.Token) → Same b p d t q e u → c .at ≤ at → Found b s p d (movedTo at c) xs r ys t more → Found b s q e c xs r ys u more
 found-as b s p d q e c at xs r ys t u more same le f =
     record {
       ok = f .ok;
@@ -92,7 +97,7 @@ found-more : (l : Level) (s : List ℕ) (positive : Bool) (depth : ℕ) (c : Cur
     → (Stands s r × (c .at < r .at) × (r .nodes + c .at ≤ c .nodes + r .at)) × (r .dotted ≡ c .dotted)
 found-more l s positive depth c xs r ys m e = go (aCondition (aColumn (c .dotted)) (3 * (length s - c .at) + rank l) l (tokens (drop (c .at) s))) (m (c .dotted) refl _ (le-refl _))
   where
-    go : (x : Option (Condition (Operand (c .dotted)) l × List T.Token)) → Meets (c .dotted) s positive depth c xs r ys x
+    go : (x : Option (Written (c .dotted) l × List T.Token)) → Meets (c .dotted) s positive depth c xs r ys x
         → (Stands s r × (c .at < r .at) × (r .nodes + c .at ≤ c .nodes + r .at)) × (r .dotted ≡ c .dotted)
     go none n = clash e n
     go (some x) n = ((n .stands, n .moved, n .spread), n .dotted)
@@ -103,19 +108,19 @@ found-on l s positive depth c xs r ys m e = found-more l s positive depth c xs r
 
 -- ---- AND and OR: what follows the first condition
 
-module _ (b : Bool) {lo hi : Level} (k : T.Token) (wrap : Condition (Operand b) lo → Condition (Operand b) hi) (join : Condition (Operand b) lo → Condition (Operand b) hi → Condition (Operand b) hi) (again : Reader (Condition (Operand b) hi)) where
-  abbrev rest : Condition (Operand b) lo → Reader (Condition (Operand b) hi)
+module _ (b : Bool) {lo hi : Level} (k : T.Token) (wrap : Written b lo → Written b hi) (join : Written b lo → Written b hi → Written b hi) (again : Reader (Written b hi)) where
+  abbrev rest : Written b lo → Reader (Written b hi)
   rest t = passing k (again >>= λ d. done (join t d)) (done (wrap t))
 
   module _ (s : List ℕ) (positive : Bool) (depth : ℕ) (c : Cursor) (xs : List ℕ) (p : Cursor) (ys : List ℕ) where
     -- the first failed
-    chain-fails : (x : Option (Condition (Operand b) lo × List T.Token)) → Meets b s positive depth c xs p ys x → p .ok ≡ false → Meets b s positive depth c xs p ys (then x rest)
+    chain-fails : (x : Option (Written b lo × List T.Token)) → Meets b s positive depth c xs p ys x → p .ok ≡ false → Meets b s positive depth c xs p ys (then x rest)
     chain-fails none m e = m
     chain-fails (some y) m e = clash (m .ok) e
 
     -- the first is all
-    chain-stops : ((t : Condition (Operand b) lo) → Same b positive depth t positive depth (wrap t))
-        → (x : Option (Condition (Operand b) lo × List T.Token)) → Meets b s positive depth c xs p ys x → p .ok ≡ true → begins k (tokens (drop (p .at) s)) ≡ false
+    chain-stops : ((t : Written b lo) → Same b positive depth t positive depth (wrap t))
+        → (x : Option (Written b lo × List T.Token)) → Meets b s positive depth c xs p ys x → p .ok ≡ true → begins k (tokens (drop (p .at) s)) ≡ false
         → Meets b s positive depth c xs p ys (then x rest)
     chain-stops w none m e i = clash e m
     chain-stops w (some y) m e i =
@@ -124,10 +129,10 @@ module _ (b : Bool) {lo hi : Level} (k : T.Token) (wrap : Condition (Operand b) 
 
     -- the second is read from `next` on, which leaves q; r is the answer
     module _ (q : Cursor) (zs : List ℕ) (next : ℕ) (t : Goes s (p .at) next k) (r : Cursor) (ws : List ℕ) where
-      chain-goes : ((x : Condition (Operand b) lo) (more : List T.Token) → Found b s positive depth c xs p ys x more → (d : Condition (Operand b) hi) (left : List T.Token)
+      chain-goes : ((x : Written b lo) (more : List T.Token) → Found b s positive depth c xs p ys x more → (d : Written b hi) (left : List T.Token)
           → Found b s positive depth (movedTo next p) ys q zs d left → Found b s positive depth c xs r ws (join x d) left)
           → (q .ok ≡ false → r .ok ≡ false)
-          → (x : Option (Condition (Operand b) lo × List T.Token)) → Meets b s positive depth c xs p ys x → p .ok ≡ true
+          → (x : Option (Written b lo × List T.Token)) → Meets b s positive depth c xs p ys x → p .ok ≡ true
           → Meets b s positive depth (movedTo next p) ys q zs (again (tokens (drop next s))) → Meets b s positive depth c xs r ws (then x rest)
       chain-goes j no-more none m e n = clash e m
       chain-goes j no-more (some y) m e n =
@@ -135,19 +140,22 @@ module _ (b : Bool) {lo hi : Level} (k : T.Token) (wrap : Condition (Operand b) 
           (sym (ap (rest (y .0)) (sym (m .left) ∙ t .after) ∙ passing-yes k (again >>= λ d. done (join (y .0) d)) (done (wrap (y .0))) (tokens (drop next s))))
           (go (again (tokens (drop next s))) n)
         where
-          go : (o : Option (Condition (Operand b) hi × List T.Token)) → Meets b s positive depth (movedTo next p) ys q zs o → Meets b s positive depth c xs r ws (then o (λ d. done (join (y .0) d)))
+          go : (o : Option (Written b hi × List T.Token)) → Meets b s positive depth (movedTo next p) ys q zs o
+              → Meets b s positive depth c xs r ws (then o (λ d. done (join (y .0) d)))
           go none g = no-more g
           go (some d) g = j (y .0) (y .1) m (d .0) (d .1) g
 
 -- a level that joins conditions of the one below by the token k: how the grammar reads it, and what the joined condition is
-pub record Chain (lo hi : Level) (k : T.Token) (wrap : (b : Bool) → Condition (Operand b) lo → Condition (Operand b) hi) (join : (b : Bool) → Condition (Operand b) lo → Condition (Operand b) hi → Condition (Operand b) hi)
+pub record Chain (lo hi : Level) (k : T.Token) (wrap : (b : Bool) → Written b lo → Written b hi) (join : (b : Bool) → Written b lo → Written b hi → Written b hi)
     (number : Bool → ℕ) (node : (b : Bool) → Bool → Node (Operand b)) : Type 0 where
   pub unrolls : (b : Bool) (n : ℕ) (ts : List T.Token) → aCondition (aColumn b) (suc n) hi ts ≡ then (aCondition (aColumn b) n lo ts) (rest b k (wrap b) (join b) (aCondition (aColumn b) n hi))
   pub higher : rank hi ≡ suc (rank lo)
-  pub same : (b : Bool) (p : Bool) (d : ℕ) (t : Condition (Operand b) lo) → Same b p d t p d (wrap b t)
-  pub over : (b : Bool) (d : ℕ) (t : Condition (Operand b) lo) (u : Condition (Operand b) hi) → conditionPast b d (join b t u) ≡ (conditionPast b d t || conditionPast b d u)
-  pub marks : (b : Bool) (t : Condition (Operand b) lo) (u : Condition (Operand b) hi) → marksIn (join b t u) ≡ marksIn t + marksIn u
-  pub nodes-are : (b : Bool) (p : Bool) (t : Condition (Operand b) lo) (u : Condition (Operand b) hi) → nodes p (join b t u) ≡ nodes p t ++ (nodes p u ++ (node b p ∷ []))
+  pub same : (b : Bool) (p : Bool) (d : ℕ) (t : Written b lo) → Same b p d t p d (wrap b t)
+  pub over : (b : Bool) (d : ℕ) (t : Written b lo) (u : Written b hi)
+      → conditionPast b d (mapped comparison (join b t u)) ≡ (conditionPast b d (mapped comparison t) || conditionPast b d (mapped comparison u))
+  pub marks : (b : Bool) (t : Written b lo) (u : Written b hi) → marksIn (mapped comparison (join b t u)) ≡ marksIn (mapped comparison t) + marksIn (mapped comparison u)
+  pub nodes-are : (b : Bool) (p : Bool) (t : Written b lo) (u : Written b hi)
+      → nodes p (mapped comparison (join b t u)) ≡ nodes p (mapped comparison t) ++ (nodes p (mapped comparison u) ++ (node b p ∷ []))
   pub node-is : (b : Bool) (s : List ℕ) (p : Bool) → nodeOn b s (number p) 0 0 ≡ node b p
 
 abbrev pub andNumber : Bool → ℕ
@@ -163,7 +171,7 @@ ands =
       higher = refl;
       same = λ b p d t. (refl, refl, refl);
       over = λ b d t u. refl;
-      marks = λ b t u. marks-of-both (comparisons t) (comparisons u);
+      marks = λ b t u. marks-of-both (comparisons (mapped comparison t)) (comparisons (mapped comparison u));
       nodes-are = λ b p t u. refl;
       node-is = go;
     }
@@ -179,7 +187,7 @@ ors =
       higher = refl;
       same = λ b p d t. (refl, refl, refl);
       over = λ b d t u. refl;
-      marks = λ b t u. marks-of-both (comparisons t) (comparisons u);
+      marks = λ b t u. marks-of-both (comparisons (mapped comparison t)) (comparisons (mapped comparison u));
       nodes-are = λ b p t u. refl;
       node-is = go;
     }
@@ -190,7 +198,7 @@ ors =
 
 -- ---- the answers of `read_and` and `read_or`: n is at least 1 call, since each asks for calls of its own
 
-module _ {lo hi : Level} {k : T.Token} {wrap : (b : Bool) → Condition (Operand b) lo → Condition (Operand b) hi} {join : (b : Bool) → Condition (Operand b) lo → Condition (Operand b) hi → Condition (Operand b) hi}
+module _ {lo hi : Level} {k : T.Token} {wrap : (b : Bool) → Written b lo → Written b hi} {join : (b : Bool) → Written b lo → Written b hi → Written b hi}
     {number : Bool → ℕ} {node : (b : Bool) → Bool → Node (Operand b)}
     (𝓒 : Chain lo hi k wrap join number node) (s : List ℕ) (positive : Bool) (depth : ℕ) (c : Cursor) (xs : List ℕ) (p : Cursor) (ys : List ℕ) (m : Reads lo s positive depth c xs p ys) where
   unrolled : (r : Cursor) (ws : List ℕ)
@@ -211,7 +219,7 @@ module _ {lo hi : Level} {k : T.Token} {wrap : (b : Bool) → Condition (Operand
 
     module _ (next : ℕ) (t : Goes s (p .at) next k) (q : Cursor) (zs : List ℕ) (w : Reads hi s positive depth (movedTo next p) ys q zs) where
       module _ (r : Cursor) (ws : List ℕ) where
-        second-goes : ((b : Bool) (x : Condition (Operand b) lo) (more : List T.Token) → Found b s positive depth c xs p ys x more → (d : Condition (Operand b) hi) (left : List T.Token)
+        second-goes : ((b : Bool) (x : Written b lo) (more : List T.Token) → Found b s positive depth c xs p ys x more → (d : Written b hi) (left : List T.Token)
             → Found b s positive depth (movedTo next p) ys q zs d left → Found b s positive depth c xs r ws (join b x d) left)
             → (q .ok ≡ false → r .ok ≡ false) → Reads hi s positive depth c xs r ws
         second-goes j no-more =
@@ -234,7 +242,8 @@ module _ {lo hi : Level} {k : T.Token} {wrap : (b : Bool) → Condition (Operand
 -- ---- the closing parenthesis
 
 -- what was found before it is found behind it
-passed-found : (b : Bool) {l : Level} (s : List ℕ) (positive : Bool) (depth : ℕ) (c : Cursor) (xs : List ℕ) (p : Cursor) (ys : List ℕ) (t : Condition (Operand b) l) (more : List T.Token) (q : Cursor) (left : List T.Token)
+passed-found : (b : Bool) {l : Level} (s : List ℕ) (positive : Bool) (depth : ℕ) (c : Cursor) (xs : List ℕ) (p : Cursor) (ys : List ℕ)
+    (t : Written b l) (more : List T.Token) (q : Cursor) (left : List T.Token)
     → Found b s positive depth c xs p ys t more → Passed s p q left → Found b s positive depth c xs q ys t left
 passed-found b s positive depth c xs p ys t more q left f k = subst (λ z. Found b s positive depth c xs z ys t left) (sym (k .is)) here
   where
@@ -278,7 +287,8 @@ module _ (s : List ℕ) (positive : Bool) (depth : ℕ) (c : Cursor) (xs : List 
       subst (Meets b s positive depth c xs p ys) (sym (ap (aCondition (aColumn b) (suc n) atom) (g .after) ∙ reads-not (aColumn b) n (tokens (drop next s))))
       (go (aCondition (aColumn b) n atom (tokens (drop next s))) (m b eb n (omega (arith, g .on, g .within))))
     where
-      go : (x : Option (Condition (Operand b) atom × List T.Token)) → Meets b s (not positive) (depth + 1) (movedTo next c) xs p ys x → Meets b s positive depth c xs p ys (then x (λ t. done (negate t)))
+      go : (x : Option (Written b atom × List T.Token)) → Meets b s (not positive) (depth + 1) (movedTo next c) xs p ys x
+          → Meets b s positive depth c xs p ys (then x (λ t. done (negate t)))
       go none f = f
       go (some y) f = found-as b s (not positive) (depth + 1) positive depth c next xs p ys (y .0) (negate (y .0)) (y .1) (refl, refl, refl) (omega (arith, g .on)) f
 
@@ -288,14 +298,14 @@ module _ (s : List ℕ) (positive : Bool) (depth : ℕ) (c : Cursor) (xs : List 
       subst (Meets b s positive depth c xs q ys) (sym (ap (aCondition (aColumn b) (suc n) atom) (g .after) ∙ reads-open (aColumn b) n (tokens (drop next s))))
       (go (aCondition (aColumn b) n disjunction (tokens (drop next s))) (m b eb n (omega (arith, g .on, g .within))))
     where
-      shut : (t : Condition (Operand b) disjunction) (more : List T.Token) → Found b s positive (depth + 1) (movedTo next c) xs p ys t more
+      shut : (t : Written b disjunction) (more : List T.Token) → Found b s positive (depth + 1) (movedTo next c) xs p ys t more
           → (o : Option (Unit {0} × List T.Token)) → Passes s p q o → Meets b s positive depth c xs q ys (then o (λ x. done (group t)))
       shut t more f none z = z
       shut t more f (some y) z =
           found-as b s positive (depth + 1) positive depth c next xs q ys t (group t) (y .1) (refl, refl, refl) (omega (arith, g .on))
           (passed-found b s positive (depth + 1) (movedTo next c) xs p ys t more q (y .1) f z)
 
-      go : (x : Option (Condition (Operand b) disjunction × List T.Token)) → Meets b s positive (depth + 1) (movedTo next c) xs p ys x
+      go : (x : Option (Written b disjunction × List T.Token)) → Meets b s positive (depth + 1) (movedTo next c) xs p ys x
           → Meets b s positive depth c xs q ys (then x (λ t. expect rparen >> done (group t)))
       go none f = k .0 f
       go (some y) f = shut (y .0) (y .1) f (expect rparen (y .1)) (subst (λ ts. Passes s p q (expect rparen ts)) (f .left) (k .1 (f .ok)))

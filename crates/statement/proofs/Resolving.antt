@@ -36,8 +36,8 @@ module _ {C : Type 0} (place : C → ℕ) (short : C → C) where
   resolve-count m (anyOf ∷ ns) = resolve-count m ns
 
 -- a comparison, or AND or OR
-node-comparison : (d : Bool) (s : List ℕ) (k a b : ℕ) → k < 6 → nodeOn d s k a b ≡ leaf (comparisonOn d s k a b)
-node-comparison d s k a b h = rw (lt-ltb k 6 h)
+node-comparison : (d : Bool) (s : List ℕ) (k a b : ℕ) → k < 8 → nodeOn d s k a b ≡ leaf (comparisonOn d s k a b)
+node-comparison d s k a b h = rw (lt-ltb k 8 h)
 
 module _ (d : Bool) (place : Column d → ℕ) where
   -- the comparisons of some nodes
@@ -47,11 +47,11 @@ module _ (d : Bool) (place : Column d → ℕ) where
   made-count : (m : ℕ) (ns : List (Node (Term (Column d)))) → length (made m ns) ≡ length (leaves ns)
   made-count m ns = length-map (leaves (resolveNodes place m (shortNodes (shortColumn d) ns))) comparisonStruct ∙ resolve-count place (shortColumn d) m ns
 
-  made-joined : (m : ℕ) (s : List ℕ) (k a b : ℕ) (ns : List (Node (Term (Column d)))) → 6 ≤ k → made m (nodeOn d s k a b ∷ ns) ≡ made m ns
+  made-joined : (m : ℕ) (s : List ℕ) (k a b : ℕ) (ns : List (Node (Term (Column d)))) → 8 ≤ k → made m (nodeOn d s k a b ∷ ns) ≡ made m ns
   made-joined m s k a b ns h = ap (λ (x : Node (Term (Column d))). made m (x ∷ ns)) e ∙ go (eqb k andCode)
     where
       e : nodeOn d s k a b ≡ cond (eqb k andCode) allOf anyOf
-      e = rw (le-ltb k 6 h)
+      e = rw (le-ltb k 8 h)
 
       go : (t : Bool) → made m (cond t allOf anyOf ∷ ns) ≡ made m ns
       go true = refl
@@ -87,14 +87,14 @@ module _ (d : Bool) (s ps : List ℕ) (place : Column d → ℕ) (n marks : ℕ)
     left-is : nodesLeft d s n i ps ≡ nodeHere d s i ps ∷ nodesLeft d s n (i + 1) ps
     left-is = nodes-cons d s n i ps k
 
-    left-comparison : op < 6 → nodesLeft d s n i ps ≡ leaf here ∷ nodesLeft d s n (i + 1) ps
+    left-comparison : op < 8 → nodesLeft d s n i ps ≡ leaf here ∷ nodesLeft d s n (i + 1) ps
     left-comparison h = left-is ∙ ap (λ (x : Node (Term (Column d))). x ∷ nodesLeft d s n (i + 1) ps) (node-comparison d s op (getD ps (3 * i + 1) 0) (getD ps (3 * i + 2) 0) h)
 
     -- there is room for it
-    pub resolving-room : op < 6 → found < length (leaves (nodesOn d s n ps))
+    pub resolving-room : op < 8 → found < length (leaves (nodesOn d s n ps))
     resolving-room h = omega (arith, R .counted, ap (λ (ns : List (Node (Term (Column d)))). length (leaves ns)) (left-comparison h))
 
-    pub resolving-more : op < 6 → (c : Comparison) (j : ℕ) → c ≡ comparisonStruct (comparisonOf place m (renamed (shortTerm (shortColumn d)) here))
+    pub resolving-more : op < 8 → (c : Comparison) (j : ℕ) → c ≡ comparisonStruct (comparisonOf place m (renamed (shortTerm (shortColumn d)) here))
         → j ≡ markInSide (leftSide c) + markInSide (rightSide c)
         → {out′ : List Comparison} {found′ m′ : ℕ} → out′ ≡ set out found c → found′ ≡ found + 1 → m′ ≡ m + j → Resolving out′ found′ m′ (i + 1)
     resolving-more h c j ec ej eo ef em =
@@ -113,7 +113,7 @@ module _ (d : Bool) (s ps : List ℕ) (place : Column d → ℕ) (n marks : ℕ)
           fills = fills-more _ out found _ _ _ w (R .fills);
         })
 
-    pub resolving-pass : 6 ≤ op → {out′ : List Comparison} {found′ m′ : ℕ} → out′ ≡ out → found′ ≡ found → m′ ≡ m → Resolving out′ found′ m′ (i + 1)
+    pub resolving-pass : 8 ≤ op → {out′ : List Comparison} {found′ m′ : ℕ} → out′ ≡ out → found′ ≡ found → m′ ≡ m → Resolving out′ found′ m′ (i + 1)
     resolving-pass h eo ef em =
         let w : made d place m (nodesLeft d s n i ps) ≡ made d place m (nodesLeft d s n (i + 1) ps) =
         ap (made d place m) left-is ∙ made-joined d place m s op (getD ps (3 * i + 1) 0) (getD ps (3 * i + 2) 0) (nodesLeft d s n (i + 1) ps) h in

@@ -8,10 +8,10 @@ use native.Mathlib.Nat.{add-zero, zero-add}
 use native.Mathlib.Omega.{arith}
 use lib.ListN.{length, drop}
 use Rattle.lists.proofs.Bools.{clash}
-use Rattle.meaning.specs.Condition.{Condition, disjunction, Where, always, under, operandsIn}
+use Rattle.meaning.specs.Condition.{disjunction, Optional, Where, always, under, mappedIn, operandsIn}
 use Rattle.meaning.specs.Postfix.{nodesIn}
 use Rattle.meaning.specs.Tokens.{Name, Token, keyword, comma, lparen, rparen, FROM, WHERE, INTO, VALUES, SET, tokens}
-use Rattle.meaning.specs.Grammar.{Given, items, Sentence, table, select, pair, insert, update, delete, Reader, then, _>>=_, done, expect, aToken, constantOf, aName, aDotted, aList, aSetting, aGiven, aSizeWord, aCondition, aWhere, aTable, aSingle, aPair, anInsert, anUpdate}
+use Rattle.meaning.specs.Grammar.{Given, Test, comparison, items, Sentence, table, select, pair, insert, update, delete, Reader, then, _>>=_, done, expect, aToken, constantOf, aName, aDotted, aList, aSetting, aGiven, aSizeWord, aCondition, aWhere, aTable, aSingle, aPair, anInsert, anUpdate}
 use Rattle.meaning.specs.Limits.{tableNamed, listGivens, bareTerm, whereOf, termGivens, markCount, givens}
 use Rattle.meaning.proofs.Dotted.{bare-givens}
 use Rattle.meaning.proofs.Readers.{begins, passing-stops, passing-yes}
@@ -20,8 +20,8 @@ use Rattle.statement.specs.declared.sentences.Placed.{Placed}
 use Rattle.statement.specs.declared.sentences.Listing.{Listing}
 use Rattle.statement.specs.declared.sentences.Sized.{Sized}
 use Rattle.statement.specs.declared.sentences.Entry.{Entry}
-use Rattle.statement.specs.Places.{nameOn, nodesOn}
-use Rattle.statement.specs.Reading.{Stands, Operand, aColumn, movedTo, Meets, Reads}
+use Rattle.statement.specs.Places.{nameOn, Column, nodesOn}
+use Rattle.statement.specs.Reading.{Stands, Operand, Written, aColumn, movedTo, Meets, Reads}
 use Rattle.statement.specs.Sentences.{partsOf, itemOn, Ready, Within, Takes, Counts, Expects, isLongName, Names, Sizes, outsideRows, CountsRows, names, values, settings, columns, listPast, ReadsList, wherePast, Filters, ReadsWhere, formOf, listLength, ringOf, RowsAt, SecondAt, NodesAt, NamesAt, GivensAt, Entered, Starts, ReadsForm, Lists, Deletes}
 use Rattle.statement.proofs.Steps.{Goes}
 use Rattle.statement.proofs.SentenceLimits.{sorted, ownPast, past-limit, nodes-replaced}
@@ -41,11 +41,11 @@ filters-nothing b s c xs =
 
 module _ (s : List ℕ) (c : Cursor) (xs : List ℕ) where
   pub where-failed : c .ok ≡ false → ReadsWhere s c xs c xs
-  where-failed e b eb n h = failed-before s (aWhere (aColumn b) n) (Filters b s c xs c xs) c c e e
+  where-failed e b eb n h = failed-before s (aWhere (aColumn b) n) (λ w. Filters b s c xs c xs (mappedIn comparison w)) c c e e
 
   pub where-absent : c .ok ≡ true → Stands s c → begins (keyword WHERE) (tokens (drop (c .at) s)) ≡ false → ReadsWhere s c xs c xs
   where-absent k st i b eb n h =
-      finds s (aWhere (aColumn b) n) (Filters b s c xs c xs) c c always (tokens (drop (c .at) s)) k
+      finds s (aWhere (aColumn b) n) (λ w. Filters b s c xs c xs (mappedIn comparison w)) c c always (tokens (drop (c .at) s)) k
       (passing-stops (keyword WHERE) _ _ (tokens (drop (c .at) s)) i) (record { ok = k; stands = st; left = refl }) (filters-nothing b s c xs)
 
   pub where-read : (at : ℕ) (r : Cursor) (ys : List ℕ) → c .ok ≡ true → Goes s (c .at) at (keyword WHERE) → Reads disjunction s true 0 (movedTo at c) xs r ys → ReadsWhere s c xs r ys
@@ -53,14 +53,17 @@ module _ (s : List ℕ) (c : Cursor) (xs : List ℕ) where
       record {
         fails = λ z. clash k z;
         takes = λ _.
-            subst (Takes s r (Filters b s c xs r ys)) (sym (ap (aWhere (aColumn b) n) (g .after) ∙ passing-yes (keyword WHERE) on (done always) (tokens (drop at s))))
+            subst (Takes s r Q) (sym (ap (aWhere (aColumn b) n) (g .after) ∙ passing-yes (keyword WHERE) on (done always) (tokens (drop at s))))
             (go (aCondition (aColumn b) n disjunction (tokens (drop at s))) (m b eb n (omega arith)));
       }
     where
-      on : Reader (Where (Operand b))
+      Q : Optional (Test (Column b)) → Type 0
+      Q w = Filters b s c xs r ys (mappedIn comparison w)
+
+      on : Reader (Optional (Test (Column b)))
       on = aCondition (aColumn b) n disjunction >>= λ t. done (under t)
 
-      go : (o : Option (Condition (Operand b) disjunction × List Token)) → Meets b s true 0 (movedTo at c) xs r ys o → Takes s r (Filters b s c xs r ys) (then o (λ t. done (under t)))
+      go : (o : Option (Written b disjunction × List Token)) → Meets b s true 0 (movedTo at c) xs r ys o → Takes s r Q (then o (λ t. done (under t)))
       go none q = q
       go (some x) q = (
         record { ok = q .ok; stands = q .stands; left = q .left },
@@ -73,7 +76,7 @@ marks-append : (vs ws : List Given) → markCount (vs ++ ws) ≡ markCount vs + 
 marks-append [] ws = omega arith
 marks-append (v ∷ vs) ws = omega (arith, marks-append vs ws)
 
--- y is its WHERE as it is written
+-- y is its WHERE, of two sides a comparison
 module _ (s ls : List ℕ) (b : Bool) (c m : Cursor) (p : Bool) (a : ℕ) (ps : List ℕ) (r : Entry) (ps′ : List ℕ) (x : Sentence) (y : Where (Operand b))
     (st : Starts s b c) (h : Counts c m p a) (w : Filters b s m ps (r .c) ps′ y) where
   over-is : r .c .over ≡ (p || wherePast b y)
@@ -156,8 +159,9 @@ module _ (s : List ℕ) (c : Cursor) (st : Starts s false c) where
       let m : Counts c (n .c) ((listPast (items cs) [] || false) || isLongName t) 0 = counts-then c c₁ (n .c) _ _ _ _ (counts-then c (l .c) c₁ _ _ _ _ (q₁ .counts) q₂) (q₃ .0) in
       goes-on s _ _ Q r r (aWhere aName k (tokens (drop (n .c .at) s))) (h₄ false (m .dotted ∙ st .dotted) k i .takes (b₃ .ok)) (λ f. f) (λ w b₄ q₄. (
         b₄,
-        entered s ys false c (n .c) _ _ ps E ps′ (select cs t w) w st m q₄ refl refl (λ n z. z)
-            (b₄ .ok) refl (order (isLongName t) (listPast (items cs) []) (wherePast false w)) refl (q₃ .1) tt refl tt (q₁ .listed-are ∙ zero-add (length (items cs))) (q₁ .noted) tt,
+        entered s ys false c (n .c) _ _ ps E ps′ (select cs t w) (mappedIn comparison w) st m q₄ refl refl (λ n z. z)
+            (b₄ .ok) refl (order (isLongName t) (listPast (items cs) []) (wherePast false (mappedIn comparison w))) refl
+            (q₃ .1) tt refl tt (q₁ .listed-are ∙ zero-add (length (items cs))) (q₁ .noted) tt,
       )))))
     where
       E : Entry
@@ -213,9 +217,9 @@ module _ (s : List ℕ) (c : Cursor) (st : Starts s false c) where
       counts-then c c₁ (l .c) _ _ _ _ (counts-then c (n .c) c₁ _ _ _ _ (q₁ .0) q₂) (q₃ .counts) in
       goes-on s _ _ Q r r (aWhere aName k (tokens (drop (l .c .at) s))) (h₄ false (m .dotted ∙ st .dotted) k i .takes (b₃ .ok)) (λ f. f) (λ w b₄ q₄. (
         b₄,
-        entered s ys false c (l .c) _ _ ps E ps′ (update t ss w) w st m q₄ refl refl (λ n z. z)
-            (b₄ .ok) refl (order (isLongName t) (listPast (map (λ (x : Name × Given). x .0) (items ss)) (map (λ (x : Name × Given). x .1) (items ss))) (wherePast false w)) (omega arith)
-            (q₁ .1) tt refl tt (q₃ .listed-are ∙ zero-add (length (items ss)))
+        entered s ys false c (l .c) _ _ ps E ps′ (update t ss w) (mappedIn comparison w) st m q₄ refl refl (λ n z. z)
+            (b₄ .ok) refl (order (isLongName t) (listPast (map (λ (x : Name × Given). x .0) (items ss)) (map (λ (x : Name × Given). x .1) (items ss)))
+            (wherePast false (mappedIn comparison w))) (omega arith) (q₁ .1) tt refl tt (q₃ .listed-are ∙ zero-add (length (items ss)))
             (λ m. sym (map-items (λ (x : Name × Given). x .0) (itemOn settings s) (l .listed) ys) ∙ ap (map (λ (x : Name × Given). x .0)) (q₃ .noted m))
             (λ m. sym (map-items (λ (x : Name × Given). x .1) (itemOn settings s) (l .listed) ys) ∙ ap (map (λ (x : Name × Given). x .1)) (q₃ .noted m)),
       )))))
@@ -239,7 +243,7 @@ module _ (s : List ℕ) (c : Cursor) (st : Starts s false c) where
       goes-on s _ _ Q (n .c) r (aName (tokens (drop (c₁ .at) s))) (h₂ .takes (b₁ .ok)) (λ f. tail .fails f) (λ t b₂ q₂.
       let m : Counts c (n .c) (false || isLongName t) 0 = counts-then c c₁ (n .c) _ _ _ _ q₁ (q₂ .0) in
       goes-on s _ _ Q r r (aWhere aName k (tokens (drop (n .c .at) s))) (h₃ false (m .dotted ∙ st .dotted) k i .takes (b₂ .ok)) (λ f. f) (λ w b₃ q₃.
-      (b₃, entered s ls false c (n .c) _ _ ps E ps′ (delete t w) w st m q₃ refl refl (λ n z. z) (b₃ .ok) refl refl refl (q₂ .1) tt refl tt refl tt tt))))
+      (b₃, entered s ls false c (n .c) _ _ ps E ps′ (delete t w) (mappedIn comparison w) st m q₃ refl refl (λ n z. z) (b₃ .ok) refl refl refl (q₂ .1) tt refl tt refl tt tt))))
     where
       E : Entry
       E = record { c = r; form = 4; table = n .place; second = 0; rows = 0; listed = 0; ring = false }
@@ -266,8 +270,10 @@ module _ (s : List ℕ) (c : Cursor) (st : Starts s true c) where
       counts-then c c₂ (o .c) _ _ _ _ (counts-then c (n .c) c₂ _ _ _ _ (counts-then c c₁ (n .c) _ _ _ _ (counts-then c (l .c) c₁ _ _ _ _ (q₁ .counts) q₂) (q₃ .0)) q₄) (q₅ .0) in
       goes-on s _ _ Q r r (aWhere aDotted k (tokens (drop (o .c .at) s))) (h₆ true (m .dotted ∙ st .dotted) k i .takes (b₅ .ok)) (λ f. f) (λ w b₆ q₆. (
         b₆,
-        entered s ys true c (o .c) _ _ ps E ps′ (pair cs t u w) w st m q₆ (sym (bare-givens w)) (sym (nodes-replaced bareTerm w)) (λ n z. z)
-            (b₆ .ok) refl (order (isLongName t) (isLongName u) (listPast (partsOf (items cs)) []) (wherePast true w)) refl (q₃ .1) tt refl (q₅ .1) (q₁ .listed-are ∙ zero-add (length (items cs))) (q₁ .noted) tt,
+        entered s ys true c (o .c) _ _ ps E ps′ (pair cs t u w) (mappedIn comparison w) st m q₆
+            (sym (bare-givens (mappedIn comparison w))) (sym (nodes-replaced bareTerm (mappedIn comparison w))) (λ n z. z)
+            (b₆ .ok) refl (order (isLongName t) (isLongName u) (listPast (partsOf (items cs)) []) (wherePast true (mappedIn comparison w))) refl
+            (q₃ .1) tt refl (q₅ .1) (q₁ .listed-are ∙ zero-add (length (items cs))) (q₁ .noted) tt,
       )))))))
     where
       E : Entry

@@ -10,10 +10,10 @@ use lib.Dec.{ltb}
 use lib.ListN.{length, length-map}
 use Rattle.lists.specs.Lists.{any}
 use Rattle.lists.proofs.Lists.{any-append}
-use Rattle.meaning.specs.Condition.{Comparison, Level, Condition, compare, negate, group, alone, both, single, either, Where, always, under, comparisons, sides, comparisonsIn, operandsIn, depth, depthIn, atom, renamed, replaced, replacedIn}
+use Rattle.meaning.specs.Condition.{Comparison, Level, Condition, compare, negate, group, alone, both, single, either, Optional, Where, always, under, mappedIn, comparisons, sides, comparisonsIn, operandsIn, depth, depthIn, atom, renamed, replaced, replacedIn}
 use Rattle.meaning.specs.Postfix.{nodesIn}
 use Rattle.meaning.specs.Tokens.{Name}
-use Rattle.meaning.specs.Grammar.{Term, column, given, Listed, Dotted, items, Sentence, table, select, pair, insert, update, delete}
+use Rattle.meaning.specs.Grammar.{Term, column, given, Test, comparison, Listed, Dotted, items, Sentence, table, select, pair, insert, update, delete}
 use Rattle.meaning.specs.Limits.{most-items, most-marks, most-comparisons, most-depth, tableNamed, listColumns, listGivens, bareTerm, whereOf, columnsNamed, furtherTables, deep, longName, bigConstant, termGivens, termColumns, givens, markCount, outside32, rowsOutside, manyItems, manyMarks, manyComparisons, pastLimit}
 use Rattle.meaning.proofs.Clauses.{comparisons-replaced, depth-replaced}
 use Rattle.meaning.proofs.Postfix.{nodes-count}
@@ -144,7 +144,7 @@ plainPast x = isLongName (tableNamed x) || (listPast (listColumns x) (listGivens
 abbrev pub ownPast : Sentence → Bool
 ownPast (table t cs ring z) = plainPast (table t cs ring z)
 ownPast (select cs t w) = plainPast (select cs t w)
-ownPast (pair cs t u w) = isLongName t || (isLongName u || (listPast (partsOf (items cs)) [] || wherePast true w))
+ownPast (pair cs t u w) = isLongName t || (isLongName u || (listPast (partsOf (items cs)) [] || wherePast true (mappedIn comparison w)))
 ownPast (insert t vs) = plainPast (insert t vs)
 ownPast (update t ss w) = plainPast (update t ss w)
 ownPast (delete t w) = plainPast (delete t w)
@@ -189,9 +189,12 @@ past-plain x e =
     ∙ ap (λ b. (isLongName (tableNamed x) || (listPast (listColumns x) (listGivens x) || (rowsOutside x || b))) || tooMany x) (sym (where-past false w))
 
 -- with two (A.1)
-module _ (cs : Listed Dotted) (t u : Name) (w : Where (Term Dotted)) where
+module _ (cs : Listed Dotted) (t u : Name) (v : Optional (Test Dotted)) where
   abbrev x : Sentence
-  x = pair cs t u w
+  x = pair cs t u v
+
+  abbrev w : Where (Term Dotted)
+  w = mappedIn comparison v
 
   abbrev tables : List Dotted → List Name
   tables ds = map (λ (c : Dotted). c .0) ds

@@ -81,7 +81,7 @@ module _ (s ls columns : List ℕ) (n : ℕ) where
 -- ---- steps
 
 pub step-node : (d : Bool) (s : List ℕ) (k a b : ℕ) → stepOf (nodeOn d s k a b) ≡ stepIn k
-step-node d s k a b = go (ltb k 6) (eqb k andCode) (comparisonOn d s k a b)
+step-node d s k a b = go (ltb k 8) (eqb k andCode) (comparisonOn d s k a b)
   where
     go : (x y : Bool) (c : Comparison (Term (Column d))) → stepOf (cond x (leaf c) (cond y allOf anyOf)) ≡ cond x 0 (cond y 1 2)
     go true y c = refl

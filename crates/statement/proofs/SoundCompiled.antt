@@ -12,12 +12,12 @@ use Rattle.lists.specs.Lists.{All}
 use Rattle.lists.proofs.Bools.{and-left, and-right, clash}
 use Rattle.lists.proofs.Lists.{All-head, All-tail}
 use Rattle.meaning.specs.Condition as C
-use Rattle.meaning.specs.Condition.{Where, always, sides}
+use Rattle.meaning.specs.Condition.{Where, always, sides, mappedIn}
 use Rattle.meaning.specs.Postfix.{Node, leaf, allOf, anyOf, nodesIn, leaves}
 use Rattle.meaning.specs.Resolve.{markInOperand, isNumbered, numberedOn, numberedFrom}
 use Rattle.meaning.specs.Tokens as T
 use Rattle.meaning.specs.Grammar as G
-use Rattle.meaning.specs.Grammar.{Given, mark, Term, items, Sentence, sentence}
+use Rattle.meaning.specs.Grammar.{Given, mark, Term, comparison, items, Sentence, sentence}
 use Rattle.meaning.specs.Limits.{markIn}
 use Rattle.meaning.specs.Names.{Schema, position, columnsOf, pairPlace}
 use Rattle.meaning.specs.Statement as M
@@ -35,7 +35,7 @@ use Rattle.statement.specs.declared.Table.{Table}
 use Rattle.statement.specs.declared.Comparison.{Comparison}
 use Rattle.statement.specs.declared.Statement.{Statement}
 use Rattle.statement.proofs.Compiles.{schemas-are}
-use Rattle.statement.proofs.OperatorLaws.{operator-back}
+use Rattle.statement.proofs.OperatorLaws.{predicate-back}
 use Rattle.statement.proofs.Stored.{map-twice, where-count}
 use Rattle.statement.proofs.ByKind.{column-read, parameter-read}
 use Rattle.statement.proofs.Assembled.{take-padded}
@@ -55,7 +55,7 @@ operand-back m (value (parameter (suc k))) h = parameter-read k
 comparison-back : (m n : ℕ) (c : C.Comparison M.Operand) → isNumbered m (c .left) ≡ true → isNumbered n (c .right) ≡ true → comparisonRead (comparisonStruct c) ≡ c
 comparison-back m n c h k = λ i. record {
   left = operand-back m (c .left) h i;
-  op = operator-back (c .op) i;
+  op = predicate-back (c .op) i;
   right = operand-back n (c .right) k i;
 }
 
@@ -155,7 +155,7 @@ statement-agrees ts (G.select cs t w) = record {
   count-is = refl;
   selected-are = take-padded 8 0 _ _ refl;
   parameters-are = refl;
-  condition-is = resolved-agrees (position (columnsOf ts t)) 0 w;
+  condition-is = resolved-agrees (position (columnsOf ts t)) 0 (mappedIn comparison w);
 }
 statement-agrees ts (G.pair cs t u w) = record {
   table-is = refl;
@@ -163,7 +163,7 @@ statement-agrees ts (G.pair cs t u w) = record {
   count-is = refl;
   selected-are = take-padded 8 0 _ _ refl;
   parameters-are = refl;
-  condition-is = resolved-agrees (pairPlace t (columnsOf ts t) u (columnsOf ts u)) 0 w;
+  condition-is = resolved-agrees (pairPlace t (columnsOf ts t) u (columnsOf ts u)) 0 (mappedIn comparison w);
 }
 statement-agrees ts (G.insert t vs) = record {
   form-is = refl;
@@ -179,7 +179,7 @@ statement-agrees ts (G.update t ss w) = record {
   count-is = refl;
   settings-are = settings-back (settings (columnsOf ts t) 0 (items ss)) (set-back (columnsOf ts t) 0 (items ss));
   parameters-are = refl;
-  condition-is = resolved-agrees (position (columnsOf ts t)) (settingMarks (items ss)) w;
+  condition-is = resolved-agrees (position (columnsOf ts t)) (settingMarks (items ss)) (mappedIn comparison w);
 }
 statement-agrees ts (G.delete t w) = record {
   form-is = refl;
@@ -187,7 +187,7 @@ statement-agrees ts (G.delete t w) = record {
   count-is = refl;
   settings-are = refl;
   parameters-are = refl;
-  condition-is = resolved-agrees (position (columnsOf ts t)) 0 w;
+  condition-is = resolved-agrees (position (columnsOf ts t)) 0 (mappedIn comparison w);
 }
 
 module _ (ts : List Schema) (s : Sentence) where

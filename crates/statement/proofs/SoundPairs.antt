@@ -6,10 +6,10 @@ use lib.ListN.{length, length-map}
 use Rattle.lists.specs.Lists.{All, cons, any}
 use Rattle.lists.proofs.Bools.{and-left, and-right, not-false}
 use Rattle.lists.proofs.Lists.{All-head, All-tail, All-append, All-map, All-image, any-false, map-append}
-use Rattle.meaning.specs.Condition.{Where, always, under, operandsIn, comparisons, comparisonsIn, depthIn, replacedIn, renamed}
+use Rattle.meaning.specs.Condition.{Optional, Where, always, under, mappedIn, operandsIn, comparisons, comparisonsIn, depthIn, replacedIn, renamed}
 use Rattle.meaning.specs.Tokens.{Name}
 use Rattle.meaning.specs.Grammar as G
-use Rattle.meaning.specs.Grammar.{Term, Dotted, Listed, items}
+use Rattle.meaning.specs.Grammar.{Term, Test, comparison, Dotted, Listed, items}
 use Rattle.meaning.specs.Limits.{termColumns, bareTerm, columnsNamed, allNames}
 use Rattle.meaning.specs.Names.{sameName, has, isOf}
 use Rattle.meaning.proofs.Names.{same-is}
@@ -35,16 +35,17 @@ module _ (t : Name) (cs : List Name) (u : Name) (ds : List Name) where
         go true f h = of-has t cs a c f
         go false f h = of-has u ds b c h
 
-    pub pair-names : (L : Listed Dotted) (w : Where (Term Dotted)) → any (λ (c : Dotted). not (isOf t cs c || isOf u ds c)) (items L ++ termColumns (operandsIn w)) ≡ false
-        → All P (allNames (G.pair L t u w))
-    pair-names L w h =
+    pub pair-names : (L : Listed Dotted) (v : Optional (Test Dotted))
+        → any (λ (c : Dotted). not (isOf t cs c || isOf u ds c)) (items L ++ termColumns (operandsIn (mappedIn comparison v))) ≡ false → All P (allNames (G.pair L t u v))
+    pair-names L v h =
+        let w : Where (Term Dotted) = mappedIn comparison v in
         let xs : List Dotted = items L ++ termColumns (operandsIn w) in
         let each : All (λ (c : Dotted). P (c .0) × P (c .1)) xs = All-map both-has (any-false (λ (c : Dotted). not (isOf t cs c || isOf u ds c)) xs h) in
-        let bare : map (λ (c : Dotted). c .1) xs ≡ columnsNamed (G.pair L t u w) =
+        let bare : map (λ (c : Dotted). c .1) xs ≡ columnsNamed (G.pair L t u v) =
         map-append (λ (c : Dotted). c .1) (items L) (termColumns (operandsIn w))
         ∙ ap (λ (ns : List Name). map (λ (c : Dotted). c .1) (items L) ++ ns) (sym (bare-columns w)) in
         let tables : All P (map (λ (c : Dotted). c .0) xs) = All-image (λ (c : Dotted). c .0) (All-map (λ c p. p .0) each) in
-        let columns : All P (columnsNamed (G.pair L t u w)) = subst (All P) bare (All-image (λ (c : Dotted). c .1) (All-map (λ c p. p .1) each)) in
+        let columns : All P (columnsNamed (G.pair L t u v)) = subst (All P) bare (All-image (λ (c : Dotted). c .1) (All-map (λ c p. p .1) each)) in
         cons (All-head a) (cons (All-head b) (All-append tables columns))
 
 -- ---- a WHERE with bare columns has the same comparisons and depth

@@ -13,10 +13,10 @@ use lib.Seq.{length-take-le}
 use Rattle.lists.specs.Lists.{All, any, all}
 use Rattle.lists.proofs.Bools.{and-left, and-right, and-both, or-left, or-right, not-false, not-true, contra, clash}
 use Rattle.lists.proofs.Lists.{All-map, any-append, any-none}
-use Rattle.meaning.specs.Condition.{Where, always, comparisonsIn, operandsIn, depthIn}
+use Rattle.meaning.specs.Condition.{Optional, Where, always, mappedIn, comparisonsIn, operandsIn, depthIn}
 use Rattle.meaning.specs.Tokens.{Name, isName}
 use Rattle.meaning.specs.Grammar as G
-use Rattle.meaning.specs.Grammar.{Listed, Dotted, items, Sentence}
+use Rattle.meaning.specs.Grammar.{Test, comparison, Listed, Dotted, items, Sentence}
 use Rattle.meaning.specs.Limits.{most-items, most-marks, most-comparisons, most-depth, most-name, termGivens, termColumns, columnsNamed, dottedNamed, allNames, givens, markCount, outside32}
 use Rattle.meaning.specs.Names.{Schema, noSchema, sameName, has, position, tableNames, columnsOf, isOf, pairPlace, unknown, taken, miscounted, twice}
 use Rattle.meaning.specs.Statement as M
@@ -138,6 +138,10 @@ module _ (ts : List Schema) (T : TablesFit ts) (q : Query) (F : QueryFits q) (P 
         (one-table (table .columns) (fits .different)) 0 (q .condition) (F .condition-fits)
         (ap (λ (n : ℕ). soundCondition n 0 (q .condition)) (sym width-is) ∙ P .condition-sound)
 
+    -- its comparisons have two sides
+    abbrev wanted : Where (G.Term Name)
+    wanted = mappedIn comparison (source .source)
+
     names-length : length (namesAt (table .columns) chosen) ≡ q .count
     names-length = length-map chosen (λ (i : ℕ). getD (table .columns) i []) ∙ chosen-length
 
@@ -149,20 +153,20 @@ module _ (ts : List Schema) (T : TablesFit ts) (q : Query) (F : QueryFits q) (P 
 
     named-known : any (λ (n : Name). not (has (table .columns) n)) (columnsNamed sentence) ≡ false
     named-known =
-        known-append (table .columns) (items (names .0)) (termColumns (operandsIn (source .source)))
+        known-append (table .columns) (items (names .0)) (termColumns (operandsIn wanted))
         (ap (any (λ (n : Name). not (has (table .columns) n))) (names .1) ∙ names-known (table .columns) (fits .different) chosen below)
         (source .known)
 
     limits : Limits sentence
     limits =
         let few : length (items (names .0)) ≡ q .count = ap length (names .1) ∙ names-length in
-        let marks : markCount (termGivens (operandsIn (source .source))) ≤ most-marks = omega (arith, source .marks, P .parameters-are, P .few-parameters) in
+        let marks : markCount (termGivens (operandsIn wanted)) ≤ most-marks = omega (arith, source .marks, P .parameters-are, P .few-parameters) in
         record {
           items-few = or-none (ltb most-items (length (items (names .0)))) _ (le-ltb most-items (length (items (names .0))) (omega (arith, P .few-selected))) refl;
           rows-inside = refl;
           marks-few = le-ltb most-marks (markCount (givens sentence)) marks;
-          comparisons-few = le-ltb most-comparisons (length (comparisonsIn (source .source))) (source .few);
-          shallow = le-ltb most-depth (depthIn (source .source)) (source .shallow);
+          comparisons-few = le-ltb most-comparisons (length (comparisonsIn wanted)) (source .few);
+          shallow = le-ltb most-depth (depthIn wanted) (source .shallow);
           names-short = there-short ts T (q .table) (P .there) (columnsNamed sentence) named-known;
           constants-small = source .small;
         }
@@ -183,7 +187,7 @@ module _ (ts : List Schema) (T : TablesFit ts) (q : Query) (F : QueryFits q) (P 
       table = position (tableNames ts) (table .name);
       second = none;
       selected = map (position columns) (items (names .0));
-      condition = resolvedWhere (position columns) 0 (source .source);
+      condition = resolvedWhere (position columns) 0 wanted;
       parameters = markCount (givens sentence);
     }
 
@@ -197,7 +201,7 @@ module _ (ts : List Schema) (T : TablesFit ts) (q : Query) (F : QueryFits q) (P 
           count-is = sym (ap length back ∙ chosen-length);
           selected-are = sym back;
           parameters-are = P .parameters-are ∙ sym (source .marks);
-          condition-is = subst (λ C. AgreesCondition (q .condition) (resolvedWhere (position C) 0 (source .source))) (sym columns-are) (source .agrees);
+          condition-is = subst (λ C. AgreesCondition (q .condition) (resolvedWhere (position C) 0 wanted)) (sym columns-are) (source .agrees);
         }
 
     single-source : FromQuery ts q
@@ -255,6 +259,9 @@ module _ (ts : List Schema) (T : TablesFit ts) (q : Query) (F : QueryFits q) (P 
         condition-source place width strange dotted both 0 (q .condition) (F .condition-fits)
         (ap (λ (n : ℕ). soundCondition n 0 (q .condition)) (sym both-width) ∙ P .condition-sound)
 
+    abbrev pair-wanted : Where (G.Term Dotted)
+    pair-wanted = mappedIn comparison (pair-where .source)
+
     listed-length : length (map dotted chosen) ≡ q .count
     listed-length = length-map chosen dotted ∙ chosen-length
 
@@ -266,11 +273,11 @@ module _ (ts : List Schema) (T : TablesFit ts) (q : Query) (F : QueryFits q) (P 
 
     none-strange : any strange (dottedNamed pair-sentence) ≡ false
     none-strange =
-        any-append strange (items (list .0)) (termColumns (operandsIn (pair-where .source)))
+        any-append strange (items (list .0)) (termColumns (operandsIn pair-wanted))
         ∙ or-none _ _ (ap (any strange) (list .1) ∙ at-known place width strange dotted both chosen both-below) (pair-where .known)
 
-    pair-givens : givens pair-sentence ≡ termGivens (operandsIn (pair-where .source))
-    pair-givens = bare-givens (pair-where .source)
+    pair-givens : givens pair-sentence ≡ termGivens (operandsIn pair-wanted)
+    pair-givens = bare-givens pair-wanted
 
     pair-marks : markCount (givens pair-sentence) ≡ conditionMarks (q .condition)
     pair-marks = ap markCount pair-givens ∙ pair-where .marks
@@ -286,9 +293,9 @@ module _ (ts : List Schema) (T : TablesFit ts) (q : Query) (F : QueryFits q) (P 
               (le-ltb most-items (length (map (λ (c : Dotted). c .1) (items (list .0)))) (omega (arith, P .few-selected))) refl;
           rows-inside = refl;
           marks-few = le-ltb most-marks (markCount (givens pair-sentence)) (omega (arith, pair-marks, P .parameters-are, P .few-parameters));
-          comparisons-few = ap (ltb most-comparisons) (bare-count (pair-where .source))
-              ∙ le-ltb most-comparisons (length (comparisonsIn (pair-where .source))) (pair-where .few);
-          shallow = ap (ltb most-depth) (bare-depth (pair-where .source)) ∙ le-ltb most-depth (depthIn (pair-where .source)) (pair-where .shallow);
+          comparisons-few = ap (ltb most-comparisons) (bare-count pair-wanted)
+              ∙ le-ltb most-comparisons (length (comparisonsIn pair-wanted)) (pair-where .few);
+          shallow = ap (ltb most-depth) (bare-depth pair-wanted) ∙ le-ltb most-depth (depthIn pair-wanted) (pair-where .shallow);
           names-short = any-none (λ (n : Name). ltb most-name (length n)) (All-map (λ n h. le-ltb most-name (length n) h) short);
           constants-small = ap (any outside32) pair-givens ∙ pair-where .small;
         }
@@ -314,7 +321,7 @@ module _ (ts : List Schema) (T : TablesFit ts) (q : Query) (F : QueryFits q) (P 
       table = position (tableNames ts) (table .name);
       second = some (record { table = position (tableNames ts) (other .name); start = length columns });
       selected = map (pairPlace (table .name) columns (other .name) others) (items (list .0));
-      condition = resolvedWhere (pairPlace (table .name) columns (other .name) others) 0 (pair-where .source);
+      condition = resolvedWhere (pairPlace (table .name) columns (other .name) others) 0 pair-wanted;
       parameters = markCount (givens pair-sentence);
     }
 
@@ -332,7 +339,7 @@ module _ (ts : List Schema) (T : TablesFit ts) (q : Query) (F : QueryFits q) (P 
           count-is = sym (ap length back ∙ chosen-length);
           selected-are = sym back;
           parameters-are = P .parameters-are ∙ sym pair-marks;
-          condition-is = subst (λ f. AgreesCondition (q .condition) (resolvedWhere f 0 (pair-where .source))) places (pair-where .agrees);
+          condition-is = subst (λ f. AgreesCondition (q .condition) (resolvedWhere f 0 pair-wanted)) places (pair-where .agrees);
         }
 
     pair-source : FromQuery ts q
@@ -370,11 +377,12 @@ module _ (ts : List Schema) (q : Query) where
       subst (λ n. position (tableNames ts) t < n) (length-map ts (λ (u : Schema). u .name))
       (has-position (tableNames ts) t (not-false (has (tableNames ts) t) h))
 
-  select-query : (cs : Listed Name) (t : Name) (w : Where (G.Term Name)) → Passes ts (G.select cs t w)
-      → AgreesQuery q (asked (statementOf ts (G.select cs t w))) → soundQuery ts q ≡ true
+  select-query : (cs : Listed Name) (t : Name) (v : Optional (Test Name)) → Passes ts (G.select cs t v)
+      → AgreesQuery q (asked (statementOf ts (G.select cs t v))) → soundQuery ts q ≡ true
   unfolding statementOf unknown
-  select-query cs t w P A =
-      let s : Sentence = G.select cs t w in
+  select-query cs t v P A =
+      let s : Sentence = G.select cs t v in
+      let w : Where (G.Term Name) = mappedIn comparison v in
       let L : Limits s = limits-of s (P .within) in
       let columns : List Name = columnsOf ts t in
       let strange : Name → Bool = λ (n : Name). not (has columns n) in
@@ -385,7 +393,7 @@ module _ (ts : List Schema) (q : Query) where
       let n : columnsFor ts q ≡ length columns = ap (columnsWith ts (columnsAt ts (q .table))) (A .second-is) ∙ e in
       let many : length (map (position columns) (items cs)) ≡ length (items cs) = length-map (items cs) (position columns) in
       let few : length (items cs) ≤ most-items = ltb-false most-items (length (items cs)) (or-left (ltb most-items (length (items cs))) _ (L .items-few)) in
-      let marks : conditionMarks (q .condition) ≡ markCount (termGivens (operandsIn w)) = source-marks (position columns) 0 w (q .condition) (A .condition-is) in
+      let marks : conditionMarks (q .condition) ≡ markCount (termGivens (operandsIn w)) = source-marks (position columns) 0 v (q .condition) (A .condition-is) in
       parts-query ts q (record {
         there = subst (λ n. n < length ts) (sym (A .table-is)) (place-below t (or-left (not (has (tableNames ts) t)) _ (P .known)));
         second-sound = ap (soundSecond ts (q .table) (columnsAt ts (q .table))) (A .second-is);
@@ -393,7 +401,7 @@ module _ (ts : List Schema) (q : Query) where
         few-selected = omega (arith, A .count-is);
         selected-below = ap₂ (λ n l. all (λ (i : ℕ). ltb i n) l) n (A .selected-are) ∙ positions-below columns (items cs) (or-left (any strange (items cs)) _ both);
         condition-sound = ap (λ n. soundCondition n 0 (q .condition)) n
-            ∙ source-condition (position columns) 0 w (q .condition) (A .condition-is) (length columns) strange (name-inside columns)
+            ∙ source-condition (position columns) 0 v (q .condition) (A .condition-is) (length columns) strange (name-inside columns)
             (or-right (any strange (items cs)) _ both)
             (ltb-false most-comparisons (length (comparisonsIn w)) (L .comparisons-few));
         parameters-are = A .parameters-are ∙ sym marks;
@@ -411,11 +419,12 @@ module _ (ts : List Schema) (q : Query) where
       ∙ same-name t)
       d
 
-  pair-query : (cs : Listed Dotted) (t u : Name) (w : Where (G.Term Dotted)) → Passes ts (G.pair cs t u w)
-      → AgreesQuery q (asked (statementOf ts (G.pair cs t u w))) → soundQuery ts q ≡ true
+  pair-query : (cs : Listed Dotted) (t u : Name) (v : Optional (Test Dotted)) → Passes ts (G.pair cs t u v)
+      → AgreesQuery q (asked (statementOf ts (G.pair cs t u v))) → soundQuery ts q ≡ true
   unfolding statementOf unknown twice
-  pair-query cs t u w P A =
-      let s : Sentence = G.pair cs t u w in
+  pair-query cs t u v P A =
+      let s : Sentence = G.pair cs t u v in
+      let w : Where (G.Term Dotted) = mappedIn comparison v in
       let L : Limits s = limits-of s (P .within) in
       let columns : List Name = columnsOf ts t in
       let others : List Name = columnsOf ts u in
@@ -435,7 +444,7 @@ module _ (ts : List Schema) (q : Query) where
       let listed : length (map (λ (c : Dotted). c .1) (items cs)) ≡ length (items cs) = length-map (items cs) (λ (c : Dotted). c .1) in
       let few : length (map (λ (c : Dotted). c .1) (items cs)) ≤ most-items =
       ltb-false most-items (length (map (λ (c : Dotted). c .1) (items cs))) (or-left (ltb most-items (length (map (λ (c : Dotted). c .1) (items cs)))) _ (L .items-few)) in
-      let marks : conditionMarks (q .condition) ≡ markCount (termGivens (operandsIn w)) = source-marks place 0 w (q .condition) (A .condition-is) in
+      let marks : conditionMarks (q .condition) ≡ markCount (termGivens (operandsIn w)) = source-marks place 0 v (q .condition) (A .condition-is) in
       parts-query ts q (record {
         there = subst (λ n. n < length ts) (sym (A .table-is)) (place-below t first-there);
         second-sound = ap (soundSecond ts (q .table) (columnsAt ts (q .table))) (A .second-is)
@@ -449,7 +458,7 @@ module _ (ts : List Schema) (q : Query) where
         selected-below = ap₂ (λ n l. all (λ (i : ℕ). ltb i n) l) n (A .selected-are)
             ∙ places-below place width strange (dotted-inside t columns u others) (items cs) (or-left (any strange (items cs)) _ both);
         condition-sound = ap (λ n. soundCondition n 0 (q .condition)) n
-            ∙ source-condition place 0 w (q .condition) (A .condition-is) width strange (dotted-inside t columns u others)
+            ∙ source-condition place 0 v (q .condition) (A .condition-is) width strange (dotted-inside t columns u others)
             (or-right (any strange (items cs)) _ both)
             (ltb-false most-comparisons (length (comparisonsIn w)) (ap (ltb most-comparisons) (sym (bare-count w)) ∙ L .comparisons-few));
         parameters-are = A .parameters-are ∙ ap markCount (bare-givens w) ∙ sym marks;

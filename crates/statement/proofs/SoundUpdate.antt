@@ -13,12 +13,12 @@ use Rattle.lists.specs.Lists.{any, all, repeats, from}
 use Rattle.lists.specs.Tests.{eqList, eqList→eq, eqList-refl}
 use Rattle.lists.proofs.Bools.{T→true, true→T, and-left, and-right, and-both, or-left, or-right, not-false, not-true, clash}
 use Rattle.lists.proofs.Lists.{All-take, any-append}
-use Rattle.meaning.specs.Condition.{Where, always, comparisonsIn, operandsIn, depthIn, sides}
+use Rattle.meaning.specs.Condition.{Optional, Where, always, mappedIn, comparisonsIn, operandsIn, depthIn, sides}
 use Rattle.meaning.specs.Postfix.{leaves}
 use Rattle.meaning.specs.Resolve.{parameterCount, numberedOn}
 use Rattle.meaning.specs.Tokens.{Name}
 use Rattle.meaning.specs.Grammar as G
-use Rattle.meaning.specs.Grammar.{Given, Listed, items, Sentence}
+use Rattle.meaning.specs.Grammar.{Given, Test, comparison, Listed, items, Sentence}
 use Rattle.meaning.specs.Limits.{most-items, most-marks, most-comparisons, most-depth, termGivens, termColumns, columnsNamed, givens, markCount, outside32}
 use Rattle.meaning.specs.Names.{Schema, noSchema, sameName, has, position, tableNames, columnsOf, missing, unknown, taken, miscounted, twice}
 use Rattle.meaning.specs.Statement as M
@@ -109,6 +109,10 @@ module _ (ts : List Schema) (T : TablesFit ts) (u : Update) (F : UpdateFits u) (
   source =
       condition-source (position (table .columns)) (length (table .columns)) (λ (n : Name). not (has (table .columns) n)) (λ i. getD (table .columns) i [])
       (one-table (table .columns) (fits .different)) (parameterCount (settingOperands u)) (u .condition) (F .condition-fits) (P .condition-sound)
+
+  -- its comparisons have two sides
+  abbrev wanted : Where (G.Term Name)
+  wanted = mappedIn comparison (source .source)
 
   -- ---- INSERT
 
@@ -236,7 +240,7 @@ module _ (ts : List Schema) (T : TablesFit ts) (u : Update) (F : UpdateFits u) (
 
     update-known : any (λ (n : Name). not (has (table .columns) n)) (columnsNamed update-sentence) ≡ false
     update-known =
-        known-append (table .columns) (map (λ (s : Name × Given). s .0) (items (updated .0))) (termColumns (operandsIn (source .source)))
+        known-append (table .columns) (map (λ (s : Name × Given). s .0) (items (updated .0))) (termColumns (operandsIn wanted))
         (ap (any (λ (n : Name). not (has (table .columns) n))) set-names ∙ names-known (table .columns) (fits .different) (settingColumns u) update-below)
         (source .known)
 
@@ -245,7 +249,7 @@ module _ (ts : List Schema) (T : TablesFit ts) (u : Update) (F : UpdateFits u) (
 
     update-marks : markCount (givens update-sentence) ≡ u .parameters
     update-marks =
-        marks-append (map (λ (s : Name × Given). s .1) (items (updated .0))) (termGivens (operandsIn (source .source)))
+        marks-append (map (λ (s : Name × Given). s .1) (items (updated .0))) (termGivens (operandsIn wanted))
         ∙ ap₂ _+_ set-marks (source .marks) ∙ sym (P .parameters-are)
 
     update-limits : Limits update-sentence
@@ -260,10 +264,10 @@ module _ (ts : List Schema) (T : TablesFit ts) (u : Update) (F : UpdateFits u) (
               (le-ltb most-items (length (map (λ (s : Name × Given). s .1) (items (updated .0)))) (omega (arith, update-few)));
           rows-inside = refl;
           marks-few = le-ltb most-marks (markCount (givens update-sentence)) (omega (arith, update-marks, P .few-parameters));
-          comparisons-few = le-ltb most-comparisons (length (comparisonsIn (source .source))) (source .few);
-          shallow = le-ltb most-depth (depthIn (source .source)) (source .shallow);
+          comparisons-few = le-ltb most-comparisons (length (comparisonsIn wanted)) (source .few);
+          shallow = le-ltb most-depth (depthIn wanted) (source .shallow);
           names-short = there-short ts T (u .table) (P .there) (columnsNamed update-sentence) update-known;
-          constants-small = any-append outside32 (map (λ (s : Name × Given). s .1) (items (updated .0))) (termGivens (operandsIn (source .source)))
+          constants-small = any-append outside32 (map (λ (s : Name × Given). s .1) (items (updated .0))) (termGivens (operandsIn wanted))
               ∙ or-none _ _ (ap (any outside32) set-givens ∙ small) (source .small);
         }
 
@@ -291,7 +295,7 @@ module _ (ts : List Schema) (T : TablesFit ts) (u : Update) (F : UpdateFits u) (
     abbrev update-statement : M.Update
     update-statement = record {
       table = position (tableNames ts) (table .name);
-      change = update (settings columns 0 (items (updated .0))) (resolvedWhere (position columns) (settingMarks (items (updated .0))) (source .source));
+      change = update (settings columns 0 (items (updated .0))) (resolvedWhere (position columns) (settingMarks (items (updated .0))) wanted);
       parameters = markCount (givens update-sentence);
     }
 
@@ -302,7 +306,7 @@ module _ (ts : List Schema) (T : TablesFit ts) (u : Update) (F : UpdateFits u) (
       count-is = sym (settings-many update-few) ∙ ap length update-settings;
       settings-are = update-settings;
       parameters-are = sym update-marks;
-      condition-is = subst₂ (λ C m. AgreesCondition (u .condition) (resolvedWhere (position C) m (source .source))) (sym columns-are) (sym set-marks) (source .agrees);
+      condition-is = subst₂ (λ C m. AgreesCondition (u .condition) (resolvedWhere (position C) m wanted)) (sym columns-are) (sym set-marks) (source .agrees);
     }
 
     update-source : FromUpdate ts u
@@ -326,7 +330,7 @@ module _ (ts : List Schema) (T : TablesFit ts) (u : Update) (F : UpdateFits u) (
 
     delete-marks : markCount (givens delete-sentence) ≡ u .parameters
     delete-marks =
-        let k : markCount (termGivens (operandsIn (source .source))) ≡ conditionMarks (u .condition) = source .marks in
+        let k : markCount (termGivens (operandsIn wanted)) ≡ conditionMarks (u .condition) = source .marks in
         k ∙ omega (arith, P .parameters-are, no-marks)
 
     delete-limits : Limits delete-sentence
@@ -334,8 +338,8 @@ module _ (ts : List Schema) (T : TablesFit ts) (u : Update) (F : UpdateFits u) (
       items-few = refl;
       rows-inside = refl;
       marks-few = le-ltb most-marks (markCount (givens delete-sentence)) (omega (arith, delete-marks, P .few-parameters));
-      comparisons-few = le-ltb most-comparisons (length (comparisonsIn (source .source))) (source .few);
-      shallow = le-ltb most-depth (depthIn (source .source)) (source .shallow);
+      comparisons-few = le-ltb most-comparisons (length (comparisonsIn wanted)) (source .few);
+      shallow = le-ltb most-depth (depthIn wanted) (source .shallow);
       names-short = there-short ts T (u .table) (P .there) (columnsNamed delete-sentence) (source .known);
       constants-small = source .small;
     }
@@ -354,7 +358,7 @@ module _ (ts : List Schema) (T : TablesFit ts) (u : Update) (F : UpdateFits u) (
     abbrev delete-statement : M.Update
     delete-statement = record {
       table = position (tableNames ts) (table .name);
-      change = delete (resolvedWhere (position columns) 0 (source .source));
+      change = delete (resolvedWhere (position columns) 0 wanted);
       parameters = markCount (givens delete-sentence);
     }
 
@@ -365,7 +369,7 @@ module _ (ts : List Schema) (T : TablesFit ts) (u : Update) (F : UpdateFits u) (
       count-is = delete-none;
       settings-are = no-settings;
       parameters-are = sym delete-marks;
-      condition-is = subst₂ (λ C m. AgreesCondition (u .condition) (resolvedWhere (position C) m (source .source))) (sym columns-are) no-marks (source .agrees);
+      condition-is = subst₂ (λ C m. AgreesCondition (u .condition) (resolvedWhere (position C) m wanted)) (sym columns-are) no-marks (source .agrees);
     }
 
     delete-source : FromUpdate ts u
@@ -444,33 +448,35 @@ module _ (ts : List Schema) (u : Update) where
         few-parameters = subst (λ k. k ≤ most-marks) (sym (A .parameters-are)) (ltb-false most-marks (markCount (givens s)) (L .marks-few));
       })
 
-  delete-update : (t : Name) (w : Where (G.Term Name)) → Passes ts (G.delete t w) → AgreesUpdate u (changed (statementOf ts (G.delete t w))) → soundUpdate ts u ≡ true
+  delete-update : (t : Name) (v : Optional (Test Name)) → Passes ts (G.delete t v) → AgreesUpdate u (changed (statementOf ts (G.delete t v))) → soundUpdate ts u ≡ true
   unfolding statementOf unknown
-  delete-update t w P A =
-      let s : Sentence = G.delete t w in
+  delete-update t v P A =
+      let s : Sentence = G.delete t v in
+      let w : Where (G.Term Name) = mappedIn comparison v in
       let L : Limits s = limits-of s (P .within) in
       let columns : List Name = columnsOf ts t in
       let n : columnsAt ts (u .table) ≡ length columns = ap (columnsAt ts) (A .table-is) in
       let given : settingOperands u ≡ [] = ap (λ ss. map value (map (λ (s : ℕ × M.Value). s .1) ss)) (A .settings-are) in
       let marks : parameterCount (settingOperands u) ≡ 0 = ap parameterCount given in
-      let tested : conditionMarks (u .condition) ≡ markCount (termGivens (operandsIn w)) = source-marks (position columns) 0 w (u .condition) (A .condition-is) in
+      let tested : conditionMarks (u .condition) ≡ markCount (termGivens (operandsIn w)) = source-marks (position columns) 0 v (u .condition) (A .condition-is) in
       parts-update ts u (record {
         there = subst (λ i. i < length ts) (sym (A .table-is)) (place-below t [] (termColumns (operandsIn w)) (P .known));
         form-sound = ap (λ k. soundForm k (columnsAt ts (u .table)) u) (A .form-is) ∙ eq-eqb (u .count) 0 (A .count-is);
         values-numbered = ap (numberedOn 0) given;
         condition-sound = ap₂ (λ k m. soundCondition k m (u .condition)) n marks
-            ∙ source-condition (position columns) 0 w (u .condition) (A .condition-is)
+            ∙ source-condition (position columns) 0 v (u .condition) (A .condition-is)
             (length columns) (λ (n : Name). not (has columns n)) (name-inside columns) (second-known t [] (termColumns (operandsIn w)) (P .known))
             (ltb-false most-comparisons (length (comparisonsIn w)) (L .comparisons-few));
         parameters-are = A .parameters-are ∙ sym tested ∙ omega arith;
         few-parameters = subst (λ k. k ≤ most-marks) (sym (A .parameters-are)) (ltb-false most-marks (markCount (givens s)) (L .marks-few));
       })
 
-  update-update : (t : Name) (ss : Listed (Name × Given)) (w : Where (G.Term Name)) → Passes ts (G.update t ss w)
-      → AgreesUpdate u (changed (statementOf ts (G.update t ss w))) → soundUpdate ts u ≡ true
+  update-update : (t : Name) (ss : Listed (Name × Given)) (v : Optional (Test Name)) → Passes ts (G.update t ss v)
+      → AgreesUpdate u (changed (statementOf ts (G.update t ss v))) → soundUpdate ts u ≡ true
   unfolding statementOf unknown taken
-  update-update t ss w P A =
-      let s : Sentence = G.update t ss w in
+  update-update t ss v P A =
+      let s : Sentence = G.update t ss v in
+      let w : Where (G.Term Name) = mappedIn comparison v in
       let L : Limits s = limits-of s (P .within) in
       let columns : List Name = columnsOf ts t in
       let names : List Name = map (λ (s : Name × Given). s .0) (items ss) in
@@ -483,7 +489,7 @@ module _ (ts : List Schema) (u : Update) where
       let places : settingColumns u ≡ map (position columns) names = ap (map (λ (s : ℕ × M.Value). s .0)) (A .settings-are) ∙ settings-columns columns 0 (items ss) in
       let given : settingValues u ≡ numberedAll 0 gs = ap (map (λ (s : ℕ × M.Value). s .1)) (A .settings-are) ∙ settings-values columns 0 (items ss) in
       let marks : parameterCount (settingOperands u) ≡ markCount gs = ap (λ os. parameterCount (map value os)) given ∙ numbered-marks 0 gs in
-      let tested : conditionMarks (u .condition) ≡ markCount (termGivens (operandsIn w)) = source-marks (position columns) (markCount gs) w (u .condition) (A .condition-is) in
+      let tested : conditionMarks (u .condition) ≡ markCount (termGivens (operandsIn w)) = source-marks (position columns) (markCount gs) v (u .condition) (A .condition-is) in
       parts-update ts u (record {
         there = subst (λ i. i < length ts) (sym (A .table-is)) (place-below t names (termColumns (operandsIn w)) (P .known));
         form-sound =
@@ -495,7 +501,7 @@ module _ (ts : List Schema) (u : Update) where
             (ap not (ap (repeats eqb) places ∙ places-different columns names known (P .fresh)))));
         values-numbered = ap (λ os. numberedOn 0 (map value os)) given ∙ values-numbered 0 gs;
         condition-sound = ap₂ (λ k m. soundCondition k m (u .condition)) n marks
-            ∙ source-condition (position columns) (markCount gs) w (u .condition) (A .condition-is)
+            ∙ source-condition (position columns) (markCount gs) v (u .condition) (A .condition-is)
             (length columns) (λ (n : Name). not (has columns n)) (name-inside columns) (second-known t names (termColumns (operandsIn w)) (P .known))
             (ltb-false most-comparisons (length (comparisonsIn w)) (L .comparisons-few));
         parameters-are = A .parameters-are ∙ marks-append gs (termGivens (operandsIn w)) ∙ ap₂ _+_ (sym marks) (sym tested);

@@ -12,16 +12,16 @@ use Rattle.lists.proofs.Bools.{and-left, and-right, and-both}
 use Rattle.meaning.specs.Condition as C
 use Rattle.meaning.specs.Condition.{Where, always, under, sides, comparisonsIn}
 use Rattle.meaning.specs.Postfix.{Node, leaf, allOf, anyOf, nodesIn, leaves}
-use Rattle.meaning.specs.Resolve.{operandConstants}
+use Rattle.meaning.specs.Resolve.{operandConstants, isTest, areTests}
 use Rattle.meaning.specs.Limits.{isWithin32}
 use Rattle.meaning.specs.Statement as M
 use Rattle.meaning.proofs.Postfix.{nodes-count}
+use Rattle.statement.specs.Operators.{predicateNumber}
 use Rattle.statement.specs.Sound.{operandRead, comparisonRead, nodesRead, OperandFits, ComparisonFits}
 use Rattle.statement.specs.Compiled.{leftSide, rightSide, stepOf}
-use Rattle.token.specs.Tokens.{operatorNumber}
 use Rattle.statement.specs.declared.Operand.{Operand}
 use Rattle.statement.specs.declared.Comparison.{Comparison}
-use Rattle.statement.proofs.OperatorLaws.{operator-few, operator-number}
+use Rattle.statement.proofs.OperatorLaws.{predicate-few, predicate-number}
 use Rattle.statement.proofs.ByKind.{by-kind}
 
 -- ---- tests of all members, from what each has
@@ -33,6 +33,12 @@ all-of p (cons {x = x} {xs = l} e h) = and-both (p x) (all p l) e (all-of p h)
 pub all-map : {A B : Type 0} (f : A → B) (p : B → Bool) (l : List A) → all p (map f l) ≡ all (λ (x : A). p (f x)) l
 all-map f p [] = refl
 all-map f p (x ∷ l) = ap (λ b. p (f x) && b) (all-map f p l)
+
+pub all-both : {A : Type 0} (p q : A → Bool) (l : List A) → all p l ≡ true → all q l ≡ true → all (λ (x : A). p x && q x) l ≡ true
+all-both p q [] h k = refl
+all-both p q (x ∷ l) h k =
+    and-both (p x && q x) _ (and-both (p x) (q x) (and-left (p x) (all p l) h) (and-left (q x) (all q l) k))
+    (all-both p q l (and-right (p x) (all p l) h) (and-right (q x) (all q l) k))
 
 pub map-twice : {A B D : Type 0} (f : A → B) (g : B → D) (l : List A) → map g (map f l) ≡ map (λ (x : A). g (f x)) l
 map-twice f g [] = refl
@@ -46,9 +52,9 @@ steps-below (leaf c ∷ ns) = steps-below ns
 steps-below (allOf ∷ ns) = steps-below ns
 steps-below (anyOf ∷ ns) = steps-below ns
 
-pub operators-below : (cs : List (C.Comparison M.Operand)) → all (λ (k : ℕ). ltb k 6) (map (λ (c : C.Comparison M.Operand). operatorNumber (c .op)) cs) ≡ true
+pub operators-below : (cs : List (C.Comparison M.Operand)) → all (λ (k : ℕ). ltb k 8) (map (λ (c : C.Comparison M.Operand). predicateNumber (c .op)) cs) ≡ true
 operators-below [] = refl
-operators-below (c ∷ cs) = and-both (ltb (operatorNumber (c .op)) 6) _ (lt-ltb (operatorNumber (c .op)) 6 (operator-few (c .op))) (operators-below cs)
+operators-below (c ∷ cs) = and-both (ltb (predicateNumber (c .op)) 8) _ (lt-ltb (predicateNumber (c .op)) 8 (predicate-few (c .op))) (operators-below cs)
 
 -- ---- what is read
 
@@ -78,12 +84,21 @@ read-leaves (zero ∷ ss) (c ∷ cs) h = ap (λ r. comparisonRead c ∷ r) (read
 read-leaves (suc zero ∷ ss) cs h = read-leaves ss cs h
 read-leaves (suc (suc k) ∷ ss) cs h = read-leaves ss cs h
 
-pub read-operators : (cs : List Comparison) → all (λ (c : Comparison). ltb (c .op) 6) cs ≡ true
-    → map (λ (c : Comparison). c .op) cs ≡ map (λ (c : C.Comparison M.Operand). operatorNumber (c .op)) (map comparisonRead cs)
+pub read-operators : (cs : List Comparison) → all (λ (c : Comparison). ltb (c .op) 8) cs ≡ true
+    → map (λ (c : Comparison). c .op) cs ≡ map (λ (c : C.Comparison M.Operand). predicateNumber (c .op)) (map comparisonRead cs)
 read-operators [] h = refl
 read-operators (c ∷ cs) h =
-    let b : c .op < 6 = ltb-true (c .op) 6 (and-left (ltb (c .op) 6) (all (λ (c : Comparison). ltb (c .op) 6) cs) h) in
-    ap₂ (λ k r. k ∷ r) (sym (operator-number (c .op) b)) (read-operators cs (and-right (ltb (c .op) 6) (all (λ (c : Comparison). ltb (c .op) 6) cs) h))
+    let b : c .op < 8 = ltb-true (c .op) 8 (and-left (ltb (c .op) 8) (all (λ (c : Comparison). ltb (c .op) 8) cs) h) in
+    ap₂ (λ k r. k ∷ r) (sym (predicate-number (c .op) b)) (read-operators cs (and-right (ltb (c .op) 8) (all (λ (c : Comparison). ltb (c .op) 8) cs) h))
+
+-- null tests are of columns
+pub read-tests : (ss : List ℕ) (cs : List Comparison) → all (λ (c : Comparison). isTest (comparisonRead c)) cs ≡ true → areTests (nodesRead ss cs) ≡ true
+read-tests [] cs h = refl
+read-tests (zero ∷ ss) [] h = read-tests ss [] h
+read-tests (zero ∷ ss) (c ∷ cs) h =
+    and-both (isTest (comparisonRead c)) _ (and-left (isTest (comparisonRead c)) _ h) (read-tests ss cs (and-right (isTest (comparisonRead c)) _ h))
+read-tests (suc zero ∷ ss) cs h = read-tests ss cs h
+read-tests (suc (suc k) ∷ ss) cs h = read-tests ss cs h
 
 -- constants of comparisons that fit have 32 bits
 operand-constants : (o : Operand) (os : List M.Operand) → OperandFits o → All (λ z. isWithin32 z ≡ true) (operandConstants os)

@@ -19,7 +19,7 @@ use Rattle.meaning.specs.Resolve.{resolveNodes, markInOperand, isBelow}
 use Rattle.meaning.specs.Cells.{areasSize}
 use Rattle.meaning.specs.Plain.{lowestOf}
 use Rattle.token.specs.Tokens.{valueOf}
-use Rattle.statement.specs.Operators.{operatorAt}
+use Rattle.statement.specs.Operators.{predicateAt}
 use Rattle.statement.specs.Places.{tokenOn, nameOn, Column, columnOn, termOn, andCode, nodesOn}
 use Rattle.statement.specs.Sentences.{itemsOn, givensOn}
 use Rattle.statement.specs.Catalog.{nameOfStruct, scopeNames, otherNames}
@@ -144,10 +144,10 @@ abbrev pub markInSide : Operand → ℕ
 markInSide o = markInOperand (operandRead o)
 
 abbrev pub comparisonOn : (d : Bool) → List ℕ → ℕ → ℕ → ℕ → C.Comparison (Term (Column d))
-comparisonOn d s k a b = record { left = termOn d s a; op = operatorAt k; right = termOn d s b }
+comparisonOn d s k a b = record { left = termOn d s a; op = predicateAt k; right = termOn d s b }
 
 abbrev pub stepIn : ℕ → ℕ
-stepIn k = cond (ltb k 6) 0 (cond (eqb k andCode) 1 2)
+stepIn k = cond (ltb k 8) 0 (cond (eqb k andCode) 1 2)
 
 -- the steps of the nodes that are noted, in a text or another, with bare columns or dotted
 abbrev pub StepsAre : ℕ → List ℕ → List ℕ → Type 0

@@ -14,7 +14,7 @@ use Rattle.meaning.specs.Statement as S
 use Rattle.meaning.specs.Statement.{statementOf}
 use Rattle.meaning.specs.Pattern.{placedFrom}
 use Rattle.meaning.specs.Plain.{Plain, schemas, addConditions, lowestOf}
-use Rattle.token.specs.Tokens.{operatorNumber}
+use Rattle.statement.specs.Operators.{predicateNumber}
 use Rattle.statement.specs.Catalog.{catalog}
 use Rattle.statement.specs.declared.Name.{Name}
 use Rattle.statement.specs.declared.Table.{Table}
@@ -80,7 +80,7 @@ abbrev pub rightSide : Comparison → Operand
 rightSide c = record { code = c .right; number = c .«right_number» }
 
 abbrev pub comparisonStruct : C.Comparison S.Operand → Comparison
-comparisonStruct c = comparisonWith (operandStruct (c .left)) (operatorNumber (c .op)) (operandStruct (c .right))
+comparisonStruct c = comparisonWith (operandStruct (c .left)) (predicateNumber (c .op)) (operandStruct (c .right))
 
 abbrev pub noComparison : Comparison
 noComparison = comparisonWith (operandStruct (S.value (S.constant (pos 0)))) 0 (operandStruct (S.value (S.constant (pos 0))))

@@ -75,6 +75,43 @@ update-b-a :
 unfolding computing
 update-b-a = refl
 
+-- a null test (A.5) has its column on both sides; IS NULL is 6, and NOT makes it 7
+select-null :
+    compiled "SELECT b FROM t WHERE a IS NULL AND NOT b IS NULL"
+    ≡ asked (record {
+      table = 0;
+      selected = padded 8 0 (1 ∷ []);
+      count = 1;
+      parameters = 0;
+      second = 0;
+      start = 0;
+      condition = record {
+        comparisons = padded 8 noComparison (comparisonWith (column 0) 6 (column 0) ∷ comparisonWith (column 1) 7 (column 1) ∷ []);
+        steps = padded 15 0 (0 ∷ 0 ∷ 1 ∷ []);
+        count = 2;
+      };
+    })
+unfolding computing
+select-null = refl
+
+-- IS NOT NULL is 7, and NOT makes it 6
+delete-null :
+    compiled "DELETE FROM t WHERE a IS NOT NULL OR NOT b IS NOT NULL"
+    ≡ changing (record {
+      form = 2;
+      table = 0;
+      settings = padded 8 noSetting [];
+      count = 0;
+      parameters = 0;
+      condition = record {
+        comparisons = padded 8 noComparison (comparisonWith (column 0) 7 (column 0) ∷ comparisonWith (column 1) 6 (column 1) ∷ []);
+        steps = padded 15 0 (0 ∷ 0 ∷ 2 ∷ []);
+        count = 2;
+      };
+    })
+unfolding computing
+delete-null = refl
+
 -- RING is kept beside its size (A.4), where cells are left for it
 table-ring :
     compiledOf (bytes "TABLE r (c) RING 2") (t ∷ []) 1 0 0 8
@@ -82,10 +119,14 @@ table-ring :
 unfolding computing
 table-ring = refl
 
--- no sentence; past a limit; an unknown column; a taken name; too few values; no cells left
+-- no sentence; past a limit; an unknown column; a taken name; too few values; no cells left; a null test of a question mark, and of an unknown column
 refused-4 : compiled "SELECT FROM t" ≡ refusedBy 4
 unfolding computing
 refused-4 = refl
+
+refused-4-null : compiled "DELETE FROM t WHERE ? IS NULL" ≡ refusedBy 4
+unfolding computing
+refused-4-null = refl
 
 refused-5 : compiled "DELETE FROM a_name_too_long" ≡ refusedBy 5
 unfolding computing
@@ -94,6 +135,10 @@ refused-5 = refl
 refused-6 : compiled "DELETE FROM t WHERE c = 1" ≡ refusedBy 6
 unfolding computing
 refused-6 = refl
+
+refused-6-null : compiled "DELETE FROM t WHERE c IS NULL" ≡ refusedBy 6
+unfolding computing
+refused-6-null = refl
 
 refused-7 : compiled "TABLE t (a) ROWS 1" ≡ refusedBy 7
 unfolding computing
@@ -131,6 +176,25 @@ select-b-c :
     })
 unfolding computing
 select-b-c = refl
+
+-- a null test of a column of the second table
+select-b-null :
+    paired "SELECT t.b FROM t, u WHERE u.c IS NULL"
+    ≡ asked (record {
+      table = 0;
+      selected = padded 8 0 (1 ∷ []);
+      count = 1;
+      parameters = 0;
+      second = 2;
+      start = 2;
+      condition = record {
+        comparisons = padded 8 noComparison (comparisonWith (column 3) 6 (column 3) ∷ []);
+        steps = padded 15 0 (0 ∷ []);
+        count = 1;
+      };
+    })
+unfolding computing
+select-b-null = refl
 
 -- a column that t has not, which is none of u either; one table twice, with a column that is there and with one that is not
 refused-6-pair : paired "SELECT t.c FROM t, u" ≡ refusedBy 6

@@ -11,7 +11,7 @@ use Rattle.meaning.specs.Postfix.{Node, leaf, allOf, anyOf}
 use Rattle.meaning.specs.Tokens.{Name, Token, other, firstToken}
 use Rattle.meaning.specs.Grammar.{Given, constant, mark, Term, column, given, Dotted, nameOf, constantOf}
 use Rattle.token.specs.Tokens.{tokenAt}
-use Rattle.statement.specs.Operators.{operatorAt}
+use Rattle.statement.specs.Operators.{predicateAt}
 
 -- the token that starts at a place, or `other`
 abbrev pub first : Option (Token × List ℕ) → Token
@@ -63,9 +63,9 @@ andCode = 256
 abbrev pub orCode : ℕ
 orCode = 257
 
--- a node by its code and the places of its sides: a comparison by its operator's number, AND, or OR
+-- a node by its code and the places of its sides: a comparison by its operator's number, AND, or OR; a null test notes its column twice
 abbrev pub nodeOn : (d : Bool) → List ℕ → ℕ → ℕ → ℕ → Node (Term (Column d))
-nodeOn d s k a b = cond (ltb k 6) (leaf (record { left = termOn d s a; op = operatorAt k; right = termOn d s b })) (cond (eqb k andCode) allOf anyOf)
+nodeOn d s k a b = cond (ltb k 8) (leaf (record { left = termOn d s a; op = predicateAt k; right = termOn d s b })) (cond (eqb k andCode) allOf anyOf)
 
 -- the first n nodes that are noted, three numbers a node
 abbrev pub nodesOn : (d : Bool) → List ℕ → ℕ → List ℕ → List (Node (Term (Column d)))

@@ -1,19 +1,21 @@
 -- What a reader of conditions has found, as against what the grammar's reader finds: the contracts of the cycle. Assumes nothing: these are definitions.
 use mathlib.Core.Path.{_≡_}
+use mathlib.Core.Logic.{_≢_}
 use mathlib.Core.Bool.{Bool, true, false, _&&_, _||_, cond}
 use mathlib.Core.Option.{Option, none, some}
 use mathlib.Core.List.{List, [], _∷_, _++_}
 use Prim.Native.Nat.{ℕ, _+_, _-_, _*_, _≤_, _<_}
 use lib.Dec.{leb, ltb, eqb}
 use lib.ListN.{length, drop}
-use Rattle.meaning.specs.Condition.{Level, atom, conjunction, disjunction, Condition, compare, negate, group, alone, both, single, either, comparisons, sides}
+use Rattle.meaning.specs.Condition.{Level, atom, conjunction, disjunction, Tree, Condition, compare, negate, group, alone, both, single, either, mapped, comparisons, sides}
 use Rattle.meaning.specs.Postfix.{nodes}
 use Rattle.meaning.specs.Tokens as T
 use Rattle.meaning.specs.Tokens.{tokens, rparen}
-use Rattle.meaning.specs.Grammar.{Term, column, given, Dotted, Reader, expect, aName, aDotted, aTerm, aComparison, aCondition, nameOf}
+use Rattle.meaning.specs.Grammar.{Term, column, given, Test, comparison, Dotted, Reader, then, done, expect, aName, aDotted, aTerm, aNull, aComparison, aCondition, nameOf}
 use Rattle.meaning.specs.Limits.{most-name, most-depth, outside32, termGivens, markCount}
 use Rattle.token.specs.declared.Token.{Token}
 use Rattle.token.specs.Tokens.{tokenAt}
+use Rattle.statement.specs.Operators.{oppositeOf}
 use Rattle.statement.specs.Places.{tokenOn, Column, columnOn, termOn, nodeOn, nodesOn}
 use Rattle.statement.specs.declared.conditions.Cursor.{Cursor}
 use Rattle.statement.specs.declared.conditions.Side.{Side}
@@ -66,6 +68,15 @@ pub record PutsNode (xs : List ℕ) (c : Cursor) (node left right : ℕ) (ys : L
   pub counted : r ≡ withNode c
   pub noted : (b : Bool) (s : List ℕ) → c .nodes < 15 → nodesOn b s (c .nodes + 1) ys ≡ nodesOn b s (c .nodes) xs ++ (nodeOn b s node left right ∷ [])
 
+-- a side that ends at another place
+abbrev pub endedAt : ℕ → Side → Side
+endedAt next a = record { ok = a .ok; over = a .over; marks = a .marks; start = a .start; next = next }
+
+-- A.5: the null test `op` of the column a was put if the token t is NULL, whose kind is 32
+pub record PutsNull (xs : List ℕ) (c : Cursor) (positive : Bool) (depth : ℕ) (a : Side) (op : ℕ) (t : Token) (ys : List ℕ) (r : Cursor) : Type 0 where
+  pub fails : t .kind ≢ 32 → r .ok ≡ false
+  pub puts : t .kind ≡ 32 → PutsNode xs (withSides depth a (endedAt (t .next) a) c) (cond positive op (oppositeOf op)) (a .start) (a .start) ys r
+
 -- a place inside a text of at most 256 bytes, with no more counted than there are bytes before it
 pub record Stands (s : List ℕ) (c : Cursor) : Type 0 where
   pub short : length s ≤ 256
@@ -75,9 +86,12 @@ pub record Stands (s : List ℕ) (c : Cursor) : Type 0 where
 
 -- ---- what is read
 
--- an operand, and the reader of a column: dotted columns where b is true (A.1)
+-- an operand, a condition as it is written, and the reader of a column: dotted columns where b is true (A.1)
 abbrev pub Operand : Bool → Type 0
 Operand b = Term (Column b)
+
+abbrev pub Written : Bool → Level → Type 0
+Written b l = Tree (Test (Column b)) l
 
 abbrev pub aColumn : (b : Bool) → Reader (Column b)
 aColumn false = aName
@@ -142,22 +156,35 @@ ReadsSide b s first r = (at : ℕ) → first ≡ tokenAt s at → Sides s at r (
 -- ---- conditions
 
 -- a condition t was read from c on, up to r, before the tokens `more`: counted, and noted if there was room; each node takes a byte or more
-pub record Found (b : Bool) {l : Level} (s : List ℕ) (positive : Bool) (depth : ℕ) (c : Cursor) (xs : List ℕ) (r : Cursor) (ys : List ℕ) (t : Condition (Operand b) l) (more : List T.Token) : Type 0 where
+pub record Found (b : Bool) {l : Level} (s : List ℕ) (positive : Bool) (depth : ℕ) (c : Cursor) (xs : List ℕ) (r : Cursor) (ys : List ℕ) (t : Written b l) (more : List T.Token) : Type 0 where
   pub ok : r .ok ≡ true
   pub dotted : r .dotted ≡ b
   pub moved : c .at < r .at
   pub stands : Stands s r
   pub left : tokens (drop (r .at) s) ≡ more
-  pub over : r .over ≡ (c .over || conditionPast b depth t)
-  pub nodes-are : r .nodes ≡ c .nodes + length (nodes positive t)
-  pub marks-are : r .marks ≡ c .marks + marksIn t
-  pub noted : r .nodes ≤ 15 → nodesOn b s (r .nodes) ys ≡ nodesOn b s (c .nodes) xs ++ nodes positive t
+  pub over : r .over ≡ (c .over || conditionPast b depth (mapped comparison t))
+  pub nodes-are : r .nodes ≡ c .nodes + length (nodes positive (mapped comparison t))
+  pub marks-are : r .marks ≡ c .marks + marksIn (mapped comparison t)
+  pub noted : r .nodes ≤ 15 → nodesOn b s (r .nodes) ys ≡ nodesOn b s (c .nodes) xs ++ nodes positive (mapped comparison t)
   pub spread : r .nodes + c .at ≤ c .nodes + r .at
 
 -- r and ys are what the grammar's reader finds
-abbrev pub Meets : (b : Bool) {l : Level} → List ℕ → Bool → ℕ → Cursor → List ℕ → Cursor → List ℕ → Option (Condition (Operand b) l × List T.Token) → Type 0
+abbrev pub Meets : (b : Bool) {l : Level} → List ℕ → Bool → ℕ → Cursor → List ℕ → Cursor → List ℕ → Option (Written b l × List T.Token) → Type 0
 Meets b s positive depth c xs r ys none = r .ok ≡ false
 Meets b s positive depth c xs r ys (some x) = Found b s positive depth c xs r ys (x .0) (x .1)
+
+-- A.5: the column a was read from c on, and IS behind it, up to `at`
+pub record Reaches (s : List ℕ) (c : Cursor) (a : Side) (at : ℕ) : Type 0 where
+  pub on : c .at < at
+  pub within : at ≤ length s
+  pub begun : a .start ≤ at
+  pub unmarked : a .marks ≡ 0
+
+-- what follows IS makes a null test of that column
+abbrev pub TestsNull : List ℕ → Bool → ℕ → Cursor → List ℕ → Side → ℕ → Cursor → List ℕ → Type 0
+TestsNull s positive depth c xs a at r ys =
+    (b : Bool) → c .dotted ≡ b → (x : Column b) → IsOperand b s a (column x)
+    → Meets b s positive depth c xs r ys (then (aNull (aColumn b) x (tokens (drop at s))) (λ t. done (compare t)))
 
 abbrev pub Compares : List ℕ → Bool → ℕ → Cursor → List ℕ → Cursor → List ℕ → Type 0
 Compares s positive depth c xs r ys = (b : Bool) → c .dotted ≡ b → Meets b s positive depth c xs r ys (aComparison (aColumn b) (tokens (drop (c .at) s)))

@@ -10,11 +10,11 @@ use lib.IntN.{ℤ, pos}
 use lib.ListN.{length, drop, getD, set}
 use lib.Signed.{leZ, ltZ}
 use Rattle.lists.specs.Lists.{any}
-use Rattle.meaning.specs.Condition.{Where, always, under, operandsIn}
+use Rattle.meaning.specs.Condition.{Where, always, under, mappedIn, operandsIn}
 use Rattle.meaning.specs.Postfix.{nodesIn}
 use Rattle.meaning.specs.Tokens as T
 use Rattle.meaning.specs.Tokens.{Name, Token, tokens}
-use Rattle.meaning.specs.Grammar.{Given, Dotted, items, Sentence, table, select, pair, insert, update, delete, Reader, expect, constantOf, aToken, aName, aDotted, aGiven, aSetting, aList, aSizeWord, aWhere, aDelete, aSentence}
+use Rattle.meaning.specs.Grammar.{Given, comparison, Dotted, items, Sentence, table, select, pair, insert, update, delete, Reader, expect, constantOf, aToken, aName, aDotted, aGiven, aSetting, aList, aSizeWord, aWhere, aDelete, aSentence}
 use Rattle.meaning.specs.Limits.{most-name, most-rows, most-items, most-marks, most-comparisons, tableNamed, whereOf, termGivens, markCount, givens, outside32, pastLimit}
 use Rattle.token.specs.declared.Token.{Token as Read}
 use Rattle.token.specs.Tokens.{kindOf, tokenAt}
@@ -205,7 +205,7 @@ abbrev pub calls : List ℕ → ℕ
 calls s = 3 * length s + 3
 
 abbrev pub ReadsWhere : List ℕ → Cursor → List ℕ → Cursor → List ℕ → Type 0
-ReadsWhere s c xs r ys = (b : Bool) → c .dotted ≡ b → (n : ℕ) → calls s ≤ n → After s (aWhere (aColumn b) n) (Filters b s c xs r ys) c r
+ReadsWhere s c xs r ys = (b : Bool) → c .dotted ≡ b → (n : ℕ) → calls s ≤ n → After s (aWhere (aColumn b) n) (λ w. Filters b s c xs r ys (mappedIn comparison w)) c r
 
 -- ---- FROM
 
@@ -285,11 +285,11 @@ SecondAt s p (delete t w) = Unit {0}
 -- the first n nodes that are noted are those of its WHERE
 abbrev pub NodesAt : List ℕ → ℕ → List ℕ → Sentence → Type 0
 NodesAt s n ps (table t cs ring z) = Unit {0}
-NodesAt s n ps (select cs t w) = n ≤ 15 → nodesOn false s n ps ≡ nodesIn w
-NodesAt s n ps (pair cs t u w) = n ≤ 15 → nodesOn true s n ps ≡ nodesIn w
+NodesAt s n ps (select cs t w) = n ≤ 15 → nodesOn false s n ps ≡ nodesIn (mappedIn comparison w)
+NodesAt s n ps (pair cs t u w) = n ≤ 15 → nodesOn true s n ps ≡ nodesIn (mappedIn comparison w)
 NodesAt s n ps (insert t vs) = Unit {0}
-NodesAt s n ps (update t ss w) = n ≤ 15 → nodesOn false s n ps ≡ nodesIn w
-NodesAt s n ps (delete t w) = n ≤ 15 → nodesOn false s n ps ≡ nodesIn w
+NodesAt s n ps (update t ss w) = n ≤ 15 → nodesOn false s n ps ≡ nodesIn (mappedIn comparison w)
+NodesAt s n ps (delete t w) = n ≤ 15 → nodesOn false s n ps ≡ nodesIn (mappedIn comparison w)
 
 -- the sentence x was read: counted, and noted in the arrays ls and ps where there was room
 pub record Entered (s ls ps : List ℕ) (r : Entry) (x : Sentence) : Type 0 where

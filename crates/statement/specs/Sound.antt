@@ -11,21 +11,20 @@ use lib.IntN.{ℤ, pos}
 use lib.ListN.{length, getD, take}
 use Rattle.lists.specs.Lists.{All, all, repeats, from}
 use Rattle.lists.specs.Tests.{eqList}
-use Rattle.meaning.specs.Operator.{eq}
+use Rattle.meaning.specs.Operator.{by, eq}
 use Rattle.meaning.specs.Condition as C
 use Rattle.meaning.specs.Condition.{Where, sides, comparisonsIn}
 use Rattle.meaning.specs.Postfix.{Node, leaf, allOf, anyOf, nodesIn, leaves, isPostfix}
-use Rattle.meaning.specs.Resolve.{parameterCount, numberedOn, numberedFrom, columnsBelow}
+use Rattle.meaning.specs.Resolve.{parameterCount, numberedOn, numberedFrom, columnsBelow, isTest}
 use Rattle.meaning.specs.Tokens.{isName, tokens}
 use Rattle.meaning.specs.Grammar.{Sentence, spell}
 use Rattle.meaning.specs.Limits.{most-items, most-rows, most-marks, most-comparisons, most-name, isWithin32, pastLimit}
 use Rattle.meaning.specs.Names.{Schema, noSchema, sameName, has, tableNames, unknown, taken, miscounted, twice}
 use Rattle.meaning.specs.Statement as M
 use Rattle.meaning.specs.Statement.{column, value, constant, parameter, creates, asks, changes, statementOf}
-use Rattle.statement.specs.Operators.{operatorAt}
+use Rattle.statement.specs.Operators.{predicateAt, predicateNumber}
 use Rattle.statement.specs.Catalog.{nameOfStruct, schemaOf}
 use Rattle.statement.specs.Compiled.{leftSide, rightSide, newValue, stepOf, formOfChange, settingsOfChange, whereOfChange}
-use Rattle.token.specs.Tokens.{operatorNumber}
 use Rattle.statement.specs.declared.Name.{Name}
 use Rattle.statement.specs.declared.Table.{Table}
 use Rattle.statement.specs.declared.Operand.{Operand}
@@ -57,10 +56,10 @@ abbrev pub operandRead : Operand → M.Operand
 operandRead o = operandBy (o .code) (o .number)
 
 abbrev pub comparisonRead : Comparison → C.Comparison M.Operand
-comparisonRead c = record { left = operandRead (leftSide c); op = operatorAt (c .op); right = operandRead (rightSide c) }
+comparisonRead c = record { left = operandRead (leftSide c); op = predicateAt (c .op); right = operandRead (rightSide c) }
 
 abbrev pub noComparison : C.Comparison M.Operand
-noComparison = record { left = value (constant (pos 0)); op = eq; right = value (constant (pos 0)) }
+noComparison = record { left = value (constant (pos 0)); op = by eq; right = value (constant (pos 0)) }
 
 -- steps and the comparisons that they take: 0 the next comparison, 1 AND, 2 OR
 abbrev pub nodesRead : List ℕ → List Comparison → List (Node M.Operand)
@@ -123,7 +122,7 @@ pub record Passes (ts : List Schema) (s : Sentence) : Type 0 where
 pub record AgreesCondition (c : Condition) (w : Where M.Operand) : Type 0 where
   pub count-is : c .count ≡ length (comparisonsIn w)
   pub steps-are : usedSteps c ≡ map stepOf (nodesIn w)
-  pub operators-are : map (λ (k : Comparison). k .op) (usedComparisons c) ≡ map (λ (k : C.Comparison M.Operand). operatorNumber (k .op)) (leaves (nodesIn w))
+  pub operators-are : map (λ (k : Comparison). k .op) (usedComparisons c) ≡ map (λ (k : C.Comparison M.Operand). predicateNumber (k .op)) (leaves (nodesIn w))
   pub nodes-are : conditionNodes c ≡ nodesIn w
 
 pub record AgreesQuery (q : Query) (r : M.Query) : Type 0 where
@@ -195,12 +194,16 @@ abbrev pub soundTables : List Schema → List Table → Bool
 soundTables before [] = true
 soundTables before (t ∷ ts) = soundTable before t && soundTables (before ++ (schemaOf t ∷ [])) ts
 
+-- by one of the operators; a null test (A.5: "on columns") has one column on both sides
+abbrev pub soundPredicate : Comparison → Bool
+soundPredicate k = ltb (k .op) 8 && isTest (comparisonRead k)
+
 -- a condition over a table of so many columns, where m question marks stand before
 unfoldable pub soundCondition : ℕ → ℕ → Condition → Bool
 soundCondition columns m c =
     leb (c .count) most-comparisons
     && (all (λ (s : ℕ). ltb s 3) (usedSteps c)
-    && (all (λ (k : Comparison). ltb (k .op) 6) (usedComparisons c)
+    && (all soundPredicate (usedComparisons c)
     && (isPostfix (conditionNodes c)
     && (columnsBelow columns (conditionNodes c) && numberedFrom m (conditionNodes c)))))
 

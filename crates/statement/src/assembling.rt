@@ -91,7 +91,7 @@ fn mark_of(side: Operand) -> u8
 
 // A comparison, by its operator and the places of its sides.
 fn comparison_at(text: &[u8], op: u16, left: u16, right: u16, scope: Scope, marks: u8) -> Comparison
-    requires { ⌜ (op < 6) × (marks < 126) ⌝ }
+    requires { ⌜ (op < 8) × (marks < 126) ⌝ }
     ensures { λ r. ⌜ r ≡ comparisonStruct (comparisonOf (placeIn (scope .dotted) scope) marks (renamed (shortTerm (shortColumn (scope .dotted))) (comparisonOn (scope .dotted) (now (text .entry)) op left right))) ⌝ }
 {
     let a = fetching::operand_at(text, left as usize, scope, marks);

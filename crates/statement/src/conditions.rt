@@ -13,7 +13,7 @@ ghost use Rattle.meaning.specs.Condition.{atom, conjunction, disjunction};
 ghost use Rattle.meaning.specs.Limits.{most-text};
 ghost use Rattle.token.specs.Tokens.{tokenAt};
 ghost use Rattle.statement.specs.Operators.{oppositeOf};
-ghost use Rattle.statement.specs.Reading.{past, isOperand, isComparison, ReadsDotted, ReadsSide, withSides, PutsNode, Stands, Compares, Reads, Closes};
+ghost use Rattle.statement.specs.Reading.{past, isOperand, isComparison, ReadsDotted, ReadsSide, withSides, PutsNode, PutsNull, Stands, Reaches, TestsNull, Compares, Reads, Closes};
 
 // Where a reader stands in a text, and what it has counted: nodes of the condition, question marks. `over` says that a limit was passed by a name, a constant or
 // the depth; a reader that failed is not `ok`. Where `dotted`, which no reader changes, columns are dotted: a question over two tables (A.1).
@@ -129,6 +129,29 @@ fn put_comparison(
     d.at = b.next as u16;
     let node = either(positive, op as u16, operators::opposite(op) as u16);
     put(places, d, node, a.start as u16, b.start as u16)
+}
+
+// The null test `op` (A.5) of the column a, if the token t is NULL: a comparison of the column with itself.
+fn put_null(
+    places: &mut [u16; Cursor::PLACES],
+    c: Cursor,
+    positive: bool,
+    depth: u16,
+    a: Side,
+    op: u8,
+    t: Token,
+) -> Cursor
+    requires { ⌜ (c .nodes < most-text) × (c .marks ≤ most-text) × (a .marks ≤ 1) × (a .start ≤ most-text) × (t .next ≤ most-text) ⌝ }
+    ensures { λ r. ⌜ PutsNull (now (places .entry)) c positive depth a op t (now (places .exit)) r ⌝ }
+{
+    if t.kind != Token::NULL {
+        let mut d = c;
+        d.ok = false;
+        return d;
+    }
+    let mut b = a;
+    b.next = t.next;
+    put_comparison(places, c, positive, depth, a, op, b)
 }
 
 // ---- operands
@@ -275,6 +298,27 @@ fn read_one(
     read_comparison(text, places, c, positive, depth, t)
 }
 
+// IS NULL or IS NOT NULL (A.5) behind the column a, where the text goes on at `at` behind IS.
+fn read_null(
+    text: &[u8],
+    places: &mut [u16; Cursor::PLACES],
+    c: Cursor,
+    positive: bool,
+    depth: u16,
+    a: Side,
+    at: usize,
+) -> Cursor
+    requires { ⌜ (Stands (now text) c) × (Reaches (now text) c a at) ⌝ }
+    ensures { λ r. ⌜ TestsNull (now (text .entry)) positive depth c (now (places .entry)) a at r (now (places .exit)) ⌝ }
+{
+    let t = token::next(text, at);
+    if t.kind == Token::NOT {
+        let u = token::next(text, t.next);
+        return put_null(places, c, positive, depth, a, Comparison::IS_NOT_NULL, u);
+    }
+    put_null(places, c, positive, depth, a, Comparison::IS_NULL, t)
+}
+
 // A comparison, whose first token is read.
 fn read_comparison(
     text: &[u8],
@@ -294,6 +338,9 @@ fn read_comparison(
         return d;
     }
     let t = token::next(text, a.next);
+    if (t.kind == Token::IS) & (first.kind == Token::NAME) {
+        return read_null(text, places, c, positive, depth, a, t.next);
+    }
     if !is_comparison(t.kind) {
         return d;
     }

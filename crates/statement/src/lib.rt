@@ -51,7 +51,12 @@ pub struct Operand {
     pub number: i32,
 }
 
-// Two operands, by their codes and numbers, and the number of the operator between them.
+impl Operand {
+    // The null (A.5).
+    pub const NULL: i32 = -2147483648;
+}
+
+// Two operands, by their codes and numbers, and the number of the operator between them. A null test (A.5) has its column on both sides.
 #[repr(C)]
 pub struct Comparison {
     pub op: u8,
@@ -62,7 +67,7 @@ pub struct Comparison {
 }
 
 impl Comparison {
-    // The operators: = <> < <= > >=
+    // The operators: = <> < <= > >= IS NULL, IS NOT NULL
     pub const EQ: u8 = 0;
 
     pub const NE: u8 = 1;
@@ -75,8 +80,12 @@ impl Comparison {
 
     pub const GE: u8 = 5;
 
+    pub const IS_NULL: u8 = 6;
+
+    pub const IS_NOT_NULL: u8 = 7;
+
     // How many they are.
-    pub const OPERATORS: u8 = 6;
+    pub const OPERATORS: u8 = 8;
 
     pub fn left_side(self) -> Operand
         ensures { λ r. ⌜ r ≡ leftSide self ⌝ }
@@ -97,7 +106,7 @@ impl Comparison {
     }
 }
 
-// How two sides of a comparison stand: the left one is less, equal or greater. (Any other number is as greater.)
+// How two sides of a comparison stand: the left one is less, equal or greater, or one is null. (Any other number is as the last.)
 pub struct Order {}
 
 impl Order {
@@ -106,6 +115,8 @@ impl Order {
     pub const EQUAL: u8 = 1;
 
     pub const GREATER: u8 = 2;
+
+    pub const UNKNOWN: u8 = 3;
 }
 
 // What a step of a condition does: it takes the next comparison, or joins the two conditions before it.

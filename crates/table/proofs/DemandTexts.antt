@@ -3,8 +3,9 @@ use mathlib.Core.Path.{_≡_, refl, sym, subst}
 use mathlib.Core.Option.{some}
 use mathlib.Core.List.{List, map}
 use lib.ListN.{take}
+use Rattle.meaning.specs.Condition.{mappedIn}
 use Rattle.meaning.specs.Grammar as G
-use Rattle.meaning.specs.Grammar.{Sentence, items, sentence}
+use Rattle.meaning.specs.Grammar.{Sentence, comparison, items, sentence}
 use Rattle.meaning.specs.Names.{Schema, columnsOf, position, pairPlace}
 use Rattle.meaning.specs.Statement.{settingMarks, resolvedWhere, statementOf}
 use Rattle.statement.specs.declared.Statement.{Statement}
@@ -21,11 +22,11 @@ unfolding structOf statementOf
 positions-found text tables used queries updates cells h =
     record {
       selected = λ cs t w e. subst (λ (r : Statement). take (r .query .count) (r .query .selected) ≡ map (position (columnsOf ts t)) (items cs)) (sym (is _ e)) (query-agrees ts (G.select cs t w) _ refl .selected-are);
-      asked = λ cs t w e. subst (λ (r : Statement). AgreesCondition (r .query .condition) (resolvedWhere (position (columnsOf ts t)) 0 w)) (sym (is _ e)) (query-agrees ts (G.select cs t w) _ refl .condition-is);
+      asked = λ cs t w e. subst (λ (r : Statement). AgreesCondition (r .query .condition) (resolvedWhere (position (columnsOf ts t)) 0 (mappedIn comparison w))) (sym (is _ e)) (query-agrees ts (G.select cs t w) _ refl .condition-is);
       pair-selected = λ cs t u w e. subst (λ (r : Statement). take (r .query .count) (r .query .selected) ≡ map (pairPlace t (columnsOf ts t) u (columnsOf ts u)) (items cs)) (sym (is _ e)) (query-agrees ts (G.pair cs t u w) _ refl .selected-are);
-      pair-asked = λ cs t u w e. subst (λ (r : Statement). AgreesCondition (r .query .condition) (resolvedWhere (pairPlace t (columnsOf ts t) u (columnsOf ts u)) 0 w)) (sym (is _ e)) (query-agrees ts (G.pair cs t u w) _ refl .condition-is);
-      updated = λ t ss w e. subst (λ (r : Statement). AgreesCondition (r .update .condition) (resolvedWhere (position (columnsOf ts t)) (settingMarks (items ss)) w)) (sym (is _ e)) (update-agrees ts (G.update t ss w) _ refl .condition-is);
-      deleted = λ t w e. subst (λ (r : Statement). AgreesCondition (r .update .condition) (resolvedWhere (position (columnsOf ts t)) 0 w)) (sym (is _ e)) (update-agrees ts (G.delete t w) _ refl .condition-is);
+      pair-asked = λ cs t u w e. subst (λ (r : Statement). AgreesCondition (r .query .condition) (resolvedWhere (pairPlace t (columnsOf ts t) u (columnsOf ts u)) 0 (mappedIn comparison w))) (sym (is _ e)) (query-agrees ts (G.pair cs t u w) _ refl .condition-is);
+      updated = λ t ss w e. subst (λ (r : Statement). AgreesCondition (r .update .condition) (resolvedWhere (position (columnsOf ts t)) (settingMarks (items ss)) (mappedIn comparison w))) (sym (is _ e)) (update-agrees ts (G.update t ss w) _ refl .condition-is);
+      deleted = λ t w e. subst (λ (r : Statement). AgreesCondition (r .update .condition) (resolvedWhere (position (columnsOf ts t)) 0 (mappedIn comparison w))) (sym (is _ e)) (update-agrees ts (G.delete t w) _ refl .condition-is);
     }
   where
     ts : List Schema

@@ -158,30 +158,30 @@ out-of : (t : Bool) → met ≤ cond t met unmet
 out-of true = omega arith
 out-of false = omega arith
 
-module _ (ord : ℕ → ℕ) (three : (i : ℕ) → ord i ≤ 2) where
+module _ (ord : ℕ → ℕ) (four : (i : ℕ) → ord i ≤ 3) where
   abbrev leads : List ℕ → ℕ → ℕ
-  leads t i = getD t (3 * i + ord i) 0
+  leads t i = getD t (4 * i + ord i) 0
 
-  module _ (a b from : ℕ) (t r : List ℕ) (len : length t ≡ 24) (R : Redirects a b from t r) where
-    turned-at : (i : ℕ) → i < met → leads r i ≡ cond (leb (3 * a) (3 * i + ord i) && (ltb (3 * i + ord i) (3 * b) && eqb (leads t i) from)) b (leads t i)
-    turned-at i h = R .1 (3 * i + ord i) (omega (arith, three i, len))
+  module _ (a b from : ℕ) (t r : List ℕ) (len : length t ≡ 32) (R : Redirects a b from t r) where
+    turned-at : (i : ℕ) → i < met → leads r i ≡ cond (leb (4 * a) (4 * i + ord i) && (ltb (4 * i + ord i) (4 * b) && eqb (leads t i) from)) b (leads t i)
+    turned-at i h = R .1 (4 * i + ord i) (omega (arith, four i, len))
 
     turned-in : (i : ℕ) → i < met → a ≤ i → i < b → leads r i ≡ cond (eqb (leads t i) from) b (leads t i)
     turned-in i h l m =
         turned-at i h
-        ∙ ap₂ (λ (p q : Bool). cond (p && (q && eqb (leads t i) from)) b (leads t i)) (le-leb (3 * a) (3 * i + ord i) (omega arith)) (lt-ltb (3 * i + ord i) (3 * b) (omega (arith, three i)))
+        ∙ ap₂ (λ (p q : Bool). cond (p && (q && eqb (leads t i) from)) b (leads t i)) (le-leb (4 * a) (4 * i + ord i) (omega arith)) (lt-ltb (4 * i + ord i) (4 * b) (omega (arith, four i)))
 
     turned-before : (i : ℕ) → i < met → i < a → leads r i ≡ leads t i
-    turned-before i h l = turned-at i h ∙ ap (λ (p : Bool). cond (p && (ltb (3 * i + ord i) (3 * b) && eqb (leads t i) from)) b (leads t i)) (lt-leb (3 * a) (3 * i + ord i) (omega (arith, three i)))
+    turned-before i h l = turned-at i h ∙ ap (λ (p : Bool). cond (p && (ltb (4 * i + ord i) (4 * b) && eqb (leads t i) from)) b (leads t i)) (lt-leb (4 * a) (4 * i + ord i) (omega (arith, four i)))
 
     turned-behind : (i : ℕ) → i < met → b ≤ i → leads r i ≡ leads t i
-    turned-behind i h l = turned-at i h ∙ behind (leb (3 * a) (3 * i + ord i)) (ltb (3 * i + ord i) (3 * b)) (le-ltb (3 * i + ord i) (3 * b) (omega arith))
+    turned-behind i h l = turned-at i h ∙ behind (leb (4 * a) (4 * i + ord i)) (ltb (4 * i + ord i) (4 * b)) (le-ltb (4 * i + ord i) (4 * b) (omega arith))
       where
         behind : (p q : Bool) → q ≡ false → cond (p && (q && eqb (leads t i) from)) b (leads t i) ≡ leads t i
         behind true q e = ap (λ (s : Bool). cond (s && eqb (leads t i) from) b (leads t i)) e
         behind false q e = refl
 
-  parts-join : (step e a b : ℕ) (ps : List ℕ) (va vb : Bool) (vs : List Bool) (t r : List ℕ) → length t ≡ 24 → e ≤ met → Chain e (b ∷ a ∷ ps)
+  parts-join : (step e a b : ℕ) (ps : List ℕ) (va vb : Bool) (vs : List Bool) (t r : List ℕ) → length t ≡ 32 → e ≤ met → Chain e (b ∷ a ∷ ps)
       → Redirects a b (exitOf step) t r → Parts (leads t) e (b ∷ a ∷ ps) (vb ∷ va ∷ vs) → Parts (leads r) e (a ∷ ps) (joinOf step va vb ∷ vs)
   parts-join step e a b ps va vb vs t r len em C R (some right (some left p)) =
       let be : b ≤ e = C .0 in
@@ -199,20 +199,20 @@ usedSteps steps n = take (2 * n - 1) steps
 -- for each order of the comparisons' sides: the parts on the stack, and the steps left give what all steps give
 record Standing (steps : List ℕ) (n : ℕ) (ord : ℕ → ℕ) (h : ℕ → Bool) (starts targets : List ℕ) (depth next i : ℕ) : Type 0 where
   stack : List Bool
-  parts : Parts (λ (k : ℕ). getD targets (3 * k + ord k) 0) (entryOf n next) (entries starts depth) stack
+  parts : Parts (λ (k : ℕ). getD targets (4 * k + ord k) 0) (entryOf n next) (entries starts depth) stack
   runs : length steps ≡ 15 → runAt (heldOf n h) next (drop i (usedSteps steps n)) stack ≡ runAt (heldOf n h) 0 (usedSteps steps n) []
 
 pub record Linking (steps : List ℕ) (n : ℕ) (t starts targets : List ℕ) (depth next i : ℕ) : Type 0 where
-  pub targets-24 : length targets ≡ 24
+  pub targets-32 : length targets ≡ 32
   pub starts-15 : length starts ≡ 15
   pub starts-in : Starts starts
   pub few : depth ≤ i
   pub read : next ≤ i
   pub within : i ≤ 15
   pub forward : Forward targets
-  pub fresh : (j : ℕ) → 3 * next ≤ j → j < 3 * n → getD targets j 0 ≡ getD t j 0
+  pub fresh : (j : ℕ) → 4 * next ≤ j → j < 4 * n → getD targets j 0 ≡ getD t j 0
   chain : Chain (entryOf n next) (entries starts depth)
-  standing : (ord : ℕ → ℕ) (h : ℕ → Bool) → ((k : ℕ) → ord k ≤ 2) → ((k : ℕ) → k < n → getD t (3 * k + ord k) 0 ≡ exit (h k)) → Standing steps n ord h starts targets depth next i
+  standing : (ord : ℕ → ℕ) (h : ℕ → Bool) → ((k : ℕ) → ord k ≤ 3) → ((k : ℕ) → k < n → getD t (4 * k + ord k) 0 ≡ exit (h k)) → Standing steps n ord h starts targets depth next i
 
 entry-in : (n next : ℕ) → n ≤ 8 → entryOf n next ≤ met
 entry-in n next h = go (ltb next n) refl
@@ -279,13 +279,13 @@ module _ (steps : List ℕ) (n : ℕ) (t : List ℕ) (n8 : n ≤ 8) where
   pub link-start : (starts : List ℕ) → length starts ≡ 15 → Starts starts → Unlinked t → Linking steps n t starts t 0 0 0
   link-start starts l s U =
       record {
-        targets-24 = U .0;
+        targets-32 = U .0;
         starts-15 = l;
         starts-in = s;
         few = omega arith;
         read = omega arith;
         within = omega arith;
-        forward = λ i k h m. omega (arith, U .1 (3 * i + k) (omega arith));
+        forward = λ i k h m. omega (arith, U .1 (4 * i + k) (omega arith));
         fresh = λ j _ _. refl;
         chain = 0;
         standing = λ ord h _ _. record { stack = []; parts = none; runs = λ _. refl };
@@ -304,7 +304,7 @@ module _ (steps : List ℕ) (n : ℕ) (t : List ℕ) (n8 : n ≤ 8) where
         → Linking steps n t starts′ targets (suc depth) (next + 1) (i + 1)
     link-pushed lt starts′ z es = subst (λ (l : List ℕ). Linking steps n t l targets (suc depth) (next + 1) (i + 1)) (sym es)
         (record {
-          targets-24 = L .targets-24;
+          targets-32 = L .targets-32;
           starts-15 = simp length-set (L .starts-15);
           starts-in = starts-below;
           few = omega (arith, L .few);
@@ -337,15 +337,15 @@ module _ (steps : List ℕ) (n : ℕ) (t : List ℕ) (n8 : n ≤ 8) where
         chained : Chain (entryOf n (next + 1)) (entries (set starts depth x) (suc depth))
         chained = subst (λ (l : List ℕ). Chain (entryOf n (next + 1)) l) (sym now) (entry-next n next n8, L .chain)
 
-        stood : (ord : ℕ → ℕ) (h : ℕ → Bool) → ((k : ℕ) → ord k ≤ 2) → ((k : ℕ) → k < n → getD t (3 * k + ord k) 0 ≡ exit (h k))
+        stood : (ord : ℕ → ℕ) (h : ℕ → Bool) → ((k : ℕ) → ord k ≤ 3) → ((k : ℕ) → k < n → getD t (4 * k + ord k) 0 ≡ exit (h k))
             → Standing steps n ord h (set starts depth x) targets (suc depth) (next + 1) (i + 1)
-        stood ord h three each =
-            let S : Standing steps n ord h starts targets depth next i = L .standing ord h three each in
-            let f : ℕ → ℕ = λ (k : ℕ). getD targets (3 * k + ord k) 0 in
+        stood ord h four each =
+            let S : Standing steps n ord h starts targets depth next i = L .standing ord h four each in
+            let f : ℕ → ℕ = λ (k : ℕ). getD targets (4 * k + ord k) 0 in
             record {
               stack = heldOf n h next ∷ S .stack;
               parts = subst (λ (l : List ℕ). Parts f (entryOf n (next + 1)) l (heldOf n h next ∷ S .stack)) (sym now)
-                  (parts-pushed f h n next n8 (λ l. L .fresh (3 * next + ord next) (omega arith) (omega (arith, three next)) ∙ each next l) (S .parts));
+                  (parts-pushed f h n next n8 (λ l. L .fresh (4 * next + ord next) (omega arith) (omega (arith, four next)) ∙ each next l) (S .parts));
               runs = λ l.
                   let s : next + 1 ≡ suc next = omega arith in
                   ap (λ (m : ℕ). runAt (heldOf n h) m (drop (i + 1) (usedSteps steps n)) (heldOf n h next ∷ S .stack)) s
@@ -358,7 +358,7 @@ module _ (steps : List ℕ) (n : ℕ) (t : List ℕ) (n8 : n ≤ 8) where
     link-emptied : i + 1 < 2 * n → getD steps i 0 ≢ 0 → depth < 2 → Linking steps n t starts targets 0 (next + 0) (i + 1)
     link-emptied lt z few =
         record {
-          targets-24 = L .targets-24;
+          targets-32 = L .targets-32;
           starts-15 = L .starts-15;
           starts-in = L .starts-in;
           few = omega arith;
@@ -367,8 +367,8 @@ module _ (steps : List ℕ) (n : ℕ) (t : List ℕ) (n8 : n ≤ 8) where
           forward = L .forward;
           fresh = λ j a b. L .fresh j (omega arith) b;
           chain = 0;
-          standing = λ ord h three each.
-              let S : Standing steps n ord h starts targets depth next i = L .standing ord h three each in
+          standing = λ ord h four each.
+              let S : Standing steps n ord h starts targets depth next i = L .standing ord h four each in
               record {
                 stack = [];
                 parts = none;
@@ -393,7 +393,7 @@ module _ (steps : List ℕ) (n : ℕ) (t : List ℕ) (n8 : n ≤ 8) where
         go zero e = absurd (omega arith)
         go (suc d) e = subst (λ (k : ℕ). Linking steps n t starts targets′ k (next + 0) (i + 1)) (sym e)
             (record {
-              targets-24 = R .0 ∙ L .targets-24;
+              targets-32 = R .0 ∙ L .targets-32;
               starts-15 = L .starts-15;
               starts-in = L .starts-in;
               few = omega (arith, L .few);
@@ -428,38 +428,38 @@ module _ (steps : List ℕ) (n : ℕ) (t : List ℕ) (n8 : n ≤ 8) where
             C = subst (λ (k : ℕ). Chain (entryOf n next) (entries starts k)) deep (L .chain)
 
             forward′ : Forward targets′
-            forward′ k m h few3 = subst (λ (x : ℕ). k < x) (sym (R′ .1 (3 * k + m) (omega (arith, L .targets-24))))
-                (pick (leb (3 * a) (3 * k + m)) (ltb (3 * k + m) (3 * b)) refl (eqb (getD targets (3 * k + m) 0) (exitOf step)))
+            forward′ k m h few4 = subst (λ (x : ℕ). k < x) (sym (R′ .1 (4 * k + m) (omega (arith, L .targets-32))))
+                (pick (leb (4 * a) (4 * k + m)) (ltb (4 * k + m) (4 * b)) refl (eqb (getD targets (4 * k + m) 0) (exitOf step)))
               where
-                old : k < getD targets (3 * k + m) 0
-                old = L .forward k m h few3
+                old : k < getD targets (4 * k + m) 0
+                old = L .forward k m h few4
 
-                pick : (x y : Bool) → ltb (3 * k + m) (3 * b) ≡ y → (w : Bool) → k < cond (x && (y && w)) b (getD targets (3 * k + m) 0)
+                pick : (x y : Bool) → ltb (4 * k + m) (4 * b) ≡ y → (w : Bool) → k < cond (x && (y && w)) b (getD targets (4 * k + m) 0)
                 pick false y f w = old
                 pick true false f w = old
                 pick true true f false = old
-                pick true true f true = let g : 3 * k + m < 3 * b = ltb-true (3 * k + m) (3 * b) f in omega arith
+                pick true true f true = let g : 4 * k + m < 4 * b = ltb-true (4 * k + m) (4 * b) f in omega arith
 
             -- behind the parts nothing changed
-            fresh′ : (j : ℕ) → 3 * (next + 0) ≤ j → j < 3 * n → getD targets′ j 0 ≡ getD t j 0
+            fresh′ : (j : ℕ) → 4 * (next + 0) ≤ j → j < 4 * n → getD targets′ j 0 ≡ getD t j 0
             fresh′ j h l =
                 let inside : next < n = omega arith in
                 let below : b ≤ next = subst (λ (k : ℕ). b ≤ k) (entry-inside n next inside) (C .0) in
-                R′ .1 j (omega (arith, L .targets-24)) ∙ behind (leb (3 * a) j) (ltb j (3 * b)) (le-ltb j (3 * b) (omega arith)) ∙ L .fresh j (omega arith) l
+                R′ .1 j (omega (arith, L .targets-32)) ∙ behind (leb (4 * a) j) (ltb j (4 * b)) (le-ltb j (4 * b) (omega arith)) ∙ L .fresh j (omega arith) l
               where
                 behind : (x y : Bool) → y ≡ false → cond (x && (y && eqb (getD targets j 0) (exitOf step))) b (getD targets j 0) ≡ getD targets j 0
                 behind true y f = ap (λ (w : Bool). cond (w && eqb (getD targets j 0) (exitOf step)) b (getD targets j 0)) f
                 behind false y f = refl
 
-            stood : (ord : ℕ → ℕ) (h : ℕ → Bool) → ((k : ℕ) → ord k ≤ 2) → ((k : ℕ) → k < n → getD t (3 * k + ord k) 0 ≡ exit (h k))
+            stood : (ord : ℕ → ℕ) (h : ℕ → Bool) → ((k : ℕ) → ord k ≤ 3) → ((k : ℕ) → k < n → getD t (4 * k + ord k) 0 ≡ exit (h k))
                 → Standing steps n ord h starts targets′ (suc d) (next + 0) (i + 1)
-            stood ord h three each = taken (S .stack) (subst (λ (k : ℕ). Parts f (entryOf n next) (entries starts k) (S .stack)) deep (S .parts)) (S .runs)
+            stood ord h four each = taken (S .stack) (subst (λ (k : ℕ). Parts f (entryOf n next) (entries starts k) (S .stack)) deep (S .parts)) (S .runs)
               where
                 S : Standing steps n ord h starts targets depth next i
-                S = L .standing ord h three each
+                S = L .standing ord h four each
 
                 f : ℕ → ℕ
-                f = λ (k : ℕ). getD targets (3 * k + ord k) 0
+                f = λ (k : ℕ). getD targets (4 * k + ord k) 0
 
                 taken : (st : List Bool) → Parts f (entryOf n next) (b ∷ a ∷ entries starts d) st
                     → (length steps ≡ 15 → runAt (heldOf n h) next (drop i (usedSteps steps n)) st ≡ runAt (heldOf n h) 0 (usedSteps steps n) [])
@@ -467,8 +467,8 @@ module _ (steps : List ℕ) (n : ℕ) (t : List ℕ) (n8 : n ≤ 8) where
                 taken _ (some {v = vb} rb (some {v = va} {vs = vs} ra p)) runs =
                     record {
                       stack = joinOf step va vb ∷ vs;
-                      parts = subst (λ (k : ℕ). Parts (λ (j : ℕ). getD targets′ (3 * j + ord j) 0) (entryOf n k) (entries starts (suc d)) (joinOf step va vb ∷ vs)) (sym s)
-                          (parts-join ord three step (entryOf n next) a b (entries starts d) va vb vs targets targets′ (L .targets-24) (entry-in n next n8) C R′ (some rb (some ra p)));
+                      parts = subst (λ (k : ℕ). Parts (λ (j : ℕ). getD targets′ (4 * j + ord j) 0) (entryOf n k) (entries starts (suc d)) (joinOf step va vb ∷ vs)) (sym s)
+                          (parts-join ord four step (entryOf n next) a b (entries starts d) va vb vs targets targets′ (L .targets-32) (entry-in n next n8) C R′ (some rb (some ra p)));
                       runs = λ l.
                           ap (λ (m : ℕ). runAt (heldOf n h) m (drop (i + 1) (usedSteps steps n)) (joinOf step va vb ∷ vs)) s
                           ∙ sym (run-join (heldOf n h) next step (drop (i + 1) (usedSteps steps n)) (vb ∷ va ∷ vs) z)
@@ -500,7 +500,7 @@ module _ (steps : List ℕ) (n : ℕ) (t : List ℕ) (n8 : n ≤ 8) where
     link-done lt l =
         record {
           forward = L .forward;
-          arrives-at = λ ord h three each. ended ord h (L .standing ord h three each);
+          arrives-at = λ ord h four each. ended ord h (L .standing ord h four each);
         }
       where
         over : drop i (usedSteps steps n) ≡ []
@@ -515,15 +515,15 @@ module _ (steps : List ℕ) (n : ℕ) (t : List ℕ) (n8 : n ≤ 8) where
             ap₂ (λ (b : Bool) (k : ℕ). arrives f met (cond b met (getD starts k 0))) z q ∙ ends-arrives f r met (omega arith)
 
         ended : (ord : ℕ → ℕ) (h : ℕ → Bool) → Standing steps n ord h starts targets depth next i
-            → arrives (λ (k : ℕ). getD targets (3 * k + ord k) 0) met (cond (eqb depth 0) met (getD starts (depth - 1) 0)) ≡ exit (top true (runAt (heldOf n h) 0 (usedSteps steps n) []))
+            → arrives (λ (k : ℕ). getD targets (4 * k + ord k) 0) met (cond (eqb depth 0) met (getD starts (depth - 1) 0)) ≡ exit (top true (runAt (heldOf n h) 0 (usedSteps steps n) []))
         ended ord h S =
-            top-ends (λ (k : ℕ). getD targets (3 * k + ord k) 0) depth (S .stack) (S .parts)
+            top-ends (λ (k : ℕ). getD targets (4 * k + ord k) 0) depth (S .stack) (S .parts)
             ∙ ap (λ (st : List Bool). exit (top true st)) (ap (λ (ss : List ℕ). runAt (heldOf n h) next ss (S .stack)) (sym over) ∙ S .runs l)
 
 -- ---- to begin with
 
-pub none-linked : (t : List ℕ) → t ≡ replicate 24 unmet → Unlinked t
-none-linked t e = subst Unlinked (sym e) (length-replicate 24 unmet, λ j h. subst (λ (k : ℕ). met ≤ k) (sym (getD-replicate 24 j unmet 0 h)) (omega arith))
+pub none-linked : (t : List ℕ) → t ≡ replicate 32 unmet → Unlinked t
+none-linked t e = subst Unlinked (sym e) (length-replicate 32 unmet, λ j h. subst (λ (k : ℕ). met ≤ k) (sym (getD-replicate 32 j unmet 0 h)) (omega arith))
 
 pub no-starts : (s : List ℕ) → s ≡ replicate 15 met → (length s ≡ 15) × Starts s
 no-starts s e = subst (λ (l : List ℕ). (length l ≡ 15) × Starts l) (sym e) (length-replicate 15 met, at)
@@ -542,22 +542,22 @@ no-starts s e = subst (λ (l : List ℕ). (length l ≡ 15) × Starts l) (sym e)
 
 -- the targets before j are redirected
 pub record Redirecting (a b from : ℕ) (t r : List ℕ) (j : ℕ) : Type 0 where
-  pub size : length r ≡ 24
-  pub size₀ : length t ≡ 24
-  pub from-a : 3 * a ≤ j
-  pub within : j ≤ 24
-  done : (k : ℕ) → k < j → k < 24 → getD r k 0 ≡ redirectedAt a b from k (getD t k 0)
+  pub size : length r ≡ 32
+  pub size₀ : length t ≡ 32
+  pub from-a : 4 * a ≤ j
+  pub within : j ≤ 32
+  done : (k : ℕ) → k < j → k < 32 → getD r k 0 ≡ redirectedAt a b from k (getD t k 0)
   left : (k : ℕ) → j ≤ k → getD r k 0 ≡ getD t k 0
 
-module _ (a b from : ℕ) (t : List ℕ) (len : length t ≡ 24) (a8 : a ≤ 8) (b8 : b ≤ 8) where
-  pub redirect-start : Redirecting a b from t t (3 * a)
+module _ (a b from : ℕ) (t : List ℕ) (len : length t ≡ 32) (a8 : a ≤ 8) (b8 : b ≤ 8) where
+  pub redirect-start : Redirecting a b from t t (4 * a)
   redirect-start = record { size = len; size₀ = len; from-a = omega arith; within = omega arith; done = before; left = λ k h. refl }
     where
-      before : (k : ℕ) → k < 3 * a → k < 24 → getD t k 0 ≡ redirectedAt a b from k (getD t k 0)
-      before k h m = sym (ap (λ (x : Bool). cond (x && (ltb k (3 * b) && eqb (getD t k 0) from)) b (getD t k 0)) (lt-leb (3 * a) k h))
+      before : (k : ℕ) → k < 4 * a → k < 32 → getD t k 0 ≡ redirectedAt a b from k (getD t k 0)
+      before k h m = sym (ap (λ (x : Bool). cond (x && (ltb k (4 * b) && eqb (getD t k 0) from)) b (getD t k 0)) (lt-leb (4 * a) k h))
 
   module _ (r : List ℕ) (j : ℕ) (R : Redirecting a b from t r j) where
-    pub redirect-more : j < 3 * b → (x : ℕ) → x ≡ cond (eqb (getD r j 0) from) b (getD r j 0) → Redirecting a b from t (set r j x) (j + 1)
+    pub redirect-more : j < 4 * b → (x : ℕ) → x ≡ cond (eqb (getD r j 0) from) b (getD r j 0) → Redirecting a b from t (set r j x) (j + 1)
     redirect-more h x e =
         record {
           size = simp length-set (R .size);
@@ -571,9 +571,9 @@ module _ (a b from : ℕ) (t : List ℕ) (len : length t ≡ 24) (a8 : a ≤ 8) 
         here : x ≡ redirectedAt a b from j (getD t j 0)
         here =
             e ∙ ap (λ (y : ℕ). cond (eqb y from) b y) (R .left j (omega arith))
-            ∙ sym (ap₂ (λ (p q : Bool). cond (p && (q && eqb (getD t j 0) from)) b (getD t j 0)) (le-leb (3 * a) j (R .from-a)) (lt-ltb j (3 * b) h))
+            ∙ sym (ap₂ (λ (p q : Bool). cond (p && (q && eqb (getD t j 0) from)) b (getD t j 0)) (le-leb (4 * a) j (R .from-a)) (lt-ltb j (4 * b) h))
 
-        go : (k : ℕ) → k < j + 1 → k < 24 → (y : Bool) → eqb k j ≡ y → getD (set r j x) k 0 ≡ redirectedAt a b from k (getD t k 0)
+        go : (k : ℕ) → k < j + 1 → k < 32 → (y : Bool) → eqb k j ≡ y → getD (set r j x) k 0 ≡ redirectedAt a b from k (getD t k 0)
         go k l m true f =
             let q : k ≡ j = eqb-true k j f in
             subst (λ (i : ℕ). getD (set r j x) i 0 ≡ redirectedAt a b from i (getD t i 0)) (sym q) (getD-set-same r j x 0 (omega (arith, R .size)) ∙ here)
@@ -581,16 +581,16 @@ module _ (a b from : ℕ) (t : List ℕ) (len : length t ≡ 24) (a8 : a ≤ 8) 
             let d : k ≡ j → ⊥ = eqb-false k j f in
             getD-set-other r j k x 0 d ∙ R .done k (omega arith) m
 
-    pub redirect-done : 3 * b ≤ j → Redirects a b from t r
+    pub redirect-done : 4 * b ≤ j → Redirects a b from t r
     redirect-done h = (R .size ∙ sym len, λ k l. go k (omega (arith, len)) (ltb k j) refl)
       where
-        behind : (k : ℕ) → 3 * b ≤ k → (p q : Bool) → ltb k (3 * b) ≡ q → getD t k 0 ≡ cond (p && (q && eqb (getD t k 0) from)) b (getD t k 0)
+        behind : (k : ℕ) → 4 * b ≤ k → (p q : Bool) → ltb k (4 * b) ≡ q → getD t k 0 ≡ cond (p && (q && eqb (getD t k 0) from)) b (getD t k 0)
         behind k m false q f = refl
         behind k m true false f = refl
-        behind k m true true f = let g : k < 3 * b = ltb-true k (3 * b) f in absurd (omega arith)
+        behind k m true true f = let g : k < 4 * b = ltb-true k (4 * b) f in absurd (omega arith)
 
-        go : (k : ℕ) → k < 24 → (y : Bool) → ltb k j ≡ y → getD r k 0 ≡ redirectedAt a b from k (getD t k 0)
+        go : (k : ℕ) → k < 32 → (y : Bool) → ltb k j ≡ y → getD r k 0 ≡ redirectedAt a b from k (getD t k 0)
         go k m true f = R .done k (ltb-true k j f) m
         go k m false f =
             let g : j ≤ k = ltb-false k j f in
-            R .left k g ∙ behind k (omega arith) (leb (3 * a) k) (ltb k (3 * b)) refl
+            R .left k g ∙ behind k (omega arith) (leb (4 * a) k) (ltb k (4 * b)) refl

@@ -1,7 +1,7 @@
 -- A condition prepared as numbers, one comparison after another. Assumes nothing.
 use Prim.Native.Nat.{ℕ, zero, suc, _+_, _*_, _≤_, _<_, min}
 use mathlib.Core.Path.{_≡_, refl, sym, ap, ap₂, _∙_, subst}
-use mathlib.Core.Bool.{Bool, true, false}
+use mathlib.Core.Bool.{Bool, true, false, cond}
 use mathlib.Core.List.{List}
 use native.Mathlib.Omega.{arith}
 use borrow.Author.Tests.{ltb-true, ltb-false, eqb-true, eqb-false}
@@ -11,19 +11,19 @@ use lib.ListN.{length, getD, set, length-set, List·getD-eq-default}
 use lib.Seq.{getD-set-same, getD-set-other}
 use Rattle.lists.proofs.Places.{getD-inside}
 use Rattle.meaning.specs.Condition as C
-use Rattle.meaning.specs.Operator.{Operator}
+use Rattle.meaning.specs.Operator.{Predicate}
 use Rattle.meaning.specs.Statement as M
 use Rattle.meaning.specs.Statement.{column, value}
 use Rattle.meaning.specs.Meaning.{Row, valueOf, operandValue}
-use Rattle.statement.specs.Operators.{operatorAt, orderOf, truthBy}
-use Rattle.statement.proofs.OperatorLaws.{order-small, by-order}
+use Rattle.statement.specs.Operators.{predicateAt, isNullTest, orderOf, truthBy}
+use Rattle.statement.proofs.OperatorLaws.{order-small, tested-order}
 use Rattle.statement.specs.Compiled.{leftSide, rightSide}
 use Rattle.statement.specs.Sound.{operandRead, comparisonRead}
 use Rattle.statement.specs.declared.Comparison.{Comparison}
 use Rattle.statement.specs.declared.Condition.{Condition}
 use Rattle.statement.specs.declared.Operand.{Operand}
-use Rattle.table.specs.Tests.{longest, met, unmet, placeIn, numberIn, placeOf, numberOf, sideAt, nextAt, Prepared}
-use Rattle.table.specs.Linking.{exit, targetsPut, Unlinked, Linked}
+use Rattle.table.specs.Tests.{longest, met, unmet, rightTested, placeIn, numberIn, placeOf, numberOf, sideAt, nextAt, Prepared}
+use Rattle.table.specs.Linking.{exit, targetBy, targetsPut, Unlinked, Linked}
 use Rattle.table.proofs.Linking.{exit-out}
 use Rattle.table.proofs.Tested.{Shaped, prepared-by}
 
@@ -35,7 +35,7 @@ side-in (value v) vs row h = List·getD-eq-default row (valueOf vs v) h
 side-is : (o : Operand) (vs : List ℤ) (row : Row) → length row ≤ longest → getD row (placeOf o) (numberOf vs o) ≡ operandValue row vs (operandRead o)
 side-is o vs row h = side-in (operandRead o) vs row h
 
--- ---- two and three entries set
+-- ---- two and four entries set
 
 module _ {A : Type 0} (l : List A) (i : ℕ) (x y : A) (d : A) where
   two-other : (j : ℕ) → j < 2 * i → getD (set (set l (2 * i) x) (2 * i + 1) y) j d ≡ getD l j d
@@ -47,39 +47,57 @@ module _ {A : Type 0} (l : List A) (i : ℕ) (x y : A) (d : A) where
   two-second : 2 * i + 1 < length l → getD (set (set l (2 * i) x) (2 * i + 1) y) (2 * i + 1) d ≡ y
   two-second h = getD-set-same (set l (2 * i) x) (2 * i + 1) y d (simp length-set h)
 
-module _ (l : List ℕ) (i : ℕ) (x y z : ℕ) where
+module _ (l : List ℕ) (i : ℕ) (x y z w : ℕ) where
+  abbrev one : List ℕ
+  one = set l (4 * i) x
+
+  abbrev two : List ℕ
+  two = set one (4 * i + 1) y
+
   abbrev three : List ℕ
-  three = set (set (set l (3 * i) x) (3 * i + 1) y) (3 * i + 2) z
+  three = set two (4 * i + 2) z
 
-  three-other : (j : ℕ) → j < 3 * i → getD three j 0 ≡ getD l j 0
-  three-other j h =
-      getD-set-other (set (set l (3 * i) x) (3 * i + 1) y) (3 * i + 2) j z 0 (λ e. omega arith)
-      ∙ getD-set-other (set l (3 * i) x) (3 * i + 1) j y 0 (λ e. omega arith)
-      ∙ getD-set-other l (3 * i) j x 0 (λ e. omega arith)
+  abbrev four : List ℕ
+  four = set three (4 * i + 3) w
 
-  module _ (h : 3 * i + 2 < length l) where
-    three-first : getD three (3 * i + 0) 0 ≡ x
-    three-first =
-        let s : 3 * i + 0 ≡ 3 * i = omega arith in
-        ap (λ (k : ℕ). getD three k 0) s
-        ∙ getD-set-other (set (set l (3 * i) x) (3 * i + 1) y) (3 * i + 2) (3 * i) z 0 (λ e. omega arith)
-        ∙ getD-set-other (set l (3 * i) x) (3 * i + 1) (3 * i) y 0 (λ e. omega arith)
-        ∙ getD-set-same l (3 * i) x 0 (omega arith)
+  four-other : (j : ℕ) → j < 4 * i → getD four j 0 ≡ getD l j 0
+  four-other j h =
+      getD-set-other three (4 * i + 3) j w 0 (λ e. omega arith)
+      ∙ getD-set-other two (4 * i + 2) j z 0 (λ e. omega arith)
+      ∙ getD-set-other one (4 * i + 1) j y 0 (λ e. omega arith)
+      ∙ getD-set-other l (4 * i) j x 0 (λ e. omega arith)
 
-    three-second : getD three (3 * i + 1) 0 ≡ y
-    three-second =
-        let r : 3 * i + 1 < length l = omega arith in
-        getD-set-other (set (set l (3 * i) x) (3 * i + 1) y) (3 * i + 2) (3 * i + 1) z 0 (λ e. omega arith)
-        ∙ getD-set-same (set l (3 * i) x) (3 * i + 1) y 0 (simp length-set r)
+  module _ (h : 4 * i + 3 < length l) where
+    four-first : getD four (4 * i + 0) 0 ≡ x
+    four-first =
+        let s : 4 * i + 0 ≡ 4 * i = omega arith in
+        ap (λ (k : ℕ). getD four k 0) s
+        ∙ getD-set-other three (4 * i + 3) (4 * i) w 0 (λ e. omega arith)
+        ∙ getD-set-other two (4 * i + 2) (4 * i) z 0 (λ e. omega arith)
+        ∙ getD-set-other one (4 * i + 1) (4 * i) y 0 (λ e. omega arith)
+        ∙ getD-set-same l (4 * i) x 0 (omega arith)
 
-    three-third : getD three (3 * i + 2) 0 ≡ z
-    three-third = getD-set-same (set (set l (3 * i) x) (3 * i + 1) y) (3 * i + 2) z 0 (simp length-set h)
+    four-second : getD four (4 * i + 1) 0 ≡ y
+    four-second =
+        let r : 4 * i + 1 < length l = omega arith in
+        getD-set-other three (4 * i + 3) (4 * i + 1) w 0 (λ e. omega arith)
+        ∙ getD-set-other two (4 * i + 2) (4 * i + 1) z 0 (λ e. omega arith)
+        ∙ getD-set-same one (4 * i + 1) y 0 (simp length-set r)
+
+    four-third : getD four (4 * i + 2) 0 ≡ z
+    four-third =
+        let r : 4 * i + 2 < length l = omega arith in
+        getD-set-other three (4 * i + 3) (4 * i + 2) w 0 (λ e. omega arith)
+        ∙ getD-set-same two (4 * i + 2) z 0 (simp length-set r)
+
+    four-fourth : getD four (4 * i + 3) 0 ≡ w
+    four-fourth = getD-set-same three (4 * i + 3) w 0 (simp length-set h)
 
 -- each target is an exit
 set-out : (l : List ℕ) (i x : ℕ) → met ≤ x → Unlinked l → Unlinked (set l i x)
 set-out l i x h U = (simp length-set (U .0), λ j under. go j under (eqb j i) refl)
   where
-    go : (j : ℕ) → j < 24 → (b : Bool) → eqb j i ≡ b → met ≤ getD (set l i x) j 0
+    go : (j : ℕ) → j < 32 → (b : Bool) → eqb j i ≡ b → met ≤ getD (set l i x) j 0
     go j under true e =
         let q : j ≡ i = eqb-true j i e in
         subst (λ (k : ℕ). met ≤ getD (set l i x) k 0) (sym q) (subst (λ (k : ℕ). met ≤ k) (sym (getD-set-same l i x 0 (omega (arith, U .0)))) h)
@@ -103,14 +121,15 @@ module _ (c : Condition) (vs : List ℤ) (targets places : List ℕ) (numbers : 
   module _ (i : ℕ) (F : Filled c vs targets places numbers n i) where
     fill-next : (d : Comparison) → i < n
         → Filled c vs (targetsPut targets i (getD (c .comparisons) i d .op))
-        (set (set places (2 * i) (placeOf (leftSide (getD (c .comparisons) i d)))) (2 * i + 1) (placeOf (rightSide (getD (c .comparisons) i d))))
-        (set (set numbers (2 * i) (numberOf vs (leftSide (getD (c .comparisons) i d)))) (2 * i + 1) (numberOf vs (rightSide (getD (c .comparisons) i d)))) n (i + 1)
+        (set (set places (2 * i) (placeOf (leftSide (getD (c .comparisons) i d)))) (2 * i + 1) (placeOf (rightTested (getD (c .comparisons) i d))))
+        (set (set numbers (2 * i) (numberOf vs (leftSide (getD (c .comparisons) i d)))) (2 * i + 1) (numberOf vs (rightTested (getD (c .comparisons) i d)))) n (i + 1)
     unfolding nextAt
     fill-next d h =
         record {
           shaped = F .shaped;
-          unlinked = set-out (set (set targets (3 * i) t₀) (3 * i + 1) t₁) (3 * i + 2) t₂ (exit-out (truthBy o 2))
-              (set-out (set targets (3 * i) t₀) (3 * i + 1) t₁ (exit-out (truthBy o 1)) (set-out targets (3 * i) t₀ (exit-out (truthBy o 0)) (F .unlinked)));
+          unlinked = set-out (set (set (set targets (4 * i) t₀) (4 * i + 1) t₁) (4 * i + 2) t₂) (4 * i + 3) t₃ (exit-out (truthBy o 3))
+              (set-out (set (set targets (4 * i) t₀) (4 * i + 1) t₁) (4 * i + 2) t₂ (exit-out (truthBy o 2))
+              (set-out (set targets (4 * i) t₀) (4 * i + 1) t₁ (exit-out (truthBy o 1)) (set-out targets (4 * i) t₀ (exit-out (truthBy o 0)) (F .unlinked))));
           places-16 = simp length-set (F .places-16);
           numbers-16 = simp length-set (F .numbers-16);
           done = λ k under d′ row short. go k under d′ row short (ltb k i) refl;
@@ -119,32 +138,35 @@ module _ (c : Condition) (vs : List ℤ) (targets places : List ℕ) (numbers : 
         cmp : Comparison
         cmp = getD (c .comparisons) i d
 
-        o : Operator
-        o = operatorAt (cmp .op)
+        o : Predicate
+        o = predicateAt (cmp .op)
 
         t₀ : ℕ
-        t₀ = exit (truthBy o 0)
+        t₀ = targetBy (cmp .op) 0
 
         t₁ : ℕ
-        t₁ = exit (truthBy o 1)
+        t₁ = targetBy (cmp .op) 1
 
         t₂ : ℕ
-        t₂ = exit (truthBy o 2)
+        t₂ = targetBy (cmp .op) 2
+
+        t₃ : ℕ
+        t₃ = targetBy (cmp .op) 3
 
         p : ℕ
         p = placeOf (leftSide cmp)
 
         q : ℕ
-        q = placeOf (rightSide cmp)
+        q = placeOf (rightTested cmp)
 
         x : ℤ
         x = numberOf vs (leftSide cmp)
 
         y : ℤ
-        y = numberOf vs (rightSide cmp)
+        y = numberOf vs (rightTested cmp)
 
         ts : List ℕ
-        ts = set (set (set targets (3 * i) t₀) (3 * i + 1) t₁) (3 * i + 2) t₂
+        ts = targetsPut targets i (cmp .op)
 
         ps : List ℕ
         ps = set (set places (2 * i) p) (2 * i + 1) q
@@ -162,15 +184,22 @@ module _ (c : Condition) (vs : List ℤ) (targets places : List ℕ) (numbers : 
             let a : sideAt ps ns row (2 * k) ≡ sideAt places numbers row (2 * k) = side (2 * k) (omega arith) in
             let b : sideAt ps ns row (2 * k + 1) ≡ sideAt places numbers row (2 * k + 1) = side (2 * k + 1) (omega arith) in
             let z : ℕ = orderOf (sideAt places numbers row (2 * k)) (sideAt places numbers row (2 * k + 1)) in
-            let s : z ≤ 2 = order-small (sideAt places numbers row (2 * k)) (sideAt places numbers row (2 * k + 1)) in
-            ap₂ (λ (u v : ℤ). getD ts (3 * k + orderOf u v) 0) a b ∙ three-other targets i t₀ t₁ t₂ (3 * k + z) (omega arith)
+            let s : z ≤ 3 = order-small (sideAt places numbers row (2 * k)) (sideAt places numbers row (2 * k + 1)) in
+            ap₂ (λ (u v : ℤ). getD ts (4 * k + orderOf u v) 0) a b ∙ four-other targets i t₀ t₁ t₂ t₃ (4 * k + z) (omega arith)
 
         -- the targets of the next, by the order
-        by : (z : ℕ) → z ≤ 2 → getD ts (3 * i + z) 0 ≡ exit (truthBy o z)
-        by zero m = three-first targets i t₀ t₁ t₂ (omega (arith, F .unlinked .0))
-        by (suc zero) m = three-second targets i t₀ t₁ t₂ (omega (arith, F .unlinked .0))
-        by (suc (suc zero)) m = three-third targets i t₀ t₁ t₂ (omega (arith, F .unlinked .0))
-        by (suc (suc (suc z))) m = absurd (omega arith)
+        by : (z : ℕ) → z ≤ 3 → getD ts (4 * i + z) 0 ≡ targetBy (cmp .op) z
+        by zero m = four-first targets i t₀ t₁ t₂ t₃ (omega (arith, F .unlinked .0))
+        by (suc zero) m = four-second targets i t₀ t₁ t₂ t₃ (omega (arith, F .unlinked .0))
+        by (suc (suc zero)) m = four-third targets i t₀ t₁ t₂ t₃ (omega (arith, F .unlinked .0))
+        by (suc (suc (suc zero))) m = four-fourth targets i t₀ t₁ t₂ t₃ (omega (arith, F .unlinked .0))
+        by (suc (suc (suc (suc z)))) m = absurd (omega arith)
+
+        -- the right side as it is tested
+        tested : (row : Row) (b : Bool) (l r : Operand)
+            → operandValue row vs (operandRead (cond b l r)) ≡ cond b (operandValue row vs (operandRead l)) (operandValue row vs (operandRead r))
+        tested row true l r = refl
+        tested row false l r = refl
 
         -- the next is what it says
         new : (row : Row) → length row ≤ longest → nextAt ts ps ns row i ≡ exit (C.holds (operandValue row vs) (comparisonRead cmp))
@@ -179,9 +208,11 @@ module _ (c : Condition) (vs : List ℤ) (targets places : List ℕ) (numbers : 
             let v : ℤ = operandValue row vs (operandRead (rightSide cmp)) in
             let a : sideAt ps ns row (2 * i) ≡ u =
             ap₂ (getD row) (two-first places i p q 0 (omega (arith, F .places-16))) (two-first numbers i x y (pos 0) (omega (arith, F .numbers-16))) ∙ side-is (leftSide cmp) vs row short in
-            let b : sideAt ps ns row (2 * i + 1) ≡ v =
-            ap₂ (getD row) (two-second places i p q 0 (omega (arith, F .places-16))) (two-second numbers i x y (pos 0) (omega (arith, F .numbers-16))) ∙ side-is (rightSide cmp) vs row short in
-            ap₂ (λ (s t : ℤ). getD ts (3 * i + orderOf s t) 0) a b ∙ by (orderOf u v) (order-small u v) ∙ ap exit (by-order o u v)
+            let w : ℤ = cond (isNullTest o) u v in
+            let b : sideAt ps ns row (2 * i + 1) ≡ w =
+            ap₂ (getD row) (two-second places i p q 0 (omega (arith, F .places-16))) (two-second numbers i x y (pos 0) (omega (arith, F .numbers-16))) ∙ side-is (rightTested cmp) vs row short
+            ∙ tested row (isNullTest o) (leftSide cmp) (rightSide cmp) in
+            ap₂ (λ (s t : ℤ). getD ts (4 * i + orderOf s t) 0) a b ∙ by (orderOf u w) (order-small u w) ∙ ap exit (tested-order o u v)
 
         go : (k : ℕ) → k < i + 1 → (d′ : Comparison) (row : Row) → length row ≤ longest → (b : Bool) → ltb k i ≡ b
             → nextAt ts ps ns row k ≡ exit (C.holds (operandValue row vs) (comparisonRead (getD (c .comparisons) k d′)))
@@ -195,7 +226,7 @@ module _ (c : Condition) (vs : List ℤ) (targets places : List ℕ) (numbers : 
             ∙ ap (λ (j : ℕ). exit (C.holds (operandValue row vs) (comparisonRead (getD (c .comparisons) j d′)))) (sym s)
 
     pub fill-more : (d : Comparison) (a b : Operand) (targets′ places₁ places′ : List ℕ) (numbers₁ numbers′ : List ℤ) → i < n
-        → a ≡ leftSide (getD (c .comparisons) i d) → b ≡ rightSide (getD (c .comparisons) i d) → targets′ ≡ targetsPut targets i (getD (c .comparisons) i d .op)
+        → a ≡ leftSide (getD (c .comparisons) i d) → b ≡ rightTested (getD (c .comparisons) i d) → targets′ ≡ targetsPut targets i (getD (c .comparisons) i d .op)
         → places₁ ≡ set places (2 * i) (placeOf a) → numbers₁ ≡ set numbers (2 * i) (numberOf vs a)
         → places′ ≡ set places₁ (2 * i + 1) (placeOf b) → numbers′ ≡ set numbers₁ (2 * i + 1) (numberOf vs b)
         → Filled c vs targets′ places′ numbers′ n (i + 1)
@@ -203,7 +234,7 @@ module _ (c : Condition) (vs : List ℤ) (targets places : List ℕ) (numbers : 
         let put : List ℕ → Operand → Operand → List ℕ = λ l x y. set (set l (2 * i) (placeOf x)) (2 * i + 1) (placeOf y) in
         let noted : List ℤ → Operand → Operand → List ℤ = λ l x y. set (set l (2 * i) (numberOf vs x)) (2 * i + 1) (numberOf vs y) in
         let x : Operand = leftSide (getD (c .comparisons) i d) in
-        let y : Operand = rightSide (getD (c .comparisons) i d) in
+        let y : Operand = rightTested (getD (c .comparisons) i d) in
         let p : places′ ≡ put places x y = fp ∙ ap (λ (l : List ℕ). set l (2 * i + 1) (placeOf b)) ep ∙ ap₂ (put places) ea eb in
         let q : numbers′ ≡ noted numbers x y = fn ∙ ap (λ (l : List ℤ). set l (2 * i + 1) (numberOf vs b)) en ∙ ap₂ (noted numbers) ea eb in
         subst (λ (t : List ℕ). Filled c vs t places′ numbers′ n (i + 1)) (sym et)

@@ -12,9 +12,9 @@ use lib.ListN.{length, take, drop, getD}
 use Rattle.lists.specs.Lists.{All, keep, pairs, written}
 use Rattle.meaning.specs.Demand.{Is32, ReadsBack}
 use Rattle.meaning.specs.Limits.{most-items, most-rows, most-listed}
-use Rattle.meaning.specs.Condition.{Where}
+use Rattle.meaning.specs.Condition.{Optional, Where, mappedIn}
 use Rattle.meaning.specs.Grammar as G
-use Rattle.meaning.specs.Grammar.{Given, Term, Listed, Dotted, items, sentence}
+use Rattle.meaning.specs.Grammar.{Given, Test, comparison, Listed, Dotted, items, sentence}
 use Rattle.meaning.specs.Meaning.{Row, meetsWhere, newRow, updatedRow, answer}
 use Rattle.meaning.specs.Cells.{areaOf, rowsIn}
 use Rattle.meaning.specs.Names.{Schema, columnsOf, position, pairPlace}
@@ -74,18 +74,19 @@ RowsRead = (q : Query) (t : Table) (start : ℕ) (cells vs : List ℤ) (out : Li
 
 -- of what a text compiles to beside these tables: the selected columns are the places of their names among the table's columns, and so are all columns of the WHERE
 pub record Positions (ts : List Schema) (text : List ℕ) (r : Statement) : Type 0 where
-  pub selected : (cs : Listed Name) (t : Name) (w : Where (Term Name)) → sentence text ≡ some (G.select cs t w)
+  pub selected : (cs : Listed Name) (t : Name) (w : Optional (Test Name)) → sentence text ≡ some (G.select cs t w)
       → take (r .query .count) (r .query .selected) ≡ map (position (columnsOf ts t)) (items cs)
-  pub asked : (cs : Listed Name) (t : Name) (w : Where (Term Name)) → sentence text ≡ some (G.select cs t w)
-      → AgreesCondition (r .query .condition) (resolvedWhere (position (columnsOf ts t)) 0 w)
+  pub asked : (cs : Listed Name) (t : Name) (w : Optional (Test Name)) → sentence text ≡ some (G.select cs t w)
+      → AgreesCondition (r .query .condition) (resolvedWhere (position (columnsOf ts t)) 0 (mappedIn comparison w))
   -- A.1: of a question over two tables they are places in a pair of rows, counted through the columns of both
-  pub pair-selected : (cs : Listed Dotted) (t u : Name) (w : Where (Term Dotted)) → sentence text ≡ some (G.pair cs t u w)
+  pub pair-selected : (cs : Listed Dotted) (t u : Name) (w : Optional (Test Dotted)) → sentence text ≡ some (G.pair cs t u w)
       → take (r .query .count) (r .query .selected) ≡ map (pairPlace t (columnsOf ts t) u (columnsOf ts u)) (items cs)
-  pub pair-asked : (cs : Listed Dotted) (t u : Name) (w : Where (Term Dotted)) → sentence text ≡ some (G.pair cs t u w)
-      → AgreesCondition (r .query .condition) (resolvedWhere (pairPlace t (columnsOf ts t) u (columnsOf ts u)) 0 w)
-  pub updated : (t : Name) (ss : Listed (Name × Given)) (w : Where (Term Name)) → sentence text ≡ some (G.update t ss w)
-      → AgreesCondition (r .update .condition) (resolvedWhere (position (columnsOf ts t)) (settingMarks (items ss)) w)
-  pub deleted : (t : Name) (w : Where (Term Name)) → sentence text ≡ some (G.delete t w) → AgreesCondition (r .update .condition) (resolvedWhere (position (columnsOf ts t)) 0 w)
+  pub pair-asked : (cs : Listed Dotted) (t u : Name) (w : Optional (Test Dotted)) → sentence text ≡ some (G.pair cs t u w)
+      → AgreesCondition (r .query .condition) (resolvedWhere (pairPlace t (columnsOf ts t) u (columnsOf ts u)) 0 (mappedIn comparison w))
+  pub updated : (t : Name) (ss : Listed (Name × Given)) (w : Optional (Test Name)) → sentence text ≡ some (G.update t ss w)
+      → AgreesCondition (r .update .condition) (resolvedWhere (position (columnsOf ts t)) (settingMarks (items ss)) (mappedIn comparison w))
+  pub deleted : (t : Name) (w : Optional (Test Name)) → sentence text ≡ some (G.delete t w)
+      → AgreesCondition (r .update .condition) (resolvedWhere (position (columnsOf ts t)) 0 (mappedIn comparison w))
 
 abbrev pub PositionsFound : Type 0
 PositionsFound = (text : List ℕ) (tables : List Table) (used queries updates cells : ℕ) → compiledOf text tables used queries updates cells .refusal ≡ 0

@@ -1,12 +1,13 @@
--- Questions and updates of a table t of the columns a and b with 3 rows of which 2 are in use, (7, 120) and (8, -2147483648). Assumes nothing: each holds by computing.
+-- Questions and updates of a table t of the columns a and b with 3 rows of which 2 are in use, (7, 120) and (8, null). Assumes nothing: each holds by computing.
 use mathlib.Core.Path.{_≡_, refl}
 use mathlib.Core.Bool.{Bool, true, false}
 use mathlib.Core.List.{List, [], _∷_, map}
 use Prim.Native.Nat.{ℕ}
 use Prim.Native.String.{String}
-use lib.IntN.{ℤ, pos, negℤ}
+use lib.IntN.{ℤ, pos}
 use lib.ListN.{replicate}
 use Rattle.lists.specs.Lists.{bytes}
+use Rattle.meaning.specs.Operator.{null}
 use Rattle.meaning.specs.Tokens.{isNameByte, isWordByte, decimal, isName, word, negative, tokenFrom, firstToken, scan, tokens}
 use Rattle.meaning.specs.Grammar.{aCondition, aSentence, read}
 use Rattle.meaning.specs.Limits.{pastLimit}
@@ -36,12 +37,9 @@ computing = tt
 abbrev t : Table
 t = record { name = nameStruct (bytes "t"); columns = map nameStruct (bytes "a" ∷ bytes "b" ∷ []); count = 2; capacity = 3; rows = 2; oldest = 0; ring = false }
 
-abbrev low : ℤ
-low = negℤ (pos 2147483648)
-
 -- a free row, whose cells are 5 and 6
 abbrev cells : List ℤ
-cells = pos 7 ∷ pos 120 ∷ pos 8 ∷ low ∷ pos 5 ∷ pos 6 ∷ []
+cells = pos 7 ∷ pos 120 ∷ pos 8 ∷ null ∷ pos 5 ∷ pos 6 ∷ []
 
 abbrev compiled : String → Statement
 compiled text = compiledOf (bytes text) (t ∷ []) 1 0 0 6
@@ -58,53 +56,76 @@ changed text = cellsAfter (compiled text .update) t 0 cells []
 abbrev said : String → ℕ → Selected
 said text n = selectedIn (replicate n 0) (rowsUsed t 0 cells) (recordStored (compiled text .query) [] (rowsUsed t 0 cells))
 
--- -2147483648 "is a number like others and compares as the smallest"
-pub smallest : listed "SELECT a FROM t WHERE b < -2147483647" ≡ (pos 8 ∷ []) ∷ []
+-- A.5: -2147483648 "is the null of ISO/IEC 9075": not below another number, and equal to no number, not to itself either
+pub not-below : listed "SELECT a FROM t WHERE b < -2147483647" ≡ []
 unfolding computing
-smallest = refl
+not-below = refl
 
-pub equal : listed "SELECT a FROM t WHERE b = -2147483648" ≡ (pos 8 ∷ []) ∷ []
+pub not-equal : listed "SELECT a FROM t WHERE b = -2147483648" ≡ []
 unfolding computing
-equal = refl
+not-equal = refl
 
-pub none-below : listed "SELECT a FROM t WHERE b < -2147483648" ≡ []
+-- "WHERE takes only rows whose condition is true": NOT makes of an unknown comparison no true one
+pub not-known : listed "SELECT a FROM t WHERE NOT b < 50" ≡ (pos 7 ∷ []) ∷ []
 unfolding computing
-none-below = refl
+not-known = refl
+
+-- null tests, and a null on both sides of a comparison of columns
+pub without-reading : listed "SELECT a FROM t WHERE b IS NULL" ≡ (pos 8 ∷ []) ∷ []
+unfolding computing
+without-reading = refl
+
+pub with-reading : listed "SELECT a FROM t WHERE b IS NOT NULL" ≡ (pos 7 ∷ []) ∷ []
+unfolding computing
+with-reading = refl
+
+pub both-null : listed "SELECT a FROM t WHERE b = b" ≡ (pos 7 ∷ []) ∷ []
+unfolding computing
+both-null = refl
 
 -- "UPDATE tests each row as it was, then sets."
-pub tested-before : changed "UPDATE t SET a = 9 WHERE a = 7" ≡ pos 9 ∷ pos 120 ∷ pos 8 ∷ low ∷ pos 5 ∷ pos 6 ∷ []
+pub tested-before : changed "UPDATE t SET a = 9 WHERE a = 7" ≡ pos 9 ∷ pos 120 ∷ pos 8 ∷ null ∷ pos 5 ∷ pos 6 ∷ []
 unfolding computing
 tested-before = refl
 
 -- "cells that a DELETE vacates become 0, other unused cells stay"
-pub vacated : changed "DELETE FROM t WHERE a = 7" ≡ pos 8 ∷ low ∷ pos 0 ∷ pos 0 ∷ pos 5 ∷ pos 6 ∷ []
+pub vacated : changed "DELETE FROM t WHERE a = 7" ≡ pos 8 ∷ null ∷ pos 0 ∷ pos 0 ∷ pos 5 ∷ pos 6 ∷ []
 unfolding computing
 vacated = refl
 
-pub inserted : changed "INSERT INTO t VALUES (1, 2)" ≡ pos 7 ∷ pos 120 ∷ pos 8 ∷ low ∷ pos 1 ∷ pos 2 ∷ []
+pub inserted : changed "INSERT INTO t VALUES (1, 2)" ≡ pos 7 ∷ pos 120 ∷ pos 8 ∷ null ∷ pos 1 ∷ pos 2 ∷ []
 unfolding computing
 inserted = refl
 
 -- ---- the test of a row on numbers alone (request A.3)
 
--- as WHERE a = 7 AND b > 100 is prepared: comparison 0 leads on to 1 where its sides are equal, comparison 1 is met where the left side is greater
+-- as WHERE a = 7 AND b > 100 is prepared: comparison 0 leads on to 1 where its sides are equal, comparison 1 is met where the left side is greater; where a side is null
+-- neither is
 abbrev both : Row → Bool
-both r = passes (9 ∷ 1 ∷ 9 ∷ 9 ∷ 9 ∷ 8 ∷ []) (0 ∷ 65535 ∷ 1 ∷ 65535 ∷ []) (pos 0 ∷ pos 7 ∷ pos 0 ∷ pos 100 ∷ []) 0 r
+both r = passes (9 ∷ 1 ∷ 9 ∷ 9 ∷ 9 ∷ 9 ∷ 8 ∷ 9 ∷ []) (0 ∷ 65535 ∷ 1 ∷ 65535 ∷ []) (pos 0 ∷ pos 7 ∷ pos 0 ∷ pos 100 ∷ []) 0 r
 
 -- as WHERE a = 7 OR b > 100 is
 abbrev either : Row → Bool
-either r = passes (1 ∷ 8 ∷ 1 ∷ 9 ∷ 9 ∷ 8 ∷ []) (0 ∷ 65535 ∷ 1 ∷ 65535 ∷ []) (pos 0 ∷ pos 7 ∷ pos 0 ∷ pos 100 ∷ []) 0 r
+either r = passes (1 ∷ 8 ∷ 1 ∷ 1 ∷ 9 ∷ 9 ∷ 8 ∷ 9 ∷ []) (0 ∷ 65535 ∷ 1 ∷ 65535 ∷ []) (pos 0 ∷ pos 7 ∷ pos 0 ∷ pos 100 ∷ []) 0 r
 
-pub both-tested : map both ((pos 7 ∷ pos 120 ∷ []) ∷ (pos 7 ∷ pos 100 ∷ []) ∷ (pos 8 ∷ pos 120 ∷ []) ∷ (pos 8 ∷ low ∷ []) ∷ []) ≡ true ∷ false ∷ false ∷ false ∷ []
+pub both-tested : map both ((pos 7 ∷ pos 120 ∷ []) ∷ (pos 7 ∷ pos 100 ∷ []) ∷ (pos 8 ∷ pos 120 ∷ []) ∷ (pos 8 ∷ null ∷ []) ∷ []) ≡ true ∷ false ∷ false ∷ false ∷ []
 unfolding computing
 both-tested = refl
 
-pub either-tested : map either ((pos 7 ∷ pos 120 ∷ []) ∷ (pos 7 ∷ pos 100 ∷ []) ∷ (pos 8 ∷ pos 120 ∷ []) ∷ (pos 8 ∷ low ∷ []) ∷ []) ≡ true ∷ true ∷ true ∷ false ∷ []
+pub either-tested : map either ((pos 7 ∷ pos 120 ∷ []) ∷ (pos 7 ∷ pos 100 ∷ []) ∷ (pos 8 ∷ pos 120 ∷ []) ∷ (pos 8 ∷ null ∷ []) ∷ []) ≡ true ∷ true ∷ true ∷ false ∷ []
 unfolding computing
 either-tested = refl
 
+-- as WHERE b IS NULL OR a = 7 is: the sides of comparison 0 are one column, so that their order is equal, or unknown where it is null
+abbrev iced : Row → Bool
+iced r = passes (9 ∷ 1 ∷ 9 ∷ 8 ∷ 9 ∷ 8 ∷ 9 ∷ 9 ∷ []) (1 ∷ 1 ∷ 0 ∷ 65535 ∷ []) (pos 0 ∷ pos 0 ∷ pos 0 ∷ pos 7 ∷ []) 0 r
+
+pub iced-tested : map iced ((pos 7 ∷ pos 120 ∷ []) ∷ (pos 8 ∷ pos 120 ∷ []) ∷ (pos 8 ∷ null ∷ []) ∷ (null ∷ pos 120 ∷ []) ∷ []) ≡ true ∷ false ∷ true ∷ false ∷ []
+unfolding computing
+iced-tested = refl
+
 -- no comparison: it begins where it is met
-pub absent-tested : passes [] [] [] 8 (pos 8 ∷ low ∷ []) ≡ true
+pub absent-tested : passes [] [] [] 8 (pos 8 ∷ null ∷ []) ≡ true
 unfolding computing
 absent-tested = refl
 
@@ -132,7 +153,7 @@ abbrev none-of : Table → Table
 none-of s = record { name = s .name; columns = s .columns; count = s .count; capacity = s .capacity; rows = 0; oldest = 0; ring = false }
 
 abbrev both-cells : List ℤ
-both-cells = pos 7 ∷ pos 120 ∷ pos 8 ∷ low ∷ pos 5 ∷ pos 6 ∷ pos 7 ∷ pos 31 ∷ pos 8 ∷ pos 20 ∷ pos 7 ∷ pos 32 ∷ []
+both-cells = pos 7 ∷ pos 120 ∷ pos 8 ∷ null ∷ pos 5 ∷ pos 6 ∷ pos 7 ∷ pos 31 ∷ pos 8 ∷ pos 20 ∷ pos 7 ∷ pos 32 ∷ []
 
 abbrev paired : String → Query
 paired text = compiledOf (bytes text) (t ∷ u ∷ []) 2 0 0 12 .query
@@ -147,7 +168,7 @@ pair-said s v text n = pairSays (paired text) s 0 v 6 both-cells [] (replicate n
 
 -- "Rows come in the first table's order, and for each in the second's."
 pub in-order : pair-listed t u "SELECT t.b, u.c FROM t, u"
-    ≡ (pos 120 ∷ pos 31 ∷ []) ∷ (pos 120 ∷ pos 20 ∷ []) ∷ (pos 120 ∷ pos 32 ∷ []) ∷ (low ∷ pos 31 ∷ []) ∷ (low ∷ pos 20 ∷ []) ∷ (low ∷ pos 32 ∷ []) ∷ []
+    ≡ (pos 120 ∷ pos 31 ∷ []) ∷ (pos 120 ∷ pos 20 ∷ []) ∷ (pos 120 ∷ pos 32 ∷ []) ∷ (null ∷ pos 31 ∷ []) ∷ (null ∷ pos 20 ∷ []) ∷ (null ∷ pos 32 ∷ []) ∷ []
 unfolding computing
 in-order = refl
 
@@ -176,7 +197,7 @@ unfolding computing
 pair-empty = (refl, refl)
 
 -- the record, and a byte behind it that stays
-pub pair-written : pairLeaves (paired "SELECT u.c FROM t, u WHERE t.a = u.a AND t.b < 0") t 0 u 6 both-cells [] (replicate 13 9)
+pub pair-written : pairLeaves (paired "SELECT u.c FROM t, u WHERE t.a = u.a AND t.b IS NULL") t 0 u 6 both-cells [] (replicate 13 9)
     ≡ 0 ∷ 0 ∷ 0 ∷ 8 ∷ 1 ∷ 1 ∷ 0 ∷ 1 ∷ 0 ∷ 0 ∷ 0 ∷ 20 ∷ 9 ∷ []
 unfolding computing
 pair-written = refl

@@ -9,7 +9,7 @@ use lib.Dec.{ltb, leb, eqb}
 use lib.IntN.{ℤ, pos}
 use lib.ListN.{length, getD, set, take}
 use Rattle.meaning.specs.Postfix.{top, joined}
-use Rattle.statement.specs.Operators.{operatorAt, truthBy}
+use Rattle.statement.specs.Operators.{predicateAt, truthBy}
 use Rattle.table.specs.Tests.{met, unmet, arrives, Forward}
 
 -- ---- one comparison by itself
@@ -17,10 +17,13 @@ use Rattle.table.specs.Tests.{met, unmet, arrives, Forward}
 abbrev pub exit : Bool → ℕ
 exit b = cond b met unmet
 
--- the three targets of comparison i, by its operator: where the left side is less, equal and greater
+-- the four targets of comparison i, by its operator: where the left side is less, equal and greater, and where a side is null
+abbrev pub targetBy : ℕ → ℕ → ℕ
+targetBy op order = exit (truthBy (predicateAt op) order)
+
 abbrev pub targetsPut : List ℕ → ℕ → ℕ → List ℕ
 targetsPut l i op =
-    set (set (set l (3 * i) (exit (truthBy (operatorAt op) 0))) (3 * i + 1) (exit (truthBy (operatorAt op) 1))) (3 * i + 2) (exit (truthBy (operatorAt op) 2))
+    set (set (set (set l (4 * i) (targetBy op 0)) (4 * i + 1) (targetBy op 1)) (4 * i + 2) (targetBy op 2)) (4 * i + 3) (targetBy op 3)
 
 -- ---- steps
 
@@ -45,7 +48,7 @@ exitOf step = cond (eqb step 1) met unmet
 
 -- the targets of the comparisons from a up to b that led to `from` lead to b; others stay
 abbrev pub redirectedAt : ℕ → ℕ → ℕ → ℕ → ℕ → ℕ
-redirectedAt a b from j t = cond (leb (3 * a) j && (ltb j (3 * b) && eqb t from)) b t
+redirectedAt a b from j t = cond (leb (4 * a) j && (ltb j (4 * b) && eqb t from)) b t
 
 abbrev pub Redirects : ℕ → ℕ → ℕ → List ℕ → List ℕ → Type 0
 Redirects a b from l r = (length r ≡ length l) × ((j : ℕ) → j < length l → getD r j 0 ≡ redirectedAt a b from j (getD l j 0))
@@ -64,9 +67,9 @@ Starts starts = (j : ℕ) → getD starts j 0 ≤ met
 -- the targets `t` became `r`, to be entered at `start`: whatever the order of each comparison's sides, one arrives where the steps say
 pub record Linked (steps : List ℕ) (n : ℕ) (t r : List ℕ) (start : ℕ) : Type 0 where
   pub forward : Forward r
-  pub arrives-at : (ord : ℕ → ℕ) (h : ℕ → Bool) → ((i : ℕ) → ord i ≤ 2) → ((i : ℕ) → i < n → getD t (3 * i + ord i) 0 ≡ exit (h i))
-      → arrives (λ (i : ℕ). getD r (3 * i + ord i) 0) met start ≡ exit (top true (runAt (heldOf n h) 0 (take (2 * n - 1) steps) []))
+  pub arrives-at : (ord : ℕ → ℕ) (h : ℕ → Bool) → ((i : ℕ) → ord i ≤ 3) → ((i : ℕ) → i < n → getD t (4 * i + ord i) 0 ≡ exit (h i))
+      → arrives (λ (i : ℕ). getD r (4 * i + ord i) 0) met start ≡ exit (top true (runAt (heldOf n h) 0 (take (2 * n - 1) steps) []))
 
 -- targets of comparisons that lead straight out
 abbrev pub Unlinked : List ℕ → Type 0
-Unlinked t = (length t ≡ 24) × ((j : ℕ) → j < 24 → met ≤ getD t j 0)
+Unlinked t = (length t ≡ 32) × ((j : ℕ) → j < 32 → met ≤ getD t j 0)

@@ -13,7 +13,9 @@ use Rattle.meaning.specs.Statement.{column, value}
 use Rattle.meaning.specs.Meaning.{Row, valueOf, meetsWhere}
 use Rattle.statement.specs.declared.Condition.{Condition}
 use Rattle.statement.specs.declared.Operand.{Operand}
-use Rattle.statement.specs.Operators.{orderOf}
+use Rattle.statement.specs.declared.Comparison.{Comparison}
+use Rattle.statement.specs.Compiled.{leftSide, rightSide}
+use Rattle.statement.specs.Operators.{predicateAt, isNullTest, orderOf}
 use Rattle.statement.specs.Sound.{operandRead, AgreesCondition}
 use Rattle.table.specs.Evaluated.{meetsStored}
 
@@ -42,6 +44,10 @@ numberOf vs o = numberIn vs (operandRead o)
 abbrev pub sideAt : List ℕ → List ℤ → Row → ℕ → ℤ
 sideAt places numbers row j = getD row (getD places j 0) (getD numbers j (pos 0))
 
+-- the right side of a comparison as a row is tested: a null test (A.5) looks at its left side alone
+abbrev pub rightTested : Comparison → Operand
+rightTested c = cond (isNullTest (predicateAt (c .op))) (leftSide c) (rightSide c)
+
 -- ---- from comparison to comparison
 
 -- the places behind the comparisons: the row meets the condition, or does not
@@ -51,9 +57,9 @@ met = 8
 abbrev pub unmet : ℕ
 unmet = 9
 
--- where comparison i leads: of its three targets the one by the order of its sides
+-- where comparison i leads: of its four targets the one by the order of its sides
 unfoldable pub nextAt : List ℕ → List ℕ → List ℤ → Row → ℕ → ℕ
-nextAt targets places numbers row i = getD targets (3 * i + orderOf (sideAt places numbers row (2 * i)) (sideAt places numbers row (2 * i + 1))) 0
+nextAt targets places numbers row i = getD targets (4 * i + orderOf (sideAt places numbers row (2 * i)) (sideAt places numbers row (2 * i + 1))) 0
 
 -- where one is after at most so many comparisons, from place i on
 abbrev pub arrives : (ℕ → ℕ) → ℕ → ℕ → ℕ
@@ -62,7 +68,7 @@ arrives next (suc k) i = cond (ltb i met) (arrives next k (next i)) i
 
 -- every comparison leads to a later one, or behind them all
 abbrev pub Forward : List ℕ → Type 0
-Forward targets = (i k : ℕ) → i < met → k ≤ 2 → i < getD targets (3 * i + k) 0
+Forward targets = (i k : ℕ) → i < met → k ≤ 3 → i < getD targets (4 * i + k) 0
 
 -- whether a row passes the test
 unfoldable pub passes : List ℕ → List ℕ → List ℤ → ℕ → Row → Bool

@@ -12,7 +12,7 @@ ghost use lib.IntN.{pos};
 ghost use lib.ListN.{length, getD, set, replicate};
 ghost use Rattle.statement.specs.Operators.{orderOf};
 ghost use Rattle.table.specs.Evaluated.{ifSo};
-ghost use Rattle.table.specs.Tests.{met, unmet, placeOf, numberOf, nextAt, passes, Forward, Prepared, TestsRow};
+ghost use Rattle.table.specs.Tests.{met, unmet, rightTested, placeOf, numberOf, nextAt, passes, Forward, Prepared, TestsRow};
 ghost use Rattle.table.specs.Linking.{exit as exitTo, targetsPut, entryOf, Redirects, Links, Starts, Unlinked, Linked};
 
 // How many entries of an array of `most` a count says are in use.
@@ -51,7 +51,8 @@ pub fn number_at(numbers: &[i32], i: u8) -> i32
 // ---- prepared, once a question: numbers alone
 
 // What the test of a row goes by. Comparison i has the sides 2 * i and 2 * i + 1: the cell at `places`, or where the row ends before that, the number at `numbers`. Its
-// `targets` from 3 * i on say where to go on if the left side is less than, equal to and greater than the right one: at a later comparison, or at MET or UNMET.
+// `targets` from 4 * i on say where to go on if the left side is less than, equal to and greater than the right one, and if one is null: at a later comparison, or at MET or
+// UNMET.
 pub struct Test {
     pub targets: [u8; Test::TARGETS],
     pub places: [u16; Test::SIDES],
@@ -60,10 +61,10 @@ pub struct Test {
 }
 
 impl Test {
-    // Two sides and three targets a comparison.
+    // Two sides and four targets a comparison.
     pub const SIDES: usize = 2 * Condition::COMPARISONS;
 
-    pub const TARGETS: usize = 3 * Condition::COMPARISONS;
+    pub const TARGETS: usize = 4 * Condition::COMPARISONS;
 
     // Behind the comparisons: the row meets the condition, or does not.
     pub const MET: u8 = Condition::COMPARISONS as u8;
@@ -111,14 +112,15 @@ fn exit(holds: bool) -> u8
     if holds { Test::MET } else { Test::UNMET }
 }
 
-// Puts the targets of a comparison by itself: where its left side is less, equal and greater.
+// Puts the targets of a comparison by itself: where its left side is less, equal and greater, and where a side is null.
 fn put_targets(targets: &mut [u8; Test::TARGETS], i: usize, op: u8)
     requires { ⌜ i < 8 ⌝ }
     ensures { λ _. ⌜ now (targets .exit) ≡ targetsPut (now (targets .entry)) i op ⌝ }
 {
-    targets[3 * i] = exit(Comparison::truth(op, Order::LESS));
-    targets[3 * i + 1] = exit(Comparison::truth(op, Order::EQUAL));
-    targets[3 * i + 2] = exit(Comparison::truth(op, Order::GREATER));
+    targets[4 * i] = exit(Comparison::truth(op, Order::LESS));
+    targets[4 * i + 1] = exit(Comparison::truth(op, Order::EQUAL));
+    targets[4 * i + 2] = exit(Comparison::truth(op, Order::GREATER));
+    targets[4 * i + 3] = exit(Comparison::truth(op, Order::UNKNOWN));
 }
 
 // Puts side j.
@@ -141,7 +143,7 @@ fn put_side(
 
 // Arrays to begin with, made in functions of their own: a loop's goals would print every entry.
 fn no_targets() -> [u8; Test::TARGETS]
-    ensures { λ r. ⌜ r ≡ replicate 24 unmet ⌝ }
+    ensures { λ r. ⌜ r ≡ replicate 32 unmet ⌝ }
 {
     [Test::UNMET; Test::TARGETS]
 }
@@ -164,6 +166,16 @@ fn no_starts() -> [u8; Condition::STEPS]
     [Test::MET; Condition::STEPS]
 }
 
+// The right side of a comparison as a row is tested: a null test (A.5) looks at its left side alone.
+fn right_tested(c: Comparison) -> Operand
+    ensures { λ r. ⌜ r ≡ rightTested c ⌝ }
+{
+    if Comparison::tests_null(c.op) {
+        return c.left_side();
+    }
+    c.right_side()
+}
+
 // The test of a condition's rows with the question marks' values filled in.
 pub fn prepare(condition: Condition, values: &[i32]) -> Test
     ensures { λ r. ⌜ Prepared condition (now (values .entry)) (r .targets) (r .places) (r .numbers) (r .start) ⌝ }
@@ -177,7 +189,7 @@ pub fn prepare(condition: Condition, values: &[i32]) -> Test
     while i < count {
         let c = condition.comparisons[i];
         let left = c.left_side();
-        let right = c.right_side();
+        let right = right_tested(c);
         put_targets(&mut targets, i, c.op);
         put_side(&mut places, &mut numbers, 2 * i, left, values);
         put_side(&mut places, &mut numbers, 2 * i + 1, right, values);
@@ -210,11 +222,11 @@ fn redirected(target: u8, from: u8, to: u8) -> u8
 
 // Leads the comparisons from a up to b on to b where they led to `from`.
 fn redirect(targets: &mut [u8; Test::TARGETS], a: u8, b: u8, from: u8)
-    requires { ⌜ (a ≤ 8) × (b ≤ 8) × (length (now targets) ≡ 24) ⌝ }
+    requires { ⌜ (a ≤ 8) × (b ≤ 8) × (length (now targets) ≡ 32) ⌝ }
     ensures { λ _. ⌜ Redirects a b from (now (targets .entry)) (now (targets .exit)) ⌝ }
 {
-    let end = 3 * (b as usize);
-    let mut j = 3 * (a as usize);
+    let end = 4 * (b as usize);
+    let mut j = 4 * (a as usize);
     while j < end {
         targets[j] = redirected(targets[j], from, b);
         j += 1;
@@ -230,7 +242,7 @@ fn link_step(
     n: usize,
     step: u8,
 ) -> usize
-    requires { ⌜ (depth < 15) × (n ≤ 8) × (length (now targets) ≡ 24) × Starts (now starts) ⌝ }
+    requires { ⌜ (depth < 15) × (n ≤ 8) × (length (now targets) ≡ 32) × Starts (now starts) ⌝ }
     ensures { λ r. ⌜ Links n step next depth (now (starts .entry)) (now (targets .entry)) r (now (starts .exit)) (now (targets .exit)) ⌝ }
 {
     if step == Step::COMPARISON {
@@ -285,16 +297,23 @@ fn cell_or(row: &[i32], place: u16, number: i32) -> i32
     if k < row.len() { row[k] } else { number }
 }
 
-// How two numbers stand: `Order`.
+// How two numbers stand: `Order`. The null is the least number, so one of two is null exactly if the lesser one is.
 fn order(a: i32, b: i32) -> usize
     ensures order { λ r. ⌜ r ≡ orderOf a b ⌝ }
-    ensures few { λ r. ⌜ r ≤ 2 ⌝ }
+    ensures few { λ r. ⌜ r ≤ 3 ⌝ }
 {
+    if a == b {
+        if a == Operand::NULL {
+            return Order::UNKNOWN as usize;
+        }
+        return Order::EQUAL as usize;
+    }
+    let least = if a < b { a } else { b };
+    if least == Operand::NULL {
+        return Order::UNKNOWN as usize;
+    }
     if a < b {
         return Order::LESS as usize;
-    }
-    if a == b {
-        return Order::EQUAL as usize;
     }
     Order::GREATER as usize
 }
@@ -312,7 +331,7 @@ fn next_of(
 {
     let a = cell_or(row, places[2 * i], numbers[2 * i]);
     let b = cell_or(row, places[2 * i + 1], numbers[2 * i + 1]);
-    targets[3 * i + order(a, b)]
+    targets[4 * i + order(a, b)]
 }
 
 // Whether a row meets a condition that was prepared. It is given cells, numbers and positions, no name or text.

@@ -87,7 +87,9 @@ fn print_operator(op: u8) {
         2 => print(b"<"),
         3 => print(b"<="),
         4 => print(b">"),
-        _ => print(b">="),
+        5 => print(b">="),
+        6 => print(b"-is-null"),
+        _ => print(b"-is-not-null"),
     }
 }
 
@@ -96,6 +98,9 @@ fn print_comparison(c: Comparison) {
     let left = c.left_side();
     print_operand(left);
     print_operator(c.op);
+    if Comparison::tests_null(c.op) {
+        return;
+    }
     let right = c.right_side();
     print_operand(right);
 }

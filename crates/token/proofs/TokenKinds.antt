@@ -11,7 +11,7 @@ use lib.ListN.{getD}
 use Rattle.lists.proofs.Bools.{clash}
 use Rattle.meaning.specs.Operator.{Operator, eq, ne, lt, le, gt, ge}
 use Rattle.meaning.specs.Tokens as M
-use Rattle.meaning.specs.Tokens.{Keyword, TABLE, ROWS, SELECT, FROM, WHERE, INSERT, INTO, VALUES, UPDATE, SET, DELETE, AND, OR, NOT, RING, Name, keyword, name, constant, operator, mark, comma, lparen, rparen, dot, other}
+use Rattle.meaning.specs.Tokens.{Keyword, TABLE, ROWS, SELECT, FROM, WHERE, INSERT, INTO, VALUES, UPDATE, SET, DELETE, AND, OR, NOT, RING, IS, NULL, Name, keyword, name, constant, operator, mark, comma, lparen, rparen, dot, other}
 use Rattle.meaning.specs.Limits.{isWithin32}
 use Rattle.token.specs.Tokens.{kindOf, valueOf}
 
@@ -53,6 +53,8 @@ fixedAt k =
     ∷ keyword NOT
     ∷ dot
     ∷ keyword RING
+    ∷ keyword IS
+    ∷ keyword NULL
     ∷ [])
     k
     other
@@ -88,6 +90,8 @@ fixed-keyword AND = by-computing refl refl
 fixed-keyword OR = by-computing refl refl
 fixed-keyword NOT = by-computing refl refl
 fixed-keyword RING = by-computing refl refl
+fixed-keyword IS = by-computing refl refl
+fixed-keyword NULL = by-computing refl refl
 
 -- a name, a constant, or a token that holds nothing
 abbrev Cases : M.Token → Type 0

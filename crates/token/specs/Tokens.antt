@@ -8,7 +8,7 @@ use lib.ListN.{length, drop}
 use Rattle.lists.specs.Lists.{dropWhile}
 use Rattle.meaning.specs.Operator.{Operator, eq, ne, lt, le, gt, ge}
 use Rattle.meaning.specs.Tokens as M
-use Rattle.meaning.specs.Tokens.{Keyword, TABLE, ROWS, SELECT, FROM, WHERE, INSERT, INTO, VALUES, UPDATE, SET, DELETE, AND, OR, NOT, RING, keyword, name, constant, operator, mark, comma, lparen, rparen, dot, other, isSpace, firstToken}
+use Rattle.meaning.specs.Tokens.{Keyword, TABLE, ROWS, SELECT, FROM, WHERE, INSERT, INTO, VALUES, UPDATE, SET, DELETE, AND, OR, NOT, RING, IS, NULL, keyword, name, constant, operator, mark, comma, lparen, rparen, dot, other, isSpace, firstToken}
 use Rattle.meaning.specs.Limits.{isWithin32}
 use Rattle.token.specs.declared.Token.{Token}
 
@@ -37,6 +37,8 @@ keywordNumber AND = 11
 keywordNumber OR = 12
 keywordNumber NOT = 13
 keywordNumber RING = 15
+keywordNumber IS = 16
+keywordNumber NULL = 17
 
 -- the kind: 0 is the end of the text, which is no token
 abbrev pub kindOf : M.Token → ℕ

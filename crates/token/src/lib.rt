@@ -80,6 +80,10 @@ impl Token {
     pub const DOT: u8 = 29;
     // Keywords of later requests.
     pub const RING: u8 = 30;
+
+    pub const IS: u8 = 31;
+
+    pub const NULL: u8 = 32;
 }
 
 // The runs of bytes that `run_end` follows.
@@ -271,7 +275,9 @@ fn packed(text: &[u8], at: usize, end: usize) -> u64
 fn more_keyword(n: usize, w: u64) -> u8
     ensures { λ r. ⌜ r ≡ kindAmong (drop 14 keywords) n w ⌝ }
 {
-    either((n == 4) & (w == 0x52494E47), Token::RING, Token::OTHER)
+    let mut k = either((n == 4) & (w == 0x4E554C4C), Token::NULL, Token::OTHER);
+    k = either((n == 2) & (w == 0x4953), Token::IS, k);
+    either((n == 4) & (w == 0x52494E47), Token::RING, k)
 }
 
 // Then the later half of document 01's.

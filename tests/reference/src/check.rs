@@ -1,7 +1,8 @@
 //! The reference itself on document 01's examples, and on examples worked out by hand: questions over two tables, names
-//! in capitals, and tables that run round.
+//! in capitals, tables that run round, and nulls.
 
 use crate::front::{Front, Mode};
+use crate::meaning::{truth, Truth, NULL};
 use crate::pattern::{patterns, patterns_of_pushed, Place};
 use crate::shown::Texts;
 use crate::text::{Catalogue, Statement};
@@ -251,7 +252,7 @@ SELECT stage.level FROM stage, stage => refused 15
 DELETE FROM rating WHERE site = flow => update 0 delete 1 marks 0 if c0=c2
 ";
 
-/// Names in capitals (A.2). NULL is a name until request A.5 makes it a keyword: then the last two lines change.
+/// Names in capitals (A.2). COUNT is a name until request A.9 makes it a keyword: then the last line but one changes.
 const KEYPAD: &str = "ADD TABLE STAGE (SITE, Level_2) ROWS 3 => table 0
 ADD TABLE stage (a) ROWS 1 => refused 7
 ADD TABLE Table (Select, RING) ROWS 1 => refused 4
@@ -303,10 +304,13 @@ ADD TABLE u (a) Rows 1 => refused 4
 ADD TABLE u (a) ROWS3 => refused 4
 ADD TABLE ROWS (a) ROWS 1 => refused 4
 ADD SELECT Ring FROM TAble => query 3
-ADD SELECT NULL FROM STAGE => refused 6
+ADD SELECT NULL FROM STAGE => refused 4
 ADD SELECT RING FROM Table => refused 4
 ADD TABLE NULL (RING, Null) ROWS 1 => refused 4
-ADD TABLE NULL (ring, Null) ROWS 1 => table 4
+ADD TABLE NULL (ring, Null) ROWS 1 => refused 4
+ADD TABLE Null (ring, null) ROWS 1 => table 4
+ADD SELECT COUNT FROM STAGE => refused 6
+ADD SELECT nULL FROM NuLL WHERE NUll IS NULL => query 4
 ";
 
 /// The lines of `KEYPAD`, for the generator.
@@ -599,6 +603,459 @@ DO 1 7 => rows 1 dropped 0
 /// The lines of `RINGS`, for the generator.
 pub fn ring_lines() -> impl Iterator<Item = &'static str> {
     RINGS.lines().map(|line| line.split_once(" => ").expect("each line has two sides").0)
+}
+
+/// Nulls (A.5): what is listed, changed, kept and dropped. Hour 1 has no reading, then 40, then none again; the null stands
+/// in rows, values, constants, SET and VALUES, and as the value of a key.
+const NULLS: &str = "ADD TABLE stage (site, level) ROWS 8 => table 0
+ADD INSERT INTO stage VALUES (?, ?) => update 0
+ADD UPDATE stage SET level = ? WHERE site = ? => update 1
+ADD SELECT site FROM stage WHERE level < ? => query 0
+ADD SELECT site FROM stage WHERE NOT level < ? => query 1
+ADD SELECT site, level FROM stage WHERE level IS NULL => query 2
+ADD SELECT site FROM stage WHERE NOT level < 50 OR level < 50 AND site = 1 => query 3
+DO 0 1 -2147483648 => rows 1 dropped 0
+DO 0 2 60 => rows 1 dropped 0
+ASK 0 50 => new read 2 :
+ASK 1 50 => new read 2 : 2
+ASK 2 => new read 2 : 1 -2147483648
+ASK 3 => new read 2 : 2
+DO 1 40 1 => rows 1 dropped 4
+ASK 0 50 => new read 2 : 1
+ASK 1 50 => new read 2 : 2
+ASK 2 => new read 2 :
+ASK 3 => new read 2 : 1 / 2
+DO 1 -2147483648 1 => rows 1 dropped 4
+ASK 0 50 => new read 2 :
+ASK 0 -2147483648 => new read 2 :
+ASK 1 -2147483648 => new read 2 :
+ASK 0 -2147483648 => kept read 0 :
+ADD UPDATE stage SET level = -2147483648 WHERE site = ? => update 2
+ADD INSERT INTO stage VALUES (?, -2147483648) => update 3
+ASK 2 => new read 2 : 1 -2147483648
+DO 3 3 => rows 1 dropped 1
+ASK 0 50 => kept read 0 :
+ASK 2 => new read 3 : 1 -2147483648 / 3 -2147483648
+ADD DELETE FROM stage WHERE level <= -2147483648 => update 4
+DO 4 => rows 0 dropped 0
+ADD DELETE FROM stage WHERE level IS NULL AND site = ? => update 5
+DO 5 3 => rows 1 dropped 4
+ASK 2 => new read 2 : 1 -2147483648
+ADD SELECT site FROM stage WHERE level = level => query 4
+ASK 4 => new read 2 : 2
+ADD SELECT site FROM stage WHERE level <> level OR site <> site => query 5
+ASK 5 => new read 2 :
+ADD SELECT site FROM stage WHERE NOT (site IS NULL OR level < 5) => query 6
+ASK 6 => new read 2 : 2
+ADD SELECT level FROM stage WHERE NOT level IS NOT NULL AND site = ? => query 7
+ASK 7 1 => new read 2 : -2147483648
+DO 0 -2147483648 7 => rows 1 dropped 2
+ASK 5 => kept read 0 :
+ASK 6 => new read 3 : 2
+ASK 4 => new read 3 : 2 / -2147483648
+ASK 7 -2147483648 => new read 3 :
+ASK 7 -2147483648 => kept read 0 :
+DO 0 -2147483648 -2147483648 => rows 1 dropped 3
+ASK 7 -2147483648 => new read 4 :
+ASK 2 => new read 4 : 1 -2147483648 / -2147483648 -2147483648
+DO 2 1 => rows 1 dropped 1
+DO 1 5 -2147483648 => rows 0 dropped 1
+ASK 5 => kept read 0 :
+";
+
+/// Nulls in questions over two tables: null is not equal to null, and the other table's columns are free.
+const NULL_PAIRS: &str = "ADD TABLE stage (site, level) ROWS 8 => table 0
+ADD TABLE rating (site, flow) ROWS 8 => table 1
+ADD INSERT INTO stage VALUES (?, ?) => update 0
+ADD INSERT INTO rating VALUES (?, ?) => update 1
+ADD SELECT stage.level, rating.flow FROM stage, rating WHERE stage.site = rating.site => query 0
+ADD SELECT stage.level FROM rating, stage WHERE rating.flow IS NULL AND stage.site = rating.site AND rating.site = ? => query 1
+ADD SELECT rating.flow FROM stage, rating WHERE NOT stage.level < rating.flow OR rating.site IS NULL => query 2
+DO 0 -2147483648 10 => rows 1 dropped 0
+DO 1 -2147483648 20 => rows 1 dropped 0
+ASK 0 => new read 2 :
+ASK 2 => new read 2 : 20
+DO 0 7 -2147483648 => rows 1 dropped 2
+DO 1 7 -2147483648 => rows 1 dropped 0
+ASK 0 => new read 6 : -2147483648 -2147483648
+ASK 1 7 => new read 6 : -2147483648
+ASK 2 => new read 6 : 20 / 20
+ADD UPDATE rating SET flow = 30 WHERE flow IS NULL => update 2
+DO 2 => rows 1 dropped 3
+ASK 0 => new read 6 : -2147483648 30
+ASK 1 7 => new read 6 :
+ASK 2 => new read 6 : 20 / 20
+ADD INSERT INTO rating VALUES (?, -2147483648) => update 3
+ADD INSERT INTO rating VALUES (-2147483648, ?) => update 4
+DO 4 5 => rows 1 dropped 1
+ASK 0 => kept read 0 : -2147483648 30
+ASK 1 7 => kept read 0 :
+DO 3 8 => rows 1 dropped 1
+ASK 1 7 => kept read 0 :
+ASK 0 => new read 10 : -2147483648 30
+DO 3 7 => rows 1 dropped 2
+ASK 1 7 => new read 15 : -2147483648
+";
+
+/// Nulls in a ring. A null cell of the row pushed out is a null constant: `level < 5` and `level = ?` stay kept, also with
+/// the null as the key's value, and `level IS NULL` goes.
+const NULL_RINGS: &str = "ADD TABLE recent (minute, level) RING 2 => table 0
+ADD INSERT INTO recent VALUES (?, ?) => update 0
+ADD INSERT INTO recent VALUES (?, 9) => update 1
+ADD SELECT minute FROM recent WHERE level IS NULL => query 0
+ADD SELECT minute FROM recent WHERE level < 5 => query 1
+ADD SELECT minute FROM recent WHERE level = ? => query 2
+ADD SELECT level FROM recent WHERE minute = ? => query 3
+DO 0 1 -2147483648 => rows 1 dropped 0
+DO 0 2 7 => rows 1 dropped 0
+ASK 0 => new read 2 : 1
+ASK 1 => new read 2 :
+ASK 2 -2147483648 => new read 2 :
+ASK 3 1 => new read 2 : -2147483648
+DO 1 3 => rows 1 dropped 2
+ASK 1 => kept read 0 :
+ASK 2 -2147483648 => kept read 0 :
+ASK 0 => new read 2 :
+ASK 3 1 => new read 2 :
+DO 0 4 -2147483648 => rows 1 dropped 3
+ASK 0 => new read 2 : 4
+ASK 1 => new read 2 :
+DO 1 5 => rows 1 dropped 0
+ASK 0 => kept read 0 : 4
+DO 1 6 => rows 1 dropped 1
+ASK 1 => kept read 0 :
+ASK 0 => new read 2 :
+DO 0 -2147483648 3 => rows 1 dropped 2
+ASK 1 => new read 2 : -2147483648
+ASK 3 -2147483648 => new read 2 :
+DO 1 7 => rows 1 dropped 0
+DO 1 8 => rows 1 dropped 1
+ASK 3 -2147483648 => kept read 0 :
+ASK 1 => new read 2 :
+";
+
+/// Nulls: texts taken and refused.
+const NULL_TEXTS: &str = "ADD TABLE t (a, b, is, null) ROWS 3 => table 0
+ADD TABLE u (a) ROWS 3 => table 1
+ADD SELECT a FROM t WHERE ? IS NULL => refused 4
+ADD SELECT a FROM t WHERE ? IS NOT NULL => refused 4
+ADD SELECT a FROM t WHERE 5 IS NULL => refused 4
+ADD SELECT a FROM t WHERE -2147483648 IS NULL => refused 4
+ADD SELECT a FROM t WHERE (a) IS NULL => refused 4
+ADD SELECT a FROM t WHERE (a) IS NOT NULL => refused 4
+ADD SELECT a FROM t WHERE NULL IS NULL => refused 4
+ADD SELECT a FROM t WHERE IS NULL => refused 4
+ADD SELECT a FROM t WHERE a = NULL => refused 4
+ADD SELECT a FROM t WHERE NULL = a => refused 4
+ADD SELECT a FROM t WHERE a <> NULL => refused 4
+ADD SELECT a FROM t WHERE NULL = NULL => refused 4
+ADD SELECT a FROM t WHERE NULL => refused 4
+ADD UPDATE t SET a = NULL => refused 4
+ADD UPDATE t SET a IS NULL => refused 4
+ADD INSERT INTO u VALUES (NULL) => refused 4
+ADD SELECT a FROM t WHERE a IS NOT NOT NULL => refused 4
+ADD SELECT a FROM t WHERE a NOT IS NULL => refused 4
+ADD SELECT a FROM t WHERE a IS NULL = 1 => refused 4
+ADD SELECT a FROM t WHERE 1 = a IS NULL => refused 4
+ADD SELECT a FROM t WHERE a IS NULL IS NULL => refused 4
+ADD SELECT a FROM t WHERE a IS NULL NULL => refused 4
+ADD SELECT a FROM t WHERE a IS NULL b = 1 => refused 4
+ADD SELECT a FROM t WHERE a ISNULL => refused 4
+ADD SELECT a FROM t WHERE a NOTNULL => refused 4
+ADD SELECT a FROM t WHERE a NOT NULL => refused 4
+ADD SELECT a FROM t WHERE a NULL => refused 4
+ADD SELECT a FROM t WHERE a IS => refused 4
+ADD SELECT a FROM t WHERE a IS NOT => refused 4
+ADD SELECT a FROM t WHERE a IS NOTNULL => refused 4
+ADD SELECT a FROM t WHERE aIS NULL => refused 4
+ADD SELECT a FROM t WHERE a IS NULLAND b = 1 => refused 4
+ADD SELECT a FROM t WHERE a IS b => refused 4
+ADD SELECT a FROM t WHERE a IS NOT b => refused 4
+ADD SELECT a FROM t WHERE a IS 5 => refused 4
+ADD SELECT a FROM t WHERE a IS ? => refused 4
+ADD SELECT a FROM t WHERE a IS -2147483648 => refused 4
+ADD SELECT a FROM t WHERE a IS (NULL) => refused 4
+ADD SELECT a FROM t WHERE a IS null => refused 4
+ADD SELECT a FROM t WHERE a IS Null => refused 4
+ADD SELECT a FROM t WHERE a is NULL => refused 4
+ADD SELECT a FROM t WHERE a Is NULL => refused 4
+ADD SELECT a FROM t WHERE a IS not NULL => refused 4
+ADD SELECT a FROM t WHERE a, b IS NULL => refused 4
+ADD SELECT a FROM t WHERE t.a IS NULL => refused 4
+ADD DELETE FROM t WHERE t.a IS NOT NULL => refused 4
+ADD SELECT t.a FROM t, u WHERE a IS NULL => refused 4
+ADD SELECT t.a FROM t, u WHERE t IS NULL => refused 4
+ADD SELECT t.a FROM t, u WHERE t.IS NULL => refused 4
+ADD SELECT t.NULL FROM t, u => refused 4
+ADD SELECT NULL FROM t => refused 4
+ADD SELECT IS FROM t => refused 4
+ADD SELECT a FROM NULL => refused 4
+ADD DELETE FROM IS => refused 4
+ADD UPDATE t SET NULL = 1 => refused 4
+ADD TABLE NULL (a) ROWS 1 => refused 4
+ADD TABLE IS (a) ROWS 1 => refused 4
+ADD TABLE v (NULL) ROWS 1 => refused 4
+ADD TABLE v (a, IS) ROWS 1 => refused 4
+ADD TABLE v (a) ROWS NULL => refused 4
+ADD SELECT a FROM t WHERE thirteen_byte IS NULL => refused 5
+ADD SELECT a FROM t WHERE nil IS NULL AND thirteen_byte IS NULL => refused 5
+ADD SELECT a FROM t WHERE a IS NULL AND b = 2147483648 => refused 5
+ADD SELECT a FROM t WHERE NOT NOT NOT NOT NOT NOT NOT NOT NOT a IS NULL => refused 5
+ADD SELECT a FROM t WHERE NOT NOT NOT NOT NOT NOT NOT NOT NOT a IS NOT NULL => refused 5
+ADD SELECT a FROM t WHERE (((((((((a IS NULL))))))))) => refused 5
+ADD SELECT a FROM t WHERE NOT(((NOT(NOT(NOT a IS NOT NULL))))) => refused 5
+ADD SELECT a FROM t WHERE a=1 OR a=2 OR a=3 OR a=4 OR a=5 OR a=6 OR a=7 OR a=8 OR a IS NULL => refused 5
+ADD SELECT a FROM t WHERE a IS NOT NULL AND a=1 AND a=2 AND a=3 AND a=4 AND a=5 AND a=6 AND a=7 AND a=8 => refused 5
+ADD SELECT a FROM t WHERE NOT NOT NOT NOT NOT NOT NOT NOT NOT nil IS NULL => refused 5
+ADD SELECT a FROM t WHERE nil IS NULL => refused 6
+ADD DELETE FROM t WHERE a = 1 OR nil IS NOT NULL => refused 6
+ADD SELECT t.a FROM t, u WHERE u.b IS NULL => refused 6
+ADD SELECT t.a FROM t, u WHERE v.a IS NULL => refused 6
+ADD SELECT t.a FROM t, t WHERE t.a IS NULL => refused 15
+ADD UPDATE t SET a = 1, A = 2 WHERE a IS NULL => refused 7
+ADD SELECT a FROM t WHERE NOT NOT NOT NOT NOT NOT NOT NOT a IS NOT NULL => query 0
+ADD SELECT a FROM t WHERE ((((((((a IS NOT NULL)))))))) => query 1
+ADD SELECT a FROM t WHERE NOT((NOT(NOT(NOT a IS NOT NULL)))) => query 2
+ADD SELECT a FROM t WHERE a IS NULL OR a=2 OR a=3 OR a=4 OR a=5 OR a=6 OR a=7 OR a IS NOT NULL => query 3
+ADD SELECT a FROM t WHERE ?=a AND ?=a AND ?=a AND ?=a AND ?=a AND ?=a AND ?=? AND a IS NULL => query 4
+ADD SELECT a FROM t WHERE is IS NULL AND null IS NOT NULL OR Is IS NOT NULL AND nULL IS NULL => query 5
+ADD SELECT null, is FROM t WHERE a IS NULL AND(b=1)OR NOT b IS NULL => query 6
+ADD SELECT a FROM t WHERE a = -2147483648 AND -2147483648 <> b => query 7
+ADD SELECT t.a FROM t, u WHERE t.a IS NULL AND u.a IS NOT NULL => query 8
+ADD SELECT u.a FROM u, t WHERE t . null IS NULL OR NOT u .A IS  NOT  NULL => query 9
+ADD INSERT INTO t VALUES (-2147483648, ?, -002147483648, 1) => update 0
+ADD UPDATE t SET a = -2147483648, null = ? WHERE is IS NULL => update 1
+ADD DELETE FROM t WHERE a IS NOT NULL => update 2
+ADD TABLE null (Is, nulls) ROWS 1 => table 2
+ADD TABLE Null (a) ROWS 1 => refused 7
+ADD TABLE NULLS (ISNULL, IS1, NULL_) RING 1 => table 3
+ADD SELECT ISNULL FROM nulls WHERE null_ IS NULL AND NULL_ IS NOT NULL => query 10
+ADD DELETE FROM nULL WHERE is IS NULL OR nuLLS IS NULL => update 3
+";
+
+/// Nulls, as `texts` prints them: NOT goes to the opposite test, and IS NOT NULL is one.
+const NULLS_SHOWN: &str = "TABLE stage (site, level) ROWS 3 => table 0 columns 2 rows 3
+TABLE rating (site, low, flow) ROWS 3 => table 1 columns 3 rows 3
+SELECT site FROM stage WHERE level IS NULL => query 0 on 0 selects 0 marks 0 if c1-is-null
+SELECT site FROM stage WHERE level IS NOT NULL => query 1 on 0 selects 0 marks 0 if c1-is-not-null
+SELECT site FROM stage WHERE NOT level IS NULL => query 2 on 0 selects 0 marks 0 if c1-is-not-null
+SELECT site FROM stage WHERE NOT level IS NOT NULL => query 3 on 0 selects 0 marks 0 if c1-is-null
+SELECT site FROM stage WHERE NOT NOT level IS NOT NULL => query 4 on 0 selects 0 marks 0 if c1-is-not-null
+SELECT site FROM stage WHERE NOT (site IS NULL OR level < 5) => query 5 on 0 selects 0 marks 0 if c0-is-not-null c1>=5 and
+SELECT site FROM stage WHERE site = ? AND (level IS NOT NULL OR ? <> -2147483648) => \
+query 6 on 0 selects 0 marks 2 if c0=?1 c1-is-not-null ?2<>-2147483648 or and
+SELECT rating.flow FROM stage, rating WHERE NOT (rating.low IS NULL AND stage.level IS NOT NULL) => \
+query 7 on 0 1 selects 4 marks 0 if c3-is-not-null c1-is-null or
+SELECT rating.flow FROM rating, stage WHERE stage.level IS NULL => query 8 on 1 0 selects 2 marks 0 if c4-is-null
+INSERT INTO stage VALUES (-2147483648, ?) => update 0 insert 0 values -2147483648 ?1 marks 1
+UPDATE stage SET level = -2147483648 WHERE level IS NOT NULL AND site = ? => \
+update 1 update 0 sets c1=-2147483648 marks 1 if c1-is-not-null c0=?1 and
+DELETE FROM rating WHERE flow IS NULL => update 2 delete 1 marks 0 if c2-is-null
+";
+
+/// Nulls: states that are sound or not. A comparison becomes IS NULL (0) or IS NOT NULL (1), and its operands stay.
+const NULL_STATES: &str = "OPEN 64 64 4 16 => opened
+ADD TABLE a (x, y) ROWS 4 => table 0
+ADD TABLE b (x) ROWS 4 => table 1
+ADD SELECT x FROM a WHERE x = ? AND x = y AND y <> y OR NOT x = 5 => query 0
+ADD SELECT x FROM a WHERE y IS NULL OR x IS NOT NULL => query 1
+ADD SELECT x FROM a => query 2
+ADD SELECT a.x FROM a, b WHERE a.x = b.x AND b.x = b.x AND a.y < a.y AND ? = ? => query 3
+ADD INSERT INTO a VALUES (?, -2147483648) => update 0
+ADD UPDATE a SET x = ? WHERE x IS NULL AND y = y AND x >= -2147483648 => update 1
+ADD DELETE FROM b WHERE 5 = 5 OR NOT x IS NOT NULL => update 2
+SPOIL qnull 0 0 0 => refused 2
+SPOIL qnull 0 0 1 => refused 2
+SPOIL qnull 0 1 0 => refused 2
+SPOIL qnull 0 2 0 => flushed
+SPOIL qnull 0 2 1 => flushed
+SPOIL qnull 0 3 1 => refused 2
+SPOIL qnull 0 4 0 => flushed
+SPOIL qnull 0 7 1 => flushed
+SPOIL qnull 1 0 0 => flushed
+SPOIL qnull 1 0 1 => flushed
+SPOIL qnull 1 1 0 => flushed
+SPOIL qnull 1 2 0 => flushed
+SPOIL qnull 2 0 0 => flushed
+SPOIL qnull 3 0 0 => refused 2
+SPOIL qnull 3 1 1 => flushed
+SPOIL qnull 3 2 0 => flushed
+SPOIL qnull 3 3 0 => refused 2
+SPOIL qnull 4 0 0 => flushed
+SPOIL unull 0 0 0 => flushed
+SPOIL unull 0 1 1 => flushed
+SPOIL unull 1 0 1 => flushed
+SPOIL unull 1 1 0 => flushed
+SPOIL unull 1 2 0 => refused 2
+SPOIL unull 1 3 0 => flushed
+SPOIL unull 2 0 1 => refused 2
+SPOIL unull 2 1 0 => flushed
+SPOIL unull 3 0 0 => flushed
+SPOIL columns 0 1 => refused 2
+LEND 63 64 => 
+SPOIL qnull 1 0 0 => refused 2
+LEND 64 64 => 
+SLOTS => order 0 1 2 3 held 0
+DO 0 3 => rows 1 dropped 0
+ASK 1 64 => new read 1 bytes 12 : 3
+SPOIL qnull 1 0 1 => flushed
+ASK 1 64 => kept read 0 bytes 12 : 3
+SPOIL keyvalue 3 0 -2147483648 => flushed
+";
+
+/// The lines of `NULLS`, for the generator.
+pub fn null_lines() -> impl Iterator<Item = &'static str> {
+    NULLS.lines().map(|line| line.split_once(" => ").expect("each line has two sides").0)
+}
+
+/// The standard's tables, asked by texts: T, F and U stand for a comparison that is true, false or unknown.
+fn truths_hold() -> bool {
+    let written = |word: &str| match word {
+        "T" => String::from("1 = 1"),
+        "F" => String::from("1 = 2"),
+        "U" => String::from("1 = -2147483648"),
+        _ => word.to_string(),
+    };
+    let tables = "T T | F F | U U | NOT T F | NOT F T | NOT U U | NOT NOT U U | T AND T T | T AND F F | T AND U U | F AND T F | \
+                  F AND F F | F AND U F | U AND T U | U AND F F | U AND U U | T OR T T | T OR F T | T OR U T | F OR T T | \
+                  F OR F F | F OR U U | U OR T T | U OR F U | U OR U U | NOT ( U AND F ) T | NOT ( U OR T ) F | \
+                  NOT ( U AND T ) U | NOT ( U OR F ) U | NOT U OR T T | NOT U AND F F | U OR U AND T U | U OR T AND T T | \
+                  site IS NULL T | site IS NOT NULL F | level IS NULL F | level IS NOT NULL T | NOT site IS NULL F | \
+                  site = site U | site <> site U | site < site U | site <= site U | site > site U | site >= site U | \
+                  level = level T | level <> level F | site = level U | level = site U | site < level U | level > site U | \
+                  site <= level U | level >= site U | NOT site = level U | site = -2147483648 U | site <> -2147483648 U | \
+                  level <> -2147483648 U | level > -2147483648 U | -2147483648 = -2147483648 U | level > -2147483647 T | \
+                  NOT ( site IS NULL OR level < 5 ) F | NOT ( level IS NULL OR site < 5 ) U | site = ? U | ? = ? U | \
+                  level < ? U | NOT level < ? U | site IS NULL AND level = 60 T | site IS NULL AND site < 5 U";
+    let mut held = true;
+    for line in tables.split(" | ") {
+        let (condition, expected) = line.trim().rsplit_once(' ').expect("a condition and its truth");
+        let text = condition.split(' ').map(written).collect::<Vec<_>>().join(" ");
+        let mut catalogue = Catalogue::default();
+        for text in [S, &format!("SELECT level FROM stage WHERE {text}")] {
+            let statement = catalogue.read(100, text.as_bytes()).expect("an example's text is taken");
+            catalogue.append(statement);
+        }
+        let found = truth(&catalogue.questions[0].condition, &[(0, &[NULL, 60])], &[NULL, NULL]);
+        let expected = match expected {
+            "T" => Truth::True,
+            "F" => Truth::False,
+            _ => Truth::Unknown,
+        };
+        if found != expected {
+            println!("`{text}` of a row with the null and 60: {found:?}, expected {expected:?}");
+            held = false;
+        }
+    }
+    held
+}
+
+/// Patterns of texts with nulls, and of rows with nulls that go from the first table.
+fn null_patterns_hold() -> bool {
+    use Place::{Any, Constant, Mark};
+    let null = "SELECT site FROM stage WHERE level IS NULL AND site = ?";
+    let not_null = "SELECT site FROM stage WHERE NOT level IS NULL AND site = ?";
+    let three = "SELECT level FROM stage WHERE site = 3 AND site IS NOT NULL";
+    let either = "SELECT level FROM stage WHERE site = ? OR level IS NULL";
+    let low = "SELECT site FROM stage WHERE level < 50 AND site = ?";
+    let flow = "SELECT rating.flow FROM stage, rating WHERE stage.site = ? AND stage.site = rating.site";
+    let no_flow = "SELECT stage.level FROM rating, stage WHERE rating.flow IS NULL AND stage.site = ?";
+    // Counts 4 and 16, a null test among them: a DELETE is worked out (64), an UPDATE is not (128).
+    let four = "(site = 0 OR site = 1) AND (level = 0 OR level IS NULL)";
+    let sixteen = "SELECT level FROM stage WHERE (site = 2 OR site = 3) AND (site = 2 OR level = 4) AND (level = 5 OR \
+                   level IS NOT NULL) AND (site = 2 OR level = ?)";
+    [
+        // Tested on the constant, where there is one.
+        patterns_hold(null, "INSERT INTO stage VALUES (?, -2147483648)", &[vec![Mark(1)]]),
+        patterns_hold(null, "INSERT INTO stage VALUES (?, 5)", &[]),
+        patterns_hold(null, "INSERT INTO stage VALUES (?, ?)", &[vec![Mark(1)]]),
+        patterns_hold(not_null, "INSERT INTO stage VALUES (?, ?)", &[vec![Mark(1)]]),
+        patterns_hold(not_null, "INSERT INTO stage VALUES (?, 5)", &[vec![Mark(1)]]),
+        patterns_hold(not_null, "INSERT INTO stage VALUES (?, -2147483648)", &[]),
+        patterns_hold(three, "DELETE FROM stage WHERE site IS NULL", &[]),
+        patterns_hold(three, "DELETE FROM stage WHERE NOT site IS NULL", &[vec![]]),
+        patterns_hold(three, "DELETE FROM stage WHERE level IS NULL", &[vec![]]),
+        patterns_hold(Q, "DELETE FROM stage WHERE site IS NULL", &[vec![Any]]),
+        patterns_hold(Q, "DELETE FROM stage WHERE site IS NULL AND site = ?", &[vec![Mark(1)]]),
+        patterns_hold(Q, "DELETE FROM stage WHERE site IS NULL AND site = 4", &[]),
+        patterns_hold(Q, "DELETE FROM stage WHERE site IS NULL AND level = 4 AND site = level", &[]),
+        patterns_hold(Q, "DELETE FROM stage WHERE NOT site IS NULL AND 4 = site", &[vec![Constant(4)]]),
+        // No classes are joined by null tests, and both tests of one column are no contradiction of rule 6.
+        patterns_hold(Q, "DELETE FROM stage WHERE level IS NULL AND level IS NOT NULL", &[vec![Any]]),
+        patterns_hold(Q, "DELETE FROM stage WHERE site IS NULL AND level IS NULL AND level = 4", &[]),
+        patterns_hold(Q, "DELETE FROM stage WHERE site IS NULL AND level IS NOT NULL AND level = 4", &[vec![Any]]),
+        // The null constant.
+        patterns_hold(Q, "DELETE FROM stage WHERE site = -2147483648", &[]),
+        patterns_hold(Q, "DELETE FROM stage WHERE NOT site <> -2147483648", &[]),
+        patterns_hold(Q, "DELETE FROM stage WHERE level <= -2147483648", &[]),
+        patterns_hold(Q, "DELETE FROM stage WHERE level >= -2147483648", &[]),
+        patterns_hold(Q, "DELETE FROM stage WHERE level <> -2147483648", &[]),
+        patterns_hold(Q, "DELETE FROM stage WHERE NOT level > -2147483648", &[]),
+        patterns_hold(Q, "DELETE FROM stage WHERE -2147483648 = -2147483648", &[]),
+        patterns_hold(Q, "DELETE FROM stage WHERE site = 3 AND site = -2147483648", &[]),
+        patterns_hold(Q, "DELETE FROM stage WHERE ? = -2147483648 AND site = ?", &[]),
+        patterns_hold(Q, "DELETE FROM stage WHERE site = 3 OR site = -2147483648", &[vec![Constant(3)]]),
+        patterns_hold(Q, "DELETE FROM stage WHERE level = -2147483648 AND level IS NULL", &[]),
+        patterns_hold(Q, "INSERT INTO stage VALUES (-2147483648, 5)", &[]),
+        patterns_hold(Q, "INSERT INTO stage VALUES (5, -2147483648)", &[vec![Constant(5)]]),
+        patterns_hold("SELECT site FROM stage", "INSERT INTO stage VALUES (-2147483648, -2147483648)", &[vec![]]),
+        patterns_hold("SELECT site FROM stage WHERE site = level", "INSERT INTO stage VALUES (-2147483648, -2147483648)", &[]),
+        patterns_hold("SELECT site FROM stage WHERE site >= level", "INSERT INTO stage VALUES (-2147483648, ?)", &[]),
+        patterns_hold("SELECT site FROM stage WHERE site <> ?", "INSERT INTO stage VALUES (-2147483648, ?)", &[]),
+        patterns_hold("SELECT site FROM stage WHERE ? = -2147483648", "DELETE FROM stage", &[]),
+        patterns_hold("SELECT site FROM stage WHERE ? < -2147483648 OR ? = site", "DELETE FROM stage WHERE site = 4", &[
+            vec![Any, Constant(4)],
+        ]),
+        patterns_hold(either, "INSERT INTO stage VALUES (3, -2147483648)", &[vec![Constant(3)], vec![Any]]),
+        patterns_hold(either, "INSERT INTO stage VALUES (-2147483648, 4)", &[]),
+        patterns_hold(either, "INSERT INTO stage VALUES (-2147483648, -2147483648)", &[vec![Any]]),
+        // UPDATE: both halves.
+        patterns_hold(low, "UPDATE stage SET level = -2147483648 WHERE site = ?", &[vec![Mark(1)]]),
+        patterns_hold(low, "UPDATE stage SET site = -2147483648 WHERE site = 4", &[vec![Constant(4)]]),
+        patterns_hold(low, "UPDATE stage SET site = 6 WHERE level = -2147483648", &[]),
+        patterns_hold(low, "UPDATE stage SET site = 6, level = 7 WHERE level IS NULL", &[vec![Any], vec![Constant(6)]]),
+        patterns_hold(null, "UPDATE stage SET level = -2147483648 WHERE site = 4", &[vec![Constant(4)]]),
+        patterns_hold(null, "UPDATE stage SET level = 5, site = 4 WHERE level IS NULL", &[vec![Any]]),
+        patterns_hold(null, "UPDATE stage SET level = ? WHERE level = 5 AND site = ?", &[vec![Mark(2)]]),
+        patterns_hold(null, "UPDATE stage SET level = 6 WHERE level = 5", &[]),
+        patterns_hold(not_null, "UPDATE stage SET level = 5 WHERE level IS NULL AND site = 4", &[vec![Constant(4)]]),
+        patterns_hold(Q, "UPDATE stage SET site = ? WHERE site IS NULL", &[vec![Any], vec![Mark(1)]]),
+        patterns_hold(Q, "UPDATE stage SET site = -2147483648 WHERE site = ?", &[vec![Mark(1)]]),
+        // Rule 2: the column of a null test is tested. Rule 5: a null test counts one.
+        patterns_hold("SELECT site FROM stage WHERE level IS NOT NULL", "UPDATE stage SET level = 1", &[vec![]]),
+        patterns_hold("SELECT level FROM stage WHERE level IS NULL", "UPDATE stage SET site = 1", &[]),
+        patterns_hold(sixteen, &format!("DELETE FROM stage WHERE {four}"), &[]),
+        patterns_hold(sixteen, &format!("UPDATE stage SET level = 9 WHERE {four}"), &[vec![Any]]),
+        // Two tables.
+        patterns_hold(flow, "INSERT INTO rating VALUES (-2147483648, ?)", &[]),
+        patterns_hold(flow, "DELETE FROM rating WHERE site IS NULL", &[vec![Any]]),
+        patterns_hold(no_flow, "INSERT INTO rating VALUES (?, -2147483648)", &[vec![Any]]),
+        patterns_hold(no_flow, "INSERT INTO rating VALUES (?, 5)", &[]),
+        patterns_hold(no_flow, "INSERT INTO stage VALUES (?, -2147483648)", &[vec![Mark(1)]]),
+        patterns_hold(no_flow, "DELETE FROM rating WHERE flow = 5", &[]),
+        patterns_hold(no_flow, "DELETE FROM rating WHERE NOT flow IS NOT NULL", &[vec![Any]]),
+        // A null cell of a row pushed out is a null constant.
+        pushed_patterns_hold(Q, [NULL, 30], &[]),
+        pushed_patterns_hold(Q, [3, NULL], &[vec![Constant(3)]]),
+        pushed_patterns_hold(null, [3, NULL], &[vec![Constant(3)]]),
+        pushed_patterns_hold(null, [3, 30], &[]),
+        pushed_patterns_hold(null, [NULL, NULL], &[]),
+        pushed_patterns_hold(not_null, [3, 30], &[vec![Constant(3)]]),
+        pushed_patterns_hold(not_null, [3, NULL], &[]),
+        pushed_patterns_hold(low, [3, NULL], &[]),
+        pushed_patterns_hold("SELECT site FROM stage WHERE NOT level < 50 AND site = ?", [3, NULL], &[]),
+        pushed_patterns_hold("SELECT site FROM stage WHERE level < ?", [3, NULL], &[]),
+        pushed_patterns_hold("SELECT site FROM stage WHERE site = level", [NULL, NULL], &[]),
+        pushed_patterns_hold("SELECT site FROM stage", [NULL, NULL], &[vec![]]),
+        pushed_patterns_hold(either, [NULL, NULL], &[vec![Any]]),
+        pushed_patterns_hold(either, [NULL, 4], &[]),
+        pushed_patterns_hold(flow, [NULL, 1], &[]),
+        pushed_patterns_hold("SELECT rating.flow FROM rating, stage WHERE stage.level IS NULL AND rating.site = ?", [1, NULL], &[
+            vec![Any],
+        ]),
+    ]
+    .iter()
+    .all(|&held| held)
 }
 
 /// Left the line, right what it prints.
@@ -905,5 +1362,19 @@ pub fn check() -> bool {
     ];
     let rings_held = rings.iter().filter(|&&held| held).count();
     println!("examples of tables that run round: {rings_held} of {} lists hold of the reference", rings.len());
-    held == results.len() && pairs_held == pairs.len() && names_held == names.len() && rings_held == rings.len()
+    let nulls = [
+        lines_hold(Mode::Desk, NULLS),
+        lines_hold(Mode::Desk, NULL_PAIRS),
+        lines_hold(Mode::Desk, NULL_RINGS),
+        lines_hold(Mode::Desk, NULL_TEXTS),
+        lines_hold(Mode::Calls, NULL_STATES),
+        texts_hold(NULLS_SHOWN),
+        truths_hold(),
+        null_patterns_hold(),
+    ];
+    let nulls_held = nulls.iter().filter(|&&held| held).count();
+    println!("examples of nulls: {nulls_held} of {} lists hold of the reference", nulls.len());
+    [(held, results.len()), (pairs_held, pairs.len()), (names_held, names.len()), (rings_held, rings.len()), (nulls_held, nulls.len())]
+        .iter()
+        .all(|(held, all)| held == all)
 }

@@ -190,6 +190,9 @@ impl Tally {
         for (what, n) in &made.rings {
             self.add(&format!("ring: {what}"), *n);
         }
+        for (what, n) in &made.nulls {
+            self.add(&format!("null: {what}"), *n);
+        }
     }
 
     pub fn print(&self) {

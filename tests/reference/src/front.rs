@@ -219,8 +219,8 @@ impl Front {
             b"FLUSH" if words.len() == 1 => Some(Some(self.flush())),
             b"SPOIL" | b"SET" if words.len() >= 3 => {
                 let part = std::str::from_utf8(words[1]).ok()?;
-                // Of these lines the language fixes only those that spoil what a ring adds to a table.
-                self.unfixed |= words[0] == b"SET" || !["start", "ring"].contains(&part);
+                // Of these lines the language fixes only those that spoil what a ring adds to a table, or a null test.
+                self.unfixed |= words[0] == b"SET" || !["start", "ring", "qnull", "unull"].contains(&part);
                 let numbers = values(&words[2..])?;
                 if words[0] == b"SET" {
                     return self.store.set(part, &numbers).map(|()| None);

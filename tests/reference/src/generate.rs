@@ -1,9 +1,12 @@
 //! Random scripts. A seed gives a profile and then the lines; the reference runs along, so that most lines can be
 //! biased to be taken (existing tables, columns, marks, keys kept, buffers that just fit).
 
-use crate::check::{keypad_lines, ring_lines};
+use crate::check::{keypad_lines, null_lines, ring_lines};
 use crate::front::{Front, Mode, BUFFER, CALLS_BYTES};
-use crate::text::{is_name, same_name, Change, KEYWORDS};
+use crate::meaning::{truth, Rows, Truth, NULL};
+use crate::pattern::{agrees, columns_tested, gone, patterns, Gone, Place};
+use crate::text::{constant, is_name, same_name, Change, Column, Condition, NullTest, Operand, Question, Relation, Update};
+use crate::text::KEYWORDS;
 use std::collections::BTreeMap;
 
 pub struct Random(u64);
@@ -60,7 +63,7 @@ pub enum Profile {
     Counts,
     /// Small tables, soon full; cells that just suffice.
     Full,
-    /// Numbers at the ends of 32 bits.
+    /// Numbers at the ends of 32 bits, often the null.
     Edges,
     /// Texts that miss by a little.
     Misses,
@@ -127,6 +130,15 @@ pub struct Generated {
     pub names: BTreeMap<String, usize>,
     /// What came of tables that run round.
     pub rings: BTreeMap<String, usize>,
+    /// What came of nulls and null tests.
+    pub nulls: BTreeMap<String, usize>,
+}
+
+/// What an update finds: the rows of its table, the row that it would push out, and the keys kept.
+struct Before {
+    rows: Vec<Vec<i32>>,
+    pushed: Option<Vec<i32>>,
+    keys: Vec<(usize, Vec<i32>)>,
 }
 
 struct Generator {
@@ -139,16 +151,20 @@ struct Generator {
     keypad: bool,
     /// Begins with the examples of a table that runs round.
     rings: bool,
+    /// Begins with the examples of nulls.
+    nulls: bool,
     front: Front,
     made: Generated,
 }
 
-const TABLE_NAMES: [&str; 10] = ["t", "u", "stage", "log1", "ab_c", "xz", "twelve_bytes", "select", "v9", "ring"];
-const COLUMN_NAMES: [&str; 12] =
-    ["a", "b", "c", "d", "site", "level", "e", "f_", "z", "rows", "twelve_bytes", "ring"];
+const TABLE_NAMES: [&str; 11] = ["t", "u", "stage", "log1", "ab_c", "xz", "twelve_bytes", "select", "v9", "ring", "null"];
+const COLUMN_NAMES: [&str; 14] =
+    ["a", "b", "c", "d", "site", "level", "e", "f_", "z", "rows", "twelve_bytes", "ring", "is", "null"];
 /// Words that later requests make keywords. In capitals they are names until they are in `KEYWORDS`, in other letters
 /// always.
-const LATER: [&str; 9] = ["null", "is", "count", "sum", "min", "max", "nearest", "on", "limit"];
+const LATER: [&str; 7] = ["count", "sum", "min", "max", "nearest", "on", "limit"];
+/// The null in a text, in two spellings.
+const NULLS: [&str; 3] = ["-2147483648", "-2147483648", "-002147483648"];
 const RELATIONS: [&str; 6] = ["=", "<>", "<", "<=", ">", ">="];
 const EDGES: [&str; 12] = [
     "-2147483648", "2147483647", "-2147483647", "2147483646", "0", "-1", "1", "-0", "-00000000000002147483648",
@@ -192,10 +208,58 @@ fn dotted(table: &Named) -> Vec<String> {
     table.1.iter().map(|column| format!("{}.{column}", table.0)).collect()
 }
 
+fn has_null_test(condition: &Condition<Operand>) -> bool {
+    match condition {
+        Condition::Compare(..) => false,
+        Condition::Null(..) => true,
+        Condition::Not(inner) => has_null_test(inner),
+        Condition::And(left, right) | Condition::Or(left, right) => has_null_test(left) || has_null_test(right),
+    }
+}
+
+/// The columns that a condition says are equal to a mark, with these marks.
+fn equal_to_marks(condition: &Condition<Operand>) -> Vec<(Column, usize)> {
+    match condition {
+        Condition::Compare(Operand::Column(column), Relation::Equal, Operand::Mark(mark))
+        | Condition::Compare(Operand::Mark(mark), Relation::Equal, Operand::Column(column)) => vec![(*column, *mark)],
+        Condition::Compare(..) | Condition::Null(..) => vec![],
+        Condition::Not(inner) => equal_to_marks(inner),
+        Condition::And(left, right) | Condition::Or(left, right) => [equal_to_marks(left), equal_to_marks(right)].concat(),
+    }
+}
+
+/// The null tests of a condition and its comparisons with the null constant, each with what stands next around it.
+fn null_places(condition: &Condition<Operand>, around: &str) -> Vec<String> {
+    let is_null = |operand: &Operand<Column>| *operand == Operand::Constant(NULL);
+    match condition {
+        Condition::Compare(left, _, right) if is_null(left) || is_null(right) => vec![format!("the null constant{around}")],
+        Condition::Compare(..) => vec![],
+        Condition::Null(_, NullTest::IsNull) => vec![format!("IS NULL{around}")],
+        Condition::Null(_, NullTest::IsNotNull) => vec![format!("IS NOT NULL{around}")],
+        Condition::Not(inner) => null_places(inner, " under NOT"),
+        Condition::And(left, right) => [null_places(left, " in AND"), null_places(right, " in AND")].concat(),
+        Condition::Or(left, right) => [null_places(left, " in OR"), null_places(right, " in OR")].concat(),
+    }
+}
+
 impl Generator {
     // ------------------------------------------------------------ numbers
 
+    /// A value, at some rate the null.
     fn value(&mut self) -> i32 {
+        let nulls = match self.profile {
+            Profile::Edges => 15,
+            Profile::Mixed => 10,
+            Profile::Counts => 4,
+            _ => 7,
+        };
+        if self.random.chance(nulls) {
+            return NULL;
+        }
+        self.number()
+    }
+
+    fn number(&mut self) -> i32 {
         let edges = match self.profile {
             Profile::Edges => 70,
             Profile::Mixed => 10,
@@ -220,7 +284,10 @@ impl Generator {
             }
             return self.random.pick(&EDGES).to_string();
         }
-        let value = self.value();
+        if self.random.chance(3) {
+            return self.random.pick(&NULLS).to_string();
+        }
+        let value = self.number();
         if self.random.chance(3) {
             return if value < 0 { format!("-0{}", -i64::from(value)) } else { format!("0{value}") };
         }
@@ -249,7 +316,17 @@ impl Generator {
         }
     }
 
+    /// IS NULL or IS NOT NULL, as often the one as the other.
+    fn null_test(&mut self, columns: &[String]) -> Vec<String> {
+        let mut all = vec![self.column(columns)];
+        all.extend(words(self.random.pick(&["IS NULL", "IS NOT NULL"])));
+        all
+    }
+
     fn comparison(&mut self, columns: &[String], marks: &mut usize) -> Vec<String> {
+        if self.random.chance(if self.profile == Profile::Edges { 20 } else { 11 }) {
+            return self.null_test(columns);
+        }
         let relation = if self.random.chance(55) { "=" } else { self.random.pick(&RELATIONS) };
         let (left, right) = if self.random.chance(55) {
             let column = self.column(columns);
@@ -333,6 +410,10 @@ impl Generator {
                 if j > 0 {
                     all.push(String::from(if negated { "AND" } else { "OR" }));
                 }
+                if self.random.chance(8) {
+                    all.extend(self.null_test(columns));
+                    continue;
+                }
                 let column = self.column(columns);
                 let relation = if self.random.chance(75) {
                     if negated { "<>" } else { "=" }
@@ -394,6 +475,8 @@ impl Generator {
         let low = if self.random.chance(15) { "1" } else { "2" };
         let f = self.groups_on(&column, &[low, "3", "3", "2"], of_question, more_question);
         let f = if self.random.chance(30) { f.replacen("= 3", "= ?", 1) } else { f };
+        // A null test counts one, and is false of the update's constants.
+        let f = if self.random.chance(35) { f.replacen("= 3", "IS NULL", 1) } else { f };
         let question = self.question_of(&table, &column, &f);
         self.add(&question);
         let set = self.random.pick(&["0", "?", "1"]);
@@ -573,7 +656,7 @@ impl Generator {
         let (c, d) = (self.column(&columns), self.column(&columns));
         let odd = self.random.pick(&[
             "_A", "1A", "A_", "A1", "A_1", "ROWS3", "ROWS_", "3ROWS", "NOT_", "AND3", "-A", "1_A", "A-1", "ROWSROWS", "É", "aÉ",
-            "RING3", "RING_", "RINGS", "3RING", "aRING",
+            "RING3", "RING_", "RINGS", "3RING", "aRING", "NULL3", "NULL_", "NULLS", "3NULL", "aNULL", "ISNULL", "IS3", "IS_", "3IS",
             "ABCDEFGHIJKL", "ABCDEFGHIJKLM", "ABCDEFGHIJK_", "ABCDEFGHIJK_1", "Z0123456789Z", "Z0123456789ZZ", "A.B", "K\u{212a}",
             "A@", "@A", "A[", "[A", "A`", "`A", "A{", "{A",
         ]);
@@ -860,6 +943,11 @@ impl Generator {
             "x = y AND v = w AND w = ?",
             "x <> ? AND y = x",
             "x = y AND y <> v AND v = x",
+            "x = y AND w IS NULL",
+            "x IS NULL AND y = ?",
+            "x = y AND NOT v IS NULL AND y = ?",
+            "x IS NOT NULL AND y IS NULL OR w = ?",
+            "NOT ( x < y OR w IS NULL )",
         ]);
         let selected = self.random.pick(&["x", "y", "v", "w", "v , w", "w , x , y"]);
         let named = |text: &str| {
@@ -877,8 +965,12 @@ impl Generator {
         let side = self.random.below(2);
         let (c, d) = if side == 0 { (x, v) } else { (y, w) };
         let (table, columns) = std::mem::take(&mut pair[side]);
-        let update = match self.random.below(9) {
+        let update = match self.random.below(13) {
             0 | 1 => self.insert_into(&table, columns.len()),
+            9 => words(&format!("UPDATE {table} SET {c} = -2147483648 WHERE {d} = ?")),
+            10 => words(&format!("UPDATE {table} SET {c} = ? WHERE {c} IS NULL")),
+            11 => words(&format!("DELETE FROM {table} WHERE {c} IS NULL")),
+            12 => self.insert_with_null(&table, columns.len()),
             2 => words(&format!("UPDATE {table} SET {c} = ? WHERE {c} = ?")),
             3 => words(&format!("UPDATE {table} SET {d} = ? WHERE {c} = ?")),
             4 => words(&format!("UPDATE {table} SET {c} = ? WHERE {d} = ?")),
@@ -909,6 +1001,488 @@ impl Generator {
         self.try_pair(question, update);
     }
 
+    // ------------------------------------------------------------ nulls
+
+    /// An INSERT with the null among its constants.
+    fn insert_with_null(&mut self, table: &str, count: usize) -> Vec<String> {
+        let at = self.random.below(count);
+        let mut values = Vec::new();
+        for i in 0..count {
+            let is_null = i == at || self.random.chance(20);
+            values.push(if is_null { self.random.pick(&NULLS).to_string() } else { String::from("?") });
+        }
+        words(&format!("INSERT INTO {table} VALUES ( {} )", values.join(" , ")))
+    }
+
+    /// A question that is unknown of hours without a reading, or asks for them.
+    fn iced_question(&mut self, table: &Named) -> Vec<String> {
+        let (c, d) = (self.random.pick(&table.1), self.random.pick(&table.1));
+        let f = self.random.pick(&[
+            "c < ?", "NOT c < ?", "c < 2", "NOT c < 2", "c < ? OR NOT c < ?", "c < ? OR c >= ?", "NOT c = ?", "c <> ?", "c = c",
+            "c <> c", "c <> d", "c <= d OR c > d", "c IS NULL", "c IS NULL AND d = ?", "NOT c IS NULL AND d = ?", "c IS NOT NULL",
+            "c IS NULL OR c < ?", "c IS NOT NULL AND c >= ?", "NOT ( c IS NULL OR d < ? )", "NOT ( c < ? AND d = 1 )",
+            "NOT c < 2 OR c < 2 AND d = 1", "c = ?", "c = -2147483648 OR d = ?", "NOT c <> -2147483648", "5 = 5 AND c IS NULL",
+        ]);
+        let named = |word: &str| match word {
+            "c" => c.clone(),
+            "d" => d.clone(),
+            _ => word.to_string(),
+        };
+        let f = f.split(' ').map(named).collect::<Vec<_>>().join(" ");
+        let selected = self.random.pick(&[&c, &d]).to_string();
+        self.question_of(&table.0, &selected, &f)
+    }
+
+    /// An update that brings nulls, or takes them away, or is about them.
+    fn iced_change(&mut self, table: &Named) -> Vec<String> {
+        let (c, d) = (self.random.pick(&table.1), self.random.pick(&table.1));
+        let name = &table.0;
+        let null = self.random.pick(&NULLS);
+        let text = match self.random.below(14) {
+            0..=2 => format!("UPDATE {name} SET {c} = ? WHERE {d} = ?"),
+            3 => format!("UPDATE {name} SET {c} = {null} WHERE {d} = ?"),
+            4 => format!("UPDATE {name} SET {c} = ? WHERE {c} IS NULL"),
+            5 => format!("UPDATE {name} SET {c} = {null} WHERE {c} < ?"),
+            6 => format!("UPDATE {name} SET {c} = {} WHERE {c} IS NULL AND {d} = ?", self.random.below(4)),
+            7 => format!("UPDATE {name} SET {c} = ?"),
+            8 => format!("DELETE FROM {name} WHERE {}{c} IS NULL", self.random.pick(&["", "2 = 2 AND ", "NOT NOT "])),
+            9 => format!("DELETE FROM {name} WHERE {d} = ? AND NOT {c} IS NOT NULL"),
+            10 => format!("DELETE FROM {name} WHERE {c} = {null}"),
+            11 => format!("DELETE FROM {name} WHERE {c} <= {null} OR {d} = ?"),
+            _ => return self.insert_with_null(name, table.1.len()),
+        };
+        words(&text)
+    }
+
+    /// A question and an update about nulls of one table, tried together.
+    fn null_pair(&mut self) {
+        let table = self.some_table();
+        let question = self.iced_question(&table);
+        self.add(&question);
+        let update = self.iced_change(&table);
+        self.add(&update);
+        for _ in 0..self.random.between(1, 3) {
+            self.try_last_pair();
+        }
+    }
+
+    /// Values for an update of a table, meant for one of its rows: where the WHERE says that a column equals a mark, that
+    /// row's value; a column that is set goes from the null to a number or back.
+    fn iced_values(&mut self, update: &Update) -> Vec<i32> {
+        let mut values: Vec<i32> = (0..update.marks).map(|_| self.ring_value(update.table)).collect();
+        let rows = self.front.store.rows_now(update.table).to_vec();
+        let row = if rows.is_empty() { vec![] } else { self.random.pick(&rows) };
+        for (column, mark) in update.condition.as_ref().map_or(vec![], equal_to_marks) {
+            if let Some(value) = row.get(column.place) {
+                values[mark - 1] = *value;
+            }
+        }
+        let set: Vec<(usize, Operand)> = match &update.change {
+            Change::Insert(operands) => operands.iter().copied().enumerate().collect(),
+            Change::Set(sets) => sets.clone(),
+            Change::Delete => vec![],
+        };
+        for (column, operand) in set {
+            if let Operand::Mark(mark) = operand {
+                let is_null = row.get(column) == Some(&NULL);
+                let to_null = if self.random.chance(80) { !is_null } else { is_null };
+                values[mark - 1] = if to_null && self.random.chance(70) { NULL } else { self.number() };
+            }
+        }
+        values
+    }
+
+    fn iced_update(&mut self, n: usize) {
+        let update = self.front.store.catalogue.updates[n].clone();
+        let values = self.iced_values(&update);
+        let text = self.written(&values);
+        self.emit_text(&format!("DO {n}{text}"));
+    }
+
+    /// Rows with nulls, questions, updates from the null to a number and back, and the questions again.
+    fn iced_calls(&mut self) {
+        let updates = self.front.store.catalogue.updates.iter().enumerate();
+        let sets: Vec<usize> = updates.filter(|(_, u)| matches!(u.change, Change::Set(_))).map(|(n, _)| n).collect();
+        if sets.is_empty() {
+            return self.ask();
+        }
+        let n = self.random.pick(&sets);
+        let update = self.front.store.catalogue.updates[n].clone();
+        let table = update.table;
+        if self.front.store.height(table) == 0 || self.random.chance(25) {
+            if let Some((insert, _)) = self.update_of(table, |change| matches!(change, Change::Insert(_))) {
+                self.iced_update(insert);
+            }
+        }
+        // Most questions test a column that the update sets.
+        let Change::Set(set) = update.change else { unreachable!("it sets") };
+        let is_set = |column: &Column| column.table == table && set.iter().any(|(place, _)| *place == column.place);
+        let tests = |question: &Question| question.condition.as_ref().is_some_and(|c| columns_tested(c).iter().any(is_set));
+        let mut asked = Vec::new();
+        for _ in 0..self.random.between(1, 3) {
+            let line = if self.random.chance(80) { self.ask_over(table, &tests) } else { self.ring_ask(table) };
+            if let Some(line) = line {
+                self.emit_text(&line);
+                asked.push(line);
+            }
+        }
+        for _ in 0..self.random.between(1, 3) {
+            let other = match self.random.below(10) {
+                0 => self.update_of(table, |change| matches!(change, Change::Insert(_))),
+                1 => self.update_of(table, |change| matches!(change, Change::Delete)),
+                _ => None,
+            };
+            self.iced_update(other.map_or(n, |(other, _)| other));
+            if self.random.chance(50) {
+                asked.iter().for_each(|line| self.emit_text(line));
+            }
+        }
+        for line in asked {
+            self.emit_text(&line);
+        }
+    }
+
+    /// Calls: a comparison of a stored statement made a null test, its operands as they are.
+    fn spoil_null_test(&mut self) {
+        let catalogue = &self.front.store.catalogue;
+        let of_question = self.random.chance(55);
+        let count = if of_question { catalogue.questions.len() } else { catalogue.updates.len() };
+        let n = if self.random.chance(95) { self.random.below(count) } else { count };
+        let at = self.random.below(4) + if self.random.chance(10) { 4 } else { 0 };
+        let part = if of_question { "qnull" } else { "unull" };
+        let kind = self.random.below(2);
+        self.emit_text(&format!("SPOIL {part} {n} {at} {kind}"));
+    }
+
+    /// As `designed_miss`, about IS NULL; some are taken.
+    fn null_miss(&mut self) -> Vec<String> {
+        let table = self.some_table();
+        let (t, c, d) = (&table.0, self.random.pick(&table.1), self.random.pick(&table.1));
+        let test = self.random.pick(&["IS NULL", "IS NOT NULL"]);
+        let depth = self.random.between(7, 9);
+        let many = |n: usize, what: &str, by: &str| vec![what; n].join(by);
+        let odd = |f: String| format!("SELECT {c} FROM {t} WHERE {f}");
+        let miss = match self.random.below(88) {
+            // Those that come to mind first.
+            0 | 1 => odd(format!("? {test}")),
+            2 | 3 => odd(format!("5 {test}")),
+            4 | 5 => odd(format!("( {c} ) {test}")),
+            6 | 7 => odd(format!("{c} = NULL")),
+            8 | 9 => odd(format!("{c} IS NOT NOT NULL")),
+            10 | 11 => odd(format!("{c} {test} = 1")),
+            12 | 13 => odd(format!("{c} ISNULL")),
+            14 | 15 => odd(format!("{c} {}", self.random.pick(&["IS", "IS NOT"]))),
+            16 | 17 => format!("UPDATE {t} SET {c} = NULL"),
+            18 | 19 => format!("INSERT INTO {t} VALUES ( {} )", many(table.1.len(), "NULL", " , ")),
+            20 | 21 => String::from("TABLE NULL ( a ) ROWS 1"),
+            22..=25 => odd(format!("{}{c} IS NOT NULL", "NOT ".repeat(self.random.pick(&[8, 8, 9])))),
+            26 | 27 => odd(format!("{}{c} IS NULL", "NOT ".repeat(self.random.between(8, 9)))),
+            28..=30 => odd(format!("{} OR {c} {test}", many(self.random.between(7, 8), &format!("{d} = 1"), " OR "))),
+            31 => odd(format!("{c} = -2147483648")),
+            32..=43 => {
+                let behind = self.random.pick(&[
+                    "IS NOT NOT NULL", "IS", "IS NOT", "NOT NULL", "NULL", "ISNULL", "NOTNULL", "IS NOTNULL", "ISNOT NULL", "IS NULLS",
+                    "IS 5", "IS ?", "IS NOT 5", "IS NOT ?", "IS ( NULL )", "IS NULL NULL", "IS IS NULL", "IS NULL IS NULL", "NOT IS NULL",
+                    "IS -2147483648", "IS NOT -2147483648", "IS NULL = 1", "IS NOT NULL = 1", "IS NULL 1", "IS , NULL", "= IS NULL",
+                    "IS TRUE", "IS UNKNOWN", "IS NULL )", "( IS NULL", ". IS NULL", "IS . NULL", "IS NULL OR", "IS NOT NULL AND",
+                    "is NULL", "Is NULL", "iS NULL", "IS null", "IS Null", "IS NULl", "IS not NULL", "IS Not NULL", "is null", "IS nOT NULL",
+                ]);
+                odd(format!("{c} {behind}"))
+            }
+            // No column before IS.
+            44 => odd(format!("{} {test}", self.random.pick(&["-2147483648", "NULL", "IS", "", "NOT", "( ? )"]))),
+            45 => odd(format!("( {c} {test} )")),
+            46 => odd(format!("{c} = {d} {test}")),
+            47 => odd(format!("{c} = 1 {test}")),
+            // NULL as an operand.
+            48 => odd(format!("{c} {} NULL", self.random.pick(&RELATIONS))),
+            49 => odd(format!("NULL {} {c}", self.random.pick(&RELATIONS))),
+            50 => odd(format!("NULL {}", self.random.pick(&["= NULL", "IS NULL", "IS NOT NULL", "", "= ?"]))),
+            51 => format!("UPDATE {t} SET {c} = NULL WHERE {d} {test}"),
+            52 => format!("INSERT INTO {t} VALUES ( {} )", many(table.1.len(), "-2147483648", " , ")),
+            53 => format!("UPDATE {t} SET {c} = -2147483648 WHERE {d} {test}"),
+            54 => format!("UPDATE {t} SET {c} {test}"),
+            55 => odd(format!("{c} IS {d}")),
+            56 => odd(format!("{c} IS NOT {d}")),
+            57 => odd(format!("{c} {test} {d} = 1")),
+            58 => odd(format!("{c} {test} AND {d} = ?")),
+            59 => odd(format!("NOT {c} {test} OR {d} {test}")),
+            60 => odd(format!("{c} , {d} {test}")),
+            // Names like these keywords.
+            61 => odd(format!("{} {test}", self.random.pick(&["is", "null", "Null", "Is", "nULL", "IS_", "NULL1", "not"]))),
+            62 => format!("TABLE {} ( a ) ROWS 2", self.random.pick(&["NULL", "IS", "null", "is", "Null", "NULLS", "ISNULL"])),
+            63 => format!("TABLE new ( a , {} ) ROWS 2", self.random.pick(&["NULL", "IS", "null", "is", "Is", "NULL_", "IS1"])),
+            64 => format!("SELECT {} FROM {t}", self.random.pick(&["NULL", "IS", "null", "is", "Null", "nULL"])),
+            65 => format!("DELETE FROM {}", self.random.pick(&["NULL", "IS", "null", "is", "nUll"])),
+            66 => format!("UPDATE {t} SET {} = 1", self.random.pick(&["NULL", "IS", "null", "is"])),
+            67 => format!("TABLE new ( a ) {}", self.random.pick(&["ROWS NULL", "RING NULL", "IS 3", "ROWS 3 NULL", "ROWS IS 3"])),
+            // Limits.
+            68 => odd(format!("{}{c} {test}", "NOT ".repeat(depth))),
+            69 => odd(format!("{}{c} {test}{}", "( ".repeat(depth), " )".repeat(depth))),
+            70 => odd(format!("NOT {}{d} = 1 OR {c} {test}{}", "( ".repeat(depth - 1), " )".repeat(depth - 1))),
+            71 => odd(many(self.random.between(8, 9), &format!("{c} {test}"), " OR ")),
+            72 => odd(format!("{} AND {c} {test}", many(self.random.between(7, 8), &format!("{d} <> 1"), " AND "))),
+            73 => odd(format!("thirteen_byte {test}")),
+            74 => odd(format!("twelve_bytes {test}")),
+            75 => odd(format!("nil {test}")),
+            76 => odd(format!("nil {test} AND {c} = {}", self.random.pick(&OUTSIDE))),
+            77 => odd(format!("{c} = -2147483648 AND {d} {test}")),
+            78 => format!("DELETE FROM {t} WHERE {c} {test} OR nil = 1"),
+            // Dots.
+            79 => odd(format!("{t} . {c} {test}")),
+            80 => format!("DELETE FROM {t} WHERE {t} . {c} {test}"),
+            _ => return self.null_pair_miss(test),
+        };
+        words(&miss).into_iter().filter(|word| !word.is_empty()).collect()
+    }
+
+    /// As `null_miss`, over two tables.
+    fn null_pair_miss(&mut self, test: &str) -> Vec<String> {
+        let pair = self.some_pair();
+        let [(t, of_t), (u, of_u)] = pair.unwrap_or_else(|| [self.some_table(), self.some_table()]);
+        let (c, d) = (self.random.pick(&of_t), self.random.pick(&of_u));
+        let f = match self.random.below(11) {
+            0 => format!("{c} {test}"),
+            1 => format!("{t}.{c} {test} AND {d} {test}"),
+            2 => format!("{t}.{c} {test} AND {u}.{d} {test}"),
+            3 => format!("NOT {u}.{d} {test} OR {t}.{c} = {u}.{d}"),
+            4 => format!("{t}.nil {test}"),
+            5 => format!("nil.{c} {test}"),
+            6 => format!("{t}.NULL {test}"),
+            7 => format!("{t}.{c}. {test}"),
+            8 => format!("{t} {test}"),
+            9 => format!("( {t}.{c} ) {test}"),
+            _ => format!("{t}.{c} = {u}.{d} AND {u}.{d} {test}"),
+        };
+        let second = if self.random.chance(8) { &t } else { &u };
+        dotted_words(&format!("SELECT {t}.{c} FROM {t} , {second} WHERE {f}"))
+    }
+
+    // ------------------------------------------------------------ what came of nulls
+
+    /// What the line's update finds, if it has one.
+    fn before(&self, line: &[u8]) -> Option<Before> {
+        let text = String::from_utf8_lossy(line);
+        let n: usize = text.strip_prefix("DO ")?.split(' ').next()?.parse().ok()?;
+        let store = &self.front.store;
+        let update = store.catalogue.updates.get(n)?;
+        Some(Before { rows: store.rows_now(update.table).to_vec(), pushed: store.pushed_out(n), keys: store.kept_keys() })
+    }
+
+    /// The truths of a question's condition for the rows or pairs of rows, one of its tables with other rows than now; at
+    /// most some thousands.
+    fn truths(&self, question: &Question, values: &[i32], other: Option<(usize, &[Vec<i32>])>) -> Vec<Truth> {
+        let rows_of = |table: usize| match other {
+            Some((which, rows)) if which == table => rows,
+            _ => self.front.store.rows_now(table),
+        };
+        let mut all = Vec::new();
+        let mut take = |rows: &Rows| all.push(truth(&question.condition, rows, values));
+        match question.tables[..] {
+            [table] => rows_of(table).iter().for_each(|row| take(&[(table, row)])),
+            [first, second] if rows_of(first).len() * rows_of(second).len() <= 4_000 => {
+                for row in rows_of(first) {
+                    rows_of(second).iter().for_each(|other| take(&[(first, row), (second, other)]));
+                }
+            }
+            _ => {}
+        }
+        all
+    }
+
+    /// What the line did about nulls, and how often.
+    fn null_outcomes(&self, line: &[u8], printed: &str, before: Option<Before>) -> Vec<(String, usize)> {
+        let catalogue = &self.front.store.catalogue;
+        let text = String::from_utf8_lossy(line);
+        let words: Vec<&str> = text.split(' ').collect();
+        let n: Option<usize> = words.get(1).and_then(|word| word.parse().ok());
+        let first_value = if self.mode == Mode::Calls && words[0] == "ASK" { 3 } else { 2 };
+        let given = words.iter().skip(first_value).map(|word| constant(word.as_bytes()).flatten());
+        let values: Vec<i32> = given.collect::<Option<_>>().unwrap_or_default();
+        match words[0] {
+            "ADD" => self.null_text_outcomes(&text, printed),
+            "SPOIL" if ["qnull", "unull"].contains(&words[1]) => vec![(format!("state spoiled by {}, {printed}", words[1]), 1)],
+            "ASK" if printed.starts_with("new") || printed.starts_with("kept") => {
+                let question = &catalogue.questions[n.expect("an answered question has a number")];
+                self.null_answer_outcomes(question, &values, printed)
+            }
+            "DO" if printed.starts_with("rows") => {
+                let update = &catalogue.updates[n.expect("an update done has a number")];
+                self.null_update_outcomes(update, &values, &before.expect("an update done was there before"))
+            }
+            _ => vec![],
+        }
+    }
+
+    fn null_text_outcomes(&self, text: &str, printed: &str) -> Vec<(String, usize)> {
+        let mut typed = text.split(|c: char| !c.is_ascii_alphanumeric() && c != '_');
+        let mut all = Vec::new();
+        if printed.starts_with("refused") {
+            if typed.any(|word| word == "IS" || word == "NULL") {
+                all.push((format!("text with IS or NULL, {printed}"), 1));
+            }
+            return all;
+        }
+        let catalogue = &self.front.store.catalogue;
+        let (condition, over) = match printed.split(' ').next() {
+            Some("query") => {
+                let question = catalogue.questions.last().expect("a question was added");
+                let over = if question.tables.len() == 2 { " over two tables" } else { "" };
+                (&question.condition, format!("question{over}"))
+            }
+            Some("update") => {
+                let update = catalogue.updates.last().expect("an update was added");
+                let null_set = match &update.change {
+                    Change::Insert(values) => values.contains(&Operand::Constant(NULL)).then_some("VALUES"),
+                    Change::Set(sets) => sets.iter().any(|(_, v)| *v == Operand::Constant(NULL)).then_some("SET"),
+                    Change::Delete => None,
+                };
+                all.extend(null_set.map(|which| (format!("added with the null in {which}"), 1)));
+                (&update.condition, String::from("update"))
+            }
+            _ => return all,
+        };
+        if let Some(condition) = condition {
+            for what in null_places(condition, "") {
+                all.push((format!("added {over} with {what}"), 1));
+            }
+        }
+        all
+    }
+
+    fn null_answer_outcomes(&self, question: &Question, values: &[i32], printed: &str) -> Vec<(String, usize)> {
+        let how = if printed.starts_with("new") { "new" } else { "kept" };
+        let rows = if printed.ends_with(':') { "no row" } else { "rows" };
+        let over = if question.tables.len() == 2 { " over two tables" } else { "" };
+        let mut all = Vec::new();
+        if question.condition.as_ref().is_some_and(has_null_test) {
+            all.push((format!("answer{over} with a null test, {how}, {rows}"), 1));
+        }
+        if values.contains(&NULL) {
+            all.push((format!("answer{over} with a null value, {how}, {rows}"), 1));
+        }
+        if printed.split_once(':').is_some_and(|(_, rest)| rest.split(' ').any(|word| word == "-2147483648")) {
+            all.push((format!("answer{over} that lists a null, {how}"), 1));
+        }
+        if how == "new" {
+            let unknown = self.truths(question, values, None).iter().filter(|&&truth| truth == Truth::Unknown).count();
+            let what = if over.is_empty() { "rows" } else { "pairs of rows" };
+            all.push((format!("{what} not taken for unknown"), unknown));
+        }
+        all
+    }
+
+    fn null_update_outcomes(&self, update: &Update, values: &[i32], before: &Before) -> Vec<(String, usize)> {
+        let store = &self.front.store;
+        let has_null = |row: &Vec<i32>| row.contains(&NULL);
+        let truth_of = |row: &Vec<i32>| truth(&update.condition, &[(update.table, row)], values);
+        let mut all = Vec::new();
+        let now = store.rows_now(update.table);
+        let kind = match &update.change {
+            Change::Insert(_) => {
+                all.push((String::from("INSERT of a row with null"), usize::from(now.last().is_some_and(has_null))));
+                all.push((String::from("row with null pushed out"), usize::from(before.pushed.as_ref().is_some_and(has_null))));
+                "INSERT"
+            }
+            Change::Set(_) => {
+                for (old, new) in before.rows.iter().zip(now).flat_map(|(old, new)| old.iter().zip(new)) {
+                    match (*old == NULL, *new == NULL) {
+                        (true, false) => all.push((String::from("UPDATE from the null to a number"), 1)),
+                        (false, true) => all.push((String::from("UPDATE from a number to the null"), 1)),
+                        _ => {}
+                    }
+                }
+                "UPDATE"
+            }
+            Change::Delete => {
+                let gone = before.rows.iter().filter(|row| has_null(row) && truth_of(row) == Truth::True).count();
+                all.push((String::from("DELETE of a row with null"), gone));
+                "DELETE"
+            }
+        };
+        if kind != "INSERT" {
+            let unknown = before.rows.iter().filter(|row| truth_of(row) == Truth::Unknown).count();
+            all.push((format!("{kind}: rows left for unknown"), unknown));
+        }
+        // The reasons of rule 6, question by question.
+        for question in store.catalogue.questions.iter().filter(|q| q.tables.contains(&update.table)) {
+            for (why, _) in gone(question, update, before.pushed.as_deref()) {
+                match why {
+                    Gone::Contradiction => {}
+                    Gone::NullTest => all.push((String::from("clause gone for a null test of a constant"), 1)),
+                    Gone::NullConstant => all.push((String::from("clause gone for the null constant"), 1)),
+                }
+            }
+        }
+        let stayed = store.kept_keys();
+        for (n, key) in &before.keys {
+            let question = &store.catalogue.questions[*n];
+            if !question.tables.contains(&update.table) {
+                continue;
+            }
+            if stayed.contains(&(*n, key.clone())) {
+                let left_for = |which: Gone, row: Option<&[i32]>| {
+                    let list = gone(question, update, row);
+                    list.iter().any(|(why, pattern)| *why == which && agrees(pattern, values, key))
+                };
+                if left_for(Gone::NullConstant, None) {
+                    all.push((format!("answer left by {kind} for the null constant alone"), 1));
+                } else if left_for(Gone::NullConstant, before.pushed.as_deref()) {
+                    all.push((String::from("answer left for a null in the row pushed out"), 1));
+                }
+                if left_for(Gone::NullTest, before.pushed.as_deref()) {
+                    all.push((format!("answer left by {kind} for a null test of a constant"), 1));
+                }
+                continue;
+            }
+            all.extend(self.null_drop_outcomes(question, key, update, values, before).map(|what| (what, 1)));
+        }
+        all
+    }
+
+    /// Of an answer that the update dropped.
+    fn null_drop_outcomes(
+        &self,
+        question: &Question,
+        key: &[i32],
+        update: &Update,
+        values: &[i32],
+        before: &Before,
+    ) -> impl Iterator<Item = String> {
+        let mut all = Vec::new();
+        let over = if question.tables.len() == 2 { " over two tables" } else { "" };
+        if let Change::Set(_) = update.change {
+            let was = self.truths(question, key, Some((update.table, &before.rows)));
+            let is = self.truths(question, key, None);
+            let altered = |from: Truth, to: Truth| was.iter().zip(&is).any(|(old, new)| *old == from && *new == to);
+            for (from, to, what) in [
+                (Truth::Unknown, Truth::True, "a row enters from unknown"),
+                (Truth::True, Truth::Unknown, "a row leaves to unknown"),
+            ] {
+                if altered(from, to) {
+                    all.push(format!("answer{over} dropped, {what}"));
+                }
+            }
+        }
+        if question.condition.as_ref().is_some_and(has_null_test) {
+            all.push(format!("answer{over} with a null test dropped"));
+        }
+        if let Some(row) = &before.pushed {
+            let taken = question.tables.len() == 1 && truth(&question.condition, &[(update.table, row)], key) == Truth::True;
+            if taken && row.contains(&NULL) {
+                all.push(String::from("answer dropped, a row with null in it is pushed out"));
+            }
+        }
+        let by_null = |pattern: &Vec<Place>| {
+            let is_null = |(place, value): (&Place, &i32)| matches!(place, Place::Mark(_)) && *value == NULL;
+            agrees(pattern, values, key) && pattern.iter().zip(key).any(is_null)
+        };
+        if patterns(question, update).iter().any(by_null) {
+            all.push(format!("answer{over} with a null value dropped by a mark with a null value"));
+        }
+        all.into_iter()
+    }
+
     // ------------------------------------------------------------ rings
 
     /// Statements about a ring; its questions select few rows, and its DELETE often none.
@@ -916,7 +1490,10 @@ impl Generator {
         let (c, d) = (self.random.pick(&table.1), self.random.pick(&table.1));
         let name = &table.0;
         if self.random.chance(70) {
-            let f = self.random.pick(&["c = ?", "c = ?", "c = ?", "? = c AND d <> 0", "c < ?", "c = ? OR d = ?", "NOT c <> ?"]);
+            let f = self.random.pick(&[
+                "c = ?", "c = ?", "c = ?", "? = c AND d <> 0", "c < ?", "c = ? OR d = ?", "NOT c <> ?", "c IS NULL", "NOT c < ?",
+                "d IS NOT NULL AND c = ?",
+            ]);
             let named = |word: &str| match word {
                 "c" => c.clone(),
                 "d" => d.clone(),
@@ -962,9 +1539,14 @@ impl Generator {
 
     /// An ask of a question over the ring, with values of its rows.
     fn ring_ask(&mut self, table: usize) -> Option<String> {
+        self.ask_over(table, &|_| true)
+    }
+
+    /// An ask of such a question over a table, with values of its rows.
+    fn ask_over(&mut self, table: usize, is_such: &dyn Fn(&Question) -> bool) -> Option<String> {
         let questions = self.front.store.catalogue.questions.iter().enumerate();
-        let found: Vec<(usize, usize)> =
-            questions.filter(|(_, q)| q.tables.contains(&table)).map(|(n, q)| (n, q.marks)).collect();
+        let over = questions.filter(|(_, q)| q.tables.contains(&table) && is_such(q));
+        let found: Vec<(usize, usize)> = over.map(|(n, q)| (n, q.marks)).collect();
         if found.is_empty() {
             return None;
         }
@@ -1055,7 +1637,7 @@ impl Generator {
         let text = String::from_utf8_lossy(line);
         let n: Option<usize> = text.split(' ').nth(1).and_then(|word| word.parse().ok());
         let mut all = Vec::new();
-        if text.starts_with("SPOIL ") {
+        if text.starts_with("SPOIL start ") || text.starts_with("SPOIL ring ") {
             all.push(format!("state spoiled, {printed}"));
         }
         let mut typed = text.split(|c: char| !c.is_ascii_alphanumeric() && c != '_');
@@ -1128,6 +1710,9 @@ impl Generator {
         if *marks > 0 && self.random.chance(percent) {
             *marks -= 1;
             return words("?");
+        }
+        if self.random.chance(12) {
+            return words(self.random.pick(&NULLS));
         }
         vec![self.constant()]
     }
@@ -1330,11 +1915,11 @@ impl Generator {
 
     /// Sentences past a limit, with unknown or taken names, or none by form.
     fn designed_miss(&mut self) -> Vec<String> {
-        if self.random.chance(45) {
-            return self.pair_miss();
-        }
-        if self.random.chance(28) {
-            return self.ring_miss();
+        match self.random.below(100) {
+            0..=34 => return self.pair_miss(),
+            35..=50 => return self.ring_miss(),
+            51..=77 => return self.null_miss(),
+            _ => {}
         }
         let (table, columns) = self.some_table();
         let c = self.column(&columns);
@@ -1408,8 +1993,8 @@ impl Generator {
             2 if at + 1 < tokens.len() => tokens.swap(at, at + 1),
             3 => tokens[at] = tokens[at].to_lowercase(),
             4 => tokens[at] = tokens[at].to_uppercase(),
-            5 => tokens[at] = self.random.pick(&["(", ")", ",", "?", "=", "<", "AND", "OR", "NOT", "WHERE", "nil", "0", "-1", "SET", "FROM", ".", "RING", "ROWS"]).to_string(),
-            6 => tokens.insert(at, self.random.pick(&["(", ")", ",", "?", "NOT", "-", "a", "1", "."]).to_string()),
+            5 => tokens[at] = self.random.pick(&["(", ")", ",", "?", "=", "<", "AND", "OR", "NOT", "WHERE", "nil", "0", "-1", "SET", "FROM", ".", "RING", "ROWS", "IS", "NULL"]).to_string(),
+            6 => tokens.insert(at, self.random.pick(&["(", ")", ",", "?", "NOT", "-", "a", "1", ".", "IS", "NULL"]).to_string()),
             7 => {
                 let odd = self.random.pick(&["_", "1", "x", "X", "-", ";", "\t", "\r", "é", "'", "*", ".", "\u{0}", "\u{7f}", "<", "=", ">"]);
                 if self.random.chance(50) {
@@ -1485,15 +2070,16 @@ impl Generator {
 
     fn emit(&mut self, line: Vec<u8>) {
         assert!(!line.contains(&b'\n'));
+        let before = self.before(&line);
         if let Some(printed) = self.front.line(&line) {
-            self.note(&line, &printed);
+            self.note(&line, &printed, before);
             self.made.printed.push(printed);
         }
         self.made.script.lines.push(line);
     }
 
     /// Counts what the line did.
-    fn note(&mut self, line: &[u8], printed: &str) {
+    fn note(&mut self, line: &[u8], printed: &str, before: Option<Before>) {
         let store = &self.front.store;
         if printed.starts_with("new") {
             let ground = store.last_ground.expect("a new answer has a ground");
@@ -1520,6 +2106,9 @@ impl Generator {
         }
         for what in self.ring_outcomes(line, printed) {
             *self.made.rings.entry(what).or_default() += 1;
+        }
+        for (what, n) in self.null_outcomes(line, printed, before) {
+            *self.made.nulls.entry(what).or_default() += n;
         }
     }
 
@@ -2004,9 +2593,10 @@ impl Generator {
             return self.count_pair();
         }
         if matches!(self.profile, Profile::Patterns | Profile::Mixed) && self.random.chance(4) {
-            return match self.random.below(3) {
+            return match self.random.below(4) {
                 0 => self.mark_pair(),
                 1 => self.opposite_pair(),
+                2 => self.null_pair(),
                 _ => self.join_pair(),
             };
         }
@@ -2027,8 +2617,14 @@ impl Generator {
         if self.mode == Mode::Desk && self.random.chance(odd) {
             return if self.random.chance(50) { self.odd_desk_line() } else { self.changed_desk_line() };
         }
+        if self.random.chance(if self.profile == Profile::Edges { 8 } else { 4 }) {
+            return self.iced_calls();
+        }
         if self.mode == Mode::Calls && self.random.chance(6) {
             return self.emit_text("SLOTS");
+        }
+        if self.mode == Mode::Calls && self.random.chance(2) {
+            return self.spoil_null_test();
         }
         match self.random.below(100) {
             0..=59 => self.ask(),
@@ -2052,8 +2648,15 @@ impl Generator {
                 let text = self.insert_into(&table.name, table.columns.len());
                 self.add(&text);
             }
+            let named = (table.name, table.columns);
             if table.ring && self.random.chance(if self.profile == Profile::Full { 85 } else { 60 }) {
-                self.ring_statements(&(table.name, table.columns));
+                self.ring_statements(&named);
+            }
+            if self.random.chance(if self.profile == Profile::Edges { 85 } else { 45 }) {
+                let question = self.iced_question(&named);
+                self.add(&question);
+                let update = self.iced_change(&named);
+                self.add(&update);
             }
         }
         for _ in 0..self.random.between(0, 2) {
@@ -2220,6 +2823,9 @@ impl Generator {
         if self.rings {
             self.examples(ring_lines());
         }
+        if self.nulls {
+            self.examples(null_lines());
+        }
         if self.square {
             self.square();
             length /= 5;
@@ -2236,10 +2842,11 @@ impl Generator {
         // Before the places for statements are taken: `desk` opens only once.
         if self.mode == Mode::Desk && matches!(self.profile, Profile::Patterns | Profile::Counts | Profile::Mixed) {
             for _ in 0..5 {
-                match self.random.below(5) {
+                match self.random.below(6) {
                     0 => self.count_pair(),
                     1 => self.mark_pair(),
                     2 => self.join_pair(),
+                    3 => self.null_pair(),
                     _ => self.opposite_pair(),
                 }
             }
@@ -2300,6 +2907,7 @@ pub fn script(mode: Mode, seed: u64, length: usize) -> Generated {
         pairs: BTreeMap::new(),
         names: BTreeMap::new(),
         rings: BTreeMap::new(),
+        nulls: BTreeMap::new(),
     };
     let special = seed / 10 % 8 == 0;
     let generator = Generator {
@@ -2309,6 +2917,7 @@ pub fn script(mode: Mode, seed: u64, length: usize) -> Generated {
         square: special && profile == Profile::Large,
         keypad: special && profile == Profile::Misses,
         rings: special && profile == Profile::Full,
+        nulls: special && profile == Profile::Edges,
         front: Front::new(mode),
         made,
     };

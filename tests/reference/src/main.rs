@@ -1,4 +1,4 @@
-//! An independent reference of the table store, made from document 01 and requests A.1, A.2 and A.4 of document 02 alone,
+//! An independent reference of the table store, made from document 01 and requests A.1, A.2, A.4 and A.5 of document 02 alone,
 //! with a generator of random scripts and a comparison with a program. It shares no code with the project.
 
 mod bench;

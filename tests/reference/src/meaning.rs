@@ -1,6 +1,19 @@
-//! Meaning: conditions on a row or a pair of rows, records, and rows of a record.
+//! Meaning: conditions on a row or a pair of rows in three values, records, and rows of a record.
 
-use crate::text::{Column, Condition, Operand, Relation};
+use crate::text::{Column, Condition, NullTest, Operand, Relation};
+
+/// The null of ISO/IEC 9075 (A.5). In cells, values, constants, records and keys it is this number.
+pub const NULL: i32 = i32::MIN;
+
+/// The three values of that standard.
+#[derive(Clone, Copy, PartialEq, Eq, Debug)]
+pub enum Truth {
+    True,
+    False,
+    Unknown,
+}
+
+use Truth::{False, True, Unknown};
 
 /// The rows a record may hold.
 pub const RECORD_ROWS: usize = 65_535;
@@ -8,14 +21,73 @@ pub const RECORD_ROWS: usize = 65_535;
 /// A row, or a pair of rows of two tables, each with its table's number.
 pub type Rows<'a> = [(usize, &'a [i32])];
 
-pub fn compare(left: i32, relation: Relation, right: i32) -> bool {
-    match relation {
+fn truth_of(holds: bool) -> Truth {
+    if holds {
+        True
+    } else {
+        False
+    }
+}
+
+/// A comparison with the null is unknown.
+pub fn compare(left: i32, relation: Relation, right: i32) -> Truth {
+    if left == NULL || right == NULL {
+        return Unknown;
+    }
+    truth_of(match relation {
         Relation::Equal => left == right,
         Relation::Unequal => left != right,
         Relation::Less => left < right,
         Relation::LessOrEqual => left <= right,
         Relation::Greater => left > right,
         Relation::GreaterOrEqual => left >= right,
+    })
+}
+
+/// A null test is never unknown.
+pub fn null_test(number: i32, test: NullTest) -> Truth {
+    truth_of(match test {
+        NullTest::IsNull => number == NULL,
+        NullTest::IsNotNull => number != NULL,
+    })
+}
+
+/// The standard's table of NOT.
+fn not(truth: Truth) -> Truth {
+    match truth {
+        True => False,
+        False => True,
+        Unknown => Unknown,
+    }
+}
+
+/// The standard's table of AND.
+fn and(left: Truth, right: Truth) -> Truth {
+    match (left, right) {
+        (True, True) => True,
+        (True, False) => False,
+        (True, Unknown) => Unknown,
+        (False, True) => False,
+        (False, False) => False,
+        (False, Unknown) => False,
+        (Unknown, True) => Unknown,
+        (Unknown, False) => False,
+        (Unknown, Unknown) => Unknown,
+    }
+}
+
+/// The standard's table of OR.
+fn or(left: Truth, right: Truth) -> Truth {
+    match (left, right) {
+        (True, True) => True,
+        (True, False) => True,
+        (True, Unknown) => True,
+        (False, True) => True,
+        (False, False) => False,
+        (False, Unknown) => Unknown,
+        (Unknown, True) => True,
+        (Unknown, False) => Unknown,
+        (Unknown, Unknown) => Unknown,
     }
 }
 
@@ -33,20 +105,28 @@ pub fn number(operand: Operand, rows: &Rows, values: &[i32]) -> i32 {
     }
 }
 
-fn holds_of(condition: &Condition<Operand>, rows: &Rows, values: &[i32]) -> bool {
+/// The condition as it was written, NOT included.
+fn truth_as_written(condition: &Condition<Operand>, rows: &Rows, values: &[i32]) -> Truth {
+    let of = |part: &Condition<Operand>| truth_as_written(part, rows, values);
     match condition {
         Condition::Compare(left, relation, right) => {
             compare(number(*left, rows, values), *relation, number(*right, rows, values))
         }
-        Condition::Not(inner) => !holds_of(inner, rows, values),
-        Condition::And(left, right) => holds_of(left, rows, values) && holds_of(right, rows, values),
-        Condition::Or(left, right) => holds_of(left, rows, values) || holds_of(right, rows, values),
+        Condition::Null(operand, test) => null_test(number(*operand, rows, values), *test),
+        Condition::Not(inner) => not(of(inner)),
+        Condition::And(left, right) => and(of(left), of(right)),
+        Condition::Or(left, right) => or(of(left), of(right)),
     }
 }
 
 /// An absent WHERE always holds.
+pub fn truth(condition: &Option<Condition<Operand>>, rows: &Rows, values: &[i32]) -> Truth {
+    condition.as_ref().map_or(True, |condition| truth_as_written(condition, rows, values))
+}
+
+/// WHERE takes only rows whose condition is true.
 pub fn holds(condition: &Option<Condition<Operand>>, rows: &Rows, values: &[i32]) -> bool {
-    condition.as_ref().map_or(true, |c| holds_of(c, rows, values))
+    truth(condition, rows, values) == True
 }
 
 /// The record of these rows, each of `columns` values; refusal 16 for too many.

@@ -1,8 +1,9 @@
 //! Patterns, rules 1 to 7 of document 01, straight from its text. A question over two tables is judged by the same
-//! rules: the columns of the table that is not updated stay columns. So is a row that is pushed out of a ring.
+//! rules: the columns of the table that is not updated stay columns. So is a row that is pushed out of a ring. Rules 4 and
+//! 6 know the null and its tests (A.5).
 
-use crate::meaning::compare;
-use crate::text::{Change, Column, Condition, Operand, Question, Relation, Update};
+use crate::meaning::{compare, null_test, Truth, NULL};
+use crate::text::{Change, Column, Condition, NullTest, Operand, Question, Relation, Update};
 
 /// A place of a pattern. Marks are the update's and count from 1.
 #[derive(Clone, Copy, PartialEq, Debug)]
@@ -24,7 +25,25 @@ pub enum Term {
     OfUpdate(usize),
 }
 
-type Clause = Vec<(Term, Relation, Term)>;
+/// A comparison of a clause, the null tests among them.
+#[derive(Clone, Copy, Debug)]
+enum Comparison {
+    Of(Term, Relation, Term),
+    Null(Term, NullTest),
+}
+
+type Clause = Vec<Comparison>;
+
+/// Why rule 6 lets a clause go: counted for the report of what was tried.
+#[derive(Clone, Copy, PartialEq, Eq, Debug)]
+pub enum Gone {
+    /// Two different constants in a class, `<>` `<` `>` in one class, or false of two constants.
+    Contradiction,
+    /// For none of these, but for a null test that is false of its class's constant.
+    NullTest,
+    /// For none of these, but for another comparison with an operand whose class holds the null constant.
+    NullConstant,
+}
 
 fn opposite(relation: Relation) -> Relation {
     match relation {
@@ -34,6 +53,13 @@ fn opposite(relation: Relation) -> Relation {
         Relation::GreaterOrEqual => Relation::Less,
         Relation::Greater => Relation::LessOrEqual,
         Relation::LessOrEqual => Relation::Greater,
+    }
+}
+
+fn opposite_test(test: NullTest) -> NullTest {
+    match test {
+        NullTest::IsNull => NullTest::IsNotNull,
+        NullTest::IsNotNull => NullTest::IsNull,
     }
 }
 
@@ -60,6 +86,9 @@ pub fn pushed(condition: &Condition<Operand>, negated: bool, term: &dyn Fn(Opera
             let relation = if negated { opposite(*relation) } else { *relation };
             Condition::Compare(term(*left), relation, term(*right))
         }
+        Condition::Null(operand, test) => {
+            Condition::Null(term(*operand), if negated { opposite_test(*test) } else { *test })
+        }
         Condition::Not(inner) => pushed(inner, !negated, term),
         Condition::And(left, right) | Condition::Or(left, right) => {
             let sides = (Box::new(pushed(left, negated, term)), Box::new(pushed(right, negated, term)));
@@ -75,7 +104,8 @@ pub fn pushed(condition: &Condition<Operand>, negated: bool, term: &dyn Fn(Opera
 /// Rule 4: the clauses of a condition without NOT.
 fn clauses_of(condition: &Condition<Term>) -> Vec<Clause> {
     match condition {
-        Condition::Compare(left, relation, right) => vec![vec![(*left, *relation, *right)]],
+        Condition::Compare(left, relation, right) => vec![vec![Comparison::Of(*left, *relation, *right)]],
+        Condition::Null(operand, test) => vec![vec![Comparison::Null(*operand, *test)]],
         Condition::Or(left, right) => [clauses_of(left), clauses_of(right)].concat(),
         Condition::And(left, right) => paired(&clauses_of(left), &clauses_of(right)),
         Condition::Not(_) => unreachable!("NOT was pushed in"),
@@ -104,7 +134,7 @@ fn paired(left: &[Clause], right: &[Clause]) -> Vec<Clause> {
 fn count(condition: &Option<Condition<Operand>>) -> usize {
     fn of(condition: &Condition<Term>) -> usize {
         match condition {
-            Condition::Compare(..) => 1,
+            Condition::Compare(..) | Condition::Null(..) => 1,
             Condition::Or(left, right) => of(left) + of(right),
             Condition::And(left, right) => of(left) * of(right),
             Condition::Not(_) => unreachable!("NOT was pushed in"),
@@ -113,11 +143,13 @@ fn count(condition: &Option<Condition<Operand>>) -> usize {
     condition.as_ref().map_or(1, |c| of(&pushed(c, false, &question_term)))
 }
 
-fn columns_tested(condition: &Condition<Operand>) -> Vec<Column> {
+pub fn columns_tested(condition: &Condition<Operand>) -> Vec<Column> {
+    let columns = |operands: &[Operand]| -> Vec<Column> {
+        operands.iter().filter_map(|o| if let Operand::Column(c) = o { Some(*c) } else { None }).collect()
+    };
     match condition {
-        Condition::Compare(left, _, right) => {
-            [left, right].iter().filter_map(|o| if let Operand::Column(c) = o { Some(*c) } else { None }).collect()
-        }
+        Condition::Compare(left, _, right) => columns(&[*left, *right]),
+        Condition::Null(operand, _) => columns(&[*operand]),
         Condition::Not(inner) => columns_tested(inner),
         Condition::And(left, right) | Condition::Or(left, right) => {
             [columns_tested(left), columns_tested(right)].concat()
@@ -125,18 +157,21 @@ fn columns_tested(condition: &Condition<Operand>) -> Vec<Column> {
     }
 }
 
-/// The classes into which `=` joins the terms of a clause: a list of disjoint lists.
+/// The classes into which `=` joins the terms of a clause: a list of disjoint lists. A null test joins nothing.
 fn classes(clause: &Clause, marks: usize) -> Vec<Vec<Term>> {
     let mut classes: Vec<Vec<Term>> = Vec::new();
     let every_mark = (1..=marks).map(Term::OfQuestion);
-    let every_operand = clause.iter().flat_map(|(l, _, r)| [*l, *r]);
+    let every_operand = clause.iter().flat_map(|comparison| match comparison {
+        Comparison::Of(left, _, right) => vec![*left, *right],
+        Comparison::Null(operand, _) => vec![*operand],
+    });
     for term in every_operand.chain(every_mark) {
         if !classes.iter().any(|class| class.contains(&term)) {
             classes.push(vec![term]);
         }
     }
-    for (left, relation, right) in clause {
-        if *relation == Relation::Equal {
+    for comparison in clause {
+        if let Comparison::Of(left, Relation::Equal, right) = comparison {
             let l = class_of(&classes, *left);
             let r = class_of(&classes, *right);
             if l != r {
@@ -157,48 +192,75 @@ fn constants(class: &[Term]) -> Vec<i32> {
     class.iter().filter_map(|t| if let Term::Constant(n) = t { Some(*n) } else { None }).collect()
 }
 
-/// Rules 6 and 7 for one clause; `None` if the clause goes.
-fn pattern_of(clause: &Clause, marks: usize) -> Option<Pattern> {
-    let classes = classes(clause, marks);
+/// Rule 6: does the clause go, and why?
+fn goes(clause: &Clause, classes: &[Vec<Term>]) -> Option<Gone> {
     // A class lists each term once, so two constants in it are two different ones.
     if classes.iter().any(|class| constants(class).len() > 1) {
-        return None;
+        return Some(Gone::Contradiction);
     }
-    for (left, relation, right) in clause {
-        let l = class_of(&classes, *left);
-        let r = class_of(&classes, *right);
-        if l == r && matches!(relation, Relation::Unequal | Relation::Less | Relation::Greater) {
-            return None;
+    let constant_of = |term: Term| constants(&classes[class_of(classes, term)]).first().copied();
+    let contradicts = |comparison: &Comparison| match *comparison {
+        Comparison::Of(left, relation, right) => {
+            let in_one_class = class_of(classes, left) == class_of(classes, right);
+            let is_false = match (constant_of(left), constant_of(right)) {
+                (Some(a), Some(b)) => compare(a, relation, b) == Truth::False,
+                _ => false,
+            };
+            is_false || in_one_class && matches!(relation, Relation::Unequal | Relation::Less | Relation::Greater)
         }
-        if let (Some(a), Some(b)) = (constants(&classes[l]).first(), constants(&classes[r]).first()) {
-            if !compare(*a, *relation, *b) {
-                return None;
-            }
-        }
+        Comparison::Null(..) => false,
+    };
+    let fails_test = |comparison: &Comparison| match *comparison {
+        Comparison::Null(operand, test) => constant_of(operand).is_some_and(|n| null_test(n, test) == Truth::False),
+        Comparison::Of(..) => false,
+    };
+    let meets_null = |comparison: &Comparison| match *comparison {
+        Comparison::Of(left, _, right) => [left, right].iter().any(|&side| constant_of(side) == Some(NULL)),
+        Comparison::Null(..) => false,
+    };
+    if clause.iter().any(contradicts) {
+        Some(Gone::Contradiction)
+    } else if clause.iter().any(fails_test) {
+        Some(Gone::NullTest)
+    } else if clause.iter().any(meets_null) {
+        Some(Gone::NullConstant)
+    } else {
+        None
     }
+}
+
+/// Rule 7.
+fn pattern_of(classes: &[Vec<Term>], marks: usize) -> Pattern {
     let place = |mark: usize| {
-        let class = &classes[class_of(&classes, Term::OfQuestion(mark))];
+        let class = &classes[class_of(classes, Term::OfQuestion(mark))];
         if let Some(constant) = constants(class).first() {
             return Place::Constant(*constant);
         }
         let lowest = class.iter().filter_map(|t| if let Term::OfUpdate(m) = t { Some(*m) } else { None }).min();
         lowest.map_or(Place::Any, Place::Mark)
     };
-    Some((1..=marks).map(place).collect())
+    (1..=marks).map(place).collect()
 }
 
-/// The patterns of a question and an update, without those of a row pushed out.
-pub fn patterns(question: &Question, update: &Update) -> Vec<Pattern> {
+/// What rules 1 to 5 make of a question and an update.
+enum Listed {
+    Clauses(Vec<Clause>),
+    /// One pattern, all any.
+    AllAny,
+}
+
+/// Of a question and an update, without a row pushed out.
+fn listed(question: &Question, update: &Update) -> Listed {
     // Rule 1.
     if !question.tables.contains(&update.table) {
-        return vec![];
+        return Listed::Clauses(vec![]);
     }
     let updated = |place: usize| Column { table: update.table, place };
     // Rule 2.
     if let Change::Set(sets) = &update.change {
         let tested = question.condition.as_ref().map_or(vec![], columns_tested);
         if !sets.iter().any(|(c, _)| question.columns.contains(&updated(*c)) || tested.contains(&updated(*c))) {
-            return vec![];
+            return Listed::Clauses(vec![]);
         }
     }
     // Rule 5, before any clause is worked out.
@@ -210,7 +272,7 @@ pub fn patterns(question: &Question, update: &Update) -> Vec<Pattern> {
         Change::Set(_) => 2 * g_count * f_count,
     };
     if worked_out > 64 {
-        return vec![vec![Place::Any; question.marks]];
+        return Listed::AllAny;
     }
     // Rules 3 and 4.
     let g = clauses(&update.condition, &update_term);
@@ -233,36 +295,67 @@ pub fn patterns(question: &Question, update: &Update) -> Vec<Pattern> {
         }
     };
     assert_eq!(list.len(), worked_out);
-    patterns_of(&list, question.marks)
+    Listed::Clauses(list)
 }
 
-/// The patterns of a question and a row that an INSERT pushes out of a ring (A.4): F with the ring's columns replaced by
-/// the row's values. Rule 5 bounds this list alone.
-pub fn patterns_of_pushed(question: &Question, table: usize, row: &[i32]) -> Vec<Pattern> {
+/// Of a question and a row that an INSERT pushes out of a ring (A.4): F with the ring's columns replaced by the row's
+/// values. Rule 5 bounds this list alone.
+fn listed_of_pushed(question: &Question, table: usize, row: &[i32]) -> Listed {
     if !question.tables.contains(&table) {
-        return vec![];
+        return Listed::Clauses(vec![]);
     }
     if count(&question.condition) > 64 {
-        return vec![vec![Place::Any; question.marks]];
+        return Listed::AllAny;
     }
-    let list = clauses(&question.condition, &|operand| match operand {
+    Listed::Clauses(clauses(&question.condition, &|operand| match operand {
         Operand::Column(c) if c.table == table => Term::Constant(row[c.place]),
         other => question_term(other),
-    });
-    patterns_of(&list, question.marks)
+    }))
 }
 
-/// Rules 6 and 7.
-fn patterns_of(list: &[Clause], marks: usize) -> Vec<Pattern> {
+/// The patterns of a question and an update, without those of a row pushed out.
+pub fn patterns(question: &Question, update: &Update) -> Vec<Pattern> {
+    patterns_of(&listed(question, update), question.marks)
+}
+
+/// The patterns of a question and a row that an INSERT pushes out of a ring.
+pub fn patterns_of_pushed(question: &Question, table: usize, row: &[i32]) -> Vec<Pattern> {
+    patterns_of(&listed_of_pushed(question, table, row), question.marks)
+}
+
+/// Rules 6 and 7. Equal patterns keep the first.
+fn patterns_of(listed: &Listed, marks: usize) -> Vec<Pattern> {
+    let Listed::Clauses(list) = listed else {
+        return vec![vec![Place::Any; marks]];
+    };
     let mut found: Vec<Pattern> = Vec::new();
     for clause in list {
-        if let Some(pattern) = pattern_of(clause, marks) {
+        let classes = classes(clause, marks);
+        if goes(clause, &classes).is_none() {
+            let pattern = pattern_of(&classes, marks);
             if !found.contains(&pattern) {
                 found.push(pattern);
             }
         }
     }
     found
+}
+
+/// The clauses that rule 6 lets go, each with the reason and the pattern that it would have given: for the report of what
+/// was tried.
+pub fn gone(question: &Question, update: &Update, pushed: Option<&[i32]>) -> Vec<(Gone, Pattern)> {
+    let of_pushed = pushed.map(|row| listed_of_pushed(question, update.table, row));
+    let mut all = Vec::new();
+    for listed in [Some(listed(question, update)), of_pushed].into_iter().flatten() {
+        let Listed::Clauses(list) = listed else { continue };
+        for clause in &list {
+            let classes = classes(clause, question.marks);
+            if let Some(why) = goes(clause, &classes) {
+                all.push((why, pattern_of(&classes, question.marks)));
+            }
+        }
+    }
+    all
 }
 
 /// Does the pattern, filled with the update's values, agree with the key's values?

@@ -2,7 +2,7 @@
 //! can be compared (`tests/stored`).
 
 use crate::pattern::{patterns, pushed, question_term, Pattern, Place, Term};
-use crate::text::{Catalogue, Change, Column, Condition, Operand, Question, Relation, Statement};
+use crate::text::{Catalogue, Change, Column, Condition, NullTest, Operand, Question, Relation, Statement};
 
 fn refused(number: u8) -> String {
     format!("refused {number}")
@@ -36,6 +36,8 @@ fn postfix(condition: &Condition<Term>, place: Shown) -> String {
         Condition::Compare(left, relation, right) => {
             format!(" {}{}{}", term(*left, place), sign(*relation), term(*right, place))
         }
+        Condition::Null(operand, NullTest::IsNull) => format!(" {}-is-null", term(*operand, place)),
+        Condition::Null(operand, NullTest::IsNotNull) => format!(" {}-is-not-null", term(*operand, place)),
         Condition::And(left, right) => format!("{}{} and", postfix(left, place), postfix(right, place)),
         Condition::Or(left, right) => format!("{}{} or", postfix(left, place), postfix(right, place)),
         Condition::Not(_) => unreachable!("NOT was pushed in"),

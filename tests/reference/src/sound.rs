@@ -1,9 +1,10 @@
-//! Which states are sound, by document 01's sentence and requests A.1, A.2 and A.4 of document 02, for the lines SPOIL of
-//! the program `examples`. A line changes one part of a copy of the state. Parts are these papers': what the program alone
-//! knows (its numbers for comparisons, connectives and forms of updates) is not here. A state's names are in small letters.
+//! Which states are sound, by document 01's sentence and requests A.1, A.2, A.4 and A.5 of document 02, for the lines
+//! SPOIL of the program `examples`. A line changes one part of a copy of the state. Parts are these papers': what the
+//! program alone knows (its numbers for comparisons, connectives and forms of updates) is not here. A state's names are in
+//! small letters.
 
 use crate::store::Kept;
-use crate::text::{has_repeat, is_name, Catalogue, Change, Condition, Operand, Question, Update};
+use crate::text::{has_repeat, is_name, Catalogue, Change, Column, Condition, Operand, Question, Update};
 use crate::text::{COMPARISONS, LIST, MARKS, NAME, QUESTIONS, ROWS, TABLES, UPDATES};
 
 #[derive(Clone)]
@@ -18,6 +19,42 @@ pub struct TablePart {
     pub start: usize,
 }
 
+/// A comparison. In a null test the column stands on both sides.
+#[derive(Clone)]
+pub struct Compared {
+    left: Operand<usize>,
+    right: Operand<usize>,
+    is_null_test: bool,
+}
+
+impl Compared {
+    /// The comparisons of a condition, in the order of the text.
+    fn all(condition: &Option<Condition<Operand>>, place: &dyn Fn(Column) -> usize) -> Vec<Compared> {
+        fn of(condition: &Condition<Operand>, place: &dyn Fn(Column) -> usize) -> Vec<Compared> {
+            let compared = |left: Operand, right: Operand, is_null_test: bool| {
+                vec![Compared { left: left.placed(place), right: right.placed(place), is_null_test }]
+            };
+            match condition {
+                Condition::Compare(left, _, right) => compared(*left, *right, false),
+                Condition::Null(operand, _) => compared(*operand, *operand, true),
+                Condition::Not(inner) => of(inner, place),
+                Condition::And(left, right) | Condition::Or(left, right) => [of(left, place), of(right, place)].concat(),
+            }
+        }
+        condition.as_ref().map_or(vec![], |condition| of(condition, place))
+    }
+
+    /// A null test is on one column, and on nothing else.
+    fn passes(&self) -> bool {
+        !self.is_null_test || matches!(self.left, Operand::Column(_)) && self.left == self.right
+    }
+}
+
+/// The operands of comparisons, left to right.
+fn operands(tested: &[Compared]) -> Vec<Operand<usize>> {
+    tested.iter().flat_map(|one| [one.left, one.right]).collect()
+}
+
 /// Columns are places counted through the question's tables, the first table's before the second's.
 #[derive(Clone)]
 pub struct QuestionPart {
@@ -26,8 +63,27 @@ pub struct QuestionPart {
     /// The place of the second table's first column; of a question over one table nothing is known of it.
     pub start: Option<usize>,
     pub columns: Vec<usize>,
-    pub tested: Vec<Operand<usize>>,
+    pub tested: Vec<Compared>,
     pub marks: usize,
+}
+
+#[derive(Clone)]
+pub struct UpdatePart {
+    pub table: usize,
+    pub change: Change,
+    pub tested: Vec<Compared>,
+    pub marks: usize,
+}
+
+impl UpdatePart {
+    pub fn of(update: &Update) -> UpdatePart {
+        UpdatePart {
+            table: update.table,
+            change: update.change.clone(),
+            tested: Compared::all(&update.condition, &|column| column.place),
+            marks: update.marks,
+        }
+    }
 }
 
 impl QuestionPart {
@@ -39,7 +95,7 @@ impl QuestionPart {
             second,
             start: second.map(|_| catalogue.tables[question.tables[0]].columns.len()),
             columns: question.columns.iter().map(|&column| place(column)).collect(),
-            tested: tested(&question.condition).iter().map(|o| o.placed(place)).collect(),
+            tested: Compared::all(&question.condition, &place),
             marks: question.marks,
         }
     }
@@ -57,7 +113,7 @@ pub struct State {
     pub slot_bytes: usize,
     pub tables: Vec<Option<TablePart>>,
     pub questions: Vec<Option<QuestionPart>>,
-    pub updates: Vec<Option<Update>>,
+    pub updates: Vec<Option<UpdatePart>>,
     /// By slot; those of the slot list's first `held` are held.
     pub kept: Vec<Option<Kept>>,
     pub order: Vec<usize>,
@@ -81,13 +137,8 @@ fn differ<T: PartialEq>(items: &[T]) -> bool {
     (0..items.len()).all(|i| !items[..i].contains(&items[i]))
 }
 
-/// The operands of a condition, left to right.
-fn operands(condition: &Condition<Operand>) -> Vec<Operand> {
-    match condition {
-        Condition::Compare(left, _, right) => vec![*left, *right],
-        Condition::Not(inner) => operands(inner),
-        Condition::And(left, right) | Condition::Or(left, right) => [operands(left), operands(right)].concat(),
-    }
+fn comparisons_pass(tested: &[Compared]) -> bool {
+    tested.len() <= COMPARISONS && tested.iter().all(Compared::passes)
 }
 
 /// Columns are the tables', and marks are 1, 2 and on, as many as the statement says.
@@ -96,10 +147,6 @@ fn operands_pass(all: &[Operand<usize>], columns: usize, marks: usize) -> bool {
     marks <= MARKS
         && found == (1..=marks).collect::<Vec<_>>()
         && all.iter().all(|o| if let Operand::Column(c) = o { *c < columns } else { true })
-}
-
-fn tested(condition: &Option<Condition<Operand>>) -> Vec<Operand> {
-    condition.as_ref().map_or(vec![], operands)
 }
 
 impl State {
@@ -142,12 +189,12 @@ impl State {
         self.question_width(question).is_some_and(|width| {
             (1..=LIST).contains(&question.columns.len())
                 && question.columns.iter().all(|&c| c < width)
-                && question.tested.len() <= 2 * COMPARISONS
-                && operands_pass(&question.tested, width, question.marks)
+                && comparisons_pass(&question.tested)
+                && operands_pass(&operands(&question.tested), width, question.marks)
         })
     }
 
-    fn update_passes(&self, update: &Update) -> bool {
+    fn update_passes(&self, update: &UpdatePart) -> bool {
         let Some(width) = self.width(update.table) else {
             return false;
         };
@@ -160,9 +207,9 @@ impl State {
             }
             Change::Delete => (true, vec![]),
         };
-        let all = tested(&update.condition);
-        let placed: Vec<Operand<usize>> = [&values, &all].into_iter().flatten().map(|o| o.placed(|c| c.place)).collect();
-        changes && all.len() <= 2 * COMPARISONS && operands_pass(&placed, width, update.marks)
+        let values: Vec<Operand<usize>> = values.iter().map(|value| value.placed(|column| column.place)).collect();
+        let all = [values, operands(&update.tested)].concat();
+        changes && comparisons_pass(&update.tested) && operands_pass(&all, width, update.marks)
     }
 
     fn slots_pass(&self) -> bool {
@@ -241,6 +288,9 @@ impl State {
             ("qcount", &[q]) => with(&mut self.questions, q, |question| question.columns.resize(size, 0)),
             ("qselected", &[q, at]) => with(&mut self.questions, q, |question| put(Some(&mut question.columns), at, size)),
             ("qparameters", &[q]) => with(&mut self.questions, q, |question| question.marks = size),
+            // IS NULL or IS NOT NULL, 0 or 1: the operands stay.
+            ("qnull", &[q, at]) if size <= 1 => with(&mut self.questions, q, |question| to_null_test(&mut question.tested, at)),
+            ("unull", &[u, at]) if size <= 1 => with(&mut self.updates, u, |update| to_null_test(&mut update.tested, at)),
             ("utable", &[u]) => with(&mut self.updates, u, |update| update.table = size),
             ("ucount", &[u]) => with(&mut self.updates, u, |update| match &mut update.change {
                 Change::Insert(values) => values.resize(size, Operand::Constant(0)),
@@ -272,6 +322,12 @@ fn some<T>(places: &mut [Option<T>], at: usize) -> Option<&mut T> {
 fn with<T>(places: &mut [Option<T>], at: usize, change: impl FnOnce(&mut T)) {
     if let Some(thing) = some(places, at) {
         change(thing);
+    }
+}
+
+fn to_null_test(tested: &mut [Compared], at: usize) {
+    if let Some(one) = tested.get_mut(at) {
+        one.is_null_test = true;
     }
 }
 

@@ -5,7 +5,7 @@
 use crate::meaning::{cell, holds, number, record, Rows, RECORD_ROWS};
 use crate::pattern::{agrees, patterns, patterns_of_pushed};
 use crate::plain::Plain;
-use crate::sound::{sizes_pass, QuestionPart, State, TablePart};
+use crate::sound::{sizes_pass, QuestionPart, State, TablePart, UpdatePart};
 use crate::text::{Catalogue, Change, Statement};
 use std::collections::HashMap;
 
@@ -441,7 +441,7 @@ impl Store {
             slot_bytes: self.slot_bytes,
             tables: (0..self.catalogue.tables.len()).map(table).collect(),
             questions: self.catalogue.questions.iter().map(|q| Some(QuestionPart::of(&self.catalogue, q))).collect(),
-            updates: self.catalogue.updates.iter().cloned().map(Some).collect(),
+            updates: self.catalogue.updates.iter().map(|u| Some(UpdatePart::of(u))).collect(),
             kept: self.kept.clone(),
             order: self.order.clone(),
             held: self.held,
@@ -575,6 +575,11 @@ impl Store {
     /// A table's rows, the oldest first, for the generator.
     pub fn rows_now(&self, table: usize) -> &[Vec<i32>] {
         self.plain.rows(table)
+    }
+
+    /// The row that an update would push out now, for the generator.
+    pub fn pushed_out(&self, update: usize) -> Option<Vec<i32>> {
+        self.plain.pushed_out(update as u64)
     }
 
     /// The rows of a table run round: the oldest one does not lie first. For the generator.

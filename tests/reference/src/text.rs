@@ -12,10 +12,19 @@ pub enum Relation {
     GreaterOrEqual,
 }
 
-/// A condition over operands of kind `O`: as written (`Written`) or with the names looked up (`Operand`).
+/// The two null tests (A.5), each the opposite of the other. They count as comparisons.
+#[derive(Clone, Copy, PartialEq, Eq, Debug)]
+pub enum NullTest {
+    IsNull,
+    IsNotNull,
+}
+
+/// A condition over operands of kind `O`: as written (`Written`) or with the names looked up (`Operand`). In a text a
+/// null test is on a column.
 #[derive(Clone, PartialEq, Debug)]
 pub enum Condition<O> {
     Compare(O, Relation, O),
+    Null(O, NullTest),
     Not(Box<Condition<O>>),
     And(Box<Condition<O>>, Box<Condition<O>>),
     Or(Box<Condition<O>>, Box<Condition<O>>),
@@ -144,9 +153,9 @@ enum Token {
 }
 
 /// Keywords are words spelled just so; in other letters, and until a request makes a word one of these, it is a name.
-pub const KEYWORDS: [&str; 15] = [
+pub const KEYWORDS: [&str; 17] = [
     "TABLE", "ROWS", "RING", "SELECT", "FROM", "WHERE", "INSERT", "INTO", "VALUES", "UPDATE", "SET", "DELETE", "AND", "OR",
-    "NOT",
+    "NOT", "IS", "NULL",
 ];
 
 /// Longest first, so that the first that fits is the longest that fits.
@@ -352,9 +361,22 @@ impl Reader {
         self.comparisons += 1;
         self.deepest = self.deepest.max(depth);
         let left = self.operand()?;
+        if self.keyword("IS").is_some() {
+            return self.null_test(left);
+        }
         let relation = self.relation()?;
         let right = self.operand()?;
         Some(Condition::Compare(left, relation, right))
+    }
+
+    /// What follows IS. The NOT of IS NOT NULL is no NOT around a comparison.
+    fn null_test(&mut self, left: Written) -> Option<Condition<Written>> {
+        let test = if self.keyword("NOT").is_some() { NullTest::IsNotNull } else { NullTest::IsNull };
+        self.keyword("NULL")?;
+        match left {
+            Written::Column(_) => Some(Condition::Null(left, test)),
+            _ => None,
+        }
     }
 
     fn optional_where(&mut self) -> Option<Option<Condition<Written>>> {
@@ -479,6 +501,7 @@ impl Catalogue {
             Condition::Compare(left, relation, right) => {
                 Condition::Compare(self.operand(tables, left)?, *relation, self.operand(tables, right)?)
             }
+            Condition::Null(operand, test) => Condition::Null(self.operand(tables, operand)?, *test),
             Condition::Not(inner) => Condition::Not(Box::new(self.condition(tables, inner)?)),
             Condition::And(left, right) => {
                 Condition::And(Box::new(self.condition(tables, left)?), Box::new(self.condition(tables, right)?))

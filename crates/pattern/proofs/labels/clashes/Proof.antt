@@ -3,7 +3,7 @@ use mathlib.Core.Path.{_∙_, ap₂}
 use mathlib.Core.Bool.{Bool, not, _&&_}
 use Prim.Native.Nat.{ℕ}
 use lib.Dec.{eqb, ltb}
-use Rattle.statement.specs.Operators.{operatorAt}
+use Rattle.statement.specs.Operators.{predicateAt}
 use Rattle.pattern.proofs.Operators.{clash-is}
 use borrow.Author.Needs.{needs}
 use Rattle.pattern.proofs.labels.clashes.Statement.{statement}
@@ -18,7 +18,7 @@ greater-requires c κs = search needs
 returns : tie.Need-returns
 returns c =
     let a = c .before .before .args in
-    ap₂ (λ (j : Bool) (m : ℕ). (j && ltb m 4294967296) && not (eqb (a .a) (a .b))) (c .before .is-join .ensures) (c .greater .ensures) ∙ clash-is (operatorAt (a .op)) (a .a) (a .b)
+    ap₂ (λ (j : Bool) (m : ℕ). (j && ltb m 4294967296) && not (eqb (a .a) (a .b))) (c .before .is-join .ensures) (c .greater .ensures) ∙ clash-is (predicateAt (a .op)) (a .a) (a .b)
 
 pub clashes-spec : {M : Type 1} → statement M
 clashes-spec = tie.close (tie.spec is-join-requires greater-requires returns)

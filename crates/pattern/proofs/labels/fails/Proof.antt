@@ -9,11 +9,14 @@ greater-requires c κs = search needs
 strict-requires : tie.Need-strict-requires
 strict-requires c κs = search needs
 
+never-requires : tie.Need-never-requires
+never-requires c κs = search needs
+
 compare-requires : tie.Need-compare-requires
 compare-requires c κs = search needs
 
 returns : tie.Need-returns
-returns c = rw (c .before .strict .ensures, c .before .before .greater .ensures, c .compare .ensures)
+returns c = rw (c .before .before .strict .ensures, c .before .never .ensures, c .before .before .before .greater .ensures, c .compare .ensures)
 
 pub fails-spec : {M : Type 1} → statement M
-fails-spec = tie.close (tie.spec greater-requires strict-requires compare-requires returns)
+fails-spec = tie.close (tie.spec greater-requires strict-requires never-requires compare-requires returns)

@@ -3,7 +3,7 @@ use Prim.Native.Nat.{ℕ}
 use mathlib.Core.Path.{sym, ap, ap₂, _∙_}
 use mathlib.Core.List.{map}
 use borrow.Author.Needs.{needs}
-use Rattle.statement.specs.Operators.{operatorAt}
+use Rattle.statement.specs.Operators.{predicateAt}
 use Rattle.pattern.specs.Least.{renameCode}
 use Rattle.pattern.proofs.Operators.{joins-labels, leaves-labels}
 use borrow.Author.Needs.{needs}
@@ -29,12 +29,12 @@ returns c =
     let j = sym (c .before .before .before .before .before .is-join .ensures) ∙ c .before .before .before .before .if1 .taken in
     c .relabel .ensures
     ∙ ap₂ (λ (x y : ℕ). map (renameCode x y) (a .labels .now)) (c .before .before .greater .ensures) (c .before .lesser .ensures)
-    ∙ sym (ap (λ (g : ℕ → ℕ). map g (a .labels .now)) (joins-labels (operatorAt (a .op)) (a .a) (a .b) (a .labels .now) j))
+    ∙ sym (ap (λ (g : ℕ → ℕ). map g (a .labels .now)) (joins-labels (predicateAt (a .op)) (a .a) (a .b) (a .labels .now) j))
 
 returns-2 : tie.Need-returns-2
 returns-2 c =
     let a = c .before .before .args in
-    leaves-labels (operatorAt (a .op)) (a .a) (a .b) (a .labels .now) (sym (c .before .is-join .ensures) ∙ c .if1 .left)
+    leaves-labels (predicateAt (a .op)) (a .a) (a .b) (a .labels .now) (sym (c .before .is-join .ensures) ∙ c .if1 .left)
 
 pub join-spec : {M : Type 1} → statement M
 join-spec =

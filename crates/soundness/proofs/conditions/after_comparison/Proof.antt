@@ -4,7 +4,6 @@ use mathlib.Core.Path.{_≡_, sym, ap, ap₂, _∙_}
 use mathlib.Core.Bool.{Bool, cond}
 use Prim.Native.Nat.{ℕ, _+_}
 use native.Mathlib.Omega.{arith}
-use borrow.Author.Tests.{lt-ltb, le-ltb}
 use Rattle.soundness.specs.Parts.{afterSide, afterSides, afterComparison}
 use Rattle.soundness.proofs.Numbering.{side-top}
 use Rattle.soundness.proofs.conditions.after_comparison.Statement.{statement}
@@ -21,6 +20,9 @@ after-side-requires c κs = search needs
 
 after-side-requires-2 : tie.Need-after-side-requires-2
 after-side-requires-2 c κs = let a = c .before .before .before .args in omega (arith, c .after-side .ensures, side-top (a .columns) (a .m) (c .before .before .left-side .result))
+
+operator-fits-requires : tie.Need-operator-fits-requires
+operator-fits-requires c κs = search needs
 
 add-result : tie.Need-add-result
 add-result c =
@@ -48,14 +50,14 @@ returns : tie.Need-returns
 unfolding afterComparison
 returns c =
     let t = c .before .before in
-    sides t ∙ ap (λ (b : Bool). cond b (behind t) (behind t + 64)) (sym (lt-ltb _ _ (c .if1 .taken)))
+    sides t ∙ ap (λ (b : Bool). cond b (behind t) (behind t + 64)) (sym (c .if1 .taken) ∙ c .before .operator-fits .ensures)
 
 returns-2 : tie.Need-returns-2
 unfolding afterComparison
 returns-2 c =
     let t = c .before .before in
-    ap (λ (k : ℕ). k + 64) (sides t) ∙ ap (λ (b : Bool). cond b (behind t) (behind t + 64)) (sym (le-ltb _ _ (c .if1 .left)))
+    ap (λ (k : ℕ). k + 64) (sides t) ∙ ap (λ (b : Bool). cond b (behind t) (behind t + 64)) (sym (c .if1 .left) ∙ c .before .operator-fits .ensures)
 
 pub after-comparison-spec : {M : Type 1} → statement M
 after-comparison-spec =
-    tie.close (tie.spec left-side-requires right-side-requires after-side-requires after-side-requires-2 add-result returns returns-2)
+    tie.close (tie.spec left-side-requires right-side-requires after-side-requires after-side-requires-2 operator-fits-requires add-result returns returns-2)

@@ -47,7 +47,7 @@ link-step-requires : tie.Need-link-step-requires Inv-loop μ-loop
 link-step-requires c κs =
     let l = c .before .before .before .loop in
     let s = c .before .before .before .before .before in
-    (omega (arith, s .pre .0, l .inv .few, c .before .before .loop-test .taken), s .pre .0, l .inv .targets-24, l .inv .starts-in)
+    (omega (arith, s .pre .0, l .inv .few, c .before .before .loop-test .taken), s .pre .0, l .inv .targets-32, l .inv .starts-in)
 
 if-so-requires : tie.Need-if-so-requires Inv-loop μ-loop
 if-so-requires c κs = search needs

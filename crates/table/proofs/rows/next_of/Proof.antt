@@ -82,7 +82,7 @@ returns c =
     let ea : toZ w32 (ofZ w32 (x .result)) ≡ sideAt (a .places .now) (a .numbers .now) (a .row .now) (2 * a .i) = search needs ∙ x .ensures ∙ ap (λ (z : ℤ). getD (a .row .now) (getD (a .places .now) (2 * a .i) 0) z) nx in
     let ny : toZ w32 (ofZ w32 (getD (a .numbers .now) (2 * a .i + 1) (pos 0))) ≡ getD (a .numbers .now) (2 * a .i + 1) (pos 0) = search needs in
     let eb : toZ w32 (ofZ w32 (y .result)) ≡ sideAt (a .places .now) (a .numbers .now) (a .row .now) (2 * a .i + 1) = search needs ∙ y .ensures ∙ ap (λ (z : ℤ). getD (a .row .now) (getD (a .places .now) (2 * a .i + 1) 0) z) ny in
-    ap (λ (k : ℕ). getD (a .targets .now) (3 * a .i + k) 0) (c .before .order .ensures .0 ∙ ap₂ orderOf ea eb)
+    ap (λ (k : ℕ). getD (a .targets .now) (4 * a .i + k) 0) (c .before .order .ensures .0 ∙ ap₂ orderOf ea eb)
 
 pub next-of-spec : {M : Type 1} → statement M
 next-of-spec =

@@ -54,8 +54,8 @@ element-copy-out-c c = inside c
 left-side-requires : tie.Need-left-side-requires Inv-loop μ-loop
 left-side-requires c κs = search needs
 
-right-side-requires : tie.Need-right-side-requires Inv-loop μ-loop
-right-side-requires c κs = search needs
+right-tested-requires : tie.Need-right-tested-requires Inv-loop μ-loop
+right-tested-requires c κs = search needs
 
 put-targets-requires : tie.Need-put-targets-requires Inv-loop μ-loop
 put-targets-requires c κs = inside (c .before .before .before .before)
@@ -86,7 +86,7 @@ loop-again c =
     let l = c .before .before .before .before .before .before .before .before .before .before .before .before .loop in (
       refl,
       fill-more _ _ _ _ _ _ (l .i) (l .inv .1) _ _ _ _ _ _ _ _ (c .before .before .before .before .before .before .before .before .before .before .before .loop-test .taken)
-          (c .before .before .before .before .before .before .before .before .before .left-side .ensures) (c .before .before .before .before .before .before .before .before .right-side .ensures) (c .before .before .before .before .before .before .put-targets .ensures)
+          (c .before .before .before .before .before .before .before .before .before .left-side .ensures) (c .before .before .before .before .before .before .before .before .right-tested .ensures) (c .before .before .before .before .before .before .put-targets .ensures)
           (c .before .before .before .put-side .ensures .0) (c .before .before .before .put-side .ensures .1) (c .put-side2 .ensures .0) (c .put-side2 .ensures .1),
     )
 
@@ -110,7 +110,7 @@ prepare-spec =
     mul-c
     element-copy-out-c
     left-side-requires
-    right-side-requires
+    right-tested-requires
     put-targets-requires
     mul-put-side
     put-side-requires

@@ -8,10 +8,10 @@ use Rattle.table.proofs.rows.redirect.Statement.{statement}
 use Rattle.table.proofs.rows.redirect.Tie as tie
 
 abbrev Inv-loop : tie.InvT-loop
-Inv-loop targets₀ a b from end j₀ targets j = (end ≡ 3 * b) × Redirecting a b from targets₀ targets j
+Inv-loop targets₀ a b from end j₀ targets j = (end ≡ 4 * b) × Redirecting a b from targets₀ targets j
 
 abbrev μ-loop : tie.MeasureT-loop
-μ-loop targets₀ a b from end j₀ targets j = 3 * b - j
+μ-loop targets₀ a b from end j₀ targets j = 4 * b - j
 
 mul-end : tie.Need-mul-end Inv-loop μ-loop
 mul-end c = omega (arith, c .pre .1)
