@@ -255,6 +255,20 @@ module _ (keys : List Key) (s : SlotList) (queries : List Query) (n : ℕ) (u : 
         go false f = rw (holds false f)
         go true f = rw (holds true f) (other-marks keys s q (getD queries q noQuery) u us marks (unlike f))
 
+-- ---- where no slot is held, nothing is marked
+
+module _ (keys : List Key) (s : SlotList) (queries : List Query) (h : s .held ≡ 0) where
+  none-holds : (q : ℕ) → holdsAnswer keys s q ≡ false
+  none-holds q = ap (λ (n : ℕ). any (λ (k : Key). eqb (k .query) q) (map (slotKey keys) (take n (s .order)))) h
+
+  marks-none : (n : ℕ) (u : Update) (us : List ℤ) (marks : List Bool) → marksOf keys s queries n u us marks ≡ marks
+  unfolding marksOf
+  marks-none n u us marks = go (from 0 n) marks
+    where
+      go : (qs : List ℕ) (marks : List Bool) → marksOver keys s queries u us qs marks ≡ marks
+      go [] marks = refl
+      go (q ∷ qs) marks = go qs _ ∙ ap (λ (b : Bool). cond b (queryMarks keys s q (getD queries q noQuery) u us marks) marks) (none-holds q)
+
 -- ---- the update, and the removal of the row that it pushes out
 
 module _ (keys : List Key) (s : SlotList) (queries : List Query) (n : ℕ) (u : Update) (t : Table) (start : ℕ) (cells us : List ℤ) where
@@ -271,9 +285,10 @@ module _ (keys : List Key) (s : SlotList) (queries : List Query) (n : ℕ) (u : 
     pub last : left ≡ 1 → over v marks ≡ goal
     pub done : left ≡ 0 → marks ≡ goal
 
-  pub judging-start : (none : List Bool) (left : ℕ) → none ≡ replicate 64 false → left ≡ cond (isPushing t u) 2 1 → Judging left u none
+  -- where a slot is held
+  judging-some : (none : List Bool) (left : ℕ) → none ≡ replicate 64 false → left ≡ cond (isPushing t u) 2 1 → Judging left u none
   unfolding marksBoth
-  judging-start none left e l = go (isPushing t u) refl
+  judging-some none left e l = go (isPushing t u) refl
     where
       own : over u none ≡ over u (replicate 64 false)
       own = ap (over u) e
@@ -296,6 +311,32 @@ module _ (keys : List Key) (s : SlotList) (queries : List Query) (n : ℕ) (u : 
       go false p =
           let k : left ≡ 1 = is false p in
           record { few = omega (arith, k); both = λ z. absurd (omega (arith, k, z)); last = λ z. own ∙ to false p; done = λ z. absurd (omega (arith, k, z)) }
+
+  -- where none is
+  none-goal : s .held ≡ 0 → replicate 64 false ≡ goal
+  unfolding marksBoth
+  none-goal h = sym (go (isPushing t u))
+    where
+      none : (v : Update) (marks : List Bool) → over v marks ≡ marks
+      none v marks = marks-none keys s queries h n v us marks
+
+      go : (b : Bool) → cond b (over (removalOf (u .table) t start cells) (over u (replicate 64 false))) (over u (replicate 64 false)) ≡ replicate 64 false
+      go true = none (removalOf (u .table) t start cells) _ ∙ none u _
+      go false = none u _
+
+  pub judging-start : (none : List Bool) (left : ℕ) → none ≡ replicate 64 false → left ≡ cond (eqb (s .held) 0) 0 (cond (isPushing t u) 2 1) → Judging left u none
+  judging-start none left e l = go (eqb (s .held) 0) refl
+    where
+      go : (b : Bool) → eqb (s .held) 0 ≡ b → Judging left u none
+      go false h = judging-some none left e (l ∙ ap (λ (b : Bool). cond b 0 (cond (isPushing t u) 2 1)) h)
+      go true h =
+          let k : left ≡ 0 = l ∙ ap (λ (b : Bool). cond b 0 (cond (isPushing t u) 2 1)) h in
+          record {
+            few = omega (arith, k);
+            both = λ z. absurd (omega (arith, k, z));
+            last = λ z. absurd (omega (arith, k, z));
+            done = λ z. e ∙ none-goal (eqb-true (s .held) 0 h);
+          }
 
   module _ (left : ℕ) (v : Update) (marks : List Bool) (h : 0 < left) (J : Judging left v marks) (next : List Bool) (e : next ≡ over v marks) where
     -- the removal comes next

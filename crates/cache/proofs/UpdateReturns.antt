@@ -1,15 +1,15 @@
 -- What each return of an update owes, over plain variables. Assumes nothing.
-use mathlib.Core.Path.{_≡_, refl, sym, ap, ap₂, _∙_}
-use mathlib.Core.Logic.{_≢_}
+use mathlib.Core.Path.{_≡_, refl, sym, ap, ap₂, subst, _∙_}
 use mathlib.Core.Bool.{Bool, true, false, not, _&&_}
 use mathlib.Core.List.{List}
-use Prim.Native.Nat.{ℕ, _-_, _≤_, _<_}
+use Prim.Native.Nat.{ℕ, zero, suc, _-_, _%_, _≤_, _<_}
+use native.Mathlib.Nat.{mod-eq-of-lt}
 use native.Mathlib.Omega.{arith}
-use borrow.Author.Tests.{leb-false, le-leb, lt-leb, eq-eqb, ne-eqb}
+use borrow.Author.Tests.{leb-false}
 use lib.Dec.{eqb, leb}
 use lib.IntN.{ℤ}
-use lib.ListN.{length, getD, length-map}
-use lib.Seq.{length-take-le}
+use lib.ListN.{length, take, getD, length-map}
+use lib.Seq.{length-take-le, set-getD}
 use Rattle.lists.specs.Lists.{All, count}
 use Rattle.lists.proofs.Lists.{All-head, All-tail}
 use Rattle.lists.proofs.Places.{getD-inside}
@@ -17,6 +17,7 @@ use Rattle.meaning.specs.Limits.{most-tables, most-updates, most-slots}
 use Rattle.meaning.specs.Plain.{orElse}
 use Rattle.meaning.proofs.Accepted.{clear}
 use Rattle.statement.specs.declared.Table.{Table}
+use Rattle.statement.specs.declared.Query.{Query}
 use Rattle.statement.specs.declared.Update.{Update}
 use Rattle.statement.specs.Compiled.{noTable, noUpdate}
 use Rattle.statement.specs.Catalog.{schemaOf}
@@ -24,14 +25,19 @@ use Rattle.statement.specs.Sound.{soundUpdate}
 use Rattle.statement.proofs.SoundUpdate.{update-parts}
 use Rattle.table.specs.Changed.{changeOf, cellsAfter}
 use Rattle.table.specs.declared.changes.Changed.{Changed}
+use Rattle.slots.specs.declared.Key.{Key}
 use Rattle.slots.specs.declared.SlotList.{SlotList}
 use Rattle.slots.specs.Order.{heldSlots, isMarked, dropBy, dropOf}
+use Rattle.slots.proofs.Laws.{is-sound}
 use Rattle.cache.specs.declared.State.{State}
-use Rattle.cache.specs.Sound.{usedTables, soundState, schemasIn}
+use Rattle.cache.specs.declared.Effect.{Effect}
+use Rattle.cache.specs.Sound.{areasOf, usedTables, soundState, schemasIn}
 use Rattle.cache.specs.Marks.{marksBoth}
-use Rattle.cache.specs.Calls.{unfit, tableAt, startOf, updateAt, isFull, Updates, updates, updateConditions, updateRefusal, isMatched, withRows, withChange, updateRefused, updateDone, updateOf}
+use Rattle.cache.specs.Outcomes.{updateNumber, Effective, noEffect, effectOf}
+use Rattle.cache.specs.Calls.{settled, unfit, tableAt, startOf, updateAt, isFull, Updates, updates, updateConditions, updateRefusal, isMatched, withRows, withChange, updateRefused, updateDone, updateOf}
 use Rattle.cache.proofs.Sounds.{Sound, sound-is, All-first}
 use Rattle.cache.proofs.Settled.{settled-refused, settled-done, fit-is}
+use Rattle.cache.proofs.Refused.{same-else}
 use Rattle.cache.proofs.Pushing.{first-row}
 use Rattle.cache.proofs.DropsMarked.{drop-marked, drop-fewer, drop-count, marks-matched}
 
@@ -68,43 +74,6 @@ module _ (s : State) (h : soundState s ≡ true) (L : Long s) (i : ℕ) (k : i <
 -- ---- the refusals
 
 module _ (s : State) (cells memory update values : ℕ) where
-  -- as far as the tests were made
-  refusal-is : (a b c d : Bool) → unfit s cells memory ≡ a → leb (s .«update_count») update ≡ b → not (eqb values (updateAt s update .parameters)) ≡ c
-      → isFull s (updateAt s update) ≡ d → orElse a 2 (orElse b 10 (orElse c 11 (orElse d 12 0))) ≡ updateRefusal s cells memory update values
-  unfolding updateRefusal
-  refusal-is a b c d e f g h = rw (e, f, g, h)
-
-  pub unfit-refused : unfit s cells memory ≡ true → 2 ≡ updateRefusal s cells memory update values
-  unfit-refused e = refusal-is true _ _ _ e refl refl refl
-
-  module _ (f : unfit s cells memory ≡ false) where
-    sound : soundState s ≡ true
-    sound = fit-is s cells memory f .sound
-
-    pub unknown-refused : s .«update_count» ≤ update → 10 ≡ updateRefusal s cells memory update values
-    unknown-refused h = refusal-is false true _ _ f (le-leb (s .«update_count») update h) refl refl
-
-    module _ (h : update < s .«update_count») (L : Long s) (d : Update) where
-      abbrev u : Update
-      u = getD (s .updates) update d
-
-      there : leb (s .«update_count») update ≡ false
-      there = lt-leb (s .«update_count») update h
-
-      parameters-are : u .parameters ≡ updateAt s update .parameters
-      parameters-are = ap (λ (u : Update). u .parameters) (update-read s sound L update h d)
-
-      pub values-refused : values ≢ u .parameters → 11 ≡ updateRefusal s cells memory update values
-      values-refused k = refusal-is false false true _ f there (ap not (ne-eqb values (updateAt s update .parameters) (λ e. k (e ∙ sym parameters-are)))) refl
-
-      -- a table that is full, or is not
-      pub full-refused : values ≡ u .parameters → (e : Table) (b : Bool) → let t = getD (s .tables) (u .table) e in (eqb (u .form) 0 && (not (t .ring) && leb (t .capacity) (t .rows))) ≡ b
-          → orElse b 12 0 ≡ updateRefusal s cells memory update values
-      full-refused k e b q =
-          let t : getD (s .tables) (u .table) e ≡ tableAt s (u .table) = table-read s sound (L .tables) (u .table) e (table-there s sound L update h d) in
-          refusal-is false false false b f there (ap not (eq-eqb values (updateAt s update .parameters) (k ∙ parameters-are)))
-          (ap (isFull s) (sym (update-read s sound L update h d)) ∙ ap (λ (t : Table). eqb (u .form) 0 && (not (t .ring) && leb (t .capacity) (t .rows))) (sym t) ∙ q)
-
   -- an update that is not refused
   pub record Accepted : Type 0 where
     pub sound : soundState s ≡ true
@@ -118,26 +87,72 @@ module _ (s : State) (cells memory update values : ℕ) where
       let F = fit-is s cells memory (All-head a) in
       record { sound = F .sound; cells-are = F .cells-are; there = leb-false (s .«update_count») update (All-head (All-tail a)) }
 
--- ---- refused or done
+-- the update and its table as they are read: where there are so few, their numbers are their places
+abbrev pub updateRead : State → ℕ → Update → Update
+updateRead s update d = getD (s .updates) (update % most-updates) d
 
-module _ (s : State) (cells : List ℤ) (memory update : ℕ) (values : List ℤ) (n : ℕ) (e : n ≡ updateRefusal s (length cells) memory update (length values)) where
-  pub update-refused : n ≢ 0 → updates (updateRefused s n) cells ≡ updateOf s cells memory update values
-  unfolding updateOf
-  update-refused h = rw (← e) (settled-refused n _ _ h)
+abbrev pub tableRead : State → Update → Table → Table
+tableRead s u d = getD (s .tables) (u .table % most-tables) d
 
-  pub update-done : n ≡ 0 → Long s → (d : Update) (o : Updates) → o ≡ updateDone s cells (getD (s .updates) update d) values → o ≡ updateOf s cells memory update values
-  unfolding updateOf
-  update-done z L d o k =
-      let A = accepted s (length cells) memory update (length values) (sym e ∙ z) in
-      k ∙ ap (λ (u : Update). updateDone s cells u values) (update-read s (A .sound) L update (A .there) d) ∙ rw (← e) (settled-done n _ _ z)
+abbrev fullFor : Update → Table → Bool
+fullFor u t = eqb (u .form) 0 && (not (t .ring) && leb (t .capacity) (t .rows))
+
+module _ (s : State) (L : Long s) (update : ℕ) (d : Update) where
+  abbrev u : Update
+  u = updateRead s update d
+
+  module _ (h : soundState s ≡ true) (k : update < s .«update_count») where
+    place-is : update % most-updates ≡ update
+    place-is = mod-eq-of-lt (update-below s h L update k)
+
+    read-is : u ≡ updateAt s update
+    read-is = ap (λ (i : ℕ). getD (s .updates) i d) place-is ∙ update-read s h L update k d
+
+    read-there : u .table < s .«table_count»
+    read-there = subst (λ (i : ℕ). getD (s .updates) i d .table < s .«table_count») (sym place-is) (table-there s h L update k d)
+
+    number-is : u .table % most-tables ≡ u .table
+    number-is = mod-eq-of-lt (table-below s h (u .table) read-there)
+
+    table-is : (e : Table) → tableRead s u e ≡ tableAt s (u .table)
+    table-is e = ap (λ (i : ℕ). getD (s .tables) i e) number-is ∙ table-read s h (L .tables) (u .table) e read-there
+
+    full-is : (e : Table) → fullFor u (tableRead s u e) ≡ isFull s (updateAt s update)
+    full-is e = ap (fullFor u) (table-is e) ∙ ap (isFull s) read-is
+
+  pub update-told : (e : Table) (cells memory values : ℕ) (bad full : Bool) → bad ≡ unfit s cells memory → full ≡ fullFor u (tableRead s u e) → (n : ℕ)
+      → n ≡ updateNumber bad (s .«update_count») update (u .parameters) values full → n ≡ updateRefusal s cells memory update values
+  unfolding updateRefusal
+  update-told e cells memory values bad full b f n q =
+      q ∙ same-else 2 bad (unfit s cells memory) _ _ b
+      (λ fit. same-else 10 (leb (s .«update_count») update) (leb (s .«update_count») update) _ _ refl
+      (λ there.
+      let h = fit-is s cells memory fit .sound in
+      let k = leb-false (s .«update_count») update there in
+      ap₂ (λ (v : Update) (b : Bool). orElse (not (eqb values (v .parameters))) 11 (orElse b 12 0)) (read-is h k) (f ∙ full-is h k e)))
+
+-- ---- what is left of the table and the slots
+
+module _ (tables : List Table) (keys : List Key) (slots : SlotList) (queries : List Query) (n : ℕ) (u : Update) (t : Table) (cells us : List ℤ) (k : ℕ) (z : k ≡ 0) (start : ℕ)
+    (es : start ≡ areasOf (take (u .table) tables)) where
+  pub effect-done : (gone : List Bool) (left : SlotList) (done : Changed) → gone ≡ marksBoth keys slots queries n u t start cells us → left ≡ dropOf slots gone → done ≡ changeOf u t start cells us
+      → record { count = done .count; rows = done .rows; oldest = done .oldest; slots = left } ≡ settled k (effectOf tables keys slots queries n u t cells us) (noEffect t slots)
+  unfolding effectOf
+  effect-done gone left done g l d = rw (l, g, d, es) (settled-done k _ _ z)
+
+pub cells-done : (u : Update) (t : Table) (cells us : List ℤ) (k : ℕ) → k ≡ 0 → (start from : ℕ) → start ≡ from → (after : List ℤ) → after ≡ cellsAfter u t start cells us
+    → after ≡ settled k (cellsAfter u t from cells us) cells
+cells-done u t cells us k z start from es after e = e ∙ ap (λ (i : ℕ). cellsAfter u t i cells us) es ∙ settled-done k _ _ z
 
 -- ---- what is done
 
-module _ (s : State) (h : soundState s ≡ true) (long : length (s .slots .order) ≡ most-slots) (lt : length (s .tables) ≡ most-tables) (u : Update) (k : u .table < s .«table_count»)
-    (cells values : List ℤ) (lent : length cells ≡ s .cells) (d : Table) (start : ℕ) (es : start ≡ startOf s (u .table)) (gone : List Bool) (left : SlotList)
-    (g : gone ≡ marksBoth (s .keys) (s .slots) (s .queries) (s .«query_count») u (getD (s .tables) (u .table) d) start cells values) (l : left ≡ dropOf (s .slots) gone) where
+module _ (s : State) (L : Long s) (h : soundState s ≡ true) (long : length (s .slots .order) ≡ most-slots) (u : Update) (k : u .table < s .«table_count») (cells values : List ℤ) (lent : length cells ≡ s .cells)
+    (t : Table) (et : t ≡ tableAt s (u .table)) where
   abbrev test : ℕ → Bool
   test = isMatched s cells u values
+
+  abbrev start : ℕ
+  start = startOf s (u .table)
 
   S : Sound s
   S = sound-is s h
@@ -145,39 +160,105 @@ module _ (s : State) (h : soundState s ≡ true) (long : length (s .slots .order
   held-few : s .slots .held ≤ length (s .slots .order)
   held-few = omega (arith, S .slots .few, S .slots .within)
 
-  abbrev marks : List Bool
-  marks = marksBoth (s .keys) (s .slots) (s .queries) (s .«query_count») u (tableAt s (u .table)) (startOf s (u .table)) cells values
+  abbrev marksFor : Table → List Bool
+  marksFor t = marksBoth (s .keys) (s .slots) (s .queries) (s .«query_count») u t start cells values
 
-  table-is : getD (s .tables) (u .table) d ≡ tableAt s (u .table)
-  table-is = table-read s h lt (u .table) d k
+  matched : All (λ x. isMarked (marksFor t) x ≡ test x) (heldSlots (s .slots))
+  matched = rw et (marks-matched s S u cells values (first-row s S (omega (arith, S .few-tables, L .tables)) (u .table) k cells lent u))
 
-  dropped : left ≡ dropOf (s .slots) marks
-  dropped =
-      l ∙ ap (dropOf (s .slots))
-      (g ∙ ap₂ (λ (t : Table) (n : ℕ). marksBoth (s .keys) (s .slots) (s .queries) (s .«query_count») u t n cells values) table-is es)
+  abbrev effect : Effect
+  effect = effectOf (s .tables) (s .keys) (s .slots) (s .queries) (s .«query_count») u t cells values
 
-  matched : All (λ x. isMarked marks x ≡ test x) (heldSlots (s .slots))
-  matched = marks-matched s S u cells values (first-row s S (omega (arith, S .few-tables)) (u .table) k cells lent u)
+  left-fewer : effect .slots .held ≤ s .slots .held
+  unfolding effectOf
+  left-fewer = drop-fewer test (s .slots) (marksFor t) matched held-few
 
-  pub left-fewer : left .held ≤ s .slots .held
-  left-fewer = rw dropped (drop-fewer test (s .slots) marks matched held-few)
+  left-is : effect .slots ≡ dropBy test (s .slots)
+  unfolding effectOf
+  left-is = drop-marked test (s .slots) (marksFor t) matched
 
-  left-is : left ≡ dropBy test (s .slots)
-  left-is = dropped ∙ drop-marked test (s .slots) marks matched
+  fewer-is : s .slots .held - effect .slots .held ≡ count test (heldSlots (s .slots))
+  unfolding effectOf
+  fewer-is = drop-count test (s .slots) (marksFor t) matched held-few
 
-  fewer-is : s .slots .held - left .held ≡ count test (heldSlots (s .slots))
-  fewer-is = rw dropped (drop-count test (s .slots) marks matched held-few)
-
-  pub updated-is : (after : List ℤ) (done : Changed)
-      → let t = getD (s .tables) (u .table) d in
-      done ≡ changeOf u t start cells values → after ≡ cellsAfter u t start cells values
+  updated-is : (i : ℕ) → i ≡ u .table → (after : List ℤ) → after ≡ cellsAfter u t start cells values
       → updates
       (record {
         refusal = 0;
-        rows = done .count;
-        invalidated = s .slots .held - left .held;
-        state = withChange s (u .table) (withRows t (done .rows) (done .oldest)) left;
+        rows = effect .count;
+        invalidated = s .slots .held - effect .slots .held;
+        state = withChange s i (withRows t (effect .rows) (effect .oldest)) (effect .slots);
       })
       after ≡ updateDone s cells u values
-  unfolding updateDone
-  updated-is after done ed ea = rw (fewer-is, left-is, ed, ea, table-is, es)
+  unfolding updateDone effectOf
+  updated-is i ei after ea = rw (fewer-is, left-is, ei, ea, et)
+
+-- ---- refused or done
+
+module _ (s : State) (L : Long s) (long : length (s .slots .order) ≡ most-slots) (cells : List ℤ) (memory update : ℕ) (values : List ℤ) (d : Update) (n : ℕ)
+    (r : n ≡ updateRefusal s (length cells) memory update (length values)) where
+  abbrev v : Update
+  v = updateRead s update d
+
+  known : n ≡ 0 → Accepted s (length cells) memory update (length values)
+  known z = accepted s (length cells) memory update (length values) (sym r ∙ z)
+
+  there : (z : n ≡ 0) → v .table < s .«table_count»
+  there z = read-there s L update d (known z .sound) (known z .there)
+
+  pub effective : Effective n (s .slots) (s .«query_count») (v .table)
+  effective z =
+      let S = sound-is s (known z .sound) in
+      let few : v .table ≤ most-tables = omega (arith, there z, S .few-tables) in
+      (is-sound _ (S .slots), S .few-queries, few)
+
+  module _ (e : Table) (o : Effect) (after : List ℤ)
+      (eo : let w = tableRead s v e in o ≡ settled n (effectOf (s .tables) (s .keys) (s .slots) (s .queries) (s .«query_count») v w cells values) (noEffect w (s .slots)))
+      (ea : after ≡ settled n (cellsAfter v (tableRead s v e) (startOf s (v .table)) cells values) cells) where
+    abbrev w : Table
+    w = tableRead s v e
+
+    abbrev result : Effect → List ℤ → Updates
+    result o after =
+        updates
+        (record {
+          refusal = n;
+          rows = o .count;
+          invalidated = s .slots .held - o .slots .held;
+          state = withChange s (v .table % most-tables) (withRows w (o .rows) (o .oldest)) (o .slots);
+        })
+        after
+
+    pub fewer : o .slots .held ≤ s .slots .held
+    fewer = go n refl
+      where
+        go : (k : ℕ) → n ≡ k → o .slots .held ≤ s .slots .held
+        go zero z =
+            let A = known z in
+            rw (eo ∙ sym (settled-done n _ _ z)) (left-fewer s L (A .sound) long v (there z) cells values (A .cells-are) w (table-is s L update d (A .sound) (A .there) e))
+        go (suc k) z = rw (eo ∙ sym (settled-refused n _ _ (λ y. omega (arith, y, z)))) (omega arith)
+
+    -- refused, the state has its table and its slots again
+    same : (q : n ≡ 0 → ⊥) → result (noEffect w (s .slots)) cells ≡ updates (updateRefused s n) cells
+    unfolding withChange
+    same q = rw (set-getD (s .tables) (v .table % most-tables) e, none (s .slots .held))
+      where
+        none : (k : ℕ) → k - k ≡ 0
+        none k = omega arith
+
+    pub update-is : result o after ≡ updateOf s cells memory update values
+    unfolding updateOf
+    update-is = go n refl
+      where
+        go : (k : ℕ) → n ≡ k → result o after ≡ updateOf s cells memory update values
+        go zero z =
+            let A = known z in
+            ap₂ result (eo ∙ sym (settled-done n _ _ z)) (ea ∙ sym (settled-done n _ _ z))
+            ∙ rw z (updated-is s L (A .sound) long v (there z) cells values (A .cells-are) w (table-is s L update d (A .sound) (A .there) e) _ (number-is s L update d (A .sound) (A .there)) _ refl)
+            ∙ ap (λ (u : Update). updateDone s cells u values) (read-is s L update d (A .sound) (A .there))
+            ∙ rw (← r) (settled-done n _ _ z)
+        go (suc k) z =
+            let q : n ≡ 0 → ⊥ = λ y. omega (arith, y, z) in
+            ap₂ result (eo ∙ sym (settled-refused n _ _ q)) (ea ∙ sym (settled-refused n _ _ q))
+            ∙ same q
+            ∙ rw (← r) (settled-refused n _ _ q)

@@ -1,24 +1,30 @@
--- What a question gives, without the state, as the code hands it on; and the state with it. Assumes nothing: these are definitions.
+-- What a question gives, without the state, as the code hands it on; and the state with it. What an update leaves, in the same way. Assumes nothing: these are definitions.
 use mathlib.Core.Path.{_≡_}
 use mathlib.Core.Bool.{Bool, true, false, not, _&&_, _||_, cond}
 use mathlib.Core.List.{List, [], _∷_}
 use Prim.Native.Nat.{ℕ, _+_, _*_, _≤_, _<_}
 use lib.Dec.{eqb, leb, ltb}
 use lib.IntN.{ℤ}
-use lib.ListN.{length, set}
+use lib.ListN.{length, take, set}
 use Rattle.lists.specs.Lists.{written}
-use Rattle.meaning.specs.Limits.{most-memory, most-slots, most-slot-bytes}
+use Rattle.meaning.specs.Limits.{most-tables, most-queries, most-memory, most-slots, most-slot-bytes}
 use Rattle.meaning.specs.Plain.{lowestOf}
+use Rattle.statement.specs.declared.Table.{Table}
+use Rattle.statement.specs.declared.Query.{Query}
+use Rattle.statement.specs.declared.Update.{Update}
 use Rattle.table.specs.declared.listing.Selected.{Selected}
+use Rattle.table.specs.Changed.{changeOf}
 use Rattle.slots.specs.declared.Key.{Key}
 use Rattle.slots.specs.declared.SlotList.{SlotList}
 use Rattle.slots.specs.declared.Taken.{Taken}
-use Rattle.slots.specs.Order.{takenOf}
+use Rattle.slots.specs.Order.{soundSlots, takenOf, dropOf}
 use Rattle.cache.specs.declared.State.{State}
 use Rattle.cache.specs.declared.Asked.{Asked}
 use Rattle.cache.specs.declared.Place.{Place}
 use Rattle.cache.specs.declared.Outcome.{Outcome}
-use Rattle.cache.specs.Sound.{queryAt}
+use Rattle.cache.specs.declared.Effect.{Effect}
+use Rattle.cache.specs.Sound.{areasOf, queryAt}
+use Rattle.cache.specs.Marks.{marksBoth}
 use Rattle.cache.specs.Calls.{asks, withCache, askCached, readFor, recordAt, newRefusal}
 
 -- 2, from what decides it: whether the state is sound, its opening's lengths, and the lengths lent
@@ -85,3 +91,25 @@ placeOf slots bytes r = cond (takes slots bytes r) (taking (takenOf slots) (leng
 
 unfoldable pub placeBytes : SlotList → ℕ → List ℕ → List ℕ → List ℕ
 placeBytes slots bytes r memory = cond (takes slots bytes r) (written memory (takenOf slots .slot * bytes) r) memory
+
+-- ---- an update
+
+-- 2, 10, 11, 12, from the numbers and the test that decide them
+abbrev pub updateNumber : Bool → ℕ → ℕ → ℕ → ℕ → Bool → ℕ
+updateNumber unfit count update parameters values full =
+    lowestOf ((2, unfit) ∷ (10, leb count update) ∷ (11, not (eqb values parameters)) ∷ (12, full) ∷ [])
+
+-- what is known of an update of a table where it is not refused
+abbrev pub Effective : ℕ → SlotList → ℕ → ℕ → Type 0
+Effective refusal slots n table = refusal ≡ 0 → (soundSlots slots ≡ true) × (n ≤ most-queries) × (table ≤ most-tables)
+
+-- refused, it leaves the table and the slots as they are
+abbrev pub noEffect : Table → SlotList → Effect
+noEffect t slots = record { count = 0; rows = t .rows; oldest = t .oldest; slots = slots }
+
+-- done, of a table t whose area lies behind those of the tables before it
+unfoldable pub effectOf : List Table → List Key → SlotList → List Query → ℕ → Update → Table → List ℤ → List ℤ → Effect
+effectOf tables keys slots queries n u t cells us =
+    let start = areasOf (take (u .table) tables) in
+    let c = changeOf u t start cells us in
+    record { count = c .count; rows = c .rows; oldest = c .oldest; slots = dropOf slots (marksBoth keys slots queries n u t start cells us) }

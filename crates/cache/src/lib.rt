@@ -13,13 +13,15 @@ use table::Statement;
 use table::Table;
 use table::Update;
 ghost use mathlib.Core.Path.{_≡_};
-ghost use mathlib.Core.Bool.{true};
+ghost use mathlib.Core.Bool.{true, not, _&&_};
 ghost use Prim.Native.Nat.{_≤_, _<_, _%_};
+ghost use lib.Dec.{eqb, leb};
 ghost use lib.ListN.{length, take};
+ghost use Rattle.table.specs.Changed.{cellsAfter};
 ghost use Rattle.slots.specs.Keys.{keyOf};
-ghost use Rattle.cache.specs.Sound.{opening, parametersOf, soundCounts, soundTables, soundAnswers, soundState};
-ghost use Rattle.cache.specs.Outcomes.{noPlace, noAnswer, outcomeOf, unfitIf, askNumber, Caches, WorksOut, Room, placeOf, placeBytes};
-ghost use Rattle.cache.specs.Calls.{emptyState, opens, openOf, addRefused, addedTable, addedQuery, addedUpdate, hasPlace, addedBy, addOf, asks, askRefusal, askNew, askOf, updates, updateRefusal, updateDone, updateOf, flushOf};
+ghost use Rattle.cache.specs.Sound.{opening, areasOf, parametersOf, soundCounts, soundTables, soundAnswers, soundState};
+ghost use Rattle.cache.specs.Outcomes.{noPlace, noAnswer, outcomeOf, unfitIf, askNumber, Caches, WorksOut, Room, placeOf, placeBytes, updateNumber, Effective, noEffect, effectOf};
+ghost use Rattle.cache.specs.Calls.{emptyState, opens, openOf, addRefused, addedTable, addedQuery, addedUpdate, hasPlace, addedBy, addOf, asks, askRefusal, askNew, askOf, settled, updates, updateOf, flushOf};
 
 // The state. Entries past the counts, and of slots that hold nothing, do not matter.
 #[repr(C)]
@@ -99,6 +101,14 @@ struct Outcome {
     place: Place,
 }
 
+// What an update leaves: the rows that it inserted, matched or deleted, those in use then and the place of the oldest, and the order of use.
+struct Effect {
+    count: u16,
+    rows: u16,
+    oldest: u16,
+    slots: SlotList,
+}
+
 // No slot is taken.
 fn nowhere(slots: SlotList) -> Place
     ensures { λ r. ⌜ r ≡ noPlace slots ⌝ }
@@ -172,6 +182,77 @@ fn ask_refusal(unfit: bool, count: u8, query: usize, parameters: u8, values: usi
         return Refusal::VALUES;
     }
     0
+}
+
+// Whether the table has no place for the row of an INSERT.
+fn is_full(form: u8, ring: bool, capacity: u16, rows: u16) -> bool
+    ensures { λ r. ⌜ r ≡ (eqb form 0 && (not ring && leb capacity rows)) ⌝ }
+{
+    (form == Update::INSERT) & (!ring & (capacity <= rows))
+}
+
+// 2, 10, 11 or 12, the lowest that applies, or 0: of `count` updates this one, which has so many parameters.
+fn update_refusal(
+    unfit: bool,
+    count: u8,
+    update: usize,
+    parameters: u8,
+    values: usize,
+    full: bool,
+) -> u8
+    ensures { λ r. ⌜ r ≡ updateNumber unfit count update parameters values full ⌝ }
+{
+    if unfit {
+        return Refusal::STATE;
+    }
+    if (count as usize) <= update {
+        return Refusal::NUMBER;
+    }
+    if values != (parameters as usize) {
+        return Refusal::VALUES;
+    }
+    if full {
+        return Refusal::FULL;
+    }
+    0
+}
+
+// The rows of the table t changed, and the slots of the answers that the update matches dropped; nothing where it is refused.
+fn take_effect(
+    refusal: u8,
+    tables: [Table; Table::TABLES],
+    keys: [Key; SlotList::SLOTS],
+    slots: SlotList,
+    queries: [Query; Query::QUERIES],
+    n: u8,
+    u: Update,
+    t: Table,
+    cells: &mut [i32],
+    values: &[i32],
+) -> Effect
+    requires { ⌜ Effective refusal slots n (u .table) ⌝ }
+    ensures effect { λ r. ⌜ r ≡ settled refusal (effectOf tables keys slots queries n u t (now (cells .entry)) (now (values .entry))) (noEffect t slots) ⌝ }
+    ensures cells { λ _. ⌜ now (cells .exit) ≡ settled refusal (cellsAfter u t (areasOf (take (u .table) tables)) (now (cells .entry)) (now (values .entry))) (now (cells .entry)) ⌝ }
+{
+    if refusal != 0 {
+        return Effect {
+            count: 0,
+            rows: t.rows,
+            oldest: t.oldest,
+            slots,
+        };
+    }
+    let i = u.table as usize;
+    let start = sound::areas(tables, i);
+    let gone = matching::dropped_by(keys, slots, queries, n, u, t, start, cells, values);
+    let done = table::change(u, t, start, cells, values);
+    let left = slots.drop(gone);
+    Effect {
+        count: done.count,
+        rows: done.rows,
+        oldest: done.oldest,
+        slots: left,
+    }
 }
 
 impl State {
@@ -527,71 +608,50 @@ impl State {
 
     // ---- update
 
-    // Makes an update with its values, and invalidates the cached answers that it matches. The cache memory is lent to be measured.
-    pub fn update(self, cells: &mut [i32], memory: &[u8], update: usize, values: &[i32]) -> Updated
+    // Makes an update with its values, and invalidates the cached answers that it matches. The cache memory is lent to be measured. Refused or not, the state is read and
+    // changed in one place and returned once: every further return would copy it again.
+    pub fn update(
+        mut self,
+        cells: &mut [i32],
+        memory: &[u8],
+        update: usize,
+        values: &[i32],
+    ) -> Updated
         ensures { λ r. ⌜ updates r (now (cells .exit)) ≡ updateOf self (now (cells .entry)) (length (now (memory .entry))) update (now (values .entry)) ⌝ }
     {
-        let refusal = self.update_refusal(cells.len(), memory.len(), update, values.len());
-        if refusal != 0 {
-            return Updated {
-                refusal,
-                rows: 0,
-                invalidated: 0,
-                state: self,
-            };
-        }
-        let list = self.updates;
-        let u = list[update];
-        self.updated(cells, u, values)
-    }
-
-    // 2, 10, 11 or 12, the lowest that applies, or 0.
-    fn update_refusal(self, cells: usize, memory: usize, update: usize, values: usize) -> u8
-        ensures { λ r. ⌜ r ≡ updateRefusal self cells memory update values ⌝ }
-    {
         let sound = self.is_sound();
-        if is_unfit(sound, self.cells, self.memory, cells, memory) {
-            return Refusal::STATE;
-        }
-        if (self.update_count as usize) <= update {
-            return Refusal::NUMBER;
-        }
-        let list = self.updates;
-        let u = list[update];
-        if values != (u.parameters as usize) {
-            return Refusal::VALUES;
-        }
-        let tables = self.tables;
-        let t = tables[u.table as usize];
-        if (u.form == Update::INSERT) & (!t.ring & (t.capacity <= t.rows)) {
-            return Refusal::FULL;
-        }
-        0
-    }
-
-    // The rows changed, and the slots of the answers that the update matches dropped.
-    fn updated(mut self, cells: &mut [i32], u: Update, values: &[i32]) -> Updated
-        requires { ⌜ (soundState self ≡ true) × (u .table < self .«table_count») × (length (now cells) ≡ self .cells) ⌝ }
-        ensures { λ r. ⌜ updates r (now (cells .exit)) ≡ updateDone self (now (cells .entry)) u (now (values .entry)) ⌝ }
-    {
+        let unfit = is_unfit(sound, self.cells, self.memory, cells.len(), memory.len());
+        let u = self.updates[update % Update::UPDATES];
+        let i = (u.table as usize) % Table::TABLES;
+        let mut t = self.tables[i];
+        let full = is_full(u.form, t.ring, t.capacity, t.rows);
+        let count = self.update_count;
+        let refusal = update_refusal(unfit, count, update, u.parameters, values.len(), full);
         let slots = self.slots;
         let keys = self.keys;
         let queries = self.queries;
         let n = self.query_count;
         let tables = self.tables;
-        let i = u.table as usize;
-        let mut t = self.tables[i];
-        let start = sound::areas(tables, i);
-        let gone = matching::dropped_by(keys, slots, queries, n, u, t, start, cells, values);
-        let left = slots.drop(gone);
-        let done = table::change(u, t, start, cells, values);
-        t.rows = done.rows;
-        t.oldest = done.oldest;
+        let effect = take_effect(
+            refusal,
+            tables,
+            keys,
+            slots,
+            queries,
+            n,
+            u,
+            t,
+            cells,
+            values,
+        );
+        let left = effect.slots;
+        t.rows = effect.rows;
+        t.oldest = effect.oldest;
         self.tables[i] = t;
         self.slots = left;
         Updated {
-            refusal: 0,
-            rows: done.count,
+            refusal,
+            rows: effect.count,
             invalidated: slots.held - left.held,
             state: self,
         }

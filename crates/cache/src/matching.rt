@@ -119,10 +119,13 @@ fn matched(
     marks
 }
 
-// How many are to be judged: the update and, where it pushes a row out of a ring, the removal of that row.
-fn judged(form: u8, ring: bool, capacity: u16, rows: u16) -> u8
-    ensures { λ r. ⌜ r ≡ cond (ring && (eqb form 0 && leb capacity rows)) 2 1 ⌝ }
+// How many are to be judged: the update and, where it pushes a row out of a ring, the removal of that row; none where no slot is held.
+fn judged(held: u8, form: u8, ring: bool, capacity: u16, rows: u16) -> u8
+    ensures { λ r. ⌜ r ≡ cond (eqb held 0) 0 (cond (ring && (eqb form 0 && leb capacity rows)) 2 1) ⌝ }
 {
+    if held == 0 {
+        return 0;
+    }
     if ring & ((form == Update::INSERT) & (capacity <= rows)) {
         return 2;
     }
@@ -147,7 +150,13 @@ pub fn dropped_by(
 {
     let mut marks = none();
     let mut v = update;
-    let mut left = judged(update.form, table.ring, table.capacity, table.rows);
+    let mut left = judged(
+        slots.held,
+        update.form,
+        table.ring,
+        table.capacity,
+        table.rows,
+    );
     while 0 < left {
         let next = matched(marks, keys, slots, queries, n, v, values);
         marks = next;
