@@ -11,8 +11,8 @@ use borrow.Author.Tests.{ltb-false}
 use lib.Dec.{leb, ltb}
 use lib.IntN.{ℤ}
 use lib.ListN.{length, getD, drop}
-use Rattle.lists.specs.Lists.{All, nil, cons, turned, written}
-use Rattle.lists.proofs.Lists.{All-take, All-drop}
+use Rattle.lists.specs.Lists.{All, nil, cons, keep, turned, written}
+use Rattle.lists.proofs.Lists.{All-take, All-drop, All-keep}
 use Rattle.lists.proofs.Turned.{All-turned}
 use Rattle.meaning.specs.Key.{Key}
 use Rattle.meaning.specs.Limits.{most-listed}
@@ -28,7 +28,8 @@ use Rattle.meaning.proofs.Record.{record-reads-back}
 use Rattle.meaning.proofs.Within32.{Row32, answer-rows, pairs-32}
 use Rattle.statement.specs.Sound.{secondRead, AgreesQuery}
 use Rattle.statement.proofs.SoundQuery.{query-parts}
-use Rattle.table.specs.Evaluated.{rowCells, areaRows}
+use Rattle.statement.specs.declared.Query.{Query}
+use Rattle.table.specs.Evaluated.{rowCells, areaRows, passesStored}
 use Rattle.table.proofs.Means.{answer-means}
 use Rattle.slots.specs.declared.Found.{Found}
 use Rattle.slots.specs.declared.Found.the-variants.{At, Nothing}
@@ -40,11 +41,11 @@ use Rattle.cache.specs.Sound.{queryAt, soundState}
 use Rattle.cache.specs.Means.{Means, Typed}
 use Rattle.cache.specs.Calls.{settled, startOf, tableAt, Asks, asks, askRefused, askRefusal, withCache, bytesAt, cachedLength, askCached, rowsAt, rowsOver, rowsFor, recordAt, tooMany, newRefusal, newly, askNew, askFound, foundIn, askOf}
 use Rattle.cache.specs.Run.{Store, Seen, ask, stepAsk, step}
-use Rattle.cache.specs.Demand.{lengthsLent, ReadsRows, ReadsFor, NewAnswer, ItsSlotsBytes, KeptAnswer}
+use Rattle.cache.specs.Demand.{lengthsLent, NewAnswer, ItsSlotsBytes, KeptAnswer}
 use Rattle.cache.proofs.Sounds.{Sound, sound-is, query-at}
 use Rattle.cache.proofs.Standing.{stands-for-plain}
 use Rattle.cache.proofs.Meanings.{query-agrees}
-use Rattle.cache.proofs.Asking.{rows-asked, read-asked, record-is, ask-number}
+use Rattle.cache.proofs.Asking.{listed-asked, read-asked, record-is, ask-number}
 use Rattle.cache.proofs.Meets.{there, few-values, place}
 
 -- ---- what an answer is, kept or new
@@ -107,9 +108,11 @@ rows-32 s cells i h = go (leb (startOf s i + rowCells (tableAt s i)) (length cel
     go true = All-turned (tableAt s i .oldest) (in-32 (tableAt s i .count) (tableAt s i .rows) (drop (startOf s i) cells) (All-drop (startOf s i) h))
     go false = nil
 
-over-32 : (s : State) (cells : List ℤ) (i : ℕ) (o : Option Second) → All Is32 cells → All Row32 (rowsOver s cells i o)
-over-32 s cells i none h = rows-32 s cells i h
-over-32 s cells i (some t) h = pairs-32 (rowsAt s cells i) (rowsAt s cells (t .table)) (rows-32 s cells i h) (rows-32 s cells (t .table) h)
+over-32 : (s : State) (cells : List ℤ) (q : Query) (vs : List ℤ) (o : Option Second) → All Is32 cells → All Row32 (rowsOver s cells q vs o)
+over-32 s cells q vs none h = rows-32 s cells (q .table) h
+over-32 s cells q vs (some t) h =
+    pairs-32 (keep (passesStored q vs) (rowsAt s cells (q .table))) (rowsAt s cells (t .table)) (All-keep (passesStored q vs) (λ r e k. e) (rows-32 s cells (q .table) h))
+    (rows-32 s cells (t .table) h)
 
 module _ (s : Store) (p : Plain) (T : Typed (s .state)) (h : soundState (s .state) ≡ true) (m : Means (s .state) (s .cells) p) (small : All Is32 (s .cells))
     (k : Key) (A : Asked (lengthsLent s) p k) where
@@ -117,7 +120,7 @@ module _ (s : Store) (p : Plain) (T : Typed (s .state)) (h : soundState (s .stat
   S = sound-is (s .state) h
 
   abbrev rows : List Row
-  rows = rowsFor (s .state) (s .cells) (queryAt (s .state) (k .query))
+  rows = rowsFor (s .state) (s .cells) (queryAt (s .state) (k .query)) (k .values)
 
   here : k .query < s .state .«query_count»
   here = there s p T h m (k .query) (k .values) [] A
@@ -131,26 +134,18 @@ module _ (s : Store) (p : Plain) (T : Typed (s .state)) (h : soundState (s .stat
       let q = P.queryAt p (k .query) in
       let Q = query-parts _ (queryAt (s .state) (k .query)) (query-at (s .state) T S (k .query) here) in
       let n : queryAt (s .state) (k .query) .count ≡ length (q .selected) = agrees .count-is in
-      subst (λ (l : List Row). ReadsBack (encode (length (q .selected)) (answer q (k .values) l) ++ later) (length (q .selected)) (answer q (k .values) l))
-      (rows-asked (s .state) T S (s .cells) p m (k .query) here)
+      subst (λ (l : List Row). ReadsBack (encode (length (q .selected)) l ++ later) (length (q .selected)) l)
+      (listed-asked (s .state) T S (s .cells) p m (k .query) here (k .values))
       (record-reads-back (length (q .selected)) (answer q (k .values) rows) later (omega (arith, Q .some-selected)) (omega (arith, Q .few-selected))
       (ltb-false most-listed (length (answer q (k .values) rows))
       (ap (λ (l : List Row). ltb most-listed (length l)) (sym (answer-means (queryAt (s .state) (k .query)) q agrees (k .values) rows)) ∙ few))
       (answer-rows q (k .values) rows
-      (over-32 (s .state) (s .cells) (queryAt (s .state) (k .query) .table) (secondRead (queryAt (s .state) (k .query))) small)))
+      (over-32 (s .state) (s .cells) (queryAt (s .state) (k .query)) (k .values) (secondRead (queryAt (s .state) (k .query))) small)))
 
 -- a number of 0 is not 16
 few-of : (many : Bool) (n : ℕ) → orElse many 16 n ≡ 0 → many ≡ false
 few-of true n e = absurd (omega arith)
 few-of false n e = refl
-
--- the rows read, of one table or at most those of a pair
-pub reads-for : (p : Plain) (k : Key) {n : ℕ} → n ≡ P.rowsRead p k → ReadsFor p k n
-reads-for p k {n} e = go (P.queryAt p (k .query) .second) e
-  where
-    go : (o : Option Second) → n ≡ P.rowsReadOver (p .tables) (P.queryAt p (k .query)) o → ReadsRows (p .tables) (P.queryAt p (k .query) .table) o n
-    go none e = e
-    go (some t) e = omega (arith, e)
 
 pub new-answer : NewAnswer
 unfolding newRefusal
@@ -158,7 +153,7 @@ new-answer s p k buffer T h m small e z = go (answered s (k .query) (k .values) 
   where
     go : Answered s (k .query) (k .values) buffer (step s (ask (k .query) (k .values) buffer))
         → ReadsBack (step s (ask (k .query) (k .values) buffer) .1 .got .answer) (length (P.queryAt p (k .query) .selected)) (rowsListed p k)
-        × ReadsFor p k (step s (ask (k .query) (k .values) buffer) .1 .scanned)
+        × (step s (ask (k .query) (k .values) buffer) .1 .scanned ≡ P.rowsRead p k)
     go (c, inl (i, f, r)) =
         let a : _≡_ {A = ℕ} 0 1 = sym z ∙ ap (λ (x : Store × Seen). x .1 .kept) r in
         absurd (omega arith)
@@ -169,7 +164,7 @@ new-answer s p k buffer T h m small e z = go (answered s (k .query) (k .values) 
           subst (λ (x : List ℕ). ReadsBack x (length (P.queryAt p (k .query) .selected)) (rowsListed p k))
               (sym (ap (λ (x : Store × Seen). x .1 .got .answer) r ∙ ap (written buffer 0) (record-is (s .state) T S (s .cells) p m (k .query) l (k .values))))
               (reads-back s p T h m small k A (few-of (tooMany (s .state) (s .cells) (k .query) (k .values)) _ y) (drop (0 + length (recordOf p k)) buffer)),
-          reads-for p k (ap (λ (x : Store × Seen). x .1 .scanned) r ∙ read-asked (s .state) T S (s .cells) p m (k .query) l (k .values)),
+          ap (λ (x : Store × Seen). x .1 .scanned) r ∙ read-asked (s .state) T S (s .cells) p m (k .query) l (k .values),
         )
 
 -- ---- a kept one

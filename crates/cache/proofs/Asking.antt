@@ -16,12 +16,15 @@ use Rattle.meaning.specs.Meaning.{Row, answer}
 use Rattle.meaning.specs.Record.{encode}
 use Rattle.meaning.specs.Plain as P
 use Rattle.meaning.specs.Plain.{Plain, recordOf, ask, Out, refused, answered, guard, orElse, refusal}
-use Rattle.lists.specs.Lists.{written, pairs}
+use Rattle.lists.specs.Lists.{All, keep, written, pairs}
 use Rattle.meaning.proofs.Accepted.{key-asked}
+use Rattle.meaning.proofs.Outer.{skipped-pairs}
 use Rattle.trace.specs.Model.{askRefusal as plainRefusal, shortRefusal, newRefusal as plainNew}
 use Rattle.trace.proofs.Laws.{firstOf, ask-refusal}
 use Rattle.statement.specs.Sound.{secondRead, AgreesQuery}
+use Rattle.table.specs.Evaluated.{passesStored}
 use Rattle.table.proofs.Means.{answer-means, record-means}
+use Rattle.table.proofs.Outer.{passes-means, used-wide}
 use Rattle.slots.specs.declared.Found.{Found}
 use Rattle.slots.specs.declared.Found.the-variants.{At, Nothing}
 use Rattle.slots.specs.declared.SlotList.{SlotList}
@@ -31,12 +34,12 @@ use Rattle.slots.specs.Keys.{keyOf}
 use Rattle.cache.specs.declared.State.{State}
 use Rattle.cache.specs.Sound.{queryAt, soundState}
 use Rattle.cache.specs.Means.{Means, Typed}
-use Rattle.cache.specs.Calls.{settled, Asks, asks, askRefused, askRefusal, withCache, cachedLength, fitsSlot, putIn, kept, rowsAt, rowsOver, rowsFor, readOver, readFor, recordAt, tooMany, newRefusal, newly, askNew, askFound, foundIn, askOf}
+use Rattle.cache.specs.Calls.{settled, Asks, asks, askRefused, askRefusal, withCache, cachedLength, fitsSlot, putIn, kept, startOf, tableAt, rowsAt, rowsOver, rowsFor, readOver, readFor, recordAt, tooMany, newRefusal, newly, askNew, askFound, foundIn, askOf}
 use Rattle.cache.specs.Run.{Store, stepAsk, step}
 use Rattle.cache.specs.Run as R
 use Rattle.cache.specs.Demand.{lengthsLent}
 use Rattle.cache.proofs.Sounds.{Sound, sound-is}
-use Rattle.cache.proofs.Standing.{query-table, SecondThere, sound-second}
+use Rattle.cache.proofs.Standing.{query-table, SecondThere, sound-second, StartsBehind, second-starts}
 use Rattle.cache.proofs.Meanings.{table-at, query-count, query-agrees}
 use Rattle.cache.proofs.Refusals.{found-number}
 use Rattle.cache.proofs.Refused.{Same, settled-same, same-else, unfit-is}
@@ -74,39 +77,53 @@ module _ (s : State) (T : Typed s) (S : Sound s) (cells : List ℤ) (p : Plain) 
   first-rows : rowsAt s cells (queryAt s n .table) ≡ P.rowsAt (p .tables) (P.queryAt p n .table)
   first-rows = rows-there (queryAt s n .table) (query-table s T S n there) ∙ ap (P.rowsAt (p .tables)) (agrees .table-is)
 
-  -- and so are those that it is over, one table or two, and how many it reads
-  over-same : (o : Option Second) → SecondThere s o → (rowsOver s cells (queryAt s n .table) o ≡ P.rowsOver (p .tables) (P.queryAt p n) o)
-      × (readOver s cells (queryAt s n .table) o ≡ P.rowsReadOver (p .tables) (P.queryAt p n) o)
-  over-same none h = (first-rows, ap length first-rows)
-  over-same (some t) h =
-      let b : rowsAt s cells (t .table) ≡ P.rowsAt (p .tables) (t .table) = rows-there (t .table) h in
-      (ap₂ pairs first-rows b, ap₂ (λ (x y : List Row). length x + length x * length y) first-rows b)
+  -- and so is what it lists of those that it is over, one table or two (A.6: a first-table row that does not pass has no pair in it), and how many it reads
+  module _ (vs : List ℤ) where
+    over-same : (o : Option Second) → secondRead (queryAt s n) ≡ o → SecondThere s o → StartsBehind s (queryAt s n .table) o
+        → (answer (P.queryAt p n) vs (rowsOver s cells (queryAt s n) vs o) ≡ answer (P.queryAt p n) vs (P.rowsOver (p .tables) (P.queryAt p n) o))
+        × (readOver s cells (queryAt s n) vs o ≡ P.rowsReadOver (p .tables) (P.queryAt p n) vs o)
+    over-same none e h b = (ap (answer (P.queryAt p n) vs) first-rows, ap length first-rows)
+    over-same (some t) e h b =
+        let second : rowsAt s cells (t .table) ≡ P.rowsAt (p .tables) (t .table) = rows-there (t .table) h in
+        let same : (r : Row) → passesStored (queryAt s n) vs r ≡ P.passesFirst (P.queryAt p n) t vs r =
+        passes-means (queryAt s n) (P.queryAt p n) agrees t (sym (agrees .second-is) ∙ e) vs in
+        let kept : keep (passesStored (queryAt s n) vs) (rowsAt s cells (queryAt s n .table)) ≡ keep (P.passesFirst (P.queryAt p n) t vs) (P.rowsAt (p .tables) (P.queryAt p n .table)) =
+        (λ i. keep (λ (r : Row). same r i) (first-rows i)) in
+        let wide : All (λ (r : Row). length r ≡ t .start) (P.rowsAt (p .tables) (P.queryAt p n .table)) =
+        subst (All (λ (r : Row). length r ≡ t .start)) first-rows
+        (subst (λ (k : ℕ). All (λ (r : Row). length r ≡ k) (rowsAt s cells (queryAt s n .table))) (sym b)
+        (used-wide (tableAt s (queryAt s n .table)) (startOf s (queryAt s n .table)) cells)) in (
+          ap (answer (P.queryAt p n) vs) (ap₂ pairs kept second)
+              ∙ skipped-pairs (P.queryAt p n) t vs (P.rowsAt (p .tables) (P.queryAt p n .table)) (P.rowsAt (p .tables) (t .table)) wide,
+          (λ i. length (first-rows i) + length (kept i) * length (second i)),
+        )
 
-  abbrev other : Option Second
-  other = secondRead (queryAt s n)
+    abbrev other : Option Second
+    other = secondRead (queryAt s n)
 
-  second-there : SecondThere s other
-  second-there = sound-second s T S n there
+    both-same : (answer (P.queryAt p n) vs (rowsFor s cells (queryAt s n) vs) ≡ answer (P.queryAt p n) vs (P.rowsOver (p .tables) (P.queryAt p n) other))
+        × (readFor s cells (queryAt s n) vs ≡ P.rowsReadOver (p .tables) (P.queryAt p n) vs other)
+    both-same = over-same other refl (sound-second s T S n there) (second-starts s T S n there)
 
-  pub rows-asked : rowsFor s cells (queryAt s n) ≡ P.rowsFor p (P.queryAt p n)
-  rows-asked = over-same other second-there .0 ∙ ap (P.rowsOver (p .tables) (P.queryAt p n)) (agrees .second-is)
+    pub listed-asked : answer (P.queryAt p n) vs (rowsFor s cells (queryAt s n) vs) ≡ answer (P.queryAt p n) vs (P.rowsFor p (P.queryAt p n))
+    listed-asked = both-same .0 ∙ ap (λ (o : Option Second). answer (P.queryAt p n) vs (P.rowsOver (p .tables) (P.queryAt p n) o)) (agrees .second-is)
 
-  pub read-asked : (vs : List ℤ) → readFor s cells (queryAt s n) ≡ P.rowsRead p (record { query = n; values = vs })
-  read-asked vs = over-same other second-there .1 ∙ ap (P.rowsReadOver (p .tables) (P.queryAt p n)) (agrees .second-is)
+    pub read-asked : readFor s cells (queryAt s n) vs ≡ P.rowsRead p (record { query = n; values = vs })
+    read-asked = both-same .1 ∙ ap (P.rowsReadOver (p .tables) (P.queryAt p n) vs) (agrees .second-is)
 
   -- and so is the record
   pub record-is : (vs : List ℤ) → recordAt s cells n vs ≡ recordOf p (record { query = n; values = vs })
   unfolding recordAt recordOf
   record-is vs =
-      record-means (queryAt s n) (P.queryAt p n) agrees vs (rowsFor s cells (queryAt s n))
-      ∙ ap (λ rows. encode (length (P.queryAt p n .selected)) (answer (P.queryAt p n) vs rows)) rows-asked
+      record-means (queryAt s n) (P.queryAt p n) agrees vs (rowsFor s cells (queryAt s n) vs)
+      ∙ ap (encode (length (P.queryAt p n .selected))) (listed-asked vs)
 
   -- and whether it has too many rows
   pub many-is : (vs : List ℤ) → tooMany s cells n vs ≡ P.tooMany p (record { query = n; values = vs })
   unfolding tooMany P.tooMany
   many-is vs =
       ap (λ (l : List Row). ltb most-listed (length l))
-      (answer-means (queryAt s n) (P.queryAt p n) agrees vs (rowsFor s cells (queryAt s n)) ∙ ap (answer (P.queryAt p n) vs) rows-asked)
+      (answer-means (queryAt s n) (P.queryAt p n) agrees vs (rowsFor s cells (queryAt s n) vs) ∙ listed-asked vs)
 
 -- ---- the whole call
 

@@ -6,7 +6,7 @@
 --    read off the history of the plain store, and each is the plain store's record of now (trace/proofs/Past, Kept, Same, Anew);
 -- 4. what follows: what holds of every list in the model holds of the state (below). Assumes nothing.
 use mathlib.Core.Path.{_≡_, refl, sym, ap, _∙_, subst, subst₂}
-use mathlib.Core.Logic.{_⊎_, inl, inr}
+use mathlib.Core.Logic.{_≢_, _⊎_, inl, inr}
 use mathlib.Core.Bool.{Bool, true, false, cond}
 use mathlib.Core.Option.{Option, none, some}
 use mathlib.Core.List.{List, map}
@@ -28,11 +28,11 @@ use Rattle.trace.proofs.Demand.{demands as on-model}
 use Rattle.cache.specs.Sound.{opening}
 use Rattle.cache.specs.Run.{Start, openingOf, opened, Call, add, ask, update, flush, Got, Seen, step, after, plainCall, gotOf, plainAfter}
 use Rattle.cache.specs.Means.{Means}
-use Rattle.cache.specs.Demand.{SameAsPlain, slotCount, slotSize, past, nextAsk, AnewOnlyIf, ReadsFor, ThirdDemand, StandsInList, DropsInList, KeptOtherwise, RowsRead, Values32, AnswerReadsBack, Demands}
+use Rattle.cache.specs.Demand.{SameAsPlain, slotCount, slotSize, past, nextAsk, AnewOnlyIf, ThirdDemand, StandsInList, DropsInList, KeptOtherwise, RowsRead, Values32, AnswerReadsBack, Demands}
 use Rattle.cache.proofs.SoundMeans.{sound-exactly-if}
 use Rattle.cache.proofs.Openings.{opens-exactly-if, opening-taken, opening-refused, flush-drops-all}
 use Rattle.cache.proofs.Accepting.{accepted-exactly-if}
-use Rattle.cache.proofs.Answers.{new-answer, kept-answer, reads-for}
+use Rattle.cache.proofs.Answers.{new-answer, kept-answer}
 use Rattle.cache.proofs.Refusals.{lowest-number, rings-never-full, refused-changes-nothing}
 use Rattle.cache.proofs.StaysSound.{opens-sound, stays-sound}
 use Rattle.cache.proofs.Standing.{stands-for-plain}
@@ -121,9 +121,9 @@ kept-otherwise o cs k buffer e asked fit hit few =
     next o cs k buffer .kept
     ∙ on-model .kept-otherwise (startOf o) (map plainCall cs) k (length buffer) (a .0) (a .1) asked (rw (size-is o) fit) hit (rw (size-is o, slots-are o) few)
 
--- what a question gets in the model: a refusal, a kept answer, or the rows of its table read
+-- what a question gets in the model: a refusal, a kept answer and no row read, or the rows of its table or its two read
 abbrev AskSeen : Model → Key → T.Seen → Type 0
-AskSeen m k x = ((n : ℕ) × (x .out ≡ refused (suc n))) ⊎ ((x .kept ≡ 1) ⊎ (x .scanned ≡ P.rowsRead (m .store) k))
+AskSeen m k x = ((n : ℕ) × (x .out ≡ refused (suc n))) ⊎ (((x .kept ≡ 1) × (x .scanned ≡ 0)) ⊎ ((x .kept ≡ 0) × (x .scanned ≡ P.rowsRead (m .store) k)))
 
 guard-seen : (n : ℕ) (m : Model) (k : Key) (q : Model × T.Seen) → AskSeen m k (q .1) → AskSeen m k (P.guard n m turned q .1)
 guard-seen zero m k q a = a
@@ -133,23 +133,26 @@ ask-seen : (lent : Lengths) (size : ℕ) (m : Model) (k : Key) (b : ℕ) → Ask
 ask-seen lent size m k b = guard-seen (T.askRefusal lent (m .store) k) m k _ (go (find sameKey k (m .cache .held)))
   where
     go : (o : Option (Held Key × List (Held Key))) → AskSeen m k (asked lent size m k b o .1)
-    go none = guard-seen (T.newRefusal (m .store) k b) m k _ (inr (inr refl))
-    go (some w) = guard-seen (T.shortRefusal b (slotBytes size (m .cache .memory) (w .0))) m k _ (inr (inl refl))
+    go none = guard-seen (T.newRefusal (m .store) k b) m k _ (inr (inr (refl, refl)))
+    go (some w) = guard-seen (T.shortRefusal b (slotBytes size (m .cache .memory) (w .0))) m k _ (inr (inl (refl, refl)))
 
 pub rows-read : RowsRead
-rows-read o cs k buffer e z = go (ask-seen (openingOf o .lent) (T.slotSize (openingOf o)) (D.afterCalls (startOf o) (map plainCall cs)) k (length buffer))
+rows-read o cs k buffer e = go (ask-seen (openingOf o .lent) (T.slotSize (openingOf o)) (D.afterCalls (startOf o) (map plainCall cs)) k (length buffer))
   where
     go : AskSeen (D.afterCalls (startOf o) (map plainCall cs)) k (D.nextCall (startOf o) (map plainCall cs) (P.ask k (length buffer)))
-        → ReadsFor (plainAfter o cs) k (nextAsk o cs k buffer .scanned)
+        → (nextAsk o cs k buffer .kept ≡ 0 → nextAsk o cs k buffer .scanned ≡ P.rowsRead (plainAfter o cs) k)
+        × (nextAsk o cs k buffer .kept ≢ 0 → nextAsk o cs k buffer .scanned ≡ 0)
     go (inl (n, y)) =
         let a : 0 ≡ suc n = sym e ∙ ap (λ (x : Got). x .refusal) (next o cs k buffer .got ∙ ap (gotOf buffer) y) in
         absurd (omega arith)
-    go (inr (inl y)) =
-        let a : _≡_ {A = ℕ} 0 1 = sym z ∙ next o cs k buffer .kept ∙ y in
-        absurd (omega arith)
-    go (inr (inr y)) =
-        reads-for (plainAfter o cs) k
-        (next o cs k buffer .scanned ∙ y ∙ ap (λ (p : Plain). P.rowsRead p k) (on-model .same-as-plain (startOf o) (map plainCall cs) .1))
+    go (inr (inl y)) = (
+      (λ z. let a : _≡_ {A = ℕ} 0 1 = sym z ∙ next o cs k buffer .kept ∙ y .0 in absurd (omega arith)),
+      (λ z. next o cs k buffer .scanned ∙ y .1),
+    )
+    go (inr (inr y)) = (
+      (λ z. next o cs k buffer .scanned ∙ y .1 ∙ ap (λ (p : Plain). P.rowsRead p k) (on-model .same-as-plain (startOf o) (map plainCall cs) .1)),
+      (λ z. absurd (z (next o cs k buffer .kept ∙ y .0))),
+    )
 
 -- ---- the list as a whole
 

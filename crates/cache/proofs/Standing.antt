@@ -26,7 +26,7 @@ use Rattle.statement.specs.declared.Table.{Table}
 use Rattle.statement.specs.Catalog.{schemaOf, nameOfStruct}
 use Rattle.statement.specs.Compiled.{noTable}
 use Rattle.statement.specs.Sound.{usedColumns, columnsAt, secondRead, soundSecond, Passes, AgreesQuery, AgreesUpdate, AgreesTable, FromTable, TableStructFits}
-use Rattle.statement.proofs.SoundQuery.{query-parts}
+use Rattle.statement.proofs.SoundQuery.{query-parts, second-parts}
 use Rattle.statement.proofs.SoundUpdate.{update-parts}
 use Rattle.cache.specs.declared.State.{State}
 use Rattle.cache.specs.Sound.{usedTables, queryAt, usedQueries, usedUpdates, schemasIn, IsSound}
@@ -84,6 +84,11 @@ abbrev pub SecondThere : State → Option M.Second → Type 0
 SecondThere s none = Unit {0}
 SecondThere s (some t) = t .table < s .«table_count»
 
+-- whose columns start behind those of table i
+abbrev pub StartsBehind : State → ℕ → Option M.Second → Type 0
+StartsBehind s i none = Unit {0}
+StartsBehind s i (some t) = t .start ≡ tableAt s i .count
+
 module _ (s : State) (T : Typed s) (S : Sound s) where
   pub few-tables : s .«table_count» ≤ length (s .tables)
   few-tables = omega (arith, T .eight-tables, S .few-tables)
@@ -126,6 +131,14 @@ module _ (s : State) (T : Typed s) (S : Sound s) where
       go none e = tt
       go (some t) e =
           subst (λ (n : ℕ). t .table < n) (schemas-long s T S) (ltb-true (t .table) (length (schemasIn s)) (and-left (ltb (t .table) (length (schemasIn s))) _ e))
+
+  pub second-starts : (i : ℕ) → i < s .«query_count» → StartsBehind s (queryAt s i .table) (secondRead (queryAt s i))
+  second-starts i h = go (secondRead (queryAt s i)) (query-parts (schemasIn s) (queryAt s i) (query-at s T S i h) .second-sound)
+    where
+      go : (o : Option M.Second) → soundSecond (schemasIn s) (queryAt s i .table) (columnsAt (schemasIn s) (queryAt s i .table)) o ≡ true → StartsBehind s (queryAt s i .table) o
+      go none e = tt
+      go (some t) e =
+          second-parts (schemasIn s) (queryAt s i .table) (columnsAt (schemasIn s) (queryAt s i .table)) t e .start-is ∙ columns-at (queryAt s i .table) (query-table i h)
 
   pub update-table : (i : ℕ) → i < s .«update_count» → updateAt s i .table < s .«table_count»
   update-table i h =

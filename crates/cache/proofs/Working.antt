@@ -28,7 +28,7 @@ use Rattle.statement.specs.Compiled.{noTable, noQuery}
 use Rattle.statement.specs.Sound.{secondBy, secondRead, soundTable, soundTables}
 use Rattle.statement.proofs.SoundTable.{table-parts}
 use Rattle.table.specs.declared.listing.Selected.{Selected}
-use Rattle.table.specs.Evaluated.{rowCells, areaRows, rowsUsed, meetsStored, selectedStored, answerStored, recordStored, selectedBy, selectedIn, rowsPaired, pairedRefusal, saidBy, pairedPut, pairSays, pairLeaves}
+use Rattle.table.specs.Evaluated.{rowCells, areaRows, rowsUsed, meetsStored, selectedStored, answerStored, recordStored, selectedBy, selectedIn, rowsPaired, passesStored, pairsUsed, pairsRead, pairedRefusal, saidBy, pairedPut, pairSays, pairLeaves}
 use Rattle.cache.specs.declared.State.{State}
 use Rattle.cache.specs.Sound.{usedTables, areasOf, queryAt}
 use Rattle.cache.specs.Means.{Typed}
@@ -98,11 +98,11 @@ module _ (s : State) (cells : List ℤ) (query : ℕ) (values : List ℤ) (answe
     alone : secondRead (queryAt s query) ≡ none
     alone = ap secondRead (sym query-is) ∙ ap (λ (n : ℕ). secondBy n (asked .start)) one
 
-    for-one : rowsFor s cells (queryAt s query) ≡ rowsAt s cells (queryAt s query .table)
-    for-one = ap (rowsOver s cells (queryAt s query .table)) alone
+    for-one : rowsFor s cells (queryAt s query) values ≡ rowsAt s cells (queryAt s query .table)
+    for-one = ap (rowsOver s cells (queryAt s query) values) alone
 
-    read-one : readFor s cells (queryAt s query) ≡ length (rowsAt s cells (queryAt s query .table))
-    read-one = ap (readOver s cells (queryAt s query .table)) alone
+    read-one : readFor s cells (queryAt s query) values ≡ length (rowsAt s cells (queryAt s query .table))
+    read-one = ap (readOver s cells (queryAt s query) values) alone
 
     module _ (there : queryAt s query .table < length (s .tables)) (few-rows : length (rowsAt s cells (queryAt s query .table)) ≤ most-rows)
         (start : ℕ) (starts : start ≡ areasOf (take (asked .table) (s .tables))) where
@@ -121,8 +121,9 @@ module _ (s : State) (cells : List ℤ) (query : ℕ) (values : List ℤ) (answe
       not-many : tooMany s cells query values ≡ false
       unfolding tooMany
       not-many =
-          let n : length (rowsFor s cells (queryAt s query)) ≤ most-rows = subst (λ (l : List Row). length l ≤ most-rows) (sym for-one) few-rows in
-          le-ltb most-listed (length (answerStored (queryAt s query) values (rowsFor s cells (queryAt s query)))) (omega (arith, listed-few (queryAt s query) values (rowsFor s cells (queryAt s query)), n))
+          let rows : List Row = rowsFor s cells (queryAt s query) values in
+          let n : length rows ≤ most-rows = subst (λ (l : List Row). length l ≤ most-rows) (sym for-one) few-rows in
+          le-ltb most-listed (length (answerStored (queryAt s query) values rows)) (omega (arith, listed-few (queryAt s query) values rows, n))
 
       number-one : newRefusal s cells (length answer) query values ≡ orElse (ltb (length answer) (length rec)) 13 0
       unfolding newRefusal
@@ -161,11 +162,11 @@ module _ (s : State) (cells : List ℤ) (query : ℕ) (values : List ℤ) (answe
     both : secondRead (queryAt s query) ≡ some (record { table = k; start = asked .start })
     both = ap secondRead (sym query-is) ∙ ap (λ (n : ℕ). secondBy n (asked .start)) two
 
-    for-two : rowsFor s cells (queryAt s query) ≡ pairs (rowsAt s cells (queryAt s query .table)) (rowsAt s cells k)
-    for-two = ap (rowsOver s cells (queryAt s query .table)) both
+    for-two : rowsFor s cells (queryAt s query) values ≡ pairs (keep (passesStored (queryAt s query) values) (rowsAt s cells (queryAt s query .table))) (rowsAt s cells k)
+    for-two = ap (rowsOver s cells (queryAt s query) values) both
 
-    read-two : readFor s cells (queryAt s query) ≡ length (rowsAt s cells (queryAt s query .table)) + length (rowsAt s cells (queryAt s query .table)) * length (rowsAt s cells k)
-    read-two = ap (readOver s cells (queryAt s query .table)) both
+    read-two : readFor s cells (queryAt s query) values ≡ pairsRead (passesStored (queryAt s query) values) (rowsAt s cells (queryAt s query .table)) (rowsAt s cells k)
+    read-two = ap (readOver s cells (queryAt s query) values) both
 
     module _ (there : queryAt s query .table < length (s .tables)) (other : k < length (s .tables))
         (first-same : rowsPaired (tableAt s (queryAt s query .table)) (startOf s (queryAt s query .table)) cells ≡ rowsAt s cells (queryAt s query .table))
@@ -187,16 +188,23 @@ module _ (s : State) (cells : List ℤ) (query : ℕ) (values : List ℤ) (answe
       seconds = paired-read k other beside begins ∙ second-same
 
       abbrev listed : List Row
-      listed = answerStored (queryAt s query) values (rowsFor s cells (queryAt s query))
+      listed = answerStored (queryAt s query) values (rowsFor s cells (queryAt s query) values)
 
-      listed-is : answerStored asked values (pairs (rowsPaired t start cells) (rowsPaired u beside cells)) ≡ listed
-      listed-is = ap₂ (λ (q : Query) (l : List Row). answerStored q values l) query-is (ap₂ pairs firsts seconds ∙ sym for-two)
+      pairs-are : pairsUsed asked values t start u beside cells ≡ rowsFor s cells (queryAt s query) values
+      pairs-are = (λ i. pairs (keep (passesStored (query-is i) values) (firsts i)) (seconds i)) ∙ sym for-two
+
+      listed-is : answerStored asked values (pairsUsed asked values t start u beside cells) ≡ listed
+      listed-is = ap₂ (λ (q : Query) (l : List Row). answerStored q values l) query-is pairs-are
+
+      record-two : recordStored asked values (pairsUsed asked values t start u beside cells) ≡ rec
+      unfolding recordAt
+      record-two = ap₂ (λ (q : Query) (l : List Row). recordStored q values l) query-is pairs-are
 
       abbrev scanned : ℕ
-      scanned = readFor s cells (queryAt s query)
+      scanned = readFor s cells (queryAt s query) values
 
-      read-is : length (rowsPaired t start cells) + length (rowsPaired t start cells) * length (rowsPaired u beside cells) ≡ scanned
-      read-is = ap₂ (λ (x y : List Row). length x + length x * length y) firsts seconds ∙ sym read-two
+      read-is : pairsRead (passesStored asked values) (rowsPaired t start cells) (rowsPaired u beside cells) ≡ scanned
+      read-is = (λ i. pairsRead (passesStored (query-is i) values) (firsts i) (seconds i)) ∙ sym read-two
 
       abbrev many : Bool
       many = tooMany s cells query values
@@ -242,16 +250,10 @@ module _ (s : State) (cells : List ℤ) (query : ℕ) (values : List ℤ) (answe
           (subst (WorksOut s cells query values answer _) (sym (h ∙ left)) (two-by many (leb (length rec) (length answer)) refl refl))
         where
           said : pairSays asked t start u beside cells values answer ≡ saidBy (pairedRefusal many (leb (length rec) (length answer))) scanned (length rec)
-          said = λ i. saidBy (pairedRefusal (ltb most-listed (length (listed-is i))) (leb (length (E i)) (length answer))) (read-is i) (length (E i))
-            where
-              E : recordStored asked values (pairs (rowsPaired t start cells) (rowsPaired u beside cells)) ≡ rec
-              E = ap₂ (λ (q : Query) (l : List Row). recordStored q values l) query-is (ap₂ pairs firsts seconds ∙ sym for-two)
+          said = λ i. saidBy (pairedRefusal (ltb most-listed (length (listed-is i))) (leb (length (record-two i)) (length answer))) (read-is i) (length (record-two i))
 
           left : pairLeaves asked t start u beside cells values answer ≡ cond many answer (put answer 0 rec)
-          left = λ i. cond (ltb most-listed (length (listed-is i))) answer (put answer 0 (F i))
-            where
-              F : recordStored asked values (pairs (rowsPaired t start cells) (rowsPaired u beside cells)) ≡ rec
-              F = ap₂ (λ (q : Query) (l : List Row). recordStored q values l) query-is (ap₂ pairs firsts seconds ∙ sym for-two)
+          left = λ i. cond (ltb most-listed (length (listed-is i))) answer (put answer 0 (record-two i))
 
   -- the same, its second table's number read off the query
   abbrev other : ℕ

@@ -7,7 +7,7 @@ use Prim.Native.Nat.{ℕ, zero, suc, _+_, _*_}
 use lib.Dec.{eqb, leb, ltb}
 use lib.IntN.{ℤ, pos}
 use lib.ListN.{length, take, drop, getD, set, replicate}
-use Rattle.lists.specs.Lists.{written, count, any, pairs}
+use Rattle.lists.specs.Lists.{written, keep, count, any, pairs}
 use Rattle.meaning.specs.Limits.{most-tables, most-queries, most-updates, most-listed}
 use Rattle.meaning.specs.Statement.{Second}
 use Rattle.meaning.specs.Pattern.{removal}
@@ -18,7 +18,7 @@ use Rattle.statement.specs.declared.Update.{Update}
 use Rattle.statement.specs.declared.Statement.{Statement}
 use Rattle.statement.specs.Compiled.{noTable, noQuery, noUpdate, updateStruct, compiledOf}
 use Rattle.statement.specs.Sound.{secondRead}
-use Rattle.table.specs.Evaluated.{rowsUsed, answerStored, recordStored}
+use Rattle.table.specs.Evaluated.{rowsUsed, passesStored, pairsRead, answerStored, recordStored}
 use Rattle.table.specs.Changed.{changeOf, cellsAfter}
 use Rattle.pattern.specs.Stored.{matchesStored}
 use Rattle.slots.specs.declared.Key.{Key}
@@ -259,29 +259,30 @@ tableAt s i = getD (s .tables) i noTable
 abbrev pub rowsAt : State → List ℤ → ℕ → List (List ℤ)
 rowsAt s cells i = rowsUsed (tableAt s i) (startOf s i) cells
 
--- the rows that a question is over: those of its table, or the pairs of two (A.1: "Rows come in the first table's order, and for each in the second's.")
-abbrev pub rowsOver : State → List ℤ → ℕ → Option Second → List (List ℤ)
-rowsOver s cells i none = rowsAt s cells i
-rowsOver s cells i (some t) = pairs (rowsAt s cells i) (rowsAt s cells (t .table))
+-- the rows that a question is over: those of its table, or the pairs of two (A.1: "Rows come in the first table's order, and for each in the second's."), without those of
+-- a first-table row that does not pass (A.6), of which no pair is listed
+abbrev pub rowsOver : State → List ℤ → Query → List ℤ → Option Second → List (List ℤ)
+rowsOver s cells q values none = rowsAt s cells (q .table)
+rowsOver s cells q values (some t) = pairs (keep (passesStored q values) (rowsAt s cells (q .table))) (rowsAt s cells (t .table))
 
-abbrev pub rowsFor : State → List ℤ → Query → List (List ℤ)
-rowsFor s cells q = rowsOver s cells (q .table) (secondRead q)
+abbrev pub rowsFor : State → List ℤ → Query → List ℤ → List (List ℤ)
+rowsFor s cells q values = rowsOver s cells q values (secondRead q)
 
--- the rows that it reads: "the table's row count"; A.1 leaves the count of a pair free, "at most r1 + r1 × r2", and here it is that
-abbrev pub readOver : State → List ℤ → ℕ → Option Second → ℕ
-readOver s cells i none = length (rowsAt s cells i)
-readOver s cells i (some t) = length (rowsAt s cells i) + length (rowsAt s cells i) * length (rowsAt s cells (t .table))
+-- the rows that it reads: "the table's row count"; over two tables A.6: "exactly r1 + m × r2"
+abbrev pub readOver : State → List ℤ → Query → List ℤ → Option Second → ℕ
+readOver s cells q values none = length (rowsAt s cells (q .table))
+readOver s cells q values (some t) = pairsRead (passesStored q values) (rowsAt s cells (q .table)) (rowsAt s cells (t .table))
 
-abbrev pub readFor : State → List ℤ → Query → ℕ
-readFor s cells q = readOver s cells (q .table) (secondRead q)
+abbrev pub readFor : State → List ℤ → Query → List ℤ → ℕ
+readFor s cells q values = readOver s cells q values (secondRead q)
 
 -- the record of a question with its values
 unfoldable pub recordAt : State → List ℤ → ℕ → List ℤ → List ℕ
-recordAt s cells query values = recordStored (queryAt s query) values (rowsFor s cells (queryAt s query))
+recordAt s cells query values = recordStored (queryAt s query) values (rowsFor s cells (queryAt s query) values)
 
 -- 16: "an answer of more than 65,535 rows"
 unfoldable pub tooMany : State → List ℤ → ℕ → List ℤ → Bool
-tooMany s cells query values = ltb most-listed (length (answerStored (queryAt s query) values (rowsFor s cells (queryAt s query))))
+tooMany s cells query values = ltb most-listed (length (answerStored (queryAt s query) values (rowsFor s cells (queryAt s query) values)))
 
 -- 16 and 13, of an answer worked out
 abbrev pub newConditions : State → List ℤ → ℕ → ℕ → List ℤ → List (ℕ × Bool)
@@ -298,7 +299,7 @@ newly s cells memory answer query values =
     (record {
       refusal = 0;
       cached = 0;
-      scanned = readFor s cells (queryAt s query);
+      scanned = readFor s cells (queryAt s query) values;
       length = length r;
       state = kept s (keyOf query values) r;
     })

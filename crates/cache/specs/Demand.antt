@@ -184,21 +184,13 @@ DoesAsPlain = (s : Store) (c : Call) (p : Plain) → Typed (s .state) → soundS
     → (step s c .1 .got ≡ gotOf (bufferOf c) (P.step (lengthsLent s) p (plainCall c) .1))
     × Means (step s c .0 .state) (step s c .0 .cells) (P.step (lengthsLent s) p (plainCall c) .0)
 
--- "rows read (.. else the table's row count)"; over two tables A.1 leaves the count free, "at most r1 + r1 × r2 for r1 and r2 rows"
-abbrev pub ReadsRows : List P.Table → ℕ → Option Second → ℕ → Type 0
-ReadsRows ts i none n = n ≡ length (P.rowsAt ts i)
-ReadsRows ts i (some s) n = n ≤ length (P.rowsAt ts i) + length (P.rowsAt ts i) * length (P.rowsAt ts (s .table))
-
-abbrev pub ReadsFor : Plain → Key → ℕ → Type 0
-ReadsFor p k n = ReadsRows (p .tables) (P.queryAt p (k .query) .table) (P.queryAt p (k .query) .second) n
-
 -- "A new answer .. holds exactly the rows, in order, that the SQL meaning set down there gives, and its record reads back as those rows", and the rows that it reads: on
 -- every sound state. Cells have 32 bits, as their type says
 abbrev pub NewAnswer : Type 0
 NewAnswer = (s : Store) (p : Plain) (k : Key) (buffer : List ℕ) → Typed (s .state) → soundState (s .state) ≡ true → Means (s .state) (s .cells) p → All Is32 (s .cells)
     → let r : Seen = step s (ask (k .query) (k .values) buffer) .1 in
     r .got .refusal ≡ 0 → r .kept ≡ 0
-    → ReadsBack (r .got .answer) (length (P.queryAt p (k .query) .selected)) (rowsListed p k) × ReadsFor p k (r .scanned)
+    → ReadsBack (r .got .answer) (length (P.queryAt p (k .query) .selected)) (rowsListed p k) × (r .scanned ≡ P.rowsRead p k)
 
 -- "In a sound state not reached from an opening, a kept answer is its slot's bytes.": those of the slot that has the key; no row is read
 pub record ItsSlotsBytes (s : Store) (k : Key) (buffer : List ℕ) (r : Seen) : Type 0 where
@@ -292,10 +284,12 @@ KeptOtherwise = (o : Start) (cs : List Call) (k : Key) (buffer : List ℕ) → n
     → fits (slotSize o) (recordOf (plainAfter o cs) k) ≡ true → any (hits k) (since sameKey k (past o cs)) ≡ false
     → ¬ Filled (slotSize o) (slotCount o) k (since sameKey k (past o cs)) → nextAsk o cs k buffer .kept ≡ 1
 
--- "rows read (0 if kept, else the table's row count)": of a question that is worked out anew, the rows that its table has on the plain store, or the bound of a pair
+-- "rows read (0 if kept, else the table's row count)": of a question that is worked out anew, the rows that its table has on the plain store; A.6: "For a question over two
+-- tables that is worked out anew the count becomes exactly r1 + m × r2."
 abbrev pub RowsRead : Type 0
-RowsRead = (o : Start) (cs : List Call) (k : Key) (buffer : List ℕ) → nextAsk o cs k buffer .got .refusal ≡ 0 → nextAsk o cs k buffer .kept ≡ 0
-    → ReadsFor (plainAfter o cs) k (nextAsk o cs k buffer .scanned)
+RowsRead = (o : Start) (cs : List Call) (k : Key) (buffer : List ℕ) → nextAsk o cs k buffer .got .refusal ≡ 0
+    → ((nextAsk o cs k buffer .kept ≡ 0) → nextAsk o cs k buffer .scanned ≡ P.rowsRead (plainAfter o cs) k)
+    × ((nextAsk o cs k buffer .kept ≢ 0) → nextAsk o cs k buffer .scanned ≡ 0)
 
 -- Demand 2, "A new answer, and under 3's premises a kept one, holds exactly the rows, in order, that the SQL meaning set down there gives, and its record reads back as
 -- those rows": the answer buffer of every question that is answered, with whatever stands behind the record.

@@ -61,7 +61,7 @@ Caches s memory answer p o new = (key : Key) → asks (outcomeOf s key o) memory
 pub record WorksOut (s : State) (cells : List ℤ) (query : ℕ) (values : List ℤ) (answer : List ℕ) (r : Selected) (new : List ℕ) : Type 0 where
   pub number : r .refusal ≡ newRefusal s cells (length answer) query values
   pub stays : (r .refusal ≡ 0 → ⊥) → new ≡ answer
-  pub read : r .refusal ≡ 0 → r .scanned ≡ readFor s cells (queryAt s query)
+  pub read : r .refusal ≡ 0 → r .scanned ≡ readFor s cells (queryAt s query) values
   pub size : r .refusal ≡ 0 → r .length ≡ length (recordAt s cells query values)
   pub bytes : r .refusal ≡ 0 → new ≡ written answer 0 (recordAt s cells query values)
 

@@ -221,6 +221,32 @@ fn second_with(mut q: Query, name: &[u8], i: usize) -> Query {
     q
 }
 
+// Digits with the lowest bit of a number behind them; those past the eighth fall off.
+fn with_digit(digits: u8, bits: usize) -> u8 {
+    low8(2 * (digits as usize) + bits % 2)
+}
+
+// The first n bits of a number, the first one as the highest digit.
+fn turned(bits: usize, n: u8) -> u8 {
+    let mut rest = bits;
+    let mut digits: u8 = 0;
+    let mut i: u8 = 0;
+    while i < n {
+        digits = with_digit(digits, rest);
+        rest = rest / 2;
+        i += 1;
+    }
+    digits
+}
+
+// The question with those comparisons marked as outer whose bits are set: bit i is comparison i, in the text's order. In a state the last one's mark is the last digit.
+fn outer_with(mut q: Query, name: &[u8], bits: usize) -> Query {
+    if same(name, b"qouter") {
+        q.outer = turned(bits, q.condition.count);
+    }
+    q
+}
+
 fn query_with(mut q: Query, name: &[u8], n: &[i32]) -> Query {
     let i = number(n, 1);
     if same(name, b"qtable") {
@@ -240,7 +266,12 @@ fn query_with(mut q: Query, name: &[u8], n: &[i32]) -> Query {
 fn with_query(mut s: State, name: &[u8], n: &[i32]) -> State {
     let i = number(n, 0);
     if i < Query::QUERIES {
-        let mut q = second_with(query_with(s.queries[i], name, n), name, number(n, 1));
+        let v = number(n, 1);
+        let mut q = outer_with(
+            second_with(query_with(s.queries[i], name, n), name, v),
+            name,
+            v,
+        );
         let c = q.condition;
         q.condition = condition_with(c, name, n);
         s.queries[i] = q;

@@ -11,6 +11,7 @@ use Rattle.meaning.proofs.Record.{record-reads-back}
 use Rattle.meaning.proofs.Within32.{answer-reads-back}
 use Rattle.meaning.proofs.Weakening.{patterns-weaken, pushed-weakens, answer-stays}
 use Rattle.meaning.proofs.Nulls.{null-unknown, others-known, three-values, takes-true, null-tests, opposites, null-tests-in-patterns, never-true}
+use Rattle.meaning.proofs.Outer.{no-pair-listed}
 
 pub demands : Demands
 demands = record {
@@ -44,4 +45,5 @@ demands = record {
   opposites = opposites;
   null-tests-in-patterns = null-tests-in-patterns;
   never-true = never-true;
+  no-pair-listed = no-pair-listed;
 }

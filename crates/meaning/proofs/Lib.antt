@@ -23,5 +23,6 @@ pub mod Weakening
 pub mod Nulls
 pub mod Demand
 pub mod Postfix
+pub mod Outer
 pub mod Written
 pub mod Resolve

@@ -1,10 +1,10 @@
 -- Conditions without NOT in postfix order: run on a stack they give a condition's truth and its clauses; what is in them, and how many nodes they are; and
 -- which lists of nodes they are. Assumes nothing.
-use mathlib.Core.Path.{_≡_, refl, sym, ap, ap₂, _∙_, subst}
+use mathlib.Core.Path.{_≡_, refl, sym, ap, ap₂, _∙_}
 use mathlib.Core.Logic.{_↔_}
-use mathlib.Core.Bool.{Bool, true, false, not, _&&_, _||_, cond, false≢true}
-use mathlib.Core.List.{List, [], _∷_, _++_, append-assoc, append-nil}
-use Prim.Native.Nat.{ℕ, suc, _+_, _*_, _≤_, _<_, max}
+use mathlib.Core.Bool.{Bool, true, false, not, _&&_, _||_, cond}
+use mathlib.Core.List.{List, [], _∷_, _++_, append-nil}
+use Prim.Native.Nat.{ℕ, suc, _*_, _≤_}
 use native.Mathlib.Omega.{arith}
 use lib.IntN.{ℤ}
 use lib.ListN.{length, length-append}
@@ -12,7 +12,7 @@ use Rattle.lists.specs.Lists.{All, nil, cons, pairs}
 use Rattle.lists.proofs.Lists.{All-head, All-tail, All-append, All-pairs}
 use Rattle.lists.proofs.Stacks.{regroup}
 use Rattle.meaning.specs.Operator.{isTrue, compared}
-use Rattle.meaning.specs.Condition.{Comparison, Level, atom, conjunction, disjunction, Condition, compare, negate, group, alone, both, single, either, Where, always, under, comparisons, sides, comparisonsIn, operandsIn, depth, depthIn, holds, eval, evalWhere, clauses, clausesOf}
+use Rattle.meaning.specs.Condition.{Comparison, Level, atom, conjunction, disjunction, Condition, compare, negate, group, alone, both, single, either, Where, always, under, comparisons, sides, comparisonsIn, operandsIn, holds, eval, evalWhere, clauses, clausesOf}
 use Rattle.meaning.specs.Postfix.{Node, leaf, allOf, anyOf, top, joined, signed, joinAll, joinAny, nodes, nodesIn, leaves, stepOn, runOn, truthOf, clausesOfNodes, balancedOn, isPostfix}
 use Rattle.meaning.proofs.Clauses.{opposite-negates, polar, true-not, true-and, true-or}
 
@@ -287,62 +287,3 @@ module _ {O : Type 0} where
   pub postfix-where : (w : Where O) → isPostfix (nodesIn w) ≡ true
   postfix-where always = refl
   postfix-where (under c) = postfix-some (nodes true c) (tree-balanced c true)
-
-  -- ---- and every such list is the nodes of a condition: trees on a stack, the top first
-
-  -- fewer parentheses around each comparison than there are comparisons
-  abbrev Flat : Condition O disjunction → Type 0
-  Flat c = depth c < length (comparisons c)
-
-  abbrev spread : List (Condition O disjunction) → List (Node O)
-  spread [] = []
-  spread (c ∷ st) = spread st ++ nodes true c
-
-  -- two trees in parentheses, joined
-  abbrev allTree : Condition O disjunction → Condition O disjunction → Condition O disjunction
-  allTree c d = single (both (group c) (alone (group d)))
-
-  abbrev anyTree : Condition O disjunction → Condition O disjunction → Condition O disjunction
-  anyTree c d = either (alone (group c)) (single (alone (group d)))
-
-  flat-joined : (c d : Condition O disjunction) → Flat c → Flat d → max (depth c + 1) (depth d + 1) < length (comparisons c ++ comparisons d)
-  flat-joined c d h k = omega (arith, length-append (comparisons c) (comparisons d))
-
-  spread-joined : (xs cs ds ns : List (Node O)) (j : Node O) → (xs ++ (cs ++ (ds ++ (j ∷ [])))) ++ ns ≡ xs ++ cs ++ ds ++ (j ∷ ns)
-  spread-joined xs cs ds ns j = simp append-assoc
-
-  abbrev Built : List (Node O) → Type 0
-  Built ns = (c : Condition O disjunction) × (nodes true c ≡ ns) × Flat c
-
-  build : (ns : List (Node O)) (st : List (Condition O disjunction)) → All Flat st → balancedOn (length st) ns ≡ true → Built (spread st ++ ns)
-  build [] [] f h = absurd (false≢true h)
-  build [] (c ∷ []) f h = (c, sym (append-nil (nodes true c)), All-head f)
-  build [] (d ∷ c ∷ st) f h = absurd (false≢true h)
-  build (leaf c ∷ ns) st f h =
-      subst Built (append-assoc (spread st) (leaf c ∷ []) ns) (build ns (single (alone (compare c)) ∷ st) (cons (omega arith) f) h)
-  build (allOf ∷ ns) [] f h = absurd (false≢true h)
-  build (allOf ∷ ns) (c ∷ []) f h = absurd (false≢true h)
-  build (allOf ∷ ns) (d ∷ c ∷ st) f h =
-      subst Built (spread-joined (spread st) (nodes true c) (nodes true d) ns allOf)
-      (build ns (allTree c d ∷ st) (cons (flat-joined c d (All-head (All-tail f)) (All-head f)) (All-tail (All-tail f))) h)
-  build (anyOf ∷ ns) [] f h = absurd (false≢true h)
-  build (anyOf ∷ ns) (c ∷ []) f h = absurd (false≢true h)
-  build (anyOf ∷ ns) (d ∷ c ∷ st) f h =
-      subst Built (spread-joined (spread st) (nodes true c) (nodes true d) ns anyOf)
-      (build ns (anyTree c d ∷ st) (cons (flat-joined c d (All-head (All-tail f)) (All-head f)) (All-tail (All-tail f))) h)
-
-  -- nodes in which every join finds two values, and that leave one, are those of a condition of little depth
-  pub balanced-tree : (ns : List (Node O)) → balancedOn 0 ns ≡ true
-      → (c : Condition O disjunction) × (nodes true c ≡ ns) × (depth c < length (leaves ns))
-  balanced-tree ns h =
-      let b : Built ns = build ns [] nil h in
-      let e : length (leaves ns) ≡ length (comparisons (b .0)) = ap (λ m. length (leaves m)) (sym (b .1)) ∙ leaves-nodes true (b .0) in
-      let f : depth (b .0) < length (comparisons (b .0)) = b .2 in
-      (b .0, b .1, omega arith)
-
-  -- of a WHERE
-  pub where-postfix : (ns : List (Node O)) → isPostfix ns ≡ true → (w : Where O) × (nodesIn w ≡ ns) × (length (leaves ns) ≤ 8 → depthIn w ≤ 8)
-  where-postfix [] h = (always, refl, (λ k. omega arith))
-  where-postfix (n ∷ ns) h =
-      let b : (c : Condition O disjunction) × (nodes true c ≡ n ∷ ns) × (depth c < length (leaves (n ∷ ns))) = balanced-tree (n ∷ ns) h in
-      (under (b .0), b .1, (λ k. let f : depth (b .0) < length (leaves (n ∷ ns)) = b .2 in omega arith))

@@ -3,7 +3,7 @@
 -- Assumes nothing.
 use mathlib.Core.Path.{_≡_, refl, sym, ap, ap₂, _∙_, subst}
 use mathlib.Core.Bool.{Bool, true, false, not, _&&_, _||_, cond, or-true, false≢true}
-use mathlib.Core.List.{List, [], _∷_, _++_}
+use mathlib.Core.List.{List, [], _∷_, _++_, reverse, reverseAux}
 use Prim.Native.Nat.{ℕ, zero, suc, _+_, _-_, _≤_, _<_}
 use native.Mathlib.Nat.{le-of-suc-le-suc, not-suc-le-zero, add-zero}
 use native.Mathlib.Omega.{arith}
@@ -18,7 +18,7 @@ use Rattle.lists.proofs.Lists.{All-head, All-tail, any-false}
 use Rattle.lists.proofs.Places.{All-at}
 use Rattle.meaning.specs.Operator.{Predicate, by, is-null, is-not-null}
 use Rattle.meaning.specs.Condition.{Comparison, Level, Condition, compare, negate, group, alone, both, single, either, Optional, Where, always, under, comparisons, sides, comparisonsIn, operandsIn, depthIn, mappedIn, renamed}
-use Rattle.meaning.specs.Postfix.{Node, leaf, allOf, anyOf, signed, joinAll, joinAny, nodes, nodesIn, leaves, balancedOn, isPostfix}
+use Rattle.meaning.specs.Postfix.{Node, leaf, allOf, anyOf, signed, joinAll, joinAny, nodes, nodesIn, leaves, balancedOn, isPostfix, outerMarksIn, within, chained}
 use Rattle.meaning.specs.Tokens.{Name}
 use Rattle.meaning.specs.Grammar as G
 use Rattle.meaning.specs.Grammar.{mark, Term, given, Test, comparison, Dotted}
@@ -28,7 +28,8 @@ use Rattle.meaning.specs.Statement.{Operand, column, value, constant, pa
 use Rattle.meaning.specs.Resolve.{marksPast, marksAfter, resolveNodes, termConstants, operandConstants, markInOperand, parameterCount, isNumbered, numberedOn, numberedFrom, isBelow, columnsBelow, isTestBy, isTest, areTests}
 use Rattle.meaning.proofs.Names.{same-is, has-position}
 use Rattle.meaning.proofs.Dotted.{pair-inside}
-use Rattle.meaning.proofs.Postfix.{sides-nodes, sides-in, leaves-in, postfix-where, where-postfix}
+use Rattle.meaning.proofs.Postfix.{sides-nodes, sides-in, leaves-in, postfix-where}
+use Rattle.meaning.proofs.Outer.{where-marked, marks-mapped}
 use Rattle.meaning.proofs.Written.{IsTest, Fits, written, nodes-back, nodes-tests}
 
 -- ---- the marks passed
@@ -52,6 +53,21 @@ marks-nodes m p c = marks-after m (nodes p c) ∙ ap (λ os. m + markCount (term
 
 pub marks-in : {C : Type 0} (m : ℕ) (w : Where (Term C)) → marksAfter m (nodesIn w) ≡ m + markCount (termGivens (operandsIn w))
 marks-in m w = marks-after m (nodesIn w) ∙ ap (λ os. m + markCount (termGivens os)) (sides-in w)
+
+-- nodes of which as much may be outer, with one more of a kind before each
+module _ {O P : Type 0} (xs : List (Node O)) (ys : List (Node P)) (same : (e : Bool) (k : ℕ) → chained e k xs ≡ chained e k ys) where
+  leaf-chained : (c : Comparison O) (d : Comparison P) (e : Bool) (k : ℕ) → chained e k (leaf c ∷ xs) ≡ chained e k (leaf d ∷ ys)
+  leaf-chained c d e zero = ap (λ r. true ∷ r) (same false zero)
+  leaf-chained c d e (suc k) = ap (λ r. false ∷ r) (same e k)
+
+  all-chained : (e : Bool) (k : ℕ) → chained e k (allOf ∷ xs) ≡ chained e k (allOf ∷ ys)
+  all-chained true zero = same true zero
+  all-chained false zero = same false 2
+  all-chained e (suc k) = same e (suc (suc k))
+
+  any-chained : (e : Bool) (k : ℕ) → chained e k (anyOf ∷ xs) ≡ chained e k (anyOf ∷ ys)
+  any-chained e zero = same false 2
+  any-chained e (suc k) = same e (suc (suc k))
 
 module _ {C : Type 0} (place : C → ℕ) where
   -- ---- the nodes of the condition with names resolved
@@ -138,6 +154,18 @@ module _ {C : Type 0} (place : C → ℕ) where
   resolve-leaves m (leaf c ∷ ns) = ap suc (resolve-leaves (marksPast m c) ns)
   resolve-leaves m (allOf ∷ ns) = resolve-leaves m ns
   resolve-leaves m (anyOf ∷ ns) = resolve-leaves m ns
+
+  -- what may be outer
+  resolve-back : (m : ℕ) (ns : List (Node (Term C))) (xs : List (Node Operand)) (ys : List (Node (Term C)))
+      → ((e : Bool) (k : ℕ) → chained e k xs ≡ chained e k ys) → (e : Bool) (k : ℕ) → chained e k (reverseAux (resolveNodes place m ns) xs) ≡ chained e k (reverseAux ns ys)
+  resolve-back m [] xs ys h = h
+  resolve-back m (leaf c ∷ ns) xs ys h =
+      resolve-back (marksPast m c) ns (leaf (comparisonOf place m c) ∷ xs) (leaf c ∷ ys) (leaf-chained xs ys h (comparisonOf place m c) c)
+  resolve-back m (allOf ∷ ns) xs ys h = resolve-back m ns (allOf ∷ xs) (allOf ∷ ys) (all-chained xs ys h)
+  resolve-back m (anyOf ∷ ns) xs ys h = resolve-back m ns (anyOf ∷ xs) (anyOf ∷ ys) (any-chained xs ys h)
+
+  pub resolve-chained : (m : ℕ) (ns : List (Node (Term C))) → chained true 0 (reverse (resolveNodes place m ns)) ≡ chained true 0 (reverse ns)
+  resolve-chained m ns = resolve-back m ns [] [] (λ e k. refl) true 0
 
   -- the constants
   constant-of : (m : ℕ) (t : Term C) (os : List Operand) (ts : List (Term C)) → operandConstants os ≡ termConstants ts
@@ -297,8 +325,8 @@ pub record Columns {C : Type 0} (place : C → ℕ) (width : ℕ) (strange : C �
   pub known : (i : ℕ) → i < width → strange (at i) ≡ false
   pub there : (i : ℕ) → i < width → place (at i) ≡ i
 
--- a WHERE, as it is written, of which the nodes ns come, and what is in it
-pub record Source {C : Type 0} (place : C → ℕ) (strange : C → Bool) (m : ℕ) (ns : List (Node Operand)) : Type 0 where
+-- a WHERE, as it is written, of which the nodes ns and the marks bs of its outer comparisons come, and what is in it
+pub record Source {C : Type 0} (place : C → ℕ) (strange : C → Bool) (m : ℕ) (ns : List (Node Operand)) (bs : List Bool) : Type 0 where
   pub source : Optional (Test C)
   pub resolves : nodesIn (resolvedWhere place m (mappedIn comparison source)) ≡ ns
   pub known : any strange (termColumns (operandsIn (mappedIn comparison source))) ≡ false
@@ -306,6 +334,7 @@ pub record Source {C : Type 0} (place : C → ℕ) (strange : C → Bool) (m : �
   pub marks : markCount (termGivens (operandsIn (mappedIn comparison source))) ≡ parameterCount (sides (leaves ns))
   pub size : length (comparisonsIn (mappedIn comparison source)) ≡ length (leaves ns)
   pub shallow : length (leaves ns) ≤ 8 → depthIn (mappedIn comparison source) ≤ 8
+  pub outer : outerMarksIn source ≡ bs
 
 module _ {C : Type 0} (place : C → ℕ) (width : ℕ) (strange : C → Bool) (at : ℕ → C) (K : Columns place width strange at) where
   -- a term of which the operand comes
@@ -382,20 +411,23 @@ module _ {C : Type 0} (place : C → ℕ) (width : ℕ) (strange : C → Bool) (
   unresolved-tests (allOf ∷ ns) h = unresolved-tests ns h
   unresolved-tests (anyOf ∷ ns) h = unresolved-tests ns h
 
-  -- nodes that pass the four tests come from a WHERE of which no column is strange
-  pub where-source : (m : ℕ) (ns : List (Node Operand)) → isPostfix ns ≡ true → columnsBelow width ns ≡ true → numberedFrom m ns ≡ true → areTests ns ≡ true
-      → Source place strange m ns
-  where-source m ns p h k t =
+  -- nodes that pass the four tests, with marks that they allow, come from a WHERE of which no column is strange
+  pub where-source : (m : ℕ) (ns : List (Node Operand)) (bs : List Bool)
+      → isPostfix ns ≡ true → columnsBelow width ns ≡ true → numberedFrom m ns ≡ true → areTests ns ≡ true
+      → length bs ≡ length (leaves ns) → within (reverse bs) (chained true 0 (reverse ns)) ≡ true → Source place strange m ns bs
+  where-source m ns bs p h k t n o =
       let ts : List (Node (Term C)) = unresolved ns in
       let back : resolveNodes place m ts ≡ ns = resolve-unresolved m ns h k in
       let q : isPostfix ts ≡ true = sym (resolve-postfix place m ts) ∙ ap isPostfix back ∙ p in
-      let b : (w : Where (Term C)) × (nodesIn w ≡ ts) × (length (leaves ts) ≤ 8 → depthIn w ≤ 8) = where-postfix ts q in
+      let many : length (leaves ts) ≡ length (leaves ns) = sym (resolve-leaves place m ts) ∙ ap (λ us. length (leaves us)) back in
+      let may : chained true 0 (reverse ts) ≡ chained true 0 (reverse ns) = sym (resolve-chained place m ts) ∙ ap (λ us. chained true 0 (reverse us)) back in
+      let b : (w : Where (Term C)) × (nodesIn w ≡ ts) × (outerMarksIn w ≡ bs) × (length (leaves ts) ≤ 8 → depthIn w ≤ 8) =
+      where-marked ts q bs (n ∙ sym many) (ap (within (reverse bs)) may ∙ o) in
       let w : Where (Term C) = b .0 in
       let e : mappedIn comparison (mappedIn written w) ≡ w =
       nodes-back w (subst (λ us. All IsTest (leaves us)) (sym (b .1)) (unresolved-tests ns t)) in
       let inside : sides (leaves ts) ≡ operandsIn w = ap (λ us. sides (leaves us)) (sym (b .1)) ∙ sides-in w in
       let operands : operandsIn (mappedIn comparison (mappedIn written w)) ≡ sides (leaves ts) = ap operandsIn e ∙ sym inside in
-      let many : length (leaves ts) ≡ length (leaves ns) = sym (resolve-leaves place m ts) ∙ ap (λ us. length (leaves us)) back in
       record {
         source = mappedIn written w;
         resolves = ap (λ x. nodesIn (resolvedWhere place m x)) e ∙ resolve-where place m w ∙ ap (resolveNodes place m) (b .1) ∙ back;
@@ -403,7 +435,8 @@ module _ {C : Type 0} (place : C → ℕ) (width : ℕ) (strange : C → Bool) (
         constants = ap termConstants operands ∙ sym (resolve-constants place m ts) ∙ ap (λ us. operandConstants (sides (leaves us))) back;
         marks = ap (λ os. markCount (termGivens os)) operands ∙ sym (resolve-marks place m ts) ∙ ap (λ us. parameterCount (sides (leaves us))) back;
         size = ap (λ x. length (comparisonsIn x)) e ∙ sym (leaves-in w) ∙ ap (λ us. length (leaves us)) (b .1) ∙ many;
-        shallow = λ s. subst (λ x. depthIn x ≤ 8) (sym e) (b .2 (subst (λ i. i ≤ 8) (sym many) s));
+        shallow = λ s. subst (λ x. depthIn x ≤ 8) (sym e) (b .3 (subst (λ i. i ≤ 8) (sym many) s));
+        outer = marks-mapped written w ∙ b .2;
       }
 
 -- ---- the columns of a table, and of two

@@ -394,7 +394,7 @@ module _ (q : Query) (qs : List ℤ) where
   one : Row → List Row
   one x = answer q qs (x ∷ [])
 
-  answer-append : (xs ys : List Row) → answer q qs (xs ++ ys) ≡ answer q qs xs ++ answer q qs ys
+  pub answer-append : (xs ys : List Row) → answer q qs (xs ++ ys) ≡ answer q qs xs ++ answer q qs ys
   unfolding answer
   answer-append xs ys = ap (map (selected q)) (keep-append (takes q qs) xs ys) ∙ map-append (selected q) (keep (takes q qs) xs) (keep (takes q qs) ys)
 

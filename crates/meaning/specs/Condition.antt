@@ -1,5 +1,6 @@
 -- Conditions, over operands of any kind O: document 01, "NOT binds tightest, then AND, then OR, and a condition in parentheses may again hold AND,
--- OR and NOT." Their truth ("Meaning", and A.5 in three values), their clauses (rule 4) and how many these are (rule 5). Assumes nothing: these are definitions.
+-- OR and NOT." Their truth ("Meaning", and A.5 in three values), their clauses (rule 4), how many these are (rule 5), and their outer comparisons (A.6).
+-- Assumes nothing: these are definitions.
 use mathlib.Core.Bool.{Bool, true, false}
 use mathlib.Core.List.{List, [], _∷_, _++_}
 use Prim.Native.Nat.{ℕ, _+_, _*_, max}
@@ -61,6 +62,20 @@ module _ {O : Type 0} where
   -- the operands
   abbrev pub operandsIn : Where O → List O
   operandsIn w = sides (comparisonsIn w)
+
+  -- A.6, the outer ones: "every comparison that stands outside all OR, NOT and parentheses, alone or joined by AND"
+  abbrev pub outer : {l : Level} → Condition O l → List (Comparison O)
+  outer (compare c) = c ∷ []
+  outer (negate c) = []
+  outer (group c) = []
+  outer (alone c) = outer c
+  outer (both c d) = outer c ++ outer d
+  outer (single c) = outer c
+  outer (either c d) = []
+
+  abbrev pub outerIn : Where O → List (Comparison O)
+  outerIn always = []
+  outerIn (under c) = outer c
 
   -- the most parentheses and NOTs around a comparison
   abbrev pub depth : {l : Level} → Condition O l → ℕ

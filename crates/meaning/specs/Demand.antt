@@ -25,7 +25,7 @@ use Rattle.meaning.specs.Statement.{Value, constant, parameter, Operand,
 use Rattle.meaning.specs.Meaning.{Row, operandValue, meetsWhere, takes, answer, changed}
 use Rattle.meaning.specs.Record.{encode, isRecord, columnsIn, rowCount, rowRefusal, rowPart, numbersOf}
 use Rattle.meaning.specs.Pattern.{Side, neither, first, second, sideOf, sameTable, startOf, beside, matters, Joint, Clause, class, constants, broken, contradictory, matches, removal, matchesTwo}
-use Rattle.meaning.specs.Plain.{Lengths, Plain, schemas, rowsFor, queryAt, Opening, opened, Call, add, ask, change, flush, otherLengths, noPlace, conditions, refusal, refused, answered, adding, placed, step, after}
+use Rattle.meaning.specs.Plain.{Lengths, Plain, schemas, rowsFor, passesFirst, queryAt, Opening, opened, Call, add, ask, change, flush, otherLengths, noPlace, conditions, refusal, refused, answered, adding, placed, step, after}
 
 -- ---- Demand 1: "If a call brings a text, number, state or lent memory that the store can't take, it gives the refusal number of document 01 and changes
 -- nothing."
@@ -331,6 +331,13 @@ NeverTrue = (before after : Clause) (c : Comparison Joint) (o : Operator) → c 
     → let cs : Clause = before ++ c ∷ after in
     any isNull (constants (class cs (c .left)) ++ constants (class cs (c .right))) ≡ true → contradictory cs ≡ true
 
+-- ---- A.6: "m is the number of first-table rows for which every comparison that stands outside all OR, NOT and parentheses, alone or joined by AND, and that names no
+-- column of the second table, is true"
+
+-- the second table need not be read for another row of the first: no pair with it is listed, whatever the second table holds
+abbrev pub NoPairListed : Type 0
+NoPairListed = (q : Query) (s : Second) (vs : List ℤ) (r : Row) (others : List Row) → passesFirst q s vs r ≡ false → length r ≡ s .start → answer q vs (pairs (r ∷ []) others) ≡ []
+
 -- ---- all of these
 
 pub record Demands : Type 0 where
@@ -364,3 +371,4 @@ pub record Demands : Type 0 where
   pub opposites : Opposites
   pub null-tests-in-patterns : NullTestsInPatterns
   pub never-true : NeverTrue
+  pub no-pair-listed : NoPairListed

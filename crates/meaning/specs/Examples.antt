@@ -1,5 +1,5 @@
 -- Document 01, "Examples": the ten starred rows as one table, from the texts of the statements, and "Slips a marker would catch", each by computation;
--- with them the names of request A.2; those of A.1, A.4 and A.5 are in `Paired`, `Rings` and `Nulls`. Assumes nothing.
+-- with them the names of request A.2; those of A.1, A.4, A.5 and A.6 are in `Paired`, `Rings`, `Nulls` and `Outer`. Assumes nothing.
 use mathlib.Core.Path.{_≡_, refl}
 use mathlib.Core.Bool.{Bool, true, false, cond}
 use mathlib.Core.List.{List, [], _∷_, _++_, map}

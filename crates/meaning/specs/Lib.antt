@@ -19,3 +19,4 @@ pub mod Edges
 pub mod Paired
 pub mod Rings
 pub mod Nulls
+pub mod Outer

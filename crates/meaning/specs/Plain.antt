@@ -1,4 +1,4 @@
--- The plain store: document 01, "The plain store" and "Numbers for a call not taken"; requests A.1 and A.4. It keeps no answer, and is fed only which call is made, its text
+-- The plain store: document 01, "The plain store" and "Numbers for a call not taken"; requests A.1, A.4 and A.6. It keeps no answer, and is fed only which call is made, its text
 -- or numbers, and the lengths lent. Assumes nothing: these are definitions.
 use mathlib.Core.Bool.{Bool, true, false, not, _&&_, _||_, cond}
 use mathlib.Core.Option.{Option, none, some}
@@ -7,15 +7,16 @@ use Prim.Native.Nat.{ℕ, zero, suc, _+_, _*_, _-_}
 use lib.Dec.{leb, ltb, eqb}
 use lib.IntN.{ℤ, natAbs}
 use lib.ListN.{length, take, drop, getD, set}
-use Rattle.lists.specs.Lists.{pairs}
-use Rattle.meaning.specs.Condition.{always}
+use Rattle.lists.specs.Lists.{all, keep, count, pairs}
+use Rattle.meaning.specs.Condition.{Comparison, always, outerIn, holds}
 use Rattle.meaning.specs.Key.{Key}
 use Rattle.meaning.specs.Grammar as G
 use Rattle.meaning.specs.Grammar.{items, Sentence, sentence}
 use Rattle.meaning.specs.Limits.{most-cells, most-memory, most-slots, least-slot-bytes, most-slot-bytes, most-tables, most-queries, most-updates, most-listed, tooLong, pastLimit}
 use Rattle.meaning.specs.Names.{Schema, noSchema, unknown, taken, miscounted, twice}
-use Rattle.meaning.specs.Statement.{Second, Query, Change, insert, delete, update, Update, Statement, creates, asks, changes, statementOf}
-use Rattle.meaning.specs.Meaning.{Row, answer, changed, rowsChanged}
+use Rattle.meaning.specs.Resolve.{isBelow}
+use Rattle.meaning.specs.Statement.{Operand, Second, Query, Change, insert, delete, update, Update, Statement, creates, asks, changes, statementOf}
+use Rattle.meaning.specs.Meaning.{Row, operandValue, answer, changed, rowsChanged}
 use Rattle.meaning.specs.Cells.{areasSize}
 use Rattle.meaning.specs.Record.{encode}
 use Rattle.meaning.specs.Pattern.{matchesTwo}
@@ -81,16 +82,26 @@ recordOf p k =
     let q : Query = queryAt p (k .query) in
     encode (length (q .selected)) (answer q (k .values) (rowsFor p q))
 
--- the rows that a question reads where it is worked out anew: "the table's row count"; over two tables A.1 leaves this free, "at most r1 + r1 × r2", and here
--- it is that: each row of the first table, and for each those of the second
-abbrev pub rowsReadOver : List Table → Query → Option Second → ℕ
-rowsReadOver ts q none = length (rowsAt ts (q .table))
-rowsReadOver ts q (some s) = length (rowsAt ts (q .table)) + length (rowsAt ts (q .table)) * length (rowsAt ts (s .table))
+-- ---- the rows that a question reads where it is worked out anew
+
+-- A.6: a comparison "that names no column of the second table", whose columns start there
+abbrev pub ofFirst : ℕ → Comparison Operand → Bool
+ofFirst start c = isBelow start (c .left) && isBelow start (c .right)
+
+-- a first-table row "for which every comparison that stands outside all OR, NOT and parentheses, alone or joined by AND, and that names no column of the second table, is
+-- true"; with none such, every row
+abbrev pub passesFirst : Query → Second → List ℤ → Row → Bool
+passesFirst q s vs r = all (holds (operandValue r vs)) (keep (ofFirst (s .start)) (outerIn (q .condition)))
+
+-- "the table's row count"; over two tables A.6: "exactly r1 + m × r2", where m is the number of such first-table rows
+abbrev pub rowsReadOver : List Table → Query → List ℤ → Option Second → ℕ
+rowsReadOver ts q vs none = length (rowsAt ts (q .table))
+rowsReadOver ts q vs (some s) = length (rowsAt ts (q .table)) + count (passesFirst q s vs) (rowsAt ts (q .table)) * length (rowsAt ts (s .table))
 
 abbrev pub rowsRead : Plain → Key → ℕ
 rowsRead p k =
     let q : Query = queryAt p (k .query) in
-    rowsReadOver (p .tables) q (q .second)
+    rowsReadOver (p .tables) q (k .values) (q .second)
 
 abbrev pub isInsert : Change → Bool
 isInsert (insert os) = true

@@ -3,10 +3,11 @@
 -- Assumes nothing: these are definitions.
 use mathlib.Core.Bool.{Bool, true, false, not, _&&_, _||_, cond}
 use mathlib.Core.List.{List, [], _∷_, _++_}
-use Prim.Native.Nat.{ℕ, zero, suc}
+use Prim.Native.Nat.{ℕ, zero, suc, _+_}
 use lib.IntN.{ℤ}
+use lib.ListN.{replicate}
 use Rattle.lists.specs.Lists.{pairs}
-use Rattle.meaning.specs.Condition.{Comparison, Condition, Level, compare, negate, group, alone, both, single, either, Where, always, under, opposed, holds}
+use Rattle.meaning.specs.Condition.{Comparison, Condition, Tree, Optional, Level, compare, negate, group, alone, both, single, either, Where, always, under, opposed, holds}
 
 pub data Node (O : Type 0) : Type 0 where
   leaf : Comparison O → Node O
@@ -95,3 +96,57 @@ module _ {O : Type 0} where
   abbrev pub isPostfix : List (Node O) → Bool
   isPostfix [] = true
   isPostfix (n ∷ ns) = balancedOn 0 (n ∷ ns)
+
+-- ---- A.6: the outer comparisons, by a mark for each comparison, in the text's order: what is kept of the parentheses and NOTs, which these nodes have no more
+
+module _ {A : Type 0} where
+  -- how many comparisons there are
+  abbrev pub size : {l : Level} → Tree A l → ℕ
+  size (compare c) = 1
+  size (negate c) = size c
+  size (group c) = size c
+  size (alone c) = size c
+  size (both c d) = size c + size d
+  size (single c) = size c
+  size (either c d) = size c + size d
+
+  -- which of them are outer (`Condition.outer`)
+  abbrev pub outerMarks : {l : Level} → Tree A l → List Bool
+  outerMarks (compare c) = true ∷ []
+  outerMarks (negate c) = replicate (size c) false
+  outerMarks (group c) = replicate (size c) false
+  outerMarks (alone c) = outerMarks c
+  outerMarks (both c d) = outerMarks c ++ outerMarks d
+  outerMarks (single c) = outerMarks c
+  outerMarks (either c d) = replicate (size c + size d) false
+
+  abbrev pub outerMarksIn : Optional A → List Bool
+  outerMarksIn always = []
+  outerMarksIn (under c) = outerMarks c
+
+  -- those that are marked
+  abbrev pub marked : List Bool → List A → List A
+  marked [] cs = []
+  marked (b ∷ bs) [] = []
+  marked (true ∷ bs) (c ∷ cs) = c ∷ marked bs cs
+  marked (false ∷ bs) (c ∷ cs) = marked bs cs
+
+-- each mark of the first is one of the second
+abbrev pub within : List Bool → List Bool → Bool
+within [] cs = true
+within (b ∷ bs) [] = not b && within bs []
+within (b ∷ bs) (c ∷ cs) = (not b || c) && within bs cs
+
+module _ {O : Type 0} where
+  -- which comparisons of such a list of nodes may be outer in a text, from the last one on, where the nodes are read from the last one on: those that the ANDs at the end
+  -- join, since the left side of an AND is a comparison or stands in parentheses or under NOT, and its right side may be the rest of a row of ANDs. `ending`: so far there
+  -- were only these ANDs; `need`: so many parts are to be read of one that an AND or OR joins
+  abbrev pub chained : Bool → ℕ → List (Node O) → List Bool
+  chained ending need [] = []
+  chained ending zero (leaf c ∷ ns) = true ∷ chained false zero ns
+  chained true zero (allOf ∷ ns) = chained true zero ns
+  chained false zero (allOf ∷ ns) = chained false 2 ns
+  chained ending zero (anyOf ∷ ns) = chained false 2 ns
+  chained ending (suc k) (leaf c ∷ ns) = false ∷ chained ending k ns
+  chained ending (suc k) (allOf ∷ ns) = chained ending (suc (suc k)) ns
+  chained ending (suc k) (anyOf ∷ ns) = chained ending (suc (suc k)) ns

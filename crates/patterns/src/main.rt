@@ -59,6 +59,7 @@ fn no_query() -> Query {
         parameters: 0,
         second: 0,
         start: 0,
+        outer: 0,
         condition,
     }
 }

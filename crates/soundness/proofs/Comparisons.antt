@@ -2,16 +2,16 @@
 use mathlib.Core.Path.{_≡_, refl, sym, ap, ap₂, _∙_}
 use mathlib.Core.Bool.{Bool, true, false, _&&_, and-false, and-true, and-comm}
 use mathlib.Core.List.{List, [], _∷_, map}
-use Prim.Native.Nat.{ℕ, zero, suc, _+_, _-_, _*_, _≤_, _<_}
+use Prim.Native.Nat.{ℕ, _+_, _-_, _*_, _≤_, _<_}
 use native.Mathlib.Omega.{arith}
-use borrow.Author.Tests.{le-leb, lt-leb}
+use borrow.Author.Tests.{le-leb, lt-leb, leb-true}
 use lib.Dec.{eqb, leb, ltb}
 use lib.ListN.{length, take}
 use lib.Seq.{length-take-le}
 use Rattle.lists.specs.Lists.{all}
-use Rattle.lists.proofs.Bools.{and-assoc, clash}
+use Rattle.lists.proofs.Bools.{and-assoc, and-left, and-right}
 use Rattle.meaning.specs.Condition.{sides}
-use Rattle.meaning.specs.Postfix.{Node, leaf, allOf, anyOf, leaves, balancedOn, isPostfix}
+use Rattle.meaning.specs.Postfix.{Node, leaves, isPostfix}
 use Rattle.meaning.specs.Statement as M
 use Rattle.meaning.specs.Resolve.{markInOperand, parameterCount, isNumbered, numberedOn, numberedFrom, isBelow, columnsBelow}
 use Rattle.meaning.specs.Limits.{most-comparisons, most-marks}
@@ -19,8 +19,8 @@ use Rattle.statement.specs.Compiled.{leftSide, rightSide}
 use Rattle.statement.specs.Sound.{operandRead, comparisonRead, usedSteps, usedComparisons, conditionNodes, conditionMarks, soundPredicate, soundCondition, soundConditionOn}
 use Rattle.statement.specs.declared.Comparison.{Comparison}
 use Rattle.statement.specs.declared.Condition.{Condition}
-use Rattle.statement.proofs.Stored.{read-length, read-leaves}
-use Rattle.soundness.specs.Parts.{stepsOn, comparisonFits, comparisonMarks, comparisonsOn}
+use Rattle.statement.proofs.Stored.{read-length, read-leaves, postfix-leaves}
+use Rattle.soundness.specs.Parts.{stepsOn, Ordered, comparisonFits, comparisonMarks, comparisonsOn}
 use Rattle.soundness.proofs.Tests.{interchange}
 use Rattle.soundness.proofs.Steps.{steps-postfix}
 
@@ -73,21 +73,13 @@ module _ (columns : ℕ) where
 
 -- ---- as many comparisons as the steps take
 
-balanced-leaves : {O : Type 0} (k : ℕ) (ns : List (Node O)) → balancedOn k ns ≡ true → 2 * length (leaves ns) + k ≡ length ns + 1
-balanced-leaves zero [] h = clash h refl
-balanced-leaves (suc zero) [] h = omega arith
-balanced-leaves (suc (suc k)) [] h = clash h refl
-balanced-leaves k (leaf c ∷ ns) h = omega (arith, balanced-leaves (suc k) ns h)
-balanced-leaves zero (allOf ∷ ns) h = clash h refl
-balanced-leaves (suc zero) (allOf ∷ ns) h = clash h refl
-balanced-leaves (suc (suc k)) (allOf ∷ ns) h = omega (arith, balanced-leaves (suc k) ns h)
-balanced-leaves zero (anyOf ∷ ns) h = clash h refl
-balanced-leaves (suc zero) (anyOf ∷ ns) h = clash h refl
-balanced-leaves (suc (suc k)) (anyOf ∷ ns) h = omega (arith, balanced-leaves (suc k) ns h)
-
-postfix-leaves : {O : Type 0} (n : ℕ) (ns : List (Node O)) → isPostfix ns ≡ true → length ns ≡ 2 * n - 1 → length (leaves ns) ≡ n
-postfix-leaves n [] h e = omega arith
-postfix-leaves n (x ∷ ns) h e = omega (arith, balanced-leaves 0 (x ∷ ns) h)
+pub leaves-many : (c : Condition) → c .count ≤ 8 → length (c .steps) ≡ 15 → length (c .comparisons) ≡ 8 → isPostfix (conditionNodes c) ≡ true
+    → length (leaves (conditionNodes c)) ≡ length (usedComparisons c)
+unfolding conditionNodes
+leaves-many c few fifteen eight h =
+    let steps : length (usedSteps c) ≡ 2 * c .count - 1 = length-take-le (2 * c .count - 1) (c .steps) (omega arith) in
+    let many : length (usedComparisons c) ≡ c .count = length-take-le (c .count) (c .comparisons) (omega arith) in
+    postfix-leaves (c .count) (conditionNodes c) h (read-length (usedSteps c) (usedComparisons c) ∙ steps) ∙ sym many
 
 -- ---- a condition
 
@@ -124,13 +116,21 @@ module _ (columns m p : ℕ) (c : Condition) where
   condition-long h =
       sym (ap (λ (b : Bool). (b && others) && (eqb p (m + conditionMarks c) && leb p most-marks)) (lt-leb (c .count) most-comparisons h))
 
+  pub condition-ordered : soundConditionOn columns m p c ≡ true → Ordered c
+  unfolding soundConditionOn soundCondition
+  condition-ordered h =
+      let all-but = and-left (leb (c .count) most-comparisons && others) _ h in
+      let steps = and-right (leb (c .count) most-comparisons) _ all-but in
+      record {
+        few = leb-true (c .count) most-comparisons (and-left (leb (c .count) most-comparisons) _ all-but);
+        known = and-left (all (λ (s : ℕ). ltb s 3) ss) _ steps;
+        postfix = and-left (isPostfix nodes) _ (and-right (operators cs) _ (and-right (all (λ (s : ℕ). ltb s 3) ss) _ steps));
+      }
+
   module _ (few : c .count ≤ 8) (fifteen : length (c .steps) ≡ 15) (eight : length (c .comparisons) ≡ 8) where
     leaves-are : isPostfix nodes ≡ true → leaves nodes ≡ map comparisonRead cs
     unfolding conditionNodes
-    leaves-are h =
-        let steps : length ss ≡ 2 * c .count - 1 = length-take-le (2 * c .count - 1) (c .steps) (omega arith) in
-        let many : length cs ≡ c .count = length-take-le (c .count) (c .comparisons) (omega arith) in
-        read-leaves ss cs (postfix-leaves (c .count) nodes h (read-length ss cs ∙ steps) ∙ sym many)
+    leaves-are h = read-leaves ss cs (leaves-many c few fifteen eight h)
 
     steps-tell : stepsOn 0 ss ≡ (all (λ (s : ℕ). ltb s 3) ss && isPostfix nodes)
     unfolding conditionNodes

@@ -11,9 +11,10 @@ use lib.ListN.{length, length-append, List·getD-append}
 use Rattle.lists.proofs.Bools.{and-left, and-right, and-both}
 use Rattle.meaning.specs.Names.{Schema, noSchema}
 use Rattle.meaning.specs.Statement as M
-use Rattle.statement.specs.Sound.{secondRead, columnsAt, columnsWith, soundSecond, soundQueryOn, soundUpdateOn, soundQuery, soundUpdate}
+use Rattle.statement.specs.Sound.{secondRead, columnsAt, columnsWith, soundSecond, soundUpdateOn, soundQuery, soundUpdate}
 use Rattle.statement.specs.declared.Query.{Query}
 use Rattle.statement.specs.declared.Update.{Update}
+use Rattle.soundness.specs.Parts.{queryOn}
 
 module _ (ts us : List Schema) where
   columns-before : (i : ℕ) → i < length ts → columnsAt (ts ++ us) i ≡ columnsAt ts i
@@ -46,12 +47,12 @@ module _ (ts us : List Schema) where
       let o : Option M.Second = secondRead q in
       let n : ℕ = columnsAt ts t in
       let k : t < length ts = ltb-true t (length ts) (and-left (ltb t (length ts)) _ h) in
-      let r : (soundSecond ts t n o && soundQueryOn (columnsWith ts n o) q) ≡ true = and-right (ltb t (length ts)) _ h in
+      let r : (soundSecond ts t n o && queryOn (columnsWith ts n o) q) ≡ true = and-right (ltb t (length ts)) _ h in
       let s : soundSecond ts t n o ≡ true = and-left (soundSecond ts t n o) _ r in
       and-both (ltb t (length (ts ++ us))) _ (lt-ltb t (length (ts ++ us)) (omega (arith, length-append ts us)))
-      (ap (λ (m : ℕ). soundSecond (ts ++ us) t m o && soundQueryOn (columnsWith (ts ++ us) m o) q) (columns-before t k)
+      (ap (λ (m : ℕ). soundSecond (ts ++ us) t m o && queryOn (columnsWith (ts ++ us) m o) q) (columns-before t k)
       ∙ and-both (soundSecond (ts ++ us) t n o) _ (second-before t n o s)
-      (ap (λ (w : ℕ). soundQueryOn w q) (with-before t n o s) ∙ and-right (soundSecond ts t n o) _ r))
+      (ap (λ (w : ℕ). queryOn w q) (with-before t n o s) ∙ and-right (soundSecond ts t n o) _ r))
 
   pub update-before : (u : Update) → soundUpdate ts u ≡ true → soundUpdate (ts ++ us) u ≡ true
   unfolding soundUpdate

@@ -7,6 +7,7 @@ pub mod Packed
 pub mod Tables
 pub mod Steps
 pub mod Comparisons
+pub mod Outer
 pub mod Widths
 pub mod Settings
 pub mod Laws

@@ -1,7 +1,7 @@
 -- How many columns the tables have; questions and updates by the number of columns of their table. Assumes nothing.
 use mathlib.Core.Path.{_≡_, refl, sym, ap, _∙_, subst}
 use mathlib.Core.Logic.{_≢_}
-use mathlib.Core.Bool.{Bool, true, false, _&&_, cond}
+use mathlib.Core.Bool.{Bool, true, false, not, _&&_, cond}
 use mathlib.Core.List.{List, [], _∷_, _++_, map}
 use Prim.Native.Nat.{ℕ, zero, suc, _+_, _-_, _≤_, _<_, min}
 use native.Mathlib.Nat.{le-of-suc-le-suc, not-suc-le-zero}
@@ -17,13 +17,15 @@ use Rattle.lists.proofs.Places.{All-set}
 use Rattle.meaning.specs.Names.{Schema}
 use Rattle.statement.specs.Catalog.{schemaOf, schemasOf}
 use Rattle.statement.specs.Compiled.{padded}
-use Rattle.statement.specs.Sound.{secondBy, secondRead, columnsAt, columnsWith, soundSecond, soundConditionOn, soundQueryOn, soundUpdateOn, soundQuery, soundUpdate}
+use Rattle.statement.specs.Sound.{secondBy, secondRead, columnsAt, columnsWith, soundSecond, soundConditionOn, soundQueryOn, soundOuter, soundUpdateOn, soundQuery, soundUpdate}
 use Rattle.statement.specs.declared.Table.{Table}
 use Rattle.statement.specs.declared.Query.{Query}
 use Rattle.statement.specs.declared.Update.{Update}
 use Rattle.statement.proofs.Walks.{take-min, rest, length-first, map-rest, map-none, Fills, fills-start, fills-more, fills-end, Tested, tested-more}
-use Rattle.soundness.specs.Parts.{widthOf, Widths, fitsSecond, widthWith}
+use Rattle.soundness.specs.Parts.{widthOf, Widths, fitsSecond, widthWith, Ordered, outerFits, queryOn}
 use Rattle.soundness.proofs.Tests.{counted}
+use Rattle.soundness.proofs.Comparisons.{condition-ordered}
+use Rattle.soundness.proofs.Outer.{marks-unread, marks-read}
 
 -- ---- the loop: the widths left are to be written
 
@@ -83,12 +85,12 @@ abbrev pub bothWidths : List ℕ → ℕ → ℕ → ℕ
 bothWidths widths columns second = cond (eqb second 0) columns (columns + getD widths (second - 1) 0)
 
 -- no column, where the second table does not fit, is as good as that test
-pub with-second : (there : ℕ) (widths : List ℕ) (table columns second start : ℕ) (q : Query) → soundQueryOn 0 q ≡ false
-    → soundQueryOn (widthWith there widths table columns second start) q ≡ (secondAt there table columns second start && soundQueryOn (bothWidths widths columns second) q)
+pub with-second : (there : ℕ) (widths : List ℕ) (table columns second start : ℕ) (q : Query) → queryOn 0 q ≡ false
+    → queryOn (widthWith there widths table columns second start) q ≡ (secondAt there table columns second start && queryOn (bothWidths widths columns second) q)
 with-second there widths table columns second start q h = go (eqb second 0) (fitsSecond there table columns (second - 1) start)
   where
-    go : (a b : Bool) → soundQueryOn (cond a columns (cond b (columns + getD widths (second - 1) 0) 0)) q
-        ≡ (cond a true b && soundQueryOn (cond a columns (columns + getD widths (second - 1) 0)) q)
+    go : (a b : Bool) → queryOn (cond a columns (cond b (columns + getD widths (second - 1) 0) 0)) q
+        ≡ (cond a true b && queryOn (cond a columns (columns + getD widths (second - 1) 0)) q)
     go true b = refl
     go false true = refl
     go false false = h
@@ -108,7 +110,7 @@ module _ (there : ℕ) (widths : List ℕ) (table columns second start : ℕ) wh
 abbrev pub queryAt : ℕ → List ℕ → Query → Bool
 queryAt there widths q =
     let n : ℕ = getD widths (q .table) 0 in
-    ltb (q .table) there && (secondAt there (q .table) n (q .second) (q .start) && soundQueryOn (bothWidths widths n (q .second)) q)
+    ltb (q .table) there && (secondAt there (q .table) n (q .second) (q .start) && queryOn (bothWidths widths n (q .second)) q)
 
 abbrev pub updateAt : ℕ → List ℕ → Update → Bool
 updateAt there widths u = ltb (u .table) there && soundUpdateOn (getD widths (u .table) 0) u
@@ -118,13 +120,13 @@ pub tested-query : (there : ℕ) (widths : List ℕ) (count : ℕ) (queries : Li
     → (first columns : ℕ) (r : Bool)
     → first ≡ getD widths (getD queries i d .table) 0
     → columns ≡ widthWith there widths (getD queries i d .table) first (getD queries i d .second) (getD queries i d .start)
-    → (r ≡ soundQueryOn columns (getD queries i d)) × (soundQueryOn 0 (getD queries i d) ≡ false)
+    → (r ≡ queryOn columns (getD queries i d)) × (queryOn 0 (getD queries i d) ≡ false)
     → Tested (queryAt there widths) count queries ok i
     → Tested (queryAt there widths) count queries (ok && (ltb (getD queries i d .table) there && r)) (i + 1)
 tested-query there widths count queries l ok i d k first columns r f w s T =
     let q : Query = getD queries i d in
-    let e : r ≡ (secondAt there (q .table) (getD widths (q .table) 0) (q .second) (q .start) && soundQueryOn (bothWidths widths (getD widths (q .table) 0) (q .second)) q) =
-    s .0 ∙ ap (λ (n : ℕ). soundQueryOn n q) (w ∙ ap (λ (n : ℕ). widthWith there widths (q .table) n (q .second) (q .start)) f)
+    let e : r ≡ (secondAt there (q .table) (getD widths (q .table) 0) (q .second) (q .start) && queryOn (bothWidths widths (getD widths (q .table) 0) (q .second)) q) =
+    s .0 ∙ ap (λ (n : ℕ). queryOn n q) (w ∙ ap (λ (n : ℕ). widthWith there widths (q .table) n (q .second) (q .start)) f)
     ∙ with-second there widths (q .table) (getD widths (q .table) 0) (q .second) (q .start) q (s .1) in
     subst (λ (b : Bool). Tested (queryAt there widths) count queries (ok && (ltb (q .table) there && b)) (i + 1)) (sym e)
     (tested-more (queryAt there widths) count queries l ok i d k T)
@@ -148,17 +150,17 @@ module _ (tables : List Table) (used there : ℕ) (eight : length tables ≡ 8) 
 
   -- the second table, where the first has n columns
   second-beside : (q : Query) (n k : ℕ)
-      → (secondAt there (q .table) n k (q .start) && soundQueryOn (bothWidths widths n k) q)
-      ≡ (soundSecond (schemasOf tables used) (q .table) n (secondBy k (q .start)) && soundQueryOn (columnsWith (schemasOf tables used) n (secondBy k (q .start))) q)
+      → (secondAt there (q .table) n k (q .start) && queryOn (bothWidths widths n k) q)
+      ≡ (soundSecond (schemasOf tables used) (q .table) n (secondBy k (q .start)) && queryOn (columnsWith (schemasOf tables used) n (secondBy k (q .start))) q)
   second-beside q n zero = refl
   second-beside q n (suc k) =
       let j : suc k - 1 ≡ k = omega arith in
-      ap (λ (b : Bool). cond b true (fitsSecond there (q .table) n (suc k - 1) (q .start)) && soundQueryOn (cond b n (n + getD widths (suc k - 1) 0)) q)
+      ap (λ (b : Bool). cond b true (fitsSecond there (q .table) n (suc k - 1) (q .start)) && queryOn (cond b n (n + getD widths (suc k - 1) 0)) q)
       (ne-eqb (suc k) 0 (λ e. omega arith))
-      ∙ ap (λ (i : ℕ). fitsSecond there (q .table) n i (q .start) && soundQueryOn (n + getD widths i 0) q) j
+      ∙ ap (λ (i : ℕ). fitsSecond there (q .table) n i (q .start) && queryOn (n + getD widths i 0) q) j
       ∙ beside (fitsSecond there (q .table) n k (q .start)) _ _
-      (λ h. ap (λ (w : ℕ). soundQueryOn (n + w) q) (width-is k (ltb-true k there (and-left (ltb k there) _ h))))
-      ∙ ap (λ (m : ℕ). fitsSecond m (q .table) n k (q .start) && soundQueryOn (n + columnsAt (schemasOf tables used) k) q) (sym tables-many)
+      (λ h. ap (λ (w : ℕ). queryOn (n + w) q) (width-is k (ltb-true k there (and-left (ltb k there) _ h))))
+      ∙ ap (λ (m : ℕ). fitsSecond m (q .table) n k (q .start) && queryOn (n + columnsAt (schemasOf tables used) k) q) (sym tables-many)
 
   query-beside : (q : Query) → queryAt there widths q ≡ soundQuery (schemasOf tables used) q
   unfolding soundQuery
@@ -167,8 +169,8 @@ module _ (tables : List Table) (used there : ℕ) (eight : length tables ≡ 8) 
       beside (ltb (q .table) there) _ _
       (λ h.
       second-beside q (getD widths (q .table) 0) (q .second)
-      ∙ ap (λ (n : ℕ). soundSecond ts (q .table) n (secondRead q) && soundQueryOn (columnsWith ts n (secondRead q)) q) (width-is (q .table) (ltb-true (q .table) there h)))
-      ∙ ap (λ (m : ℕ). ltb (q .table) m && (soundSecond ts (q .table) (columnsAt ts (q .table)) (secondRead q) && soundQueryOn (columnsWith ts (columnsAt ts (q .table)) (secondRead q)) q))
+      ∙ ap (λ (n : ℕ). soundSecond ts (q .table) n (secondRead q) && queryOn (columnsWith ts n (secondRead q)) q) (width-is (q .table) (ltb-true (q .table) there h)))
+      ∙ ap (λ (m : ℕ). ltb (q .table) m && (soundSecond ts (q .table) (columnsAt ts (q .table)) (secondRead q) && queryOn (columnsWith ts (columnsAt ts (q .table)) (secondRead q)) q))
       (sym tables-many)
 
   update-beside : (u : Update) → updateAt there widths u ≡ soundUpdate (schemasOf tables used) u
@@ -191,8 +193,8 @@ none-below zero l h k = absurd (omega arith)
 none-below (suc n) [] h k = absurd (omega arith)
 none-below (suc n) (x ∷ l) h k = ap (λ (b : Bool). b && all (λ (i : ℕ). ltb i 0) (take n l)) (le-ltb x 0 (omega arith))
 
-pub no-columns : (q : Query) → length (q .selected) ≡ 8 → soundQueryOn 0 q ≡ false
-no-columns q e =
+columns-missing : (q : Query) → length (q .selected) ≡ 8 → soundQueryOn 0 q ≡ false
+columns-missing q e =
     contra (soundQueryOn 0 q) false
     (λ h.
     let k = and-right (leb 1 (q .count)) _ h in
@@ -200,12 +202,29 @@ no-columns q e =
     clash selected (none-below (q .count) (q .selected) (leb-true 1 (q .count) (and-left (leb 1 (q .count)) _ h)) (omega arith)))
     refl
 
+pub no-columns : (q : Query) → length (q .selected) ≡ 8 → queryOn 0 q ≡ false
+no-columns q e = ap (λ (b : Bool). b && soundOuter (secondRead q) q) (columns-missing q e)
+
 module _ (columns : ℕ) (q : Query) where
-  abbrev below : Bool
-  below = all (λ (i : ℕ). ltb i columns) (take (q .count) (q .selected))
+  abbrev pub asked : Bool
+  asked = all (λ (i : ℕ). ltb i columns) (take (q .count) (q .selected)) && soundConditionOn columns 0 (q .parameters) (q .condition)
 
-  pub query-no : (leb 1 (q .count) && leb (q .count) 8) ≡ false → false ≡ soundQueryOn columns q
-  query-no h = counted (q .count) false _ h
+  pub query-no : (leb 1 (q .count) && leb (q .count) 8) ≡ false → false ≡ queryOn columns q
+  query-no h = ap (λ (b : Bool). b && soundOuter (secondRead q) q) (counted (q .count) false asked h)
 
-  pub query-yes : (leb 1 (q .count) && leb (q .count) 8) ≡ true → (below && soundConditionOn columns 0 (q .parameters) (q .condition)) ≡ soundQueryOn columns q
-  query-yes h = counted (q .count) true _ h
+  module _ (h : (leb 1 (q .count) && leb (q .count) 8) ≡ true) (s : Bool) (e : s ≡ asked) where
+    sound-is : (s && soundOuter (secondRead q) q) ≡ queryOn columns q
+    sound-is = ap (λ (b : Bool). b && soundOuter (secondRead q) q) (e ∙ counted (q .count) true asked h)
+
+    -- over one table, or not sound
+    pub query-one : (s && not (eqb (q .second) 0)) ≡ false → s ≡ queryOn columns q
+    query-one k = marks-unread q s k ∙ sound-is
+
+    pub query-two : (s && not (eqb (q .second) 0)) ≡ true → outerFits (q .condition) (q .outer) ≡ queryOn columns q
+    query-two k = marks-read q s k ∙ sound-is
+
+    -- what the test of the marks may rely on
+    pub query-ordered : (s && not (eqb (q .second) 0)) ≡ true → Ordered (q .condition)
+    query-ordered k =
+        condition-ordered columns 0 (q .parameters) (q .condition)
+        (and-right (all (λ (i : ℕ). ltb i columns) (take (q .count) (q .selected))) _ (sym e ∙ and-left s _ k))

@@ -1,26 +1,29 @@
 -- The parts of the tests, as the code takes them: names as numbers, steps by the depth of the stack, comparisons and settings by the number of the next
--- parameter, tables by how many columns they have. proofs/Tables, Comparisons, Widths and Settings show that they are the tests of crate `statement`.
+-- parameter, tables by how many columns they have. proofs/Tables, Comparisons, Outer, Widths and Settings show that they are the tests of crate `statement`.
 -- Assumes nothing: these are definitions.
 use mathlib.Core.Path.{_≡_}
-use mathlib.Core.Bool.{Bool, true, not, _&&_, cond}
-use mathlib.Core.List.{List, [], _∷_, map}
-use Prim.Native.Nat.{ℕ, _+_, _-_, _*_, _≤_}
+use mathlib.Core.Bool.{Bool, true, not, _&&_, _||_, cond}
+use mathlib.Core.List.{List, [], _∷_, map, reverse}
+use Prim.Native.Nat.{ℕ, _+_, _-_, _*_, _/_, _%_, _≤_}
 use lib.Dec.{eqb, leb, ltb}
 use lib.ListN.{length, getD, take}
 use Rattle.lists.specs.Lists.{All, all, repeats, from}
 use Rattle.meaning.specs.Tokens.{isDigit, isSmall, isNameByte}
 use Rattle.meaning.specs.Limits.{most-items, most-rows}
 use Rattle.meaning.specs.Names.{sameName}
+use Rattle.meaning.specs.Postfix.{isPostfix, within, chained}
 use Rattle.meaning.specs.Resolve.{isNumbered, isBelow}
 use Rattle.meaning.specs.Statement.{value}
 use Rattle.statement.specs.Built.{markInValue, markInSide}
 use Rattle.statement.specs.Catalog.{nameOfStruct, schemaOf}
 use Rattle.statement.specs.Compiled.{padded, leftSide, rightSide, newValue}
-use Rattle.statement.specs.Sound.{valueRead, operandRead, usedColumns, soundName, soundPredicate}
+use Rattle.statement.specs.Sound.{valueRead, operandRead, usedColumns, usedSteps, usedComparisons, conditionNodes, secondRead, digitsBack, soundName, soundPredicate, soundQueryOn, soundOuter}
 use Rattle.statement.specs.declared.Name.{Name}
 use Rattle.statement.specs.declared.Table.{Table}
 use Rattle.statement.specs.declared.Operand.{Operand}
 use Rattle.statement.specs.declared.Comparison.{Comparison}
+use Rattle.statement.specs.declared.Condition.{Condition}
+use Rattle.statement.specs.declared.Query.{Query}
 use Rattle.statement.specs.declared.Value.{Value}
 use Rattle.statement.specs.declared.Setting.{Setting}
 use Rattle.soundness.specs.declared.statements.Numbered.{Numbered}
@@ -78,6 +81,39 @@ depthAfter k s = cond (eqb s 0) (k + 1) (cond (ltb s 3 && leb 2 k) (k - 1) 0)
 abbrev pub stepsOn : ℕ → List ℕ → Bool
 stepsOn k [] = leb k 1
 stepsOn k (s ∷ ss) = not (eqb (depthAfter k s) 0) && stepsOn (depthAfter k s) ss
+
+-- ---- A.6: marks of outer comparisons, by the steps from the last one on: `Postfix.chained`, with the marks that are left
+
+-- a comparison in a part that an AND or OR joins has no mark
+abbrev pub markFits : ℕ → ℕ → ℕ → Bool
+markFits need marks s = (not (eqb s 0) || eqb need 0) || not (eqb (marks % 2) 1)
+
+abbrev pub marksAfter : ℕ → ℕ → ℕ
+marksAfter marks s = cond (eqb s 0) (marks / 2) marks
+
+-- `ending`: this step too is one of the ANDs at the end
+abbrev pub needAfter : Bool → ℕ → ℕ → ℕ
+needAfter ending need s = cond (eqb need 0) (cond (eqb s 0 || ending) 0 2) (cond (eqb s 0) (need - 1) (need + 1))
+
+abbrev pub outerOn : Bool → ℕ → ℕ → List ℕ → Bool
+outerOn ending need marks [] = true
+outerOn ending need marks (s ∷ ss) =
+    markFits need marks s && outerOn (ending && eqb s 1) (needAfter (ending && eqb s 1) need s) (marksAfter marks s) ss
+
+-- the steps of a condition are a postfix order
+pub record Ordered (c : Condition) : Type 0 where
+  pub few : c .count ≤ 8
+  pub known : all (λ (s : ℕ). ltb s 3) (usedSteps c) ≡ true
+  pub postfix : isPostfix (conditionNodes c) ≡ true
+
+-- each comparison that is marked may be outer in a text
+abbrev pub outerFits : Condition → ℕ → Bool
+outerFits c outer = within (digitsBack (length (usedComparisons c)) outer) (chained true 0 (reverse (conditionNodes c)))
+
+-- ---- a question of so many columns
+
+abbrev pub queryOn : ℕ → Query → Bool
+queryOn columns q = soundQueryOn columns q && soundOuter (secondRead q) q
 
 -- ---- comparisons, where m parameters stand before
 

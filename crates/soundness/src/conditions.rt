@@ -5,11 +5,12 @@ use table::Operand;
 use table::Statement;
 use table::Step;
 ghost use mathlib.Core.Path.{_≡_};
-ghost use mathlib.Core.Bool.{cond};
+ghost use mathlib.Core.Bool.{true, cond};
+ghost use mathlib.Core.List.{reverse};
 ghost use Prim.Native.Nat.{_-_, _*_, _≤_, _<_};
 ghost use lib.ListN.{take, drop};
 ghost use Rattle.statement.specs.Sound.{soundPredicate, soundConditionOn};
-ghost use Rattle.soundness.specs.Parts.{depthAfter, stepsOn, afterSide, afterComparison, afterAll};
+ghost use Rattle.soundness.specs.Parts.{depthAfter, stepsOn, markFits, marksAfter, needAfter, outerOn, Ordered, outerFits, afterSide, afterComparison, afterAll};
 
 // ---- steps
 
@@ -44,6 +45,76 @@ fn steps_are_sound(steps: [u8; Condition::STEPS], n: usize) -> bool
         i += 1;
     }
     depth <= 1
+}
+
+// ---- A.6: marks of outer comparisons, a binary digit for each comparison: the last digit is the last comparison's
+
+// Whether a step may have the last of these marks: a comparison in a part that an AND or OR joins has none.
+fn mark_fits(need: u8, marks: u8, step: u8) -> bool
+    ensures { λ r. ⌜ r ≡ markFits need marks step ⌝ }
+{
+    (step != Step::COMPARISON) | (need == 0) | (marks % 2 != 1)
+}
+
+// The marks that are left before a step.
+fn marks_after(marks: u8, step: u8) -> u8
+    ensures { λ r. ⌜ r ≡ marksAfter marks step ⌝ }
+{
+    if step == Step::COMPARISON {
+        marks / 2
+    } else {
+        marks
+    }
+}
+
+// How many parts are still to be read of one that an AND or OR joins, before a step; `ending`: the step is one of the ANDs at the end.
+fn need_after(ending: bool, need: u8, step: u8) -> u8
+    requires { ⌜ need < 255 ⌝ }
+    ensures { λ r. ⌜ r ≡ needAfter ending need step ⌝ }
+{
+    if need == 0 {
+        return if (step == Step::COMPARISON) | ending {
+            0
+        } else {
+            2
+        };
+    }
+    if step == Step::COMPARISON {
+        need - 1
+    } else {
+        need + 1
+    }
+}
+
+// Whether the marks fit the steps of n comparisons, which are read from the last one on.
+fn marks_fit(steps: [u8; Condition::STEPS], n: usize, outer: u8) -> bool
+    requires { ⌜ n ≤ 8 ⌝ }
+    ensures { λ r. ⌜ r ≡ outerOn true 0 outer (reverse (take (2 * n - 1) steps)) ⌝ }
+{
+    let mut ok = true;
+    let mut ending = true;
+    let mut need: u8 = 0;
+    let mut marks = outer;
+    let mut i = 2 * n;
+    while 1 < i {
+        i -= 1;
+        let s = steps[i - 1];
+        ok = ok & mark_fits(need, marks, s);
+        ending = ending & (s == Step::AND);
+        need = need_after(ending, need, s);
+        marks = marks_after(marks, s);
+    }
+    ok
+}
+
+// Whether each comparison that is marked may be outer in a text.
+pub fn outer_is_sound(c: Condition, outer: u8) -> bool
+    requires { ⌜ Ordered c ⌝ }
+    ensures { λ r. ⌜ r ≡ outerFits c outer ⌝ }
+{
+    let n = c.count as usize;
+    let steps = c.steps;
+    marks_fit(steps, n, outer)
 }
 
 // ---- comparisons, by the number of the next parameter: where one does not fit, it is more than there can be

@@ -12,8 +12,8 @@ ghost use lib.Dec.{ltb};
 ghost use lib.ListN.{getD, take};
 ghost use Rattle.lists.specs.Lists.{All, all, repeats};
 ghost use Rattle.statement.specs.Built.{markInValue};
-ghost use Rattle.statement.specs.Sound.{soundQueryOn, soundUpdateOn};
-ghost use Rattle.soundness.specs.Parts.{widthOf, Widths, widthWith, ifSo, sameColumn, formFits, columnFits, valueFits, settingsOn};
+ghost use Rattle.statement.specs.Sound.{soundUpdateOn};
+ghost use Rattle.soundness.specs.Parts.{widthOf, Widths, widthWith, queryOn, ifSo, sameColumn, formFits, columnFits, valueFits, settingsOn};
 
 // ---- how many columns the tables have
 
@@ -88,16 +88,20 @@ fn are_below(selected: [u8; Query::SELECTED], n: usize, columns: u8) -> bool
     ok
 }
 
-// Whether a question is sound, where its tables have so many columns: with none it is not.
+// Whether a question is sound, where its tables have so many columns: with none it is not. A.6: its marks are read where it is over two tables.
 pub fn query_is_sound(q: Query, columns: u8) -> bool
-    ensures { λ r. ⌜ (r ≡ soundQueryOn columns q) × (soundQueryOn 0 q ≡ false) ⌝ }
+    ensures { λ r. ⌜ (r ≡ queryOn columns q) × (queryOn 0 q ≡ false) ⌝ }
 {
     let n = q.count as usize;
     if (1 <= n) & (n <= Query::SELECTED) {
         let selected = q.selected;
         let condition = q.condition;
-        return are_below(selected, n, columns)
+        let sound = are_below(selected, n, columns)
             & conditions::is_sound(condition, columns, 0, q.parameters);
+        if sound & (q.second != 0) {
+            return conditions::outer_is_sound(condition, q.outer);
+        }
+        return sound;
     }
     false
 }

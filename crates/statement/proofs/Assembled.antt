@@ -23,15 +23,16 @@ use Rattle.statement.specs.declared.Setting.{Setting}
 use Rattle.statement.specs.declared.Statement.{Statement}
 use Rattle.statement.specs.declared.sentences.Entry.{Entry}
 use Rattle.statement.specs.declared.assembling.Settings.{Settings}
-use Rattle.statement.specs.Places.{nameOn, givenOn, Column, columnOn, nodesOn}
+use Rattle.statement.specs.Places.{nameOn, givenOn, Column, columnOn, nodesOn, bareMarksOn}
 use Rattle.statement.specs.Sentences.{itemsOn, givensOn}
 use Rattle.statement.specs.Catalog.{nameOfStruct, namesOf, scopeNames, scopeOf, pairScope, schemaOf, schemasOf}
 use Rattle.statement.specs.Compiled.{padded, nameStruct, noName, noSetting, conditionStruct, created, asked, changing, refusedBy, settled}
-use Rattle.statement.specs.Built.{lowestBy, placesOf, placeIn, widthIn, startIn, twiceIn, shortName, shortColumn, rowsOn, settingsOn, conditionBelow, placesBelow, Fits, listedOn, conditionOn, unknownOn, tableOn, selectOn, insertOn, setsOn, updateOn, deleteOn, formOn, numberOn, columnsAt, pairWith, pairOn, besideOn}
+use Rattle.statement.specs.Built.{lowestBy, placesOf, placeIn, widthIn, startIn, twiceIn, shortName, shortColumn, rowsOn, settingsOn, outerIn, conditionBelow, placesBelow, Fits, listedOn, conditionOn, unknownOn, tableOn, selectOn, insertOn, setsOn, updateOn, deleteOn, formOn, numberOn, columnsAt, pairWith, pairOn, besideOn}
 use Rattle.statement.proofs.Left.{length-items}
 use Rattle.statement.proofs.Values.{name-back}
 use Rattle.statement.proofs.Parts.{mark-one}
 use Rattle.statement.proofs.Resolving.{resolve-count}
+use Rattle.statement.proofs.Sets.{marks-count}
 use Rattle.statement.proofs.Found.{has-ltb}
 
 -- ---- arrays read back
@@ -77,6 +78,10 @@ module _ (s ls : List ℕ) (e : Entry) where
 pub condition-few : (d : Bool) (place : Column d → ℕ) (s ps : List ℕ) (e : Entry) (m : ℕ) → Fits s ps e → (c : Condition) → c ≡ conditionOn d place s ps e m → c .count ≤ 8
 condition-few d place s ps e m f c q = omega (arith, ap (λ (x : Condition). x .count) q, resolve-count place (shortColumn d) m (nodesOn d s (e .c .nodes) ps), f .comparisons d)
 
+-- and how many marks its comparisons have
+pub marks-few-noted : (s ps : List ℕ) (e : Entry) → Fits s ps e → length (bareMarksOn (e .c .nodes) ps) ≤ 8
+marks-few-noted s ps e f = omega (arith, marks-count false s (e .c .nodes) ps, f .comparisons false)
+
 -- ---- of one table
 
 module _ (scope : Scope) (h : scope .dotted ≡ false) where
@@ -112,18 +117,18 @@ full-made ts cells taken left n size et el en = ap₂ (λ (k m : ℕ). leb 8 k |
 -- ---- the forms
 
 module _ (d : Bool) (place : Column d → ℕ) (width : ℕ) (s ls ps : List ℕ) (e : Entry) (i second start : ℕ) (twice : Bool) where
-  pub select-made : (queries : ℕ) (at : List ℕ) (c : Condition) (w : ℕ) (t : Bool) (k number : ℕ) (r : Statement)
-      → at ≡ padded 8 0 (map place (listedOn d s ls e)) → c ≡ conditionOn d place s ps e 0 → w ≡ width → t ≡ twice → k ≡ start
+  pub select-made : (queries : ℕ) (at : List ℕ) (c : Condition) (w : ℕ) (t : Bool) (k o number : ℕ) (r : Statement)
+      → at ≡ padded 8 0 (map place (listedOn d s ls e)) → c ≡ conditionOn d place s ps e 0 → w ≡ width → t ≡ twice → k ≡ start → o ≡ outerIn d (e .c .nodes) ps
       → number ≡ lowestBy (not (placesBelow w (take (e .listed) at) && conditionBelow w c)) false false t (leb 16 queries)
-      → r ≡ settled number (asked (record { table = i; selected = at; count = e .listed; parameters = e .c .marks; second = second; start = k; condition = c }))
+      → r ≡ settled number (asked (record { table = i; selected = at; count = e .listed; parameters = e .c .marks; second = second; start = k; outer = o; condition = c }))
       → r ≡ selectOn d place width s ls ps e i second start twice queries
   unfolding selectOn
-  select-made queries at c w t k number r ea ec ew et ek em er =
+  select-made queries at c w t k o number r ea ec ew et ek eo em er =
       let p : take (e .listed) at ≡ map place (listedOn d s ls e) = places-first d place s ls e at ea in
       er
       ∙ (λ j. settled
       ((em ∙ (λ x. lowestBy (not (placesBelow (ew x) (p x) && conditionBelow (ew x) (ec x))) false false (et x) (leb 16 queries))) j)
-      (asked (record { table = i; selected = ea j; count = e .listed; parameters = e .c .marks; second = second; start = ek j; condition = ec j })))
+      (asked (record { table = i; selected = ea j; count = e .listed; parameters = e .c .marks; second = second; start = ek j; outer = eo j; condition = ec j })))
 
 module _ (s ls ps : List ℕ) (e : Entry) (columns : List (List ℕ)) (i : ℕ) where
   pub update-made : (updates : ℕ) (names : List Name) (at : List ℕ) (sets : Settings) (settings : List Setting) (c : Condition) (w : ℕ) (twice : Bool) (number : ℕ) (r : Statement)

@@ -4,7 +4,7 @@ use mathlib.Core.Logic.{_≢_}
 use mathlib.Core.Bool.{Bool, true, false, cond, _&&_, _||_}
 use mathlib.Core.Option.{Option, none, some}
 use mathlib.Core.List.{List, [], _∷_, _++_}
-use Prim.Native.Nat.{ℕ, _+_, _-_, _≤_, _<_}
+use Prim.Native.Nat.{ℕ, _+_, _-_, _%_, _≤_, _<_}
 use native.Mathlib.Decide.{ℕ-discrete}
 use native.Mathlib.Nat.{le-refl}
 use native.Mathlib.Omega.{arith}
@@ -24,11 +24,12 @@ use Rattle.token.specs.declared.Token.{Token}
 use Rattle.token.specs.Tokens.{kindOf, operatorNumber, tokenAt}
 use Rattle.token.proofs.Laws.{next-inside}
 use Rattle.statement.specs.Operators.{predicateAt, predicateNumber, oppositeOf}
-use Rattle.statement.specs.Places.{Column, termOn, nodeOn, nodesOn}
+use Rattle.statement.specs.Places.{Column, termOn, comparisonCode, nodeOn, nodesOn, codesOn, bareMark, codeMarks}
 use Rattle.statement.specs.Reading.{isComparison, Operand, aColumn, withSides, withNode, PutsNode, endedAt, PutsNull, Stands, Spans, IsOperand, Sides, ReadsSide, Found, Meets, Reaches, TestsNull}
 use Rattle.statement.specs.declared.conditions.Cursor.{Cursor}
 use Rattle.statement.specs.declared.conditions.Side.{Side}
 use Rattle.statement.proofs.OperatorLaws.{predicate-back, predicate-few, opposite-is, opposite-few}
+use Rattle.statement.proofs.Nodes.{code-few, code-back, code-bare, marks-put}
 use Rattle.statement.proofs.Operands.{append-marks, isColumn, column-is, first-column, no-operator, is-operator}
 use Rattle.statement.proofs.Steps.{Look, ended, seen, look, Goes, goes, stops}
 
@@ -94,16 +95,25 @@ module _ (s : List ℕ) (at : ℕ) (u : Token) (e : u ≡ tokenAt s at) where
 -- ---- a comparison's node
 
 -- the node of the number k is a comparison
-leaf-at : (d : Bool) (s : List ℕ) (k a b : ℕ) (o : Predicate) (x y : Operand d) → k < 8 → predicateAt k ≡ o → termOn d s a ≡ x → termOn d s b ≡ y
+leaf-at : (d : Bool) (s : List ℕ) (k a b : ℕ) (o : Predicate) (x y : Operand d) → k < 16 → predicateAt (k % 8) ≡ o → termOn d s a ≡ x → termOn d s b ≡ y
     → nodeOn d s k a b ≡ leaf (record { left = x; op = o; right = y })
-leaf-at d s k a b o x y h p q r = rw (lt-ltb k 8 h) (λ i. leaf (record { left = q i; op = p i; right = r i }))
+leaf-at d s k a b o x y h p q r = rw (lt-ltb k 16 h) (λ i. leaf (record { left = q i; op = p i; right = r i }))
 
-node-is : (d : Bool) (s : List ℕ) (positive : Bool) (a b : ℕ) (o : Predicate) (x y : Operand d) → termOn d s a ≡ x → termOn d s b ≡ y
-    → nodeOn d s (cond positive (predicateNumber o) (oppositeOf (predicateNumber o))) a b ≡ leaf (signed positive (record { left = x; op = o; right = y }))
-node-is d s true a b o x y q r = leaf-at d s (predicateNumber o) a b o x y (predicate-few o) (predicate-back o) q r
-node-is d s false a b o x y q r =
-    leaf-at d s (oppositeOf (predicateNumber o)) a b (opposite o) x y (opposite-few (predicateNumber o) (predicate-few o))
-    (opposite-is (predicateNumber o) (predicate-few o) ∙ ap opposite (predicate-back o)) q r
+module _ (depth : ℕ) where
+  code-at : (d : Bool) (s : List ℕ) (k a b : ℕ) (o : Predicate) (x y : Operand d) → k < 8 → predicateAt k ≡ o → termOn d s a ≡ x → termOn d s b ≡ y
+      → nodeOn d s (comparisonCode depth k) a b ≡ leaf (record { left = x; op = o; right = y })
+  code-at d s k a b o x y h p = leaf-at d s (comparisonCode depth k) a b o x y (code-few depth k h) (ap predicateAt (code-back depth k h) ∙ p)
+
+  node-is : (d : Bool) (s : List ℕ) (positive : Bool) (a b : ℕ) (o : Predicate) (x y : Operand d) → termOn d s a ≡ x → termOn d s b ≡ y
+      → nodeOn d s (comparisonCode depth (cond positive (predicateNumber o) (oppositeOf (predicateNumber o)))) a b ≡ leaf (signed positive (record { left = x; op = o; right = y }))
+  node-is d s true a b o x y q r = code-at d s (predicateNumber o) a b o x y (predicate-few o) (predicate-back o) q r
+  node-is d s false a b o x y q r =
+      code-at d s (oppositeOf (predicateNumber o)) a b (opposite o) x y (opposite-few (predicateNumber o) (predicate-few o))
+      (opposite-is (predicateNumber o) (predicate-few o) ∙ ap opposite (predicate-back o)) q r
+
+  node-bare : (positive : Bool) (k : ℕ) → k < 8 → bareMark (comparisonCode depth (cond positive k (oppositeOf k))) ≡ eqb depth 0 ∷ []
+  node-bare true k h = code-bare depth k h
+  node-bare false k h = code-bare depth (oppositeOf k) (opposite-few k h)
 
 few-marks : {C : Type 0} (x : Term C) → markCount (termGivens (x ∷ [])) ≤ 1
 few-marks (column n) = omega arith
@@ -114,7 +124,7 @@ few-marks (given mark) = omega arith
 module _ (d : Bool) (s : List ℕ) (positive : Bool) (depth : ℕ) (c : Cursor) (eq : c .dotted ≡ d) (xs ys : List ℕ) (u w : Side) (t : Test (Column d))
     (p : IsOperand d s u (comparison t .left)) (q : IsOperand d s w (comparison t .right)) (far : c .at + 2 ≤ w .next) (within : w .next ≤ length s) where
   found : Stands s c → (r : Cursor) (k : ℕ) → k ≡ predicateNumber (comparison t .op)
-      → PutsNode xs (withSides depth u w c) (cond positive k (oppositeOf k)) (u .start) (w .start) ys r
+      → PutsNode xs (withSides depth u w c) (comparisonCode depth (cond positive k (oppositeOf k))) (u .start) (w .start) ys r
       → Found d s positive depth c xs r ys (compare t) (tokens (drop (w .next) s))
   found st r k number put = subst (λ z. Found d s positive depth c xs z ys (compare t) (tokens (drop (w .next) s))) (sym (put .counted)) here
     where
@@ -124,10 +134,10 @@ module _ (d : Bool) (s : List ℕ) (positive : Bool) (depth : ℕ) (c : Cursor) 
       y : Operand d
       y = comparison t .right
 
-      node : nodeOn d s (cond positive k (oppositeOf k)) (u .start) (w .start) ≡ leaf (signed positive (comparison t))
+      node : nodeOn d s (comparisonCode depth (cond positive k (oppositeOf k))) (u .start) (w .start) ≡ leaf (signed positive (comparison t))
       node =
-          ap (λ j. nodeOn d s (cond positive j (oppositeOf j)) (u .start) (w .start)) number
-          ∙ node-is d s positive (u .start) (w .start) (comparison t .op) x y (p .here) (q .here)
+          ap (λ j. nodeOn d s (comparisonCode depth (cond positive j (oppositeOf j))) (u .start) (w .start)) number
+          ∙ node-is depth d s positive (u .start) (w .start) (comparison t .op) x y (p .here) (q .here)
 
       here : Found d s positive depth c xs (withNode (withSides depth u w c)) ys (compare t) (tokens (drop (w .next) s))
       here =
@@ -146,6 +156,9 @@ module _ (d : Bool) (s : List ℕ) (positive : Bool) (depth : ℕ) (c : Cursor) 
             nodes-are = refl;
             marks-are = omega (arith, p .marks, q .marks, append-marks (x ∷ []) (y ∷ []));
             noted = λ h. put .noted d s (omega arith) ∙ ap (λ n. nodesOn d s (c .nodes) xs ++ (n ∷ [])) node;
+            bare = λ h. ap codeMarks (put .coded (omega arith))
+                ∙ marks-put (codesOn (c .nodes) xs) (comparisonCode depth (cond positive k (oppositeOf k))) (eqb depth 0 ∷ [])
+                (node-bare depth positive k (omega (arith, number, predicate-few (comparison t .op))));
             spread = omega arith;
           }
 
@@ -302,7 +315,7 @@ module _ (d : Bool) (s : List ℕ) (positive : Bool) (depth : ℕ) (c : Cursor) 
                   st .few-marks,
                 )
 
-            pub compared : PutsNode xs (withSides depth a w c) (cond positive (v .kind - 9) (oppositeOf (v .kind - 9))) (a .start) (w .start) ys r → Answer
+            pub compared : PutsNode xs (withSides depth a w c) (comparisonCode depth (cond positive (v .kind - 9) (oppositeOf (v .kind - 9)))) (a .start) (w .start) ys r → Answer
             compared put =
                 let m = left in
                 let n = right in

@@ -12,7 +12,7 @@ use lib.ListN.{length, take, drop, length-map, length-replicate}
 use Rattle.lists.specs.Lists.{any, repeats, from}
 use Rattle.lists.proofs.Bools.{or-left, or-right, clash}
 use Rattle.meaning.specs.Condition.{Optional, Where, always, under, mappedIn, comparisonsIn, operandsIn}
-use Rattle.meaning.specs.Postfix.{Node, nodesIn, leaves}
+use Rattle.meaning.specs.Postfix.{Node, nodesIn, leaves, outerMarksIn}
 use Rattle.meaning.specs.Tokens as T
 use Rattle.meaning.specs.Tokens.{Name}
 use Rattle.meaning.specs.Grammar.{Given, Term, Test, comparison, Dotted, Listed, items, Sentence, table, select, pair, insert, update, delete, sentence}
@@ -23,20 +23,22 @@ use Rattle.meaning.specs.Cells.{areasSize}
 use Rattle.meaning.specs.Plain.{Plain, noQuery, noUpdate, schemas, noPlace, addConditions, orElse, lowestOf}
 use Rattle.meaning.specs.Resolve.{resolveNodes}
 use Rattle.meaning.proofs.Postfix.{sides-in, leaves-in, nodes-count, few-nodes}
+use Rattle.meaning.proofs.Outer.{marks-resolved}
 use Rattle.meaning.proofs.Resolve.{resolve-where}
 use Rattle.token.specs.Tokens.{valueOf}
 use Rattle.meaning.specs.Pattern.{placedFrom}
 use Rattle.statement.specs.declared.Table.{Table}
 use Rattle.statement.specs.declared.Statement.{Statement}
 use Rattle.statement.specs.declared.sentences.Entry.{Entry}
-use Rattle.statement.specs.Places.{nameOn, Column, nodesOn}
-use Rattle.statement.specs.Sentences.{givensOn, overOn, Entered, Noted}
+use Rattle.statement.specs.Places.{nameOn, Column, nodeOn, nodesOn, bareMarksOn}
+use Rattle.statement.specs.Sentences.{givensOn, overOn, bareMarksIn, Entered, Noted}
 use Rattle.statement.specs.Catalog.{schemasOf, rowless, catalog}
-use Rattle.statement.specs.Compiled.{padded, tableStruct, noSetting, conditionStruct, settingStruct, created, asked, changing, refusedBy, structOf, structOfText, settled, compiledOf}
-use Rattle.statement.specs.Built.{lowestBy, placesOf, shortName, shortColumn, shortNodes, keptOn, shortGiven, rowsIn, rowsOn, settingsFrom, Fits, listedOn, conditionOn, unknownOn, tableOn, selectOn, insertOn, setsOn, updateOn, deleteOn, formOn, pairWith, pairOn, besideOn}
+use Rattle.statement.specs.Compiled.{padded, tableStruct, noSetting, stepOf, conditionStruct, marksNumber, settingStruct, created, asked, changing, refusedBy, structOf, structOfText, settled, compiledOf}
+use Rattle.statement.specs.Built.{lowestBy, placesOf, shortName, shortColumn, shortNodes, keptOn, shortGiven, rowsIn, rowsOn, settingsFrom, lastOf, outerBy, outerOn, Fits, listedOn, conditionOn, unknownOn, tableOn, selectOn, insertOn, setsOn, updateOn, deleteOn, formOn, pairWith, pairOn, besideOn}
 use Rattle.statement.proofs.Found.{has-ltb}
-use Rattle.statement.proofs.Left.{length-nodes}
-use Rattle.statement.proofs.Sets.{leaves-any}
+use Rattle.statement.proofs.Left.{length-threes}
+use Rattle.statement.proofs.Sets.{steps-codes, leaves-any}
+use Rattle.statement.proofs.Outer.{outer-in}
 use Rattle.statement.proofs.Assembled.{form-select, form-insert, form-update, form-delete}
 use Rattle.statement.proofs.Limited.{isLong, isLongDotted, inside-rows, short-table, short-listed, short-tested, within-listed, within-tested, short-second, dotted-listed, dotted-tested, dotted-within, whole-name, whole-dotted, whole-columns, whole-givens, whole-nodes, whole-rows}
 use Rattle.statement.proofs.Known.{name-below, dotted-below, unknown-is, settings-are, settings-count, placed-are, placed-count}
@@ -70,7 +72,7 @@ module _ (s ps : List ℕ) (n : ℕ) (few : n ≤ 15) where
 
   few-noted : (d : Bool) (w : Where (Term (Column d))) → nodesOn d s n ps ≡ nodesIn w → (b : Bool) → length (leaves (nodesOn b s n ps)) ≤ 8
   few-noted d w q b =
-      let k : length (nodesIn w) ≤ 15 = omega (arith, ap length q, length-nodes d s n ps) in
+      let k : length (nodesIn w) ≤ 15 = omega (arith, ap length q, length-threes (nodeOn d s) n ps) in
       omega (arith, leaves-any b d s n ps, ap (λ (ns : List (Node (Term (Column d)))). length (leaves ns)) q, leaves-in w, few-nodes w .0 k)
 
 module _ (s ls ps : List ℕ) (e : Entry) (x : Sentence) (E : Entered s ls ps e x) where
@@ -123,6 +125,15 @@ dotted-kept s ps e cs t u v w h =
     ∙ whole-nodes (shortColumn true) isLongDotted whole-dotted (nodesIn q)
     (ap (λ (os : List (Term Dotted)). any isLongDotted (termColumns os)) (sides-in q) ∙ dotted-tested cs t u v w)
     (ap (λ (os : List (Term Dotted)). any outside32 (termGivens os)) (sides-in q) ∙ dotted-within cs t u v w)
+
+-- the marks of its outer comparisons
+outer-kept : (s ps : List ℕ) (e : Entry) (q : Where (Term Dotted)) → nodesOn true s (e .c .nodes) ps ≡ nodesIn q → bareMarksOn (e .c .nodes) ps ≡ bareMarksIn q
+    → (place : Dotted → ℕ) → outerOn (e .c .nodes) ps ≡ marksNumber 0 (outerMarksIn (resolvedWhere place 0 q))
+unfolding outerOn
+outer-kept s ps e q k b place =
+    ap₂ (λ (ss : List ℕ) (bs : List Bool). outerBy (lastOf 0 ss) (marksNumber 0 bs)) (sym (steps-codes true s (e .c .nodes) ps) ∙ ap (map stepOf) k) b
+    ∙ outer-in q
+    ∙ ap (marksNumber 0) (sym (marks-resolved place 0 q))
 
 -- its condition, and whether its columns are known
 module _ (d : Bool) (s ps : List ℕ) (e : Entry) (q : Where (Term (Column d))) (k : keptOn d s (e .c .nodes) ps ≡ nodesIn q) (place : Column d → ℕ) where
@@ -206,7 +217,7 @@ module _ (s ls ps : List ℕ) (e : Entry) (tables : List Table) (used queries up
         let c : e .listed ≡ length (map (position C) (items cs)) = E .listed-are ∙ sym (length-map (items cs) (position C)) in
         let d : conditionOn false (position C) s ps e 0 ≡ conditionStruct (nodesIn (resolvedWhere (position C) 0 q)) = condition-kept false s ps e q k (position C) 0 in
         λ j. settled (lowestBy (u j) false false false (asks-few j))
-        (asked (record { table = i; selected = padded 8 0 (placesOf C (l j)); count = c j; parameters = E .marks-are j; second = 0; start = 0; condition = d j }))
+        (asked (record { table = i; selected = padded 8 0 (placesOf C (l j)); count = c j; parameters = E .marks-are j; second = 0; start = 0; outer = 0; condition = d j }))
 
     insert-compiles : (vs : Listed Given) → Entered s ls ps e (insert t vs) → pastLimit (insert t vs) ≡ false → insertOn s ls e C i updates ≡ decided P S (insert t vs)
     unfolding insertOn unknown taken miscounted twice noPlace statementOf structOf
@@ -284,6 +295,7 @@ module _ (s ls ps : List ℕ) (e : Entry) (tables : List Table) (used queries up
           ∙ both-missing-is h (items cs ++ termColumns (operandsIn q)) in
           let c : e .listed ≡ length (map place (items cs)) = E .listed-are ∙ sym (length-map (items cs) place) in
           let d : conditionOn true place s ps e 0 ≡ conditionStruct (nodesIn (resolvedWhere place 0 q)) = condition-kept true s ps e q k place 0 in
+          let o : outerOn (e .c .nodes) ps ≡ marksNumber 0 (outerMarksIn (resolvedWhere place 0 q)) = outer-kept s ps e q (E .noted nodes) (E .bare nodes) place in
           λ j. settled (lowestBy (n j) false false (sameName t u) (asks-few j))
           (asked (record {
             table = i;
@@ -292,6 +304,7 @@ module _ (s ls ps : List ℕ) (e : Entry) (tables : List Table) (used queries up
             parameters = E .marks-are j;
             second = suc (position (tableNames S) u);
             start = length C;
+            outer = o j;
             condition = d j;
           }))
 

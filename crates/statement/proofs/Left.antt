@@ -8,7 +8,7 @@ use lib.ListN.{length, getD, drop}
 use lib.Seq.{drop-drop, getD-drop}
 use Rattle.meaning.specs.Postfix.{Node}
 use Rattle.meaning.specs.Grammar.{Term}
-use Rattle.statement.specs.Places.{Column, nodeOn, nodesOn}
+use Rattle.statement.specs.Places.{Column, nodeOn, threesOn}
 use Rattle.statement.specs.Sentences.{itemsOn}
 
 -- ---- items
@@ -42,33 +42,36 @@ pub map-items : {A B : Type 0} (g : A → B) (f : ℕ → ℕ → A) (n : ℕ) (
 map-items g f zero ls = refl
 map-items g f (suc n) ls = ap (λ xs. g (f (getD ls 0 0) (getD ls 1 0)) ∷ xs) (map-items g f n (drop 2 ls))
 
--- ---- nodes
+-- ---- nodes, three numbers each
 
-module _ (d : Bool) (s : List ℕ) where
-  pub length-nodes : (n : ℕ) (ps : List ℕ) → length (nodesOn d s n ps) ≡ n
-  length-nodes zero ps = refl
-  length-nodes (suc n) ps = ap suc (length-nodes n (drop 3 ps))
+module _ {A : Type 0} (f : ℕ → ℕ → ℕ → A) where
+  pub length-threes : (n : ℕ) (ps : List ℕ) → length (threesOn f n ps) ≡ n
+  length-threes zero ps = refl
+  length-threes (suc n) ps = ap suc (length-threes n (drop 3 ps))
 
-  abbrev pub nodesLeft : ℕ → ℕ → List ℕ → List (Node (Term (Column d)))
-  nodesLeft n i ps = nodesOn d s (n - i) (drop (3 * i) ps)
+  abbrev pub threesLeft : ℕ → ℕ → List ℕ → List A
+  threesLeft n i ps = threesOn f (n - i) (drop (3 * i) ps)
 
-  pub nodes-all : (n : ℕ) (ps : List ℕ) → nodesLeft n 0 ps ≡ nodesOn d s n ps
-  nodes-all n ps = let e : n - 0 ≡ n = omega arith in rw e
+  pub threes-all : (n : ℕ) (ps : List ℕ) → threesLeft n 0 ps ≡ threesOn f n ps
+  threes-all n ps = let e : n - 0 ≡ n = omega arith in rw e
 
-  abbrev pub nodeHere : ℕ → List ℕ → Node (Term (Column d))
-  nodeHere i ps = nodeOn d s (getD ps (3 * i) 0) (getD ps (3 * i + 1) 0) (getD ps (3 * i + 2) 0)
+  abbrev pub threeHere : ℕ → List ℕ → A
+  threeHere i ps = f (getD ps (3 * i) 0) (getD ps (3 * i + 1) 0) (getD ps (3 * i + 2) 0)
 
-  pub nodes-cons : (n i : ℕ) (ps : List ℕ) → i < n → nodesLeft n i ps ≡ nodeHere i ps ∷ nodesLeft n (i + 1) ps
-  nodes-cons n i ps h =
+  pub threes-cons : (n i : ℕ) (ps : List ℕ) → i < n → threesLeft n i ps ≡ threeHere i ps ∷ threesLeft n (i + 1) ps
+  threes-cons n i ps h =
       let e : n - i ≡ suc (n - (i + 1)) = omega arith in
       let z : 3 * i + 0 ≡ 3 * i = omega arith in
       let t : 3 * i + 3 ≡ 3 * (i + 1) = omega arith in
       let at : (k : ℕ) → getD (drop (3 * i) ps) k 0 ≡ getD ps (3 * i + k) 0 = λ k. getD-drop (3 * i) ps k 0 in
-      ap (λ (k : ℕ). nodesOn d s k (drop (3 * i) ps)) e
-      ∙ ap₂ (λ (x : Node (Term (Column d))) (xs : List ℕ). x ∷ nodesOn d s (n - (i + 1)) xs)
-      (ap (λ (k : ℕ). nodeOn d s k (getD (drop (3 * i) ps) 1 0) (getD (drop (3 * i) ps) 2 0)) (at 0 ∙ ap (λ (k : ℕ). getD ps k 0) z)
-      ∙ ap₂ (nodeOn d s (getD ps (3 * i) 0)) (at 1) (at 2))
+      ap (λ (k : ℕ). threesOn f k (drop (3 * i) ps)) e
+      ∙ ap₂ (λ (x : A) (xs : List ℕ). x ∷ threesOn f (n - (i + 1)) xs)
+      (ap (λ (k : ℕ). f k (getD (drop (3 * i) ps) 1 0) (getD (drop (3 * i) ps) 2 0)) (at 0 ∙ ap (λ (k : ℕ). getD ps k 0) z)
+      ∙ ap₂ (f (getD ps (3 * i) 0)) (at 1) (at 2))
       (drop-drop 3 (3 * i) ps ∙ ap (λ (k : ℕ). drop k ps) t)
 
-  pub nodes-none : (n i : ℕ) (ps : List ℕ) → n ≤ i → nodesLeft n i ps ≡ []
-  nodes-none n i ps h = let e : n - i ≡ 0 = omega arith in rw e
+  pub threes-none : (n i : ℕ) (ps : List ℕ) → n ≤ i → threesLeft n i ps ≡ []
+  threes-none n i ps h = let e : n - i ≡ 0 = omega arith in rw e
+
+abbrev pub nodesLeft : (d : Bool) (s : List ℕ) → ℕ → ℕ → List ℕ → List (Node (Term (Column d)))
+nodesLeft d s = threesLeft (nodeOn d s)

@@ -27,6 +27,7 @@ pub mod Standing
 pub mod Parts
 pub mod Values
 pub mod Left
+pub mod Outer
 pub mod Sets
 pub mod Resolving
 pub mod Assembled

@@ -2,7 +2,7 @@
 use mathlib.Core.Path.{_≡_, refl, sym, ap, subst, _∙_}
 use mathlib.Core.Bool.{Bool, true, false, not, cond, _||_}
 use mathlib.Core.Option.{Option, none, some}
-use mathlib.Core.List.{List, [], _∷_, _++_, append-assoc}
+use mathlib.Core.List.{List, [], _∷_, _++_, append-nil, append-assoc}
 use Prim.Native.Nat.{ℕ, zero, suc, _+_, _-_, _*_, _≤_, _<_}
 use native.Mathlib.Nat.{le-refl}
 use native.Mathlib.Omega.{arith}
@@ -15,9 +15,10 @@ use Rattle.meaning.specs.Tokens.{tokens, keyword, lparen, rparen, NOT, AND, OR}
 use Rattle.meaning.specs.Grammar.{comparison, Reader, then, _>>=_, _>>_, done, fails, passing, expect, aCondition}
 use Rattle.meaning.proofs.Readers.{begins, passing-yes, passing-stops, expect-here}
 use Rattle.meaning.proofs.Decides.{reads-not, reads-open, reads-compare, reads-and, reads-or}
-use Rattle.statement.specs.Places.{andCode, orCode, nodeOn, nodesOn}
-use Rattle.statement.specs.Reading.{movedTo, withNode, PutsNode, Stands, Operand, Written, aColumn, conditionPast, marksIn, Found, Meets, rank, Compares, Reads, Passed, Passes, Closes}
+use Rattle.statement.specs.Places.{andCode, orCode, nodeOn, nodesOn, codesOn, bareMark, codeMarks, bareMarksOn}
+use Rattle.statement.specs.Reading.{movedTo, withNode, PutsNode, Stands, Operand, Written, aColumn, conditionPast, bareMarks, marksIn, Found, Meets, rank, Compares, Reads, Passed, Passes, Closes}
 use Rattle.statement.specs.declared.conditions.Cursor.{Cursor}
+use Rattle.statement.proofs.Nodes.{marks-put}
 use Rattle.statement.proofs.Operands.{marks-of-both}
 use Rattle.statement.proofs.Steps.{Goes}
 
@@ -29,7 +30,8 @@ module _ (b : Bool) (s : List ℕ) (positive : Bool) (depth : ℕ) (c : Cursor) 
       (over-is : conditionPast b depth (mapped comparison u) ≡ (conditionPast b depth (mapped comparison t) || conditionPast b depth (mapped comparison d)))
       (marks-is : marksIn (mapped comparison u) ≡ marksIn (mapped comparison t) + marksIn (mapped comparison d))
       (nodes-is : nodes positive (mapped comparison u) ≡ nodes positive (mapped comparison t) ++ (nodes positive (mapped comparison d) ++ (join ∷ [])))
-      (node-is : nodeOn b s node 0 0 ≡ join) where
+      (bare-is : bareMarks depth (mapped comparison u) ≡ bareMarks depth (mapped comparison t) ++ bareMarks depth (mapped comparison d))
+      (node-is : nodeOn b s node 0 0 ≡ join) (unmarked : bareMark node ≡ []) where
     joined : (more left : List T.Token) → Found b s positive depth c xs p ys t more → p .at < next → Found b s positive depth (movedTo next p) ys q zs d left
         → (r : Cursor) (ws : List ℕ) → PutsNode zs q node 0 0 ws r → Found b s positive depth c xs r ws u left
     joined more left f on g r ws put = subst (λ z. Found b s positive depth c xs z ws u left) (sym (put .counted)) here
@@ -52,6 +54,16 @@ module _ (b : Bool) (s : List ℕ) (positive : Bool) (depth : ℕ) (c : Cursor) 
             ∙ regrouped
             ∙ ap (λ ns. nodesOn b s (c .nodes) xs ++ ns) (sym nodes-is)
 
+        marks : q .nodes + 1 ≤ 15 → bareMarksOn (q .nodes + 1) ws ≡ bareMarksOn (c .nodes) xs ++ bareMarks depth (mapped comparison u)
+        marks h =
+            ap codeMarks (put .coded (omega arith))
+            ∙ marks-put (codesOn (q .nodes) zs) node [] unmarked
+            ∙ append-nil (bareMarksOn (q .nodes) zs)
+            ∙ g .bare (omega arith)
+            ∙ ap (λ bs. bs ++ bareMarks depth (mapped comparison d)) (f .bare (omega (arith, g .nodes-are)))
+            ∙ append-assoc (bareMarksOn (c .nodes) xs) (bareMarks depth (mapped comparison t)) (bareMarks depth (mapped comparison d))
+            ∙ ap (λ bs. bareMarksOn (c .nodes) xs ++ bs) (sym bare-is)
+
         here : Found b s positive depth c xs (withNode q) ws u left
         here =
             record {
@@ -65,6 +77,7 @@ module _ (b : Bool) (s : List ℕ) (positive : Bool) (depth : ℕ) (c : Cursor) 
               nodes-are = omega (arith, g .nodes-are, f .nodes-are, many);
               marks-are = omega (arith, g .marks-are, f .marks-are, marks-is);
               noted = notes;
+              bare = marks;
               spread = omega (arith, f .spread, g .spread);
             }
 
@@ -74,6 +87,7 @@ Same b p d t q e u =
     (conditionPast b d (mapped comparison t) ≡ conditionPast b e (mapped comparison u))
     × (marksIn (mapped comparison t) ≡ marksIn (mapped comparison u))
     × (nodes p (mapped comparison t) ≡ nodes q (mapped comparison u))
+    × (bareMarks d (mapped comparison t) ≡ bareMarks e (mapped comparison u))
 
 -- what was found under p and d, from a later place on, is found under q and e, from an earlier one on
 found-as : (b : Bool) {lo hi : Level} (s : List ℕ) (p : Bool) (d : ℕ) (q : Bool) (e : ℕ) (c : Cursor) (at : ℕ) (xs : List ℕ) (r : Cursor) (ys : List ℕ)
@@ -89,6 +103,7 @@ found-as b s p d q e c at xs r ys t u more same le f =
       nodes-are = f .nodes-are ∙ ap (λ ns. c .nodes + length ns) (same .2);
       marks-are = f .marks-are ∙ ap (λ n. c .marks + n) (same .1);
       noted = λ h. f .noted h ∙ ap (λ ns. nodesOn b s (c .nodes) xs ++ ns) (same .2);
+      bare = λ h. f .bare h ∙ ap (λ bs. bareMarksOn (c .nodes) xs ++ bs) (same .3);
       spread = omega (arith, f .spread);
     }
 
@@ -156,7 +171,10 @@ pub record Chain (lo hi : Level) (k : T.Token) (wrap : (b : Bool) → Written b 
   pub marks : (b : Bool) (t : Written b lo) (u : Written b hi) → marksIn (mapped comparison (join b t u)) ≡ marksIn (mapped comparison t) + marksIn (mapped comparison u)
   pub nodes-are : (b : Bool) (p : Bool) (t : Written b lo) (u : Written b hi)
       → nodes p (mapped comparison (join b t u)) ≡ nodes p (mapped comparison t) ++ (nodes p (mapped comparison u) ++ (node b p ∷ []))
+  pub bare-is : (b : Bool) (d : ℕ) (t : Written b lo) (u : Written b hi)
+      → bareMarks d (mapped comparison (join b t u)) ≡ bareMarks d (mapped comparison t) ++ bareMarks d (mapped comparison u)
   pub node-is : (b : Bool) (s : List ℕ) (p : Bool) → nodeOn b s (number p) 0 0 ≡ node b p
+  pub unmarked : (p : Bool) → bareMark (number p) ≡ []
 
 abbrev pub andNumber : Bool → ℕ
 andNumber p = cond p andCode orCode
@@ -169,32 +187,44 @@ ands =
     record {
       unrolls = λ b. reads-and (aColumn b);
       higher = refl;
-      same = λ b p d t. (refl, refl, refl);
+      same = λ b p d t. (refl, refl, refl, refl);
       over = λ b d t u. refl;
       marks = λ b t u. marks-of-both (comparisons (mapped comparison t)) (comparisons (mapped comparison u));
       nodes-are = λ b p t u. refl;
+      bare-is = λ b d t u. refl;
       node-is = go;
+      unmarked = none;
     }
   where
     go : (b : Bool) (s : List ℕ) (p : Bool) → nodeOn b s (andNumber p) 0 0 ≡ joinAll p
     go b s true = refl
     go b s false = refl
 
+    none : (p : Bool) → bareMark (andNumber p) ≡ []
+    none true = refl
+    none false = refl
+
 pub ors : Chain conjunction disjunction (keyword OR) (λ b. single) (λ b. either) orNumber (λ b. joinAny)
 ors =
     record {
       unrolls = λ b. reads-or (aColumn b);
       higher = refl;
-      same = λ b p d t. (refl, refl, refl);
+      same = λ b p d t. (refl, refl, refl, refl);
       over = λ b d t u. refl;
       marks = λ b t u. marks-of-both (comparisons (mapped comparison t)) (comparisons (mapped comparison u));
       nodes-are = λ b p t u. refl;
+      bare-is = λ b d t u. refl;
       node-is = go;
+      unmarked = none;
     }
   where
     go : (b : Bool) (s : List ℕ) (p : Bool) → nodeOn b s (orNumber p) 0 0 ≡ joinAny p
     go b s true = refl
     go b s false = refl
+
+    none : (p : Bool) → bareMark (orNumber p) ≡ []
+    none true = refl
+    none false = refl
 
 -- ---- the answers of `read_and` and `read_or`: n is at least 1 call, since each asks for calls of its own
 
@@ -235,7 +265,8 @@ module _ {lo hi : Level} {k : T.Token} {wrap : (b : Bool) → Written b lo → W
       second-joins f r ws i ei put =
           second-goes r ws
           (λ b x more g d left h.
-          joined b s positive depth c xs x d (join b x d) p ys q zs next (number positive) (node b positive) (𝓒 .over b depth x d) (𝓒 .marks b x d) (𝓒 .nodes-are b positive x d) (𝓒 .node-is b s positive)
+          joined b s positive depth c xs x d (join b x d) p ys q zs next (number positive) (node b positive) (𝓒 .over b depth x d) (𝓒 .marks b x d) (𝓒 .nodes-are b positive x d)
+          (𝓒 .bare-is b depth x d) (𝓒 .node-is b s positive) (𝓒 .unmarked positive)
           more left g (t .on) h r ws (subst (λ z. PutsNode zs q z 0 0 ws r) ei put))
           (λ z. clash f z)
 
@@ -259,6 +290,7 @@ passed-found b s positive depth c xs p ys t more q left f k = subst (λ z. Found
           nodes-are = f .nodes-are;
           marks-are = f .marks-are;
           noted = f .noted;
+          bare = f .bare;
           spread = omega (arith, f .spread, k .moved);
         }
 
@@ -290,7 +322,7 @@ module _ (s : List ℕ) (positive : Bool) (depth : ℕ) (c : Cursor) (xs : List 
       go : (x : Option (Written b atom × List T.Token)) → Meets b s (not positive) (depth + 1) (movedTo next c) xs p ys x
           → Meets b s positive depth c xs p ys (then x (λ t. done (negate t)))
       go none f = f
-      go (some y) f = found-as b s (not positive) (depth + 1) positive depth c next xs p ys (y .0) (negate (y .0)) (y .1) (refl, refl, refl) (omega (arith, g .on)) f
+      go (some y) f = found-as b s (not positive) (depth + 1) positive depth c next xs p ys (y .0) (negate (y .0)) (y .1) (refl, refl, refl, refl) (omega (arith, g .on)) f
 
   pub one-closes : Goes s (c .at) next lparen → Reads disjunction s positive (depth + 1) (movedTo next c) xs p ys → (q : Cursor) → Closes s p q → Reads atom s positive depth c xs q ys
   one-closes g m q k b eb zero h = absurd (omega arith)
@@ -302,7 +334,7 @@ module _ (s : List ℕ) (positive : Bool) (depth : ℕ) (c : Cursor) (xs : List 
           → (o : Option (Unit {0} × List T.Token)) → Passes s p q o → Meets b s positive depth c xs q ys (then o (λ x. done (group t)))
       shut t more f none z = z
       shut t more f (some y) z =
-          found-as b s positive (depth + 1) positive depth c next xs q ys t (group t) (y .1) (refl, refl, refl) (omega (arith, g .on))
+          found-as b s positive (depth + 1) positive depth c next xs q ys t (group t) (y .1) (refl, refl, refl, refl) (omega (arith, g .on))
           (passed-found b s positive (depth + 1) (movedTo next c) xs p ys t more q (y .1) f z)
 
       go : (x : Option (Written b disjunction × List T.Token)) → Meets b s positive (depth + 1) (movedTo next c) xs p ys x

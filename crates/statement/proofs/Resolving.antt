@@ -2,7 +2,7 @@
 use mathlib.Core.Path.{_≡_, refl, sym, ap, ap₂, _∙_}
 use mathlib.Core.Bool.{Bool, true, false, cond}
 use mathlib.Core.List.{List, [], _∷_, map}
-use Prim.Native.Nat.{ℕ, suc, _+_, _*_, _≤_, _<_}
+use Prim.Native.Nat.{ℕ, suc, _+_, _*_, _%_, _≤_, _<_}
 use native.Mathlib.Omega.{arith}
 use borrow.Author.Tests.{lt-ltb, le-ltb}
 use lib.Dec.{eqb}
@@ -18,7 +18,7 @@ use Rattle.statement.specs.Places.{Column, andCode, nodeOn, nodesOn}
 use Rattle.statement.specs.Compiled.{padded, leftSide, rightSide, comparisonStruct, noComparison, stepOf, conditionStruct}
 use Rattle.statement.specs.Built.{shortColumn, shortTerm, shortNodes, keptOn, markInSide, comparisonOn}
 use Rattle.statement.proofs.Walks.{Fills, fills-start, fills-more, fills-end}
-use Rattle.statement.proofs.Left.{nodesLeft, nodes-all, nodeHere, nodes-cons, nodes-none}
+use Rattle.statement.proofs.Left.{nodesLeft, threes-all, threeHere, threes-cons, threes-none}
 use Rattle.statement.proofs.Parts.{mark-side, mark-few}
 
 -- resolving keeps the steps and the number of comparisons
@@ -36,8 +36,8 @@ module _ {C : Type 0} (place : C → ℕ) (short : C → C) where
   resolve-count m (anyOf ∷ ns) = resolve-count m ns
 
 -- a comparison, or AND or OR
-node-comparison : (d : Bool) (s : List ℕ) (k a b : ℕ) → k < 8 → nodeOn d s k a b ≡ leaf (comparisonOn d s k a b)
-node-comparison d s k a b h = rw (lt-ltb k 8 h)
+node-comparison : (d : Bool) (s : List ℕ) (k a b : ℕ) → k < 16 → nodeOn d s k a b ≡ leaf (comparisonOn d s (k % 8) a b)
+node-comparison d s k a b h = rw (lt-ltb k 16 h)
 
 module _ (d : Bool) (place : Column d → ℕ) where
   -- the comparisons of some nodes
@@ -47,11 +47,11 @@ module _ (d : Bool) (place : Column d → ℕ) where
   made-count : (m : ℕ) (ns : List (Node (Term (Column d)))) → length (made m ns) ≡ length (leaves ns)
   made-count m ns = length-map (leaves (resolveNodes place m (shortNodes (shortColumn d) ns))) comparisonStruct ∙ resolve-count place (shortColumn d) m ns
 
-  made-joined : (m : ℕ) (s : List ℕ) (k a b : ℕ) (ns : List (Node (Term (Column d)))) → 8 ≤ k → made m (nodeOn d s k a b ∷ ns) ≡ made m ns
+  made-joined : (m : ℕ) (s : List ℕ) (k a b : ℕ) (ns : List (Node (Term (Column d)))) → 16 ≤ k → made m (nodeOn d s k a b ∷ ns) ≡ made m ns
   made-joined m s k a b ns h = ap (λ (x : Node (Term (Column d))). made m (x ∷ ns)) e ∙ go (eqb k andCode)
     where
       e : nodeOn d s k a b ≡ cond (eqb k andCode) allOf anyOf
-      e = rw (le-ltb k 8 h)
+      e = rw (le-ltb k 16 h)
 
       go : (t : Bool) → made m (cond t allOf anyOf ∷ ns) ≡ made m ns
       go true = refl
@@ -69,7 +69,7 @@ module _ (d : Bool) (s ps : List ℕ) (place : Column d → ℕ) (n marks : ℕ)
 
   pub resolving-start : (out : List Comparison) → out ≡ replicate 8 noComparison → length (leaves (nodesOn d s n ps)) ≤ 8 → Resolving out 0 marks 0
   resolving-start out e h =
-      let q : nodesLeft d s n 0 ps ≡ nodesOn d s n ps = nodes-all d s n ps in
+      let q : nodesLeft d s n 0 ps ≡ nodesOn d s n ps = threes-all (nodeOn d s) n ps in
       record {
         within = omega arith;
         few = omega arith;
@@ -78,23 +78,23 @@ module _ (d : Bool) (s ps : List ℕ) (place : Column d → ℕ) (n marks : ℕ)
       }
 
   module _ (out : List Comparison) (found m i : ℕ) (R : Resolving out found m i) (k : i < n) where
-    abbrev op : ℕ
-    op = getD ps (3 * i) 0
+    abbrev code : ℕ
+    code = getD ps (3 * i) 0
 
     abbrev here : C.Comparison (Term (Column d))
-    here = comparisonOn d s op (getD ps (3 * i + 1) 0) (getD ps (3 * i + 2) 0)
+    here = comparisonOn d s (code % 8) (getD ps (3 * i + 1) 0) (getD ps (3 * i + 2) 0)
 
-    left-is : nodesLeft d s n i ps ≡ nodeHere d s i ps ∷ nodesLeft d s n (i + 1) ps
-    left-is = nodes-cons d s n i ps k
+    left-is : nodesLeft d s n i ps ≡ threeHere (nodeOn d s) i ps ∷ nodesLeft d s n (i + 1) ps
+    left-is = threes-cons (nodeOn d s) n i ps k
 
-    left-comparison : op < 8 → nodesLeft d s n i ps ≡ leaf here ∷ nodesLeft d s n (i + 1) ps
-    left-comparison h = left-is ∙ ap (λ (x : Node (Term (Column d))). x ∷ nodesLeft d s n (i + 1) ps) (node-comparison d s op (getD ps (3 * i + 1) 0) (getD ps (3 * i + 2) 0) h)
+    left-comparison : code < 16 → nodesLeft d s n i ps ≡ leaf here ∷ nodesLeft d s n (i + 1) ps
+    left-comparison h = left-is ∙ ap (λ (x : Node (Term (Column d))). x ∷ nodesLeft d s n (i + 1) ps) (node-comparison d s code (getD ps (3 * i + 1) 0) (getD ps (3 * i + 2) 0) h)
 
     -- there is room for it
-    pub resolving-room : op < 8 → found < length (leaves (nodesOn d s n ps))
+    pub resolving-room : code < 16 → found < length (leaves (nodesOn d s n ps))
     resolving-room h = omega (arith, R .counted, ap (λ (ns : List (Node (Term (Column d)))). length (leaves ns)) (left-comparison h))
 
-    pub resolving-more : op < 8 → (c : Comparison) (j : ℕ) → c ≡ comparisonStruct (comparisonOf place m (renamed (shortTerm (shortColumn d)) here))
+    pub resolving-more : code < 16 → (c : Comparison) (j : ℕ) → c ≡ comparisonStruct (comparisonOf place m (renamed (shortTerm (shortColumn d)) here))
         → j ≡ markInSide (leftSide c) + markInSide (rightSide c)
         → {out′ : List Comparison} {found′ m′ : ℕ} → out′ ≡ set out found c → found′ ≡ found + 1 → m′ ≡ m + j → Resolving out′ found′ m′ (i + 1)
     resolving-more h c j ec ej eo ef em =
@@ -113,10 +113,10 @@ module _ (d : Bool) (s ps : List ℕ) (place : Column d → ℕ) (n marks : ℕ)
           fills = fills-more _ out found _ _ _ w (R .fills);
         })
 
-    pub resolving-pass : 8 ≤ op → {out′ : List Comparison} {found′ m′ : ℕ} → out′ ≡ out → found′ ≡ found → m′ ≡ m → Resolving out′ found′ m′ (i + 1)
+    pub resolving-pass : 16 ≤ code → {out′ : List Comparison} {found′ m′ : ℕ} → out′ ≡ out → found′ ≡ found → m′ ≡ m → Resolving out′ found′ m′ (i + 1)
     resolving-pass h eo ef em =
         let w : made d place m (nodesLeft d s n i ps) ≡ made d place m (nodesLeft d s n (i + 1) ps) =
-        ap (made d place m) left-is ∙ made-joined d place m s op (getD ps (3 * i + 1) 0) (getD ps (3 * i + 2) 0) (nodesLeft d s n (i + 1) ps) h in
+        ap (made d place m) left-is ∙ made-joined d place m s code (getD ps (3 * i + 1) 0) (getD ps (3 * i + 2) 0) (nodesLeft d s n (i + 1) ps) h in
         rw (eo, ef, em)
         (record {
           within = omega arith;
@@ -128,7 +128,7 @@ module _ (d : Bool) (s ps : List ℕ) (place : Column d → ℕ) (n marks : ℕ)
   pub resolving-end : (out : List Comparison) (found m i : ℕ) (steps : List ℕ) → n ≤ i → Resolving out found m i → steps ≡ padded 15 0 (map stepOf (nodesOn d s n ps))
       → record { comparisons = out; steps = steps; count = found } ≡ conditionStruct (resolveNodes place marks (keptOn d s n ps))
   resolving-end out found m i steps k R e =
-      let q : nodesLeft d s n i ps ≡ [] = nodes-none d s n i ps k in
+      let q : nodesLeft d s n i ps ≡ [] = threes-none (nodeOn d s) n i ps k in
       let a : out ≡ padded 8 noComparison all-made = fills-end _ out found _ (ap (made d place m) q) (R .fills) in
       let f : found ≡ length (leaves (resolveNodes place marks (keptOn d s n ps))) =
       omega (arith, R .counted, ap (λ (ns : List (Node (Term (Column d)))). length (leaves ns)) q, resolve-count place (shortColumn d) marks (nodesOn d s n ps)) in

@@ -20,9 +20,9 @@ use Rattle.statement.specs.declared.sentences.Placed.{Placed}
 use Rattle.statement.specs.declared.sentences.Listing.{Listing}
 use Rattle.statement.specs.declared.sentences.Sized.{Sized}
 use Rattle.statement.specs.declared.sentences.Entry.{Entry}
-use Rattle.statement.specs.Places.{nameOn, Column, nodesOn}
+use Rattle.statement.specs.Places.{nameOn, Column, nodesOn, bareMarksOn}
 use Rattle.statement.specs.Reading.{Stands, Operand, Written, aColumn, movedTo, Meets, Reads}
-use Rattle.statement.specs.Sentences.{partsOf, itemOn, Ready, Within, Takes, Counts, Expects, isLongName, Names, Sizes, outsideRows, CountsRows, names, values, settings, columns, listPast, ReadsList, wherePast, Filters, ReadsWhere, formOf, listLength, ringOf, RowsAt, SecondAt, NodesAt, NamesAt, GivensAt, Entered, Starts, ReadsForm, Lists, Deletes}
+use Rattle.statement.specs.Sentences.{partsOf, itemOn, Ready, Within, Takes, Counts, Expects, isLongName, Names, Sizes, outsideRows, CountsRows, names, values, settings, columns, listPast, ReadsList, wherePast, Filters, ReadsWhere, formOf, listLength, ringOf, RowsAt, SecondAt, bareMarksIn, NodesAt, BareAt, NamesAt, GivensAt, Entered, Starts, ReadsForm, Lists, Deletes}
 use Rattle.statement.proofs.Steps.{Goes}
 use Rattle.statement.proofs.SentenceLimits.{sorted, ownPast, past-limit, nodes-replaced}
 use Rattle.statement.proofs.SentenceReaders.{failed-before, finds, goes-on, counts-then}
@@ -37,6 +37,7 @@ filters-nothing b s c xs =
       marks-are = sym (add-zero (c .marks));
       nodes-are = sym (add-zero (c .nodes));
       noted = λ h. sym (append-nil (nodesOn b s (c .nodes) xs));
+      bare = λ h. sym (append-nil (bareMarksOn (c .nodes) xs));
     }
 
 module _ (s : List ℕ) (c : Cursor) (xs : List ℕ) where
@@ -67,7 +68,7 @@ module _ (s : List ℕ) (c : Cursor) (xs : List ℕ) where
       go none q = q
       go (some x) q = (
         record { ok = q .ok; stands = q .stands; left = q .left },
-        record { over = q .over; marks-are = q .marks-are; nodes-are = q .nodes-are; noted = q .noted },
+        record { over = q .over; marks-are = q .marks-are; nodes-are = q .nodes-are; noted = q .noted; bare = q .bare },
       )
 
 -- ---- a sentence from what was counted up to m, before its WHERE
@@ -87,9 +88,10 @@ module _ (s ls : List ℕ) (b : Bool) (c m : Cursor) (p : Bool) (a : ℕ) (ps : 
 
   entered : termGivens (operandsIn y) ≡ termGivens (operandsIn (whereOf x)) → length (nodesIn y) ≡ length (nodesIn (whereOf x))
       → ((n : ℕ) → (n ≤ 15 → nodesOn b s n ps′ ≡ nodesIn y) → NodesAt s n ps′ x)
+      → ((n : ℕ) → (n ≤ 15 → bareMarksOn n ps′ ≡ bareMarksIn y) → BareAt n ps′ x)
       → r .c .ok ≡ true → r .form ≡ formOf x → (p || wherePast b y) ≡ ownPast x → a ≡ markCount (listGivens x) → nameOn s (r .table) ≡ tableNamed x
       → RowsAt s (r .rows) x → r .ring ≡ ringOf x → SecondAt s (r .second) x → r .listed ≡ listLength x → NamesAt s (r .listed) ls x → GivensAt s (r .listed) ls x → Entered s ls ps′ r x
-  entered asked same nodes-at ok form past marks named rows ring second listed columns-at values-at =
+  entered asked same nodes-at bare-at ok form past marks named rows ring second listed columns-at values-at =
       let e : r .c .over ≡ ownPast x = over-is ∙ past in
       let f : r .c .marks ≡ markCount (givens x) = omega (arith, w .marks-are, h .marks-are, st .marks, ap markCount asked, marks-append (listGivens x) (termGivens (operandsIn (whereOf x)))) in
       let g : r .c .nodes ≡ length (nodesIn (whereOf x)) = omega (arith, w .nodes-are, no-nodes) in
@@ -104,6 +106,7 @@ module _ (s ls : List ℕ) (b : Bool) (c m : Cursor) (p : Bool) (a : ℕ) (ps : 
         marks-are = f;
         nodes-are = g;
         noted = nodes-at (r .c .nodes) (λ i. w .noted i ∙ ap (λ n. nodesOn b s n ps ++ nodesIn y) no-nodes);
+        bare = bare-at (r .c .nodes) (λ i. w .bare i ∙ ap (λ n. bareMarksOn n ps ++ bareMarksIn y) no-nodes);
         second = second;
         names = columns-at;
         givens = values-at;
@@ -134,7 +137,7 @@ module _ (s : List ℕ) (c : Cursor) (st : Starts s false c) where
         b₆,
         entered s ys false c (r .c) _ _ ps E ps (table t cs ring z) always st
             (counts-then c (d .c) (r .c) _ _ _ _ (counts-then c c₂ (d .c) _ _ _ _ (counts-then c (l .c) c₂ _ _ _ _ (counts-then c c₁ (l .c) _ _ _ _ (counts-then c (n .c) c₁ _ _ _ _ (q₁ .0) q₂) (q₃ .counts)) q₄) (q₅ .0)) (q₆ .0))
-            (filters-nothing false s (r .c) ps) refl refl (λ n i. tt) (b₆ .ok) refl (order (isLongName t) (listPast (items cs) []) (outsideRows z)) refl (q₁ .1) (q₆ .1) (q₅ .1) tt (q₃ .listed-are ∙ zero-add (length (items cs))) (q₃ .noted) tt,
+            (filters-nothing false s (r .c) ps) refl refl (λ n i. tt) (λ n i. tt) (b₆ .ok) refl (order (isLongName t) (listPast (items cs) []) (outsideRows z)) refl (q₁ .1) (q₆ .1) (q₅ .1) tt (q₃ .listed-are ∙ zero-add (length (items cs))) (q₃ .noted) tt,
       )))))))
     where
       E : Entry
@@ -159,7 +162,7 @@ module _ (s : List ℕ) (c : Cursor) (st : Starts s false c) where
       let m : Counts c (n .c) ((listPast (items cs) [] || false) || isLongName t) 0 = counts-then c c₁ (n .c) _ _ _ _ (counts-then c (l .c) c₁ _ _ _ _ (q₁ .counts) q₂) (q₃ .0) in
       goes-on s _ _ Q r r (aWhere aName k (tokens (drop (n .c .at) s))) (h₄ false (m .dotted ∙ st .dotted) k i .takes (b₃ .ok)) (λ f. f) (λ w b₄ q₄. (
         b₄,
-        entered s ys false c (n .c) _ _ ps E ps′ (select cs t w) (mappedIn comparison w) st m q₄ refl refl (λ n z. z)
+        entered s ys false c (n .c) _ _ ps E ps′ (select cs t w) (mappedIn comparison w) st m q₄ refl refl (λ n z. z) (λ n z. tt)
             (b₄ .ok) refl (order (isLongName t) (listPast (items cs) []) (wherePast false (mappedIn comparison w))) refl
             (q₃ .1) tt refl tt (q₁ .listed-are ∙ zero-add (length (items cs))) (q₁ .noted) tt,
       )))))
@@ -191,7 +194,7 @@ module _ (s : List ℕ) (c : Cursor) (st : Starts s false c) where
         b₆,
         entered s ys false c r _ _ ps E ps (insert t vs) always st
             (counts-then c (l .c) r _ _ _ _ (counts-then c c₃ (l .c) _ _ _ _ (counts-then c c₂ c₃ _ _ _ _ (counts-then c (n .c) c₂ _ _ _ _ (counts-then c c₁ (n .c) _ _ _ _ q₁ (q₂ .0)) q₃) q₄) (q₅ .counts)) q₆)
-            (filters-nothing false s r ps) refl refl (λ n i. tt) (b₆ .ok) refl (order (isLongName t) (listPast [] (items vs))) (omega arith) (q₂ .1) tt refl tt (q₅ .listed-are ∙ zero-add (length (items vs))) tt (q₅ .noted),
+            (filters-nothing false s r ps) refl refl (λ n i. tt) (λ n i. tt) (b₆ .ok) refl (order (isLongName t) (listPast [] (items vs))) (omega arith) (q₂ .1) tt refl tt (q₅ .listed-are ∙ zero-add (length (items vs))) tt (q₅ .noted),
       )))))))
     where
       E : Entry
@@ -217,7 +220,7 @@ module _ (s : List ℕ) (c : Cursor) (st : Starts s false c) where
       counts-then c c₁ (l .c) _ _ _ _ (counts-then c (n .c) c₁ _ _ _ _ (q₁ .0) q₂) (q₃ .counts) in
       goes-on s _ _ Q r r (aWhere aName k (tokens (drop (l .c .at) s))) (h₄ false (m .dotted ∙ st .dotted) k i .takes (b₃ .ok)) (λ f. f) (λ w b₄ q₄. (
         b₄,
-        entered s ys false c (l .c) _ _ ps E ps′ (update t ss w) (mappedIn comparison w) st m q₄ refl refl (λ n z. z)
+        entered s ys false c (l .c) _ _ ps E ps′ (update t ss w) (mappedIn comparison w) st m q₄ refl refl (λ n z. z) (λ n z. tt)
             (b₄ .ok) refl (order (isLongName t) (listPast (map (λ (x : Name × Given). x .0) (items ss)) (map (λ (x : Name × Given). x .1) (items ss)))
             (wherePast false (mappedIn comparison w))) (omega arith) (q₁ .1) tt refl tt (q₃ .listed-are ∙ zero-add (length (items ss)))
             (λ m. sym (map-items (λ (x : Name × Given). x .0) (itemOn settings s) (l .listed) ys) ∙ ap (map (λ (x : Name × Given). x .0)) (q₃ .noted m))
@@ -243,7 +246,7 @@ module _ (s : List ℕ) (c : Cursor) (st : Starts s false c) where
       goes-on s _ _ Q (n .c) r (aName (tokens (drop (c₁ .at) s))) (h₂ .takes (b₁ .ok)) (λ f. tail .fails f) (λ t b₂ q₂.
       let m : Counts c (n .c) (false || isLongName t) 0 = counts-then c c₁ (n .c) _ _ _ _ q₁ (q₂ .0) in
       goes-on s _ _ Q r r (aWhere aName k (tokens (drop (n .c .at) s))) (h₃ false (m .dotted ∙ st .dotted) k i .takes (b₂ .ok)) (λ f. f) (λ w b₃ q₃.
-      (b₃, entered s ls false c (n .c) _ _ ps E ps′ (delete t w) (mappedIn comparison w) st m q₃ refl refl (λ n z. z) (b₃ .ok) refl refl refl (q₂ .1) tt refl tt refl tt tt))))
+      (b₃, entered s ls false c (n .c) _ _ ps E ps′ (delete t w) (mappedIn comparison w) st m q₃ refl refl (λ n z. z) (λ n z. tt) (b₃ .ok) refl refl refl (q₂ .1) tt refl tt refl tt tt))))
     where
       E : Entry
       E = record { c = r; form = 4; table = n .place; second = 0; rows = 0; listed = 0; ring = false }
@@ -271,7 +274,7 @@ module _ (s : List ℕ) (c : Cursor) (st : Starts s true c) where
       goes-on s _ _ Q r r (aWhere aDotted k (tokens (drop (o .c .at) s))) (h₆ true (m .dotted ∙ st .dotted) k i .takes (b₅ .ok)) (λ f. f) (λ w b₆ q₆. (
         b₆,
         entered s ys true c (o .c) _ _ ps E ps′ (pair cs t u w) (mappedIn comparison w) st m q₆
-            (sym (bare-givens (mappedIn comparison w))) (sym (nodes-replaced bareTerm (mappedIn comparison w))) (λ n z. z)
+            (sym (bare-givens (mappedIn comparison w))) (sym (nodes-replaced bareTerm (mappedIn comparison w))) (λ n z. z) (λ n z. z)
             (b₆ .ok) refl (order (isLongName t) (isLongName u) (listPast (partsOf (items cs)) []) (wherePast true (mappedIn comparison w))) refl
             (q₃ .1) tt refl (q₅ .1) (q₁ .listed-are ∙ zero-add (length (items cs))) (q₁ .noted) tt,
       )))))))

@@ -1,10 +1,10 @@
 -- Settings read one after the other, and the steps of a condition. Assumes nothing.
 use mathlib.Core.Path.{_≡_, refl, sym, ap, ap₂, _∙_}
 use mathlib.Core.Bool.{Bool, true, false, cond}
-use mathlib.Core.List.{List, [], _∷_, map}
-use Prim.Native.Nat.{ℕ, zero, suc, _+_, _*_, _≤_, _<_, zero-le, suc-le-suc}
+use mathlib.Core.List.{List, [], _∷_, _++_, map}
+use Prim.Native.Nat.{ℕ, zero, suc, _+_, _*_, _%_, _≤_, _<_, zero-le, suc-le-suc}
 use native.Mathlib.Omega.{arith}
-use lib.Dec.{ltb, eqb}
+use lib.Dec.{ltb, leb, eqb}
 use lib.ListN.{length, getD, take, drop, set, replicate, length-take}
 use Rattle.meaning.specs.Condition.{Comparison}
 use Rattle.meaning.specs.Postfix.{Node, leaf, allOf, anyOf, leaves}
@@ -13,7 +13,7 @@ use Rattle.meaning.specs.Limits.{markIn, markCount}
 use Rattle.meaning.specs.Statement.{numbered}
 use Rattle.statement.specs.declared.Value.{Value}
 use Rattle.statement.specs.declared.Setting.{Setting}
-use Rattle.statement.specs.Places.{givenOn, Column, andCode, nodeOn, nodesOn}
+use Rattle.statement.specs.Places.{givenOn, Column, andCode, nodeOn, nodesOn, codesOn, bareMarksOn}
 use Rattle.statement.specs.Sentences.{givensOn}
 use Rattle.statement.specs.Compiled.{padded, valueStruct, settingWith, noSetting, stepOf}
 use Rattle.statement.specs.Built.{shortGiven, markInValue, settingsFrom, settingsOn, comparisonOn, stepIn}
@@ -81,18 +81,20 @@ module _ (s ls columns : List ℕ) (n : ℕ) where
 -- ---- steps
 
 pub step-node : (d : Bool) (s : List ℕ) (k a b : ℕ) → stepOf (nodeOn d s k a b) ≡ stepIn k
-step-node d s k a b = go (ltb k 8) (eqb k andCode) (comparisonOn d s k a b)
+step-node d s k a b = go (ltb k 16) (eqb k andCode) (comparisonOn d s (k % 8) a b)
   where
     go : (x y : Bool) (c : Comparison (Term (Column d))) → stepOf (cond x (leaf c) (cond y allOf anyOf)) ≡ cond x 0 (cond y 1 2)
     go true y c = refl
     go false true c = refl
     go false false c = refl
 
--- they do not hang on the text, nor on how columns are written
+-- they hang on the codes alone, and not on the text, nor on how columns are written
+pub steps-codes : (d : Bool) (s : List ℕ) (n : ℕ) (ps : List ℕ) → map stepOf (nodesOn d s n ps) ≡ map stepIn (codesOn n ps)
+steps-codes d s zero ps = refl
+steps-codes d s (suc n) ps = ap₂ _∷_ (step-node d s (getD ps 0 0) (getD ps 1 0) (getD ps 2 0)) (steps-codes d s n (drop 3 ps))
+
 pub steps-any : (d e : Bool) (s t : List ℕ) (n : ℕ) (ps : List ℕ) → map stepOf (nodesOn d s n ps) ≡ map stepOf (nodesOn e t n ps)
-steps-any d e s t zero ps = refl
-steps-any d e s t (suc n) ps =
-    ap₂ _∷_ (step-node d s (getD ps 0 0) (getD ps 1 0) (getD ps 2 0) ∙ sym (step-node e t (getD ps 0 0) (getD ps 1 0) (getD ps 2 0))) (steps-any d e s t n (drop 3 ps))
+steps-any d e s t n ps = steps-codes d s n ps ∙ sym (steps-codes e t n ps)
 
 -- nor does the number of comparisons
 abbrev zeros : List ℕ → ℕ
@@ -108,3 +110,17 @@ leaves-steps (anyOf ∷ ns) = leaves-steps ns
 
 pub leaves-any : (d e : Bool) (s : List ℕ) (n : ℕ) (ps : List ℕ) → length (leaves (nodesOn d s n ps)) ≡ length (leaves (nodesOn e s n ps))
 leaves-any d e s n ps = leaves-steps (nodesOn d s n ps) ∙ ap zeros (steps-any d e s s n ps) ∙ sym (leaves-steps (nodesOn e s n ps))
+
+-- A.6: a mark for each comparison
+pub marks-count : (d : Bool) (s : List ℕ) (n : ℕ) (ps : List ℕ) → length (bareMarksOn n ps) ≡ length (leaves (nodesOn d s n ps))
+marks-count d s zero ps = refl
+marks-count d s (suc n) ps = go (ltb k 16) (eqb k andCode) (comparisonOn d s (k % 8) (getD ps 1 0) (getD ps 2 0)) (marks-count d s n (drop 3 ps))
+  where
+    k : ℕ
+    k = getD ps 0 0
+
+    go : (x y : Bool) (c : Comparison (Term (Column d))) → length (bareMarksOn n (drop 3 ps)) ≡ length (leaves (nodesOn d s n (drop 3 ps)))
+        → length (cond x (leb 8 k ∷ []) [] ++ bareMarksOn n (drop 3 ps)) ≡ length (leaves (cond x (leaf c) (cond y allOf anyOf) ∷ nodesOn d s n (drop 3 ps)))
+    go true y c h = ap suc h
+    go false true c h = h
+    go false false c h = h

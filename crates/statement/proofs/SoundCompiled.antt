@@ -3,7 +3,7 @@ use mathlib.Core.Path.{_≡_, refl, sym, ap, ap₂, _∙_, subst}
 use mathlib.Core.Logic.{_⊎_, inl, inr}
 use mathlib.Core.Bool.{true, false}
 use mathlib.Core.Option.{Option, none, some}
-use mathlib.Core.List.{List, [], _∷_, map}
+use mathlib.Core.List.{List, [], _∷_, map, reverse}
 use Prim.Native.Nat.{ℕ, zero, suc, _+_, _*_, _-_}
 use native.Mathlib.Omega.{arith}
 use borrow.Author.Tests.{eqb-true}
@@ -13,7 +13,7 @@ use Rattle.lists.proofs.Bools.{and-left, and-right, clash}
 use Rattle.lists.proofs.Lists.{All-head, All-tail}
 use Rattle.meaning.specs.Condition as C
 use Rattle.meaning.specs.Condition.{Where, always, sides, mappedIn}
-use Rattle.meaning.specs.Postfix.{Node, leaf, allOf, anyOf, nodesIn, leaves}
+use Rattle.meaning.specs.Postfix.{Node, leaf, allOf, anyOf, nodesIn, leaves, outerMarksIn}
 use Rattle.meaning.specs.Resolve.{markInOperand, isNumbered, numberedOn, numberedFrom}
 use Rattle.meaning.specs.Tokens as T
 use Rattle.meaning.specs.Grammar as G
@@ -25,11 +25,12 @@ use Rattle.meaning.specs.Statement.{column, value, constant, parameter, creates
 use Rattle.meaning.specs.Plain.{Plain, schemas, addConditions, lowestOf}
 use Rattle.meaning.proofs.Accepted.{clear, reads-exactly}
 use Rattle.meaning.proofs.Postfix.{leaves-in}
+use Rattle.meaning.proofs.Outer.{marks-length}
 use Rattle.meaning.proofs.Resolve.{resolve-where, resolve-numbered}
 use Rattle.meaning.specs.Pattern.{placedFrom}
 use Rattle.statement.specs.Catalog.{nameOfStruct, schemasOf, catalog}
-use Rattle.statement.specs.Compiled.{padded, nameStruct, noName, tableStruct, valueStruct, operandStruct, comparisonStruct, noComparison, stepOf, conditionStruct, queryStruct, settingStruct, noSetting, updateStruct, structOf, textConditions, structOfText, settled, compiledOf}
-use Rattle.statement.specs.Sound.{valueRead, operandRead, comparisonRead, nodesRead, conditionNodes, usedComparisons, usedSteps, usedColumns, settingRead, soundTable, soundQuery, soundUpdate, Passes, AgreesCondition, AgreesQuery, AgreesUpdate, AgreesTable}
+use Rattle.statement.specs.Compiled.{padded, nameStruct, noName, tableStruct, valueStruct, operandStruct, comparisonStruct, noComparison, stepOf, conditionStruct, marksNumber, queryStruct, settingStruct, noSetting, updateStruct, structOf, textConditions, structOfText, settled, compiledOf}
+use Rattle.statement.specs.Sound.{valueRead, operandRead, comparisonRead, nodesRead, conditionNodes, usedComparisons, usedSteps, digitsBack, usedColumns, settingRead, soundTable, soundQuery, soundUpdate, Passes, AgreesCondition, AgreesQuery, AgreesUpdate, AgreesTable}
 use Rattle.statement.specs.declared.Name.{Name}
 use Rattle.statement.specs.declared.Table.{Table}
 use Rattle.statement.specs.declared.Comparison.{Comparison}
@@ -40,6 +41,7 @@ use Rattle.statement.proofs.Stored.{map-twice, where-count}
 use Rattle.statement.proofs.ByKind.{column-read, parameter-read}
 use Rattle.statement.proofs.Assembled.{take-padded}
 use Rattle.statement.proofs.Values.{name-back}
+use Rattle.statement.proofs.Outer.{marks-back}
 use Rattle.statement.proofs.SoundTable.{source-table}
 use Rattle.statement.proofs.SoundQuery.{source-query}
 use Rattle.statement.proofs.SoundUpdate.{source-update}
@@ -76,6 +78,12 @@ module _ (w : Where M.Operand) where
   comparisons-back : usedComparisons (conditionStruct kept) ≡ map comparisonStruct (leaves kept)
   comparisons-back =
       take-padded 8 noComparison (map comparisonStruct (leaves kept)) (length (leaves kept)) (length-map (leaves kept) comparisonStruct)
+
+  -- the marks of its outer comparisons are read back from their number
+  outer-back : reverse (digitsBack (length (usedComparisons (conditionStruct kept))) (marksNumber 0 (outerMarksIn w))) ≡ outerMarksIn w
+  outer-back =
+      marks-back (outerMarksIn w) (length (usedComparisons (conditionStruct kept)))
+      (ap length comparisons-back ∙ length-map (leaves kept) comparisonStruct ∙ leaves-in w ∙ sym (marks-length w))
 
   steps-back : usedSteps (conditionStruct kept) ≡ map stepOf kept
   steps-back =
@@ -156,6 +164,7 @@ statement-agrees ts (G.select cs t w) = record {
   selected-are = take-padded 8 0 _ _ refl;
   parameters-are = refl;
   condition-is = resolved-agrees (position (columnsOf ts t)) 0 (mappedIn comparison w);
+  outer-are = tt;
 }
 statement-agrees ts (G.pair cs t u w) = record {
   table-is = refl;
@@ -164,6 +173,7 @@ statement-agrees ts (G.pair cs t u w) = record {
   selected-are = take-padded 8 0 _ _ refl;
   parameters-are = refl;
   condition-is = resolved-agrees (pairPlace t (columnsOf ts t) u (columnsOf ts u)) 0 (mappedIn comparison w);
+  outer-are = outer-back (resolvedWhere (pairPlace t (columnsOf ts t) u (columnsOf ts u)) 0 (mappedIn comparison w));
 }
 statement-agrees ts (G.insert t vs) = record {
   form-is = refl;

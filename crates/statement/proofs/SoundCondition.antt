@@ -1,33 +1,34 @@
 -- A stored condition passes the test exactly if it is that of a WHERE over the table's columns; and what it then means. Assumes nothing.
 use mathlib.Core.Path.{_≡_, sym, ap, _∙_, subst}
 use mathlib.Core.Bool.{Bool, true, false, not}
-use mathlib.Core.List.{List, map}
+use mathlib.Core.List.{List, map, reverse}
 use Prim.Native.Nat.{ℕ, _+_, _*_, _-_, _≤_, _<_}
 use native.Mathlib.Omega.{arith}
 use borrow.Author.Tests.{leb-true, le-leb, eqb-true, eq-eqb}
 use lib.Dec.{eqb, leb, ltb}
 use lib.IntN.{ℤ}
-use lib.ListN.{length, length-map}
+use lib.ListN.{length, replicate, length-map, length-replicate}
 use lib.Seq.{length-take-le}
 use Rattle.lists.specs.Lists.{All, any, all}
 use Rattle.lists.proofs.Bools.{and-left, and-right, and-both}
 use Rattle.lists.proofs.Lists.{All-take, All-map, all-true, all-of, any-none}
 use Rattle.meaning.specs.Condition as C
 use Rattle.meaning.specs.Condition.{Optional, Where, mappedIn, sides, comparisonsIn, operandsIn, depthIn, evalWhere, clausesOf}
-use Rattle.meaning.specs.Postfix.{Node, nodesIn, leaves, isPostfix, truthOf, clausesOfNodes}
+use Rattle.meaning.specs.Postfix.{Node, nodesIn, leaves, isPostfix, truthOf, clausesOfNodes, outerMarksIn, within, chained}
 use Rattle.meaning.specs.Resolve.{operandConstants, parameterCount, numberedFrom, columnsBelow, isTest, areTests}
 use Rattle.meaning.specs.Grammar.{Term, Test, comparison}
 use Rattle.meaning.specs.Limits.{most-marks, most-comparisons, termGivens, termColumns, markCount, isWithin32, outside32}
 use Rattle.meaning.specs.Statement as M
 use Rattle.meaning.specs.Statement.{resolvedWhere}
 use Rattle.meaning.proofs.Postfix.{sides-in, leaves-in, truth-postfix, clauses-postfix}
+use Rattle.meaning.proofs.Outer.{unmarked-within}
 use Rattle.meaning.proofs.Resolve.{Columns, Source, where-source, where-passes, outside-constants, resolve-where, resolve-marks, resolve-leaves}
 use Rattle.statement.specs.Operators.{predicateNumber}
 use Rattle.statement.specs.Sound.{comparisonRead, usedComparisons, usedSteps, conditionNodes, soundPredicate, soundCondition, conditionMarks, soundConditionOn, AgreesCondition, ConditionFits}
 use Rattle.statement.specs.Compiled.{stepOf}
 use Rattle.statement.specs.declared.Comparison.{Comparison}
 use Rattle.statement.specs.declared.Condition.{Condition}
-use Rattle.statement.proofs.Stored.{all-map, all-both, steps-below, operators-below, read-length, read-steps, read-leaves, read-operators, read-tests, read-constants, where-count}
+use Rattle.statement.proofs.Stored.{all-map, all-both, steps-below, operators-below, read-length, read-steps, read-leaves, read-operators, read-tests, read-constants, postfix-leaves}
 
 -- ---- what a condition that agrees with a WHERE means
 
@@ -102,7 +103,8 @@ module _ (columns m p : ℕ) (c : Condition) where
 
 -- ---- a WHERE, as it is written, of which the condition comes, over columns of any kind (one table's, or those of two)
 
-pub record Sourced {C : Type 0} (place : C → ℕ) (strange : C → Bool) (m : ℕ) (c : Condition) : Type 0 where
+-- the marks bs are those of its outer comparisons (A.6)
+pub record Sourced {C : Type 0} (place : C → ℕ) (strange : C → Bool) (m : ℕ) (c : Condition) (bs : List Bool) : Type 0 where
   pub source : Optional (Test C)
   pub agrees : AgreesCondition c (resolvedWhere place m (mappedIn comparison source))
   pub known : any strange (termColumns (operandsIn (mappedIn comparison source))) ≡ false
@@ -110,25 +112,26 @@ pub record Sourced {C : Type 0} (place : C → ℕ) (strange : C → Bool) (m : 
   pub few : length (comparisonsIn (mappedIn comparison source)) ≤ most-comparisons
   pub shallow : depthIn (mappedIn comparison source) ≤ 8
   pub small : any outside32 (termGivens (operandsIn (mappedIn comparison source))) ≡ false
+  pub outer : outerMarksIn source ≡ bs
 
--- a condition that passes has one
+-- a condition that passes has one, for any marks that it allows
 pub condition-source : {C : Type 0} (place : C → ℕ) (width : ℕ) (strange : C → Bool) (at : ℕ → C) → Columns place width strange at
-    → (m : ℕ) (c : Condition) → ConditionFits c → soundCondition width m c ≡ true → Sourced place strange m c
+    → (m : ℕ) (c : Condition) (bs : List Bool) → ConditionFits c → soundCondition width m c ≡ true
+    → length bs ≡ length (usedComparisons c) → within (reverse bs) (chained true 0 (reverse (conditionNodes c))) ≡ true → Sourced place strange m c bs
 unfolding conditionNodes
-condition-source place width strange at K m c F h =
+condition-source place width strange at K m c bs F h many-marks may =
     let P : Parts width m c = condition-parts width m c h in
     let few : c .count ≤ most-comparisons = P .few in
     let ns : List (Node M.Operand) = conditionNodes c in
-    let S : Source place strange m ns = where-source place width strange at K m ns (P .postfix) (P .below) (P .numbered)
-    (read-tests (usedSteps c) (usedComparisons c) (P .tests)) in
-    let w : Where M.Operand = resolvedWhere place m (mappedIn comparison (S .source)) in
-    let e : nodesIn w ≡ ns = S .resolves in
     let steps : length (usedSteps c) ≡ 2 * c .count - 1 = length-take-le (2 * c .count - 1) (c .steps) (omega (arith, F .fifteen)) in
     let used : length (usedComparisons c) ≡ c .count = length-take-le (c .count) (c .comparisons) (omega (arith, F .eight)) in
-    let all-nodes : length (nodesIn w) ≡ length (usedSteps c) = ap length e ∙ read-length (usedSteps c) (usedComparisons c) in
-    let many : c .count ≡ length (comparisonsIn w) = omega (arith, where-count w) in
-    let leaves-many : length (leaves ns) ≡ length (comparisonsIn w) = ap (λ ms. length (leaves ms)) (sym e) ∙ leaves-in w in
-    let each : leaves ns ≡ map comparisonRead (usedComparisons c) = read-leaves (usedSteps c) (usedComparisons c) (leaves-many ∙ sym many ∙ sym used) in
+    let all-leaves : length (leaves ns) ≡ c .count = postfix-leaves (c .count) ns (P .postfix) (read-length (usedSteps c) (usedComparisons c) ∙ steps) in
+    let S : Source place strange m ns bs = where-source place width strange at K m ns bs (P .postfix) (P .below) (P .numbered)
+    (read-tests (usedSteps c) (usedComparisons c) (P .tests)) (many-marks ∙ used ∙ sym all-leaves) may in
+    let w : Where M.Operand = resolvedWhere place m (mappedIn comparison (S .source)) in
+    let e : nodesIn w ≡ ns = S .resolves in
+    let many : c .count ≡ length (comparisonsIn w) = sym all-leaves ∙ ap (λ ms. length (leaves ms)) (sym e) ∙ leaves-in w in
+    let each : leaves ns ≡ map comparisonRead (usedComparisons c) = read-leaves (usedSteps c) (usedComparisons c) (all-leaves ∙ sym used) in
     let fit : All (λ z. isWithin32 z ≡ true) (operandConstants (sides (leaves ns))) =
     subst (λ cs. All (λ z. isWithin32 z ≡ true) (operandConstants (sides cs))) (sym each) (read-constants (All-take (c .count) (F .constants))) in
     record {
@@ -147,7 +150,18 @@ condition-source place width strange at K m c F h =
       small = outside-constants (operandsIn (mappedIn comparison (S .source)))
           ∙ ap (any (λ (z : ℤ). not (isWithin32 z))) (S .constants)
           ∙ any-none (λ (z : ℤ). not (isWithin32 z)) (All-map (λ z k. ap not k) fit);
+      outer = S .outer;
     }
+
+-- without marks, which a statement over one table has not
+abbrev pub unmarked : Condition → List Bool
+unmarked c = replicate (length (usedComparisons c)) false
+
+pub unmarked-source : {C : Type 0} (place : C → ℕ) (width : ℕ) (strange : C → Bool) (at : ℕ → C) → Columns place width strange at
+    → (m : ℕ) (c : Condition) → ConditionFits c → soundCondition width m c ≡ true → Sourced place strange m c (unmarked c)
+unmarked-source place width strange at K m c F h =
+    let n : ℕ = length (usedComparisons c) in
+    condition-source place width strange at K m c (unmarked c) F h (length-replicate n false) (unmarked-within n (chained true 0 (reverse (conditionNodes c))))
 
 module _ {C : Type 0} (place : C → ℕ) (m : ℕ) (v : Optional (Test C)) (c : Condition) (A : AgreesCondition c (resolvedWhere place m (mappedIn comparison v))) where
   abbrev w : Where (Term C)

@@ -3,17 +3,18 @@ use mathlib.Core.Path.{_≡_, refl, sym, ap, ap₂, _∙_, subst}
 use mathlib.Core.Logic.{_↔_, _≢_}
 use mathlib.Core.Bool.{Bool, true, false, not, _||_}
 use mathlib.Core.Option.{Option, none, some}
-use mathlib.Core.List.{List, [], _++_, map}
+use mathlib.Core.List.{List, [], _++_, map, reverse, reverse-reverse}
 use Prim.Native.Nat.{ℕ, _+_, _≤_, _<_}
 use native.Mathlib.Omega.{arith}
 use borrow.Author.Tests.{ltb-true, lt-ltb, ltb-false, le-ltb, leb-true, le-leb, eqb-true, eqb-false, eq-eqb, ne-eqb}
 use lib.Dec.{eqb, leb, ltb}
-use lib.ListN.{length, getD, take, length-map}
+use lib.ListN.{length, getD, take, length-map, length-reverse}
 use lib.Seq.{length-take-le}
 use Rattle.lists.specs.Lists.{All, any, all}
 use Rattle.lists.proofs.Bools.{and-left, and-right, and-both, or-left, or-right, not-false, not-true, contra, clash}
 use Rattle.lists.proofs.Lists.{All-map, any-append, any-none}
 use Rattle.meaning.specs.Condition.{Optional, Where, always, mappedIn, comparisonsIn, operandsIn, depthIn}
+use Rattle.meaning.specs.Postfix.{nodesIn, outerMarksIn, within, chained}
 use Rattle.meaning.specs.Tokens.{Name, isName}
 use Rattle.meaning.specs.Grammar as G
 use Rattle.meaning.specs.Grammar.{Test, comparison, Listed, Dotted, items, Sentence}
@@ -23,13 +24,15 @@ use Rattle.meaning.specs.Statement as M
 use Rattle.meaning.specs.Statement.{Statement, creates, asks, changes, resolvedWhere, statementOf}
 use Rattle.meaning.proofs.Names.{same-is, has-position, position-is}
 use Rattle.meaning.proofs.Dotted.{bare-givens}
+use Rattle.meaning.proofs.Outer.{marks-mapped, marks-resolved, outer-chained}
 use Rattle.meaning.proofs.Resolve.{Columns, same-name, one-table, name-inside, two-tables, dottedAt, dotted-inside}
 use Rattle.meaning.proofs.Resolved.{items-some}
 use Rattle.meaning.proofs.Spelling.{has-text}
-use Rattle.statement.specs.Sound.{soundCondition, conditionMarks, columnsAt, columnsWith, secondRead, soundSecond, soundQuery, Passes, AgreesCondition, AgreesQuery, FromQuery, TableFits, TablesFit, QueryFits}
+use Rattle.statement.specs.Sound.{usedComparisons, conditionNodes, outerBack, outerRead, soundCondition, conditionMarks, columnsAt, columnsWith, secondRead, soundSecond, soundQueryOn, soundOuter, soundQuery, Passes, AgreesCondition, AgreesQuery, FromQuery, TableFits, TablesFit, QueryFits}
 use Rattle.statement.specs.declared.Query.{Query}
 use Rattle.statement.proofs.Stored.{all-of}
-use Rattle.statement.proofs.SoundCondition.{on-parts, parts-on, Sourced, condition-source, source-marks, source-condition}
+use Rattle.statement.proofs.Outer.{length-digits}
+use Rattle.statement.proofs.SoundCondition.{on-parts, parts-on, Sourced, condition-source, unmarked, unmarked-source, source-marks, source-condition}
 use Rattle.statement.proofs.SoundNames.{or-none, listed, Limits, limits-kept, limits-of, places-below, at-known, at-back, namesAt, names-known, names-back, positions-below, there-fits, there-has, there-place, there-columns, there-known, there-named, there-short, known-append}
 use Rattle.statement.proofs.SoundPairs.{pair-names, bare-count, bare-depth}
 
@@ -48,13 +51,15 @@ pub record Parts (ts : List Schema) (q : Query) : Type 0 where
   pub condition-sound : soundCondition (columnsFor ts q) 0 (q .condition) ≡ true
   pub parameters-are : q .parameters ≡ conditionMarks (q .condition)
   pub few-parameters : q .parameters ≤ most-marks
+  pub outer-sound : soundOuter (secondRead q) q ≡ true
 
 module _ (ts : List Schema) (q : Query) where
   pub query-parts : soundQuery ts q ≡ true → Parts ts q
   unfolding soundQuery
   query-parts h =
       let h₀ = and-right (ltb (q .table) (length ts)) _ h in
-      let h₁ = and-right (soundSecond ts (q .table) (columnsAt ts (q .table)) (secondRead q)) _ h₀ in
+      let h₉ = and-right (soundSecond ts (q .table) (columnsAt ts (q .table)) (secondRead q)) _ h₀ in
+      let h₁ = and-left (soundQueryOn (columnsFor ts q) q) _ h₉ in
       let h₂ = and-right (leb 1 (q .count)) _ h₁ in
       let h₃ = and-right (leb (q .count) most-items) _ h₂ in
       let h₄ = and-right (all (λ (i : ℕ). ltb i (columnsFor ts q)) (take (q .count) (q .selected))) _ h₃ in
@@ -68,6 +73,7 @@ module _ (ts : List Schema) (q : Query) where
         condition-sound = C .sound;
         parameters-are = omega (arith, C .parameters);
         few-parameters = C .few;
+        outer-sound = and-right (soundQueryOn (columnsFor ts q) q) _ h₉;
       }
 
   pub parts-query : Parts ts q → soundQuery ts q ≡ true
@@ -75,11 +81,13 @@ module _ (ts : List Schema) (q : Query) where
   parts-query P =
       and-both (ltb (q .table) (length ts)) _ (lt-ltb (q .table) (length ts) (P .there))
       (and-both _ _ (P .second-sound)
+      (and-both (soundQueryOn (columnsFor ts q) q) _
       (and-both (leb 1 (q .count)) _ (le-leb 1 (q .count) (P .some-selected))
       (and-both (leb (q .count) most-items) _ (le-leb (q .count) most-items (P .few-selected))
       (and-both _ _ (P .selected-below)
       (parts-on (columnsFor ts q) 0 (q .parameters) (q .condition)
-      (record { sound = P .condition-sound; parameters = omega (arith, P .parameters-are); few = P .few-parameters }))))))
+      (record { sound = P .condition-sound; parameters = omega (arith, P .parameters-are); few = P .few-parameters })))))
+      (P .outer-sound)))
 
 -- A.1: its second table
 pub record SecondParts (ts : List Schema) (table columns : ℕ) (s : M.Second) : Type 0 where
@@ -132,9 +140,9 @@ module _ (ts : List Schema) (T : TablesFit ts) (q : Query) (F : QueryFits q) (P 
     below : all (λ (i : ℕ). ltb i (length (table .columns))) chosen ≡ true
     below = ap (λ (n : ℕ). all (λ (i : ℕ). ltb i n) chosen) (sym width-is) ∙ P .selected-below
 
-    source : Sourced (position (table .columns)) (λ (n : Name). not (has (table .columns) n)) 0 (q .condition)
+    source : Sourced (position (table .columns)) (λ (n : Name). not (has (table .columns) n)) 0 (q .condition) (unmarked (q .condition))
     source =
-        condition-source (position (table .columns)) (length (table .columns)) (λ (n : Name). not (has (table .columns) n)) (λ i. getD (table .columns) i [])
+        unmarked-source (position (table .columns)) (length (table .columns)) (λ (n : Name). not (has (table .columns) n)) (λ i. getD (table .columns) i [])
         (one-table (table .columns) (fits .different)) 0 (q .condition) (F .condition-fits)
         (ap (λ (n : ℕ). soundCondition n 0 (q .condition)) (sym width-is) ∙ P .condition-sound)
 
@@ -202,6 +210,7 @@ module _ (ts : List Schema) (T : TablesFit ts) (q : Query) (F : QueryFits q) (P 
           selected-are = sym back;
           parameters-are = P .parameters-are ∙ sym (source .marks);
           condition-is = subst (λ C. AgreesCondition (q .condition) (resolvedWhere (position C) 0 wanted)) (sym columns-are) (source .agrees);
+          outer-are = tt;
         }
 
     single-source : FromQuery ts q
@@ -254,10 +263,19 @@ module _ (ts : List Schema) (T : TablesFit ts) (q : Query) (F : QueryFits q) (P 
     both-below : all (λ (i : ℕ). ltb i width) chosen ≡ true
     both-below = ap (λ (n : ℕ). all (λ (i : ℕ). ltb i n) chosen) (sym both-width) ∙ P .selected-below
 
-    pair-where : Sourced place strange 0 (q .condition)
+    -- its marks are such as the condition allows
+    marks-many : length (outerRead q) ≡ length (usedComparisons (q .condition))
+    marks-many = length-reverse (outerBack q) ∙ length-digits (length (usedComparisons (q .condition))) (q .outer)
+
+    marks-allowed : within (reverse (outerRead q)) (chained true 0 (reverse (conditionNodes (q .condition)))) ≡ true
+    marks-allowed =
+        ap (λ bs. within bs (chained true 0 (reverse (conditionNodes (q .condition))))) (reverse-reverse (outerBack q))
+        ∙ ap (λ o. soundOuter o q) (sym e) ∙ P .outer-sound
+
+    pair-where : Sourced place strange 0 (q .condition) (outerRead q)
     pair-where =
-        condition-source place width strange dotted both 0 (q .condition) (F .condition-fits)
-        (ap (λ (n : ℕ). soundCondition n 0 (q .condition)) (sym both-width) ∙ P .condition-sound)
+        condition-source place width strange dotted both 0 (q .condition) (outerRead q) (F .condition-fits)
+        (ap (λ (n : ℕ). soundCondition n 0 (q .condition)) (sym both-width) ∙ P .condition-sound) marks-many marks-allowed
 
     abbrev pair-wanted : Where (G.Term Dotted)
     pair-wanted = mappedIn comparison (pair-where .source)
@@ -340,6 +358,7 @@ module _ (ts : List Schema) (T : TablesFit ts) (q : Query) (F : QueryFits q) (P 
           selected-are = sym back;
           parameters-are = P .parameters-are ∙ sym pair-marks;
           condition-is = subst (λ f. AgreesCondition (q .condition) (resolvedWhere f 0 pair-wanted)) places (pair-where .agrees);
+          outer-are = sym (marks-resolved (pairPlace (table .name) columns (other .name) others) 0 pair-wanted ∙ marks-mapped comparison (pair-where .source) ∙ pair-where .outer);
         }
 
     pair-source : FromQuery ts q
@@ -356,6 +375,12 @@ module _ (ts : List Schema) (T : TablesFit ts) (q : Query) (F : QueryFits q) (P 
           (second-parts ts (q .table) (columnsAt ts (q .table)) s (ap (soundSecond ts (q .table) (columnsAt ts (q .table))) (sym e) ∙ P .second-sound))
 
 -- ---- and one that comes of such a sentence passes
+
+-- the marks of a WHERE are such as its nodes allow
+outer-allowed : (q : Query) (w : Where M.Operand) → outerRead q ≡ outerMarksIn w → conditionNodes (q .condition) ≡ nodesIn w
+    → within (outerBack q) (chained true 0 (reverse (conditionNodes (q .condition)))) ≡ true
+outer-allowed q w o n =
+    ap₂ (λ bs ns. within bs (chained true 0 (reverse ns))) (sym (reverse-reverse (outerBack q)) ∙ ap reverse o) n ∙ outer-chained w
 
 abbrev noQuery : M.Query
 noQuery = record { table = 0; second = none; selected = []; condition = always; parameters = 0 }
@@ -406,6 +431,7 @@ module _ (ts : List Schema) (q : Query) where
             (ltb-false most-comparisons (length (comparisonsIn w)) (L .comparisons-few));
         parameters-are = A .parameters-are ∙ sym marks;
         few-parameters = subst (λ n. n ≤ most-marks) (sym (A .parameters-are)) (ltb-false most-marks (markCount (givens s)) (L .marks-few));
+        outer-sound = ap (λ o. soundOuter o q) (A .second-is);
       })
 
   -- different names are those of different tables
@@ -463,6 +489,7 @@ module _ (ts : List Schema) (q : Query) where
             (ltb-false most-comparisons (length (comparisonsIn w)) (ap (ltb most-comparisons) (sym (bare-count w)) ∙ L .comparisons-few));
         parameters-are = A .parameters-are ∙ ap markCount (bare-givens w) ∙ sym marks;
         few-parameters = subst (λ n. n ≤ most-marks) (sym (A .parameters-are)) (ltb-false most-marks (markCount (givens s)) (L .marks-few));
+        outer-sound = ap (λ o. soundOuter o q) (A .second-is) ∙ outer-allowed q (resolvedWhere place 0 w) (A .outer-are) (A .condition-is .nodes-are);
       })
 
   sentence-query : (s : Sentence) → Passes ts s → isAsk (statementOf ts s) ≡ true → AgreesQuery q (asked (statementOf ts s)) → soundQuery ts q ≡ true

@@ -32,7 +32,7 @@ use Rattle.statement.specs.Sound.{conditionNodes, usedSettings, settingR
 use Rattle.statement.specs.declared.Condition.{Condition}
 use Rattle.statement.specs.declared.Update.{Update}
 use Rattle.statement.proofs.Stored.{map-twice}
-use Rattle.statement.proofs.SoundCondition.{on-parts, parts-on, Sourced, condition-source, source-marks, source-condition}
+use Rattle.statement.proofs.SoundCondition.{on-parts, parts-on, Sourced, unmarked, unmarked-source, source-marks, source-condition}
 use Rattle.statement.proofs.SoundNames.{or-none, listed, Limits, limits-kept, limits-of, namesAt, names-known, names-back, positions-below, there-fits, there-place, there-columns, there-known, there-named, there-short, known-append}
 use Rattle.statement.proofs.SoundSettings.{marks-append, givenAt, values-back, values-marks, values-numbered, numbered-marks, values-small, same-pairs, placed-columns, placed-values, placed-length, settings-columns, settings-values, settings-length, setAt, names-different, places-different}
 
@@ -105,9 +105,9 @@ module _ (ts : List Schema) (T : TablesFit ts) (u : Update) (F : UpdateFits u) (
   small = values-small (All-take (u .count) (F .constants))
 
   -- a sentence with these columns and this WHERE
-  source : Sourced (position (table .columns)) (λ (n : Name). not (has (table .columns) n)) (parameterCount (settingOperands u)) (u .condition)
+  source : Sourced (position (table .columns)) (λ (n : Name). not (has (table .columns) n)) (parameterCount (settingOperands u)) (u .condition) (unmarked (u .condition))
   source =
-      condition-source (position (table .columns)) (length (table .columns)) (λ (n : Name). not (has (table .columns) n)) (λ i. getD (table .columns) i [])
+      unmarked-source (position (table .columns)) (length (table .columns)) (λ (n : Name). not (has (table .columns) n)) (λ i. getD (table .columns) i [])
       (one-table (table .columns) (fits .different)) (parameterCount (settingOperands u)) (u .condition) (F .condition-fits) (P .condition-sound)
 
   -- its comparisons have two sides

@@ -2,16 +2,16 @@
 use mathlib.Core.Path.{_≡_, refl, sym, ap, ap₂}
 use mathlib.Core.Bool.{Bool, true, _&&_}
 use mathlib.Core.List.{List, [], _∷_, map}
-use Prim.Native.Nat.{ℕ, zero, suc, _*_, _-_, _<_}
+use Prim.Native.Nat.{ℕ, zero, suc, _+_, _*_, _-_, _<_}
 use native.Mathlib.Omega.{arith}
 use borrow.Author.Tests.{ltb-true, lt-ltb}
 use lib.Dec.{ltb}
 use lib.ListN.{length}
 use Rattle.lists.specs.Lists.{All, nil, cons, all}
-use Rattle.lists.proofs.Bools.{and-left, and-right, and-both}
+use Rattle.lists.proofs.Bools.{and-left, and-right, and-both, clash}
 use Rattle.meaning.specs.Condition as C
 use Rattle.meaning.specs.Condition.{Where, always, under, sides, comparisonsIn}
-use Rattle.meaning.specs.Postfix.{Node, leaf, allOf, anyOf, nodesIn, leaves}
+use Rattle.meaning.specs.Postfix.{Node, leaf, allOf, anyOf, nodesIn, leaves, balancedOn, isPostfix}
 use Rattle.meaning.specs.Resolve.{operandConstants, isTest, areTests}
 use Rattle.meaning.specs.Limits.{isWithin32}
 use Rattle.meaning.specs.Statement as M
@@ -110,6 +110,23 @@ read-constants nil = nil
 read-constants (cons {x = c} {xs = cs} f h) =
     operand-constants (leftSide c) (operandRead (rightSide c) ∷ sides (map comparisonRead cs)) (f .0)
     (operand-constants (rightSide c) (sides (map comparisonRead cs)) (f .1) (read-constants h))
+
+-- as many comparisons as the steps take
+balanced-leaves : {O : Type 0} (k : ℕ) (ns : List (Node O)) → balancedOn k ns ≡ true → 2 * length (leaves ns) + k ≡ length ns + 1
+balanced-leaves zero [] h = clash h refl
+balanced-leaves (suc zero) [] h = omega arith
+balanced-leaves (suc (suc k)) [] h = clash h refl
+balanced-leaves k (leaf c ∷ ns) h = omega (arith, balanced-leaves (suc k) ns h)
+balanced-leaves zero (allOf ∷ ns) h = clash h refl
+balanced-leaves (suc zero) (allOf ∷ ns) h = clash h refl
+balanced-leaves (suc (suc k)) (allOf ∷ ns) h = omega (arith, balanced-leaves (suc k) ns h)
+balanced-leaves zero (anyOf ∷ ns) h = clash h refl
+balanced-leaves (suc zero) (anyOf ∷ ns) h = clash h refl
+balanced-leaves (suc (suc k)) (anyOf ∷ ns) h = omega (arith, balanced-leaves (suc k) ns h)
+
+pub postfix-leaves : {O : Type 0} (n : ℕ) (ns : List (Node O)) → isPostfix ns ≡ true → length ns ≡ 2 * n - 1 → length (leaves ns) ≡ n
+postfix-leaves n [] h e = omega arith
+postfix-leaves n (x ∷ ns) h e = omega (arith, balanced-leaves 0 (x ∷ ns) h)
 
 -- 2n - 1 nodes for the n comparisons of a WHERE, none for none
 pub where-count : {O : Type 0} (w : Where O) → length (nodesIn w) ≡ 2 * length (comparisonsIn w) - 1

@@ -20,10 +20,10 @@ use Rattle.meaning.specs.Cells.{areasSize}
 use Rattle.meaning.specs.Plain.{lowestOf}
 use Rattle.token.specs.Tokens.{valueOf}
 use Rattle.statement.specs.Operators.{predicateAt}
-use Rattle.statement.specs.Places.{tokenOn, nameOn, Column, columnOn, termOn, andCode, nodesOn}
+use Rattle.statement.specs.Places.{tokenOn, nameOn, Column, columnOn, termOn, andCode, nodesOn, codesOn, bareMarksOn}
 use Rattle.statement.specs.Sentences.{itemsOn, givensOn}
 use Rattle.statement.specs.Catalog.{nameOfStruct, scopeNames, otherNames}
-use Rattle.statement.specs.Compiled.{padded, tableStruct, valueStruct, leftSide, rightSide, settingWith, noSetting, stepOf, conditionStruct, created, asked, changing, refusedBy, settled}
+use Rattle.statement.specs.Compiled.{padded, tableStruct, valueStruct, leftSide, rightSide, settingWith, noSetting, stepOf, conditionStruct, marksNumber, created, asked, changing, refusedBy, settled}
 use Rattle.statement.specs.Sound.{valueRead, operandRead}
 use Rattle.statement.specs.declared.Operand.{Operand}
 use Rattle.statement.specs.declared.Comparison.{Comparison}
@@ -147,11 +147,27 @@ abbrev pub comparisonOn : (d : Bool) → List ℕ → ℕ → ℕ → ℕ → C.
 comparisonOn d s k a b = record { left = termOn d s a; op = predicateAt k; right = termOn d s b }
 
 abbrev pub stepIn : ℕ → ℕ
-stepIn k = cond (ltb k 8) 0 (cond (eqb k andCode) 1 2)
+stepIn k = cond (ltb k 16) 0 (cond (eqb k andCode) 1 2)
 
 -- the steps of the nodes that are noted, in a text or another, with bare columns or dotted
 abbrev pub StepsAre : ℕ → List ℕ → List ℕ → Type 0
 StepsAre n places r = (b : Bool) (s : List ℕ) → r ≡ padded 15 0 (map stepOf (nodesOn b s n places))
+
+-- A.6: the marks of the outer comparisons as a number: those that are bare, but none if the last node is OR
+abbrev pub lastOf : ℕ → List ℕ → ℕ
+lastOf k [] = k
+lastOf k (x ∷ xs) = lastOf x xs
+
+abbrev pub outerBy : ℕ → ℕ → ℕ
+outerBy last marks = cond (eqb last 2) 0 marks
+
+unfoldable pub outerOn : ℕ → List ℕ → ℕ
+outerOn n places = outerBy (lastOf 0 (map stepIn (codesOn n places))) (marksNumber 0 (bareMarksOn n places))
+
+-- of a question over two tables; over one it is 0
+abbrev pub outerIn : Bool → ℕ → List ℕ → ℕ
+outerIn false n places = 0
+outerIn true n places = outerOn n places
 
 -- columns below a limit
 abbrev pub operandBelow : ℕ → Operand → Bool
@@ -211,6 +227,7 @@ selectOn b place width s ls ps e i second start twice queries =
       parameters = e .c .marks;
       second = second;
       start = start;
+      outer = outerIn b (e .c .nodes) ps;
       condition = conditionOn b place s ps e 0;
     }))
 

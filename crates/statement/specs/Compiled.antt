@@ -1,5 +1,5 @@
 -- What a text compiles to: the statement of its sentence, in the types of the code, or the number of its refusal. Assumes nothing: these are definitions.
-use mathlib.Core.Bool.{Bool, false}
+use mathlib.Core.Bool.{Bool, true, false}
 use mathlib.Core.Option.{Option, none, some}
 use mathlib.Core.List.{List, [], _∷_, _++_, map}
 use Prim.Native.Nat.{ℕ, zero, suc, _+_, _*_, _-_}
@@ -7,7 +7,7 @@ use lib.IntN.{pos}
 use lib.ListN.{length, drop, replicate}
 use Rattle.meaning.specs.Condition as C
 use Rattle.meaning.specs.Condition.{Where, always}
-use Rattle.meaning.specs.Postfix.{Node, leaf, allOf, anyOf, nodesIn, leaves}
+use Rattle.meaning.specs.Postfix.{Node, leaf, allOf, anyOf, nodesIn, leaves, outerMarksIn}
 use Rattle.meaning.specs.Grammar.{Sentence, sentence}
 use Rattle.meaning.specs.Names.{Schema}
 use Rattle.meaning.specs.Statement as S
@@ -108,6 +108,20 @@ abbrev pub secondStart : Option S.Second → ℕ
 secondStart none = 0
 secondStart (some s) = s .start
 
+-- A.6: the marks of the outer comparisons as a number, a binary digit each, the last one's last
+abbrev pub digit : Bool → ℕ
+digit true = 1
+digit false = 0
+
+abbrev pub marksNumber : ℕ → List Bool → ℕ
+marksNumber n [] = n
+marksNumber n (b ∷ bs) = marksNumber (2 * n + digit b) bs
+
+-- of a question over two tables; over one it is 0
+abbrev pub outerNumber : Option S.Second → Where S.Operand → ℕ
+outerNumber none w = 0
+outerNumber (some s) w = marksNumber 0 (outerMarksIn w)
+
 abbrev pub queryStruct : S.Query → Query
 queryStruct q = record {
   table = q .table;
@@ -116,6 +130,7 @@ queryStruct q = record {
   parameters = q .parameters;
   second = secondCode (q .second);
   start = secondStart (q .second);
+  outer = outerNumber (q .second) (q .condition);
   condition = conditionStruct (nodesIn (q .condition));
 }
 

@@ -47,6 +47,7 @@ select-b :
       parameters = 1;
       second = 0;
       start = 0;
+      outer = 0;
       condition = record {
         comparisons = padded 8 noComparison
             (comparisonWith (column 0) 1 (constant (pos 1)) ∷ comparisonWith (column 1) 5 (parameter 0) ∷ []);
@@ -85,6 +86,7 @@ select-null :
       parameters = 0;
       second = 0;
       start = 0;
+      outer = 0;
       condition = record {
         comparisons = padded 8 noComparison (comparisonWith (column 0) 6 (column 0) ∷ comparisonWith (column 1) 7 (column 1) ∷ []);
         steps = padded 15 0 (0 ∷ 0 ∷ 1 ∷ []);
@@ -168,6 +170,7 @@ select-b-c :
       parameters = 0;
       second = 2;
       start = 2;
+      outer = 1;
       condition = record {
         comparisons = padded 8 noComparison (comparisonWith (column 0) 0 (column 2) ∷ []);
         steps = padded 15 0 (0 ∷ []);
@@ -187,6 +190,7 @@ select-b-null :
       parameters = 0;
       second = 2;
       start = 2;
+      outer = 1;
       condition = record {
         comparisons = padded 8 noComparison (comparisonWith (column 3) 6 (column 3) ∷ []);
         steps = padded 15 0 (0 ∷ []);
@@ -195,6 +199,27 @@ select-b-null :
     })
 unfolding computing
 select-b-null = refl
+
+-- A.6, the outer comparisons: those outside all OR, NOT and parentheses have the digit 1, the last one's last
+abbrev outer : String → ℕ
+outer text = paired text .query .outer
+
+outer-joined : outer "SELECT t.b FROM t, u WHERE t.a = 1 AND (t.b = 2 OR u.c = 3) AND NOT u.a = 4 AND u.c IS NULL" ≡ 17
+unfolding computing
+outer-joined = refl
+
+outer-grouped : outer "SELECT t.b FROM t, u WHERE (t.a = 1) AND t.b = u.c" ≡ 1
+unfolding computing
+outer-grouped = refl
+
+-- under OR none is, nor is one in parentheses or under NOT, though NOT makes an AND of OR
+outer-either : outer "SELECT t.b FROM t, u WHERE t.a = 1 AND u.c = 2 OR t.b = 3" ≡ 0
+unfolding computing
+outer-either = refl
+
+outer-negated : outer "SELECT t.b FROM t, u WHERE NOT (t.a = 1 OR u.c = 2)" ≡ 0
+unfolding computing
+outer-negated = refl
 
 -- a column that t has not, which is none of u either; one table twice, with a column that is there and with one that is not
 refused-6-pair : paired "SELECT t.c FROM t, u" ≡ refusedBy 6

@@ -2,9 +2,9 @@
 -- Assumes nothing: these are definitions.
 use mathlib.Core.Bool.{Bool, true, false, cond}
 use mathlib.Core.Option.{Option, none, some}
-use mathlib.Core.List.{List, [], _∷_}
-use Prim.Native.Nat.{ℕ, zero, suc}
-use lib.Dec.{ltb, eqb}
+use mathlib.Core.List.{List, [], _∷_, _++_}
+use Prim.Native.Nat.{ℕ, zero, suc, _+_, _%_}
+use lib.Dec.{ltb, leb, eqb}
 use lib.IntN.{ℤ}
 use lib.ListN.{drop, getD}
 use Rattle.meaning.specs.Postfix.{Node, leaf, allOf, anyOf}
@@ -56,18 +56,39 @@ orGiven v c (some n) = column c
 abbrev pub termOn : (b : Bool) → List ℕ → ℕ → Term (Column b)
 termOn b s p = orGiven (givenOn s p) (columnOn b s p) (nameOf (tokenOn s p))
 
--- the codes of AND and OR, far from the operators' numbers
+-- a comparison's code, where it stands under so many parentheses and NOTs: its operator's number, and 8 more if it is bare, under none (A.6)
+abbrev pub comparisonCode : ℕ → ℕ → ℕ
+comparisonCode depth op = op + cond (eqb depth 0) 8 0
+
+-- the codes of AND and OR, far from those
 abbrev pub andCode : ℕ
 andCode = 256
 
 abbrev pub orCode : ℕ
 orCode = 257
 
--- a node by its code and the places of its sides: a comparison by its operator's number, AND, or OR; a null test notes its column twice
+-- a node by its code and the places of its sides: a comparison, AND, or OR; a null test notes its column twice
 abbrev pub nodeOn : (d : Bool) → List ℕ → ℕ → ℕ → ℕ → Node (Term (Column d))
-nodeOn d s k a b = cond (ltb k 8) (leaf (record { left = termOn d s a; op = predicateAt k; right = termOn d s b })) (cond (eqb k andCode) allOf anyOf)
+nodeOn d s k a b = cond (ltb k 16) (leaf (record { left = termOn d s a; op = predicateAt (k % 8); right = termOn d s b })) (cond (eqb k andCode) allOf anyOf)
 
--- the first n nodes that are noted, three numbers a node
+-- the first n nodes that are noted, three numbers a node, and their codes
+abbrev pub threesOn : {A : Type 0} → (ℕ → ℕ → ℕ → A) → ℕ → List ℕ → List A
+threesOn f zero xs = []
+threesOn f (suc n) xs = f (getD xs 0 0) (getD xs 1 0) (getD xs 2 0) ∷ threesOn f n (drop 3 xs)
+
 abbrev pub nodesOn : (d : Bool) → List ℕ → ℕ → List ℕ → List (Node (Term (Column d)))
-nodesOn d s zero xs = []
-nodesOn d s (suc n) xs = nodeOn d s (getD xs 0 0) (getD xs 1 0) (getD xs 2 0) ∷ nodesOn d s n (drop 3 xs)
+nodesOn d s = threesOn (nodeOn d s)
+
+abbrev pub codesOn : ℕ → List ℕ → List ℕ
+codesOn = threesOn (λ k a b. k)
+
+-- A.6: for each comparison among these codes, whether it is noted as a bare one
+abbrev pub bareMark : ℕ → List Bool
+bareMark k = cond (ltb k 16) (leb 8 k ∷ []) []
+
+abbrev pub codeMarks : List ℕ → List Bool
+codeMarks [] = []
+codeMarks (k ∷ ks) = bareMark k ++ codeMarks ks
+
+abbrev pub bareMarksOn : ℕ → List ℕ → List Bool
+bareMarksOn n xs = codeMarks (codesOn n xs)

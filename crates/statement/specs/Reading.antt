@@ -16,7 +16,7 @@ use Rattle.meaning.specs.Limits.{most-name, most-depth, outside32, termGivens, 
 use Rattle.token.specs.declared.Token.{Token}
 use Rattle.token.specs.Tokens.{tokenAt}
 use Rattle.statement.specs.Operators.{oppositeOf}
-use Rattle.statement.specs.Places.{tokenOn, Column, columnOn, termOn, nodeOn, nodesOn}
+use Rattle.statement.specs.Places.{tokenOn, Column, columnOn, termOn, comparisonCode, nodeOn, nodesOn, codesOn, bareMarksOn}
 use Rattle.statement.specs.declared.conditions.Cursor.{Cursor}
 use Rattle.statement.specs.declared.conditions.Side.{Side}
 
@@ -67,6 +67,7 @@ withSides depth a b c =
 pub record PutsNode (xs : List ℕ) (c : Cursor) (node left right : ℕ) (ys : List ℕ) (r : Cursor) : Type 0 where
   pub counted : r ≡ withNode c
   pub noted : (b : Bool) (s : List ℕ) → c .nodes < 15 → nodesOn b s (c .nodes + 1) ys ≡ nodesOn b s (c .nodes) xs ++ (nodeOn b s node left right ∷ [])
+  pub coded : c .nodes < 15 → codesOn (c .nodes + 1) ys ≡ codesOn (c .nodes) xs ++ (node ∷ [])
 
 -- a side that ends at another place
 abbrev pub endedAt : ℕ → Side → Side
@@ -75,7 +76,7 @@ endedAt next a = record { ok = a .ok; over = a .over; marks = a .marks; start = 
 -- A.5: the null test `op` of the column a was put if the token t is NULL, whose kind is 32
 pub record PutsNull (xs : List ℕ) (c : Cursor) (positive : Bool) (depth : ℕ) (a : Side) (op : ℕ) (t : Token) (ys : List ℕ) (r : Cursor) : Type 0 where
   pub fails : t .kind ≢ 32 → r .ok ≡ false
-  pub puts : t .kind ≡ 32 → PutsNode xs (withSides depth a (endedAt (t .next) a) c) (cond positive op (oppositeOf op)) (a .start) (a .start) ys r
+  pub puts : t .kind ≡ 32 → PutsNode xs (withSides depth a (endedAt (t .next) a) c) (comparisonCode depth (cond positive op (oppositeOf op))) (a .start) (a .start) ys r
 
 -- a place inside a text of at most 256 bytes, with no more counted than there are bytes before it
 pub record Stands (s : List ℕ) (c : Cursor) : Type 0 where
@@ -114,6 +115,16 @@ conditionPast b d (alone c) = conditionPast b d c
 conditionPast b d (both c e) = conditionPast b d c || conditionPast b d e
 conditionPast b d (single c) = conditionPast b d c
 conditionPast b d (either c e) = conditionPast b d c || conditionPast b d e
+
+-- A.6: for each comparison whether it is bare, outside all parentheses and NOT, where the condition stands under d of them
+abbrev pub bareMarks : {A : Type 0} {l : Level} → ℕ → Tree A l → List Bool
+bareMarks d (compare c) = eqb d 0 ∷ []
+bareMarks d (negate c) = bareMarks (d + 1) c
+bareMarks d (group c) = bareMarks (d + 1) c
+bareMarks d (alone c) = bareMarks d c
+bareMarks d (both c e) = bareMarks d c ++ bareMarks d e
+bareMarks d (single c) = bareMarks d c
+bareMarks d (either c e) = bareMarks d c ++ bareMarks d e
 
 abbrev pub marksIn : {C : Type 0} {l : Level} → Condition (Term C) l → ℕ
 marksIn c = markCount (termGivens (sides (comparisons c)))
@@ -166,6 +177,7 @@ pub record Found (b : Bool) {l : Level} (s : List ℕ) (positive : Bool) (depth 
   pub nodes-are : r .nodes ≡ c .nodes + length (nodes positive (mapped comparison t))
   pub marks-are : r .marks ≡ c .marks + marksIn (mapped comparison t)
   pub noted : r .nodes ≤ 15 → nodesOn b s (r .nodes) ys ≡ nodesOn b s (c .nodes) xs ++ nodes positive (mapped comparison t)
+  pub bare : r .nodes ≤ 15 → bareMarksOn (r .nodes) ys ≡ bareMarksOn (c .nodes) xs ++ bareMarks depth (mapped comparison t)
   pub spread : r .nodes + c .at ≤ c .nodes + r .at
 
 -- r and ys are what the grammar's reader finds

@@ -10,7 +10,7 @@ use lib.IntN.{ℤ, pos}
 use lib.ListN.{length, drop, getD, set}
 use lib.Signed.{leZ, ltZ}
 use Rattle.lists.specs.Lists.{any}
-use Rattle.meaning.specs.Condition.{Where, always, under, mappedIn, operandsIn}
+use Rattle.meaning.specs.Condition.{Optional, Where, always, under, mappedIn, operandsIn}
 use Rattle.meaning.specs.Postfix.{nodesIn}
 use Rattle.meaning.specs.Tokens as T
 use Rattle.meaning.specs.Tokens.{Name, Token, tokens}
@@ -18,8 +18,8 @@ use Rattle.meaning.specs.Grammar.{Given, comparison, Dotted, items, Sentence, t
 use Rattle.meaning.specs.Limits.{most-name, most-rows, most-items, most-marks, most-comparisons, tableNamed, whereOf, termGivens, markCount, givens, outside32, pastLimit}
 use Rattle.token.specs.declared.Token.{Token as Read}
 use Rattle.token.specs.Tokens.{kindOf, tokenAt}
-use Rattle.statement.specs.Places.{tokenOn, nameOn, givenOn, columnOn, nodesOn}
-use Rattle.statement.specs.Reading.{Stands, Operand, aColumn, longColumn, conditionPast}
+use Rattle.statement.specs.Places.{tokenOn, nameOn, givenOn, columnOn, nodesOn, bareMarksOn}
+use Rattle.statement.specs.Reading.{Stands, Operand, aColumn, longColumn, conditionPast, bareMarks}
 use Rattle.statement.specs.declared.conditions.Cursor.{Cursor}
 use Rattle.statement.specs.declared.sentences.Placed.{Placed}
 use Rattle.statement.specs.declared.sentences.Listing.{Listing}
@@ -194,11 +194,16 @@ abbrev pub wherePast : (b : Bool) → Where (Operand b) → Bool
 wherePast b always = false
 wherePast b (under t) = conditionPast b 0 t
 
+abbrev pub bareMarksIn : {A : Type 0} → Optional A → List Bool
+bareMarksIn always = []
+bareMarksIn (under t) = bareMarks 0 t
+
 pub record Filters (b : Bool) (s : List ℕ) (c : Cursor) (xs : List ℕ) (r : Cursor) (ys : List ℕ) (w : Where (Operand b)) : Type 0 where
   pub over : r .over ≡ (c .over || wherePast b w)
   pub marks-are : r .marks ≡ c .marks + markCount (termGivens (operandsIn w))
   pub nodes-are : r .nodes ≡ c .nodes + length (nodesIn w)
   pub noted : r .nodes ≤ 15 → nodesOn b s (r .nodes) ys ≡ nodesOn b s (c .nodes) xs ++ nodesIn w
+  pub bare : r .nodes ≤ 15 → bareMarksOn (r .nodes) ys ≡ bareMarksOn (c .nodes) xs ++ bareMarksIn w
 
 -- calls enough for the text s
 abbrev pub calls : List ℕ → ℕ
@@ -291,6 +296,15 @@ NodesAt s n ps (insert t vs) = Unit {0}
 NodesAt s n ps (update t ss w) = n ≤ 15 → nodesOn false s n ps ≡ nodesIn (mappedIn comparison w)
 NodesAt s n ps (delete t w) = n ≤ 15 → nodesOn false s n ps ≡ nodesIn (mappedIn comparison w)
 
+-- A.6: of a question over two tables they say which comparisons are bare
+abbrev pub BareAt : ℕ → List ℕ → Sentence → Type 0
+BareAt n ps (table t cs ring z) = Unit {0}
+BareAt n ps (select cs t w) = Unit {0}
+BareAt n ps (pair cs t u w) = n ≤ 15 → bareMarksOn n ps ≡ bareMarksIn (mappedIn comparison w)
+BareAt n ps (insert t vs) = Unit {0}
+BareAt n ps (update t ss w) = Unit {0}
+BareAt n ps (delete t w) = Unit {0}
+
 -- the sentence x was read: counted, and noted in the arrays ls and ps where there was room
 pub record Entered (s ls ps : List ℕ) (r : Entry) (x : Sentence) : Type 0 where
   pub ok : r .c .ok ≡ true
@@ -303,6 +317,7 @@ pub record Entered (s ls ps : List ℕ) (r : Entry) (x : Sentence) : Type 0 wher
   pub marks-are : r .c .marks ≡ markCount (givens x)
   pub nodes-are : r .c .nodes ≡ length (nodesIn (whereOf x))
   pub noted : NodesAt s (r .c .nodes) ps x
+  pub bare : BareAt (r .c .nodes) ps x
   pub second : SecondAt s (r .second) x
   pub names : NamesAt s (r .listed) ls x
   pub givens : GivensAt s (r .listed) ls x

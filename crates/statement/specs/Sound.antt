@@ -4,7 +4,7 @@
 use mathlib.Core.Path.{_≡_}
 use mathlib.Core.Bool.{Bool, true, false, not, _&&_, cond}
 use mathlib.Core.Option.{Option, none, some}
-use mathlib.Core.List.{List, [], _∷_, _++_, map}
+use mathlib.Core.List.{List, [], _∷_, _++_, map, reverse}
 use Prim.Native.Nat.{ℕ, zero, suc, _+_, _*_, _-_, _/_, _%_, _≤_}
 use lib.Dec.{eqb, leb, ltb}
 use lib.IntN.{ℤ, pos}
@@ -14,7 +14,7 @@ use Rattle.lists.specs.Tests.{eqList}
 use Rattle.meaning.specs.Operator.{by, eq}
 use Rattle.meaning.specs.Condition as C
 use Rattle.meaning.specs.Condition.{Where, sides, comparisonsIn}
-use Rattle.meaning.specs.Postfix.{Node, leaf, allOf, anyOf, nodesIn, leaves, isPostfix}
+use Rattle.meaning.specs.Postfix.{Node, leaf, allOf, anyOf, nodesIn, leaves, isPostfix, outerMarksIn, within, chained}
 use Rattle.meaning.specs.Resolve.{parameterCount, numberedOn, numberedFrom, columnsBelow, isTest}
 use Rattle.meaning.specs.Tokens.{isName, tokens}
 use Rattle.meaning.specs.Grammar.{Sentence, spell}
@@ -87,6 +87,17 @@ secondBy (suc k) start = some (record { table = k; start = start })
 abbrev pub secondRead : Query → Option M.Second
 secondRead q = secondBy (q .second) (q .start)
 
+-- A.6: the marks of the outer comparisons by their number: from the last one on, and in the text's order
+abbrev pub digitsBack : ℕ → ℕ → List Bool
+digitsBack zero m = []
+digitsBack (suc n) m = eqb (m % 2) 1 ∷ digitsBack n (m / 2)
+
+abbrev pub outerBack : Query → List Bool
+outerBack q = digitsBack (length (usedComparisons (q .condition))) (q .outer)
+
+abbrev pub outerRead : Query → List Bool
+outerRead q = reverse (outerBack q)
+
 abbrev pub usedSettings : Update → List Setting
 usedSettings u = take (u .count) (u .settings)
 
@@ -125,6 +136,11 @@ pub record AgreesCondition (c : Condition) (w : Where M.Operand) : Type 0 where
   pub operators-are : map (λ (k : Comparison). k .op) (usedComparisons c) ≡ map (λ (k : C.Comparison M.Operand). predicateNumber (k .op)) (leaves (nodesIn w))
   pub nodes-are : conditionNodes c ≡ nodesIn w
 
+-- A.6: the marks of a question over two tables are those of the comparisons that are outer in its WHERE; over one table they are not read
+abbrev pub AgreesOuter : Option M.Second → Query → Where M.Operand → Type 0
+AgreesOuter none q w = Unit {0}
+AgreesOuter (some s) q w = outerRead q ≡ outerMarksIn w
+
 pub record AgreesQuery (q : Query) (r : M.Query) : Type 0 where
   pub table-is : q .table ≡ r .table
   pub second-is : secondRead q ≡ r .second
@@ -132,6 +148,7 @@ pub record AgreesQuery (q : Query) (r : M.Query) : Type 0 where
   pub selected-are : take (q .count) (q .selected) ≡ r .selected
   pub parameters-are : q .parameters ≡ r .parameters
   pub condition-is : AgreesCondition (q .condition) (r .condition)
+  pub outer-are : AgreesOuter (r .second) q (r .condition)
 
 pub record AgreesUpdate (u : Update) (r : M.Update) : Type 0 where
   pub form-is : u .form ≡ formOfChange (r .change)
@@ -252,10 +269,16 @@ abbrev pub columnsWith : List Schema → ℕ → Option M.Second → ℕ
 columnsWith ts columns none = columns
 columnsWith ts columns (some s) = columns + columnsAt ts (s .table)
 
+-- A.6: of a question over two tables each comparison that is marked may be outer in a text
+abbrev pub soundOuter : Option M.Second → Query → Bool
+soundOuter none q = true
+soundOuter (some s) q = within (outerBack q) (chained true 0 (reverse (conditionNodes (q .condition))))
+
 unfoldable pub soundQuery : List Schema → Query → Bool
 soundQuery ts q =
     let n : ℕ = columnsAt ts (q .table) in
-    ltb (q .table) (length ts) && (soundSecond ts (q .table) n (secondRead q) && soundQueryOn (columnsWith ts n (secondRead q)) q)
+    ltb (q .table) (length ts)
+    && (soundSecond ts (q .table) n (secondRead q) && (soundQueryOn (columnsWith ts n (secondRead q)) q && soundOuter (secondRead q) q))
 
 unfoldable pub soundUpdate : List Schema → Update → Bool
 soundUpdate ts u = ltb (u .table) (length ts) && soundUpdateOn (columnsAt ts (u .table)) u

@@ -23,10 +23,10 @@ ghost use Rattle.meaning.specs.Postfix.{leaves};
 ghost use Rattle.meaning.specs.Limits.{most-items, most-marks, most-comparisons};
 ghost use Rattle.meaning.specs.Statement.{comparisonOf};
 ghost use Rattle.meaning.specs.Resolve.{resolveNodes};
-ghost use Rattle.statement.specs.Places.{nodesOn};
+ghost use Rattle.statement.specs.Places.{nodesOn, bareMark, bareMarksOn};
 ghost use Rattle.statement.specs.Sentences.{givensOn};
-ghost use Rattle.statement.specs.Compiled.{leftSide, rightSide, comparisonStruct, noComparison, conditionStruct, noSetting, noTable, noQuery, noUpdate, created as createdAs, asked as askedAs, changing as changingAs, refusedBy, settled};
-ghost use Rattle.statement.specs.Built.{placeIn, shortColumn, shortTerm, keptOn, markInValue, markInSide, comparisonOn, stepIn, settingsOn, StepsAre};
+ghost use Rattle.statement.specs.Compiled.{leftSide, rightSide, comparisonStruct, noComparison, conditionStruct, marksNumber, noSetting, noTable, noQuery, noUpdate, created as createdAs, asked as askedAs, changing as changingAs, refusedBy, settled};
+ghost use Rattle.statement.specs.Built.{placeIn, shortColumn, shortTerm, keptOn, markInValue, markInSide, comparisonOn, stepIn, settingsOn, StepsAre, outerOn, outerIn};
 
 // ---- settings
 
@@ -129,7 +129,7 @@ fn no_comparisons() -> [Comparison; Condition::COMPARISONS]
 fn step_in(node: u16) -> u8
     ensures { λ r. ⌜ r ≡ stepIn node ⌝ }
 {
-    if node < Cursor::OPERATORS {
+    if node < Cursor::COMPARISONS {
         return Step::COMPARISON;
     }
     if node == Cursor::AND {
@@ -169,8 +169,9 @@ pub fn condition_at(
     let mut m = marks;
     let mut i = 0;
     while i < nodes {
-        let op = places[3 * i];
-        if op < Cursor::OPERATORS {
+        let node = places[3 * i];
+        if node < Cursor::COMPARISONS {
+            let op = node % Cursor::BARE;
             let c = comparison_at(text, op, places[3 * i + 1], places[3 * i + 2], scope, m);
             comparisons[found] = c;
             found += 1;
@@ -193,6 +194,47 @@ pub fn no_condition() -> Condition
         steps: [0u8; Condition::STEPS],
         count: 0,
     }
+}
+
+// ---- outer comparisons (A.6)
+
+// One mark more behind these, if the node is a comparison.
+fn with_mark(marks: u8, node: u16) -> u8
+    requires { ⌜ marksNumber marks (bareMark node) ≤ 255 ⌝ }
+    ensures { λ r. ⌜ r ≡ marksNumber marks (bareMark node) ⌝ }
+{
+    if node < Cursor::COMPARISONS {
+        return 2 * marks + (node / Cursor::BARE) as u8;
+    }
+    marks
+}
+
+// The marks of the outer comparisons among the nodes that are noted: the bare ones, but none under OR. Where OR is the last node, it joins them all, or none is bare.
+fn outer_marks(places: [u16; Cursor::PLACES], nodes: usize) -> u8
+    requires { ⌜ (nodes ≤ 15) × (length (bareMarksOn nodes places) ≤ most-comparisons) ⌝ }
+    ensures { λ r. ⌜ r ≡ outerOn nodes places ⌝ }
+{
+    let mut marks: u8 = 0;
+    let mut last = Step::COMPARISON;
+    let mut i = 0;
+    while i < nodes {
+        let node = places[3 * i];
+        marks = with_mark(marks, node);
+        last = step_in(node);
+        i += 1;
+    }
+    if last == Step::OR { 0 } else { marks }
+}
+
+// Those of a question over two tables; over one they are not needed.
+pub fn outer_of(dotted: bool, places: [u16; Cursor::PLACES], nodes: usize) -> u8
+    requires { ⌜ (nodes ≤ 15) × (length (bareMarksOn nodes places) ≤ most-comparisons) ⌝ }
+    ensures { λ r. ⌜ r ≡ outerIn dotted nodes places ⌝ }
+{
+    if dotted {
+        return outer_marks(places, nodes);
+    }
+    0
 }
 
 // ---- statements
@@ -221,6 +263,7 @@ fn no_query() -> Query
         parameters: 0,
         second: 0,
         start: 0,
+        outer: 0,
         condition: no_condition(),
     }
 }

@@ -76,6 +76,7 @@ fn select(
     let w = names::width(scope);
     let twice = names::is_twice(scope);
     let number = refusals::refusal_of(selected, n, condition, w, false, twice, full);
+    let outer = assembling::outer_of(scope.dotted, places, e.c.nodes as usize);
     let q = Query {
         table,
         selected,
@@ -83,6 +84,7 @@ fn select(
         parameters,
         second,
         start: names::start(scope),
+        outer,
         condition,
     };
     assembling::asked(number, q)

@@ -13,6 +13,7 @@ ghost use Rattle.meaning.specs.Condition.{atom, conjunction, disjunction};
 ghost use Rattle.meaning.specs.Limits.{most-text};
 ghost use Rattle.token.specs.Tokens.{tokenAt};
 ghost use Rattle.statement.specs.Operators.{oppositeOf};
+ghost use Rattle.statement.specs.Places.{comparisonCode};
 ghost use Rattle.statement.specs.Reading.{past, isOperand, isComparison, ReadsDotted, ReadsSide, withSides, PutsNode, PutsNull, Stands, Reaches, TestsNull, Compares, Reads, Closes};
 
 // Where a reader stands in a text, and what it has counted: nodes of the condition, question marks. `over` says that a limit was passed by a name, a constant or
@@ -29,8 +30,10 @@ pub struct Cursor {
 impl Cursor {
     // The numbers that are noted of a condition: three a node.
     pub const PLACES: usize = 3 * Condition::STEPS;
-    // A node's code: that of a comparison is its operator, below these; those of AND and OR lie far from them.
-    pub const OPERATORS: u16 = Comparison::OPERATORS as u16;
+    // A node's code: that of a comparison is its operator, and so much more if it is bare, outside all parentheses and NOT (A.6).
+    pub const BARE: u16 = Comparison::OPERATORS as u16;
+    // Those of comparisons lie below this, and those of AND and OR far from them.
+    pub const COMPARISONS: u16 = 2 * Cursor::BARE;
 
     pub const AND: u16 = 256;
 
@@ -109,7 +112,7 @@ fn either(test: bool, x: u16, y: u16) -> u16
     if test { x } else { y }
 }
 
-// The comparison `op` of two sides.
+// The comparison `op` of two sides, under so many parentheses and NOTs.
 fn put_comparison(
     places: &mut [u16; Cursor::PLACES],
     c: Cursor,
@@ -120,15 +123,16 @@ fn put_comparison(
     b: Side,
 ) -> Cursor
     requires { ⌜ (c .nodes < most-text) × (c .marks ≤ most-text) × (a .marks ≤ 1) × (b .marks ≤ 1) × (a .start ≤ most-text) × (b .start ≤ most-text) × (b .next ≤ most-text) ⌝ }
-    ensures { λ r. ⌜ PutsNode (now (places .entry)) (withSides depth a b c) (cond positive op (oppositeOf op)) (a .start) (b .start) (now (places .exit)) r ⌝ }
+    ensures { λ r. ⌜ PutsNode (now (places .entry)) (withSides depth a b c) (comparisonCode depth (cond positive op (oppositeOf op))) (a .start) (b .start) (now (places .exit)) r ⌝ }
 {
     let mut d = c;
     d.ok = true;
     d.over = c.over | ((Condition::DEPTH < depth) | (a.over | b.over));
     d.marks = c.marks + (a.marks + b.marks);
     d.at = b.next as u16;
-    let node = either(positive, op as u16, operators::opposite(op) as u16);
-    put(places, d, node, a.start as u16, b.start as u16)
+    let k = either(positive, op as u16, operators::opposite(op) as u16);
+    let bare = either(depth == 0, Cursor::BARE, 0);
+    put(places, d, k + bare, a.start as u16, b.start as u16)
 }
 
 // The null test `op` (A.5) of the column a, if the token t is NULL: a comparison of the column with itself.

@@ -151,7 +151,8 @@ impl Condition {
 }
 
 // A question: its table, the first `count` selected columns, how many parameters it has, its condition. Over two tables `second` is the number of the second one and 1,
-// and columns are counted through both: those of the second from `start` on. Over one table `second` is 0, and `start` is not read.
+// and columns are counted through both: those of the second from `start` on; and `outer` marks the comparisons that stand outside all OR, NOT and parentheses (A.6), a binary
+// digit each, the last one's last. Over one table `second` is 0, and `start` and `outer` are not read.
 #[repr(C)]
 pub struct Query {
     pub table: u8,
@@ -160,6 +161,7 @@ pub struct Query {
     pub parameters: u8,
     pub second: u8,
     pub start: u8,
+    pub outer: u8,
     pub condition: Condition,
 }
 

@@ -3,11 +3,13 @@
 --     put-reads-back  a buffer into which their record was put shows them
 --     sound-askable   what the claims ask of a question holds in a sound state; of one over two tables: sound-pair-askable
 --     paired-rows     a sound table's rows in a pair are all its rows
+--     paired-means    what a stored question over two tables lists of the first-table rows that pass (A.6) is what Meaning lists of all pairs
 --     pair-says-means, pair-leaves-means     for callers: what `select_pair` promises, by Meaning
 -- Assumes nothing.
 use mathlib.Core.Path.{_≡_, refl, sym, ap, ap₂, _∙_, subst}
 use mathlib.Core.Logic.{_≢_, _↔_}
 use mathlib.Core.Bool.{Bool, true, false, not, cond}
+use mathlib.Core.Option.{some}
 use mathlib.Core.List.{List, [], _++_, map}
 use Prim.Native.Nat.{ℕ, zero, suc, _+_, _*_, _≤_, _<_}
 use native.Mathlib.Nat.{mul-le-mul}
@@ -17,7 +19,7 @@ use lib.Dec.{leb, ltb}
 use lib.IntN.{ℤ, pos}
 use lib.ListN.{length, take, drop, length-map, length-append}
 use lib.Seq.{length-take-le}
-use Rattle.lists.specs.Lists.{All, nil, cons, keep, all, repeats, pairs, turned}
+use Rattle.lists.specs.Lists.{All, nil, cons, keep, count, all, repeats, pairs, turned}
 use Rattle.lists.proofs.Bools.{and-left, and-right}
 use Rattle.lists.proofs.Lists.{All-take, All-drop, All-every, All-getD, All-keep, All-image}
 use Rattle.lists.proofs.Places.{length-keep}
@@ -27,9 +29,11 @@ use Rattle.meaning.specs.Limits.{most-items, most-rows, most-listed}
 use Rattle.meaning.specs.Meaning.{Row, cell, answer}
 use Rattle.meaning.specs.Cells.{rowsIn}
 use Rattle.meaning.specs.Names.{Schema, sameName, has, tableNames}
+use Rattle.meaning.specs.Plain.{passesFirst}
 use Rattle.meaning.specs.Statement as M
 use Rattle.meaning.proofs.Cells.{rows-length}
 use Rattle.meaning.specs.Record.{encode}
+use Rattle.meaning.proofs.Outer.{skipped-pairs}
 use Rattle.meaning.proofs.Within32.{Row32, pairs-32}
 use Rattle.answer.specs.Answer.{put}
 use Rattle.answer.proofs.Buffers.{put-fits, put-not}
@@ -40,8 +44,9 @@ use Rattle.statement.specs.Catalog.{nameOfStruct}
 use Rattle.statement.proofs.SoundQuery.{query-parts}
 use Rattle.statement.specs.Sound.{AgreesQuery, QueryFits, soundName, usedColumns, soundQuery, soundTable}
 use Rattle.table.specs.Demand.{leaves, Askable, SelectReadsBack, SelectMeans, RowsRead, RowTestMeans, PairAskable, SelectPairReadsBack, SelectPairMeans, TooManyExactlyIf, RefusedLeavesBuffer, PairRowsRead, PairReadsAtMost, PairTestMeans}
-use Rattle.table.specs.Evaluated.{meetsStored, rowCells, rowsUsed, selectedStored, answerStored, recordStored, selectedBy, selectedIn, rowsPaired, pairsUsed, pairsRead, pairedRefusal, saidBy, pairedIn, pairedPut, pairSays, pairLeaves}
+use Rattle.table.specs.Evaluated.{meetsStored, rowCells, rowsUsed, selectedStored, answerStored, recordStored, selectedBy, selectedIn, rowsPaired, passesStored, pairsUsed, pairsRead, pairedRefusal, saidBy, pairedIn, pairedPut, pairSays, pairLeaves}
 use Rattle.table.proofs.Means.{meets-where, answer-means}
+use Rattle.table.proofs.Outer.{passes-means, used-wide}
 
 -- ---- the rows of a table in cells of 32 bits
 
@@ -193,41 +198,69 @@ module _ (out : List ℕ) (scanned n : ℕ) (rows : List Row) where
       go zero = omega arith
       go (suc k) = omega arith
 
+-- how many rows are read, by the stored question
+abbrev readBy : Query → List ℤ → List Row → List Row → ℕ
+readBy q vs rows others = pairsRead (passesStored q vs) rows others
+
 pub select-pair-reads-back : SelectPairReadsBack
 select-pair-reads-back q t start u beside cells vs out A e =
     let k : ℕ = length (take (q .count) (q .selected)) in
-    let rows : List Row = pairsUsed t start u beside cells in
+    let rows : List Row = pairsUsed q vs t start u beside cells in
     let n : k ≡ q .count = length-take-le (q .count) (q .selected) (omega (arith, A .array, A .few-selected)) in
-    let h = pair-taken out (pairsRead (rowsPaired t start cells) (rowsPaired u beside cells)) k (answerStored q vs rows) e in
-    let same : pairsUsed t start u beside cells ≡ pairs (rowsUsed t start cells) (rowsUsed u beside cells) = ap₂ pairs (paired-rows t start cells (A .few-columns)) (paired-rows u beside cells (A .few-others)) in
-    let narrow : All Row32 rows = subst (All Row32) (sym same) (pairs-32 (rowsUsed t start cells) (rowsUsed u beside cells) (used-32 t start cells (A .narrow)) (used-32 u beside cells (A .narrow))) in
+    let h = pair-taken out (readBy q vs (rowsPaired t start cells) (rowsPaired u beside cells)) k (answerStored q vs rows) e in
+    let same : rows ≡ pairs (keep (passesStored q vs) (rowsUsed t start cells)) (rowsUsed u beside cells) =
+    ap₂ (λ (rs os : List Row). pairs (keep (passesStored q vs) rs) os) (paired-rows t start cells (A .few-columns)) (paired-rows u beside cells (A .few-others)) in
+    let narrow : All Row32 rows =
+    subst (All Row32) (sym same)
+    (pairs-32 (keep (passesStored q vs) (rowsUsed t start cells)) (rowsUsed u beside cells) (All-keep (passesStored q vs) (λ r k m. k) (used-32 t start cells (A .narrow))) (used-32 u beside cells (A .narrow))) in
     subst (λ (rs : List Row). ReadsBack (pairLeaves q t start u beside cells vs out) (q .count) (answerStored q vs rs)) same
     (subst (λ (j : ℕ). ReadsBack (pairLeaves q t start u beside cells vs out) j (answerStored q vs rows)) n
     (subst (λ (bs : List ℕ). ReadsBack bs k (answerStored q vs rows)) (sym (h .3 ∙ put-fits out 0 (recordStored q vs rows) (omega (arith, h .1))))
     (buffer-reads-back out k (answerStored q vs rows) (omega (arith, A .some-selected)) (omega (arith, A .few-selected)) (h .0) (listed-rows q vs rows narrow))))
 
+-- the first-table rows that are paired, and what is listed of them, by Meaning (A.6): what is listed of all pairs
+module _ (q : Query) (q′ : M.Query) (s : M.Second) (A : AgreesQuery q q′) (e : q′ .second ≡ some s) (vs : List ℤ) where
+  keep-means : (rows : List Row) → keep (passesStored q vs) rows ≡ keep (passesFirst q′ s vs) rows
+  keep-means rows = (λ i. keep (λ (r : Row). passes-means q q′ A s e vs r i) rows)
+
+  pub paired-means : (t : Table) → s .start ≡ t .count → (start : ℕ) (cells : List ℤ) (others : List Row)
+      → answerStored q vs (pairs (keep (passesStored q vs) (rowsUsed t start cells)) others) ≡ answer q′ vs (pairs (rowsUsed t start cells) others)
+  paired-means t w start cells others =
+      let rows : List Row = rowsUsed t start cells in
+      answer-means q q′ A vs (pairs (keep (passesStored q vs) rows) others)
+      ∙ ap (λ (rs : List Row). answer q′ vs (pairs rs others)) (keep-means rows)
+      ∙ skipped-pairs q′ s vs rows others (subst (λ (n : ℕ). All (λ (r : Row). length r ≡ n) rows) (sym w) (used-wide t start cells))
+
 pub select-pair-means : SelectPairMeans
-select-pair-means q q′ M t start u beside cells vs out A e =
+select-pair-means q q′ s M i t start u beside cells vs out A w e =
     let rows : List Row = pairs (rowsUsed t start cells) (rowsUsed u beside cells) in
     subst (λ (k : ℕ). ReadsBack (pairLeaves q t start u beside cells vs out) k (answer q′ vs rows)) (M .count-is)
-    (subst (λ (rs : List Row). ReadsBack (pairLeaves q t start u beside cells vs out) (q .count) rs) (answer-means q q′ M vs rows) (select-pair-reads-back q t start u beside cells vs out A e))
+    (subst (λ (rs : List Row). ReadsBack (pairLeaves q t start u beside cells vs out) (q .count) rs) (paired-means q q′ s M i vs t w start cells (rowsUsed u beside cells))
+    (select-pair-reads-back q t start u beside cells vs out A e))
 
 pub too-many-exactly-if : TooManyExactlyIf
 too-many-exactly-if q t start u beside cells vs out =
-    pair-many out (pairsRead (rowsPaired t start cells) (rowsPaired u beside cells)) (length (take (q .count) (q .selected))) (answerStored q vs (pairsUsed t start u beside cells))
+    pair-many out (readBy q vs (rowsPaired t start cells) (rowsPaired u beside cells)) (length (take (q .count) (q .selected))) (answerStored q vs (pairsUsed q vs t start u beside cells))
 
 pub refused-leaves-buffer : RefusedLeavesBuffer
 refused-leaves-buffer q t start u beside cells vs out =
-    pair-kept out (pairsRead (rowsPaired t start cells) (rowsPaired u beside cells)) (length (take (q .count) (q .selected))) (answerStored q vs (pairsUsed t start u beside cells))
+    pair-kept out (readBy q vs (rowsPaired t start cells) (rowsPaired u beside cells)) (length (take (q .count) (q .selected))) (answerStored q vs (pairsUsed q vs t start u beside cells))
 
 pub pair-rows-read : PairRowsRead
-pair-rows-read q t start u beside cells vs out ht hu kt ku e =
-    pair-taken out (pairsRead (rowsPaired t start cells) (rowsPaired u beside cells)) (length (take (q .count) (q .selected))) (answerStored q vs (pairsUsed t start u beside cells)) e .2
-    ∙ ap₂ (λ (m n : ℕ). m + m * n) (ap length (paired-rows t start cells ht) ∙ used-all t start cells kt) (ap length (paired-rows u beside cells hu) ∙ used-all u beside cells ku)
+pair-rows-read q q′ s A i t start u beside cells vs out ht hu kt ku e =
+    let first : rowsPaired t start cells ≡ rowsUsed t start cells = paired-rows t start cells ht in
+    let rows : length (rowsPaired t start cells) ≡ t .rows = ap length first ∙ used-all t start cells kt in
+    let others : length (rowsPaired u beside cells) ≡ u .rows = ap length (paired-rows u beside cells hu) ∙ used-all u beside cells ku in
+    let kept : keep (passesStored q vs) (rowsPaired t start cells) ≡ keep (passesFirst q′ s vs) (rowsUsed t start cells) =
+    ap (keep (passesStored q vs)) first ∙ keep-means q q′ s A i vs (rowsUsed t start cells) in
+    pair-taken out (readBy q vs (rowsPaired t start cells) (rowsPaired u beside cells)) (length (take (q .count) (q .selected))) (answerStored q vs (pairsUsed q vs t start u beside cells)) e .2
+    ∙ (λ j. rows j + length (kept j) * others j)
 
 pub pair-reads-at-most : PairReadsAtMost
 pair-reads-at-most q t start u beside cells vs out =
-    omega (arith, pair-scanned out (pairsRead (rowsPaired t start cells) (rowsPaired u beside cells)) (length (take (q .count) (q .selected))) (answerStored q vs (pairsUsed t start u beside cells)), paired-few t start cells, mul-le-mul (paired-few t start cells) (paired-few u beside cells))
+    let rows : List Row = rowsPaired t start cells in
+    let m : count (passesStored q vs) rows ≤ t .rows = omega (arith, length-keep (passesStored q vs) rows, paired-few t start cells) in
+    omega (arith, pair-scanned out (readBy q vs rows (rowsPaired u beside cells)) (length (take (q .count) (q .selected))) (answerStored q vs (pairsUsed q vs t start u beside cells)), paired-few t start cells, mul-le-mul m (paired-few u beside cells))
 
 pub pair-test-means : PairTestMeans
 pair-test-means c vs targets places numbers start P w A row other h k = row-test-means c vs targets places numbers start P w A (row ++ other) (omega (arith, length-append row other))
@@ -251,16 +284,16 @@ sound-pair-askable q t u ts others more cells Q s k l narrow =
     sound-narrow t others k = leb-true (t .count) most-items (and-left (leb (t .count) most-items) _ (and-right (leb 1 (t .count)) _ k))
 
 -- what is said of a question over two tables of at most 8 columns, and what the buffer holds, by the rows that Meaning lists for its sentence
-module _ (q : Query) (q′ : M.Query) (A : AgreesQuery q q′) (t : Table) (start : ℕ) (u : Table) (beside : ℕ) (cells vs : List ℤ) (out : List ℕ)
-    (h : t .count ≤ most-items) (k : u .count ≤ most-items) where
+module _ (q : Query) (q′ : M.Query) (s : M.Second) (A : AgreesQuery q q′) (e : q′ .second ≡ some s) (t : Table) (start : ℕ) (u : Table) (beside : ℕ) (cells vs : List ℤ) (out : List ℕ)
+    (h : t .count ≤ most-items) (k : u .count ≤ most-items) (w : s .start ≡ t .count) where
   pub pair-says-means : pairSays q t start u beside cells vs out
-      ≡ pairedIn out (pairsRead (rowsUsed t start cells) (rowsUsed u beside cells)) (length (q′ .selected)) (answer q′ vs (pairs (rowsUsed t start cells) (rowsUsed u beside cells)))
+      ≡ pairedIn out (pairsRead (passesFirst q′ s vs) (rowsUsed t start cells) (rowsUsed u beside cells)) (length (q′ .selected)) (answer q′ vs (pairs (rowsUsed t start cells) (rowsUsed u beside cells)))
   pair-says-means =
-      ap₂ (λ (rs os : List Row). pairedIn out (pairsRead rs os) (length (take (q .count) (q .selected))) (answerStored q vs (pairs rs os))) (paired-rows t start cells h) (paired-rows u beside cells k)
-      ∙ ap₂ (pairedIn out (pairsRead (rowsUsed t start cells) (rowsUsed u beside cells))) (ap length (A .selected-are)) (answer-means q q′ A vs (pairs (rowsUsed t start cells) (rowsUsed u beside cells)))
+      ap₂ (λ (rs os : List Row). pairedIn out (readBy q vs rs os) (length (take (q .count) (q .selected))) (answerStored q vs (pairs (keep (passesStored q vs) rs) os))) (paired-rows t start cells h) (paired-rows u beside cells k)
+      ∙ (λ i. pairedIn out (length (rowsUsed t start cells) + length (keep-means q q′ s A e vs (rowsUsed t start cells) i) * length (rowsUsed u beside cells)) (length (A .selected-are i)) (paired-means q q′ s A e vs t w start cells (rowsUsed u beside cells) i))
 
   pub pair-leaves-means : pairLeaves q t start u beside cells vs out
       ≡ pairedPut out (length (q′ .selected)) (answer q′ vs (pairs (rowsUsed t start cells) (rowsUsed u beside cells)))
   pair-leaves-means =
-      ap₂ (λ (rs os : List Row). pairedPut out (length (take (q .count) (q .selected))) (answerStored q vs (pairs rs os))) (paired-rows t start cells h) (paired-rows u beside cells k)
-      ∙ ap₂ (pairedPut out) (ap length (A .selected-are)) (answer-means q q′ A vs (pairs (rowsUsed t start cells) (rowsUsed u beside cells)))
+      ap₂ (λ (rs os : List Row). pairedPut out (length (take (q .count) (q .selected))) (answerStored q vs (pairs (keep (passesStored q vs) rs) os))) (paired-rows t start cells h) (paired-rows u beside cells k)
+      ∙ ap₂ (pairedPut out) (ap length (A .selected-are)) (paired-means q q′ s A e vs t w start cells (rowsUsed u beside cells))

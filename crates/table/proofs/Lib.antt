@@ -14,9 +14,11 @@ pub mod Tested
 pub mod Preparing
 pub mod ChangedMeans
 pub mod Selecting
+pub mod Firsts
 pub mod Pairing
 pub mod Recording
 pub mod Answered
+pub mod Outer
 pub mod Demand
 pub mod DemandRings
 pub mod DemandTexts

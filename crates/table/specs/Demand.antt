@@ -1,4 +1,4 @@
--- The demands and requests A.1, A.3 and A.4 as claims, as far as the table layer can say them; what is asked of the arguments is what their types and a sound state give. Each is
+-- The demands and requests A.1, A.3, A.4 and A.6 as claims, as far as the table layer can say them; what is asked of the arguments is what their types and a sound state give. Each is
 -- proved in proofs/Demand.antt. Assumes nothing: these are definitions.
 use mathlib.Core.Path.{_≡_}
 use mathlib.Core.Logic.{_≢_, _↔_}
@@ -9,7 +9,7 @@ use Prim.Native.Nat.{ℕ, _+_, _-_, _*_, _≤_, _<_}
 use lib.Dec.{ltb}
 use lib.IntN.{ℤ}
 use lib.ListN.{length, take, drop, getD}
-use Rattle.lists.specs.Lists.{All, keep, pairs, written}
+use Rattle.lists.specs.Lists.{All, keep, count, pairs, written}
 use Rattle.meaning.specs.Demand.{Is32, ReadsBack}
 use Rattle.meaning.specs.Limits.{most-items, most-rows, most-listed}
 use Rattle.meaning.specs.Condition.{Optional, Where, mappedIn}
@@ -17,6 +17,7 @@ use Rattle.meaning.specs.Grammar as G
 use Rattle.meaning.specs.Grammar.{Given, Test, comparison, Listed, Dotted, items, sentence}
 use Rattle.meaning.specs.Meaning.{Row, meetsWhere, newRow, updatedRow, answer}
 use Rattle.meaning.specs.Cells.{areaOf, rowsIn}
+use Rattle.meaning.specs.Plain.{passesFirst}
 use Rattle.meaning.specs.Names.{Schema, columnsOf, position, pairPlace}
 use Rattle.meaning.specs.Statement as M
 use Rattle.meaning.specs.Statement.{insert, delete, update, settingMarks, resolvedWhere}
@@ -30,7 +31,7 @@ use Rattle.statement.specs.declared.Update.{Update}
 use Rattle.statement.specs.Catalog.{schemasOf}
 use Rattle.statement.specs.Compiled.{compiledOf}
 use Rattle.statement.specs.Sound.{AgreesCondition, AgreesQuery, AgreesUpdate}
-use Rattle.table.specs.Evaluated.{rowCells, rowsUsed, answerStored, recordStored, selectedIn, pairsUsed, pairSays, pairLeaves}
+use Rattle.table.specs.Evaluated.{rowCells, rowsUsed, answerStored, recordStored, selectedIn, passesStored, pairsUsed, pairSays, pairLeaves}
 use Rattle.table.specs.Tests.{longest, passes, Prepared}
 use Rattle.table.specs.Changed.{isFullRing, fits, rowsBefore, changeOf, cellsAfter}
 use Rattle.table.specs.declared.changes.Changed.{Changed}
@@ -109,33 +110,36 @@ pub record PairAskable (q : Query) (t u : Table) (cells : List ℤ) : Type 0 whe
   pub few-others : u .count ≤ most-items
   pub narrow : All Is32 cells
 
--- the whole buffer shows what the stored question lists of the pairs of rows, "in the first table's order, and for each in the second's"
+-- the whole buffer shows what the stored question lists of the pairs of rows, "in the first table's order, and for each in the second's", but for first-table rows that do
+-- not pass (A.6)
 abbrev pub SelectPairReadsBack : Type 0
 SelectPairReadsBack = (q : Query) (t : Table) (start : ℕ) (u : Table) (beside : ℕ) (cells vs : List ℤ) (out : List ℕ) → PairAskable q t u cells
     → pairSays q t start u beside cells vs out .refusal ≡ 0
-    → ReadsBack (pairLeaves q t start u beside cells vs out) (q .count) (answerStored q vs (pairs (rowsUsed t start cells) (rowsUsed u beside cells)))
+    → ReadsBack (pairLeaves q t start u beside cells vs out) (q .count) (answerStored q vs (pairs (keep (passesStored q vs) (rowsUsed t start cells)) (rowsUsed u beside cells)))
 
--- and these are the rows that Meaning lists for its sentence
+-- and these are the rows that Meaning lists of all pairs for its sentence, where the second table's columns start behind the first's
 abbrev pub SelectPairMeans : Type 0
-SelectPairMeans = (q : Query) (q′ : M.Query) → AgreesQuery q q′ → (t : Table) (start : ℕ) (u : Table) (beside : ℕ) (cells vs : List ℤ) (out : List ℕ) → PairAskable q t u cells
+SelectPairMeans = (q : Query) (q′ : M.Query) (s : M.Second) → AgreesQuery q q′ → q′ .second ≡ some s → (t : Table) (start : ℕ) (u : Table) (beside : ℕ) (cells vs : List ℤ) (out : List ℕ) → PairAskable q t u cells → s .start ≡ t .count
     → pairSays q t start u beside cells vs out .refusal ≡ 0
     → ReadsBack (pairLeaves q t start u beside cells vs out) (length (q′ .selected)) (answer q′ vs (pairs (rowsUsed t start cells) (rowsUsed u beside cells)))
 
 -- 16 exactly if more than 65,535 rows are listed, whatever the buffer; then the buffer stays as it was
 abbrev pub TooManyExactlyIf : Type 0
 TooManyExactlyIf = (q : Query) (t : Table) (start : ℕ) (u : Table) (beside : ℕ) (cells vs : List ℤ) (out : List ℕ)
-    → (pairSays q t start u beside cells vs out .refusal ≡ 16) ↔ (most-listed < length (answerStored q vs (pairsUsed t start u beside cells)))
+    → (pairSays q t start u beside cells vs out .refusal ≡ 16) ↔ (most-listed < length (answerStored q vs (pairsUsed q vs t start u beside cells)))
 
 abbrev pub RefusedLeavesBuffer : Type 0
 RefusedLeavesBuffer = (q : Query) (t : Table) (start : ℕ) (u : Table) (beside : ℕ) (cells vs : List ℤ) (out : List ℕ)
     → pairSays q t start u beside cells vs out .refusal ≢ 0 → pairLeaves q t start u beside cells vs out ≡ out
 
--- "Rows read are at most r1 + r1 × r2 for r1 and r2 rows": here they are just that, of tables whose rows lie inside the cells; and never more
+-- Request A.6: "For a question over two tables that is worked out anew the count becomes exactly r1 + m × r2", of tables whose rows lie inside the cells
 abbrev pub PairRowsRead : Type 0
-PairRowsRead = (q : Query) (t : Table) (start : ℕ) (u : Table) (beside : ℕ) (cells vs : List ℤ) (out : List ℕ)
+PairRowsRead = (q : Query) (q′ : M.Query) (s : M.Second) → AgreesQuery q q′ → q′ .second ≡ some s → (t : Table) (start : ℕ) (u : Table) (beside : ℕ) (cells vs : List ℤ) (out : List ℕ)
     → t .count ≤ most-items → u .count ≤ most-items → start + rowCells t ≤ length cells → beside + rowCells u ≤ length cells
-    → pairSays q t start u beside cells vs out .refusal ≡ 0 → pairSays q t start u beside cells vs out .scanned ≡ t .rows + t .rows * u .rows
+    → pairSays q t start u beside cells vs out .refusal ≡ 0
+    → pairSays q t start u beside cells vs out .scanned ≡ t .rows + count (passesFirst q′ s vs) (rowsUsed t start cells) * u .rows
 
+-- and so A.1's bound stands: "Rows read are at most r1 + r1 × r2 for r1 and r2 rows"
 abbrev pub PairReadsAtMost : Type 0
 PairReadsAtMost = (q : Query) (t : Table) (start : ℕ) (u : Table) (beside : ℕ) (cells vs : List ℤ) (out : List ℕ)
     → pairSays q t start u beside cells vs out .scanned ≤ t .rows + t .rows * u .rows

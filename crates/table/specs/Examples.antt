@@ -24,14 +24,14 @@ use Rattle.statement.specs.declared.Statement.{Statement}
 use Rattle.statement.specs.Compiled.{nameStruct, updateStruct, structOf, compiledOf}
 use Rattle.statement.specs.Sound.{conditionNodes}
 use Rattle.table.specs.Changed.{laid, oldestAfter, countAfter, areaFits, fits, changedOf, changeOf, cellsAfter, oldestRow, removalOf}
-use Rattle.table.specs.Evaluated.{meetsStored, rowsUsed, answerStored, recordStored, selectedIn, pairsUsed, pairedIn, pairSays, pairLeaves}
+use Rattle.table.specs.Evaluated.{meetsStored, passesStored, rowsUsed, answerStored, recordStored, selectedIn, pairsUsed, pairedIn, pairSays, pairLeaves}
 use Rattle.table.specs.Tests.{nextAt, passes}
 use Rattle.table.specs.declared.changes.Changed.{Changed}
 use Rattle.table.specs.declared.listing.Selected.{Selected}
 
 -- what the computations open
 computing : Unit {0}
-unfolding isNameByte isWordByte decimal isName word negative tokenFrom firstToken scan tokens aCondition aSentence read pastLimit unknown taken miscounted twice statementOf otherLengths noPlace structOf compiledOf conditionNodes meetsStored answerStored body encode stored laid oldestAfter countAfter areaFits fits changedOf changeOf cellsAfter nextAt passes removalOf
+unfolding isNameByte isWordByte decimal isName word negative tokenFrom firstToken scan tokens aCondition aSentence read pastLimit unknown taken miscounted twice statementOf otherLengths noPlace structOf compiledOf conditionNodes meetsStored passesStored answerStored body encode stored laid oldestAfter countAfter areaFits fits changedOf changeOf cellsAfter nextAt passes removalOf
 computing = tt
 
 abbrev t : Table
@@ -160,7 +160,7 @@ paired text = compiledOf (bytes text) (t ∷ u ∷ []) 2 0 0 12 .query
 
 -- the rows that a question over t and u lists
 abbrev pair-listed : Table → Table → String → List Row
-pair-listed s v text = answerStored (paired text) [] (pairsUsed s 0 v 6 both-cells)
+pair-listed s v text = answerStored (paired text) [] (pairsUsed (paired text) [] s 0 v 6 both-cells)
 
 -- what `select_pair` says where the buffer has so many bytes, and what it leaves
 abbrev pair-said : Table → Table → String → ℕ → Selected
@@ -196,6 +196,35 @@ pub pair-empty : (pair-said t (none-of u) "SELECT u.c FROM t, u" 8 ≡ record { 
 unfolding computing
 pair-empty = (refl, refl)
 
+-- ---- A.6: rows read are 2 + m × 3, where m rows of t pass; the marks are given here, a binary digit a comparison
+
+abbrev marked-as : ℕ → Query → Query
+marked-as n q = record {
+  table = q .table;
+  selected = q .selected;
+  count = q .count;
+  parameters = q .parameters;
+  second = q .second;
+  start = q .start;
+  outer = n;
+  condition = q .condition;
+}
+
+abbrev pair-read : ℕ → String → ℕ
+pair-read n text = pairSays (marked-as n (paired text)) t 0 u 6 both-cells [] (replicate 44 9) .scanned
+
+-- a comparison of the first table's columns, where it is marked; one that names a column of the second is no test of the first table's rows, whatever its marks
+pub first-tested : (pair-read 3 "SELECT u.c FROM t, u WHERE t.a = 7 AND t.a = u.a" ≡ 5) × (pair-read 1 "SELECT u.c FROM t, u WHERE t.a = 7 AND t.a = u.a" ≡ 8)
+    × (pair-read 1 "SELECT u.c FROM t, u WHERE u.a = 7" ≡ 8)
+unfolding computing
+first-tested = (refl, refl, refl)
+
+-- "is true": a comparison with a null is not; one that names no column counts; of two both are to be true
+pub first-true : (pair-read 1 "SELECT u.c FROM t, u WHERE t.b < 200" ≡ 5) × (pair-read 1 "SELECT u.c FROM t, u WHERE 1 = 2" ≡ 2)
+    × (pair-read 3 "SELECT u.c FROM t, u WHERE t.a = 7 AND t.b IS NULL" ≡ 2)
+unfolding computing
+first-true = (refl, refl, refl)
+
 -- the record, and a byte behind it that stays
 pub pair-written : pairLeaves (paired "SELECT u.c FROM t, u WHERE t.a = u.a AND t.b IS NULL") t 0 u 6 both-cells [] (replicate 13 9)
     ≡ 0 ∷ 0 ∷ 0 ∷ 8 ∷ 1 ∷ 1 ∷ 0 ∷ 1 ∷ 0 ∷ 0 ∷ 0 ∷ 20 ∷ 9 ∷ []
@@ -203,7 +232,7 @@ unfolding computing
 pair-written = refl
 
 -- a table of more than 8 columns, which no text makes, has no row in a pair
-pub too-wide : pairsUsed (record { name = t .name; columns = t .columns; count = 9; capacity = 1; rows = 1; oldest = 0; ring = false }) 0 u 6 both-cells ≡ []
+pub too-wide : pairsUsed (paired "SELECT t.b FROM t, u") [] (record { name = t .name; columns = t .columns; count = 9; capacity = 1; rows = 1; oldest = 0; ring = false }) 0 u 6 both-cells ≡ []
 too-wide = refl
 
 -- "an answer of more than 65,535 rows gives 16", whatever the buffer; 65,535 rows in a short buffer give 13
@@ -289,7 +318,7 @@ unfolding computing
 said-round = refl
 
 -- in both places of a pair
-pub paired-round : pairsUsed (recent 3 1) 0 (recent 3 2) 0 wrapped
+pub paired-round : pairsUsed (of-ring "SELECT minute FROM recent" .query) [] (recent 3 1) 0 (recent 3 2) 0 wrapped
     ≡ (pos 2 ∷ pos 20 ∷ pos 3 ∷ pos 30 ∷ []) ∷ (pos 2 ∷ pos 20 ∷ pos 4 ∷ pos 40 ∷ []) ∷ (pos 2 ∷ pos 20 ∷ pos 2 ∷ pos 20 ∷ [])
     ∷ (pos 3 ∷ pos 30 ∷ pos 3 ∷ pos 30 ∷ []) ∷ (pos 3 ∷ pos 30 ∷ pos 4 ∷ pos 40 ∷ []) ∷ (pos 3 ∷ pos 30 ∷ pos 2 ∷ pos 20 ∷ [])
     ∷ (pos 4 ∷ pos 40 ∷ pos 3 ∷ pos 30 ∷ []) ∷ (pos 4 ∷ pos 40 ∷ pos 4 ∷ pos 40 ∷ []) ∷ (pos 4 ∷ pos 40 ∷ pos 2 ∷ pos 20 ∷ [])

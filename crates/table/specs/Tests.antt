@@ -2,7 +2,7 @@
 -- a row then promises: what Meaning says. Assumes nothing: these are definitions.
 use mathlib.Core.Path.{_≡_}
 use mathlib.Core.Bool.{Bool, cond}
-use mathlib.Core.List.{List}
+use mathlib.Core.List.{List, [], _∷_}
 use Prim.Native.Nat.{ℕ, zero, suc, _+_, _*_, _≤_, _<_}
 use lib.Dec.{ltb, eqb}
 use lib.IntN.{ℤ, pos}
@@ -14,10 +14,12 @@ use Rattle.meaning.specs.Meaning.{Row, valueOf, meetsWhere}
 use Rattle.statement.specs.declared.Condition.{Condition}
 use Rattle.statement.specs.declared.Operand.{Operand}
 use Rattle.statement.specs.declared.Comparison.{Comparison}
+use Rattle.statement.specs.declared.Query.{Query}
 use Rattle.statement.specs.Compiled.{leftSide, rightSide}
 use Rattle.statement.specs.Operators.{predicateAt, isNullTest, orderOf}
 use Rattle.statement.specs.Sound.{operandRead, AgreesCondition}
-use Rattle.table.specs.Evaluated.{meetsStored}
+use Rattle.table.specs.Evaluated.{meetsStored, passesStored}
+use Rattle.table.specs.declared.rows.Test.{Test}
 
 -- ---- the sides of a comparison
 
@@ -86,3 +88,21 @@ pub record Prepared (c : Condition) (vs : List ℤ) (targets places : List ℕ) 
 abbrev pub TestsRow : List ℕ → List ℕ → List ℤ → ℕ → Row → Bool → Type 0
 TestsRow targets places numbers start row r = (c : Condition) (vs : List ℤ) → Prepared c vs targets places numbers start → length row ≤ longest
     → (r ≡ meetsStored c vs row) × ((w : Where M.Operand) → AgreesCondition c w → r ≡ meetsWhere w vs row)
+
+-- ---- A.6: the test of a row of the first table
+
+abbrev pub passesBy : Test → Row → Bool
+passesBy t = passes (t .targets) (t .places) (t .numbers) (t .start)
+
+-- the steps of comparisons that are joined by AND, each with those before it: of the first one, and of n further ones
+abbrev pub andSteps : ℕ → List ℕ
+andSteps zero = []
+andSteps (suc n) = 0 ∷ 1 ∷ andSteps n
+
+abbrev pub allSteps : List ℕ
+allSteps = 0 ∷ andSteps 7
+
+-- a condition that holds of exactly the rows that pass, of every question with that condition, those marks and that start of the second table's columns
+abbrev pub TestsFirst : Condition → ℕ → ℕ → Condition → Type 0
+TestsFirst c outer start r =
+    (q : Query) → q .condition ≡ c → q .outer ≡ outer → q .start ≡ start → (vs : List ℤ) (row : Row) → meetsStored r vs row ≡ passesStored q vs row

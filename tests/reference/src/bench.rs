@@ -44,8 +44,6 @@ struct Counters {
     refused: u64,
     cached: u64,
     read: u64,
-    /// Rows read are a bound: an answer over two tables was worked out anew.
-    bound: bool,
     bytes: u64,
     changed: u64,
     dropped: u64,
@@ -81,7 +79,6 @@ impl Counters {
             Call::Ask(n, values) => store.ask_here(LENT, *n, values, RECORD).map(|given| {
                 self.cached += u64::from(given.kept);
                 self.read += given.rows_read as u64;
-                self.bound |= given.paired && !given.kept;
                 self.bytes += given.record.len() as u64;
                 answer[..given.record.len()].copy_from_slice(&given.record);
                 if summing {
@@ -103,7 +100,7 @@ impl Counters {
     }
 }
 
-fn run(store: &mut Store, answer: &mut [u8], calls: &[Call], turns: usize, how: Run, with_bounds: bool) {
+fn run(store: &mut Store, answer: &mut [u8], calls: &[Call], turns: usize, how: Run) {
     if calls.is_empty() {
         return;
     }
@@ -115,9 +112,8 @@ fn run(store: &mut Store, answer: &mut [u8], calls: &[Call], turns: usize, how: 
             store.take_back(before);
         }
     }
-    let Counters { refused, cached, read, bound, bytes, changed, dropped, sum } = counted;
-    let most = if with_bounds && bound { "at most " } else { "" };
-    print!("calls {turns} refused {refused} cached {cached} read {most}{read} bytes {bytes}");
+    let Counters { refused, cached, read, bytes, changed, dropped, sum } = counted;
+    print!("calls {turns} refused {refused} cached {cached} read {read} bytes {bytes}");
     print!(" changed {changed} dropped {dropped}");
     if how == Run::Summing {
         print!(" sum {sum}");
@@ -125,8 +121,8 @@ fn run(store: &mut Store, answer: &mut [u8], calls: &[Call], turns: usize, how: 
     println!();
 }
 
-/// Whether the script could be read. `with_bounds`: `read at most N` where the rows read are a bound.
-pub fn bench(path: &str, with_bounds: bool) -> bool {
+/// Whether the script could be read.
+pub fn bench(path: &str) -> bool {
     let Ok(script) = fs::read_to_string(path) else {
         return false;
     };
@@ -137,9 +133,9 @@ pub fn bench(path: &str, with_bounds: bool) -> bool {
         let turns = || line.get(2..).and_then(|w| w.trim().parse().ok()).unwrap_or(0);
         match line.as_bytes()[0] {
             b'L' => calls.clear(),
-            b'R' => run(&mut store, &mut answer, &calls, turns(), Run::Going, with_bounds),
-            b'K' => run(&mut store, &mut answer, &calls, turns(), Run::Staying, with_bounds),
-            b'C' => run(&mut store, &mut answer, &calls, turns(), Run::Summing, with_bounds),
+            b'R' => run(&mut store, &mut answer, &calls, turns(), Run::Going),
+            b'K' => run(&mut store, &mut answer, &calls, turns(), Run::Staying),
+            b'C' => run(&mut store, &mut answer, &calls, turns(), Run::Summing),
             b'T' => println!("time {}", unsafe { clock() }),
             _ => calls.extend(made(line)),
         }

@@ -37,30 +37,6 @@ struct Other<'a> {
     piece: usize,
 }
 
-/// Is this line the reference's `new read N ..`, but for an N that is smaller?
-fn is_within(printed: &[u8], reference: &[u8]) -> bool {
-    let parts = |line: &[u8]| -> Option<(usize, Vec<u8>)> {
-        let (number, rest) = std::str::from_utf8(line).ok()?.strip_prefix("new read ")?.split_once(' ')?;
-        let read: usize = number.parse().ok()?;
-        (read.to_string() == number).then(|| (read, rest.as_bytes().to_vec()))
-    };
-    match (parts(printed), parts(reference)) {
-        (Some((read, rest)), Some((most, wanted))) => read <= most && rest == wanted,
-        _ => false,
-    }
-}
-
-/// Does the program print what the reference prints? `bounds` are the lines whose rows read may be fewer.
-fn agrees(printed: &[u8], reference: &[u8], bounds: &[usize]) -> bool {
-    let split = |text: &[u8]| -> Vec<Vec<u8>> { text.split(|&b| b == b'\n').map(<[u8]>::to_vec).collect() };
-    if printed == reference || bounds.is_empty() {
-        return printed == reference;
-    }
-    let (printed, reference) = (split(printed), split(reference));
-    let same = |at: usize| printed[at] == reference[at] || bounds.contains(&at) && is_within(&printed[at], &reference[at]);
-    printed.len() == reference.len() && (0..printed.len()).all(same)
-}
-
 /// Do the outputs differ? `None` for a script with a line that the language does not fix, which tells nothing.
 fn tells_apart(other: Other, script: &Script) -> Option<bool> {
     let bytes = script.bytes();
@@ -69,7 +45,7 @@ fn tells_apart(other: Other, script: &Script) -> Option<bool> {
         return None;
     }
     let (printed, ended) = run_program(other.program, &bytes, other.piece);
-    Some(!agrees(&printed, &reference, &front.bounds) || ended.is_some())
+    Some(printed != reference || ended.is_some())
 }
 
 fn differs(other: Other, script: &Script) -> bool {
@@ -192,6 +168,9 @@ impl Tally {
         }
         for (what, n) in &made.nulls {
             self.add(&format!("null: {what}"), *n);
+        }
+        for (what, n) in &made.outer {
+            self.add(&format!("outer: {what}"), *n);
         }
     }
 

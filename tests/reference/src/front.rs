@@ -20,9 +20,6 @@ pub struct Front {
     last: Vec<u8>,
     /// Calls: a line came that this language does not fix (the comparison leaves such a script out).
     pub unfixed: bool,
-    /// Lines printed, and the numbers of those whose rows read are a bound: new answers of questions over two tables.
-    printed: usize,
-    pub bounds: Vec<usize>,
 }
 
 /// Calls: the bytes a script may have.
@@ -82,19 +79,12 @@ impl Front {
             }
             Mode::Calls => (Store::open(0, 0, 0, 0).0, (0, 0)),
         };
-        Front { mode, store, lent, buffer: None, last: vec![], unfixed: false, printed: 0, bounds: vec![] }
-    }
-
-    /// What `line` gives, but `read at most N` where the rows read are a bound.
-    pub fn line_with_bounds(&mut self, line: &[u8]) -> Option<String> {
-        let before = self.bounds.len();
-        let printed = self.line(line)?;
-        Some(if self.bounds.len() > before { printed.replacen(" read ", " read at most ", 1) } else { printed })
+        Front { mode, store, lent, buffer: None, last: vec![], unfixed: false }
     }
 
     /// What a line (without its end) prints; `None`: nothing.
     pub fn line(&mut self, line: &[u8]) -> Option<String> {
-        let printed = match self.mode {
+        match self.mode {
             Mode::Desk => Some(self.desk_line(line).unwrap_or_else(|| BAD.to_string())),
             Mode::Calls => match self.calls_line(line) {
                 Some(printed) => printed,
@@ -103,16 +93,11 @@ impl Front {
                     Some(BAD.to_string())
                 }
             },
-        };
-        self.printed += usize::from(printed.is_some());
-        printed
+        }
     }
 
     /// What an answer prints before its length and rows.
-    fn read(&mut self, answer: &Answer) -> String {
-        if answer.paired && !answer.kept {
-            self.bounds.push(self.printed);
-        }
+    fn read(answer: &Answer) -> String {
         format!("{} read {}", if answer.kept { "kept" } else { "new" }, answer.rows_read)
     }
 
@@ -152,7 +137,7 @@ impl Front {
                 let n = digits(words[1], 2_147_483_647)?;
                 let values = values(&words[2..])?;
                 Some(match self.store.ask(self.lent, n, &values, 65_536) {
-                    Ok(answer) => format!("{} {}", self.read(&answer), rows_of(&answer.record)),
+                    Ok(answer) => format!("{} {}", Front::read(&answer), rows_of(&answer.record)),
                     Err(number) => refused(number),
                 })
             }
@@ -205,8 +190,7 @@ impl Front {
                         buffer[..answer.record.len()].copy_from_slice(&answer.record);
                         self.last = buffer.clone();
                         self.buffer = Some(buffer);
-                        let read = self.read(&answer);
-                        format!("{read} bytes {} {}", answer.record.len(), rows_of(&answer.record))
+                        format!("{} bytes {} {}", Front::read(&answer), answer.record.len(), rows_of(&answer.record))
                     }
                     Err(number) => refused(number),
                 }))
@@ -219,8 +203,9 @@ impl Front {
             b"FLUSH" if words.len() == 1 => Some(Some(self.flush())),
             b"SPOIL" | b"SET" if words.len() >= 3 => {
                 let part = std::str::from_utf8(words[1]).ok()?;
-                // Of these lines the language fixes only those that spoil what a ring adds to a table, or a null test.
-                self.unfixed |= words[0] == b"SET" || !["start", "ring", "qnull", "unull"].contains(&part);
+                // Of these lines the language fixes only those that spoil what a ring adds to a table, a null test, or the
+                // marks of a question's comparisons.
+                self.unfixed |= words[0] == b"SET" || !["start", "ring", "qnull", "unull", "qouter"].contains(&part);
                 let numbers = values(&words[2..])?;
                 if words[0] == b"SET" {
                     return self.store.set(part, &numbers).map(|()| None);

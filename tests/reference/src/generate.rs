@@ -1,9 +1,9 @@
 //! Random scripts. A seed gives a profile and then the lines; the reference runs along, so that most lines can be
 //! biased to be taken (existing tables, columns, marks, keys kept, buffers that just fit).
 
-use crate::check::{keypad_lines, null_lines, ring_lines};
+use crate::check::{keypad_lines, null_lines, outer_lines, ring_lines};
 use crate::front::{Front, Mode, BUFFER, CALLS_BYTES};
-use crate::meaning::{truth, Rows, Truth, NULL};
+use crate::meaning::{all_true, truth, Rows, Truth, NULL};
 use crate::pattern::{agrees, columns_tested, gone, patterns, Gone, Place};
 use crate::text::{constant, is_name, same_name, Change, Column, Condition, NullTest, Operand, Question, Relation, Update};
 use crate::text::KEYWORDS;
@@ -132,6 +132,8 @@ pub struct Generated {
     pub rings: BTreeMap<String, usize>,
     /// What came of nulls and null tests.
     pub nulls: BTreeMap<String, usize>,
+    /// What came of the comparisons that rows read in a pair go by.
+    pub outer: BTreeMap<String, usize>,
 }
 
 /// What an update finds: the rows of its table, the row that it would push out, and the keys kept.
@@ -153,6 +155,8 @@ struct Generator {
     rings: bool,
     /// Begins with the examples of nulls.
     nulls: bool,
+    /// Begins with the examples of rows read in a pair.
+    outer: bool,
     front: Front,
     made: Generated,
 }
@@ -212,7 +216,7 @@ fn has_null_test(condition: &Condition<Operand>) -> bool {
     match condition {
         Condition::Compare(..) => false,
         Condition::Null(..) => true,
-        Condition::Not(inner) => has_null_test(inner),
+        Condition::Not(inner) | Condition::Group(inner) => has_null_test(inner),
         Condition::And(left, right) | Condition::Or(left, right) => has_null_test(left) || has_null_test(right),
     }
 }
@@ -223,7 +227,7 @@ fn equal_to_marks(condition: &Condition<Operand>) -> Vec<(Column, usize)> {
         Condition::Compare(Operand::Column(column), Relation::Equal, Operand::Mark(mark))
         | Condition::Compare(Operand::Mark(mark), Relation::Equal, Operand::Column(column)) => vec![(*column, *mark)],
         Condition::Compare(..) | Condition::Null(..) => vec![],
-        Condition::Not(inner) => equal_to_marks(inner),
+        Condition::Not(inner) | Condition::Group(inner) => equal_to_marks(inner),
         Condition::And(left, right) | Condition::Or(left, right) => [equal_to_marks(left), equal_to_marks(right)].concat(),
     }
 }
@@ -237,10 +241,41 @@ fn null_places(condition: &Condition<Operand>, around: &str) -> Vec<String> {
         Condition::Null(_, NullTest::IsNull) => vec![format!("IS NULL{around}")],
         Condition::Null(_, NullTest::IsNotNull) => vec![format!("IS NOT NULL{around}")],
         Condition::Not(inner) => null_places(inner, " under NOT"),
+        Condition::Group(inner) => null_places(inner, around),
         Condition::And(left, right) => [null_places(left, " in AND"), null_places(right, " in AND")].concat(),
         Condition::Or(left, right) => [null_places(left, " in OR"), null_places(right, " in OR")].concat(),
     }
 }
+
+/// Of each comparison, in the order of the text: the outermost of OR, NOT and parentheses that it stands in.
+fn hidden(condition: &Condition<Operand>) -> Vec<Option<&'static str>> {
+    let by = |what: &'static str| vec![Some(what); condition.comparisons().len()];
+    match condition {
+        Condition::Compare(..) | Condition::Null(..) => vec![None],
+        Condition::And(left, right) => [hidden(left), hidden(right)].concat(),
+        Condition::Or(..) => by("OR"),
+        Condition::Not(_) => by("NOT"),
+        Condition::Group(_) => by("parentheses"),
+    }
+}
+
+/// What the items of `outer_text` are made of: `x` and `v` are columns of the first table, `y` and `w` of the second, `n` is
+/// a number.
+const OF_FIRST: [&str; 22] = [
+    "x = ?", "x = ?", "x = ?", "? = x", "x = n", "x = n", "n = x", "x <> n", "x <> ?", "x < n", "x >= n", "v > ?", "v <= ?",
+    "n < x", "x = v", "v >= x", "x IS NULL", "x IS NOT NULL", "v IS NOT NULL", "x > n", "x = -2147483648", "v <> n",
+];
+const OF_NO_COLUMN: [&str; 9] = ["? = n", "? = n", "n = ?", "? = ?", "1 = 1", "2 < 1", "? <> n", "? >= 1", "n = -2147483648"];
+const OF_SECOND: [&str; 8] = ["y = ?", "y <> n", "w IS NOT NULL", "y < 3", "w IS NULL", "y = n", "? <= w", "y = w"];
+const OF_BOTH: [&str; 7] = ["x = y", "x = y", "y = x", "v <= w", "x <> w", "w > v", "x >= y"];
+const WRAPPED: [&str; 32] = [
+    "( x = ? AND y = n )", "NOT ( x = ? OR y <> n )",
+    "NOT NOT x = ?", "NOT NOT x = ?", "NOT NOT v <> n", "NOT NOT ? = n",
+    "( x = ? )", "( x = ? )", "( x = n )", "( ( x = n ) )", "( x = ? AND v <> n )", "( x <> n AND x = y )", "( 1 = 1 AND x = n )",
+    "NOT x = ?", "NOT x = n", "NOT NOT x = ?", "NOT NOT x = n", "NOT NOT NOT x = n", "NOT ( x = ? )", "( NOT x = n )",
+    "( x = ? OR y = n )", "( x = n OR v = n )", "NOT ( x = n AND y = n )", "NOT ( x = n OR v IS NULL )", "( ? = n )", "NOT ? = n",
+    "( x IS NOT NULL )", "NOT x IS NULL", "NOT NOT x IS NOT NULL", "( y = ? )", "NOT x = y", "( ( x = n ) AND v >= n )",
+];
 
 impl Generator {
     // ------------------------------------------------------------ numbers
@@ -897,6 +932,9 @@ impl Generator {
 
     /// A question over two tables.
     fn pair_text(&mut self) -> Vec<String> {
+        if self.random.chance(35) {
+            return self.outer_text();
+        }
         let mut made = Vec::new();
         for _ in 0..4 {
             let Some(pair) = self.some_pair() else {
@@ -999,6 +1037,252 @@ impl Generator {
         }
         let (question, update) = self.random.pick(&found);
         self.try_pair(question, update);
+    }
+
+    // ------------------------------------------------------------ rows read in a pair
+
+    fn outer_item(&mut self) -> &'static str {
+        match self.random.below(100) {
+            0..=36 => self.random.pick(&OF_FIRST),
+            37..=43 => self.random.pick(&OF_NO_COLUMN),
+            44..=52 => self.random.pick(&OF_SECOND),
+            53..=64 => self.random.pick(&OF_BOTH),
+            _ => self.random.pick(&WRAPPED),
+        }
+    }
+
+    /// A question over two tables with a row of ANDs: comparisons of the first table's columns and of none, by which some of
+    /// its rows go, others, and some in parentheses or under NOT; now and then an OR beside them.
+    fn outer_text(&mut self) -> Vec<String> {
+        let mut made = Vec::new();
+        for _ in 0..4 {
+            let Some(pair) = self.some_pair() else {
+                return self.single_text();
+            };
+            let places = [0, 0, 1, 1].map(|which| self.random.pick(&dotted(&pair[which])));
+            let table = self.front.store.catalogue.tables.iter().position(|t| t.name == pair[0].0).expect("it is there");
+            let items: Vec<&str> = (0..self.random.pick(&[1, 1, 2, 2, 2, 3, 3])).map(|_| self.outer_item()).collect();
+            let mut f = items.join(" AND ");
+            match self.random.below(100) {
+                0..=5 => f = format!("{f} OR {}", self.outer_item()),
+                6..=9 => f = format!("{} OR {f}", self.outer_item()),
+                10..=12 => f = format!("( {f} )"),
+                13..=20 => f = format!("( {f} ) AND {}", self.outer_item()),
+                21..=24 => f = format!("NOT ( {} ) AND {}", items.join(" OR "), self.outer_item()),
+                _ => {}
+            }
+            let [x, v, y, w] = &places;
+            let mut named: Vec<String> = Vec::new();
+            for word in f.split(' ') {
+                named.push(match word {
+                    "x" => x.clone(),
+                    "v" => v.clone(),
+                    "y" => y.clone(),
+                    "w" => w.clone(),
+                    // A null in the text is rare: a comparison with it is never true.
+                    "n" => self.ring_value(table).max(NULL + 1).to_string(),
+                    _ => word.to_string(),
+                });
+            }
+            let selected = self.random.pick(&[x, v, y, w]).to_string();
+            let text = format!("SELECT {selected} FROM {} , {} WHERE {}", pair[0].0, pair[1].0, named.join(" "));
+            made = dotted_words(&text);
+            if text.len() <= 256 {
+                break;
+            }
+        }
+        made
+    }
+
+    /// Values for a question over two tables: of one row of its first table where a mark is compared with a column of it,
+    /// the constant that it is compared with, or any.
+    fn outer_values(&mut self, question: &Question) -> Vec<i32> {
+        let mut values: Vec<i32> = (0..question.marks).map(|_| self.value()).collect();
+        let rows = self.front.store.rows_now(question.tables[0]).to_vec();
+        let row = if rows.is_empty() { vec![] } else { self.random.pick(&rows) };
+        for comparison in question.condition.as_ref().map_or(vec![], Condition::comparisons) {
+            let Condition::Compare(left, _, right) = comparison else { continue };
+            for (one, other) in [(left, right), (right, left)] {
+                let Operand::Mark(mark) = *one else { continue };
+                match *other {
+                    Operand::Column(column) if column.table == question.tables[0] && self.random.chance(85) => {
+                        values[mark - 1] = row.get(column.place).copied().unwrap_or(values[mark - 1]);
+                    }
+                    Operand::Constant(constant) if self.random.chance(75) => values[mark - 1] = constant,
+                    _ => {}
+                }
+            }
+        }
+        values
+    }
+
+    /// Rows for both tables of a question over two, some of them with nulls, and asks of it.
+    fn outer_calls(&mut self) {
+        let questions = self.front.store.catalogue.questions.iter().enumerate();
+        let pairs: Vec<usize> = questions.filter(|(_, q)| q.tables.len() == 2).map(|(n, _)| n).collect();
+        if pairs.is_empty() {
+            return self.ask();
+        }
+        // Mostly one with comparisons that count, or would outside OR, NOT and parentheses.
+        let mut n = self.random.pick(&pairs);
+        for _ in 0..3 {
+            let question = &self.front.store.catalogue.questions[n];
+            let everywhere = vec![true; question.outer().len()];
+            if question.outer_of_first(&everywhere).is_empty() && self.random.chance(80) {
+                n = self.random.pick(&pairs);
+            }
+        }
+        let question = self.front.store.catalogue.questions[n].clone();
+        for &table in &question.tables {
+            let rows = self.front.store.height(table);
+            for _ in rows..self.random.pick(&[rows, rows + 1, 2, 3]) {
+                if let Some((insert, marks)) = self.update_of(table, |change| matches!(change, Change::Insert(_))) {
+                    let values: Vec<i32> = (0..marks).map(|_| self.value()).collect();
+                    let text = self.written(&values);
+                    self.emit_text(&format!("DO {insert}{text}"));
+                }
+            }
+        }
+        for _ in 0..self.random.between(1, 3) {
+            let values = self.outer_values(&question);
+            let buffer = match self.mode {
+                Mode::Calls => format!(" {}", self.enough(n, &values)),
+                Mode::Desk => String::new(),
+            };
+            let text = self.written(&values);
+            self.emit_text(&format!("ASK {n}{buffer}{text}"));
+        }
+        if self.mode == Mode::Calls && self.random.chance(40) {
+            self.spoil_outer(n);
+        }
+    }
+
+    /// Calls: other marks for some question's comparisons, mostly of one with comparisons that may not be marked.
+    fn spoil_some_outer(&mut self) {
+        let state = self.front.store.state();
+        let mut n = 0;
+        for _ in 0..4 {
+            n = self.random.below(state.questions.len() + 1);
+            let part = state.questions.get(n).and_then(Option::as_ref);
+            if part.is_some_and(|part| part.second.is_some() && part.may_be_outer.contains(&false)) {
+                break;
+            }
+        }
+        self.spoil_outer(n);
+    }
+
+    /// Calls: other marks for a question's comparisons: its own, some of those that may be marked, one more, or any.
+    fn spoil_outer(&mut self, n: usize) {
+        let mask = |marks: &[bool]| marks.iter().enumerate().map(|(i, &mark)| usize::from(mark) << i).sum::<usize>();
+        let state = self.front.store.state();
+        let part = state.questions.get(n).and_then(Option::as_ref);
+        let (own, may_be) = part.map_or((0, 0), |part| (mask(&part.outer), mask(&part.may_be_outer)));
+        let count = part.map_or(0, |part| part.outer.len());
+        let past = 255 >> count << count;
+        let k = match self.random.below(14) {
+            0 => own,
+            1 => may_be,
+            2..=4 => may_be & self.random.below(256),
+            5..=9 => may_be & self.random.below(256) | 1 << self.random.below(count),
+            10 => own | past,
+            11 => own & self.random.below(256) | past & self.random.below(256),
+            12 => self.random.pick(&[0, 1, 2, 128, 255]),
+            _ => self.random.below(256),
+        };
+        self.emit_text(&format!("SPOIL qouter {n} {k}"));
+    }
+
+    /// What the line shows of the comparisons that rows read in a pair go by, and how often.
+    fn outer_outcomes(&self, line: &[u8], printed: &str) -> Vec<(String, usize)> {
+        let store = &self.front.store;
+        let text = String::from_utf8_lossy(line);
+        let words: Vec<&str> = text.split(' ').collect();
+        if text.starts_with("SPOIL qouter ") {
+            return vec![(self.outer_spoil_outcome(&words, printed), 1)];
+        }
+        let n: Option<usize> = words.get(1).and_then(|word| word.parse().ok());
+        let Some(question) = n.and_then(|n| store.catalogue.questions.get(n)).filter(|q| q.tables.len() == 2) else {
+            return vec![];
+        };
+        if words[0] != "ASK" || !printed.starts_with("new") {
+            return vec![];
+        }
+        let first_value = if self.mode == Mode::Calls { 3 } else { 2 };
+        let given = words.iter().skip(first_value).map(|word| constant(word.as_bytes()).flatten());
+        let values: Vec<i32> = given.collect::<Option<_>>().expect("an answered question has its values");
+        let [first, second] = question.tables[..] else { unreachable!("two tables") };
+        let (r1, r2) = (store.height(first), store.height(second));
+        let such = question.outer_of_first(&question.outer());
+        let mut all = Vec::new();
+        if r1 == 0 || r2 == 0 {
+            all.push((format!("answer new, the {} table empty", if r1 == 0 { "first" } else { "second" }), 1));
+        }
+        let Some(condition) = &question.condition else {
+            all.push((String::from("answer new, none such: no WHERE"), 1));
+            return all;
+        };
+        if such.is_empty() {
+            // Those that would count elsewhere, by what hides them.
+            let all_of_first = question.outer_of_first(&vec![true; condition.comparisons().len()]);
+            let is_of_first = |one: &Condition<Operand>| all_of_first.iter().any(|other| std::ptr::eq(*other, one));
+            let places = condition.comparisons().into_iter().zip(hidden(condition));
+            let mut by: Vec<&str> = places.filter(|(one, _)| is_of_first(one)).filter_map(|(_, by)| by).collect();
+            by.sort_unstable();
+            by.dedup();
+            let why = if by.is_empty() { String::from("all name the second table") } else { format!("for {}", by.join(", ")) };
+            all.push((format!("answer new, none such: {why}"), 1));
+            return all;
+        }
+        if r1 == 0 {
+            return all;
+        }
+        let rows = store.rows_now(first);
+        let m = rows.iter().filter(|row| all_true(&such, first, row, &values)).count();
+        let how = match m {
+            0 => "m is 0",
+            _ if m < r1 => "m between 0 and r1",
+            _ => "m is r1, with such a comparison",
+        };
+        all.push((format!("answer new, {how}"), 1));
+        if such.len() < condition.comparisons().len() {
+            all.push((format!("answer new, {how}, beside other comparisons"), 1));
+        }
+        let truth_of = |one: &Condition<Operand>, row: &Vec<i32>| truth(&Some(one.clone()), &[(first, row)], &values);
+        let unknown = |row: &&Vec<i32>| {
+            let truths: Vec<Truth> = such.iter().map(|one| truth_of(one, row)).collect();
+            truths.contains(&Truth::Unknown) && !truths.contains(&Truth::False)
+        };
+        all.push((String::from("rows of the first table left for unknown alone"), rows.iter().filter(unknown).count()));
+        if such.iter().any(|one| matches!(one, Condition::Null(..))) {
+            all.push((format!("answer new with a null test that counts, {how}"), 1));
+        }
+        let is_free = |one: &&Condition<Operand>| {
+            matches!(one, Condition::Compare(left, _, right) if left.table().is_none() && right.table().is_none())
+        };
+        if such.iter().any(is_free) {
+            all.push((format!("answer new with a comparison of no column that counts, {how}"), 1));
+        }
+        all
+    }
+
+    /// Of a line that gives a question's comparisons other marks.
+    fn outer_spoil_outcome(&self, words: &[&str], printed: &str) -> String {
+        let state = self.front.store.state();
+        let (n, k): (usize, usize) = (words[2].parse().expect("a number"), words[3].parse().expect("a number"));
+        let Some(part) = state.questions.get(n).and_then(Option::as_ref) else {
+            return format!("marks of no question, {printed}");
+        };
+        let marks: Vec<bool> = (0..part.outer.len()).map(|i| k >> i & 1 == 1).collect();
+        let over = if part.second.is_some() { "two tables" } else { "one table" };
+        let which = match () {
+            _ if self.front.lent != (state.cells, state.bytes) => "other lengths lent",
+            _ if marks == part.outer && k >> marks.len() != 0 => "its own and some past its comparisons",
+            _ if marks == part.outer => "its own",
+            _ if marks.iter().zip(&part.may_be_outer).any(|(is, may_be)| *is && !may_be) => "some that no text has",
+            _ if marks.iter().zip(&part.outer).any(|(is, own)| *is && !own) => "some that another text has",
+            _ => "fewer than its own",
+        };
+        format!("marks of a question over {over}: {which}, {printed}")
     }
 
     // ------------------------------------------------------------ nulls
@@ -2110,6 +2394,9 @@ impl Generator {
         for (what, n) in self.null_outcomes(line, printed, before) {
             *self.made.nulls.entry(what).or_default() += n;
         }
+        for (what, n) in self.outer_outcomes(line, printed) {
+            *self.made.outer.entry(what).or_default() += n;
+        }
     }
 
     /// What came of a text with capitals in names, and of one in which a name stands in other letters than before.
@@ -2610,6 +2897,9 @@ impl Generator {
         if self.random.chance(6) {
             return self.touch_pair();
         }
+        if self.random.chance(6) {
+            return self.outer_calls();
+        }
         if self.random.chance(if matches!(self.profile, Profile::Full | Profile::Repeats) { 8 } else { 4 }) {
             return self.ring_calls();
         }
@@ -2625,6 +2915,9 @@ impl Generator {
         }
         if self.mode == Mode::Calls && self.random.chance(2) {
             return self.spoil_null_test();
+        }
+        if self.mode == Mode::Calls && self.random.chance(2) {
+            return self.spoil_some_outer();
         }
         match self.random.below(100) {
             0..=59 => self.ask(),
@@ -2677,6 +2970,10 @@ impl Generator {
         if self.random.chance(60) {
             self.join_pair();
         }
+        for _ in 0..self.random.between(1, 3) {
+            self.add_taken(Generator::outer_text);
+        }
+        self.outer_calls();
     }
 
     /// Two tables whose pairs are about as many as a record may hold (in `desk`: also about as many as its buffer takes),
@@ -2826,6 +3123,9 @@ impl Generator {
         if self.nulls {
             self.examples(null_lines());
         }
+        if self.outer {
+            self.examples(outer_lines());
+        }
         if self.square {
             self.square();
             length /= 5;
@@ -2908,6 +3208,7 @@ pub fn script(mode: Mode, seed: u64, length: usize) -> Generated {
         names: BTreeMap::new(),
         rings: BTreeMap::new(),
         nulls: BTreeMap::new(),
+        outer: BTreeMap::new(),
     };
     let special = seed / 10 % 8 == 0;
     let generator = Generator {
@@ -2918,6 +3219,7 @@ pub fn script(mode: Mode, seed: u64, length: usize) -> Generated {
         keypad: special && profile == Profile::Misses,
         rings: special && profile == Profile::Full,
         nulls: special && profile == Profile::Edges,
+        outer: special && profile == Profile::Counts,
         front: Front::new(mode),
         made,
     };

@@ -1,5 +1,5 @@
-//! An independent reference of the table store, made from document 01 and requests A.1, A.2, A.4 and A.5 of document 02 alone,
-//! with a generator of random scripts and a comparison with a program. It shares no code with the project.
+//! An independent reference of the table store, made from document 01 and requests A.1, A.2, A.4, A.5 and A.6 of document 02
+//! alone, with a generator of random scripts and a comparison with a program. It shares no code with the project.
 
 mod bench;
 mod check;
@@ -25,7 +25,6 @@ const USAGE: &str = "usage: reference desk | calls                     (standard
        reference bench FILE                       (the calls of a script of bench/, timed, without assertions)
        reference texts CELLS                      (statement texts, and what each compiles to)
        reference patterns                         (pairs of a question and an update, and their patterns)
-       reference bounds desk | calls | bench FILE (the same, but `read at most N` where rows read are a bound)
 MODE is desk or calls";
 
 fn mode(word: &str) -> Option<Mode> {
@@ -105,13 +104,7 @@ fn act(words: &[&str]) -> Option<bool> {
             tally.print();
             Some(true)
         }
-        ["bench", file] => Some(bench::bench(file, false)),
-        ["bounds", "bench", file] => Some(bench::bench(file, true)),
-        ["bounds", word] => {
-            let mut front = front::Front::new(mode(word)?);
-            answer_lines(|line| front.line_with_bounds(line));
-            Some(true)
-        }
+        ["bench", file] => Some(bench::bench(file)),
         ["compare", word, program, first, count, ..] => {
             Some(compare::compare(mode(word)?, program, first.parse().ok()?, count.parse().ok()?, length(5)?))
         }

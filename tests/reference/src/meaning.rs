@@ -114,6 +114,7 @@ fn truth_as_written(condition: &Condition<Operand>, rows: &Rows, values: &[i32])
         }
         Condition::Null(operand, test) => null_test(number(*operand, rows, values), *test),
         Condition::Not(inner) => not(of(inner)),
+        Condition::Group(inner) => of(inner),
         Condition::And(left, right) => and(of(left), of(right)),
         Condition::Or(left, right) => or(of(left), of(right)),
     }
@@ -127,6 +128,11 @@ pub fn truth(condition: &Option<Condition<Operand>>, rows: &Rows, values: &[i32]
 /// WHERE takes only rows whose condition is true.
 pub fn holds(condition: &Option<Condition<Operand>>, rows: &Rows, values: &[i32]) -> bool {
     truth(condition, rows, values) == True
+}
+
+/// Is every one of these comparisons true of a first table's row (A.6)? They name no column of another table.
+pub fn all_true(comparisons: &[&Condition<Operand>], first: usize, row: &[i32], values: &[i32]) -> bool {
+    comparisons.iter().all(|comparison| truth_as_written(comparison, &[(first, row)], values) == True)
 }
 
 /// The record of these rows, each of `columns` values; refusal 16 for too many.

@@ -79,8 +79,8 @@ fn update_term(operand: Operand) -> Term {
     }
 }
 
-/// Rule 4: NOT pushed to the comparisons (so that no NOT is left), operands turned to terms.
-pub fn pushed(condition: &Condition<Operand>, negated: bool, term: &dyn Fn(Operand) -> Term) -> Condition<Term> {
+/// Rule 4: NOT pushed to the comparisons (so that no NOT and no parentheses are left), operands turned to terms.
+pub fn pushed<T>(condition: &Condition<Operand>, negated: bool, term: &dyn Fn(Operand) -> T) -> Condition<T> {
     match condition {
         Condition::Compare(left, relation, right) => {
             let relation = if negated { opposite(*relation) } else { *relation };
@@ -90,6 +90,7 @@ pub fn pushed(condition: &Condition<Operand>, negated: bool, term: &dyn Fn(Opera
             Condition::Null(term(*operand), if negated { opposite_test(*test) } else { *test })
         }
         Condition::Not(inner) => pushed(inner, !negated, term),
+        Condition::Group(inner) => pushed(inner, negated, term),
         Condition::And(left, right) | Condition::Or(left, right) => {
             let sides = (Box::new(pushed(left, negated, term)), Box::new(pushed(right, negated, term)));
             if matches!(condition, Condition::And(..)) != negated {
@@ -101,6 +102,12 @@ pub fn pushed(condition: &Condition<Operand>, negated: bool, term: &dyn Fn(Opera
     }
 }
 
+/// A question as a state holds it: NOT is pushed to the comparisons, which stay in the order of the text.
+pub fn stored(question: &Question) -> Question {
+    let condition = question.condition.as_ref().map(|condition| pushed(condition, false, &|operand| operand));
+    Question { condition, ..question.clone() }
+}
+
 /// Rule 4: the clauses of a condition without NOT.
 fn clauses_of(condition: &Condition<Term>) -> Vec<Clause> {
     match condition {
@@ -108,7 +115,7 @@ fn clauses_of(condition: &Condition<Term>) -> Vec<Clause> {
         Condition::Null(operand, test) => vec![vec![Comparison::Null(*operand, *test)]],
         Condition::Or(left, right) => [clauses_of(left), clauses_of(right)].concat(),
         Condition::And(left, right) => paired(&clauses_of(left), &clauses_of(right)),
-        Condition::Not(_) => unreachable!("NOT was pushed in"),
+        Condition::Not(_) | Condition::Group(_) => unreachable!("NOT was pushed in"),
     }
 }
 
@@ -137,7 +144,7 @@ fn count(condition: &Option<Condition<Operand>>) -> usize {
             Condition::Compare(..) | Condition::Null(..) => 1,
             Condition::Or(left, right) => of(left) + of(right),
             Condition::And(left, right) => of(left) * of(right),
-            Condition::Not(_) => unreachable!("NOT was pushed in"),
+            Condition::Not(_) | Condition::Group(_) => unreachable!("NOT was pushed in"),
         }
     }
     condition.as_ref().map_or(1, |c| of(&pushed(c, false, &question_term)))
@@ -150,7 +157,7 @@ pub fn columns_tested(condition: &Condition<Operand>) -> Vec<Column> {
     match condition {
         Condition::Compare(left, _, right) => columns(&[*left, *right]),
         Condition::Null(operand, _) => columns(&[*operand]),
-        Condition::Not(inner) => columns_tested(inner),
+        Condition::Not(inner) | Condition::Group(inner) => columns_tested(inner),
         Condition::And(left, right) | Condition::Or(left, right) => {
             [columns_tested(left), columns_tested(right)].concat()
         }

@@ -40,7 +40,7 @@ fn postfix(condition: &Condition<Term>, place: Shown) -> String {
         Condition::Null(operand, NullTest::IsNotNull) => format!(" {}-is-not-null", term(*operand, place)),
         Condition::And(left, right) => format!("{}{} and", postfix(left, place), postfix(right, place)),
         Condition::Or(left, right) => format!("{}{} or", postfix(left, place), postfix(right, place)),
-        Condition::Not(_) => unreachable!("NOT was pushed in"),
+        Condition::Not(_) | Condition::Group(_) => unreachable!("NOT was pushed in"),
     }
 }
 

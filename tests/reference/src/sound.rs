@@ -1,8 +1,9 @@
-//! Which states are sound, by document 01's sentence and requests A.1, A.2, A.4 and A.5 of document 02, for the lines
+//! Which states are sound, by document 01's sentence and requests A.1, A.2, A.4, A.5 and A.6 of document 02, for the lines
 //! SPOIL of the program `examples`. A line changes one part of a copy of the state. Parts are these papers': what the
 //! program alone knows (its numbers for comparisons, connectives and forms of updates) is not here. A state's names are in
 //! small letters.
 
+use crate::pattern::stored;
 use crate::store::Kept;
 use crate::text::{has_repeat, is_name, Catalogue, Change, Column, Condition, Operand, Question, Update};
 use crate::text::{COMPARISONS, LIST, MARKS, NAME, QUESTIONS, ROWS, TABLES, UPDATES};
@@ -37,7 +38,7 @@ impl Compared {
             match condition {
                 Condition::Compare(left, _, right) => compared(*left, *right, false),
                 Condition::Null(operand, _) => compared(*operand, *operand, true),
-                Condition::Not(inner) => of(inner, place),
+                Condition::Not(inner) | Condition::Group(inner) => of(inner, place),
                 Condition::And(left, right) | Condition::Or(left, right) => [of(left, place), of(right, place)].concat(),
             }
         }
@@ -47,6 +48,21 @@ impl Compared {
     /// A null test is on one column, and on nothing else.
     fn passes(&self) -> bool {
         !self.is_null_test || matches!(self.left, Operand::Column(_)) && self.left == self.right
+    }
+}
+
+/// Of each comparison of a condition without NOT and parentheses, in the order of the text: does a sentence with this
+/// condition have it outside all OR, NOT and parentheses? A left side of AND that is more than a comparison stands in
+/// parentheses or under NOT in every such sentence.
+fn may_be_outer(condition: &Condition<Operand>) -> Vec<bool> {
+    match condition {
+        Condition::Compare(..) | Condition::Null(..) => vec![true],
+        Condition::And(left, right) => {
+            let is_comparison = matches!(**left, Condition::Compare(..) | Condition::Null(..));
+            [vec![is_comparison; left.comparisons().len()], may_be_outer(right)].concat()
+        }
+        Condition::Or(..) => vec![false; condition.comparisons().len()],
+        Condition::Not(_) | Condition::Group(_) => unreachable!("NOT was pushed in"),
     }
 }
 
@@ -64,6 +80,9 @@ pub struct QuestionPart {
     pub start: Option<usize>,
     pub columns: Vec<usize>,
     pub tested: Vec<Compared>,
+    /// Of each comparison: is it marked as standing outside all OR, NOT and parentheses, and can it be?
+    pub outer: Vec<bool>,
+    pub may_be_outer: Vec<bool>,
     pub marks: usize,
 }
 
@@ -87,7 +106,7 @@ impl UpdatePart {
 }
 
 impl QuestionPart {
-    pub fn of(catalogue: &Catalogue, question: &Question) -> QuestionPart {
+    pub fn of(catalogue: &Catalogue, question: &Question, outer: &[bool]) -> QuestionPart {
         let place = |column| catalogue.counted(question, column);
         let second = question.tables.get(1).copied();
         QuestionPart {
@@ -96,8 +115,15 @@ impl QuestionPart {
             start: second.map(|_| catalogue.tables[question.tables[0]].columns.len()),
             columns: question.columns.iter().map(|&column| place(column)).collect(),
             tested: Compared::all(&question.condition, &place),
+            outer: outer.to_vec(),
+            may_be_outer: stored(question).condition.as_ref().map_or(vec![], may_be_outer),
             marks: question.marks,
         }
+    }
+
+    /// Only a question over two tables reads these marks.
+    fn outer_passes(&self) -> bool {
+        self.second.is_none() || self.outer.iter().zip(&self.may_be_outer).all(|(is, may_be)| !is || *may_be)
     }
 }
 
@@ -190,6 +216,7 @@ impl State {
             (1..=LIST).contains(&question.columns.len())
                 && question.columns.iter().all(|&c| c < width)
                 && comparisons_pass(&question.tested)
+                && question.outer_passes()
                 && operands_pass(&operands(&question.tested), width, question.marks)
         })
     }
@@ -287,6 +314,10 @@ impl State {
             ("qstart", &[q]) => with(&mut self.questions, q, |question| question.start = Some(size)),
             ("qcount", &[q]) => with(&mut self.questions, q, |question| question.columns.resize(size, 0)),
             ("qselected", &[q, at]) => with(&mut self.questions, q, |question| put(Some(&mut question.columns), at, size)),
+            // Bit i is the mark of comparison i; those past the comparisons do not matter.
+            ("qouter", &[q]) if size <= 255 => with(&mut self.questions, q, |question| {
+                question.outer.iter_mut().enumerate().for_each(|(i, outer)| *outer = size >> i & 1 == 1);
+            }),
             ("qparameters", &[q]) => with(&mut self.questions, q, |question| question.marks = size),
             // IS NULL or IS NOT NULL, 0 or 1: the operands stay.
             ("qnull", &[q, at]) if size <= 1 => with(&mut self.questions, q, |question| to_null_test(&mut question.tested, at)),

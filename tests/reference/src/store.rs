@@ -2,9 +2,9 @@
 //! that both give the same results, that every kept answer is the plain store's, and that an answer is worked out
 //! anew only on one of four grounds. The calls whose names end in `_here` are the store alone, for `bench.rs`.
 
-use crate::meaning::{cell, holds, number, record, Rows, RECORD_ROWS};
-use crate::pattern::{agrees, patterns, patterns_of_pushed};
-use crate::plain::Plain;
+use crate::meaning::{all_true, cell, holds, number, record, Rows, RECORD_ROWS};
+use crate::pattern::{agrees, patterns, patterns_of_pushed, stored};
+use crate::plain::{worked_out, Plain};
 use crate::sound::{sizes_pass, QuestionPart, State, TablePart, UpdatePart};
 use crate::text::{Catalogue, Change, Statement};
 use std::collections::HashMap;
@@ -31,10 +31,8 @@ enum Event {
     Flushed,
 }
 
-/// For a question over two tables `rows_read` is the most that it may be.
 pub struct Answer {
     pub kept: bool,
-    pub paired: bool,
     pub rows_read: usize,
     pub record: Vec<u8>,
 }
@@ -59,6 +57,9 @@ pub struct Store {
     counts: Vec<usize>,
     /// The starting place of each table: where its oldest row lies in its area.
     starts: Vec<usize>,
+    /// The marks of each question's comparisons, in the order of the text: outside all OR, NOT and parentheses (A.6). They
+    /// are of the comparisons that a state holds, where NOT is pushed in.
+    outer: Vec<Vec<bool>>,
     /// The slot list, held ones first.
     pub order: Vec<usize>,
     pub held: usize,
@@ -66,7 +67,8 @@ pub struct Store {
     kept: Vec<Option<Kept>>,
     plain: Plain,
     history: Vec<Event>,
-    /// A part of the state was set (`set`): it is none that an opening gave, and nothing is asserted of it.
+    /// A part of the state beside these marks was set (`set`): it is none that an opening gave, and nothing is asserted
+    /// of it but that new answers are those of its rows.
     was_set: bool,
     /// The plain store's answers of the keys kept, with the updates done of their tables until then.
     answers: HashMap<Key, (Vec<usize>, Vec<u8>)>,
@@ -100,6 +102,7 @@ impl Store {
             catalogue: Catalogue::default(),
             counts: vec![],
             starts: vec![],
+            outer: vec![],
             order: (0..slots).collect(),
             held: 0,
             kept: vec![None; slots],
@@ -174,9 +177,13 @@ impl Store {
     pub fn add_here(&mut self, lent: (usize, usize), text: &[u8]) -> Result<(&'static str, usize), u8> {
         self.lent(lent)?;
         let statement = self.catalogue.read(self.cells.len(), text)?;
-        if let Statement::Table(_) = statement {
-            self.counts.push(0);
-            self.starts.push(0);
+        match &statement {
+            Statement::Table(_) => {
+                self.counts.push(0);
+                self.starts.push(0);
+            }
+            Statement::Question(question) => self.outer.push(question.outer()),
+            Statement::Update(_) => {}
         }
         Ok(self.catalogue.append(statement))
     }
@@ -185,7 +192,15 @@ impl Store {
         self.last_ground = None;
         self.last_evicted = false;
         if self.was_set {
-            return self.ask_here(lent, n, values, buffer);
+            let result = self.ask_here(lent, n, values, buffer);
+            if let Some(answer) = result.as_ref().ok().filter(|answer| !answer.kept) {
+                let question = &self.catalogue.questions[n as usize];
+                let tables: Vec<Vec<Vec<i32>>> = question.tables.iter().map(|&table| self.rows(table)).collect();
+                let rows: Vec<&[Vec<i32>]> = tables.iter().map(Vec::as_slice).collect();
+                let all = worked_out(question, &rows, values);
+                assert_eq!(Ok(&answer.record), all.as_ref(), "the record is that of all rows or pairs");
+            }
+            return result;
         }
         let plain = self.plain.ask(lent, n, values, buffer);
         let result = self.ask_here(lent, n, values, buffer);
@@ -194,6 +209,11 @@ impl Store {
                 assert_eq!(&answer.record, record, "the record is the plain store's");
                 self.last_length = record.len();
                 let key = Key { question: n as usize, values: values.to_vec() };
+                // Where other marks were set, the state is that of another text.
+                if answer.kept || self.outer[key.question] == self.catalogue.questions[key.question].outer() {
+                    let rows_read = if answer.kept { 0 } else { self.plain.rows_read(key.question, values) };
+                    assert_eq!(answer.rows_read, rows_read, "the rows read are as many as the papers say");
+                }
                 if !answer.kept {
                     self.last_ground = Some(self.ground(&key, record.len()).expect("new, but on none of the grounds"));
                 }
@@ -216,7 +236,6 @@ impl Store {
         if values.len() != question.marks {
             return Err(11);
         }
-        let paired = question.tables.len() == 2;
         let holder = (0..self.slots).find(|&slot| self.kept[slot].as_ref().is_some_and(|kept| kept.key == key));
         if let Some(slot) = holder {
             let length = self.kept[slot].as_ref().unwrap().length;
@@ -226,7 +245,7 @@ impl Store {
             self.to_front(slot);
             let start = slot * self.slot_bytes;
             let record = self.memory[start..start + length].to_vec();
-            return Ok(Answer { kept: true, paired, rows_read: 0, record });
+            return Ok(Answer { kept: true, rows_read: 0, record });
         }
         let mut rows_read = 0;
         let mut listed = Vec::new();
@@ -237,11 +256,15 @@ impl Store {
         };
         let first = question.tables[0];
         let second = question.tables.get(1).map(|&table| (table, self.rows(table)));
+        let stored = stored(question);
+        let such = stored.outer_of_first(&self.outer[key.question]);
         for i in 0..self.counts[first] {
             let row = self.row(first, i);
             rows_read += 1;
             match &second {
                 None => list(&[(first, &row)]),
+                // A row of the first table that fails one of these is in no pair that is listed.
+                Some(_) if !all_true(&such, first, &row, values) => {}
                 Some((table, others)) => {
                     for other in others {
                         rows_read += 1;
@@ -266,7 +289,7 @@ impl Store {
             let start = slot * self.slot_bytes;
             self.memory[start..start + record.len()].copy_from_slice(&record);
         }
-        Ok(Answer { kept: false, paired, rows_read, record })
+        Ok(Answer { kept: false, rows_read, record })
     }
 
     fn to_front(&mut self, slot: usize) {
@@ -434,13 +457,17 @@ impl Store {
                 start: self.starts[number],
             })
         };
+        let question = |number: usize| {
+            let question = &self.catalogue.questions[number];
+            Some(QuestionPart::of(&self.catalogue, question, &self.outer[number]))
+        };
         State {
             cells: self.cells.len(),
             bytes: self.memory.len(),
             slots: self.slots,
             slot_bytes: self.slot_bytes,
             tables: (0..self.catalogue.tables.len()).map(table).collect(),
-            questions: self.catalogue.questions.iter().map(|q| Some(QuestionPart::of(&self.catalogue, q))).collect(),
+            questions: (0..self.catalogue.questions.len()).map(question).collect(),
             updates: self.catalogue.updates.iter().map(|u| Some(UpdatePart::of(u))).collect(),
             kept: self.kept.clone(),
             order: self.order.clone(),
@@ -452,7 +479,7 @@ impl Store {
     pub fn set(&mut self, part: &str, numbers: &[i32]) -> Option<()> {
         let mut state = self.state();
         state.spoil(part, numbers)?;
-        if !state.is_sound() || !["length", "keyvalue", "capacity", "start", "ring"].contains(&part) {
+        if !state.is_sound() || !["length", "keyvalue", "capacity", "start", "ring", "qouter"].contains(&part) {
             return None;
         }
         let parts = state.tables.iter().flatten();
@@ -461,8 +488,11 @@ impl Store {
             table.ring = part.ring;
             *start = part.start;
         }
+        for (outer, part) in self.outer.iter_mut().zip(state.questions.iter().flatten()) {
+            outer.clone_from(&part.outer);
+        }
         self.kept = state.kept;
-        self.was_set = true;
+        self.was_set |= part != "qouter";
         Some(())
     }
 

@@ -20,14 +20,36 @@ pub enum NullTest {
 }
 
 /// A condition over operands of kind `O`: as written (`Written`) or with the names looked up (`Operand`). In a text a
-/// null test is on a column.
+/// null test is on a column. A row of ANDs or of ORs leans to the right: `a AND b AND c` is `a` and then `b AND c`.
 #[derive(Clone, PartialEq, Debug)]
 pub enum Condition<O> {
     Compare(O, Relation, O),
     Null(O, NullTest),
     Not(Box<Condition<O>>),
+    /// In parentheses.
+    Group(Box<Condition<O>>),
     And(Box<Condition<O>>, Box<Condition<O>>),
     Or(Box<Condition<O>>, Box<Condition<O>>),
+}
+
+impl<O> Condition<O> {
+    /// Its comparisons, in the order of the text.
+    pub fn comparisons(&self) -> Vec<&Condition<O>> {
+        match self {
+            Condition::Compare(..) | Condition::Null(..) => vec![self],
+            Condition::Not(inner) | Condition::Group(inner) => inner.comparisons(),
+            Condition::And(left, right) | Condition::Or(left, right) => [left.comparisons(), right.comparisons()].concat(),
+        }
+    }
+
+    /// Of each of these: does it stand outside all OR, NOT and parentheses, alone or joined by AND (A.6)?
+    pub fn outer(&self) -> Vec<bool> {
+        match self {
+            Condition::Compare(..) | Condition::Null(..) => vec![true],
+            Condition::And(left, right) => [left.outer(), right.outer()].concat(),
+            Condition::Or(..) | Condition::Not(_) | Condition::Group(_) => vec![false; self.comparisons().len()],
+        }
+    }
 }
 
 /// A column as written, `level` or `stage.level`. Names are kept everywhere as they were typed.
@@ -61,6 +83,14 @@ pub enum Operand<C = Column> {
 }
 
 impl Operand {
+    /// The table whose column it is.
+    pub fn table(self) -> Option<usize> {
+        match self {
+            Operand::Column(column) => Some(column.table),
+            Operand::Constant(_) | Operand::Mark(_) => None,
+        }
+    }
+
     pub fn placed(self, place: impl Fn(Column) -> usize) -> Operand<usize> {
         match self {
             Operand::Column(column) => Operand::Column(place(column)),
@@ -97,6 +127,27 @@ pub struct Question {
     pub columns: Vec<Column>,
     pub condition: Option<Condition<Operand>>,
     pub marks: usize,
+}
+
+impl Question {
+    /// Of each comparison, in the order of the text: does it stand outside all OR, NOT and parentheses?
+    pub fn outer(&self) -> Vec<bool> {
+        self.condition.as_ref().map_or(vec![], Condition::outer)
+    }
+
+    /// The comparisons marked so that name no column of the second table.
+    pub fn outer_of_first(&self, outer: &[bool]) -> Vec<&Condition<Operand>> {
+        let is_second = |operand: &Operand| self.tables.get(1).is_some_and(|second| operand.table() == Some(*second));
+        let names_second = |comparison: &Condition<Operand>| match comparison {
+            Condition::Compare(left, _, right) => is_second(left) || is_second(right),
+            Condition::Null(operand, _) => is_second(operand),
+            _ => unreachable!("a comparison"),
+        };
+        let all = self.condition.as_ref().map_or(vec![], Condition::comparisons);
+        assert_eq!(all.len(), outer.len());
+        let marked = all.into_iter().zip(outer).filter(|(_, marked)| **marked);
+        marked.map(|(comparison, _)| comparison).filter(|comparison| !names_second(comparison)).collect()
+    }
 }
 
 /// Set columns are places in the updated table.
@@ -333,17 +384,17 @@ impl Reader {
     }
 
     fn any_of(&mut self, depth: usize) -> Option<Condition<Written>> {
-        let mut left = self.all_of(depth)?;
-        while self.keyword("OR").is_some() {
-            left = Condition::Or(Box::new(left), Box::new(self.all_of(depth)?));
+        let left = self.all_of(depth)?;
+        if self.keyword("OR").is_some() {
+            return Some(Condition::Or(Box::new(left), Box::new(self.any_of(depth)?)));
         }
         Some(left)
     }
 
     fn all_of(&mut self, depth: usize) -> Option<Condition<Written>> {
-        let mut left = self.single(depth)?;
-        while self.keyword("AND").is_some() {
-            left = Condition::And(Box::new(left), Box::new(self.single(depth)?));
+        let left = self.single(depth)?;
+        if self.keyword("AND").is_some() {
+            return Some(Condition::And(Box::new(left), Box::new(self.all_of(depth)?)));
         }
         Some(left)
     }
@@ -356,7 +407,7 @@ impl Reader {
         if self.sign("(").is_some() {
             let inner = self.any_of(depth + 1)?;
             self.sign(")")?;
-            return Some(inner);
+            return Some(Condition::Group(Box::new(inner)));
         }
         self.comparisons += 1;
         self.deepest = self.deepest.max(depth);
@@ -503,6 +554,7 @@ impl Catalogue {
             }
             Condition::Null(operand, test) => Condition::Null(self.operand(tables, operand)?, *test),
             Condition::Not(inner) => Condition::Not(Box::new(self.condition(tables, inner)?)),
+            Condition::Group(inner) => Condition::Group(Box::new(self.condition(tables, inner)?)),
             Condition::And(left, right) => {
                 Condition::And(Box::new(self.condition(tables, left)?), Box::new(self.condition(tables, right)?))
             }

@@ -22,14 +22,14 @@ no-comparisons-requires c κs = search needs
 loop-holds : tie.Need-loop-holds Inv-loop μ-loop
 loop-holds c = resolving-start _ _ _ _ _ _ _ (c .no-comparisons .ensures) (c .before .before .pre .2)
 
-mul-op : tie.Need-mul-op Inv-loop μ-loop
-mul-op c = search needs
+mul-node : tie.Need-mul-node Inv-loop μ-loop
+mul-node c = search needs
 
-mul-op-2 : tie.Need-mul-op-2 Inv-loop μ-loop
-mul-op-2 c = search needs
+mul-node-2 : tie.Need-mul-node-2 Inv-loop μ-loop
+mul-node-2 c = search needs
 
-array-read-op : tie.Need-array-read-op Inv-loop μ-loop
-array-read-op c = search needs
+array-read-node : tie.Need-array-read-node Inv-loop μ-loop
+array-read-node c = search needs
 
 mul-comparison-at : tie.Need-mul-comparison-at Inv-loop μ-loop
 mul-comparison-at c = search needs
@@ -96,11 +96,13 @@ loop-again c =
 steps-at-requires : tie.Need-steps-at-requires Inv-loop μ-loop
 steps-at-requires c κs = search needs
 
-cast-t37 : tie.Need-cast-t37 Inv-loop μ-loop
-cast-t37 c = search needs
+cast-t38 : tie.Need-cast-t38 Inv-loop μ-loop
+cast-t38 c = search needs
 
 returns : tie.Need-returns Inv-loop μ-loop
-returns c = resolving-end _ _ _ _ _ _ _ _ _ _ _ (c .before .loop-test .left) (c .before .before .loop .inv) (c .steps-at .ensures _ _)
+returns c =
+    let a = c .before .before .before .before .before .args in
+    resolving-end _ _ _ _ _ _ _ _ _ _ _ (c .before .loop-test .left) (c .before .before .loop .inv) (c .steps-at .ensures (a .scope .dotted) (a .text .now))
 
 pub condition-at-spec : {M : Type 1} → statement M
 condition-at-spec =
@@ -110,9 +112,9 @@ condition-at-spec =
     μ-loop
     no-comparisons-requires
     loop-holds
-    mul-op
-    mul-op-2
-    array-read-op
+    mul-node
+    mul-node-2
+    array-read-node
     mul-comparison-at
     add-comparison-at
     mul-comparison-at-2
@@ -131,5 +133,5 @@ condition-at-spec =
     loop-less
     loop-again
     steps-at-requires
-    cast-t37
+    cast-t38
     returns)

@@ -6,9 +6,10 @@ use mathlib.Core.List.{List, [], _∷_, map}
 use Prim.Native.Nat.{ℕ, _+_, _-_, _*_, _≤_}
 use native.Mathlib.Omega.{arith}
 use lib.ListN.{length, getD, length-map}
+use Rattle.statement.specs.Places.{nodeOn}
 use Rattle.statement.specs.Compiled.{padded, stepOf}
 use Rattle.statement.proofs.Walks.{Fills, fills-start, fills-more, fills-end}
-use Rattle.statement.proofs.Left.{nodesLeft, length-nodes, nodes-all, nodes-cons, nodes-none}
+use Rattle.statement.proofs.Left.{nodesLeft, length-threes, threes-all, threes-cons, threes-none}
 use Rattle.statement.proofs.Sets.{step-node, steps-any}
 use Rattle.statement.proofs.assembling.steps_at.Statement.{statement}
 use Rattle.statement.proofs.assembling.steps_at.Tie as tie
@@ -26,7 +27,7 @@ abbrev μ-loop : tie.MeasureT-loop
 loop-holds : tie.Need-loop-holds Inv-loop μ-loop
 loop-holds c =
     let a = c .args in
-    let l = length-map (nodesLeft false [] (a .nodes) 0 (a .t1)) stepOf ∙ ap length (nodes-all false [] (a .nodes) (a .t1)) ∙ length-nodes false [] (a .nodes) (a .t1) in
+    let l = length-map (nodesLeft false [] (a .nodes) 0 (a .t1)) stepOf ∙ ap length (threes-all (nodeOn false []) (a .nodes) (a .t1)) ∙ length-threes (nodeOn false []) (a .nodes) (a .t1) in
     (omega arith, fills-start 15 0 _ _ refl (omega (arith, l)))
 
 mul-k : tie.Need-mul-k Inv-loop μ-loop
@@ -56,7 +57,7 @@ loop-again c =
     let l = c .before .before .loop in
     let t = c .before .loop-test .taken in
     let k = step-node false [] (getD (a .t1) (3 * l .i) 0) (getD (a .t1) (3 * l .i + 1) 0) (getD (a .t1) (3 * l .i + 2) 0) in
-    let q = ap (map stepOf) (nodes-cons false [] (a .nodes) (l .i) (a .t1) t) ∙ ap (λ (x : ℕ). x ∷ stepsLeft (a .nodes) (l .i + 1) (a .t1)) (k ∙ sym (c .step-in .ensures)) in
+    let q = ap (map stepOf) (threes-cons (nodeOn false []) (a .nodes) (l .i) (a .t1) t) ∙ ap (λ (x : ℕ). x ∷ stepsLeft (a .nodes) (l .i + 1) (a .t1)) (k ∙ sym (c .step-in .ensures)) in
     (omega (arith, t), fills-more _ _ _ _ _ _ q (l .inv .1))
 
 returns : tie.Need-returns Inv-loop μ-loop
@@ -64,8 +65,8 @@ returns c =
     let a = c .before .before .args in
     let l = c .before .loop in
     λ b s.
-    fills-end _ _ _ _ (ap (map stepOf) (nodes-none false [] (a .nodes) (l .i) (a .t1) (c .loop-test .left))) (l .inv .1)
-    ∙ ap (padded 15 0) (ap (map stepOf) (nodes-all false [] (a .nodes) (a .t1)) ∙ steps-any false b [] s (a .nodes) (a .t1))
+    fills-end _ _ _ _ (ap (map stepOf) (threes-none (nodeOn false []) (a .nodes) (l .i) (a .t1) (c .loop-test .left))) (l .inv .1)
+    ∙ ap (padded 15 0) (ap (map stepOf) (threes-all (nodeOn false []) (a .nodes) (a .t1)) ∙ steps-any false b [] s (a .nodes) (a .t1))
 
 pub steps-at-spec : {M : Type 1} → statement M
 steps-at-spec =

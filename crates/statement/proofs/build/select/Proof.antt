@@ -2,7 +2,7 @@
 use borrow.Author.Needs.{needs}
 use Prim.Native.Nat.{zero-le}
 use Rattle.statement.specs.Built.{placeIn, widthIn, startIn, twiceIn}
-use Rattle.statement.proofs.Assembled.{condition-few, select-made}
+use Rattle.statement.proofs.Assembled.{condition-few, marks-few-noted, select-made}
 use Rattle.statement.proofs.build.select.Statement.{statement}
 use Rattle.statement.proofs.build.select.Tie as tie
 
@@ -39,6 +39,14 @@ refusal-of-requires c κs =
     let s = a .scope in
     (d .pre .listed, condition-few (s .dotted) (placeIn (s .dotted) s) (a .text .now) (a .places) (a .e) 0 (d .pre) _ (c .before .before .condition-at .ensures))
 
+cast-outer-of : tie.Need-cast-outer-of
+cast-outer-of c = search needs
+
+outer-of-requires : tie.Need-outer-of-requires
+outer-of-requires c κs =
+    let d = c .before .before .before .before .before .before .before .before .before .before .before in
+    (d .pre .nodes, marks-few-noted (d .args .text .now) (d .args .places) (d .args .e) (d .pre))
+
 start-requires : tie.Need-start-requires
 start-requires c κs = search needs
 
@@ -47,11 +55,11 @@ asked-requires c κs = search needs
 
 returns : tie.Need-returns
 returns c =
-    let a = c .before .before .before .before .before .before .before .before .before .before .before .before .args in
+    let a = c .before .before .before .before .before .before .before .before .before .before .before .before .before .before .args in
     let s = a .scope in
-    select-made (s .dotted) (placeIn (s .dotted) s) (widthIn (s .dotted) s) (a .text .now) (a .list) (a .places) (a .e) (a .table) (a .second) (startIn (s .dotted) s) (twiceIn (s .dotted) s) (a .queries) _ _ _ _ _ _ _
-    (c .before .before .before .before .before .before .before .columns-at .ensures) (c .before .before .before .before .before .condition-at .ensures) (c .before .before .before .before .width .ensures) (c .before .before .before .is-twice .ensures) (c .before .start .ensures)
-    (c .before .before .refusal-of .ensures) (c .asked .ensures)
+    select-made (s .dotted) (placeIn (s .dotted) s) (widthIn (s .dotted) s) (a .text .now) (a .list) (a .places) (a .e) (a .table) (a .second) (startIn (s .dotted) s) (twiceIn (s .dotted) s) (a .queries) _ _ _ _ _ _ _ _
+    (c .before .before .before .before .before .before .before .before .before .columns-at .ensures) (c .before .before .before .before .before .before .before .condition-at .ensures) (c .before .before .before .before .before .before .width .ensures) (c .before .before .before .before .before .is-twice .ensures) (c .before .start .ensures) (c .before .before .outer-of .ensures)
+    (c .before .before .before .before .refusal-of .ensures) (c .asked .ensures)
 
 pub select-spec : {M : Type 1} → statement M
 select-spec =
@@ -66,6 +74,8 @@ select-spec =
     width-requires
     is-twice-requires
     refusal-of-requires
+    cast-outer-of
+    outer-of-requires
     start-requires
     asked-requires
     returns)

@@ -1,6 +1,7 @@
 -- `conditions::put` meets its contract. Assumes nothing.
 use mathlib.Core.Path.{refl}
 use native.Mathlib.Omega.{arith}
+use Rattle.statement.specs.Places.{nodeOn}
 use Rattle.statement.proofs.Nodes.{noted}
 use borrow.Author.Needs.{needs}
 use Rattle.statement.proofs.conditions.put.Statement.{statement}
@@ -49,10 +50,14 @@ returns : tie.Need-returns
 returns c =
     let a = c .before .before .before .before .before .args in
     let l = c .before .room .ensures in
-    record { counted = refl; noted = λ b s h. noted b s (a .node) (a .left) (a .right) (a .c .nodes) (a .places .now) (omega arith) }
+    record {
+      counted = refl;
+      noted = λ b s h. noted (nodeOn b s) (a .node) (a .left) (a .right) (a .c .nodes) (a .places .now) (omega arith);
+      coded = λ h. noted (λ k x y. k) (a .node) (a .left) (a .right) (a .c .nodes) (a .places .now) (omega arith);
+    }
 
 returns-2 : tie.Need-returns-2
-returns-2 c = record { counted = refl; noted = λ b s h. absurd (omega arith) }
+returns-2 c = record { counted = refl; noted = λ b s h. absurd (omega arith); coded = λ h. absurd (omega arith) }
 
 pub put-spec : {M : Type 1} → statement M
 put-spec =
