@@ -1,5 +1,7 @@
 // Answer records: a row shown as a part of the record, and the bytes of a record written to a lent buffer.
 // A record is four bytes, the length of what follows; a version byte; a byte, columns; two bytes, rows; then four bytes a value. All big-endian.
+#![tactic(auto)]
+
 ghost use Rattle.std.specs.Prelude.{◌≡◌, [], ◌∷◌, ◌+◌, ◌≤◌, leb, get_or};
 ghost use Rattle.meaning.specs.Record.{bits_of, bytes4, four_at, row_count, row_bytes, is_record, has_row, row_refusal, row_start, row_part};
 ghost use Rattle.answer.specs.Answer.{record_length, header, put, past};

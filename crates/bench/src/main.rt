@@ -3,6 +3,8 @@
 // `W n` shows row n of the last answer, `S` tests the state, `N` does nothing. `L` empties the list. `R n` makes n calls, round the list, each on the state that the last
 // one left; `K n` makes each of n calls on the state that was there before; `C n` is `R n` with a checksum of the answers. `T` prints the processor time used. Other lines
 // are comments.
+#![tactic(auto)]
+
 mod calls; // the calls, counted
 mod plan; // a line read into a call of the list
 

@@ -1,4 +1,6 @@
 // The store that caches answers: its state by value, and the calls open, add, ask, update and flush. The tables' cells and the cache memory are lent at each call.
+#![tactic(auto)]
+
 mod matching; // which cached answers an update invalidates
 mod lent; // bytes and cells of the lent memories
 mod sound; // the test of a state

@@ -1,4 +1,6 @@
 // Lines of `desk`: a line read into a command, the command done on a store, and what is printed for it as bytes. No input or output.
+#![tactic(auto)]
+
 mod lines; // a line of the input, and what it says
 mod text; // what is printed
 

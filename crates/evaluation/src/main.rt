@@ -1,5 +1,7 @@
 // A store without kept answers: a line of standard input each is done on the tables that the lines before it made. There are 8,192 cells.
 // `+TEXT` compiles a statement text, `?N v v ..` asks question N with these values, and `!N v v ..` makes update N with these.
+#![tactic(auto)]
+
 ghost use Rattle.std.specs.Prelude.{◌≤◌, ◌≡◌, length};
 
 use script::{least, print, print_line};

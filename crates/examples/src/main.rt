@@ -2,6 +2,8 @@
 // `OPEN cells memory slots bytes`, `ADD text`, `ASK number buffer v v ..`, `DO number v v ..` and `FLUSH` make a call and print what it gives. `LEND cells memory` says
 // how much the next calls are lent, `ROW i` shows a row of the last answer, and `SLOTS` prints the order of use. `SET field n ..` changes a field of the state, and
 // `SPOIL field n ..` prints what a flush gives on a state changed so. A line that starts with `#` is a comment.
+#![tactic(auto)]
+
 mod fields; // a field of the state, changed by its name
 mod printing; // what is printed
 

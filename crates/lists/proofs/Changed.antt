@@ -18,6 +18,7 @@ use Rattle.lists.proofs.Places.{length-keep}
 
 module _ {A : Type 0} where
   pub member-has : {P : A → Type 0} {l : List A} {x : A} → All P l → Member x l → P x
+  member-has {P} nil m = elim m [ ]
   member-has {P} (cons p h) (head e) = subst P (sym e) p
   member-has (cons p h) (tail m) = member-has h m
 
@@ -26,9 +27,10 @@ module _ {A : Type 0} where
   members-have (x ∷ l) f = cons (f x (head refl)) (members-have l (λ y m. f y (tail m)))
 
   -- a member that passes the test is kept
-  pub member-keep : (p : A → Bool) {l : List A} {x : A} → p x ≡ true → Member x l → Member x (keep p l)
-  member-keep p {l = y ∷ l} {x} h (head e) = rw (sym (ap p e) ∙ h) (head e)
-  member-keep p {l = y ∷ l} {x} h (tail m) = go (p y) (member-keep p h m)
+  pub member-keep : (p : A → Bool) {x : A} {l : List A} → p x ≡ true → Member x l → Member x (keep p l)
+  member-keep p {x} {l = []} h m = elim m [ ]
+  member-keep p {x} {l = y ∷ l} h (head e) = rw (sym (ap p e) ∙ h) (head e)
+  member-keep p {x} {l = y ∷ l} h (tail m) = go (p y) (member-keep p h m)
     where
       go : (b : Bool) → Member x (keep p l) → Member x (cons_if b y (keep p l))
       go true k = tail k

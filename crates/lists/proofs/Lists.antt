@@ -47,12 +47,12 @@ module _ {A : Type 0} where
   pub All-take : {P : A → Type 0} {l : List A} (n : ℕ) → All P l → All P (take n l)
   All-take zero h = nil
   All-take (suc n) nil = nil
-  All-take (suc n) (cons p h) = cons p (All-take n h)
+  All-take (suc n) (cons {x = x} {xs = xs} p h) = cons p (All-take {l = xs} n h)
 
   pub All-drop : {P : A → Type 0} {l : List A} (n : ℕ) → All P l → All P (drop n l)
   All-drop zero h = h
   All-drop (suc n) nil = nil
-  All-drop (suc n) (cons p h) = All-drop n h
+  All-drop (suc n) (cons {x = x} {xs = xs} p h) = All-drop {l = xs} n h
 
   pub All-mid : {P : A → Type 0} (a : List A) (x : A) (b : List A) → All P (a ++ x ∷ b) → All P (x ∷ a ++ b)
   All-mid a x b h = cons (All-head (All-right a h)) (All-append (All-left a (x ∷ b) h) (All-tail (All-right a h)))

@@ -1,1 +1,2 @@
 // No code: definitions on lists and numbers (specs/) and their laws (proofs/).
+#![tactic(auto)]

@@ -188,7 +188,10 @@ module _ {C : Type 0} (a_column : Reader C) (n : ℕ) (ts : List Token) where
 
   pub reads-compare : begins (keyword NOT) ts ≡ false → begins lparen ts ≡ false → a_condition a_column (suc n) atom ts ≡ a_comparison a_column ts
   unfolding a_condition
-  reads-compare i j = passing-stops _ _ _ ts i ∙ passing-stops _ _ _ ts j
+  reads-compare i j =
+      passing-stops (keyword NOT) (a_condition a_column n atom >>= λ c. done (negate c))
+      (passing lparen (a_condition a_column n disjunction >>= λ c. expect rparen >> done (group c)) (a_comparison a_column)) ts i
+      ∙ passing-stops lparen (a_condition a_column n disjunction >>= λ c. expect rparen >> done (group c)) (a_comparison a_column) ts j
 
   pub reads-and : a_condition a_column (suc n) conjunction ts
       ≡ then (a_condition a_column n atom ts) (λ c. passing (keyword AND) (a_condition a_column n conjunction >>= λ d. done (both c d)) (done (alone c)))
@@ -293,13 +296,15 @@ module _ {C : Type 0} {col : C → List Token → List Token} {a_column : Reader
   complete-condition (group c) more zero h s = absurd (omega arith)
   complete-condition (group c) more (suc n) h s = then_some _ (complete-condition c (rparen ∷ more) n (omega arith) (refl, refl))
   complete-condition (alone c) more zero h s = absurd (omega arith)
-  complete-condition (alone c) more (suc n) h s = then_some _ (complete-condition c more n (omega arith) tt) ∙ passing-stops _ _ _ more s
+  complete-condition (alone c) more (suc n) h s = then_some _ (complete-condition c more n (omega arith) tt)
+      ∙ passing-stops (keyword AND) (a_condition a_column n conjunction >>= λ d. done (both c d)) (done (alone c)) more s
   complete-condition (both c d) more zero h s = absurd (omega arith)
   complete-condition (both c d) more (suc n) h s =
       then_some _ (complete-condition c (keyword AND ∷ spell_condition col d more) n (omega arith) tt)
       ∙ then_some _ (complete-condition d more n (omega arith) s)
   complete-condition (single c) more zero h s = absurd (omega arith)
-  complete-condition (single c) more (suc n) h s = then_some _ (complete-condition c more n (omega arith) s.0) ∙ passing-stops _ _ _ more s.1
+  complete-condition (single c) more (suc n) h s = then_some _ (complete-condition c more n (omega arith) s.0)
+      ∙ passing-stops (keyword OR) (a_condition a_column n disjunction >>= λ d. done (either c d)) (done (single c)) more s.1
   complete-condition (either c d) more zero h s = absurd (omega arith)
   complete-condition (either c d) more (suc n) h s =
       then_some _ (complete-condition c (keyword OR ∷ spell_condition col d more) n (omega arith) refl)
@@ -340,7 +345,7 @@ StopsWhere more = (begins (keyword WHERE) more ≡ false) × Stops disjunction m
 
 module _ {C : Type 0} {col : C → List Token → List Token} {a_column : Reader C} (k : Column col a_column) where
   pub complete-where : (w : Optional (Test C)) (more : List Token) (n : ℕ) → height_in w ≤ n → StopsWhere more → a_where a_column n (spell_where_to col w more) ≡ some (w, more)
-  complete-where always more n h s = passing-stops _ _ _ more s.0
+  complete-where always more n h s = passing-stops (keyword WHERE) (a_condition a_column n disjunction >>= λ c. done (under c)) (done always) more s.0
   complete-where (under c) more n h s = then_some _ (complete-condition k c more n h s.1)
 
   pub high-where : (w : Optional (Test C)) (more : List Token) → height_in w + 3 * length more ≤ 3 * length (spell_where_to col w more)
@@ -384,7 +389,7 @@ module _ {A : Type 0} {sp : A → List Token → List Token} {item : Reader A} w
   pub complete-list : Complete sp item → (xs : Listed A) (more : List Token) (n : ℕ) → size xs ≤ n → begins comma more ≡ false
       → a_list item n (spell_list sp xs more) ≡ some (xs, more)
   complete-list f (last x) more zero h s = absurd (omega arith)
-  complete-list f (last x) more (suc n) h s = then_some _ (f.back x more) ∙ passing-stops _ _ _ more s
+  complete-list f (last x) more (suc n) h s = then_some _ (f.back x more) ∙ passing-stops comma (a_list item n >>= λ xs. done (next x xs)) (done (last x)) more s
   complete-list f (next x xs) more zero h s = absurd (omega arith)
   complete-list f (next x xs) more (suc n) h s =
       then_some _ (f.back x (comma ∷ spell_list sp xs more)) ∙ then_some _ (complete-list f xs more n (omega arith) s)

@@ -1,1 +1,2 @@
 // No code: the definitions of document 01 (specs/) and the theorems over them (proofs/).
+#![tactic(auto)]

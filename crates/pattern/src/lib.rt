@@ -1,4 +1,6 @@
 // Which cached answers an update can change: for a query and an update, the pattern of each joint clause of the two (document 01, "Patterns", rules 1 to 7).
+#![tactic(auto)]
+
 mod filling; // entries with the update's values
 mod joint; // a joint clause in arrays
 mod labels; // the classes of a joint clause, and its pattern

@@ -1,5 +1,7 @@
 // The patterns of questions and updates. A line of standard input each: a TABLE text adds a table, a SELECT text is the question from then on, and of any other
 // statement the patterns with that question are printed, a line each. A line that begins with a number sign is printed as it is.
+#![tactic(auto)]
+
 use pattern::{Entry, Pattern, Patterns};
 use script::{least, print};
 use table::{Comparison, Condition, Name, Query, Statement, Table, Update};

@@ -1,4 +1,6 @@
 // The stored scripts of data/, each given to a store of its own: what is printed for them is held to what an independent store printed (tests/store-scripts).
+#![tactic(auto)]
+
 const SCRIPTS: u8 = 24;
 
 // The two digits of a number below 100, and `.desk` behind them.

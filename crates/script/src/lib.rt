@@ -1,4 +1,6 @@
 // Scripts of test programs: the lines, words and numbers of a text, and what is printed on standard output.
+#![tactic(auto)]
+
 mod numbers; // the numbers of a line
 mod printing; // what is printed
 mod words; // the lines and words of a text

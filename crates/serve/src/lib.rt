@@ -1,4 +1,6 @@
 // A store at a descriptor: the lines of an input are answered one by one, and what is printed for a line is written as soon as it is answered.
+#![tactic(auto)]
+
 ghost use Rattle.std.specs.Prelude.{◌≡◌, true, [], ◌≤◌, ◌<◌, length, take};
 ghost use Rattle.cache.specs.Run.{opened};
 ghost use Rattle.serve.specs.Input.{most-held, fed};

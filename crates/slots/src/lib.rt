@@ -1,4 +1,6 @@
 // The key of a cached answer, and the slot list: the order of use of the slots. Both by value. Every function answers for every struct, also one that is not sound.
+#![tactic(auto)]
+
 mod order; // slots moved in the order of use, and the test of it
 mod twice; // fingerprints of keys, and whether a key is held twice
 mod values; // the values of a key

@@ -1,5 +1,7 @@
 // The tests of stored tables and statements: whether each is such as a text compiles to. They run at every call of a store, so names are compared as numbers,
 // and of the tables a statement's test needs only how many columns each has.
+#![tactic(auto)]
+
 mod conditions; // steps and comparisons
 mod names; // names, and tables by themselves
 mod statements; // questions and updates by themselves

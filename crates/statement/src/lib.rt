@@ -1,4 +1,6 @@
 // The table layer: statement texts to statements in which names are positions and question marks are numbered. Nothing of a text is needed afterwards.
+#![tactic(auto)]
+
 mod operators; // opposites, and comparisons by the order of their sides
 mod conditions; // the readers of OR, AND and single conditions
 mod sentences; // the five forms: where each token of a sentence stands

@@ -1,5 +1,7 @@
 // The table layer: statement texts (crate `statement`), answer records (crate `answer`), and here evaluation: rows in the lent cells are tested, listed and changed.
 // What lies above names this crate alone.
+#![tactic(auto)]
+
 mod changes; // rows inserted, updated, deleted
 mod listing; // questions: the rows listed, written as a record
 mod pairs; // questions over two tables: the pairs of rows listed

@@ -1,5 +1,7 @@
 // Compiles statement texts, a line of standard input each, beside the tables that the lines before it made, and prints what each comes to. A line that is
 // just an exclamation mark empties the store. There are 5,000 cells.
+#![tactic(auto)]
+
 use script::{least, print, print_item, print_line, print_signed};
 use statement::{
     Comparison, Condition, Name, Operand, Query, Setting, Statement, Step, Table, Update, Value,

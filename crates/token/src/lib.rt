@@ -1,4 +1,6 @@
 // The tokens of a statement text.
+#![tactic(auto)]
+
 ghost use Rattle.std.specs.Prelude.{◌≡◌, true, false, cond, ◌+◌, ◌-◌, ◌*◌, ◌≤◌, ◌<◌, min, pos, neg_ℤ, length, get_or, drop};
 ghost use Rattle.lists.specs.Lists.{take_while};
 ghost use Rattle.meaning.specs.Tokens.{is_digit, is_small, is_capital, is_name_byte, is_word_byte, is_minus, folded_byte, decimal, constant as constant_token, other, keywords, keyword_or};

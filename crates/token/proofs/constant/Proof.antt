@@ -16,41 +16,41 @@ use Rattle.token.proofs.constant.Tie as tie
 negative-requires : tie.Need-negative-requires
 negative-requires c κs = search rules
 
-returns : tie.Need-returns
+returns : tie.Need-returns-then-n-le2147483648
 returns c =
     let a = c.before.before.before.args in
     let h : a.n ≤ 2147483648 = omega arith in
     let q : to_z w32 (of_z w32 c.negative.result) ≡ neg_ℤ (pos a.n) = rw c.negative.ensures (to_z-of_z (neg_32 a.n h)) in
-    rw c.before.before.if1.true (constant-taken true a.n a.start a.next _ h q)
+    rw c.before.before.if-minus.true (constant-taken true a.n a.start a.next _ h q)
 
 plain-requires : tie.Need-plain-requires
 plain-requires c κs = tt
 
-returns-2 : tie.Need-returns-2
+returns-2 : tie.Need-returns-then-minus
 returns-2 c =
     let a = c.before.before.before.args in
     let h : 2147483648 < a.n = omega arith in
-    c.plain.ensures ∙ rw c.before.before.if1.true (constant-big true a.n a.start a.next h)
+    c.plain.ensures ∙ rw c.before.before.if-minus.true (constant-big true a.n a.start a.next h)
 
-cast-t8 : tie.Need-overflow-cast-t8
+cast-t8 : tie.Need-overflow_cast-result
 cast-t8 c = search rules
 
-returns-3 : tie.Need-returns-3
+returns-3 : tie.Need-returns-then-n-le2147483647
 returns-3 c =
     let a = c.before.before.args in
     let h : a.n < 2 ^ 31 = omega arith in
-    rw c.before.if1.false (constant-taken false a.n a.start a.next _ c.if3.true (to_z_pos w32 h))
+    rw c.before.if-minus.false (constant-taken false a.n a.start a.next _ c.if-n-le2147483647.true (to_z_pos w32 h))
 
 plain-requires-2 : tie.Need-plain-requires-2
 plain-requires-2 c κs = tt
 
-returns-4 : tie.Need-returns-4
+returns-4 : tie.Need-returns
 returns-4 c =
     let a = c.before.before.before.args in
-    c.plain2.ensures ∙ rw c.before.before.if1.false (constant-big false a.n a.start a.next c.before.if3.false)
+    c.plain-2.ensures ∙ rw c.before.before.if-minus.false (constant-big false a.n a.start a.next c.before.if-n-le2147483647.false)
 
-pub constant-spec : {M : Type 1} → statement M
-constant-spec =
+pub constant_spec : {M : Type 1} → statement M
+constant_spec =
     tie.close
     (tie.spec
     negative-requires

@@ -10,24 +10,24 @@ use Rattle.lists.proofs.Bools.{and_right}
 use Rattle.token.proofs.folded.Statement.{statement}
 use Rattle.token.proofs.folded.Tie as tie
 
-is-capital-requires : tie.Need-is-capital-requires
+is-capital-requires : tie.Need-is_capital-requires
 is-capital-requires c κs = tt
 
-add-result : tie.Need-overflow-add-result
+add-result : tie.Need-overflow_add-result
 add-result c =
     let b = c.before.before.args.b in
-    let h : b ≤ 90 = leb-true b 90 (and_right (leb 65 b) (leb b 90) (sym c.before.is-capital.ensures ∙ c.if1.true)) in
+    let h : b ≤ 90 = leb-true b 90 (and_right (leb 65 b) (leb b 90) (sym c.before.is_capital.ensures ∙ c.if-is_capital.true)) in
     record { fits = omega (arith, h) }
 
-returns : tie.Need-returns
+returns : tie.Need-returns-then-is_capital
 returns c =
     let b = c.before.before.args.b in
-    ap (λ (x : Bool). cond x (b + 32) b) (sym (sym c.before.is-capital.ensures ∙ c.if1.true))
+    ap (λ (x : Bool). cond x (b + 32) b) (sym (sym c.before.is_capital.ensures ∙ c.if-is_capital.true))
 
-returns-2 : tie.Need-returns-2
+returns-2 : tie.Need-returns-else-is_capital
 returns-2 c =
     let b = c.before.before.args.b in
-    ap (λ (x : Bool). cond x (b + 32) b) (sym (sym c.before.is-capital.ensures ∙ c.if1.false))
+    ap (λ (x : Bool). cond x (b + 32) b) (sym (sym c.before.is_capital.ensures ∙ c.if-is_capital.false))
 
-pub folded-spec : {M : Type 1} → statement M
-folded-spec = tie.close (tie.spec is-capital-requires add-result returns returns-2)
+pub folded_spec : {M : Type 1} → statement M
+folded_spec = tie.close (tie.spec is-capital-requires add-result returns returns-2)

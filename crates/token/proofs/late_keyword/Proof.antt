@@ -3,35 +3,35 @@
 use Rattle.token.proofs.late_keyword.Statement.{statement}
 use Rattle.token.proofs.late_keyword.Tie as tie
 
-more-keyword-requires : tie.Need-more-keyword-requires
+more-keyword-requires : tie.Need-more_keyword-k-requires
 more-keyword-requires c κs = tt
 
-either-requires : tie.Need-either-requires
+either-requires : tie.Need-either-k-requires
 either-requires c κs = tt
 
-either-requires-2 : tie.Need-either-requires-2
+either-requires-2 : tie.Need-either-k-requires-2
 either-requires-2 c κs = tt
 
-either-requires-3 : tie.Need-either-requires-3
+either-requires-3 : tie.Need-either-k-requires-3
 either-requires-3 c κs = tt
 
-either-requires-4 : tie.Need-either-requires-4
+either-requires-4 : tie.Need-either-k-requires-4
 either-requires-4 c κs = tt
 
-either-requires-5 : tie.Need-either-requires-5
+either-requires-5 : tie.Need-either-k-requires-5
 either-requires-5 c κs = tt
 
-either-requires-6 : tie.Need-either-requires-6
+either-requires-6 : tie.Need-either-k-requires-6
 either-requires-6 c κs = tt
 
-either-requires-7 : tie.Need-either-requires-7
+either-requires-7 : tie.Need-either-requires
 either-requires-7 c κs = tt
 
 returns : tie.Need-returns
-returns c = rw (c.either7.ensures, c.before.either6.ensures, c.before.before.either5.ensures, c.before.before.before.either4.ensures, c.before.before.before.before.either3.ensures, c.before.before.before.before.before.either2.ensures, c.before.before.before.before.before.before.either.ensures, c.before.before.before.before.before.before.before.more-keyword.ensures)
+returns c = rw (c.either.ensures, c.before.either-k-6.ensures, c.before.before.either-k-5.ensures, c.before.before.before.either-k-4.ensures, c.before.before.before.before.either-k-3.ensures, c.before.before.before.before.before.either-k-2.ensures, c.before.before.before.before.before.before.either-k.ensures, c.before.before.before.before.before.before.before.more_keyword-k.ensures)
 
-pub late-keyword-spec : {M : Type 1} → statement M
-late-keyword-spec =
+pub late_keyword_spec : {M : Type 1} → statement M
+late_keyword_spec =
     tie.close
     (tie.spec
     more-keyword-requires

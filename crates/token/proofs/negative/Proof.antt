@@ -6,17 +6,17 @@ use borrow.Author.Rules.{rules}
 use Rattle.token.proofs.negative.Statement.{statement}
 use Rattle.token.proofs.negative.Tie as tie
 
-cast-result : tie.Need-overflow-cast-result
+cast-result : tie.Need-overflow_cast-result
 cast-result c = search rules
 
-sub-result : tie.Need-overflow-sub-result
+sub-result : tie.Need-overflow_sub-result
 sub-result c = rw (below_64 c.args.n c.requires) (neg_64 c.args.n c.requires)
 
-cast-result-2 : tie.Need-overflow-cast-result-2
+cast-result-2 : tie.Need-overflow_cast-result-2
 cast-result-2 c = rw (below_64 c.args.n c.requires, to_z-of_z (neg_64 c.args.n c.requires)) (neg_32 c.args.n c.requires)
 
 returns : tie.Need-returns
 returns c = rw (below_64 c.args.n c.requires, to_z-of_z (neg_64 c.args.n c.requires), to_z-of_z (neg_32 c.args.n c.requires))
 
-pub negative-spec : {M : Type 1} → statement M
-negative-spec = tie.close (tie.spec cast-result sub-result cast-result-2 returns)
+pub negative_spec : {M : Type 1} → statement M
+negative_spec = tie.close (tie.spec cast-result sub-result cast-result-2 returns)

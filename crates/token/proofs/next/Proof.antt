@@ -10,44 +10,44 @@ use Rattle.token.proofs.next.Tie as tie
 plain-requires : tie.Need-plain-requires
 plain-requires c κs = tt
 
-returns : tie.Need-returns
-returns c = c.plain.ensures ∙ past_end c.before.before.before.args.text.now c.before.before.before.args.at c.before.if1.true
+returns : tie.Need-returns-then-len-at
+returns c = c.plain.ensures ∙ past_end c.before.before.before.args.text.now c.before.before.before.args.at c.before.if-len-at.true
 
-run-end-requires : tie.Need-run-end-requires
+run-end-requires : tie.Need-run_end-from-requires
 run-end-requires c κs = search rules
 
-plain-requires-2 : tie.Need-plain-requires-2
+plain-requires-2 : tie.Need-plain-requires-then-len-from
 plain-requires-2 c κs = tt
 
-returns-2 : tie.Need-returns-2
-returns-2 c = c.plain2.ensures ∙ spaces-only c.before.before.before.before.before.args.text.now c.before.before.before.before.before.args.at c.before.before.run-end.result c.before.before.run-end.ensures.0 c.before.if2.true
+returns-2 : tie.Need-returns-then-len-from
+returns-2 c = c.plain-then-len-from.ensures ∙ spaces-only c.before.before.before.before.before.args.text.now c.before.before.before.before.before.args.at c.before.before.run_end-from.result c.before.before.run_end-from.ensures.0 c.before.if-len-from.true
 
-shared-slice-read-b : tie.Need-shared-slice-read-b
+shared-slice-read-b : tie.Need-bounds-text-from
 shared-slice-read-b c = search rules
 
-is-word-byte-requires : tie.Need-is-word-byte-requires
+is-word-byte-requires : tie.Need-is_word_byte-requires
 is-word-byte-requires c κs = tt
 
 word-requires : tie.Need-word-requires
-word-requires c κs = (c.before.before.before.if2.false, sym c.before.is-word-byte.ensures ∙ c.if3.true)
+word-requires c κs = (c.before.before.before.if-len-from.false, sym c.before.is_word_byte.ensures ∙ c.if-is_word_byte.true)
 
-returns-3 : tie.Need-returns-3
-returns-3 c = c.word.ensures ∙ behind-spaces c.before.before.before.before.before.before.before.before.args.text.now c.before.before.before.before.before.before.before.before.args.at c.before.before.before.before.before.run-end.result c.before.before.before.before.before.run-end.ensures.0 c.before.before.before.before.if2.false
+returns-3 : tie.Need-returns-then-is_word_byte
+returns-3 c = c.word.ensures ∙ behind-spaces c.before.before.before.before.before.before.before.before.args.text.now c.before.before.before.before.before.before.before.before.args.at c.before.before.before.before.before.run_end-from.result c.before.before.before.before.before.run_end-from.ensures.0 c.before.before.before.before.if-len-from.false
 
 minus-requires : tie.Need-minus-requires
 minus-requires c κs = search rules
 
-returns-4 : tie.Need-returns-4
-returns-4 c = c.minus.ensures ∙ behind-spaces c.before.before.before.before.before.before.before.before.before.args.text.now c.before.before.before.before.before.before.before.before.before.args.at c.before.before.before.before.before.before.run-end.result c.before.before.before.before.before.before.run-end.ensures.0 c.before.before.before.before.before.if2.false
+returns-4 : tie.Need-returns-then-b-eq45
+returns-4 c = c.minus.ensures ∙ behind-spaces c.before.before.before.before.before.before.before.before.before.args.text.now c.before.before.before.before.before.before.before.before.before.args.at c.before.before.before.before.before.before.run_end-from.result c.before.before.before.before.before.before.run_end-from.ensures.0 c.before.before.before.before.before.if-len-from.false
 
 sign-requires : tie.Need-sign-requires
-sign-requires c κs = (c.before.before.before.before.if2.false, sym c.before.before.is-word-byte.ensures ∙ c.before.if3.false, ne_eqb _ 45 c.if4.false)
+sign-requires c κs = (c.before.before.before.before.if-len-from.false, sym c.before.before.is_word_byte.ensures ∙ c.before.if-is_word_byte.false, ne_eqb _ 45 c.if-b-eq45.false)
 
-returns-5 : tie.Need-returns-5
-returns-5 c = c.sign.ensures ∙ behind-spaces c.before.before.before.before.before.before.before.before.before.args.text.now c.before.before.before.before.before.before.before.before.before.args.at c.before.before.before.before.before.before.run-end.result c.before.before.before.before.before.before.run-end.ensures.0 c.before.before.before.before.before.if2.false
+returns-5 : tie.Need-returns
+returns-5 c = c.sign.ensures ∙ behind-spaces c.before.before.before.before.before.before.before.before.before.args.text.now c.before.before.before.before.before.before.before.before.before.args.at c.before.before.before.before.before.before.run_end-from.result c.before.before.before.before.before.before.run_end-from.ensures.0 c.before.before.before.before.before.if-len-from.false
 
-pub next-spec : {M : Type 1} → statement M
-next-spec =
+pub next_spec : {M : Type 1} → statement M
+next_spec =
     tie.close
     (tie.spec
     plain-requires

@@ -14,10 +14,10 @@ use borrow.Author.Rules.{rules}
 use Rattle.token.proofs.word.Statement.{statement}
 use Rattle.token.proofs.word.Tie as tie
 
-run-end-requires : tie.Need-run-end-requires
+run-end-requires : tie.Need-run_end-end-requires
 run-end-requires c κs = search rules
 
-run-end-requires-2 : tie.Need-run-end-requires-2
+run-end-requires-2 : tie.Need-run_end-requires
 run-end-requires-2 c κs = search rules
 
 digits-requires : tie.Need-digits-requires
@@ -26,64 +26,64 @@ digits-requires c κs = search rules
 constant-requires : tie.Need-constant-requires
 constant-requires c κs = tt
 
-returns : tie.Need-returns
+returns : tie.Need-returns-then-run_end-end
 returns c =
     let a = c.before.before.before.before.before.before.args in
     let p = c.before.before.before.before.before.before.requires in
-    let whole = c.before.before.before.before.run-end in
-    let digits = c.before.before.before.run-end2 in
+    let whole = c.before.before.before.before.run_end-end in
+    let digits = c.before.before.before.run_end in
     let v = decimal (part a.text.now a.at whole.result) in
     c.constant.ensures
     ∙ ap (λ n. token_of (constant_token (signed false n)) a.at whole.result) c.before.digits.ensures
     ∙ constant-cap false v a.at whole.result
-    ∙ word_number a.text.now a.at whole.result p.0 p.1 whole.ensures.0 digits.result digits.ensures.0 c.before.before.if1.true
+    ∙ word_number a.text.now a.at whole.result p.0 p.1 whole.ensures.0 digits.result digits.ensures.0 c.before.before.if-run_end-end.true
 
-shared-slice-read-b : tie.Need-shared-slice-read-b
+shared-slice-read-b : tie.Need-bounds-text-at
 shared-slice-read-b c = search rules
 
-is-small-requires : tie.Need-is-small-requires
+is-small-requires : tie.Need-is_small-requires
 is-small-requires c κs = tt
 
 plain-requires : tie.Need-plain-requires
 plain-requires c κs = tt
 
-returns-2 : tie.Need-returns-2
+returns-2 : tie.Need-returns-then-is_small
 returns-2 c =
     let a = c.before.before.before.before.before.before.before.before.args in
     let p = c.before.before.before.before.before.before.before.before.requires in
-    let whole = c.before.before.before.before.before.before.run-end in
-    let digits = c.before.before.before.before.before.run-end2 in
-    let small = c.before.before.is-small in
-    c.plain.ensures ∙ word_small a.text.now a.at whole.result p.0 p.1 whole.ensures.0 digits.result digits.ensures.0 c.before.before.before.before.if1.false (sym small.ensures ∙ c.before.if2.true)
+    let whole = c.before.before.before.before.before.before.run_end-end in
+    let digits = c.before.before.before.before.before.run_end in
+    let small = c.before.before.is_small in
+    c.plain.ensures ∙ word_small a.text.now a.at whole.result p.0 p.1 whole.ensures.0 digits.result digits.ensures.0 c.before.before.before.before.if-run_end-end.false (sym small.ensures ∙ c.before.if-is_small.true)
 
-keyword-requires : tie.Need-keyword-requires
+keyword-requires : tie.Need-keyword-k-requires
 keyword-requires c κs = search rules
 
-is-capital-requires : tie.Need-is-capital-requires
+is-capital-requires : tie.Need-is_capital-requires
 is-capital-requires c κs = tt
 
-either-requires : tie.Need-either-requires
+either-requires : tie.Need-either-kind-requires
 either-requires c κs = tt
 
 plain-requires-2 : tie.Need-plain-requires-2
 plain-requires-2 c κs = tt
 
-returns-3 : tie.Need-returns-3
+returns-3 : tie.Need-returns
 returns-3 c =
     let a = c.before.before.before.before.before.before.before.before.before.before.before.args in
     let p = c.before.before.before.before.before.before.before.before.before.before.before.requires in
-    let whole = c.before.before.before.before.before.before.before.before.before.run-end in
-    let digits = c.before.before.before.before.before.before.before.before.run-end2 in
-    let small = c.before.before.before.before.before.is-small in
-    let capital = c.before.before.is-capital in
-    let word = c.before.before.before.keyword in
-    let kind : c.before.either.result ≡ cond (eqb word.result 1 && capital.result) 2 word.result = c.before.either.ensures in
-    c.plain2.ensures
+    let whole = c.before.before.before.before.before.before.before.before.before.run_end-end in
+    let digits = c.before.before.before.before.before.before.before.before.run_end in
+    let small = c.before.before.before.before.before.is_small in
+    let capital = c.before.before.is_capital in
+    let word = c.before.before.before.keyword-k in
+    let kind : c.before.either-kind.result ≡ cond (eqb word.result 1 && capital.result) 2 word.result = c.before.either-kind.ensures in
+    c.plain-2.ensures
     ∙ ap (λ k. made k (pos 0) a.at whole.result) (kind ∙ ap₂ (λ (k : ℕ) (x : Bool). cond (eqb k 1 && x) 2 k) word.ensures capital.ensures)
-    ∙ word-key a.text.now a.at whole.result p.0 p.1 whole.ensures.0 digits.result digits.ensures.0 c.before.before.before.before.before.before.before.if1.false (sym small.ensures ∙ c.before.before.before.before.if2.false)
+    ∙ word-key a.text.now a.at whole.result p.0 p.1 whole.ensures.0 digits.result digits.ensures.0 c.before.before.before.before.before.before.before.if-run_end-end.false (sym small.ensures ∙ c.before.before.before.before.if-is_small.false)
 
-pub word-spec : {M : Type 1} → statement M
-word-spec =
+pub word_spec : {M : Type 1} → statement M
+word_spec =
     tie.close
     (tie.spec
     run-end-requires
