@@ -7,7 +7,7 @@ ghost use Rattle.meaning.specs.Record.{bits_of, bytes4, four_at, row_count, row_
 ghost use Rattle.answer.specs.Answer.{record_length, header, put, past};
 
 // The form of a record, and its limits.
-#[derive(Drop)]
+#[derive(Clone, Copy)]
 pub struct Answer {}
 
 impl Answer {

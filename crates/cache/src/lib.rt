@@ -17,7 +17,7 @@ use table::{Query, Refusal, Selected, Statement, Table, Update};
 
 // The state. Entries past the counts, and of slots that hold nothing, do not matter.
 #[repr(C)]
-#[derive(Drop)]
+#[derive(Clone, Copy)]
 pub struct State {
     pub tables: [Table; Table::TABLES],
     pub queries: [Query; Query::QUERIES],
@@ -38,7 +38,7 @@ pub struct State {
 
 // What opening gives: 1 where refused, or 0, and the state.
 #[repr(C)]
-#[derive(Drop)]
+#[derive(Clone, Copy)]
 pub struct Opened {
     pub refusal: u8,
     pub state: State,
@@ -46,7 +46,7 @@ pub struct Opened {
 
 // What adding gives: the refusal's number or 0, the kind (Statement::TABLE, QUERY, UPDATE; 0 where refused) and number of what was added, and the state.
 #[repr(C)]
-#[derive(Drop)]
+#[derive(Clone, Copy)]
 pub struct Added {
     pub refusal: u8,
     pub kind: u8,
@@ -56,7 +56,7 @@ pub struct Added {
 
 // What a question gives: the refusal's number or 0; 1 for a cached answer; the rows scanned; the record's length; and the state.
 #[repr(C)]
-#[derive(Drop)]
+#[derive(Clone, Copy)]
 pub struct Asked {
     pub refusal: u8,
     pub cached: u8,
@@ -67,7 +67,7 @@ pub struct Asked {
 
 // What an update gives: the refusal's number or 0; the rows inserted, matched or deleted; the cached answers that it invalidated; and the state.
 #[repr(C)]
-#[derive(Drop)]
+#[derive(Clone, Copy)]
 pub struct Updated {
     pub refusal: u8,
     pub rows: u16,
@@ -77,14 +77,14 @@ pub struct Updated {
 
 // What a flush gives: the refusal's number or 0, and the state.
 #[repr(C)]
-#[derive(Drop)]
+#[derive(Clone, Copy)]
 pub struct Flushed {
     pub refusal: u8,
     pub state: State,
 }
 
 // Where an answer's record is kept: its slot (SLOTS: in none), its length, and the order of use after that.
-#[derive(Drop)]
+#[derive(Clone, Copy)]
 struct Place {
     slot: u8,
     size: u16,
@@ -92,7 +92,7 @@ struct Place {
 }
 
 // What a question gives, without the state.
-#[derive(Drop)]
+#[derive(Clone, Copy)]
 struct Outcome {
     refusal: u8,
     cached: u8,
@@ -102,7 +102,7 @@ struct Outcome {
 }
 
 // What an update leaves: the rows that it inserted, matched or deleted, those in use then and the place of the oldest, and the order of use.
-#[derive(Drop)]
+#[derive(Clone, Copy)]
 struct Effect {
     count: u16,
     rows: u16,

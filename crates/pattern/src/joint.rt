@@ -13,7 +13,7 @@ use super::labels::Labels;
 use table::{Condition, Operand, Setting, Update, Value};
 
 // A clause of `count` comparisons: their operators, and their sides as numbers, two a comparison; the query's question marks stand behind the sides.
-#[derive(Drop)]
+#[derive(Clone, Copy)]
 pub struct Joined {
     pub codes: [u64; Labels::OPERANDS],
     pub ops: [u8; Labels::COMPARISONS],

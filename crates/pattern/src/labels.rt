@@ -13,7 +13,7 @@ use super::{Entry, Pattern, Place};
 use table::{Comparison, Condition, Order};
 
 // The label of each operand of a clause, and whether two different constants are in one class.
-#[derive(Drop)]
+#[derive(Clone, Copy)]
 pub struct Labels {
     pub codes: [u64; Labels::OPERANDS],
     pub clash: bool,

@@ -16,7 +16,7 @@ pub use relevance::reads;
 use table::{Query, Update};
 
 // What a pattern asks of a value of a key: that it is this constant, or the update's parameter of this number (counted from 0), or nothing.
-#[derive(Drop)]
+#[derive(Clone, Copy)]
 pub enum Entry {
     Constant(i32),
     Parameter(u8),
@@ -24,13 +24,13 @@ pub enum Entry {
 }
 
 // A place of a pattern: a struct, as the array of a struct may hold structs and no enums.
-#[derive(Drop)]
+#[derive(Clone, Copy)]
 pub struct Place {
     pub entry: Entry,
 }
 
 // The pattern of a clause, if it has one: an entry for each of the query's parameters, the first `count` entries.
-#[derive(Drop)]
+#[derive(Clone, Copy)]
 pub struct Pattern {
     pub there: bool,
     pub entries: [Place; Pattern::ENTRIES],
@@ -86,7 +86,7 @@ impl Pattern {
 }
 
 // The patterns of a query and an update, the first `count` items.
-#[derive(Drop)]
+#[derive(Clone, Copy)]
 pub struct Patterns {
     pub items: [Pattern; Patterns::CLAUSES],
     pub count: u8,

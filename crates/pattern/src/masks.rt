@@ -7,7 +7,7 @@ ghost use Rattle.pattern.specs.Masks.{sums, no_stack, pushed_of, either_of, both
 use table::{Condition, Step};
 
 // The masks of a condition's clauses, the first `count`.
-#[derive(Drop)]
+#[derive(Clone, Copy)]
 pub struct Clauses {
     pub masks: [u8; Clauses::MOST],
     pub count: u8,
@@ -19,7 +19,7 @@ impl Clauses {
 }
 
 // Lists of masks, one after another, and how long each of them is, the top last; `bit` is that of the next comparison.
-#[derive(Drop)]
+#[derive(Clone, Copy)]
 pub struct Stack {
     pub masks: [u8; Clauses::MOST],
     pub lengths: [u8; Condition::COMPARISONS],

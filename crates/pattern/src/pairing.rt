@@ -12,7 +12,7 @@ use super::{Entry, Pattern, Patterns, Place, joint, labels, masks, relevance};
 use table::{Query, Update};
 
 // The clauses of both conditions and how many joint clauses they make; or `many`, where these are not worked out.
-#[derive(Drop)]
+#[derive(Clone, Copy)]
 pub struct Pairing {
     pub many: bool,
     pub query: Clauses,

@@ -11,7 +11,7 @@ ghost use Rattle.slots.specs.Keys.{key_of, same_key, find_of, held_twice};
 
 // A question's number with its values: the first `count`. What stands behind them is not looked at.
 #[repr(C)]
-#[derive(Drop)]
+#[derive(Clone, Copy)]
 pub struct Key {
     pub query: u8,
     pub count: u8,
@@ -20,7 +20,7 @@ pub struct Key {
 
 // The slots, the most recently used first: of the first `count` places the first `held` hold an answer. What stands behind `count` is no slot and stays.
 #[repr(C)]
-#[derive(Drop)]
+#[derive(Clone, Copy)]
 pub struct SlotList {
     pub order: [u8; SlotList::SLOTS],
     pub held: u8,
@@ -28,7 +28,7 @@ pub struct SlotList {
 }
 
 // The slot taken, if there is one, and the list in which it has moved.
-#[derive(Drop)]
+#[derive(Clone, Copy)]
 pub struct Taken {
     pub there: bool,
     pub slot: u8,
@@ -36,7 +36,7 @@ pub struct Taken {
 }
 
 // A place in the order of use.
-#[derive(Drop)]
+#[derive(Clone, Copy)]
 pub enum Found {
     At(u8),
     Nothing,

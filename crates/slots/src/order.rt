@@ -6,7 +6,7 @@ ghost use Rattle.slots.specs.Order.{front, has_mark, if_slot, appended};
 use super::SlotList;
 
 // An array whose first `len` places are filled.
-#[derive(Drop)]
+#[derive(Clone, Copy)]
 pub struct Run {
     pub places: [u8; SlotList::SLOTS],
     pub len: usize,

@@ -146,7 +146,7 @@ fn marks_in(v: Value) -> u8
 }
 
 // Whether settings are sound, and the number of the next parameter.
-#[derive(Drop)]
+#[derive(Clone, Copy)]
 pub struct Numbered {
     pub ok: bool,
     pub next: u8,

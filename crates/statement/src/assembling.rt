@@ -27,7 +27,7 @@ fn mark_in(v: Value) -> u8
 }
 
 // Settings, and how many question marks they have.
-#[derive(Drop)]
+#[derive(Clone, Copy)]
 pub struct Settings {
     pub all: [Setting; Update::SETTINGS],
     pub marks: u8,

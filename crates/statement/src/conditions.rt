@@ -13,7 +13,7 @@ use token::Token;
 
 // Where a reader stands in a text, and what it has counted: nodes of the condition, question marks. `over` says that a limit was passed by a name, a constant or
 // the depth; a reader that failed is not `ok`. Where `dotted`, which no reader changes, columns are dotted: a question over two tables (A.1).
-#[derive(Drop)]
+#[derive(Clone, Copy)]
 pub struct Cursor {
     pub ok: bool,
     pub over: bool,
@@ -38,7 +38,7 @@ impl Cursor {
 
 // A side of a comparison, or a column of a list: whether it was read, whether it is past a limit, its question marks, where its first token starts and where the
 // text goes on after it.
-#[derive(Drop)]
+#[derive(Clone, Copy)]
 pub struct Side {
     pub ok: bool,
     pub over: bool,

@@ -15,7 +15,7 @@ ghost use Rattle.statement.specs.Compiled.{left_side, right_side, new_value, ref
 
 // A name: its first `len` bytes.
 #[repr(C)]
-#[derive(Drop)]
+#[derive(Clone, Copy)]
 pub struct Name {
     pub bytes: [u8; Name::BYTES],
     pub len: u8,
@@ -28,7 +28,7 @@ impl Name {
 // A table: what its TABLE text says, how many rows are in use, and the place of the oldest row in the area (A.4: its starting place; 0 but in a ring that is full). `capacity` is
 // its ROWS or its RING, and `ring` says which.
 #[repr(C)]
-#[derive(Drop)]
+#[derive(Clone, Copy)]
 pub struct Table {
     pub name: Name,
     pub columns: [Name; Table::COLUMNS],
@@ -50,7 +50,7 @@ impl Table {
 // A side of a comparison: a column by its position, a constant, or a parameter (question mark), counted from 0.
 // By its code: 0 is the constant `number`, 2 k + 1 parameter k, 2 i + 2 column i. So every code is an operand; of those that are no constant, `number` is not read.
 #[repr(C)]
-#[derive(Drop)]
+#[derive(Clone, Copy)]
 pub struct Operand {
     pub code: u8,
     pub number: i32,
@@ -63,7 +63,7 @@ impl Operand {
 
 // Two operands, by their codes and numbers, and the number of the operator between them. A null test (A.5) has its column on both sides.
 #[repr(C)]
-#[derive(Drop)]
+#[derive(Clone, Copy)]
 pub struct Comparison {
     pub op: u8,
     pub left: u8,
@@ -113,7 +113,7 @@ impl Comparison {
 }
 
 // How two sides of a comparison stand: the left one is less, equal or greater, or one is null. (Any other number is as the last.)
-#[derive(Drop)]
+#[derive(Clone, Copy)]
 pub struct Order {}
 
 impl Order {
@@ -127,7 +127,7 @@ impl Order {
 }
 
 // What a step of a condition does: it takes the next comparison, or joins the two conditions before it.
-#[derive(Drop)]
+#[derive(Clone, Copy)]
 pub struct Step {}
 
 impl Step {
@@ -144,7 +144,7 @@ impl Step {
 // A condition without NOT: the first `count` comparisons, and for more than none 2 * count - 1 steps (`Step`) in postfix order.
 // None at all is an absent WHERE.
 #[repr(C)]
-#[derive(Drop)]
+#[derive(Clone, Copy)]
 pub struct Condition {
     pub comparisons: [Comparison; Condition::COMPARISONS],
     pub steps: [u8; Condition::STEPS],
@@ -163,7 +163,7 @@ impl Condition {
 // and columns are counted through both: those of the second from `start` on; and `outer` marks the comparisons that stand outside all OR, NOT and parentheses (A.6), a binary
 // digit each, the last one's last. Over one table `second` is 0, and `start` and `outer` are not read.
 #[repr(C)]
-#[derive(Drop)]
+#[derive(Clone, Copy)]
 pub struct Query {
     pub table: u8,
     pub selected: [u8; Query::SELECTED],
@@ -183,7 +183,7 @@ impl Query {
 
 // What VALUES and SET give: parameter `mark` - 1, or for 0 the constant `number`.
 #[repr(C)]
-#[derive(Drop)]
+#[derive(Clone, Copy)]
 pub struct Value {
     pub mark: u8,
     pub number: i32,
@@ -191,7 +191,7 @@ pub struct Value {
 
 // A column and its new value, by its mark and number; in an INSERT the column is the value's own place.
 #[repr(C)]
-#[derive(Drop)]
+#[derive(Clone, Copy)]
 pub struct Setting {
     pub column: u8,
     pub mark: u8,
@@ -211,7 +211,7 @@ impl Setting {
 
 // An update: its form (0 INSERT, 1 UPDATE, 2 DELETE), its table, the first `count` settings, how many parameters it has, its condition.
 #[repr(C)]
-#[derive(Drop)]
+#[derive(Clone, Copy)]
 pub struct Update {
     pub form: u8,
     pub table: u8,
@@ -234,7 +234,7 @@ impl Update {
 }
 
 // The numbers of document 01 for a call not taken. (14, for a row that is not there, is of crate `answer`.)
-#[derive(Drop)]
+#[derive(Clone, Copy)]
 pub struct Refusal {}
 
 impl Refusal {
@@ -271,7 +271,7 @@ impl Refusal {
 }
 
 // What a text compiles to: the number of its refusal (then everything else is empty), or 0, the kind and the thing itself.
-#[derive(Drop)]
+#[derive(Clone, Copy)]
 pub struct Statement {
     pub refusal: u8,
     pub kind: u8,

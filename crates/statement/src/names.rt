@@ -14,7 +14,7 @@ use super::{Name, Table};
 
 // Where a statement's columns are looked up: the first `count` of `columns`. In a question over two tables columns are dotted: those are the columns of the table
 // that the text calls `name`, and the first `more` of `others` those of the table that it calls `other`. Else these three are not read.
-#[derive(Drop)]
+#[derive(Clone, Copy)]
 pub struct Scope {
     pub dotted: bool,
     pub name: Name,

@@ -12,21 +12,21 @@ use super::{Table, conditions};
 use token::Token;
 
 // A cursor behind a token, and where the token starts.
-#[derive(Drop)]
+#[derive(Clone, Copy)]
 pub struct Placed {
     pub c: Cursor,
     pub place: u16,
 }
 
 // A cursor, and how many items of the list are read.
-#[derive(Drop)]
+#[derive(Clone, Copy)]
 pub struct Listing {
     pub c: Cursor,
     pub listed: u16,
 }
 
 // A cursor behind ROWS or RING, and whether it was RING.
-#[derive(Drop)]
+#[derive(Clone, Copy)]
 pub struct Sized {
     pub c: Cursor,
     pub ring: bool,
@@ -34,7 +34,7 @@ pub struct Sized {
 
 // A sentence as it is read: where the reader stands, its form, the place of its table's name, in a question over two tables that of the second one's, that of the
 // constant of ROWS or RING, how many items its list has, and whether it has RING.
-#[derive(Drop)]
+#[derive(Clone, Copy)]
 pub struct Entry {
     pub c: Cursor,
     pub form: u8,

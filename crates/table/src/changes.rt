@@ -15,7 +15,7 @@ use super::{pairs, rows};
 use statement::{Condition, Setting, Statement, Table, Update, Value};
 
 // What an update did: how many rows it inserted, matched or deleted, how many are in use now, and which place is the oldest's.
-#[derive(Drop)]
+#[derive(Clone, Copy)]
 pub struct Changed {
     pub count: u16,
     pub rows: u16,

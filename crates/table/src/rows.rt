@@ -45,7 +45,7 @@ pub fn number_at(numbers: &[i32], i: u8) -> i32
 // What the test of a row goes by. Comparison i has the sides 2 * i and 2 * i + 1: the cell at `places`, or where the row ends before that, the number at `numbers`. Its
 // `targets` from 4 * i on say where to go on if the left side is less than, equal to and greater than the right one, and if one is null: at a later comparison, or at MET or
 // UNMET.
-#[derive(Drop)]
+#[derive(Clone, Copy)]
 pub struct Test {
     pub targets: [u8; Test::TARGETS],
     pub places: [u16; Test::SIDES],
@@ -66,7 +66,7 @@ impl Test {
 }
 
 // A side: a place in the row, and what it is where the row has no such place.
-#[derive(Drop)]
+#[derive(Clone, Copy)]
 struct Side {
     place: u16,
     number: i32,

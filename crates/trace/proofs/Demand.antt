@@ -122,12 +122,15 @@ module _ (𝓛 : TableLaws) (lent : Lengths) (n size : ℕ) where
   pub agree_after : {s : Model} {p : Plain} {h : List (Event Key)} → Agree s p h → (cs : List Call)
       → Agree (after lent size s cs) (P.after lent p cs) (history_on lent p h cs)
   agree_after a [] = a
-  agree_after a (c ∷ cs) = agree_after (agree-step a c) cs
+  agree_after {s = s} {p = p} {h = h} a (c ∷ cs) =
+      agree_after {s = (step lent size s c).0} {p = (P.step lent p c).0} {h = note (refusal lent p c) p c h} (agree-step a c) cs
 
   agree-outs : {s : Model} {p : Plain} {h : List (Event Key)} → Agree s p h → (cs : List Call)
       → map (λ (o : Seen). o.out) (outs lent size s cs) ≡ P.outs lent p cs
   agree-outs a [] = refl
-  agree-outs a (c ∷ cs) = ap₂ (λ x l. x ∷ l) (agrees a c).got (agree-outs (agree-step a c) cs)
+  agree-outs {s = s} {p = p} {h = h} a (c ∷ cs) =
+      ap₂ (λ x l. x ∷ l) (agrees a c).got
+      (agree-outs {s = (step lent size s c).0} {p = (P.step lent p c).0} {h = note (refusal lent p c) p c h} (agree-step a c) cs)
 
   -- the keys held are those of `recent`
   missing-recent : {s : Model} {p : Plain} {h : List (Event Key)} → Agree s p h → (k : Key) → Missing s k → All (λ x. x.0 ≢ k) (recent same_key n size h)

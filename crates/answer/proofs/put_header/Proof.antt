@@ -10,40 +10,40 @@ use Rattle.answer.proofs.Buffers.{put-append, put-not}
 use Rattle.answer.proofs.put_header.Statement.{statement}
 use Rattle.answer.proofs.put_header.Tie as tie
 
-record-length-requires : tie.Need-record-length-requires
+record-length-requires : tie.Need-record_length-size-requires
 record-length-requires c κs = search rules
 
-sub-size : tie.Need-overflow-sub-size
+sub-size : tie.Need-overflow_sub-size
 sub-size c = search rules
 
-put-four-requires : tie.Need-put-four-requires
+put-four-requires : tie.Need-put_four-requires
 put-four-requires c κs = search rules
 
-cast-high : tie.Need-overflow-cast-high
+cast-high : tie.Need-overflow_cast-high
 cast-high c = search rules
 
-cast-low : tie.Need-overflow-cast-low
+cast-low : tie.Need-overflow_cast-low
 cast-low c = search rules
 
-put-bytes-requires : tie.Need-put-bytes-requires
+put-bytes-requires : tie.Need-put_bytes-requires
 put-bytes-requires c κs = search rules
 
-same_length : tie.Need-same-length
+same_length : tie.Need-shape_of-out
 same_length c = search rules
 
-returns : tie.Need-returns
+returns : tie.Need-returns-then-out-ge-HEAD
 returns c =
     let s = c.before.before.before.before.before.before.before.before.before.before.before.args in
     let four = c.before.before.before.before.before.before.put_four in
-    let size : c.before.before.before.before.before.before.before.before.record-length.result - 4 ≡ 4 + 4 * (s.columns * s.rows) = omega (arith, c.before.before.before.before.before.before.before.before.record-length.ensures) in
-    put-append s.out.now four.new.0 c.before.before.put-bytes.new.0 (bytes4 (4 + 4 * (s.columns * s.rows))) (1 ∷ s.columns ∷ bytes2 s.rows) 0
-    (omega arith) (four.ensures ∙ ap (λ (n : ℕ). put s.out.now 0 (bytes4 n)) size) c.before.before.put-bytes.ensures
+    let size : c.before.before.before.before.before.before.before.before.record_length-size.result - 4 ≡ 4 + 4 * (s.columns * s.rows) = omega (arith, c.before.before.before.before.before.before.before.before.record_length-size.ensures) in
+    put-append s.out.now four.new.out c.before.before.put_bytes.new.out (bytes4 (4 + 4 * (s.columns * s.rows))) (1 ∷ s.columns ∷ bytes2 s.rows) 0
+    (omega arith) (four.ensures ∙ ap (λ (n : ℕ). put s.out.now 0 (bytes4 n)) size) c.before.before.put_bytes.ensures
 
-returns-2 : tie.Need-returns-2
+returns-2 : tie.Need-returns-else-out-ge-HEAD
 returns-2 c = let s = c.before.before.args in sym (put-not s.out.now 0 (header s.columns s.rows) (omega arith))
 
-pub put-header-spec : {M : Type 1} → statement M
-put-header-spec =
+pub put_header_spec : {M : Type 1} → statement M
+put_header_spec =
     tie.close
     (tie.spec
     record-length-requires

@@ -11,10 +11,10 @@ use Rattle.answer.proofs.put_value.Tie as tie
 bits-requires : tie.Need-bits-requires
 bits-requires c κs = search rules
 
-put-four-requires : tie.Need-put-four-requires
+put-four-requires : tie.Need-put_four-requires
 put-four-requires c κs = search rules
 
-same_length : tie.Need-same-length
+same_length : tie.Need-shape_of-out
 same_length c = search rules
 
 returns : tie.Need-returns
@@ -23,5 +23,5 @@ returns c =
     c.before.before.put_four.ensures
     ∙ ap (λ (n : ℕ). put s.args.out.now s.args.at (bytes4 n)) (c.before.before.before.bits.ensures ∙ ap bits_of (to_z-of_z s.ranges.v))
 
-pub put-value-spec : {M : Type 1} → statement M
-put-value-spec = tie.close (tie.spec bits-requires put-four-requires same_length returns)
+pub put_value_spec : {M : Type 1} → statement M
+put_value_spec = tie.close (tie.spec bits-requires put-four-requires same_length returns)

@@ -12,17 +12,17 @@ few c =
     let k : c.args.rows ≤ 65535 = omega (arith, c.ranges.rows) in
     mul-le-mul h k
 
-mul-result : tie.Need-overflow-mul-result
+mul-result : tie.Need-overflow_mul-result
 mul-result c = omega (arith, few c)
 
-mul-result-2 : tie.Need-overflow-mul-result-2
+mul-result-2 : tie.Need-overflow_mul-result-2
 mul-result-2 c = omega (arith, few c)
 
-add-result : tie.Need-overflow-add-result
+add-result : tie.Need-overflow_add-result
 add-result c = omega (arith, few c)
 
 returns : tie.Need-returns
 returns c = refl
 
-pub record-length-spec : {M : Type 1} → statement M
-record-length-spec = tie.close (tie.spec mul-result mul-result-2 add-result returns)
+pub record_length_spec : {M : Type 1} → statement M
+record_length_spec = tie.close (tie.spec mul-result mul-result-2 add-result returns)

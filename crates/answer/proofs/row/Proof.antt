@@ -10,65 +10,65 @@ use Rattle.answer.proofs.Records.{row_fits, row-there, row-missing, place-there,
 use Rattle.answer.proofs.row.Statement.{statement}
 use Rattle.answer.proofs.row.Tie as tie
 
-there : (c : tie.Then1) → has_row c.before.before.before.args.bytes.now c.before.before.before.args.i ≡ true
-there c = sym c.before.has-row.ensures ∙ c.if1.true
+there : (c : tie.Then-has_row) → has_row c.before.before.before.args.bytes.now c.before.before.before.args.i ≡ true
+there c = sym c.before.has_row.ensures ∙ c.if-has_row.true
 
-missing : (c : tie.Else1) → has_row c.before.before.before.args.bytes.now c.before.before.before.args.i ≡ false
-missing c = sym c.before.has-row.ensures ∙ c.if1.false
+missing : (c : tie.Else-has_row) → has_row c.before.before.before.args.bytes.now c.before.before.before.args.i ≡ false
+missing c = sym c.before.has_row.ensures ∙ c.if-has_row.false
 
-fits : (c : tie.After-row-bytes) → 8 + c.before.before.before.before.args.i * c.row-bytes.result + c.row-bytes.result ≤ length c.before.before.before.before.args.bytes.now
+fits : (c : tie.After-row_bytes-width) → 8 + c.before.before.before.before.args.i * c.row_bytes-width.result + c.row_bytes-width.result ≤ length c.before.before.before.before.args.bytes.now
 fits c =
     let s = c.before.before.before.before.args in
-    subst (λ (w : ℕ). 8 + s.i * w + w ≤ length s.bytes.now) (sym c.row-bytes.ensures.0) (row_fits s.bytes.now s.i (there c.before))
+    subst (λ (w : ℕ). 8 + s.i * w + w ≤ length s.bytes.now) (sym c.row_bytes-width.ensures.0) (row_fits s.bytes.now s.i (there c.before))
 
-has-row-requires : tie.Need-has-row-requires
+has-row-requires : tie.Need-has_row-requires
 has-row-requires c κs = search rules
 
-row-bytes-requires : tie.Need-row-bytes-requires
+row-bytes-requires : tie.Need-row_bytes-width-requires
 row-bytes-requires c κs = search rules
 
-mul-start : tie.Need-overflow-mul-start
+mul-start : tie.Need-overflow_mul-start
 mul-start c = omega (arith, fits c)
 
-add_start : tie.Need-overflow-add-start
+add_start : tie.Need-overflow_add-start
 add_start c = omega (arith, fits c)
 
-add-end : tie.Need-overflow-add-end
+add-end : tie.Need-overflow_add-end
 add-end c = omega (arith, fits c)
 
-sub-result : tie.Need-overflow-sub-result
+sub-result : tie.Need-slice_bounds-result-count
 sub-result c = search rules
 
-part-result-start : tie.Need-slice-bounds-result-start
+part-result-start : tie.Need-slice_bounds-result-start
 part-result-start c = search rules
 
-part-result-end : tie.Need-slice-bounds-result-end
+part-result-end : tie.Need-slice_bounds-result-end
 part-result-end c = omega (arith, fits c)
 
-returns : tie.Need-returns
+returns : tie.Need-returns-then-has_row
 returns c =
     let s = c.before.before.before.before.before.args in
-    let w = c.before.row-bytes in (
+    let w = c.before.row_bytes-width in (
       row-there s.bytes.now s.i w.result (there c.before.before) w.ensures.0,
       place-there s.bytes s.i w.result (there c.before.before) w.ensures.0,
     )
 
-sub-result-2 : tie.Need-overflow-sub-result-2
+sub-result-2 : tie.Need-slice_bounds-result-count-2
 sub-result-2 c = search rules
 
-part-result-start-2 : tie.Need-slice-bounds-result-start-2
+part-result-start-2 : tie.Need-slice_bounds-result-start-2
 part-result-start-2 c = search rules
 
-part-result-end-2 : tie.Need-slice-bounds-result-end-2
+part-result-end-2 : tie.Need-slice_bounds-result-end-2
 part-result-end-2 c = search rules
 
-returns-2 : tie.Need-returns-2
+returns-2 : tie.Need-returns
 returns-2 c =
     let s = c.before.before.before.before.args in
     (row-missing s.bytes.now s.i (missing c.before), place-missing s.bytes s.i (missing c.before))
 
-pub row-spec : {M : Type 1} → statement M
-row-spec =
+pub row_spec : {M : Type 1} → statement M
+row_spec =
     tie.close
     (tie.spec
     has-row-requires

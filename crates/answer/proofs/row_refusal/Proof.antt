@@ -9,14 +9,14 @@ use Rattle.answer.proofs.row_refusal.Tie as tie
 abbrev number : Bool → ℕ
 number b = cond b 0 14
 
-has-row-requires : tie.Need-has-row-requires
+has-row-requires : tie.Need-has_row-requires
 has-row-requires c κs = search rules
 
-returns : tie.Need-returns
-returns c = ap number (sym c.if1.true ∙ c.before.has-row.ensures)
+returns : tie.Need-returns-then-has_row
+returns c = ap number (sym c.if-has_row.true ∙ c.before.has_row.ensures)
 
-returns-2 : tie.Need-returns-2
-returns-2 c = ap number (sym c.if1.false ∙ c.before.has-row.ensures)
+returns-2 : tie.Need-returns-else-has_row
+returns-2 c = ap number (sym c.if-has_row.false ∙ c.before.has_row.ensures)
 
-pub row-refusal-spec : {M : Type 1} → statement M
-row-refusal-spec = tie.close (tie.spec has-row-requires returns returns-2)
+pub row_refusal_spec : {M : Type 1} → statement M
+row_refusal_spec = tie.close (tie.spec has-row-requires returns returns-2)

@@ -11,78 +11,78 @@ use Rattle.slots.proofs.SlotReads.{has-read, Finding, finding-start, finding-mor
 use Rattle.slots.proofs.find.Statement.{statement}
 use Rattle.slots.proofs.find.Tie as tie
 
-abbrev invariant-loop : tie.invariant-loop
+abbrev invariant-loop : tie.invariant-loop-i
 invariant-loop key keys places n i₀ i = (n ≤ 64) × (length keys ≡ 64) × (length places ≡ 64) × Finding (slot_has keys key) n places i
 
-abbrev decreases-loop : tie.decreases-loop
+abbrev decreases-loop : tie.decreases-loop-i
 decreases-loop key keys places n i₀ i = n - i
 
 -- the test, read
 has : (c : tie.After-same invariant-loop decreases-loop) →
     let a = c.before.before.before.before.before.before.before.before.before.args in
-    (c.before.is-slot.result && c.same.result) ≡ slot_has a.t1 a.key (get_or a.slots.order c.before.before.before.before.before.loop.i 0)
+    (c.before.is_slot.result && c.same.result) ≡ slot_has a.keys a.key (get_or a.slots.order c.before.before.before.before.before.loop-i.i 0)
 has c =
     let a = c.before.before.before.before.before.before.before.before.before.args in
-    let l = c.before.before.before.before.before.loop in
-    has-read a.t1 (get_or a.slots.order l.i 0) _ _ l.invariant.1 c.before.before.before.index.ensures.0 _ _ _ c.before.is-slot.ensures c.same.ensures
+    let l = c.before.before.before.before.before.loop-i in
+    has-read a.keys (get_or a.slots.order l.i 0) _ _ l.invariant.1 c.before.before.before.index.ensures.0 _ _ _ c.before.is_slot.ensures c.same.ensures
 
-cast-least : tie.Need-overflow-cast-least invariant-loop decreases-loop
+cast-least : tie.Need-overflow_cast-slots invariant-loop decreases-loop
 cast-least c = search rules
 
-least-requires : tie.Need-least-requires invariant-loop decreases-loop
+least-requires : tie.Need-least-n-requires invariant-loop decreases-loop
 least-requires c κs = search rules
 
-loop-holds : tie.Need-loop-init invariant-loop decreases-loop
-loop-holds c = (omega (arith, c.least.ensures), search rules, search rules, finding-start _ _ _)
+loop-holds : tie.Need-loop-i-init invariant-loop decreases-loop
+loop-holds c = (omega (arith, c.least-n.ensures), search rules, search rules, finding-start _ _ _)
 
-array-read-x : tie.Need-array-read-x invariant-loop decreases-loop
+array-read-x : tie.Need-bounds-places-i invariant-loop decreases-loop
 array-read-x c = search rules
 
 index-requires : tie.Need-index-requires invariant-loop decreases-loop
 index-requires c κs = search rules
 
-mul-k : tie.Need-overflow-mul-k invariant-loop decreases-loop
+mul-k : tie.Need-offset_bounds-keys-index invariant-loop decreases-loop
 mul-k c = search rules
 
-array-copy-out-k : tie.Need-array-copy-out-k invariant-loop decreases-loop
+array-copy-out-k : tie.Need-bounds-keys-index invariant-loop decreases-loop
 array-copy-out-k c = search rules
 
-is-slot-requires : tie.Need-is-slot-requires invariant-loop decreases-loop
+is-slot-requires : tie.Need-is_slot-requires invariant-loop decreases-loop
 is-slot-requires c κs = search rules
 
 same-requires : tie.Need-same-requires invariant-loop decreases-loop
 same-requires c κs = search rules
 
-cast-t22 : tie.Need-overflow-cast-t22 invariant-loop decreases-loop
+cast-t22 : tie.Need-overflow_cast-result invariant-loop decreases-loop
 cast-t22 c = search rules
 
-returns : tie.Need-returns invariant-loop decreases-loop
+returns : tie.Need-returns-then-is_slot-same invariant-loop decreases-loop
 unfolding find_of
 returns c =
     let s = c.before.before.before.before.before.before.before in
     let a = s.before.before.before.args in
-    let l = c.before.before.before.before.before.before.loop in
-    finding-stop _ _ _ _ (omega arith) c.before.before.before.before.before.loop-test.true l.invariant.3 (sym (has c.before) ∙ c.if1.true)
-    ∙ of-min (find_from (slot_has a.t1 a.key) 0) _ _ 64 _ l.invariant.2 s.least.ensures
+    let l = c.before.before.before.before.before.before.loop-i in
+    finding-stop _ _ _ _ (omega arith) c.before.before.before.before.before.loop-i-test.true l.invariant.3 (sym (has c.before) ∙ c.if-is_slot-same.true)
+    ∙ of-min (find_from (slot_has a.keys a.key) 0) _ _ 64 _ l.invariant.2 s.least-n.ensures
 
-add-i : tie.Need-overflow-add-i invariant-loop decreases-loop
+add-i : tie.Need-overflow_add-i invariant-loop decreases-loop
 add-i c = search rules
 
-loop-less : tie.Need-loop-smaller invariant-loop decreases-loop
+loop-less : tie.Need-loop-i-smaller invariant-loop decreases-loop
 loop-less c = search rules
 
-loop-again : tie.Need-loop-preserved invariant-loop decreases-loop
+loop-again : tie.Need-loop-i-preserved invariant-loop decreases-loop
 loop-again c =
-    let l = c.before.before.before.before.before.before.loop in
-    (l.invariant.0, l.invariant.1, l.invariant.2, finding-more _ _ _ _ (omega arith) c.before.before.before.before.before.loop-test.true l.invariant.3 (sym (has c.before) ∙ c.if1.false))
+    let l = c.before.before.before.before.before.before.loop-i in
+    (l.invariant.0, l.invariant.1, l.invariant.2, finding-more _ _ _ _ (omega arith) c.before.before.before.before.before.loop-i-test.true l.invariant.3 (sym (has c.before) ∙ c.if-is_slot-same.false))
 
-returns-2 : tie.Need-returns-2 invariant-loop decreases-loop
+returns-2 : tie.Need-returns invariant-loop decreases-loop
 unfolding find_of
 returns-2 c =
     let s = c.before.before in
     let a = s.before.before.before.args in
-    let l = c.before.loop in
-    finding-end _ _ _ _ c.loop-test.false l.invariant.3 ∙ of-min (find_from (slot_has a.t1 a.key) 0) _ _ 64 _ l.invariant.2 s.least.ensures
+    let l = c.before.loop-i in
+    finding-end _ _ _ _ c.loop-i-test.false l.invariant.3 ∙ of-min (find_from (slot_has a.keys a.key) 0) _ _ 64 _ l.invariant.2 s.least-n.ensures
 
 pub find_spec : {M : Type 1} → statement M
 find_spec =

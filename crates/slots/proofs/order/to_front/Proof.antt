@@ -9,44 +9,44 @@ use Rattle.slots.proofs.Fronts.{Shifting, shifting-start, shifting-more, shiftin
 use Rattle.slots.proofs.order.to_front.Statement.{statement}
 use Rattle.slots.proofs.order.to_front.Tie as tie
 
-abbrev invariant-loop : tie.invariant-loop
+abbrev invariant-loop : tie.invariant-loop-i
 invariant-loop at places₀ x i₀ places i = (i < 64) × (length places ≡ 64) × Shifting (front at places₀) x places i
 
-abbrev decreases-loop : tie.decreases-loop
+abbrev decreases-loop : tie.decreases-loop-i
 decreases-loop at places₀ x i₀ places i = i
 
-array-read-x : tie.Need-array-read-x invariant-loop decreases-loop
+array-read-x : tie.Need-bounds-places-at invariant-loop decreases-loop
 array-read-x c = search rules
 
-loop-holds : tie.Need-loop-init invariant-loop decreases-loop
+loop-holds : tie.Need-loop-i-init invariant-loop decreases-loop
 loop-holds c = (search rules, search rules, shifting-start _ _ 0 (search rules))
 
-sub-places : tie.Need-overflow-sub-places invariant-loop decreases-loop
+sub-places : tie.Need-overflow_sub-places invariant-loop decreases-loop
 sub-places c = search rules
 
-array-read-places : tie.Need-array-read-places invariant-loop decreases-loop
+array-read-places : tie.Need-bounds-places-i invariant-loop decreases-loop
 array-read-places c = search rules
 
-array-write-places : tie.Need-array-write-places invariant-loop decreases-loop
+array-write-places : tie.Need-bounds-places-i-in-loop-i invariant-loop decreases-loop
 array-write-places c = search rules
 
-sub-i : tie.Need-overflow-sub-i invariant-loop decreases-loop
+sub-i : tie.Need-overflow_sub-i invariant-loop decreases-loop
 sub-i c = search rules
 
-loop-less : tie.Need-loop-smaller invariant-loop decreases-loop
+loop-less : tie.Need-loop-i-smaller invariant-loop decreases-loop
 loop-less c = search rules
 
-loop-again : tie.Need-loop-preserved invariant-loop decreases-loop
-loop-again c = let l = c.before.loop in (omega arith, simp length-set l.invariant.1, shifting-more _ _ _ _ 0 c.loop-test.true (omega arith) l.invariant.2)
+loop-again : tie.Need-loop-i-preserved invariant-loop decreases-loop
+loop-again c = let l = c.before.loop-i in (omega arith, simp length-set l.invariant.1, shifting-more _ _ _ _ 0 c.loop-i-test.true (omega arith) l.invariant.2)
 
-array-write-places-2 : tie.Need-array-write-places-2 invariant-loop decreases-loop
+array-write-places-2 : tie.Need-bounds-places-0 invariant-loop decreases-loop
 array-write-places-2 c = search rules
 
 returns : tie.Need-returns invariant-loop decreases-loop
-returns c = let l = c.before.loop in shifting-end _ _ _ _ c.loop-test.false (omega arith) l.invariant.2
+returns c = let l = c.before.loop-i in shifting-end _ _ _ _ c.loop-i-test.false (omega arith) l.invariant.2
 
-pub to-front-spec : {M : Type 1} → statement M
-to-front-spec =
+pub to_front_spec : {M : Type 1} → statement M
+to_front_spec =
     tie.close
     (tie.spec
     invariant-loop

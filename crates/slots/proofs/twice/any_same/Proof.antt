@@ -11,121 +11,121 @@ use Rattle.slots.proofs.SlotReads.{key-read, first-length, first-at}
 use Rattle.slots.proofs.twice.any_same.Statement.{statement}
 use Rattle.slots.proofs.twice.any_same.Tie as tie
 
-abbrev invariant-loop2 : tie.invariant-loop2
+abbrev invariant-loop2 : tie.invariant-loop-j
 invariant-loop2 n keys places found₀ i x k j₀ found j = (i < n) × (j ≤ n) × (length keys ≡ 64) × (length places ≡ 64) × Inner same_key (map (slot_key keys) (take n places)) i k found j
 
-abbrev decreases-loop2 : tie.decreases-loop2
+abbrev decreases-loop2 : tie.decreases-loop-j
 decreases-loop2 n keys places found₀ i x k j₀ found j = n - j
 
-abbrev invariant-loop : tie.invariant-loop
+abbrev invariant-loop : tie.invariant-loop-i
 invariant-loop n keys places found₀ i₀ found i = (i ≤ n) × (length keys ≡ 64) × (length places ≡ 64) × Outer same_key (map (slot_key keys) (take n places)) found i
 
-abbrev decreases-loop : tie.decreases-loop
+abbrev decreases-loop : tie.decreases-loop-i
 decreases-loop n keys places found₀ i₀ found i = n - i
 
 -- the two keys, read
-outer-key : (c : tie.After-key-if invariant-loop2 decreases-loop2 invariant-loop decreases-loop) →
+outer-key : (c : tie.After-key_if-k invariant-loop2 decreases-loop2 invariant-loop decreases-loop) →
     let a = c.before.before.before.before.before.args in
-    let i = c.before.before.before.before.loop.i in
-    c.key-if.result ≡ get_or (map (slot_key a.t1) (take a.n a.t2)) i (slot_key a.t1 0)
+    let i = c.before.before.before.before.loop-i.i in
+    c.key_if-k.result ≡ get_or (map (slot_key a.keys) (take a.n a.places)) i (slot_key a.keys 0)
 outer-key c =
     let a = c.before.before.before.before.before.args in
-    let l = c.before.before.before.before.loop in
-    key-read a.t1 (get_or a.t2 l.i 0) _ _ l.invariant.1 c.before.before.index.ensures.0 _ c.key-if.ensures
-    ∙ first-at a.t1 a.t2 a.n l.i c.before.before.before.loop-test.true
+    let l = c.before.before.before.before.loop-i in
+    key-read a.keys (get_or a.places l.i 0) _ _ l.invariant.1 c.before.before.index.ensures.0 _ c.key_if-k.ensures
+    ∙ first-at a.keys a.places a.n l.i c.before.before.before.loop-i-test.true
 
-inner-key : (c : tie.After-key-if2 invariant-loop2 decreases-loop2 invariant-loop decreases-loop) →
+inner-key : (c : tie.After-key_if invariant-loop2 decreases-loop2 invariant-loop decreases-loop) →
     let a = c.before.before.before.before.before.before.before.before.before.before.args in
-    let j = c.before.before.before.before.loop2.j in
-    c.key-if2.result ≡ get_or (map (slot_key a.t1) (take a.n a.t2)) j (slot_key a.t1 0)
+    let j = c.before.before.before.before.loop-j.j in
+    c.key_if.result ≡ get_or (map (slot_key a.keys) (take a.n a.places)) j (slot_key a.keys 0)
 inner-key c =
     let a = c.before.before.before.before.before.before.before.before.before.before.args in
-    let m = c.before.before.before.before.loop2 in
-    key-read a.t1 (get_or a.t2 m.j 0) _ _ m.invariant.2 c.before.before.index2.ensures.0 _ c.key-if2.ensures
-    ∙ first-at a.t1 a.t2 a.n m.j c.before.before.before.loop2-test.true
+    let m = c.before.before.before.before.loop-j in
+    key-read a.keys (get_or a.places m.j 0) _ _ m.invariant.2 c.before.before.index-in-loop-j.ensures.0 _ c.key_if.ensures
+    ∙ first-at a.keys a.places a.n m.j c.before.before.before.loop-j-test.true
 
-loop-holds : tie.Need-loop-init invariant-loop2 decreases-loop2 invariant-loop decreases-loop
+loop-holds : tie.Need-loop-i-init invariant-loop2 decreases-loop2 invariant-loop decreases-loop
 loop-holds c = (omega arith, search rules, search rules, outer_start _ _)
 
-array-read-x : tie.Need-array-read-x invariant-loop2 decreases-loop2 invariant-loop decreases-loop
+array-read-x : tie.Need-bounds-places-i invariant-loop2 decreases-loop2 invariant-loop decreases-loop
 array-read-x c = search rules
 
 index-requires : tie.Need-index-requires invariant-loop2 decreases-loop2 invariant-loop decreases-loop
 index-requires c κs = search rules
 
-mul_at : tie.Need-overflow-mul-at invariant-loop2 decreases-loop2 invariant-loop decreases-loop
+mul_at : tie.Need-offset_bounds-keys-index invariant-loop2 decreases-loop2 invariant-loop decreases-loop
 mul_at c = search rules
 
-array-copy-out-at : tie.Need-array-copy-out-at invariant-loop2 decreases-loop2 invariant-loop decreases-loop
+array-copy-out-at : tie.Need-bounds-keys-index invariant-loop2 decreases-loop2 invariant-loop decreases-loop
 array-copy-out-at c = search rules
 
-key-if-requires : tie.Need-key-if-requires invariant-loop2 decreases-loop2 invariant-loop decreases-loop
+key-if-requires : tie.Need-key_if-k-requires invariant-loop2 decreases-loop2 invariant-loop decreases-loop
 key-if-requires c κs = search rules
 
-add-j : tie.Need-overflow-add-j invariant-loop2 decreases-loop2 invariant-loop decreases-loop
+add-j : tie.Need-overflow_add-j invariant-loop2 decreases-loop2 invariant-loop decreases-loop
 add-j c = search rules
 
-loop2-holds : tie.Need-loop2-init invariant-loop2 decreases-loop2 invariant-loop decreases-loop
+loop2-holds : tie.Need-loop-j-init invariant-loop2 decreases-loop2 invariant-loop decreases-loop
 loop2-holds c =
-    let l = c.before.before.before.before.loop in
+    let l = c.before.before.before.before.loop-i in
     let a = c.before.before.before.before.before.args in
-    let n = first-length a.t1 a.t2 a.n (omega arith) in
-    (c.before.before.before.loop-test.true, omega arith, l.invariant.1, l.invariant.2, inner_start _ _ _ _ _ _ (omega (arith, n)) (outer-key c) l.invariant.3)
+    let n = first-length a.keys a.places a.n (omega arith) in
+    (c.before.before.before.loop-i-test.true, omega arith, l.invariant.1, l.invariant.2, inner_start _ _ _ _ _ _ (omega (arith, n)) (outer-key c) l.invariant.3)
 
-array-read-y : tie.Need-array-read-y invariant-loop2 decreases-loop2 invariant-loop decreases-loop
+array-read-y : tie.Need-bounds-places-j invariant-loop2 decreases-loop2 invariant-loop decreases-loop
 array-read-y c = search rules
 
-index-requires-2 : tie.Need-index-requires-2 invariant-loop2 decreases-loop2 invariant-loop decreases-loop
+index-requires-2 : tie.Need-index-requires-in-loop-j invariant-loop2 decreases-loop2 invariant-loop decreases-loop
 index-requires-2 c κs = search rules
 
-mul-e : tie.Need-overflow-mul-e invariant-loop2 decreases-loop2 invariant-loop decreases-loop
+mul-e : tie.Need-offset_bounds-keys-index-in-loop-j invariant-loop2 decreases-loop2 invariant-loop decreases-loop
 mul-e c = search rules
 
-array-copy-out-e : tie.Need-array-copy-out-e invariant-loop2 decreases-loop2 invariant-loop decreases-loop
+array-copy-out-e : tie.Need-bounds-keys-index-in-loop-j invariant-loop2 decreases-loop2 invariant-loop decreases-loop
 array-copy-out-e c = search rules
 
-key-if-requires-2 : tie.Need-key-if-requires-2 invariant-loop2 decreases-loop2 invariant-loop decreases-loop
+key-if-requires-2 : tie.Need-key_if-requires invariant-loop2 decreases-loop2 invariant-loop decreases-loop
 key-if-requires-2 c κs = search rules
 
-same-requires : tie.Need-same-requires invariant-loop2 decreases-loop2 invariant-loop decreases-loop
+same-requires : tie.Need-same-found-requires invariant-loop2 decreases-loop2 invariant-loop decreases-loop
 same-requires c κs = search rules
 
-add-j-2 : tie.Need-overflow-add-j-2 invariant-loop2 decreases-loop2 invariant-loop decreases-loop
+add-j-2 : tie.Need-overflow_add-j-in-loop-j invariant-loop2 decreases-loop2 invariant-loop decreases-loop
 add-j-2 c = search rules
 
-loop2-less : tie.Need-loop2-smaller invariant-loop2 decreases-loop2 invariant-loop decreases-loop
+loop2-less : tie.Need-loop-j-smaller invariant-loop2 decreases-loop2 invariant-loop decreases-loop
 loop2-less c = search rules
 
-loop2-again : tie.Need-loop2-preserved invariant-loop2 decreases-loop2 invariant-loop decreases-loop
+loop2-again : tie.Need-loop-j-preserved invariant-loop2 decreases-loop2 invariant-loop decreases-loop
 loop2-again c =
-    let m = c.before.before.before.before.before.loop2 in
+    let m = c.before.before.before.before.before.loop-j in
     let a = c.before.before.before.before.before.before.before.before.before.before.before.args in
-    let n = first-length a.t1 a.t2 a.n (omega arith) in
-    let t = c.before.before.before.before.loop2-test.true in
+    let n = first-length a.keys a.places a.n (omega arith) in
+    let t = c.before.before.before.before.loop-j-test.true in
     let e = inner-more _ _ _ _ _ _ _ _ (omega (arith, n)) (inner-key c.before) m.invariant.4 in
-    (m.invariant.0, omega arith, m.invariant.2, m.invariant.3, rw c.same.ensures e)
+    (m.invariant.0, omega arith, m.invariant.2, m.invariant.3, rw c.same-found.ensures e)
 
-add-i : tie.Need-overflow-add-i invariant-loop2 decreases-loop2 invariant-loop decreases-loop
+add-i : tie.Need-overflow_add-i invariant-loop2 decreases-loop2 invariant-loop decreases-loop
 add-i c = search rules
 
-loop-less : tie.Need-loop-smaller invariant-loop2 decreases-loop2 invariant-loop decreases-loop
+loop-less : tie.Need-loop-i-smaller invariant-loop2 decreases-loop2 invariant-loop decreases-loop
 loop-less c = search rules
 
-loop-again : tie.Need-loop-preserved invariant-loop2 decreases-loop2 invariant-loop decreases-loop
+loop-again : tie.Need-loop-i-preserved invariant-loop2 decreases-loop2 invariant-loop decreases-loop
 loop-again c =
-    let m = c.before.loop2 in
+    let m = c.before.loop-j in
     let a = c.before.before.before.before.before.before.before.args in
-    let n = first-length a.t1 a.t2 a.n (omega arith) in
+    let n = first-length a.keys a.places a.n (omega arith) in
     (omega arith, m.invariant.2, m.invariant.3, inner-end _ _ _ _ _ _ (omega (arith, n)) m.invariant.4)
 
 returns : tie.Need-returns invariant-loop2 decreases-loop2 invariant-loop decreases-loop
 returns c =
-    let l = c.before.loop in
+    let l = c.before.loop-i in
     let a = c.before.before.args in
-    outer-end _ _ _ _ (omega (arith, first-length a.t1 a.t2 a.n (omega arith))) l.invariant.3
+    outer-end _ _ _ _ (omega (arith, first-length a.keys a.places a.n (omega arith))) l.invariant.3
 
-pub any-same-spec : {M : Type 1} → statement M
-any-same-spec =
+pub any_same_spec : {M : Type 1} → statement M
+any_same_spec =
     tie.close
     (tie.spec
     invariant-loop2
