@@ -14,7 +14,7 @@ pub use lines::{gather, read_line};
 pub use text::{write_added, write_answer, write_bad, write_flushed, write_refused, write_updated};
 
 // What a line says: a command, the statement's number, and how many values there are. The text of ADD is the line from byte Line::TEXT on.
-#[derive(Drop)]
+#[derive(Clone, Copy)]
 pub struct Line {
     pub command: u8,
     pub number: usize,
@@ -41,7 +41,7 @@ impl Line {
 }
 
 // How far a line was gathered: where the input goes on, the bytes held, and whether the line has ended.
-#[derive(Drop)]
+#[derive(Clone, Copy)]
 pub struct Gathered {
     pub next: usize,
     pub held: usize,
@@ -49,7 +49,7 @@ pub struct Gathered {
 }
 
 // What a line brought: how many bytes of the text are at the start of the lent buffer, and the state.
-#[derive(Drop)]
+#[derive(Clone, Copy)]
 pub struct Reply {
     pub length: usize,
     pub state: State,

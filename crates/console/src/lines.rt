@@ -13,14 +13,14 @@ use token::Token;
 const NEWLINE: u8 = 10;
 
 // A statement's number, or a count of values, if the words for it are good.
-#[derive(Drop)]
+#[derive(Clone, Copy)]
 struct Number {
     good: bool,
     number: usize,
 }
 
 // A value, if the word for it is good.
-#[derive(Drop)]
+#[derive(Clone, Copy)]
 struct Value {
     good: bool,
     value: i32,

@@ -12,7 +12,7 @@ const CELLS: usize = 8192;
 // The bytes of the longest record: a head of eight, and four a value.
 const RECORD: usize = 8 + 4 * (Query::SELECTED * (Table::ROWS as usize));
 
-#[derive(Drop)]
+#[derive(Clone, Copy)]
 struct Store {
     tables: [Table; Table::TABLES],
     queries: [Query; Query::QUERIES],

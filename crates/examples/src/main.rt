@@ -25,7 +25,7 @@ const ROWS: usize = 65535;
 
 const RECORD: usize = 8 + 4 * (Query::SELECTED * ROWS);
 
-#[derive(Drop)]
+#[derive(Clone, Copy)]
 enum Command {
     Open,
     Lend,
@@ -41,7 +41,7 @@ enum Command {
 }
 
 // The state, and the lengths that are lent: of the cells, the cache memory and the answer buffer.
-#[derive(Drop)]
+#[derive(Clone, Copy)]
 struct Store {
     state: State,
     cells: usize,

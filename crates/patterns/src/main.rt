@@ -8,7 +8,7 @@ use table::{Comparison, Condition, Name, Query, Statement, Table, Update};
 
 const CELLS: u32 = 32768;
 
-#[derive(Drop)]
+#[derive(Clone, Copy)]
 struct Store {
     tables: [Table; Table::TABLES],
     used: u8,

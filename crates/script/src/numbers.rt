@@ -6,7 +6,7 @@ ghost use Rattle.script.specs.Script.{natural_of, number_at, count_at, constants
 use token::Token;
 
 // A count in a text, and where the text goes on behind it.
-#[derive(Drop)]
+#[derive(Clone, Copy)]
 pub struct Count {
     pub value: usize,
     pub next: usize,

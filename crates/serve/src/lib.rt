@@ -10,7 +10,7 @@ use cache::State;
 use console::{Gathered, Line};
 
 // The store that document 01's `desk` opens, and the bytes that it lends for answers.
-#[derive(Drop)]
+#[derive(Clone, Copy)]
 pub struct Desk {}
 
 impl Desk {
@@ -37,7 +37,7 @@ const MOST_READS: u64 = 18446744073709551615;
 
 // The state after some lines; the bytes that are held of the next one; where the piece of the input goes on; how many bytes at the start of the buffer
 // for text are of the last bytes used up; whether all could be written; how many bytes were read last; and how many reads are left, 0 at the end of the input.
-#[derive(Drop)]
+#[derive(Clone, Copy)]
 struct Served {
     state: State,
     held: usize,
@@ -137,7 +137,7 @@ fn finish(
 // ---- with output
 
 // How many bytes were handed to `write`, and whether all could be written.
-#[derive(Drop)]
+#[derive(Clone, Copy)]
 struct Printed {
     bytes: usize,
     written: bool,

@@ -9,7 +9,7 @@ use statement::{
 
 const CELLS: u32 = 5000;
 
-#[derive(Drop)]
+#[derive(Clone, Copy)]
 struct Store {
     tables: [Table; Table::TABLES],
     used: u8,

@@ -8,7 +8,7 @@ ghost use Rattle.token.specs.Tokens.{kind_of, made, token_of, token_at};
 ghost use Rattle.token.specs.Parts.{passes as passes_test, part, signed, packed_of, kind_among, pair_of, single_of, read_at};
 
 // A token: its kind, a constant's value (0 for other kinds), where it starts, and where the text goes on after it.
-#[derive(Drop)]
+#[derive(Clone, Copy)]
 pub struct Token {
     pub kind: u8,
     pub value: i32,

@@ -71,11 +71,11 @@ loop-again c =
     (λ w. (
       l.invariant.0,
       l.invariant.1,
-      rw w.1 (simp length-set l.invariant.2),
-      rw (w.1, w.2) (gathering-take _ _ _ _ _ _ _ _ 0 (omega arith) t l.invariant.3 (has c.before true w.0.taken)),
+      rw w.places-is (simp length-set l.invariant.2),
+      rw (w.places-is, w.len-is) (gathering-take _ _ _ _ _ _ _ _ 0 (omega arith) t l.invariant.3 (has c.before true w.if-marked-want.true)),
     ))
-    (λ w. (l.invariant.0, l.invariant.1, rw w.1 l.invariant.2, rw (w.1, w.2) (gathering-skip _ _ _ _ _ _ _ _ 0 (omega arith) t l.invariant.3 (has c.before false w.0.left))))
-    c.if-marked-want.branch
+    (λ w. (l.invariant.0, l.invariant.1, rw w.places-is l.invariant.2, rw (w.places-is, w.len-is) (gathering-skip _ _ _ _ _ _ _ _ 0 (omega arith) t l.invariant.3 (has c.before false w.if-marked-want.false))))
+    c.if-marked-want.branch-raw
 
 returns : tie.Need-returns invariant-loop decreases-loop
 unfolding appended
