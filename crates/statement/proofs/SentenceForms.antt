@@ -47,7 +47,7 @@ module _ (s : List ℕ) (c : Cursor) (xs : List ℕ) where
   pub where-absent : c.ok ≡ true → Stands s c → begins (keyword WHERE) (tokens (drop c.at s)) ≡ false → ReadsWhere s c xs c xs
   where-absent k st i b eb n h =
       finds s (a_where (a_column b) n) (λ w. Filters b s c xs c xs (mapped_in comparison w)) c c always (tokens (drop c.at s)) k
-      (passing-stops (keyword WHERE) _ _ (tokens (drop c.at s)) i) (record { ok = k; stands = st; left = refl }) (filters-nothing b s c xs)
+      (passing-stops (keyword WHERE) (a_condition (a_column b) n disjunction >>= λ d. done (under d)) (done always) (tokens (drop c.at s)) i) (record { ok = k; stands = st; left = refl }) (filters-nothing b s c xs)
 
   pub where-read : (at : ℕ) (r : Cursor) (ys : List ℕ) → c.ok ≡ true → Goes s c.at at (keyword WHERE) → Reads disjunction s true 0 (moved_to at c) xs r ys → ReadsWhere s c xs r ys
   where-read at r ys k g m b eb n h =

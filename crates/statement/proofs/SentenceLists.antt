@@ -190,7 +190,7 @@ module _ (k : Kind) (s xs : List ℕ) (c : Cursor) (l : ℕ) (ys : List ℕ) (on
         fails = g.fails;
         takes = λ t.
             goes_on s _ _ Q one.c one.c (item_reader k (tokens (drop c.at s))) (g.takes t) (λ f. f) (λ x b q.
-            subst (Takes s one.c Q) (sym (passing-stops comma _ _ (tokens (drop one.c.at s)) i)) (b, q));
+            subst (Takes s one.c Q) (sym (passing-stops comma (a_list (item_reader k) n >>= λ ws. done (next x ws)) (done (last x)) (tokens (drop one.c.at s)) i)) (b, q));
       }
     where
       Q : Listed (Content k) → Type 0

@@ -8,7 +8,7 @@ use native.Mathlib.Omega.{arith}
 use lib.ListN.{length, drop}
 use Rattle.lists.proofs.Bools.{clash}
 use Rattle.meaning.specs.Tokens.{Token, Keyword, keyword, TABLE, SELECT, INSERT, UPDATE, DELETE, tokens}
-use Rattle.meaning.specs.Grammar.{Sentence, Reader, a_table, a_select, an_insert, an_update, a_delete, a_sentence, whole, read, sentence}
+use Rattle.meaning.specs.Grammar.{Sentence, Reader, a_table, a_select, an_insert, an_update, a_delete, a_sentence, passing, fails, whole, read, sentence}
 use Rattle.meaning.proofs.Readers.{some-none, begins, passing-stops}
 use Rattle.meaning.proofs.Decides.{decides, decides-from}
 use Rattle.token.specs.declared.Token.{Token as Read}
@@ -70,7 +70,24 @@ module _ (s ls ps : List ℕ) (r : Entry) where
   unfolding a_sentence
   starts-not h₁ h₂ h₃ h₄ h₅ f n l =
       subst (Takes s r.c (Entered s ls ps r))
-      (sym (passing-stops _ _ _ (tokens s) h₁ ∙ passing-stops _ _ _ (tokens s) h₂ ∙ passing-stops _ _ _ (tokens s) h₃ ∙ passing-stops _ _ _ (tokens s) h₄ ∙ passing-stops _ _ _ (tokens s) h₅)) f
+      (sym (
+        passing-stops (keyword TABLE) (a_table n) from-select (tokens s) h₁
+        ∙ passing-stops (keyword SELECT) (a_select n) from-insert (tokens s) h₂
+        ∙ passing-stops (keyword INSERT) (an_insert n) from-update (tokens s) h₃
+        ∙ passing-stops (keyword UPDATE) (an_update n) from-delete (tokens s) h₄
+        ∙ passing-stops (keyword DELETE) (a_delete n) fails (tokens s) h₅)) f
+    where
+      from-delete : Reader Sentence
+      from-delete = passing (keyword DELETE) (a_delete n) fails
+
+      from-update : Reader Sentence
+      from-update = passing (keyword UPDATE) (an_update n) from-delete
+
+      from-insert : Reader Sentence
+      from-insert = passing (keyword INSERT) (an_insert n) from-update
+
+      from-select : Reader Sentence
+      from-select = passing (keyword SELECT) (a_select n) from-insert
 
 -- ---- the end of the text
 

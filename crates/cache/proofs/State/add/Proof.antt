@@ -9,7 +9,7 @@ use Rattle.cache.proofs.State.add.Statement.{statement}
 use Rattle.cache.proofs.State.add.Tie as tie
 
 long : (c : tie.Start) → length c.args.self.tables ≡ 8
-long c = simp length-map at c.well-formed.0.1.1.0.1.0.1
+long c = c.well-formed.0.1.1.0.1.0.1
 
 -- the test, read
 unfit-told : (c : tie.After-is-unfit) → let a = c.before.before.before.before.args in c.is-unfit.result ≡ unfit a.self (length a.cells.now) (length a.memory.now)

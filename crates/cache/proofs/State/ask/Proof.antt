@@ -8,7 +8,7 @@ use Rattle.cache.proofs.State.ask.Statement.{statement}
 use Rattle.cache.proofs.State.ask.Tie as tie
 
 queries : (c : tie.Start) → length c.args.self.queries ≡ 16
-queries c = simp length-map at c.well-formed.0.1.1.1.0.1.0.1
+queries c = c.well-formed.0.1.1.1.0.1.0.1
 
 is-sound-requires : tie.Need-is-sound-requires
 is-sound-requires c κs = search rules

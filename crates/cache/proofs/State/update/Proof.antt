@@ -10,7 +10,7 @@ use Rattle.cache.proofs.State.update.Tie as tie
 
 -- the lengths of the arrays
 long : (c : tie.Start) → Long c.args.t1
-long c = record { tables = simp length-map at c.well-formed.0.1.1.0.1.0.1; updates = simp length-map at c.well-formed.0.1.1.1.1.0.1.0.1 }
+long c = record { tables = c.well-formed.0.1.1.0.1.0.1; updates = simp length-map at c.well-formed.0.1.1.1.1.0.1.0.1 }
 
 order : (c : tie.Start) → length c.args.t1.slots.order ≡ 64
 order c = search rules

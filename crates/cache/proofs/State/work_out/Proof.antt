@@ -17,10 +17,10 @@ sound : (c : tie.Start) → Sound c.args.self
 sound c = sound-is c.args.self c.requires.0
 
 tables : (c : tie.Start) → length c.args.self.tables ≡ 8
-tables c = simp length-map at c.well-formed.0.1.1.0.1.0.1
+tables c = c.well-formed.0.1.1.0.1.0.1
 
 queries : (c : tie.Start) → length c.args.self.queries ≡ 16
-queries c = simp length-map at c.well-formed.0.1.1.1.0.1.0.1
+queries c = c.well-formed.0.1.1.1.0.1.0.1
 
 few : (c : tie.Start) → c.args.query < 16
 few c = omega (arith, (sound c).few-queries, c.requires.1)

@@ -20,7 +20,7 @@ abbrev decreases-loop : tie.decreases-loop
 decreases-loop count values n entries i₀ i = n - i
 
 eight : (c : tie.Start invariant-loop decreases-loop) → length c.args.self.entries ≡ 8
-eight c = simp length-map at c.well-formed.0.1.1.1.0.1.0.1
+eight c = c.well-formed.0.1.1.1.0.1.0.1
 
 values-long : (c : tie.Start invariant-loop decreases-loop) → length c.args.t2 ≡ 8
 values-long c = search rules

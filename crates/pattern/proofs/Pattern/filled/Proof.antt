@@ -18,7 +18,7 @@ abbrev decreases-loop : tie.decreases-loop
 decreases-loop self values entries₀ i₀ entries i = 8 - i
 
 eight : (c : tie.Start invariant-loop decreases-loop) → length c.args.self.entries ≡ 8
-eight c = simp length-map at c.well-formed.0.1.1.1.0.1.0.1
+eight c = c.well-formed.0.1.1.1.0.1.0.1
 
 loop-holds : tie.Need-loop-init invariant-loop decreases-loop
 loop-holds c = (omega arith, eight c.before, eight c.before, refl)

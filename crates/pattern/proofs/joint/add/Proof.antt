@@ -25,7 +25,7 @@ abbrev decreases-loop : tie.decreases-loop
 decreases-loop n mask role from settings given condition codes₀ numbers₀ at₀ left₀ i₀ codes numbers at left i = condition.count - i
 
 eight : (c : tie.Start invariant-loop decreases-loop) → length c.args.t4.comparisons ≡ 8
-eight c = simp length-map at c.well-formed.1.1.1.0.1.1.0.1.0.1
+eight c = c.well-formed.1.1.1.0.1.1.0.1.0.1
 
 settings-long : (c : tie.Start invariant-loop decreases-loop) → length c.args.settings ≡ 8
 settings-long c = search rules

@@ -20,10 +20,10 @@ abbrev decreases-loop : tie.decreases-loop
 decreases-loop xs ys good₀ i₀ good i = 8 - i
 
 left-long : (c : tie.Start invariant-loop decreases-loop) → length c.args.a.entries ≡ 8
-left-long c = simp length-map at c.well-formed.0.1.1.1.0.1.0.1
+left-long c = c.well-formed.0.1.1.1.0.1.0.1
 
 right-long : (c : tie.Start invariant-loop decreases-loop) → length c.args.b.entries ≡ 8
-right-long c = simp length-map at c.well-formed.1.0.1.1.1.0.1.0.1
+right-long c = c.well-formed.1.0.1.1.1.0.1.0.1
 
 loop-holds : tie.Need-loop-init invariant-loop decreases-loop
 loop-holds c = (omega arith, left-long c.before.before, right-long c.before.before, refl)

@@ -18,7 +18,7 @@ abbrev decreases-loop : tie.decreases-loop
 decreases-loop condition n s₀ i₀ s i = 2 * n - i
 
 eight : (c : tie.Start invariant-loop decreases-loop) → length c.args.t1.comparisons ≡ 8
-eight c = simp length-map at c.well-formed.0.1.1.0.1.0.1
+eight c = c.well-formed.0.1.1.0.1.0.1
 
 fifteen : (c : tie.Start invariant-loop decreases-loop) → length c.args.t1.steps ≡ 15
 fifteen c = search rules

@@ -29,7 +29,7 @@ abbrev decreases-loop : tie.decreases-loop
 decreases-loop count columns n condition found₀ i₀ found i = count - i
 
 eight : (c : tie.Start invariant-loop decreases-loop) → length c.args.t1.comparisons ≡ 8
-eight c = simp length-map at c.well-formed.0.1.1.0.1.0.1
+eight c = c.well-formed.0.1.1.0.1.0.1
 
 loop-holds : tie.Need-loop-init invariant-loop decreases-loop
 loop-holds c = (omega arith, eight c, refl)

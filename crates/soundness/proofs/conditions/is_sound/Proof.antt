@@ -14,7 +14,7 @@ fifteen : (c : tie.Start) → length c.args.c.steps ≡ 15
 fifteen c = search rules
 
 eight : (c : tie.Start) → length c.args.c.comparisons ≡ 8
-eight c = simp length-map at c.well-formed.0.1.1.0.1.0.1
+eight c = c.well-formed.0.1.1.0.1.0.1
 
 cast-n : tie.Need-overflow-cast-n
 cast-n c = search rules

@@ -13,7 +13,7 @@ use Rattle.soundness.proofs.statements.update_is_sound.Statement.{statement}
 use Rattle.soundness.proofs.statements.update_is_sound.Tie as tie
 
 eight : (c : tie.Start) → length c.args.u.settings ≡ 8
-eight c = simp length-map at c.well-formed.0.1.1.1.1.0.1.0.1
+eight c = c.well-formed.0.1.1.1.1.0.1.0.1
 
 -- the form's test is passed, so there are no more settings than places
 formed : (c : tie.Then1) → let u = c.before.before.before.args.u in form_fits u.form u.count c.before.before.before.args.columns u.condition.count ≡ true

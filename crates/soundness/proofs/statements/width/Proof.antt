@@ -8,7 +8,7 @@ use Rattle.soundness.proofs.statements.width.Statement.{statement}
 use Rattle.soundness.proofs.statements.width.Tie as tie
 
 eight : (c : tie.Start) → length c.args.t.columns ≡ 8
-eight c = simp length-map at c.well-formed.0.1.1.1.0.1.0.1
+eight c = c.well-formed.0.1.1.1.0.1.0.1
 
 cast-if1 : tie.Need-overflow-cast-if1
 cast-if1 c = search rules

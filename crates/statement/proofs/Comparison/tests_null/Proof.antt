@@ -6,5 +6,5 @@ use Rattle.statement.proofs.Comparison.tests_null.Tie as tie
 returns : tie.Need-returns
 returns c = null-number c.args.op
 
-pub tests-null-spec : {M : Type 1} → statement M
-tests-null-spec = tie.close (tie.spec returns)
+pub tests_null_spec : {M : Type 1} → statement M
+tests_null_spec = tie.close (tie.spec returns)

@@ -9,73 +9,73 @@ use Rattle.statement.proofs.Statement.compile.Tie as tie
 refused-requires : tie.Need-refused-requires
 refused-requires c κs = search rules
 
-returns : tie.Need-returns
+returns : tie.Need-returns-then-text-gt-TEXT
 returns c =
     let a = c.before.before.before.args in
-    compiled-long a.text.now a.tables a.used a.queries a.updates a.cells _ c.before.if1.true c.refused.ensures
+    compiled-long a.text.now a.tables a.used a.queries a.updates a.cells _ c.before.if-text-gt-TEXT.true c.refused.ensures
 
-read-sentence-requires : tie.Need-read-sentence-requires
+read-sentence-requires : tie.Need-read_sentence-e-requires
 read-sentence-requires c κs = search rules
 
-refused-requires-2 : tie.Need-refused-requires-2
+refused-requires-2 : tie.Need-refused-requires-then-not-e
 refused-requires-2 c κs = search rules
 
-returns-2 : tie.Need-returns-2
+returns-2 : tie.Need-returns-then-not-e
 returns-2 c =
     let d = c.before.before.before in
-    let rs = d.read-sentence in
+    let rs = d.read_sentence-e in
     let a = d.before.before.before.before.before.args in
     let s = a.text.now in
-    compiled-none s rs.new.1.0 rs.new.1.1.0 rs.result a.tables a.used a.queries a.updates a.cells d.before.before.before.if1.false rs.ensures _ (not-true rs.result.c.ok c.before.if2.true) c.refused2.ensures
+    compiled-none s rs.new.list rs.new.places rs.result a.tables a.used a.queries a.updates a.cells d.before.before.before.if-text-gt-TEXT.false rs.ensures _ (not-true rs.result.c.ok c.before.if-not-e.true) c.refused-then-not-e.ensures
 
-is-over-requires : tie.Need-is-over-requires
+is-over-requires : tie.Need-is_over-requires
 is-over-requires c κs = search rules
 
-refused-requires-3 : tie.Need-refused-requires-3
+refused-requires-3 : tie.Need-refused-requires-then-is_over
 refused-requires-3 c κs = search rules
 
-returns-3 : tie.Need-returns-3
+returns-3 : tie.Need-returns-then-is_over
 returns-3 c =
     let d = c.before.before.before.before.before in
-    let rs = d.read-sentence in
+    let rs = d.read_sentence-e in
     let a = d.before.before.before.before.before.args in
     let s = a.text.now in
-    compiled-over s rs.new.1.0 rs.new.1.1.0 rs.result a.tables a.used a.queries a.updates a.cells d.before.before.before.if1.false rs.ensures (not-false rs.result.c.ok c.before.before.before.if2.false) _ (sym c.before.before.is-over.ensures ∙ c.before.if3.true) c.refused3.ensures
+    compiled-over s rs.new.list rs.new.places rs.result a.tables a.used a.queries a.updates a.cells d.before.before.before.if-text-gt-TEXT.false rs.ensures (not-false rs.result.c.ok c.before.before.before.if-not-e.false) _ (sym c.before.before.is_over.ensures ∙ c.before.if-is_over.true) c.refused-then-is_over.ensures
 
 table-requires : tie.Need-table-requires
 table-requires c κs =
     let d = c.before.before.before.before.before.before in
-    let rs = d.read-sentence in
+    let rs = d.read_sentence-e in
     let a = d.before.before.before.before.before.args in
     let s = a.text.now in
-    (compiled-fits s rs.new.1.0 rs.new.1.1.0 rs.result a.tables a.used a.queries a.updates a.cells d.before.before.before.if1.false rs.ensures (not-false rs.result.c.ok c.before.before.before.before.if2.false) (sym c.before.before.before.is-over.ensures ∙ c.before.before.if3.false)).listed
+    (compiled-fits s rs.new.list rs.new.places rs.result a.tables a.used a.queries a.updates a.cells d.before.before.before.if-text-gt-TEXT.false rs.ensures (not-false rs.result.c.ok c.before.before.before.before.if-not-e.false) (sym c.before.before.before.is_over.ensures ∙ c.before.before.if-is_over.false)).listed
 
-returns-4 : tie.Need-returns-4
+returns-4 : tie.Need-returns-then-e-eq-TABLE
 returns-4 c =
     let d = c.before.before.before.before.before.before.before in
-    let rs = d.read-sentence in
+    let rs = d.read_sentence-e in
     let a = d.before.before.before.before.before.args in
     let s = a.text.now in
-    compiled-table s rs.new.1.0 rs.new.1.1.0 rs.result a.tables a.used a.queries a.updates a.cells d.before.before.before.if1.false rs.ensures (not-false rs.result.c.ok c.before.before.before.before.before.if2.false) (sym c.before.before.before.before.is-over.ensures ∙ c.before.before.before.if3.false) _ c.before.if4.true c.table.ensures
+    compiled-table s rs.new.list rs.new.places rs.result a.tables a.used a.queries a.updates a.cells d.before.before.before.if-text-gt-TEXT.false rs.ensures (not-false rs.result.c.ok c.before.before.before.before.before.if-not-e.false) (sym c.before.before.before.before.is_over.ensures ∙ c.before.before.before.if-is_over.false) _ c.before.if-e-eq-TABLE.true c.table.ensures
 
 beside-requires : tie.Need-beside-requires
 beside-requires c κs =
     let d = c.before.before.before.before.before.before in
-    let rs = d.read-sentence in
+    let rs = d.read_sentence-e in
     let a = d.before.before.before.before.before.args in
     let s = a.text.now in
-    compiled-fits s rs.new.1.0 rs.new.1.1.0 rs.result a.tables a.used a.queries a.updates a.cells d.before.before.before.if1.false rs.ensures (not-false rs.result.c.ok c.before.before.before.before.if2.false) (sym c.before.before.before.is-over.ensures ∙ c.before.before.if3.false)
+    compiled-fits s rs.new.list rs.new.places rs.result a.tables a.used a.queries a.updates a.cells d.before.before.before.if-text-gt-TEXT.false rs.ensures (not-false rs.result.c.ok c.before.before.before.before.if-not-e.false) (sym c.before.before.before.is_over.ensures ∙ c.before.before.if-is_over.false)
 
-returns-5 : tie.Need-returns-5
+returns-5 : tie.Need-returns
 returns-5 c =
     let d = c.before.before.before.before.before.before.before in
-    let rs = d.read-sentence in
+    let rs = d.read_sentence-e in
     let a = d.before.before.before.before.before.args in
     let s = a.text.now in
-    compiled-beside s rs.new.1.0 rs.new.1.1.0 rs.result a.tables a.used a.queries a.updates a.cells d.before.before.before.if1.false rs.ensures (not-false rs.result.c.ok c.before.before.before.before.before.if2.false) (sym c.before.before.before.before.is-over.ensures ∙ c.before.before.before.if3.false) _ c.before.if4.false c.beside.ensures
+    compiled-beside s rs.new.list rs.new.places rs.result a.tables a.used a.queries a.updates a.cells d.before.before.before.if-text-gt-TEXT.false rs.ensures (not-false rs.result.c.ok c.before.before.before.before.before.if-not-e.false) (sym c.before.before.before.before.is_over.ensures ∙ c.before.before.before.if-is_over.false) _ c.before.if-e-eq-TABLE.false c.beside.ensures
 
-pub compile-spec : {M : Type 1} → statement M
-compile-spec =
+pub compile_spec : {M : Type 1} → statement M
+compile_spec =
     tie.close
     (tie.spec
     refused-requires

@@ -5,21 +5,21 @@ use Rattle.statement.proofs.Assembled.{settled-none, settled-some}
 use Rattle.statement.proofs.assembling.asked.Statement.{statement}
 use Rattle.statement.proofs.assembling.asked.Tie as tie
 
-no-table-requires : tie.Need-no-table-requires
+no-table-requires : tie.Need-no_table-requires
 no-table-requires c κs = search rules
 
-no-update-requires : tie.Need-no-update-requires
+no-update-requires : tie.Need-no_update-requires
 no-update-requires c κs = search rules
 
-returns : tie.Need-returns
-returns c = rw (c.before.no_table.ensures, c.no-update.ensures) (settled-none _ _ c.before.before.if1.true)
+returns : tie.Need-returns-then-number-eq0
+returns c = rw (c.before.no_table.ensures, c.no_update.ensures) (settled-none _ _ c.before.before.if-number-eq0.true)
 
 refused-requires : tie.Need-refused-requires
 refused-requires c κs = search rules
 
-returns-2 : tie.Need-returns-2
-returns-2 c = c.refused.ensures ∙ settled-some _ _ c.before.if1.false
+returns-2 : tie.Need-returns
+returns-2 c = c.refused.ensures ∙ settled-some _ _ c.before.if-number-eq0.false
 
-pub asked-spec : {M : Type 1} → statement M
-asked-spec =
+pub asked_spec : {M : Type 1} → statement M
+asked_spec =
     tie.close (tie.spec no-table-requires no-update-requires returns refused-requires returns-2)

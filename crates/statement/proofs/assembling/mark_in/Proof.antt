@@ -7,11 +7,11 @@ use Rattle.statement.proofs.ByKind.{value-constant, value-mark}
 use Rattle.statement.proofs.assembling.mark_in.Statement.{statement}
 use Rattle.statement.proofs.assembling.mark_in.Tie as tie
 
-returns : tie.Need-returns
-returns c = sym (ap (λ (v : M.Value). mark_in_operand (value v)) (value-constant c.before.before.args.v c.if1.true))
+returns : tie.Need-returns-then-v-eq0
+returns c = sym (ap (λ (v : M.Value). mark_in_operand (value v)) (value-constant c.before.before.args.v c.if-v-eq0.true))
 
-returns-2 : tie.Need-returns-2
-returns-2 c = sym (ap (λ (v : M.Value). mark_in_operand (value v)) (value-mark c.before.before.args.v c.if1.false))
+returns-2 : tie.Need-returns-else-v-eq0
+returns-2 c = sym (ap (λ (v : M.Value). mark_in_operand (value v)) (value-mark c.before.before.args.v c.if-v-eq0.false))
 
-pub mark-in-spec : {M : Type 1} → statement M
-mark-in-spec = tie.close (tie.spec returns returns-2)
+pub mark_in_spec : {M : Type 1} → statement M
+mark_in_spec = tie.close (tie.spec returns returns-2)

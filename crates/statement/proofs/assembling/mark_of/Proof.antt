@@ -8,5 +8,5 @@ use Rattle.statement.proofs.assembling.mark_of.Tie as tie
 returns : tie.Need-returns
 returns c = let o = c.before.args.side in sym (mark_code o.code o.number)
 
-pub mark-of-spec : {M : Type 1} → statement M
-mark-of-spec = tie.close (tie.spec returns)
+pub mark_of_spec : {M : Type 1} → statement M
+mark_of_spec = tie.close (tie.spec returns)

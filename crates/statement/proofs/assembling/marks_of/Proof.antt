@@ -8,25 +8,25 @@ use Rattle.statement.proofs.Parts.{mark-few}
 use Rattle.statement.proofs.assembling.marks_of.Statement.{statement}
 use Rattle.statement.proofs.assembling.marks_of.Tie as tie
 
-left-side-requires : tie.Need-left-side-requires
+left-side-requires : tie.Need-left_side-a-requires
 left-side-requires c κs = search rules
 
-right-side-requires : tie.Need-right-side-requires
+right-side-requires : tie.Need-right_side-b-requires
 right-side-requires c κs = search rules
 
-mark-of-requires : tie.Need-mark-of-requires
+mark-of-requires : tie.Need-mark_of-requires
 mark-of-requires c κs = search rules
 
-mark-of-requires-2 : tie.Need-mark-of-requires-2
+mark-of-requires-2 : tie.Need-mark_of-requires-2
 mark-of-requires-2 c κs = search rules
 
-add-result : tie.Need-overflow-add-result
+add-result : tie.Need-overflow_add-result
 add-result c =
-    record { fits = omega (arith, c.before.mark_of.ensures, c.mark-of2.ensures, mark-few c.before.before.before.left-side.result, mark-few c.before.before.right_side.result) }
+    record { fits = omega (arith, c.before.mark_of.ensures, c.mark_of-2.ensures, mark-few c.before.before.before.left_side-a.result, mark-few c.before.before.right_side-b.result) }
 
 returns : tie.Need-returns
 returns c =
-    ap₂ ◌+◌ (c.before.mark_of.ensures ∙ ap mark_in_side c.before.before.before.left-side.ensures) (c.mark-of2.ensures ∙ ap mark_in_side c.before.before.right_side.ensures)
+    ap₂ ◌+◌ (c.before.mark_of.ensures ∙ ap mark_in_side c.before.before.before.left_side-a.ensures) (c.mark_of-2.ensures ∙ ap mark_in_side c.before.before.right_side-b.ensures)
 
-pub marks-of-spec : {M : Type 1} → statement M
-marks-of-spec = tie.close (tie.spec left-side-requires right-side-requires mark-of-requires mark-of-requires-2 add-result returns)
+pub marks_of_spec : {M : Type 1} → statement M
+marks_of_spec = tie.close (tie.spec left-side-requires right-side-requires mark-of-requires mark-of-requires-2 add-result returns)

@@ -3,14 +3,14 @@ use borrow.Author.Tests.{lt-ltb, le-ltb, eq-eqb, ne_eqb}
 use Rattle.statement.proofs.assembling.step_in.Statement.{statement}
 use Rattle.statement.proofs.assembling.step_in.Tie as tie
 
-returns : tie.Need-returns
-returns c = rw (lt-ltb _ _ c.if1.true)
+returns : tie.Need-returns-then-node-lt-COMPARISONS
+returns c = rw (lt-ltb _ _ c.if-node-lt-COMPARISONS.true)
 
-returns-2 : tie.Need-returns-2
-returns-2 c = rw (le-ltb _ _ c.before.if1.false, eq-eqb _ _ c.if2.true)
+returns-2 : tie.Need-returns-then-node-eq-AND
+returns-2 c = rw (le-ltb _ _ c.before.if-node-lt-COMPARISONS.false, eq-eqb _ _ c.if-node-eq-AND.true)
 
-returns-3 : tie.Need-returns-3
-returns-3 c = rw (le-ltb _ _ c.before.if1.false, ne_eqb _ _ c.if2.false)
+returns-3 : tie.Need-returns-else-node-eq-AND
+returns-3 c = rw (le-ltb _ _ c.before.if-node-lt-COMPARISONS.false, ne_eqb _ _ c.if-node-eq-AND.false)
 
-pub step-in-spec : {M : Type 1} → statement M
-step-in-spec = tie.close (tie.spec returns returns-2 returns-3)
+pub step_in_spec : {M : Type 1} → statement M
+step_in_spec = tie.close (tie.spec returns returns-2 returns-3)

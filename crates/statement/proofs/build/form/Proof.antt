@@ -8,39 +8,39 @@ use Rattle.statement.proofs.build.form.Tie as tie
 select-requires : tie.Need-select-requires
 select-requires c κs = c.before.before.before.requires.0
 
-returns : tie.Need-returns
+returns : tie.Need-returns-then-e-eq-SELECT
 returns c =
     let a = c.before.before.before.before.args in
-    form-select a.text.now a.list a.places a.e (scope_names a.scope) a.table a.queries a.updates _ (c.select.ensures ∙ one-select a.scope c.before.before.before.before.requires.1 a.text.now a.list a.places a.e a.table a.queries) c.before.if1.true
+    form-select a.text.now a.list a.places a.e (scope_names a.scope) a.table a.queries a.updates _ (c.select.ensures ∙ one-select a.scope c.before.before.before.before.requires.1 a.text.now a.list a.places a.e a.table a.queries) c.before.if-e-eq-SELECT.true
 
 insert-requires : tie.Need-insert-requires
 insert-requires c κs =
     let p = c.before.before.before.before.before.requires in
     (p.0.listed, p.0.marks, p.1)
 
-returns-2 : tie.Need-returns-2
+returns-2 : tie.Need-returns-then-e-eq-INSERT
 returns-2 c =
     let a = c.before.before.before.before.before.before.args in
-    form-insert a.text.now a.list a.places a.e (scope_names a.scope) a.table a.queries a.updates _ c.insert.ensures c.before.before.before.if1.false c.before.if2.true
+    form-insert a.text.now a.list a.places a.e (scope_names a.scope) a.table a.queries a.updates _ c.insert.ensures c.before.before.before.if-e-eq-SELECT.false c.before.if-e-eq-INSERT.true
 
 update-requires : tie.Need-update-requires
 update-requires c κs = c.before.before.before.before.before.before.before.requires
 
-returns-3 : tie.Need-returns-3
+returns-3 : tie.Need-returns-then-e-eq-UPDATE
 returns-3 c =
     let a = c.before.before.before.before.before.before.before.before.args in
-    form-update a.text.now a.list a.places a.e (scope_names a.scope) a.table a.queries a.updates _ c.update.ensures c.before.before.before.before.before.if1.false c.before.before.before.if2.false c.before.if3.true
+    form-update a.text.now a.list a.places a.e (scope_names a.scope) a.table a.queries a.updates _ c.update.ensures c.before.before.before.before.before.if-e-eq-SELECT.false c.before.before.before.if-e-eq-INSERT.false c.before.if-e-eq-UPDATE.true
 
 delete-requires : tie.Need-delete-requires
 delete-requires c κs = c.before.before.before.before.before.before.before.requires
 
-returns-4 : tie.Need-returns-4
+returns-4 : tie.Need-returns
 returns-4 c =
     let a = c.before.before.before.before.before.before.before.before.args in
-    form-delete a.text.now a.list a.places a.e (scope_names a.scope) a.table a.queries a.updates _ c.delete.ensures c.before.before.before.before.before.if1.false c.before.before.before.if2.false c.before.if3.false
+    form-delete a.text.now a.list a.places a.e (scope_names a.scope) a.table a.queries a.updates _ c.delete.ensures c.before.before.before.before.before.if-e-eq-SELECT.false c.before.before.before.if-e-eq-INSERT.false c.before.if-e-eq-UPDATE.false
 
-pub form-spec : {M : Type 1} → statement M
-form-spec =
+pub form_spec : {M : Type 1} → statement M
+form_spec =
     tie.close
     (tie.spec
     select-requires

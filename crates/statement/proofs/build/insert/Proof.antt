@@ -5,25 +5,25 @@ use Rattle.statement.proofs.Assembled.{one_width, insert-made}
 use Rattle.statement.proofs.build.insert.Statement.{statement}
 use Rattle.statement.proofs.build.insert.Tie as tie
 
-cast-n : tie.Need-overflow-cast-n
+cast-n : tie.Need-overflow_cast-n
 cast-n c = search rules
 
-cast-listed : tie.Need-overflow-cast-listed
+cast-listed : tie.Need-overflow_cast-listed
 cast-listed c = search rules
 
-cast-parameters : tie.Need-overflow-cast-parameters
+cast-parameters : tie.Need-overflow_cast-parameters
 cast-parameters c = search rules
 
-settings-at-requires : tie.Need-settings-at-requires
+settings-at-requires : tie.Need-settings_at-s-requires
 settings-at-requires c κs = search rules
 
 width-requires : tie.Need-width-requires
 width-requires c κs = search rules
 
-lowest-requires : tie.Need-lowest-requires
+lowest-requires : tie.Need-lowest-number-requires
 lowest-requires c κs = search rules
 
-no-condition-requires : tie.Need-no-condition-requires
+no-condition-requires : tie.Need-no_condition-requires
 no-condition-requires c κs = search rules
 
 changing-requires : tie.Need-changing-requires
@@ -32,11 +32,11 @@ changing-requires c κs = search rules
 returns : tie.Need-returns
 returns c =
     let d = c.before.before.before.before.before.before.before.before.before.before in
-    insert-made _ _ _ _ _ _ _ _ _ _ _ _ c.before.before.before.before.before.settings-at.ensures refl c.before.no-condition.ensures (c.before.before.before.width.ensures ∙ one_width d.args.scope d.requires.2)
-    c.before.before.lowest.ensures c.changing.ensures
+    insert-made _ _ _ _ _ _ _ _ _ _ _ _ c.before.before.before.before.before.settings_at-s.ensures refl c.before.no_condition.ensures (c.before.before.before.width.ensures ∙ one_width d.args.scope d.requires.2)
+    c.before.before.lowest-number.ensures c.changing.ensures
 
-pub insert-spec : {M : Type 1} → statement M
-insert-spec =
+pub insert_spec : {M : Type 1} → statement M
+insert_spec =
     tie.close
     (tie.spec
     cast-n

@@ -6,53 +6,53 @@ use Rattle.statement.proofs.Assembled.{pair-none, pair-some}
 use Rattle.statement.proofs.build.pair.Statement.{statement}
 use Rattle.statement.proofs.build.pair.Tie as tie
 
-cast-name-at : tie.Need-overflow-cast-name-at
+cast-name-at : tie.Need-overflow_cast-e
 cast-name-at c = search rules
 
-name-at-requires : tie.Need-name-at-requires
+name-at-requires : tie.Need-name_at-other-requires
 name-at-requires c κs = search rules
 
-find-table-requires : tie.Need-find-table-requires
+find-table-requires : tie.Need-find_table-j-requires
 find-table-requires c κs = search rules
 
-table-count-requires : tie.Need-table-count-requires
+table-count-requires : tie.Need-table_count-requires
 table-count-requires c κs = search rules
 
-cast-if1 : tie.Need-overflow-cast-if1
+cast-if1 : tie.Need-overflow_cast-j
 cast-if1 c = search rules
 
 refused-requires : tie.Need-refused-requires
 refused-requires c κs = search rules
 
-returns : tie.Need-returns
+returns : tie.Need-returns-then-table_count-j
 returns c =
     let a = c.before.before.before.before.before.before.before.args in
-    pair-none a.text.now a.list a.places a.e a.t8 a.used a.queries a.name a.t a.i _ _ _
-    c.before.before.before.before.name-at.ensures c.before.before.before.find-table.ensures c.before.before.table-count.ensures.0 _ c.before.if1.true c.refused.ensures
+    pair-none a.text.now a.list a.places a.e a.tables a.used a.queries a.name a.t a.i _ _ _
+    c.before.before.before.before.name_at-other.ensures c.before.before.before.find_table-j.ensures c.before.before.table_count.ensures.0 _ c.before.if-table_count-j.true c.refused.ensures
 
-cast-u : tie.Need-overflow-cast-u
+cast-u : tie.Need-overflow_cast-u
 cast-u c = search rules
 
-mul-u : tie.Need-overflow-mul-u
+mul-u : tie.Need-offset_bounds-tables-j
 mul-u c = search rules
 
-array-copy-out-u : tie.Need-array-copy-out-u
+array-copy-out-u : tie.Need-bounds-tables-j
 array-copy-out-u c = search rules
 
-pair-scope-requires : tie.Need-pair-scope-requires
+pair-scope-requires : tie.Need-pair_scope-scope-requires
 pair-scope-requires c κs = search rules
 
-add-select : tie.Need-overflow-add-select
-add-select c = record { fits = omega (arith, c.before.before.if1.false, c.before.before.before.table-count.ensures.1) }
+add-select : tie.Need-overflow_add-j
+add-select c = record { fits = omega (arith, c.before.before.if-table_count-j.false, c.before.before.before.table_count.ensures.1) }
 
 select-requires : tie.Need-select-requires
 select-requires c κs = search rules
 
-returns-2 : tie.Need-returns-2
+returns-2 : tie.Need-returns
 returns-2 c =
     let a = c.before.before.before.before.before.before.before.before.before.args in
-    pair-some a.text.now a.list a.places a.e a.t8 a.used a.queries a.name a.t a.i _ _ _
-    c.before.before.before.before.before.before.name-at.ensures c.before.before.before.before.before.find-table.ensures c.before.before.before.before.table-count.ensures.0 _ _ _ _ c.before.before.before.if1.false c.before.pair-scope.ensures refl c.select.ensures
+    pair-some a.text.now a.list a.places a.e a.tables a.used a.queries a.name a.t a.i _ _ _
+    c.before.before.before.before.before.before.name_at-other.ensures c.before.before.before.before.before.find_table-j.ensures c.before.before.before.before.table_count.ensures.0 _ _ _ _ c.before.before.before.if-table_count-j.false c.before.pair_scope-scope.ensures refl c.select.ensures
 
 pub pair_spec : {M : Type 1} → statement M
 pair_spec =

@@ -9,47 +9,47 @@ use Rattle.statement.proofs.Assembled.{sets-few, condition-few, one_width, one-c
 use Rattle.statement.proofs.build.update.Statement.{statement}
 use Rattle.statement.proofs.build.update.Tie as tie
 
-cast-n : tie.Need-overflow-cast-n
+cast-n : tie.Need-overflow_cast-n
 cast-n c = search rules
 
-cast-listed : tie.Need-overflow-cast-listed
+cast-listed : tie.Need-overflow_cast-listed
 cast-listed c = search rules
 
-cast-parameters : tie.Need-overflow-cast-parameters
+cast-parameters : tie.Need-overflow_cast-parameters
 cast-parameters c = search rules
 
-names-at-requires : tie.Need-names-at-requires
+names-at-requires : tie.Need-names_at-names-requires
 names-at-requires c κs = search rules
 
-positions-requires : tie.Need-positions-requires
+positions-requires : tie.Need-positions-at-requires
 positions-requires c κs = search rules
 
-settings-at-requires : tie.Need-settings-at-requires
+settings-at-requires : tie.Need-settings_at-s-requires
 settings-at-requires c κs = search rules
 
-cast-condition-at : tie.Need-overflow-cast-condition-at
+cast-condition-at : tie.Need-overflow_cast-e
 cast-condition-at c = search rules
 
-condition-at-requires : tie.Need-condition-at-requires
+condition-at-requires : tie.Need-condition_at-condition-requires
 condition-at-requires c κs =
     let d = c.before.before.before.before.before.before.before.before.before in
     let f = d.requires.0 in
     let a = d.args in
-    let m = sets-few a.text.now a.list a.e f.listed (take a.e.listed c.before.before.before.positions.result) in
-    (f.nodes, omega (arith, ap (λ (x : Settings). x.marks) c.before.before.settings-at.ensures, m), f.comparisons a.scope.dotted)
+    let m = sets-few a.text.now a.list a.e f.listed (take a.e.listed c.before.before.before.positions-at.result) in
+    (f.nodes, omega (arith, ap (λ (x : Settings). x.marks) c.before.before.settings_at-s.ensures, m), f.comparisons a.scope.dotted)
 
-width-requires : tie.Need-width-requires
+width-requires : tie.Need-width-w-requires
 width-requires c κs = search rules
 
-is-repeated-requires : tie.Need-is-repeated-requires
+is-repeated-requires : tie.Need-is_repeated-requires
 is-repeated-requires c κs = c.before.before.before.before.before.before.before.before.before.before.before.requires.0.listed
 
-refusal-of-requires : tie.Need-refusal-of-requires
+refusal-of-requires : tie.Need-refusal_of-number-requires
 refusal-of-requires c κs =
     let d = c.before.before.before.before.before.before.before.before.before.before.before.before in
     let a = d.args in
     let s = a.scope in
-    (d.requires.0.listed, condition-few s.dotted (place_in s.dotted s) a.text.now a.places a.e _ d.requires.0 _ c.before.before.condition-at.ensures)
+    (d.requires.0.listed, condition-few s.dotted (place_in s.dotted s) a.text.now a.places a.e _ d.requires.0 _ c.before.before.condition_at-condition.ensures)
 
 changing-requires : tie.Need-changing-requires
 changing-requires c κs = search rules
@@ -59,12 +59,12 @@ returns c =
     let d = c.before.before.before.before.before.before.before.before.before.before.before.before.before.before in
     let a = d.args in
     let h = d.requires.1 in
-    update-made _ _ _ _ _ _ _ _ _ _ _ _ _ _ _ _ c.before.before.before.before.before.before.before.before.before.names_at.ensures c.before.before.before.before.before.before.before.before.positions.ensures c.before.before.before.before.before.before.before.settings-at.ensures refl
-    (c.before.before.before.before.condition-at.ensures ∙ one-condition a.scope h a.text.now a.places a.e _) (c.before.before.before.width.ensures ∙ one_width a.scope h)
-    c.before.before.is-repeated.ensures c.before.refusal-of.ensures c.changing.ensures
+    update-made _ _ _ _ _ _ _ _ _ _ _ _ _ _ _ _ c.before.before.before.before.before.before.before.before.before.names_at-names.ensures c.before.before.before.before.before.before.before.before.positions-at.ensures c.before.before.before.before.before.before.before.settings_at-s.ensures refl
+    (c.before.before.before.before.condition_at-condition.ensures ∙ one-condition a.scope h a.text.now a.places a.e _) (c.before.before.before.width-w.ensures ∙ one_width a.scope h)
+    c.before.before.is_repeated.ensures c.before.refusal_of-number.ensures c.changing.ensures
 
-pub update-spec : {M : Type 1} → statement M
-update-spec =
+pub update_spec : {M : Type 1} → statement M
+update_spec =
     tie.close
     (tie.spec
     cast-n

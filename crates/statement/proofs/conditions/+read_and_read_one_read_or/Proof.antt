@@ -74,58 +74,58 @@ one-calls t = (next-reads.Asked, next-reads.Learnt, one_below t, read_one.Post, 
 -- ---- `read_and`
 
 -- the first condition is found
-and_first : (t : ℕ) (c : read-and-lts.Else1 (and-calls t) (and_at t) read-and.Post) → c.before.before.read_one.result.ok ≡ true
-and_first t c = not-false _ c.if1.false
+and_first : (t : ℕ) (c : read-and-lts.Else-not-p (and-calls t) (and_at t) read-and.Post) → c.before.before.read_one-p.result.ok ≡ true
+and_first t c = not-false _ c.if-not-p.false
 
 -- and the token after it is AND
-and-token : (t : ℕ) (c : read-and-lts.Else2 (and-calls t) (and_at t) read-and.Post) → Goes c.before.before.before.before.before.before.before.before.before.args.text.now c.before.before.before.before.before.before.read_one.result.at c.before.before.next.result.next (keyword AND)
-and-token t c = goes c.before.before.before.before.before.before.before.before.before.args.text.now c.before.before.before.before.before.before.read_one.result.at c.before.before.next.result c.before.before.next.ensures (keyword AND) refl (omega arith)
+and-token : (t : ℕ) (c : read-and-lts.Else-t-ne-AND (and-calls t) (and_at t) read-and.Post) → Goes c.before.before.before.before.before.before.before.before.before.args.text.now c.before.before.before.before.before.before.read_one-p.result.at c.before.before.next-t.result.next (keyword AND)
+and-token t c = goes c.before.before.before.before.before.before.before.before.before.args.text.now c.before.before.before.before.before.before.read_one-p.result.at c.before.before.next-t.result c.before.before.next-t.ensures (keyword AND) refl (omega arith)
 
-and-found : (t : ℕ) (c : read-and-lts.Else1 (and-calls t) (and_at t) read-and.Post) → Stands c.before.before.before.before.before.args.text.now c.before.before.read_one.result
-    × (c.before.before.before.before.before.args.c.at < c.before.before.read_one.result.at)
-    × (c.before.before.read_one.result.nodes + c.before.before.before.before.before.args.c.at ≤ c.before.before.before.before.before.args.c.nodes + c.before.before.read_one.result.at)
+and-found : (t : ℕ) (c : read-and-lts.Else-not-p (and-calls t) (and_at t) read-and.Post) → Stands c.before.before.before.before.before.args.text.now c.before.before.read_one-p.result
+    × (c.before.before.before.before.before.args.c.at < c.before.before.read_one-p.result.at)
+    × (c.before.before.read_one-p.result.nodes + c.before.before.before.before.before.args.c.at ≤ c.before.before.before.before.before.args.c.nodes + c.before.before.read_one-p.result.at)
 and-found t c =
     let a = c.before.before.before.before.before.args in
-    let l = c.before.before.read_one in
-    found-on atom a.text.now a.positive a.depth a.c a.places.now l.result l.new.1.0 l.ensures (and_first t c)
+    let l = c.before.before.read_one-p in
+    found-on atom a.text.now a.positive a.depth a.c a.places.now l.result l.new.places l.ensures (and_first t c)
 
-and-read-one-requires : (t : ℕ) → read-and-lts.Need-read-one-requires (and-calls t) (and_at t) read-and.Post
+and-read-one-requires : (t : ℕ) → read-and-lts.Need-read_one-p-requires (and-calls t) (and_at t) read-and.Post
 and-read-one-requires t c κs = omega arith
 
-and-returns : (t : ℕ) → read-and-lts.Need-returns (and-calls t) (and_at t) read-and.Post
+and-returns : (t : ℕ) → read-and-lts.Need-returns-then-not-p (and-calls t) (and_at t) read-and.Post
 and-returns t c =
     let a = c.before.before.before.before.before.args in
-    let l = c.before.before.read_one in
-    first-fails ands a.text.now a.positive a.depth a.c a.places.now l.result l.new.1.0 l.ensures (not-true _ c.if1.true)
+    let l = c.before.before.read_one-p in
+    first-fails ands a.text.now a.positive a.depth a.c a.places.now l.result l.new.places l.ensures (not-true _ c.if-not-p.true)
 
-and-cast-next : (t : ℕ) → read-and-lts.Need-overflow-cast-next (and-calls t) (and_at t) read-and.Post
+and-cast-next : (t : ℕ) → read-and-lts.Need-overflow_cast-p (and-calls t) (and_at t) read-and.Post
 and-cast-next t c = search rules
 
-and-next-requires : (t : ℕ) → read-and-lts.Need-next-requires (and-calls t) (and_at t) read-and.Post
+and-next-requires : (t : ℕ) → read-and-lts.Need-next-t-requires (and-calls t) (and_at t) read-and.Post
 and-next-requires t c κs = search rules
 
-and-returns-2 : (t : ℕ) → read-and-lts.Need-returns-2 (and-calls t) (and_at t) read-and.Post
+and-returns-2 : (t : ℕ) → read-and-lts.Need-returns-then-t-ne-AND (and-calls t) (and_at t) read-and.Post
 and-returns-2 t c =
     let a = c.before.before.before.before.before.before.before.before.before.args in
-    let l = c.before.before.before.before.before.before.read_one in
-    first_alone ands a.text.now a.positive a.depth a.c a.places.now l.result l.new.1.0 l.ensures (and_first t c.before.before.before.before)
-    (stops a.text.now l.result.at c.before.before.next.result c.before.before.next.ensures (keyword AND) (omega arith))
+    let l = c.before.before.before.before.before.before.read_one-p in
+    first_alone ands a.text.now a.positive a.depth a.c a.places.now l.result l.new.places l.ensures (and_first t c.before.before.before.before)
+    (stops a.text.now l.result.at c.before.before.next-t.result c.before.before.next-t.ensures (keyword AND) (omega arith))
 
-and-cast-p : (t : ℕ) → read-and-lts.Need-overflow-cast-p (and-calls t) (and_at t) read-and.Post
+and-cast-p : (t : ℕ) → read-and-lts.Need-overflow_cast-p-2 (and-calls t) (and_at t) read-and.Post
 and-cast-p t c = omega (arith, (and-token t c.before).within, (and-found t c.before.before.before.before.before).0.short)
 
-and-read-and-requires : (t : ℕ) → read-and-lts.Need-read-and-requires (and-calls t) (and_at t) read-and.Post
+and-read-and-requires : (t : ℕ) → read-and-lts.Need-read_and-p-requires (and-calls t) (and_at t) read-and.Post
 and-read-and-requires t c κs =
     let z = c.before.before.before.before.before.before.before.before.before.before.before in
     let on = and-found t c.before.before.before.before.before.before in
-    omega (arith, on.1, may (and-token t c.before.before) c.before.before.before.before.before.before.before.before.read_one.result z.args.depth refl on.0 (omega (arith, on.1, z.requires)), z.requires)
+    omega (arith, on.1, may (and-token t c.before.before) c.before.before.before.before.before.before.before.before.read_one-p.result z.args.depth refl on.0 (omega (arith, on.1, z.requires)), z.requires)
 
-and-returns-3 : (t : ℕ) → read-and-lts.Need-returns-3 (and-calls t) (and_at t) read-and.Post
+and-returns-3 : (t : ℕ) → read-and-lts.Need-returns-then-not-p-2 (and-calls t) (and_at t) read-and.Post
 and-returns-3 t c =
     let a = c.before.before.before.before.before.before.before.before.before.before.before.before.before.before.args in
-    let l = c.before.before.before.before.before.before.before.before.before.before.before.read_one in
-    let q = c.before.before.read-and in
-    second-fails ands a.text.now a.positive a.depth a.c a.places.now l.result l.new.1.0 l.ensures (and_first t c.before.before.before.before.before.before.before.before.before) _ (and-token t c.before.before.before.before.before) q.result q.new.1.0 q.ensures (not-true _ c.if3.true)
+    let l = c.before.before.before.before.before.before.before.before.before.before.before.read_one-p in
+    let q = c.before.before.read_and-p in
+    second-fails ands a.text.now a.positive a.depth a.c a.places.now l.result l.new.places l.ensures (and_first t c.before.before.before.before.before.before.before.before.before) _ (and-token t c.before.before.before.before.before) q.result q.new.places q.ensures (not-true _ c.if-not-p-2.true)
 
 and-either-requires : (t : ℕ) → read-and-lts.Need-either-requires (and-calls t) (and_at t) read-and.Post
 and-either-requires t c κs = search rules
@@ -134,75 +134,75 @@ and-put-requires : (t : ℕ) → read-and-lts.Need-put-requires (and-calls t) (a
 and-put-requires t c κs =
     let z = c.before.before.before.before.before.before.before.before.before.before.before.before.before.before.before.before in
     let a = z.args in
-    let p = c.before.before.before.before.before.before.before.before.before.before.before.before.before.read_one.result in
-    let q = c.before.before.before.before.read-and in
-    let next = c.before.before.before.before.before.before.before.before.before.next.result.next in
-    let on = found-on conjunction a.text.now a.positive a.depth (moved_to next p) c.before.before.before.before.before.before.before.before.before.before.before.before.before.read_one.new.1.0 q.result q.new.1.0 q.ensures (not-false _ c.before.before.if3.false) in
+    let p = c.before.before.before.before.before.before.before.before.before.before.before.before.before.read_one-p.result in
+    let q = c.before.before.before.before.read_and-p in
+    let next = c.before.before.before.before.before.before.before.before.before.next-t.result.next in
+    let on = found-on conjunction a.text.now a.positive a.depth (moved_to next p) c.before.before.before.before.before.before.before.before.before.before.before.before.before.read_one-p.new.places q.result q.new.places q.ensures (not-false _ c.before.before.if-not-p-2.false) in
     may-put a.text.now p next q.result (and-found t c.before.before.before.before.before.before.before.before.before.before.before).0 (and-token t c.before.before.before.before.before.before.before).on on
 
-and-returns-4 : (t : ℕ) → read-and-lts.Need-returns-4 (and-calls t) (and_at t) read-and.Post
+and-returns-4 : (t : ℕ) → read-and-lts.Need-returns (and-calls t) (and_at t) read-and.Post
 and-returns-4 t c =
     let a = c.before.before.before.before.before.before.before.before.before.before.before.before.before.before.before.before.before.args in
-    let l = c.before.before.before.before.before.before.before.before.before.before.before.before.before.before.read_one in
-    let q = c.before.before.before.before.before.read-and in
-    second-joins ands a.text.now a.positive a.depth a.c a.places.now l.result l.new.1.0 l.ensures (and_first t c.before.before.before.before.before.before.before.before.before.before.before.before) _ (and-token t c.before.before.before.before.before.before.before.before) q.result q.new.1.0 q.ensures (not-false _ c.before.before.before.if3.false)
+    let l = c.before.before.before.before.before.before.before.before.before.before.before.before.before.before.read_one-p in
+    let q = c.before.before.before.before.before.read_and-p in
+    second-joins ands a.text.now a.positive a.depth a.c a.places.now l.result l.new.places l.ensures (and_first t c.before.before.before.before.before.before.before.before.before.before.before.before) _ (and-token t c.before.before.before.before.before.before.before.before) q.result q.new.places q.ensures (not-false _ c.before.before.before.if-not-p-2.false)
     _ _ _ c.before.either.ensures c.put.ensures
 
 -- ---- `read_or`
 
 -- the first condition is found
-or-first : (t : ℕ) (c : read-or-lts.Else1 (or-calls t) (or_at t) read-or.Post) → c.before.before.read-and.result.ok ≡ true
-or-first t c = not-false _ c.if1.false
+or-first : (t : ℕ) (c : read-or-lts.Else-not-p (or-calls t) (or_at t) read-or.Post) → c.before.before.read_and-p.result.ok ≡ true
+or-first t c = not-false _ c.if-not-p.false
 
 -- and the token after it is OR
-or-token : (t : ℕ) (c : read-or-lts.Else2 (or-calls t) (or_at t) read-or.Post) → Goes c.before.before.before.before.before.before.before.before.before.args.text.now c.before.before.before.before.before.before.read-and.result.at c.before.before.next.result.next (keyword OR)
-or-token t c = goes c.before.before.before.before.before.before.before.before.before.args.text.now c.before.before.before.before.before.before.read-and.result.at c.before.before.next.result c.before.before.next.ensures (keyword OR) refl (omega arith)
+or-token : (t : ℕ) (c : read-or-lts.Else-t-ne-OR (or-calls t) (or_at t) read-or.Post) → Goes c.before.before.before.before.before.before.before.before.before.args.text.now c.before.before.before.before.before.before.read_and-p.result.at c.before.before.next-t.result.next (keyword OR)
+or-token t c = goes c.before.before.before.before.before.before.before.before.before.args.text.now c.before.before.before.before.before.before.read_and-p.result.at c.before.before.next-t.result c.before.before.next-t.ensures (keyword OR) refl (omega arith)
 
-or-found : (t : ℕ) (c : read-or-lts.Else1 (or-calls t) (or_at t) read-or.Post) → Stands c.before.before.before.before.before.args.text.now c.before.before.read-and.result
-    × (c.before.before.before.before.before.args.c.at < c.before.before.read-and.result.at)
-    × (c.before.before.read-and.result.nodes + c.before.before.before.before.before.args.c.at ≤ c.before.before.before.before.before.args.c.nodes + c.before.before.read-and.result.at)
+or-found : (t : ℕ) (c : read-or-lts.Else-not-p (or-calls t) (or_at t) read-or.Post) → Stands c.before.before.before.before.before.args.text.now c.before.before.read_and-p.result
+    × (c.before.before.before.before.before.args.c.at < c.before.before.read_and-p.result.at)
+    × (c.before.before.read_and-p.result.nodes + c.before.before.before.before.before.args.c.at ≤ c.before.before.before.before.before.args.c.nodes + c.before.before.read_and-p.result.at)
 or-found t c =
     let a = c.before.before.before.before.before.args in
-    let l = c.before.before.read-and in
-    found-on conjunction a.text.now a.positive a.depth a.c a.places.now l.result l.new.1.0 l.ensures (or-first t c)
+    let l = c.before.before.read_and-p in
+    found-on conjunction a.text.now a.positive a.depth a.c a.places.now l.result l.new.places l.ensures (or-first t c)
 
-or-read-and-requires : (t : ℕ) → read-or-lts.Need-read-and-requires (or-calls t) (or_at t) read-or.Post
+or-read-and-requires : (t : ℕ) → read-or-lts.Need-read_and-p-requires (or-calls t) (or_at t) read-or.Post
 or-read-and-requires t c κs = omega arith
 
-or-returns : (t : ℕ) → read-or-lts.Need-returns (or-calls t) (or_at t) read-or.Post
+or-returns : (t : ℕ) → read-or-lts.Need-returns-then-not-p (or-calls t) (or_at t) read-or.Post
 or-returns t c =
     let a = c.before.before.before.before.before.args in
-    let l = c.before.before.read-and in
-    first-fails ors a.text.now a.positive a.depth a.c a.places.now l.result l.new.1.0 l.ensures (not-true _ c.if1.true)
+    let l = c.before.before.read_and-p in
+    first-fails ors a.text.now a.positive a.depth a.c a.places.now l.result l.new.places l.ensures (not-true _ c.if-not-p.true)
 
-or-cast-next : (t : ℕ) → read-or-lts.Need-overflow-cast-next (or-calls t) (or_at t) read-or.Post
+or-cast-next : (t : ℕ) → read-or-lts.Need-overflow_cast-p (or-calls t) (or_at t) read-or.Post
 or-cast-next t c = search rules
 
-or-next-requires : (t : ℕ) → read-or-lts.Need-next-requires (or-calls t) (or_at t) read-or.Post
+or-next-requires : (t : ℕ) → read-or-lts.Need-next-t-requires (or-calls t) (or_at t) read-or.Post
 or-next-requires t c κs = search rules
 
-or-returns-2 : (t : ℕ) → read-or-lts.Need-returns-2 (or-calls t) (or_at t) read-or.Post
+or-returns-2 : (t : ℕ) → read-or-lts.Need-returns-then-t-ne-OR (or-calls t) (or_at t) read-or.Post
 or-returns-2 t c =
     let a = c.before.before.before.before.before.before.before.before.before.args in
-    let l = c.before.before.before.before.before.before.read-and in
-    first_alone ors a.text.now a.positive a.depth a.c a.places.now l.result l.new.1.0 l.ensures (or-first t c.before.before.before.before)
-    (stops a.text.now l.result.at c.before.before.next.result c.before.before.next.ensures (keyword OR) (omega arith))
+    let l = c.before.before.before.before.before.before.read_and-p in
+    first_alone ors a.text.now a.positive a.depth a.c a.places.now l.result l.new.places l.ensures (or-first t c.before.before.before.before)
+    (stops a.text.now l.result.at c.before.before.next-t.result c.before.before.next-t.ensures (keyword OR) (omega arith))
 
-or-cast-p : (t : ℕ) → read-or-lts.Need-overflow-cast-p (or-calls t) (or_at t) read-or.Post
+or-cast-p : (t : ℕ) → read-or-lts.Need-overflow_cast-p-2 (or-calls t) (or_at t) read-or.Post
 or-cast-p t c = omega (arith, (or-token t c.before).within, (or-found t c.before.before.before.before.before).0.short)
 
-or-read-or-requires : (t : ℕ) → read-or-lts.Need-read-or-requires (or-calls t) (or_at t) read-or.Post
+or-read-or-requires : (t : ℕ) → read-or-lts.Need-read_or-p-requires (or-calls t) (or_at t) read-or.Post
 or-read-or-requires t c κs =
     let z = c.before.before.before.before.before.before.before.before.before.before.before in
     let on = or-found t c.before.before.before.before.before.before in
-    omega (arith, on.1, may (or-token t c.before.before) c.before.before.before.before.before.before.before.before.read-and.result z.args.depth refl on.0 (omega (arith, on.1, z.requires)), z.requires)
+    omega (arith, on.1, may (or-token t c.before.before) c.before.before.before.before.before.before.before.before.read_and-p.result z.args.depth refl on.0 (omega (arith, on.1, z.requires)), z.requires)
 
-or-returns-3 : (t : ℕ) → read-or-lts.Need-returns-3 (or-calls t) (or_at t) read-or.Post
+or-returns-3 : (t : ℕ) → read-or-lts.Need-returns-then-not-p-2 (or-calls t) (or_at t) read-or.Post
 or-returns-3 t c =
     let a = c.before.before.before.before.before.before.before.before.before.before.before.before.before.before.args in
-    let l = c.before.before.before.before.before.before.before.before.before.before.before.read-and in
-    let q = c.before.before.read-or in
-    second-fails ors a.text.now a.positive a.depth a.c a.places.now l.result l.new.1.0 l.ensures (or-first t c.before.before.before.before.before.before.before.before.before) _ (or-token t c.before.before.before.before.before) q.result q.new.1.0 q.ensures (not-true _ c.if3.true)
+    let l = c.before.before.before.before.before.before.before.before.before.before.before.read_and-p in
+    let q = c.before.before.read_or-p in
+    second-fails ors a.text.now a.positive a.depth a.c a.places.now l.result l.new.places l.ensures (or-first t c.before.before.before.before.before.before.before.before.before) _ (or-token t c.before.before.before.before.before) q.result q.new.places q.ensures (not-true _ c.if-not-p-2.true)
 
 or-either-requires : (t : ℕ) → read-or-lts.Need-either-requires (or-calls t) (or_at t) read-or.Post
 or-either-requires t c κs = search rules
@@ -211,59 +211,59 @@ or-put-requires : (t : ℕ) → read-or-lts.Need-put-requires (or-calls t) (or_a
 or-put-requires t c κs =
     let z = c.before.before.before.before.before.before.before.before.before.before.before.before.before.before.before.before in
     let a = z.args in
-    let p = c.before.before.before.before.before.before.before.before.before.before.before.before.before.read-and.result in
-    let q = c.before.before.before.before.read-or in
-    let next = c.before.before.before.before.before.before.before.before.before.next.result.next in
-    let on = found-on disjunction a.text.now a.positive a.depth (moved_to next p) c.before.before.before.before.before.before.before.before.before.before.before.before.before.read-and.new.1.0 q.result q.new.1.0 q.ensures (not-false _ c.before.before.if3.false) in
+    let p = c.before.before.before.before.before.before.before.before.before.before.before.before.before.read_and-p.result in
+    let q = c.before.before.before.before.read_or-p in
+    let next = c.before.before.before.before.before.before.before.before.before.next-t.result.next in
+    let on = found-on disjunction a.text.now a.positive a.depth (moved_to next p) c.before.before.before.before.before.before.before.before.before.before.before.before.before.read_and-p.new.places q.result q.new.places q.ensures (not-false _ c.before.before.if-not-p-2.false) in
     may-put a.text.now p next q.result (or-found t c.before.before.before.before.before.before.before.before.before.before.before).0 (or-token t c.before.before.before.before.before.before.before).on on
 
-or-returns-4 : (t : ℕ) → read-or-lts.Need-returns-4 (or-calls t) (or_at t) read-or.Post
+or-returns-4 : (t : ℕ) → read-or-lts.Need-returns (or-calls t) (or_at t) read-or.Post
 or-returns-4 t c =
     let a = c.before.before.before.before.before.before.before.before.before.before.before.before.before.before.before.before.before.args in
-    let l = c.before.before.before.before.before.before.before.before.before.before.before.before.before.before.read-and in
-    let q = c.before.before.before.before.before.read-or in
-    second-joins ors a.text.now a.positive a.depth a.c a.places.now l.result l.new.1.0 l.ensures (or-first t c.before.before.before.before.before.before.before.before.before.before.before.before) _ (or-token t c.before.before.before.before.before.before.before.before) q.result q.new.1.0 q.ensures (not-false _ c.before.before.before.if3.false)
+    let l = c.before.before.before.before.before.before.before.before.before.before.before.before.before.before.read_and-p in
+    let q = c.before.before.before.before.before.read_or-p in
+    second-joins ors a.text.now a.positive a.depth a.c a.places.now l.result l.new.places l.ensures (or-first t c.before.before.before.before.before.before.before.before.before.before.before.before) _ (or-token t c.before.before.before.before.before.before.before.before) q.result q.new.places q.ensures (not-false _ c.before.before.before.if-not-p-2.false)
     _ _ _ c.before.either.ensures c.put.ensures
 
 -- ---- `read_one`
 
 -- the first token is NOT
-one-not : (t : ℕ) (c : read-one-lts.Then1 (one-calls t) (one_at t) read_one.Post) → Goes c.before.before.before.before.before.args.text.now c.before.before.before.before.before.args.c.at c.before.before.next.result.next (keyword NOT)
-one-not t c = goes c.before.before.before.before.before.args.text.now c.before.before.before.before.before.args.c.at c.before.before.next.result c.before.before.next.ensures (keyword NOT) refl (omega arith)
+one-not : (t : ℕ) (c : read-one-lts.Then-t-eq-NOT (one-calls t) (one_at t) read_one.Post) → Goes c.before.before.before.before.before.args.text.now c.before.before.before.before.before.args.c.at c.before.before.next-t.result.next (keyword NOT)
+one-not t c = goes c.before.before.before.before.before.args.text.now c.before.before.before.before.before.args.c.at c.before.before.next-t.result c.before.before.next-t.ensures (keyword NOT) refl (omega arith)
 
 -- or an opening parenthesis
-one-open : (t : ℕ) (c : read-one-lts.Then2 (one-calls t) (one_at t) read_one.Post) → Goes c.before.before.before.before.before.before.before.args.text.now c.before.before.before.before.before.before.before.args.c.at c.before.before.before.before.next.result.next lparen
-one-open t c = goes c.before.before.before.before.before.before.before.args.text.now c.before.before.before.before.before.before.before.args.c.at c.before.before.before.before.next.result c.before.before.before.before.next.ensures lparen refl (omega arith)
+one-open : (t : ℕ) (c : read-one-lts.Then-t-eq-OPEN (one-calls t) (one_at t) read_one.Post) → Goes c.before.before.before.before.before.before.before.args.text.now c.before.before.before.before.before.before.before.args.c.at c.before.before.before.before.next-t.result.next lparen
+one-open t c = goes c.before.before.before.before.before.before.before.args.text.now c.before.before.before.before.before.before.before.args.c.at c.before.before.before.before.next-t.result c.before.before.before.before.next-t.ensures lparen refl (omega arith)
 
-one-cast-next : (t : ℕ) → read-one-lts.Need-overflow-cast-next (one-calls t) (one_at t) read_one.Post
+one-cast-next : (t : ℕ) → read-one-lts.Need-overflow_cast-c (one-calls t) (one_at t) read_one.Post
 one-cast-next t c = search rules
 
-one-next-requires : (t : ℕ) → read-one-lts.Need-next-requires (one-calls t) (one_at t) read_one.Post
+one-next-requires : (t : ℕ) → read-one-lts.Need-next-t-requires (one-calls t) (one_at t) read_one.Post
 one-next-requires t c κs = search rules
 
-one-cast-here : (t : ℕ) → read-one-lts.Need-overflow-cast-here (one-calls t) (one_at t) read_one.Post
+one-cast-here : (t : ℕ) → read-one-lts.Need-overflow_cast-here (one-calls t) (one_at t) read_one.Post
 one-cast-here t c = omega (arith, (one-not t c.before).within, c.before.before.before.before.before.before.requires.1.0.short)
 
-one-add-read-one : (t : ℕ) → read-one-lts.Need-overflow-add-read-one (one-calls t) (one_at t) read_one.Post
+one-add-read-one : (t : ℕ) → read-one-lts.Need-overflow_add-depth (one-calls t) (one_at t) read_one.Post
 one-add-read-one t c = omega (arith, c.before.before.before.before.before.before.before.requires)
 
-one-read-one-requires : (t : ℕ) → read-one-lts.Need-read-one-requires (one-calls t) (one_at t) read_one.Post
+one-read-one-requires : (t : ℕ) → read-one-lts.Need-read_one-requires (one-calls t) (one_at t) read_one.Post
 one-read-one-requires t c κs =
     let z = c.before.before.before.before.before.before.before in
     omega (arith, may (one-not t c.before.before) z.args.c z.args.depth refl z.requires.1.0 z.requires.1.1, z.requires)
 
-one-returns : (t : ℕ) → read-one-lts.Need-returns (one-calls t) (one_at t) read_one.Post
+one-returns : (t : ℕ) → read-one-lts.Need-returns-then-t-eq-NOT (one-calls t) (one_at t) read_one.Post
 one-returns t c =
     let a = c.before.before.before.before.before.before.before.before.args in
     one-negates a.text.now a.positive a.depth a.c a.places.now _ _ _ (one-not t c.before.before.before) c.read_one.ensures
 
-one-cast-here-2 : (t : ℕ) → read-one-lts.Need-overflow-cast-here-2 (one-calls t) (one_at t) read_one.Post
+one-cast-here-2 : (t : ℕ) → read-one-lts.Need-overflow_cast-here-then-t-eq-OPEN (one-calls t) (one_at t) read_one.Post
 one-cast-here-2 t c = omega (arith, (one-open t c.before).within, c.before.before.before.before.before.before.before.before.requires.1.0.short)
 
-one-add-read-or : (t : ℕ) → read-one-lts.Need-overflow-add-read-or (one-calls t) (one_at t) read_one.Post
+one-add-read-or : (t : ℕ) → read-one-lts.Need-overflow_add-depth-then-t-eq-OPEN (one-calls t) (one_at t) read_one.Post
 one-add-read-or t c = omega (arith, c.before.before.before.before.before.before.before.before.before.requires)
 
-one-read-or-requires : (t : ℕ) → read-one-lts.Need-read-or-requires (one-calls t) (one_at t) read_one.Post
+one-read-or-requires : (t : ℕ) → read-one-lts.Need-read_or-requires (one-calls t) (one_at t) read_one.Post
 one-read-or-requires t c κs =
     let z = c.before.before.before.before.before.before.before.before.before in
     omega (arith, may (one-open t c.before.before) z.args.c z.args.depth refl z.requires.1.0 z.requires.1.1, z.requires)
@@ -271,27 +271,27 @@ one-read-or-requires t c κs =
 one-closed-requires : (t : ℕ) → read-one-lts.Need-closed-requires (one-calls t) (one_at t) read_one.Post
 one-closed-requires t c κs =
     let a = c.before.before.before.before.before.before.before.before.before.before.args in
-    let r = c.read-or in
-    λ ok. (found-on disjunction a.text.now a.positive (a.depth + 1) (moved_to c.before.before.before.before.before.before.before.next.result.next a.c) a.places.now r.result r.new.1.0 r.ensures ok).0
+    let r = c.read_or in
+    λ ok. (found-on disjunction a.text.now a.positive (a.depth + 1) (moved_to c.before.before.before.before.before.before.before.next-t.result.next a.c) a.places.now r.result r.new.places r.ensures ok).0
 
-one-returns-2 : (t : ℕ) → read-one-lts.Need-returns-2 (one-calls t) (one_at t) read_one.Post
+one-returns-2 : (t : ℕ) → read-one-lts.Need-returns-then-t-eq-OPEN (one-calls t) (one_at t) read_one.Post
 one-returns-2 t c =
     let a = c.before.before.before.before.before.before.before.before.before.before.before.args in
-    let r = c.before.read-or in
-    one-closes a.text.now a.positive a.depth a.c a.places.now r.result r.new.1.0 _ (one-open t c.before.before.before.before) r.ensures c.closed.result c.closed.ensures
+    let r = c.before.read_or in
+    one-closes a.text.now a.positive a.depth a.c a.places.now r.result r.new.places _ (one-open t c.before.before.before.before) r.ensures c.closed.result c.closed.ensures
 
-one-read-comparison-requires : (t : ℕ) → read-one-lts.Need-read-comparison-requires (one-calls t) (one_at t) read_one.Post
-one-read-comparison-requires t c κs = (c.before.before.before.before.before.before.before.before.requires.1.0, c.before.before.before.before.before.next.ensures)
+one-read-comparison-requires : (t : ℕ) → read-one-lts.Need-read_comparison-requires (one-calls t) (one_at t) read_one.Post
+one-read-comparison-requires t c κs = (c.before.before.before.before.before.before.before.before.requires.1.0, c.before.before.before.before.before.next-t.ensures)
 
-one-returns-3 : (t : ℕ) → read-one-lts.Need-returns-3 (one-calls t) (one_at t) read_one.Post
+one-returns-3 : (t : ℕ) → read-one-lts.Need-returns (one-calls t) (one_at t) read_one.Post
 one-returns-3 t c =
     let a = c.before.before.before.before.before.before.before.before.before.args in
-    let u = c.before.before.before.before.before.before.next.result in
-    let e = c.before.before.before.before.before.before.next.ensures in
-    one-compares a.text.now a.positive a.depth a.c a.places.now _ _ (stops a.text.now a.c.at u e (keyword NOT) (omega arith)) (stops a.text.now a.c.at u e lparen (omega arith)) c.read-comparison.ensures
+    let u = c.before.before.before.before.before.before.next-t.result in
+    let e = c.before.before.before.before.before.before.next-t.ensures in
+    one-compares a.text.now a.positive a.depth a.c a.places.now _ _ (stops a.text.now a.c.at u e (keyword NOT) (omega arith)) (stops a.text.now a.c.at u e lparen (omega arith)) c.read_comparison.ensures
 
-pub +read-and-read-one-read-or-spec : {M : Type 1} → statement M
-+read-and-read-one-read-or-spec =
+pub +read_and_read_one_read_or_spec : {M : Type 1} → statement M
++read_and_read_one_read_or_spec =
     close μ-and μ-one μ-or
     (λ t. read-and-lts.spec (and-calls t) (and_at t) read-and.Post (and-read-one-requires t) (and-returns t) (and-cast-next t) (and-next-requires t) (and-returns-2 t) (and-cast-p t) (and-read-and-requires t) (and-returns-3 t) (and-either-requires t) (and-put-requires t) (and-returns-4 t))
     (λ t. read-one-lts.spec (one-calls t) (one_at t) read_one.Post (one-cast-next t) (one-next-requires t) (one-cast-here t) (one-add-read-one t) (one-read-one-requires t) (one-returns t) (one-cast-here-2 t) (one-add-read-or t) (one-read-or-requires t) (one-closed-requires t) (one-returns-2 t) (one-read-comparison-requires t) (one-returns-3 t))

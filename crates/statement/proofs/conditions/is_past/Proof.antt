@@ -11,5 +11,5 @@ returns : tie.Need-returns
 unfolding token_past
 returns c = rw c.span.ensures
 
-pub is-past-spec : {M : Type 1} → statement M
-is-past-spec = tie.close (tie.spec span-requires returns)
+pub is_past_spec : {M : Type 1} → statement M
+is_past_spec = tie.close (tie.spec span-requires returns)

@@ -9,122 +9,122 @@ use borrow.Author.Rules.{rules}
 use Rattle.statement.proofs.conditions.read_comparison.Statement.{statement}
 use Rattle.statement.proofs.conditions.read_comparison.Tie as tie
 
-read-operand-requires : tie.Need-read-operand-requires
+read-operand-requires : tie.Need-read_operand-a-requires
 read-operand-requires c κs = search rules
 
-returns : tie.Need-returns
+returns : tie.Need-returns-then-not-a
 returns c =
     let z = c.before.before.before.before in
     let a = z.args in
     let s = a.text.now in
-    let g = c.before.before.read-operand in
+    let g = c.before.before.read_operand-a in
     λ b e.
     no-left b s a.positive a.depth a.c e a.places.now _ _ a.first z.requires.1
-    g.result (side-as s a.first g.result a.c.dotted b e g.ensures a.c.at z.requires.1) (not-true _ c.if1.true) refl
+    g.result (side-as s a.first g.result a.c.dotted b e g.ensures a.c.at z.requires.1) (not-true _ c.if-not-a.true) refl
 
-next-requires : tie.Need-next-requires
+next-requires : tie.Need-next-t-requires
 next-requires c κs = search rules
 
-read-null-requires : tie.Need-read-null-requires
+read-null-requires : tie.Need-read_null-requires
 read-null-requires c κs =
     let z = c.before.before.before.before.before.before.before.before.before in
     let a = z.args in
-    let g = c.before.before.before.before.before.before.before.read-operand in
-    let v = c.before.before.before.before.next in (
+    let g = c.before.before.before.before.before.before.before.read_operand-a in
+    let v = c.before.before.before.before.next-t in (
       z.requires.0,
       null-reaches a.c.dotted a.text.now a.positive a.depth a.c refl a.places.now a.c a.places.now a.first z.requires.1
-          g.result (g.ensures a.c.at z.requires.1) (not-false _ c.before.before.before.before.before.if1.false)
-          v.result v.ensures c.before.if2.true,
+          g.result (g.ensures a.c.at z.requires.1) (not-false _ c.before.before.before.before.before.if-not-a.false)
+          v.result v.ensures c.before.if-t-first.true,
     )
 
-returns-2 : tie.Need-returns-2
+returns-2 : tie.Need-returns-then-t-first
 returns-2 c =
     let z = c.before.before.before.before.before.before.before.before.before.before in
     let a = z.args in
     let s = a.text.now in
-    let g = c.before.before.before.before.before.before.before.before.read-operand in
-    let v = c.before.before.before.before.before.next in
+    let g = c.before.before.before.before.before.before.before.before.read_operand-a in
+    let v = c.before.before.before.before.before.next-t in
     λ b e.
     tests b s a.positive a.depth a.c e a.places.now _ _ a.first z.requires.1
-    g.result (side-as s a.first g.result a.c.dotted b e g.ensures a.c.at z.requires.1) (not-false _ c.before.before.before.before.before.before.if1.false)
-    v.result v.ensures c.before.before.if2.true c.read-null.ensures
+    g.result (side-as s a.first g.result a.c.dotted b e g.ensures a.c.at z.requires.1) (not-false _ c.before.before.before.before.before.before.if-not-a.false)
+    v.result v.ensures c.before.before.if-t-first.true c.read_null.ensures
 
-is-comparison-requires : tie.Need-is-comparison-requires
+is-comparison-requires : tie.Need-is_comparison-requires
 is-comparison-requires c κs = search rules
 
-returns-3 : tie.Need-returns-3
+returns-3 : tie.Need-returns-then-not-is_comparison
 returns-3 c =
     let z = c.before.before.before.before.before.before.before.before.before.before in
     let a = z.args in
     let s = a.text.now in
-    let g = c.before.before.before.before.before.before.before.before.read-operand in
-    let v = c.before.before.before.before.before.next in
+    let g = c.before.before.before.before.before.before.before.before.read_operand-a in
+    let v = c.before.before.before.before.before.next-t in
     λ b e.
     no_sign b s a.positive a.depth a.c e a.places.now _ _ a.first z.requires.1
-    g.result (side-as s a.first g.result a.c.dotted b e g.ensures a.c.at z.requires.1) (not-false _ c.before.before.before.before.before.before.if1.false)
-    v.result v.ensures c.before.before.if2.false (sym c.before.is-comparison.ensures ∙ not-true _ c.if3.true) refl
+    g.result (side-as s a.first g.result a.c.dotted b e g.ensures a.c.at z.requires.1) (not-false _ c.before.before.before.before.before.before.if-not-a.false)
+    v.result v.ensures c.before.before.if-t-first.false (sym c.before.is_comparison.ensures ∙ not-true _ c.if-not-is_comparison.true-raw) refl
 
-next-requires-2 : tie.Need-next-requires-2
+next-requires-2 : tie.Need-next-requires
 next-requires-2 c κs = search rules
 
-read-operand-requires-2 : tie.Need-read-operand-requires-2
+read-operand-requires-2 : tie.Need-read_operand-b-requires
 read-operand-requires-2 c κs = search rules
 
-returns-4 : tie.Need-returns-4
+returns-4 : tie.Need-returns-then-not-b
 returns-4 c =
     let w = c.before.before.before.before.before.before in
     let z = c.before.before.before.before.before.before.before.before.before.before.before.before.before.before in
     let a = z.args in
     let s = a.text.now in
-    let g = c.before.before.before.before.before.before.before.before.before.before.before.before.read-operand in
-    let v = c.before.before.before.before.before.before.before.before.before.next in
-    let u = c.before.before.before.next2 in
-    let h = c.before.before.read-operand2 in
+    let g = c.before.before.before.before.before.before.before.before.before.before.before.before.read_operand-a in
+    let v = c.before.before.before.before.before.before.before.before.before.next-t in
+    let u = c.before.before.before.next in
+    let h = c.before.before.read_operand-b in
     λ b e.
     no-right b s a.positive a.depth a.c e a.places.now _ _ a.first z.requires.1
-    g.result (side-as s a.first g.result a.c.dotted b e g.ensures a.c.at z.requires.1) (not-false _ w.before.before.before.before.if1.false)
-    v.result v.ensures w.if2.false (sym c.before.before.before.before.before.is-comparison.ensures ∙ not-false _ c.before.before.before.before.if3.false)
-    h.result (side-as s u.result h.result a.c.dotted b e h.ensures v.result.next u.ensures) (not-true _ c.if4.true) refl
+    g.result (side-as s a.first g.result a.c.dotted b e g.ensures a.c.at z.requires.1) (not-false _ w.before.before.before.before.if-not-a.false)
+    v.result v.ensures w.if-t-first.false (sym c.before.before.before.before.before.is_comparison.ensures ∙ not-false _ c.before.before.before.before.if-not-is_comparison.false-raw)
+    h.result (side-as s u.result h.result a.c.dotted b e h.ensures v.result.next u.ensures) (not-true _ c.if-not-b.true) refl
 
-sub-put-comparison : tie.Need-overflow-sub-put-comparison
+sub-put-comparison : tie.Need-overflow_sub-t
 sub-put-comparison c =
     let w = c.before.before.before.before.before.before in
-    let k = w.before.before.before.before.before.next.result.kind in
-    omega (arith, leb-true 9 k (and_left (leb 9 k) (leb k 14) (sym w.before.is-comparison.ensures ∙ not-false _ w.if3.false)))
+    let k = w.before.before.before.before.before.next-t.result.kind in
+    omega (arith, leb-true 9 k (and_left (leb 9 k) (leb k 14) (sym w.before.is_comparison.ensures ∙ not-false _ w.if-not-is_comparison.false-raw)))
 
-put-comparison-requires : tie.Need-put-comparison-requires
+put-comparison-requires : tie.Need-put_comparison-requires
 put-comparison-requires c κs =
     let w = c.before.before.before.before.before.before.before.before in
     let z = c.before.before.before.before.before.before.before.before.before.before.before.before.before.before.before.before in
     let a = z.args in
-    let g = c.before.before.before.before.before.before.before.before.before.before.before.before.before.before.read-operand in
-    let v = c.before.before.before.before.before.before.before.before.before.before.before.next in
-    let u = c.before.before.before.before.before.next2 in
-    let h = c.before.before.before.before.read-operand2 in
+    let g = c.before.before.before.before.before.before.before.before.before.before.before.before.before.before.read_operand-a in
+    let v = c.before.before.before.before.before.before.before.before.before.before.before.next-t in
+    let u = c.before.before.before.before.before.next in
+    let h = c.before.before.before.before.read_operand-b in
     fits a.c.dotted a.text.now a.positive a.depth a.c refl a.places.now a.c a.places.now a.first z.requires.1
-    g.result (g.ensures a.c.at z.requires.1) (not-false _ w.before.before.before.before.if1.false)
-    v.result v.ensures w.if2.false (sym c.before.before.before.before.before.before.before.is-comparison.ensures ∙ not-false _ c.before.before.before.before.before.before.if3.false)
-    h.result (h.ensures v.result.next u.ensures) (not-false _ c.before.before.if4.false) z.requires.0
+    g.result (g.ensures a.c.at z.requires.1) (not-false _ w.before.before.before.before.if-not-a.false)
+    v.result v.ensures w.if-t-first.false (sym c.before.before.before.before.before.before.before.is_comparison.ensures ∙ not-false _ c.before.before.before.before.before.before.if-not-is_comparison.false-raw)
+    h.result (h.ensures v.result.next u.ensures) (not-false _ c.before.before.if-not-b.false) z.requires.0
 
-returns-5 : tie.Need-returns-5
+returns-5 : tie.Need-returns
 returns-5 c =
     let w = c.before.before.before.before.before.before.before.before.before in
     let z = c.before.before.before.before.before.before.before.before.before.before.before.before.before.before.before.before.before in
     let a = z.args in
     let s = a.text.now in
-    let g = c.before.before.before.before.before.before.before.before.before.before.before.before.before.before.before.read-operand in
-    let v = c.before.before.before.before.before.before.before.before.before.before.before.before.next in
-    let u = c.before.before.before.before.before.before.next2 in
-    let h = c.before.before.before.before.before.read-operand2 in
+    let g = c.before.before.before.before.before.before.before.before.before.before.before.before.before.before.before.read_operand-a in
+    let v = c.before.before.before.before.before.before.before.before.before.before.before.before.next-t in
+    let u = c.before.before.before.before.before.before.next in
+    let h = c.before.before.before.before.before.read_operand-b in
     λ b e.
     compared b s a.positive a.depth a.c e a.places.now _ _ a.first z.requires.1
-    g.result (side-as s a.first g.result a.c.dotted b e g.ensures a.c.at z.requires.1) (not-false _ w.before.before.before.before.if1.false)
-    v.result v.ensures w.if2.false (sym c.before.before.before.before.before.before.before.before.is-comparison.ensures ∙ not-false _ c.before.before.before.before.before.before.before.if3.false)
-    h.result (side-as s u.result h.result a.c.dotted b e h.ensures v.result.next u.ensures) (not-false _ c.before.before.before.if4.false) z.requires.0
-    c.put-comparison.ensures
+    g.result (side-as s a.first g.result a.c.dotted b e g.ensures a.c.at z.requires.1) (not-false _ w.before.before.before.before.if-not-a.false)
+    v.result v.ensures w.if-t-first.false (sym c.before.before.before.before.before.before.before.before.is_comparison.ensures ∙ not-false _ c.before.before.before.before.before.before.before.if-not-is_comparison.false-raw)
+    h.result (side-as s u.result h.result a.c.dotted b e h.ensures v.result.next u.ensures) (not-false _ c.before.before.before.if-not-b.false) z.requires.0
+    c.put_comparison.ensures
 
-pub read-comparison-spec : {M : Type 1} → statement M
-read-comparison-spec =
+pub read_comparison_spec : {M : Type 1} → statement M
+read_comparison_spec =
     tie.close
     (tie.spec
     read-operand-requires

@@ -11,65 +11,65 @@ use Rattle.statement.proofs.Values.{part_length, folded-short, rest-byte, name-o
 use Rattle.statement.proofs.fetching.name_from.Statement.{statement}
 use Rattle.statement.proofs.fetching.name_from.Tie as tie
 
-abbrev invariant-loop : tie.invariant-loop
+abbrev invariant-loop : tie.invariant-loop-i
 invariant-loop text start end n bytes₀ i₀ bytes i = (i ≤ n) × (n ≡ min (end - start) 12) × Fills (padded 12 0 (folded (take n (drop start text)))) bytes i (folded (rest n i (drop start text)))
 
-abbrev decreases-loop : tie.decreases-loop
+abbrev decreases-loop : tie.decreases-loop-i
 decreases-loop text start end n bytes₀ i₀ bytes i = n - i
 
-sub-least : tie.Need-overflow-sub-least invariant-loop decreases-loop
+sub-least : tie.Need-overflow_sub-end invariant-loop decreases-loop
 sub-least c = search rules
 
-least-requires : tie.Need-least-requires invariant-loop decreases-loop
+least-requires : tie.Need-least-n-requires invariant-loop decreases-loop
 least-requires c κs = search rules
 
-loop-holds : tie.Need-loop-init invariant-loop decreases-loop
+loop-holds : tie.Need-loop-i-init invariant-loop decreases-loop
 loop-holds c =
     let a = c.before.before.args in
-    let n = c.least in
+    let n = c.least-n in
     let l = part_length a.text.now a.start n.result (a.end - a.start) n.ensures (omega arith) in
     (omega arith, n.ensures, fills-start 12 0 _ _ refl (omega (arith, l, n.ensures)))
 
-add-folded : tie.Need-overflow-add-folded invariant-loop decreases-loop
+add-folded : tie.Need-overflow_add-start invariant-loop decreases-loop
 add-folded c = search rules
 
-shared-slice-read-folded : tie.Need-shared-slice-read-folded invariant-loop decreases-loop
+shared-slice-read-folded : tie.Need-bounds-text-start invariant-loop decreases-loop
 shared-slice-read-folded c = search rules
 
 folded-requires : tie.Need-folded-requires invariant-loop decreases-loop
 folded-requires c κs = tt
 
-array-write-bytes : tie.Need-array-write-bytes invariant-loop decreases-loop
+array-write-bytes : tie.Need-bounds-bytes-i invariant-loop decreases-loop
 array-write-bytes c = search rules
 
-add-i : tie.Need-overflow-add-i invariant-loop decreases-loop
+add-i : tie.Need-overflow_add-i invariant-loop decreases-loop
 add-i c = search rules
 
-loop-less : tie.Need-loop-smaller invariant-loop decreases-loop
+loop-less : tie.Need-loop-i-smaller invariant-loop decreases-loop
 loop-less c = search rules
 
-loop-again : tie.Need-loop-preserved invariant-loop decreases-loop
+loop-again : tie.Need-loop-i-preserved invariant-loop decreases-loop
 loop-again c =
     let a = c.before.before.before.before.before.before.args in
-    let l = c.before.before.before.loop in
-    let t = c.before.before.loop-test.true in
+    let l = c.before.before.before.loop-i in
+    let t = c.before.before.loop-i-test.true in
     (omega (arith, t), l.invariant.1, fills-more _ _ _ _ _ _ (rest-byte a.text.now a.start _ l.i _ (omega (arith, l.invariant.1)) t c.folded.ensures) l.invariant.2)
 
-cast-t16 : tie.Need-overflow-cast-t16 invariant-loop decreases-loop
+cast-t16 : tie.Need-overflow_cast-result invariant-loop decreases-loop
 cast-t16 c = search rules
 
 returns : tie.Need-returns invariant-loop decreases-loop
 returns c =
     let a = c.before.before.before.before.args in
-    let l = c.before.loop in
-    let n = c.before.before.least in
+    let l = c.before.loop-i in
+    let n = c.before.before.least-n in
     let k = a.end - a.start in
     let d = drop a.start a.text.now in
-    name-of _ _ (folded (take n.result d)) (fills-end _ _ _ _ (map-none folded_byte _ _ _ c.loop-test.false) l.invariant.2) (sym (part_length a.text.now a.start n.result k n.ensures (omega arith)))
+    name-of _ _ (folded (take n.result d)) (fills-end _ _ _ _ (map-none folded_byte _ _ _ c.loop-i-test.false) l.invariant.2) (sym (part_length a.text.now a.start n.result k n.ensures (omega arith)))
     ∙ ap name_struct (folded-short k n.result d n.ensures)
 
-pub name-from-spec : {M : Type 1} → statement M
-name-from-spec =
+pub name_from_spec : {M : Type 1} → statement M
+name_from_spec =
     tie.close
     (tie.spec
     invariant-loop

@@ -10,26 +10,26 @@ use Rattle.statement.proofs.Values.{value-constant, value-mark}
 use Rattle.statement.proofs.fetching.value_at.Statement.{statement}
 use Rattle.statement.proofs.fetching.value_at.Tie as tie
 
-next-requires : tie.Need-next-requires
+next-requires : tie.Need-next-t-requires
 next-requires c κs = search rules
 
-is-constant-requires : tie.Need-is-constant-requires
+is-constant-requires : tie.Need-is_constant-requires
 is-constant-requires c κs = search rules
 
-returns : tie.Need-returns
+returns : tie.Need-returns-then-is_constant
 returns c =
     let d = c.before.before in
-    let t = d.before.next.result in
+    let t = d.before.next-t.result in
     let e : to_z w32 (of_z w32 t.value) ≡ t.value = search rules in
-    ap (λ (z : ℤ). value_struct (S.constant z)) e ∙ value-constant _ _ t d.before.next.ensures _ (sym d.is-constant.ensures ∙ c.before.if1.true)
+    ap (λ (z : ℤ). value_struct (S.constant z)) e ∙ value-constant _ _ t d.before.next-t.ensures _ (sym d.is_constant.ensures ∙ c.before.if-is_constant.true)
 
-add-t6 : tie.Need-overflow-add-t6
+add-t6 : tie.Need-overflow_add-result
 add-t6 c = search rules
 
-returns-2 : tie.Need-returns-2
+returns-2 : tie.Need-returns
 returns-2 c =
     let d = c.before in
-    value-mark _ _ d.before.next.result d.before.next.ensures _ (sym d.is-constant.ensures ∙ c.if1.false)
+    value-mark _ _ d.before.next-t.result d.before.next-t.ensures _ (sym d.is_constant.ensures ∙ c.if-is_constant.false)
 
-pub value-at-spec : {M : Type 1} → statement M
-value-at-spec = tie.close (tie.spec next-requires is-constant-requires returns add-t6 returns-2)
+pub value_at_spec : {M : Type 1} → statement M
+value_at_spec = tie.close (tie.spec next-requires is-constant-requires returns add-t6 returns-2)

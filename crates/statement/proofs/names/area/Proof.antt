@@ -9,21 +9,21 @@ use Rattle.statement.proofs.names.area.Statement.{statement}
 use Rattle.statement.proofs.names.area.Tie as tie
 
 eight : (c : tie.Start) → length c.args.t.columns ≡ 8
-eight c = simp length-map at c.well-formed.0.1.1.1.0.1.0.1
+eight c = c.well_formed.0.1.1.1.0.1.0.1
 
-cast-least : tie.Need-overflow-cast-least
+cast-least : tie.Need-overflow_cast-t
 cast-least c = search rules
 
 least-requires : tie.Need-least-requires
 least-requires c κs = search rules
 
-cast-result : tie.Need-overflow-cast-result
+cast-result : tie.Need-overflow_cast-result
 cast-result c = search rules
 
-cast-result-2 : tie.Need-overflow-cast-result-2
+cast-result-2 : tie.Need-overflow_cast-result-2
 cast-result-2 c = search rules
 
-mul-result : tie.Need-overflow-mul-result
+mul-result : tie.Need-overflow_mul-result
 mul-result c =
     let n = c.before.least in
     let t = c.before.before.before.args.t in
@@ -40,8 +40,8 @@ returns c =
     let h : n.result ≤ 8 = omega (arith, n.ensures) in
     (ap (λ (m : ℕ). m * t.capacity) (names-count t.columns t.count _ (eight d) n.ensures), area_small n.result t.capacity h k)
 
-pub area-spec : {M : Type 1} → statement M
-area-spec =
+pub area_spec : {M : Type 1} → statement M
+area_spec =
     tie.close
     (tie.spec
     cast-least

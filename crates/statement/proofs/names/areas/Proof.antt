@@ -13,51 +13,51 @@ use Rattle.statement.proofs.Found.{Summed, summed-start, summed-more, summed-end
 use Rattle.statement.proofs.names.areas.Statement.{statement}
 use Rattle.statement.proofs.names.areas.Tie as tie
 
-abbrev invariant-loop : tie.invariant-loop
+abbrev invariant-loop : tie.invariant-loop-i
 invariant-loop used tables n sum₀ i₀ sum i = (n ≤ 8) × (length tables ≡ 8) × Summed n tables sum i
 
-abbrev decreases-loop : tie.decreases-loop
+abbrev decreases-loop : tie.decreases-loop-i
 decreases-loop used tables n sum₀ i₀ sum i = n - i
 
-least-requires : tie.Need-least-requires invariant-loop decreases-loop
+least-requires : tie.Need-least-n-requires invariant-loop decreases-loop
 least-requires c κs = search rules
 
-loop-holds : tie.Need-loop-init invariant-loop decreases-loop
-loop-holds c = (omega (arith, c.least.ensures), search rules, summed-start _ _)
+loop-holds : tie.Need-loop-i-init invariant-loop decreases-loop
+loop-holds c = (omega (arith, c.least-n.ensures), search rules, summed-start _ _)
 
-mul-t : tie.Need-overflow-mul-t invariant-loop decreases-loop
+mul-t : tie.Need-offset_bounds-tables-i invariant-loop decreases-loop
 mul-t c = search rules
 
-array-copy-out-t : tie.Need-array-copy-out-t invariant-loop decreases-loop
+array-copy-out-t : tie.Need-bounds-tables-i invariant-loop decreases-loop
 array-copy-out-t c = search rules
 
-area-requires : tie.Need-area-requires invariant-loop decreases-loop
+area-requires : tie.Need-area-sum-requires invariant-loop decreases-loop
 area-requires c κs = search rules
 
-add-sum : tie.Need-overflow-add-sum invariant-loop decreases-loop
+add-sum : tie.Need-overflow_add-sum invariant-loop decreases-loop
 add-sum c = search rules
 
-add-i : tie.Need-overflow-add-i invariant-loop decreases-loop
+add-i : tie.Need-overflow_add-i invariant-loop decreases-loop
 add-i c = search rules
 
-loop-less : tie.Need-loop-smaller invariant-loop decreases-loop
+loop-less : tie.Need-loop-i-smaller invariant-loop decreases-loop
 loop-less c = search rules
 
-loop-again : tie.Need-loop-preserved invariant-loop decreases-loop
+loop-again : tie.Need-loop-i-preserved invariant-loop decreases-loop
 loop-again c =
-    let l = c.before.before.before.loop in
+    let l = c.before.before.before.loop-i in
     let v = l.invariant in
-    (v.0, v.1, summed-more _ _ (omega arith) l.sum l.i c.area.result _ c.before.before.loop-test.true c.area.ensures.0 c.area.ensures.1 v.2)
+    (v.0, v.1, summed-more _ _ (omega arith) l.sum l.i c.area-sum.result _ c.before.before.loop-i-test.true c.area-sum.ensures.0 c.area-sum.ensures.1 v.2)
 
 returns : tie.Need-returns invariant-loop decreases-loop
 returns c =
-    let l = c.before.loop in
+    let l = c.before.loop-i in
     let v = l.invariant in
-    summed-end _ _ l.sum l.i c.loop-test.false v.2
-    ∙ of-min (λ (ts : List Table). areas_size (map schema_of ts)) _ _ 8 _ v.1 c.before.before.least.ensures
+    summed-end _ _ l.sum l.i c.loop-i-test.false v.2
+    ∙ of-min (λ (ts : List Table). areas_size (map schema_of ts)) _ _ 8 _ v.1 c.before.before.least-n.ensures
 
-pub areas-spec : {M : Type 1} → statement M
-areas-spec =
+pub areas_spec : {M : Type 1} → statement M
+areas_spec =
     tie.close
     (tie.spec
     invariant-loop

@@ -12,57 +12,57 @@ use Rattle.statement.proofs.Walks.{of-min, Passed, passed_start, passed-more, pa
 use Rattle.statement.proofs.names.find.Statement.{statement}
 use Rattle.statement.proofs.names.find.Tie as tie
 
-abbrev invariant-loop : tie.invariant-loop
+abbrev invariant-loop : tie.invariant-loop-i
 invariant-loop name count names n i₀ i = (n ≤ 8) × (length names ≡ 8) × Passed name_of_struct (name_of_struct name) n names i
 
-abbrev decreases-loop : tie.decreases-loop
+abbrev decreases-loop : tie.decreases-loop-i
 decreases-loop name count names n i₀ i = n - i
 
-least-requires : tie.Need-least-requires invariant-loop decreases-loop
+least-requires : tie.Need-least-n-requires invariant-loop decreases-loop
 least-requires c κs = search rules
 
-loop-holds : tie.Need-loop-init invariant-loop decreases-loop
-loop-holds c = (omega (arith, c.least.ensures), search rules, passed_start _ _ _ _)
+loop-holds : tie.Need-loop-i-init invariant-loop decreases-loop
+loop-holds c = (omega (arith, c.least-n.ensures), search rules, passed_start _ _ _ _)
 
-mul-x : tie.Need-overflow-mul-x invariant-loop decreases-loop
+mul-x : tie.Need-offset_bounds-names-i invariant-loop decreases-loop
 mul-x c = search rules
 
-array-copy-out-x : tie.Need-array-copy-out-x invariant-loop decreases-loop
+array-copy-out-x : tie.Need-bounds-names-i invariant-loop decreases-loop
 array-copy-out-x c = search rules
 
-same-name-requires : tie.Need-same-name-requires invariant-loop decreases-loop
+same-name-requires : tie.Need-same_name-requires invariant-loop decreases-loop
 same-name-requires c κs = search rules
 
-cast-result : tie.Need-overflow-cast-result invariant-loop decreases-loop
+cast-result : tie.Need-overflow_cast-result invariant-loop decreases-loop
 cast-result c = search rules
 
-returns : tie.Need-returns invariant-loop decreases-loop
+returns : tie.Need-returns-then-same_name invariant-loop decreases-loop
 returns c =
-    let v = c.before.before.before.before.loop.invariant in
+    let v = c.before.before.before.before.loop-i.invariant in
     let a = c.before.before.before.before.before.before.args in
-    passed-stop _ _ _ _ (omega arith) _ _ v.2 c.before.before.before.loop-test.true (sym c.before.same-name.ensures ∙ c.if1.true)
-    ∙ of-min (λ (xs : List Name). position (map name_of_struct xs) (name_of_struct a.name)) _ _ 8 _ v.1 c.before.before.before.before.before.least.ensures
+    passed-stop _ _ _ _ (omega arith) _ _ v.2 c.before.before.before.loop-i-test.true (sym c.before.same_name.ensures ∙ c.if-same_name.true)
+    ∙ of-min (λ (xs : List Name). position (map name_of_struct xs) (name_of_struct a.name)) _ _ 8 _ v.1 c.before.before.before.before.before.least-n.ensures
 
-add-i : tie.Need-overflow-add-i invariant-loop decreases-loop
+add-i : tie.Need-overflow_add-i invariant-loop decreases-loop
 add-i c = search rules
 
-loop-less : tie.Need-loop-smaller invariant-loop decreases-loop
+loop-less : tie.Need-loop-i-smaller invariant-loop decreases-loop
 loop-less c = search rules
 
-loop-again : tie.Need-loop-preserved invariant-loop decreases-loop
+loop-again : tie.Need-loop-i-preserved invariant-loop decreases-loop
 loop-again c =
-    let v = c.before.before.before.before.loop.invariant in
-    (v.0, v.1, passed-more _ _ _ _ (omega arith) _ _ v.2 c.before.before.before.loop-test.true (sym c.before.same-name.ensures ∙ c.if1.false))
+    let v = c.before.before.before.before.loop-i.invariant in
+    (v.0, v.1, passed-more _ _ _ _ (omega arith) _ _ v.2 c.before.before.before.loop-i-test.true (sym c.before.same_name.ensures ∙ c.if-same_name.false))
 
-cast-result-2 : tie.Need-overflow-cast-result-2 invariant-loop decreases-loop
+cast-result-2 : tie.Need-overflow_cast-result-2 invariant-loop decreases-loop
 cast-result-2 c = search rules
 
-returns-2 : tie.Need-returns-2 invariant-loop decreases-loop
+returns-2 : tie.Need-returns invariant-loop decreases-loop
 returns-2 c =
-    let v = c.before.loop.invariant in
+    let v = c.before.loop-i.invariant in
     let a = c.before.before.before.args in
-    passed-end _ _ _ _ _ v.2 c.loop-test.false
-    ∙ of-min (λ (xs : List Name). position (map name_of_struct xs) (name_of_struct a.name)) _ _ 8 _ v.1 c.before.before.least.ensures
+    passed-end _ _ _ _ _ v.2 c.loop-i-test.false
+    ∙ of-min (λ (xs : List Name). position (map name_of_struct xs) (name_of_struct a.name)) _ _ 8 _ v.1 c.before.before.least-n.ensures
 
 pub find_spec : {M : Type 1} → statement M
 find_spec =

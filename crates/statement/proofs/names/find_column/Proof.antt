@@ -9,7 +9,7 @@ use Rattle.statement.proofs.names.find_column.Statement.{statement}
 use Rattle.statement.proofs.names.find_column.Tie as tie
 
 eight : (c : tie.Start) → length c.args.scope.columns ≡ 8
-eight c = simp length-map at c.well-formed.1.0.1.1.1.1.0.1.0.1
+eight c = c.well_formed.1.0.1.1.1.1.0.1.0.1
 
 find-requires : tie.Need-find-requires
 find-requires c κs = search rules
@@ -22,5 +22,5 @@ returns c =
       omega (arith, eight c.before.before, c.find.ensures, position-most (scope_names a.scope) (name_of_struct a.name), length-map (take a.scope.count a.scope.columns) name_of_struct, length-take a.scope.count a.scope.columns),
     )
 
-pub find-column-spec : {M : Type 1} → statement M
-find-column-spec = tie.close (tie.spec find-requires returns)
+pub find_column_spec : {M : Type 1} → statement M
+find_column_spec = tie.close (tie.spec find-requires returns)

@@ -10,39 +10,39 @@ use Rattle.statement.proofs.Found.{names-count, place_same, place_other}
 use Rattle.statement.proofs.names.find_in.Statement.{statement}
 use Rattle.statement.proofs.names.find_in.Tie as tie
 
-same-name-requires : tie.Need-same-name-requires
+same-name-requires : tie.Need-same_name-requires
 same-name-requires c κs = search rules
 
 find-requires : tie.Need-find-requires
 find-requires c κs = search rules
 
-returns : tie.Need-returns
+returns : tie.Need-returns-then-same_name
 returns c =
     let a = c.before.before.before.args in
     let l : length a.columns ≡ 8 = search rules in
     let cs = names_of a.columns a.count in (
-      c.find.ensures ∙ place_same (name_of_struct a.owner) cs (name_of_struct a.table, name_of_struct a.name) (sym c.before.before.same-name.ensures ∙ c.before.if1.true),
+      c.find.ensures ∙ place_same (name_of_struct a.owner) cs (name_of_struct a.table, name_of_struct a.name) (sym c.before.before.same_name.ensures ∙ c.before.if-same_name.true),
       omega (arith, c.find.ensures, position-most cs (name_of_struct a.name), names-count a.columns a.count (min a.count 8) l refl),
     )
 
 least-requires : tie.Need-least-requires
 least-requires c κs = search rules
 
-cast-result : tie.Need-overflow-cast-result
+cast-result : tie.Need-overflow_cast-result
 cast-result c = search rules
 
-returns-2 : tie.Need-returns-2
+returns-2 : tie.Need-returns
 returns-2 c =
     let a = c.before.before.before.args in
     let l : length a.columns ≡ 8 = search rules in
     let cs = names_of a.columns a.count in (
       names-count a.columns a.count _ l c.least.ensures
-          ∙ place_other (name_of_struct a.owner) cs (name_of_struct a.table, name_of_struct a.name) (sym c.before.before.same-name.ensures ∙ c.before.if1.false),
+          ∙ place_other (name_of_struct a.owner) cs (name_of_struct a.table, name_of_struct a.name) (sym c.before.before.same_name.ensures ∙ c.before.if-same_name.false),
       omega (arith, c.least.ensures),
     )
 
-pub find-in-spec : {M : Type 1} → statement M
-find-in-spec =
+pub find_in_spec : {M : Type 1} → statement M
+find_in_spec =
     tie.close
     (tie.spec
     same-name-requires

@@ -8,50 +8,50 @@ use Rattle.statement.proofs.Found.{Twice, twice-start, twice-more, twice-end}
 use Rattle.statement.proofs.names.is_repeated.Statement.{statement}
 use Rattle.statement.proofs.names.is_repeated.Tie as tie
 
-abbrev invariant-loop : tie.invariant-loop
+abbrev invariant-loop : tie.invariant-loop-i
 invariant-loop n names found₀ i₀ found i = (length names ≡ 8) × Twice names n found i
 
-abbrev decreases-loop : tie.decreases-loop
+abbrev decreases-loop : tie.decreases-loop-i
 decreases-loop n names found₀ i₀ found i = n - i
 
-loop-holds : tie.Need-loop-init invariant-loop decreases-loop
+loop-holds : tie.Need-loop-i-init invariant-loop decreases-loop
 loop-holds c =
-    let e : length c.args.t1 ≡ 8 = search rules in
+    let e : length c.args.names ≡ 8 = search rules in
     (e, twice-start _ _ (omega arith))
 
-mul-x : tie.Need-overflow-mul-x invariant-loop decreases-loop
+mul-x : tie.Need-offset_bounds-names-i invariant-loop decreases-loop
 mul-x c = search rules
 
-array-copy-out-x : tie.Need-array-copy-out-x invariant-loop decreases-loop
+array-copy-out-x : tie.Need-bounds-names-i invariant-loop decreases-loop
 array-copy-out-x c = search rules
 
-cast-find : tie.Need-overflow-cast-find invariant-loop decreases-loop
+cast-find : tie.Need-overflow_cast-i invariant-loop decreases-loop
 cast-find c = search rules
 
 find-requires : tie.Need-find-requires invariant-loop decreases-loop
 find-requires c κs = search rules
 
-cast-found : tie.Need-overflow-cast-found invariant-loop decreases-loop
+cast-found : tie.Need-overflow_cast-found invariant-loop decreases-loop
 cast-found c = search rules
 
-add-i : tie.Need-overflow-add-i invariant-loop decreases-loop
+add-i : tie.Need-overflow_add-i invariant-loop decreases-loop
 add-i c = search rules
 
-loop-less : tie.Need-loop-smaller invariant-loop decreases-loop
+loop-less : tie.Need-loop-i-smaller invariant-loop decreases-loop
 loop-less c = search rules
 
-loop-again : tie.Need-loop-preserved invariant-loop decreases-loop
+loop-again : tie.Need-loop-i-preserved invariant-loop decreases-loop
 loop-again c =
-    let l = c.before.before.before.loop in
-    (l.invariant.0, twice-more _ _ (omega arith) l.found l.i c.find.result _ c.before.before.loop-test.true c.find.ensures l.invariant.1)
+    let l = c.before.before.before.loop-i in
+    (l.invariant.0, twice-more _ _ (omega arith) l.found l.i c.find.result _ c.before.before.loop-i-test.true c.find.ensures l.invariant.1)
 
 returns : tie.Need-returns invariant-loop decreases-loop
 returns c =
-    let l = c.before.loop in
-    twice-end _ _ (omega arith) l.found l.i c.loop-test.false l.invariant.1
+    let l = c.before.loop-i in
+    twice-end _ _ (omega arith) l.found l.i c.loop-i-test.false l.invariant.1
 
-pub is-repeated-spec : {M : Type 1} → statement M
-is-repeated-spec =
+pub is_repeated_spec : {M : Type 1} → statement M
+is_repeated_spec =
     tie.close
     (tie.spec
     invariant-loop

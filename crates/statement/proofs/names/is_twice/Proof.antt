@@ -6,17 +6,17 @@ use Rattle.statement.specs.Built.{twice_in}
 use Rattle.statement.proofs.names.is_twice.Statement.{statement}
 use Rattle.statement.proofs.names.is_twice.Tie as tie
 
-same-name-requires : tie.Need-same-name-requires
+same-name-requires : tie.Need-same_name-requires
 same-name-requires c κs = search rules
 
-returns : tie.Need-returns
-returns c = c.same-name.ensures ∙ ap (λ (b : Bool). twice_in b c.before.before.args.scope) (sym c.before.if1.true)
+returns : tie.Need-returns-then-scope
+returns c = c.same_name.ensures ∙ ap (λ (b : Bool). twice_in b c.before.before.args.scope) (sym c.before.if-scope.true)
 
-returns-2 : tie.Need-returns-2
-returns-2 c = ap (λ (b : Bool). twice_in b c.before.args.scope) (sym c.if1.false)
+returns-2 : tie.Need-returns
+returns-2 c = ap (λ (b : Bool). twice_in b c.before.args.scope) (sym c.if-scope.false)
 
-pub is-twice-spec : {M : Type 1} → statement M
-is-twice-spec =
+pub is_twice_spec : {M : Type 1} → statement M
+is_twice_spec =
     tie.close
     (tie.spec
     same-name-requires

@@ -16,5 +16,5 @@ returns c =
     let e : length a.tables ≡ 8 = search rules in
     (omega (arith, c.least.ensures, length-map (take a.used a.tables) schema_of, length-take a.used a.tables), omega (arith, c.least.ensures), c.least.ensures)
 
-pub table-count-spec : {M : Type 1} → statement M
-table-count-spec = tie.close (tie.spec least-requires returns)
+pub table_count_spec : {M : Type 1} → statement M
+table_count_spec = tie.close (tie.spec least-requires returns)

@@ -9,40 +9,40 @@ use Rattle.statement.proofs.Walks.{Tested, tested-start, tested-more, tested-end
 use Rattle.statement.proofs.refusals.columns_below.Statement.{statement}
 use Rattle.statement.proofs.refusals.columns_below.Tie as tie
 
-abbrev invariant-loop : tie.invariant-loop
+abbrev invariant-loop : tie.invariant-loop-i
 invariant-loop count limit comparisons n ok₀ i₀ ok i = (length comparisons ≡ 8) × Tested (sides_below limit) n comparisons ok i
 
-abbrev decreases-loop : tie.decreases-loop
+abbrev decreases-loop : tie.decreases-loop-i
 decreases-loop count limit comparisons n ok₀ i₀ ok i = n - i
 
-loop-holds : tie.Need-loop-init invariant-loop decreases-loop
+loop-holds : tie.Need-loop-i-init invariant-loop decreases-loop
 loop-holds c = (search rules, tested-start _ _ _)
 
-mul-c : tie.Need-overflow-mul-c invariant-loop decreases-loop
+mul-c : tie.Need-offset_bounds-comparisons-i invariant-loop decreases-loop
 mul-c c = search rules
 
-array-copy-out-c : tie.Need-array-copy-out-c invariant-loop decreases-loop
+array-copy-out-c : tie.Need-bounds-comparisons-i invariant-loop decreases-loop
 array-copy-out-c c = search rules
 
-sides-below-requires : tie.Need-sides-below-requires invariant-loop decreases-loop
+sides-below-requires : tie.Need-sides_below-ok-requires invariant-loop decreases-loop
 sides-below-requires c κs = search rules
 
-add-i : tie.Need-overflow-add-i invariant-loop decreases-loop
+add-i : tie.Need-overflow_add-i invariant-loop decreases-loop
 add-i c = search rules
 
-loop-less : tie.Need-loop-smaller invariant-loop decreases-loop
+loop-less : tie.Need-loop-i-smaller invariant-loop decreases-loop
 loop-less c = search rules
 
-loop-again : tie.Need-loop-preserved invariant-loop decreases-loop
+loop-again : tie.Need-loop-i-preserved invariant-loop decreases-loop
 loop-again c =
-    let l = c.before.before.before.loop in
-    (l.invariant.0, rw c.sides-below.ensures (tested-more _ _ _ (omega arith) _ _ _ c.before.before.loop-test.true l.invariant.1))
+    let l = c.before.before.before.loop-i in
+    (l.invariant.0, rw c.sides_below-ok.ensures (tested-more _ _ _ (omega arith) _ _ _ c.before.before.loop-i-test.true l.invariant.1))
 
 returns : tie.Need-returns invariant-loop decreases-loop
-returns c = tested-end _ _ _ _ _ c.loop-test.false c.before.loop.invariant.1
+returns c = tested-end _ _ _ _ _ c.loop-i-test.false c.before.loop-i.invariant.1
 
-pub columns-below-spec : {M : Type 1} → statement M
-columns-below-spec =
+pub columns_below_spec : {M : Type 1} → statement M
+columns_below_spec =
     tie.close
     (tie.spec
     invariant-loop

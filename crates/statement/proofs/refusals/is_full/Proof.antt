@@ -9,21 +9,21 @@ use Rattle.statement.proofs.Assembled.{full-made}
 use Rattle.statement.proofs.refusals.is_full.Statement.{statement}
 use Rattle.statement.proofs.refusals.is_full.Tie as tie
 
-areas-requires : tie.Need-areas-requires
+areas-requires : tie.Need-areas-taken-requires
 areas-requires c κs = search rules
 
-sub-left : tie.Need-overflow-sub-left
+sub-left : tie.Need-overflow_sub-left
 sub-left c = search rules
 
-table-count-requires : tie.Need-table-count-requires
+table-count-requires : tie.Need-table_count-requires
 table-count-requires c κs = search rules
 
 returns : tie.Need-returns
 returns c =
     let d = c.before.before in
     let a = d.before.args in
-    let l : c.before.if1.left ≡ a.cells - d.areas.result = ⊎_elim (λ w. omega (arith, w.0.taken, w.1)) (λ w. omega (arith, w.0.left, w.1)) c.before.if1.branch in
-    full-made (schemas_of a.tables a.used) a.cells d.areas.result c.before.if1.left _ a.size d.areas.ensures l c.table-count.ensures.0
+    let l : c.before.if-taken-cells.left ≡ a.cells - d.areas-taken.result = ⊎_elim (λ w. omega (arith, w.if-taken-cells.true, w.left-is)) (λ w. omega (arith, w.if-taken-cells.false, w.left-is)) c.before.if-taken-cells.branch-raw in
+    full-made (schemas_of a.tables a.used) a.cells d.areas-taken.result c.before.if-taken-cells.left _ a.size d.areas-taken.ensures l c.table_count.ensures.0
 
-pub is-full-spec : {M : Type 1} → statement M
-is-full-spec = tie.close (tie.spec areas-requires sub-left table-count-requires returns)
+pub is_full_spec : {M : Type 1} → statement M
+is_full_spec = tie.close (tie.spec areas-requires sub-left table-count-requires returns)

@@ -8,30 +8,30 @@ use Rattle.statement.proofs.SentenceTokens.{stays, expect-failed, expect-none, e
 use Rattle.statement.proofs.sentences.expect.Statement.{statement}
 use Rattle.statement.proofs.sentences.expect.Tie as tie
 
-returns : tie.Need-returns
-returns c = let a = c.before.before.before.args in expect-failed a.text.now a.kind a.c (not-true _ c.if1.true)
+returns : tie.Need-returns-then-not-p
+returns c = let a = c.before.before.before.args in expect-failed a.text.now a.kind a.c (not-true _ c.if-not-p.true)
 
-cast-next : tie.Need-overflow-cast-next
+cast-next : tie.Need-overflow_cast-p
 cast-next c = search rules
 
-next-requires : tie.Need-next-requires
+next-requires : tie.Need-next-t-requires
 next-requires c κs = search rules
 
-returns-2 : tie.Need-returns-2
-returns-2 c = let a = c.before.before.before.before.before.before.before.args in expect-none a.text.now a.kind a.c _ c.before.before.next.ensures _ c.if2.true refl
+returns-2 : tie.Need-returns-then-t-kind
+returns-2 c = let a = c.before.before.before.before.before.before.before.args in expect-none a.text.now a.kind a.c _ c.before.before.next-t.ensures _ c.if-t-kind.true refl
 
-cast-p : tie.Need-overflow-cast-p
+cast-p : tie.Need-overflow_cast-p-2
 cast-p c =
     let z = c.before.before.before.before.before.before.before.before in
-    let w = stays z.args.text.now z.args.c.at c.before.before.before.next.result c.before.before.before.next.ensures in
+    let w = stays z.args.text.now z.args.c.at c.before.before.before.next-t.result c.before.before.before.next-t.ensures in
     omega (arith, w, z.requires.0.short)
 
-returns-3 : tie.Need-returns-3
+returns-3 : tie.Need-returns
 returns-3 c =
     let z = c.before.before.before.before.before.before.before.before in
     let a = z.args in
-    let k = not-false _ c.before.before.before.before.before.if1.false in
-    expect-found a.text.now a.kind a.c c.before.before.before.next.result c.before.before.before.next.ensures k (z.requires.0.stands k) z.requires.1 c.before.if2.false
+    let k = not-false _ c.before.before.before.before.before.if-not-p.false in
+    expect-found a.text.now a.kind a.c c.before.before.before.next-t.result c.before.before.before.next-t.ensures k (z.requires.0.stands k) z.requires.1 c.before.if-t-kind.false
 
-pub expect-spec : {M : Type 1} → statement M
-expect-spec = tie.close (tie.spec returns cast-next next-requires returns-2 cast-p returns-3)
+pub expect_spec : {M : Type 1} → statement M
+expect_spec = tie.close (tie.spec returns cast-next next-requires returns-2 cast-p returns-3)

@@ -8,16 +8,16 @@ use Rattle.token.specs.Tokens.{token_at}
 use Rattle.statement.proofs.sentences.is_comma_second.Statement.{statement}
 use Rattle.statement.proofs.sentences.is_comma_second.Tie as tie
 
-next-requires : tie.Need-next-requires
+next-requires : tie.Need-next-one-requires
 next-requires c κs = search rules
 
-next-requires-2 : tie.Need-next-requires-2
+next-requires-2 : tie.Need-next-two-requires
 next-requires-2 c κs = search rules
 
 returns : tie.Need-returns
 returns c =
     let a = c.before.before.before.before.before.args in
-    ap (λ (t : Token). eqb a.from.kind 18 && eqb t.kind 6) (c.before.before.next2.ensures ∙ ap (λ (t : Token). token_at a.text.now t.next) c.before.before.before.next.ensures)
+    ap (λ (t : Token). eqb a.from.kind 18 && eqb t.kind 6) (c.before.before.next-two.ensures ∙ ap (λ (t : Token). token_at a.text.now t.next) c.before.before.before.next-one.ensures)
 
-pub is-comma-second-spec : {M : Type 1} → statement M
-is-comma-second-spec = tie.close (tie.spec next-requires next-requires-2 returns)
+pub is_comma_second_spec : {M : Type 1} → statement M
+is_comma_second_spec = tie.close (tie.spec next-requires next-requires-2 returns)

@@ -7,33 +7,33 @@ use Rattle.statement.proofs.SentenceTexts.{no-sentence, more-follows, all_read}
 use Rattle.statement.proofs.sentences.read_sentence.Statement.{statement}
 use Rattle.statement.proofs.sentences.read_sentence.Tie as tie
 
-read-form-requires : tie.Need-read-form-requires
+read-form-requires : tie.Need-read_form-e-requires
 read-form-requires c κs = search rules
 
-returns : tie.Need-returns
+returns : tie.Need-returns-then-not-c
 returns c =
     let a = c.before.before.before.before.before.before.before.args in
-    let r = c.before.before.before.read-form in
-    no-sentence a.text.now r.new.1.0 r.new.1.1.0 r.result r.ensures (not-true _ c.if1.true)
+    let r = c.before.before.before.read_form-e in
+    no-sentence a.text.now r.new.list r.new.places r.result r.ensures (not-true _ c.if-not-c.true)
 
-cast-next : tie.Need-overflow-cast-next
+cast-next : tie.Need-overflow_cast-c
 cast-next c = search rules
 
-next-requires : tie.Need-next-requires
+next-requires : tie.Need-next-t-requires
 next-requires c κs = search rules
 
-returns-2 : tie.Need-returns-2
+returns-2 : tie.Need-returns-then-t-ne-END
 returns-2 c =
     let a = c.before.before.before.before.before.before.before.before.before.before.before.args in
-    let r = c.before.before.before.before.before.before.before.read-form in
-    more-follows a.text.now r.new.1.0 r.new.1.1.0 r.result r.ensures c.before.before.next.result c.before.before.next.ensures _ c.if2.true refl
+    let r = c.before.before.before.before.before.before.before.read_form-e in
+    more-follows a.text.now r.new.list r.new.places r.result r.ensures c.before.before.next-t.result c.before.before.next-t.ensures _ c.if-t-ne-END.true refl
 
-returns-3 : tie.Need-returns-3
+returns-3 : tie.Need-returns-else-t-ne-END
 returns-3 c =
     let a = c.before.before.before.before.before.before.before.before.before.before.before.args in
-    let r = c.before.before.before.before.before.before.before.read-form in
-    all_read a.text.now r.new.1.0 r.new.1.1.0 r.result r.ensures c.before.before.next.result c.before.before.next.ensures (not-false _ c.before.before.before.before.if1.false) c.if2.false
+    let r = c.before.before.before.before.before.before.before.read_form-e in
+    all_read a.text.now r.new.list r.new.places r.result r.ensures c.before.before.next-t.result c.before.before.next-t.ensures (not-false _ c.before.before.before.before.if-not-c.false) c.if-t-ne-END.false
 
-pub read-sentence-spec : {M : Type 1} → statement M
-read-sentence-spec =
+pub read_sentence_spec : {M : Type 1} → statement M
+read_sentence_spec =
     tie.close (tie.spec read-form-requires returns cast-next next-requires returns-2 returns-3)

@@ -8,7 +8,7 @@ use Rattle.table.proofs.changes.change_area.Statement.{statement}
 use Rattle.table.proofs.changes.change_area.Tie as tie
 
 eight : (c : tie.Start) → length c.args.update.settings ≡ 8
-eight c = simp length-map at c.well-formed.1.1.1.1.1.0.1.1.1.1.0.1.0.1
+eight c = c.well-formed.1.1.1.1.1.0.1.1.1.1.0.1.0.1
 
 new-place-requires : tie.Need-new-place-requires
 new-place-requires c κs = search rules

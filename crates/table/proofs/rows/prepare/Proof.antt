@@ -20,7 +20,7 @@ fifteen : (c : tie.Start invariant-loop decreases-loop) → length c.args.t1.ste
 fifteen c = search rules
 
 eight : (c : tie.Start invariant-loop decreases-loop) → length c.args.t1.comparisons ≡ 8
-eight c = simp length-map at c.well-formed.0.1.1.0.1.0.1
+eight c = c.well-formed.0.1.1.0.1.0.1
 
 inside : (c : tie.In-loop invariant-loop decreases-loop) → c.before.loop.i < 8
 inside c = omega (arith, c.before.loop.invariant.1.shaped.count-is, c.loop-test.true)
