@@ -39,16 +39,16 @@ known : (c : tie.Then1) → Below c.before.args.z
 known c = below c.before.args.z c.before.ranges.z (rw (to_z-of_z c.before.ranges.z) at c.if1.true)
 
 sub-result : tie.Need-overflow-sub-result
-sub-result c = rw (to_z-of_z c.before.ranges.z, (known c).is) (known c).ranges
+sub-result c = rw (to_z-of_z c.before.ranges.z, (known c).is) (known c).fits
 
 cast-result : tie.Need-overflow-cast-result
-cast-result c = rw (to_z-of_z c.before.ranges.z, (known c).is, to_z-of_z (known c).ranges) (tt, record { fits = omega (arith, (known c).ranges) })
+cast-result c = rw (to_z-of_z c.before.ranges.z, (known c).is, to_z-of_z (known c).fits) (tt, record { fits = omega (arith, (known c).fits) })
 
 add-result : tie.Need-overflow-add-result
-add-result c = rw (to_z-of_z c.before.ranges.z, (known c).is, to_z-of_z (known c).ranges) (record { fits = omega (arith, (known c).ranges) })
+add-result c = rw (to_z-of_z c.before.ranges.z, (known c).is, to_z-of_z (known c).fits) (record { fits = omega (arith, (known c).fits) })
 
 returns : tie.Need-returns
-returns c = rw (to_z-of_z c.before.ranges.z, (known c).is, to_z-of_z (known c).ranges) (known c).abs
+returns c = rw (to_z-of_z c.before.ranges.z, (known c).is, to_z-of_z (known c).fits) (known c).abs
 
 cast-result-2 : tie.Need-overflow-cast-result-2
 cast-result-2 c =

@@ -11,80 +11,80 @@ use Rattle.table.proofs.Fitting.{area-inside, form_test, refused, refused-area, 
 use Rattle.table.proofs.changes.change.Statement.{statement}
 use Rattle.table.proofs.changes.change.Tie as tie
 
-cast-columns : tie.Need-overflow-cast-columns
+cast-columns : tie.Need-overflow_cast-columns
 cast-columns c = search rules
 
-area-fits-requires : tie.Need-area-fits-requires
+area-fits-requires : tie.Need-area_fits-requires
 area-fits-requires c κs = search rules
 
-returns : tie.Need-returns
+returns : tie.Need-returns-then-not-area_fits
 returns c =
-    let s = c.before.before.before.args in
+    let s = c.args in
     refused s.update s.table s.start s.cells.now s.values.now
-    (refused-area s.update s.table s.start s.cells.now s.values.now (sym c.before.area-fits.ensures ∙ not-true c.before.area-fits.result c.if1.true))
+    (refused-area s.update s.table s.start s.cells.now s.values.now (sym c.area_fits.ensures ∙ not-true c.area_fits.result c.if-not-area_fits.true-raw))
 
-form-fits-requires : tie.Need-form-fits-requires
+form-fits-requires : tie.Need-form_fits-requires
 form-fits-requires c κs = search rules
 
-returns-2 : tie.Need-returns-2
+returns-2 : tie.Need-returns-then-not-form_fits
 returns-2 c =
-    let s = c.before.before.before.before.before.args in
+    let s = c.args in
     refused s.update s.table s.start s.cells.now s.values.now
-    (refused-form s.update s.table s.start s.cells.now s.values.now (sym c.before.before.before.area-fits.ensures ∙ not-false c.before.before.before.area-fits.result c.before.before.if1.false) (sym c.before.form-fits.ensures ∙ not-true c.before.form-fits.result c.if2.true))
+    (refused-form s.update s.table s.start s.cells.now s.values.now (sym c.area_fits.ensures ∙ not-false c.area_fits.result c.if-not-area_fits.false-raw) (sym c.form_fits.ensures ∙ not-true c.form_fits.result c.if-not-form_fits.true-raw))
 
-cast-end : tie.Need-overflow-cast-end
+cast-end : tie.Need-overflow_cast-end
 cast-end c = search rules
 
 -- where the area fits, and the form
-area-yes : (c : tie.Else2) → area_fits c.before.before.before.before.before.args.table c.before.before.before.before.before.args.start (length c.before.before.before.before.before.args.cells.now) ≡ true
-area-yes c = sym c.before.before.before.area-fits.ensures ∙ not-false c.before.before.before.area-fits.result c.before.before.if1.false
+area-yes : (c : tie.Else-not-form_fits) → area_fits c.args.table c.args.start (length c.args.cells.now) ≡ true
+area-yes c = sym c.area_fits.ensures ∙ not-false c.area_fits.result c.if-not-area_fits.false-raw
 
-form-yes : (c : tie.Else2) → form_test c.before.before.before.before.before.args.update c.before.before.before.before.before.args.table ≡ true
-form-yes c = sym c.before.form-fits.ensures ∙ not-false c.before.form-fits.result c.if2.false
+form-yes : (c : tie.Else-not-form_fits) → form_test c.args.update c.args.table ≡ true
+form-yes c = sym c.form_fits.ensures ∙ not-false c.form_fits.result c.if-not-form_fits.false-raw
 
-within : (c : tie.Else2) → c.before.before.before.before.before.args.start + c.before.before.before.before.before.args.table.count * c.before.before.before.before.before.args.table.capacity ≤ length c.before.before.before.before.before.args.cells.now
-within c = let s = c.before.before.before.before.before.args in area-inside s.table s.start (length s.cells.now) (area-yes c)
+within : (c : tie.Else-not-form_fits) → c.args.start + c.args.table.count * c.args.table.capacity ≤ length c.args.cells.now
+within c = let s = c.args in area-inside s.table s.start (length s.cells.now) (area-yes c)
 
-mul-end : tie.Need-overflow-mul-end
+mul-end : tie.Need-overflow_mul-end
 mul-end c = record { fits = omega (arith, within c.before) }
 
-add-end : tie.Need-overflow-add-end
+add-end : tie.Need-overflow_add-end
 add-end c = record { fits = omega (arith, within c.before) }
 
-is-full-requires : tie.Need-is-full-requires
+is-full-requires : tie.Need-is_full-full-requires
 is-full-requires c κs = search rules
 
-mul-change-area : tie.Need-overflow-mul-change-area
+mul-change-area : tie.Need-offset_bounds-cells-start
 mul-change-area c = record { fits = omega (arith, within c.before.before) }
 
-sub-change-area : tie.Need-overflow-sub-change-area
+sub-change-area : tie.Need-slice_bounds-change_area-count
 sub-change-area c = search rules
 
-part-change-area-start : tie.Need-slice-bounds-change-area-start
+part-change-area-start : tie.Need-slice_bounds-change_area-start
 part-change-area-start c = search rules
 
-part-change-area-end : tie.Need-slice-bounds-change-area-end
+part-change-area-end : tie.Need-slice_bounds-change_area-end
 part-change-area-end c = omega (arith, within c.before.before)
 
-change-area-requires : tie.Need-change-area-requires
+change-area-requires : tie.Need-change_area-requires
 change-area-requires c κs =
-    let s = c.before.before.before.before.before.before.before.before.args in
+    let s = c.args in
     let k : s.table.capacity ≤ 65535 = search rules in
     let w : s.table.count ≤ 255 = search rules in
     let f = change-fits s.update s.table s.start s.cells.now s.values.now (area-yes c.before.before.before) (form-yes c.before.before.before) (s.start + s.table.count * s.table.capacity - s.start) (omega arith) k in
-    (omega arith, subst (λ (b : Bool). ChangeFits b s.table.oldest s.update.form s.update.count s.table.count s.table.rows (length (take (s.start + s.table.count * s.table.capacity - s.start) (drop s.start s.cells.now)))) (sym c.before.is-full.ensures) f)
+    (omega arith, subst (λ (b : Bool). ChangeFits b s.table.oldest s.update.form s.update.count s.table.count s.table.rows (length (take (s.start + s.table.count * s.table.capacity - s.start) (drop s.start s.cells.now)))) (sym c.is_full-full.ensures) f)
 
-same_length : tie.Need-same-length
+same_length : tie.Need-shape_of-cells
 same_length c = search rules
 
-returns-3 : tie.Need-returns-3
+returns-3 : tie.Need-returns
 returns-3 c =
-    let s = c.before.before.before.before.before.before.before.before.before.before.args in
-    let d = c.before.change-area in
-    done s.update s.table s.start s.cells.now s.values.now (area-yes c.before.before.before.before.before) (form-yes c.before.before.before.before.before) (s.start + s.table.count * s.table.capacity - s.start) (omega arith) d.result d.new.0 (subst (λ (b : Bool). Promised s.update s.values.now s.table.count s.table.rows (take (s.start + s.table.count * s.table.capacity - s.start) (drop s.start s.cells.now)) b s.table.oldest s.update.form d.result d.new.0) c.before.before.before.is-full.ensures d.ensures)
+    let s = c.args in
+    let d = c.change_area in
+    done s.update s.table s.start s.cells.now s.values.now (area-yes c.before.before.before.before.before) (form-yes c.before.before.before.before.before) (s.start + s.table.count * s.table.capacity - s.start) (omega arith) d.result d.new.area (subst (λ (b : Bool). Promised s.update s.values.now s.table.count s.table.rows (take (s.start + s.table.count * s.table.capacity - s.start) (drop s.start s.cells.now)) b s.table.oldest s.update.form d.result d.new.area) c.is_full-full.ensures d.ensures)
 
-pub change-spec : {M : Type 1} → statement M
-change-spec =
+pub change_spec : {M : Type 1} → statement M
+change_spec =
     tie.close
     (tie.spec
     cast-columns

@@ -10,45 +10,45 @@ use Rattle.table.proofs.Copied.{pasted, paste-whole}
 use Rattle.table.proofs.changes.clear.Statement.{statement}
 use Rattle.table.proofs.changes.clear.Tie as tie
 
-abbrev invariant-loop : tie.invariant-loop
+abbrev invariant-loop : tie.invariant-loop-i
 invariant-loop cells₀ i₀ cells i = (i ≤ length cells₀) × (length cells ≡ length cells₀) × (cells ≡ paste cells₀ 0 (replicate (length cells₀) (pos 0)) i)
 
-abbrev decreases-loop : tie.decreases-loop
+abbrev decreases-loop : tie.decreases-loop-i
 decreases-loop cells₀ i₀ cells i = length cells₀ - i
 
-loop-holds : tie.Need-loop-init invariant-loop decreases-loop
+loop-holds : tie.Need-loop-i-init invariant-loop decreases-loop
 loop-holds c = (omega arith, refl, paste-zero c.args.cells.now 0 (replicate (length c.args.cells.now) (pos 0)))
 
-mul-cells : tie.Need-overflow-mul-cells invariant-loop decreases-loop
+mul-cells : tie.Need-offset_bounds-cells-i invariant-loop decreases-loop
 mul-cells c = omega arith
 
-slice-set-of-cells : tie.Need-slice-set-of-cells invariant-loop decreases-loop
+slice-set-of-cells : tie.Need-slice_set_of-cells invariant-loop decreases-loop
 slice-set-of-cells c = omega arith
 
-add-i : tie.Need-overflow-add-i invariant-loop decreases-loop
+add-i : tie.Need-overflow_add-i invariant-loop decreases-loop
 add-i c = omega arith
 
-loop-less : tie.Need-loop-smaller invariant-loop decreases-loop
+loop-less : tie.Need-loop-i-smaller invariant-loop decreases-loop
 loop-less c = omega arith
 
-loop-again : tie.Need-loop-preserved invariant-loop decreases-loop
+loop-again : tie.Need-loop-i-preserved invariant-loop decreases-loop
 loop-again c =
-    let s = c.before.before in
-    let i = c.before.loop.i in
+    let s = c in
+    let i = c.loop-i.i in
     let n : ℕ = length s.args.cells.now in (
       omega arith,
       simp length-set (omega arith),
-      pasted s.args.cells.now 0 (replicate n (pos 0)) i (pos 0) _ i _ (omega arith) (simp length-replicate (omega arith)) c.before.loop.invariant.2 (omega arith) (sym (get_or-replicate n i (pos 0) (pos 0) (omega arith))),
+      pasted s.args.cells.now 0 (replicate n (pos 0)) i (pos 0) _ i _ (omega arith) (simp length-replicate (omega arith)) c.loop-i.invariant.2 (omega arith) (sym (get_or-replicate n i (pos 0) (pos 0) (omega arith))),
     )
 
-same_length : tie.Need-same-length invariant-loop decreases-loop
-same_length c = c.before.loop.invariant.1
+same_length : tie.Need-shape_of-cells invariant-loop decreases-loop
+same_length c = c.loop-i.invariant.1
 
 returns : tie.Need-returns invariant-loop decreases-loop
 returns c =
-    let n : ℕ = length c.before.before.args.cells.now in
-    let e : c.before.loop.i ≡ n = omega arith in
-    c.before.loop.invariant.2 ∙ ap (λ (k : ℕ). paste c.before.before.args.cells.now 0 (replicate n (pos 0)) k) e ∙ paste-whole c.before.before.args.cells.now (replicate n (pos 0)) (length-replicate n (pos 0))
+    let n : ℕ = length c.args.cells.now in
+    let e : c.loop-i.i ≡ n = omega arith in
+    c.loop-i.invariant.2 ∙ ap (λ (k : ℕ). paste c.args.cells.now 0 (replicate n (pos 0)) k) e ∙ paste-whole c.args.cells.now (replicate n (pos 0)) (length-replicate n (pos 0))
 
 pub clear_spec : {M : Type 1} → statement M
 clear_spec =

@@ -12,58 +12,58 @@ use Rattle.table.proofs.Removing.{settings_from, writes_start, writes-turn, writ
 use Rattle.table.proofs.changes.constants.Statement.{statement}
 use Rattle.table.proofs.changes.constants.Tie as tie
 
-abbrev invariant-loop : tie.invariant-loop
+abbrev invariant-loop : tie.invariant-loop-i
 invariant-loop row list₀ i₀ list i = (i ≤ length row) × (length list ≡ 8) × (list ≡ paste list₀ 0 (settings_from 0 row) i)
 
-abbrev decreases-loop : tie.decreases-loop
+abbrev decreases-loop : tie.decreases-loop-i
 decreases-loop row list₀ i₀ list i = length row - i
 
-loop-holds : tie.Need-loop-init invariant-loop decreases-loop
+loop-holds : tie.Need-loop-i-init invariant-loop decreases-loop
 loop-holds c =
     let w = writes_start c.args.settings c.args.row.now c.requires.0 c.requires.1 in
     (omega arith, w.0, w.1)
 
-cast-t7 : tie.Need-overflow-cast-t7 invariant-loop decreases-loop
-cast-t7 c = omega (arith, c.loop-test.true, c.before.before.requires.1)
+cast-t7 : tie.Need-overflow_cast-list invariant-loop decreases-loop
+cast-t7 c = omega (arith, c.loop-i-test.true, c.requires.1)
 
-mul-t5 : tie.Need-overflow-mul-t5 invariant-loop decreases-loop
-mul-t5 c = omega (arith, c.loop-test.true)
+mul-t5 : tie.Need-offset_bounds-row-i invariant-loop decreases-loop
+mul-t5 c = omega (arith, c.loop-i-test.true)
 
-shared-slice-copy-out-t9 : tie.Need-shared-slice-copy-out-t9 invariant-loop decreases-loop
-shared-slice-copy-out-t9 c = omega (arith, c.loop-test.true)
+shared-slice-copy-out-t9 : tie.Need-bounds-row-i invariant-loop decreases-loop
+shared-slice-copy-out-t9 c = omega (arith, c.loop-i-test.true)
 
-mul-list : tie.Need-overflow-mul-list invariant-loop decreases-loop
-mul-list c = omega (arith, c.before.loop-test.true, c.before.before.before.requires.1)
+mul-list : tie.Need-offset_bounds-list-i invariant-loop decreases-loop
+mul-list c = omega (arith, c.loop-i-test.true, c.requires.1)
 
-array-set-from-list : tie.Need-array-set-from-list invariant-loop decreases-loop
-array-set-from-list c = omega (arith, c.before.loop-test.true, c.before.before.before.requires.1, c.before.before.loop.invariant.1)
+array-set-from-list : tie.Need-bounds-list-i invariant-loop decreases-loop
+array-set-from-list c = omega (arith, c.loop-i-test.true, c.requires.1, c.loop-i.invariant.1)
 
-add-i : tie.Need-overflow-add-i invariant-loop decreases-loop
-add-i c = omega (arith, c.before.loop-test.true, c.before.before.before.requires.1)
+add-i : tie.Need-overflow_add-i invariant-loop decreases-loop
+add-i c = omega (arith, c.loop-i-test.true, c.requires.1)
 
-loop-less : tie.Need-loop-smaller invariant-loop decreases-loop
-loop-less c = omega (arith, c.before.loop-test.true)
+loop-less : tie.Need-loop-i-smaller invariant-loop decreases-loop
+loop-less c = omega (arith, c.loop-i-test.true)
 
-loop-again : tie.Need-loop-preserved invariant-loop decreases-loop
+loop-again : tie.Need-loop-i-preserved invariant-loop decreases-loop
 loop-again c =
-    let s = c.before.before.before in
-    let l = c.before.before.loop in
+    let s = c in
+    let l = c.loop-i in
     let x : ℤ = get_or s.args.row.now l.i (pos 0) in
     let e : to_z w32 (of_z w32 x) ≡ x = search rules in (
-      omega (arith, c.before.loop-test.true),
+      omega (arith, c.loop-i-test.true),
       simp length-set (omega (arith, l.invariant.1)),
-      writes-turn s.args.settings s.args.row.now s.requires.0 s.requires.1 l.i l.list _ c.before.loop-test.true l.invariant.2
+      writes-turn s.args.settings s.args.row.now s.requires.0 s.requires.1 l.i l.list _ c.loop-i-test.true l.invariant.2
           (ap (λ (z : ℤ). record { column = l.i; mark = 0; number = z }) e),
     )
 
 returns : tie.Need-returns invariant-loop decreases-loop
 returns c =
-    let s = c.before.before in
-    let l = c.before.loop in
-    writes-done s.args.settings s.args.row.now s.requires.0 s.requires.1 l.i l.list (omega (arith, l.invariant.0, c.loop-test.false)) l.invariant.2
+    let s = c in
+    let l = c.loop-i in
+    writes-done s.args.settings s.args.row.now s.requires.0 s.requires.1 l.i l.list (omega (arith, l.invariant.0, c.loop-i-test.false)) l.invariant.2
 
-pub constants-spec : {M : Type 1} → statement M
-constants-spec =
+pub constants_spec : {M : Type 1} → statement M
+constants_spec =
     tie.close
     (tie.spec
     invariant-loop

@@ -4,17 +4,17 @@ use Rattle.table.proofs.Fitting.{form-many, form-insert, form-other}
 use Rattle.table.proofs.changes.form_fits.Statement.{statement}
 use Rattle.table.proofs.changes.form_fits.Tie as tie
 
-cast-if1 : tie.Need-overflow-cast-if1
+cast-if1 : tie.Need-overflow_cast-update
 cast-if1 c = search rules
 
-returns : tie.Need-returns
-returns c = let s = c.before.before.args in form-many s.update s.table c.if1.true
+returns : tie.Need-returns-then-update-gt-SETTINGS
+returns c = let s = c.args in form-many s.update s.table c.if-update-gt-SETTINGS.true
 
-returns-2 : tie.Need-returns-2
-returns-2 c = let s = c.before.before.before.before.before.before.before.before.before.args in form-insert s.update s.table c.before.before.before.before.before.before.before.if1.false c.before.before.before.before.before.if2.true
+returns-2 : tie.Need-returns-then-update-eq-INSERT
+returns-2 c = let s = c.args in form-insert s.update s.table c.if-update-gt-SETTINGS.false c.if-update-eq-INSERT.true
 
-returns-3 : tie.Need-returns-3
-returns-3 c = let s = c.before.before.before.before.args in form-other s.update s.table c.before.before.if1.false c.if2.false
+returns-3 : tie.Need-returns
+returns-3 c = let s = c.args in form-other s.update s.table c.if-update-gt-SETTINGS.false c.if-update-eq-INSERT.false
 
-pub form-fits-spec : {M : Type 1} → statement M
-form-fits-spec = tie.close (tie.spec cast-if1 returns returns-2 returns-3)
+pub form_fits_spec : {M : Type 1} → statement M
+form_fits_spec = tie.close (tie.spec cast-if1 returns returns-2 returns-3)

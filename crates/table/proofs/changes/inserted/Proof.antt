@@ -12,19 +12,19 @@ use Rattle.table.proofs.changes.inserted.Tie as tie
 abbrev saying : ℕ → ℕ → Changed
 saying rows k = record { count = 1; rows = rows; oldest = k }
 
-next-place-requires : tie.Need-next-place-requires
-next-place-requires c κs = c.before.requires.there c.if1.true
+next-place-requires : tie.Need-next_place-next-requires
+next-place-requires c κs = c.requires.there c.if-full.true
 
-returns : tie.Need-returns
+returns : tie.Need-returns-then-full
 returns c =
-    let a = c.before.before.args in
-    ap (saying a.used) c.next_place.ensures ∙ sym (ap (λ (b : Bool). inserted_of b a.used a.oldest) c.before.if1.true)
+    let a = c.args in
+    ap (saying a.used) c.next_place-next.ensures ∙ sym (ap (λ (b : Bool). inserted_of b a.used a.oldest) c.if-full.true)
 
-add-t6 : tie.Need-overflow-add-t6
-add-t6 c = omega (arith, c.before.requires.free c.if1.false)
+add-t6 : tie.Need-overflow_add-result
+add-t6 c = omega (arith, c.requires.free c.if-full.false)
 
-returns-2 : tie.Need-returns-2
-returns-2 c = let a = c.before.args in sym (ap (λ (b : Bool). inserted_of b a.used a.oldest) c.if1.false)
+returns-2 : tie.Need-returns
+returns-2 c = let a = c.args in sym (ap (λ (b : Bool). inserted_of b a.used a.oldest) c.if-full.false)
 
-pub inserted-spec : {M : Type 1} → statement M
-inserted-spec = tie.close (tie.spec next-place-requires returns add-t6 returns-2)
+pub inserted_spec : {M : Type 1} → statement M
+inserted_spec = tie.close (tie.spec next-place-requires returns add-t6 returns-2)

@@ -11,64 +11,64 @@ use Rattle.table.proofs.Copied.{pasted, paste-own, read-ahead}
 use Rattle.table.proofs.changes.move_row.Statement.{statement}
 use Rattle.table.proofs.changes.move_row.Tie as tie
 
-abbrev invariant-loop : tie.invariant-loop
+abbrev invariant-loop : tie.invariant-loop-i
 invariant-loop area₀ from to columns i₀ area i = (i ≤ columns) × (length area ≡ length area₀) × (area ≡ paste area₀ to (drop from area₀) i)
 
-abbrev decreases-loop : tie.decreases-loop
+abbrev decreases-loop : tie.decreases-loop-i
 decreases-loop area₀ from to columns i₀ area i = columns - i
 
-returns : tie.Need-returns invariant-loop decreases-loop
-returns c = let s = c.before.args in paste-own s.area.now s.from s.to s.columns c.if1.true
+returns : tie.Need-returns-then-from-to invariant-loop decreases-loop
+returns c = let s = c.args in paste-own s.area.now s.from s.to s.columns c.if-from-to.true
 
-loop-holds : tie.Need-loop-init invariant-loop decreases-loop
-loop-holds c = let s = c.before.args in (omega arith, refl, paste-zero s.area.now s.to (drop s.from s.area.now))
+loop-holds : tie.Need-loop-i-init invariant-loop decreases-loop
+loop-holds c = let s = c.args in (omega arith, refl, paste-zero s.area.now s.to (drop s.from s.area.now))
 
-add-area : tie.Need-overflow-add-area invariant-loop decreases-loop
+add-area : tie.Need-overflow_add-area invariant-loop decreases-loop
 add-area c = omega arith
 
-mul-area : tie.Need-overflow-mul-area invariant-loop decreases-loop
+mul-area : tie.Need-offset_bounds-area-from invariant-loop decreases-loop
 mul-area c = omega arith
 
-slice-copy-out-area : tie.Need-slice-copy-out-area invariant-loop decreases-loop
+slice-copy-out-area : tie.Need-slice_copy_out-area invariant-loop decreases-loop
 slice-copy-out-area c = omega arith
 
-add-t12 : tie.Need-overflow-add-t12 invariant-loop decreases-loop
+add-t12 : tie.Need-overflow_add-to invariant-loop decreases-loop
 add-t12 c = omega arith
 
-mul-t13 : tie.Need-overflow-mul-t13 invariant-loop decreases-loop
+mul-t13 : tie.Need-offset_bounds-area-to invariant-loop decreases-loop
 mul-t13 c = omega arith
 
-slice-set-from-area : tie.Need-slice-set-from-area invariant-loop decreases-loop
+slice-set-from-area : tie.Need-bounds-area-to invariant-loop decreases-loop
 slice-set-from-area c = omega arith
 
-add-i : tie.Need-overflow-add-i invariant-loop decreases-loop
+add-i : tie.Need-overflow_add-i invariant-loop decreases-loop
 add-i c = omega arith
 
-loop-less : tie.Need-loop-smaller invariant-loop decreases-loop
+loop-less : tie.Need-loop-i-smaller invariant-loop decreases-loop
 loop-less c = omega arith
 
-loop-again : tie.Need-loop-preserved invariant-loop decreases-loop
+loop-again : tie.Need-loop-i-preserved invariant-loop decreases-loop
 loop-again c =
-    let s = c.before.before.before.before.args in
-    let i = c.before.before.loop.i in
-    let e = c.before.before.loop.invariant.2 in (
+    let s = c.args in
+    let i = c.loop-i.i in
+    let e = c.loop-i.invariant.2 in (
       omega arith,
       simp length-set (omega arith),
-      pasted s.area.now s.to (drop s.from s.area.now) i (pos 0) c.before.before.loop.area (s.to + i) _ (omega arith) (simp length-drop (omega arith)) e refl
-          (search rules ∙ read-ahead s.area.now s.from s.to i (pos 0) c.before.before.loop.area c.before.before.before.before.requires.0 (omega arith) e),
+      pasted s.area.now s.to (drop s.from s.area.now) i (pos 0) c.loop-i.area (s.to + i) _ (omega arith) (simp length-drop (omega arith)) e refl
+          (search rules ∙ read-ahead s.area.now s.from s.to i (pos 0) c.loop-i.area c.requires.0 (omega arith) e),
     )
 
-same_length : tie.Need-same-length invariant-loop decreases-loop
-same_length c = c.before.loop.invariant.1
+same_length : tie.Need-shape_of-area invariant-loop decreases-loop
+same_length c = c.loop-i.invariant.1
 
-returns-2 : tie.Need-returns-2 invariant-loop decreases-loop
+returns-2 : tie.Need-returns invariant-loop decreases-loop
 returns-2 c =
-    let s = c.before.before.before.args in
-    let e : c.before.loop.i ≡ s.columns = omega arith in
-    c.before.loop.invariant.2 ∙ ap (λ (k : ℕ). paste s.area.now s.to (drop s.from s.area.now) k) e
+    let s = c.args in
+    let e : c.loop-i.i ≡ s.columns = omega arith in
+    c.loop-i.invariant.2 ∙ ap (λ (k : ℕ). paste s.area.now s.to (drop s.from s.area.now) k) e
 
-pub move-row-spec : {M : Type 1} → statement M
-move-row-spec =
+pub move_row_spec : {M : Type 1} → statement M
+move_row_spec =
     tie.close
     (tie.spec
     invariant-loop

@@ -7,17 +7,17 @@ use borrow.Author.Tests.{lt-ltb, le-ltb}
 use Rattle.table.proofs.changes.next_place.Statement.{statement}
 use Rattle.table.proofs.changes.next_place.Tie as tie
 
-add-if1 : tie.Need-overflow-add-if1
+add-if1 : tie.Need-overflow_add-k
 add-if1 c = search rules
 
-add-result : tie.Need-overflow-add-result
+add-result : tie.Need-overflow_add-result
 add-result c = search rules
 
-returns : tie.Need-returns
-returns c = let a = c.before.args in sym (ap (λ (b : Bool). cond b (a.k + 1) 0) (lt-ltb (a.k + 1) a.n c.if1.true))
+returns : tie.Need-returns-then-k-n
+returns c = let a = c.args in sym (ap (λ (b : Bool). cond b (a.k + 1) 0) (lt-ltb (a.k + 1) a.n c.if-k-n.true))
 
-returns-2 : tie.Need-returns-2
-returns-2 c = let a = c.before.args in sym (ap (λ (b : Bool). cond b (a.k + 1) 0) (le-ltb (a.k + 1) a.n c.if1.false))
+returns-2 : tie.Need-returns-else-k-n
+returns-2 c = let a = c.args in sym (ap (λ (b : Bool). cond b (a.k + 1) 0) (le-ltb (a.k + 1) a.n c.if-k-n.false))
 
-pub next-place-spec : {M : Type 1} → statement M
-next-place-spec = tie.close (tie.spec add-if1 add-result returns returns-2)
+pub next_place_spec : {M : Type 1} → statement M
+next_place_spec = tie.close (tie.spec add-if1 add-result returns returns-2)

@@ -8,64 +8,64 @@ use Rattle.table.proofs.changes.removal.Statement.{statement}
 use Rattle.table.proofs.changes.removal.Tie as tie
 
 -- where the oldest row lies
-found : (c : tie.After-if-so2) → let s = c.before.before.before.before.before.before.before.before in Lies s.args.table s.args.start s.args.cells.now c.before.before.before.before.before.before.before.area_of.result c.before.before.before.before.before.before.before.area_of.ensures c.before.before.before.if-so.result c.if-so2.result c.before.before.before.if-so.ensures c.if-so2.ensures
+found : (c : tie.After-if_so-place) → let s = c in Lies s.args.table s.args.start s.args.cells.now c.area_of-area.result c.area_of-area.ensures c.if_so-width.result c.if_so-place.result c.if_so-width.ensures c.if_so-place.ensures
 found c =
-    let s = c.before.before.before.before.before.before.before.before in
-    lies s.args.table s.args.start s.args.cells.now c.before.before.before.before.before.before.before.area_of.result c.before.before.before.before.before.before.before.area_of.ensures c.before.before.before.if-so.result c.if-so2.result c.before.before.before.if-so.ensures c.if-so2.ensures
+    let s = c in
+    lies s.args.table s.args.start s.args.cells.now c.area_of-area.result c.area_of-area.ensures c.if_so-width.result c.if_so-place.result c.if_so-width.ensures c.if_so-place.ensures
 
-area-of-requires : tie.Need-area-of-requires
+area-of-requires : tie.Need-area_of-area-requires
 area-of-requires c κs = search rules
 
 none-requires : tie.Need-none-requires
 none-requires c κs = search rules
 
-if-so-requires : tie.Need-if-so-requires
+if-so-requires : tie.Need-if_so-width-requires
 if-so-requires c κs = search rules
 
-cast-if-so : tie.Need-overflow-cast-if-so
+cast-if-so : tie.Need-overflow_cast-area
 cast-if-so c = search rules
 
-if-so-requires-2 : tie.Need-if-so-requires-2
+if-so-requires-2 : tie.Need-if_so-place-requires
 if-so-requires-2 c κs = search rules
 
-mul_at : tie.Need-overflow-mul-at
+mul_at : tie.Need-overflow_mul-at
 mul_at c = omega (arith, (found c).room)
 
-add_at : tie.Need-overflow-add-at
+add_at : tie.Need-overflow_add-at
 add_at c = omega (arith, (found c.before).room)
 
-add-end : tie.Need-overflow-add-end
+add-end : tie.Need-overflow_add-end
 add-end c = omega (arith, (found c.before).room)
 
-mul-constants : tie.Need-overflow-mul-constants
+mul-constants : tie.Need-offset_bounds-cells-at
 mul-constants c = omega (arith, (found c.before.before.before).room)
 
-sub-constants : tie.Need-overflow-sub-constants
+sub-constants : tie.Need-slice_bounds-constants-count
 sub-constants c = search rules
 
-part-constants-start : tie.Need-slice-bounds-constants-start
+part-constants-start : tie.Need-slice_bounds-constants-start
 part-constants-start c = search rules
 
-part-constants-end : tie.Need-slice-bounds-constants-end
+part-constants-end : tie.Need-slice_bounds-constants-end
 part-constants-end c = omega (arith, (found c.before.before.before).room)
 
-constants-requires : tie.Need-constants-requires
+constants-requires : tie.Need-constants-settings-requires
 constants-requires c κs =
-    let s = c.before.before.before.before.before.before.before.before.before.before.before.before in
+    let s = c in
     let f = found c.before.before.before.before in
-    let l = row-long s.args.table s.args.start s.args.cells.now c.before.before.before.before.before.before.before.before.before.before.before.area_of.result c.before.before.before.before.before.before.before.before.before.before.before.area_of.ensures c.before.before.before.before.before.before.before.if-so.result c.before.before.before.before.if-so2.result c.before.before.before.before.before.before.before.if-so.ensures c.before.before.before.before.if-so2.ensures in
-    (ap (λ (x : Statement). x.update.settings) c.before.before.before.before.before.before.before.before.before.before.none.ensures, omega (arith, f.few, l))
+    let l = row-long s.args.table s.args.start s.args.cells.now c.area_of-area.result c.area_of-area.ensures c.if_so-width.result c.if_so-place.result c.if_so-width.ensures c.if_so-place.ensures in
+    (ap (λ (x : Statement). x.update.settings) c.none.ensures, omega (arith, f.few, l))
 
-cast-t21 : tie.Need-overflow-cast-t21
+cast-t21 : tie.Need-overflow_cast-result
 cast-t21 c = omega (arith, (found c.before.before.before.before.before).few)
 
 returns : tie.Need-returns
 returns c =
-    let s = c.before.before.before.before.before.before.before.before.before.before.before.before.before in
-    removes s.args.table s.args.start s.args.cells.now c.before.before.before.before.before.before.before.before.before.before.before.before.area_of.result c.before.before.before.before.before.before.before.before.before.before.before.before.area_of.ensures c.before.before.before.before.before.before.before.before.if-so.result c.before.before.before.before.before.if-so2.result c.before.before.before.before.before.before.before.before.if-so.ensures c.before.before.before.before.before.if-so2.ensures s.args.number c.constants.result c.constants.ensures c.before.before.before.before.before.before.before.before.before.before.before.none.result.update.condition (ap (λ (x : Statement). x.update.condition) c.before.before.before.before.before.before.before.before.before.before.before.none.ensures)
+    let s = c in
+    removes s.args.table s.args.start s.args.cells.now c.area_of-area.result c.area_of-area.ensures c.if_so-width.result c.if_so-place.result c.if_so-width.ensures c.if_so-place.ensures s.args.number c.constants-settings.result c.constants-settings.ensures c.none.result.update.condition (ap (λ (x : Statement). x.update.condition) c.none.ensures)
 
-pub removal-spec : {M : Type 1} → statement M
-removal-spec =
+pub removal_spec : {M : Type 1} → statement M
+removal_spec =
     tie.close
     (tie.spec
     area-of-requires

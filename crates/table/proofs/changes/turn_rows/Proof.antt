@@ -8,48 +8,48 @@ use Rattle.table.proofs.changes.turn_rows.Statement.{statement}
 use Rattle.table.proofs.changes.turn_rows.Tie as tie
 
 -- the rows before the oldest lie inside the cells of those in use
-before-inside : (c : tie.Else2) → c.before.before.args.k * c.before.before.args.columns ≤ c.before.before.args.used * c.before.before.args.columns
+before-inside : (c : tie.Else-used-k) → c.args.k * c.args.columns ≤ c.args.used * c.args.columns
 before-inside c =
-    let s = c.before.before in
-    let h : s.args.k ≤ s.args.used = omega (arith, c.if2.false) in
+    let s = c in
+    let h : s.args.k ≤ s.args.used = omega (arith, c.if-used-k.false) in
     mul-le-mul_right s.args.columns h
 
-returns : tie.Need-returns
-returns c = let a = c.before.args in turns-none a.columns a.used a.k a.area.now c.if1.true
+returns : tie.Need-returns-then-k-eq0
+returns c = let a = c.args in turns-none a.columns a.used a.k a.area.now c.if-k-eq0.true
 
-returns-2 : tie.Need-returns-2
-returns-2 c = let a = c.before.before.args in turns-past a.columns a.used a.k a.area.now c.if2.true
+returns-2 : tie.Need-returns-then-used-k
+returns-2 c = let a = c.args in turns-past a.columns a.used a.k a.area.now c.if-used-k.true
 
-mul-size : tie.Need-overflow-mul-size
+mul-size : tie.Need-overflow_mul-size
 mul-size c = search rules
 
-sub-turn : tie.Need-overflow-sub-turn
+sub-turn : tie.Need-slice_bounds-turn-count
 sub-turn c = search rules
 
-part-turn-start : tie.Need-slice-bounds-turn-start
+part-turn-start : tie.Need-slice_bounds-turn-start
 part-turn-start c = search rules
 
-part-turn-end : tie.Need-slice-bounds-turn-end
+part-turn-end : tie.Need-slice_bounds-turn-end
 part-turn-end c = search rules
 
-mul-turn : tie.Need-overflow-mul-turn
-mul-turn c = record { fits = omega (arith, before-inside c.before, c.before.before.before.requires.1) }
+mul-turn : tie.Need-overflow_mul-k
+mul-turn c = record { fits = omega (arith, before-inside c.before, c.requires.1) }
 
 turn-requires : tie.Need-turn-requires
-turn-requires c κs = let a = c.before.before.before.args in part-inside (a.used * a.columns) (a.k * a.columns) a.area.now (before-inside c.before) c.before.before.before.requires.1
+turn-requires c κs = let a = c.args in part-inside (a.used * a.columns) (a.k * a.columns) a.area.now (before-inside c.before) c.requires.1
 
-same_length : tie.Need-same-length
+same_length : tie.Need-shape_of-area
 same_length c = search rules
 
-returns-3 : tie.Need-returns-3
+returns-3 : tie.Need-returns
 returns-3 c =
-    let s = c.before.before.before.before.before in
+    let s = c in
     let a = s.args in
-    let h : a.k ≤ a.used = omega (arith, c.before.before.before.if2.false) in
-    turns-rows a.columns a.used a.k a.area.now h s.requires.1 c.before.turn.new.0 c.before.turn.ensures
+    let h : a.k ≤ a.used = omega (arith, c.if-used-k.false) in
+    turns-rows a.columns a.used a.k a.area.now h s.requires.1 c.turn.new.cells c.turn.ensures
 
-pub turn-rows-spec : {M : Type 1} → statement M
-turn-rows-spec =
+pub turn_rows_spec : {M : Type 1} → statement M
+turn_rows_spec =
     tie.close
     (tie.spec
     returns

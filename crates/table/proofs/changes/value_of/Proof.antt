@@ -6,21 +6,21 @@ use Rattle.statement.proofs.ByKind.{value-constant, value-mark}
 use Rattle.table.proofs.changes.value_of.Statement.{statement}
 use Rattle.table.proofs.changes.value_of.Tie as tie
 
-returns : tie.Need-returns
+returns : tie.Need-returns-then-value-eq0
 returns c =
-    let a = c.before.before.before.args in
-    search rules ∙ sym (ap (value_of a.values.now) (value-constant a.value c.before.if1.true))
+    let a = c.args in
+    search rules ∙ sym (ap (value_of a.values.now) (value-constant a.value c.if-value-eq0.true))
 
-sub-number-at : tie.Need-overflow-sub-number-at
+sub-number-at : tie.Need-overflow_sub-value
 sub-number-at c = search rules
 
-number-at-requires : tie.Need-number-at-requires
+number-at-requires : tie.Need-number_at-requires
 number-at-requires c κs = search rules
 
-returns-2 : tie.Need-returns-2
+returns-2 : tie.Need-returns
 returns-2 c =
-    let a = c.before.before.before.before.args in
-    search rules ∙ c.number_at.ensures ∙ sym (ap (value_of a.values.now) (value-mark a.value c.before.before.if1.false))
+    let a = c.args in
+    search rules ∙ c.number_at.ensures ∙ sym (ap (value_of a.values.now) (value-mark a.value c.if-value-eq0.false))
 
-pub value-of-spec : {M : Type 1} → statement M
-value-of-spec = tie.close (tie.spec returns sub-number-at number-at-requires returns-2)
+pub value_of_spec : {M : Type 1} → statement M
+value_of_spec = tie.close (tie.spec returns sub-number-at number-at-requires returns-2)

@@ -7,17 +7,17 @@ use borrow.Author.Rules.{rules}
 use Rattle.table.proofs.rows.cell_or.Statement.{statement}
 use Rattle.table.proofs.rows.cell_or.Tie as tie
 
-mul-result : tie.Need-overflow-mul-result
+mul-result : tie.Need-offset_bounds-row-k
 mul-result c = search rules
 
-shared-slice-copy-out-result : tie.Need-shared-slice-copy-out-result
+shared-slice-copy-out-result : tie.Need-bounds-row-k
 shared-slice-copy-out-result c = search rules
 
-returns : tie.Need-returns
-returns c = let a = c.before.before.args in search rules ∙ get_or-inside a.row.now a.place (pos 0) a.number c.before.if1.true
+returns : tie.Need-returns-then-k-row
+returns c = let a = c.args in search rules ∙ get_or-inside a.row.now a.place (pos 0) a.number c.if-k-row.true
 
-returns-2 : tie.Need-returns-2
-returns-2 c = let a = c.before.args in search rules ∙ sym (get_or-eq_default a.row.now a.number c.if1.false)
+returns-2 : tie.Need-returns-else-k-row
+returns-2 c = let a = c.args in search rules ∙ sym (get_or-eq_default a.row.now a.number c.if-k-row.false)
 
-pub cell-or-spec : {M : Type 1} → statement M
-cell-or-spec = tie.close (tie.spec mul-result shared-slice-copy-out-result returns returns-2)
+pub cell_or_spec : {M : Type 1} → statement M
+cell_or_spec = tie.close (tie.spec mul-result shared-slice-copy-out-result returns returns-2)

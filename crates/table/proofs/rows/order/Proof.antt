@@ -44,67 +44,67 @@ module _ (a b : ℤ) (p : SFits w32 a) (q : SFits w32 b) (least : ℕ) where
 
 -- ---- the ways
 
-cast-result : tie.Need-overflow-cast-result
+cast-result : tie.Need-overflow_cast-result
 cast-result c = search rules
 
-returns : tie.Need-returns
+returns : tie.Need-returns-then-a-eq-NULL
 returns c =
-    let s = c.before.before in
+    let s = c in
     let a = s.args.a in
     let b = s.args.b in
-    let na : is_null a ≡ true = bits-same a null s.ranges.a null-fits c.if2.true in
+    let na : is_null a ≡ true = bits-same a null s.ranges.a null-fits c.if-a-eq-NULL.true in
     (sym (order-by a b true (is_null b) (lt_z a b) (eq_z a b) na refl refl refl), omega arith)
 
-cast-result-2 : tie.Need-overflow-cast-result-2
+cast-result-2 : tie.Need-overflow_cast-result-then-a-b
 cast-result-2 c = search rules
 
-returns-2 : tie.Need-returns-2
+returns-2 : tie.Need-returns-then-a-b
 returns-2 c =
-    let s = c.before.before in
+    let s = c in
     let a = s.args.a in
     let b = s.args.b in
-    let e : eq_z a b ≡ true = bits-same a b s.ranges.a s.ranges.b c.before.if1.true in
-    let na : is_null a ≡ false = bits-differ a null s.ranges.a null-fits c.if2.false in
+    let e : eq_z a b ≡ true = bits-same a b s.ranges.a s.ranges.b c.if-a-b.true in
+    let na : is_null a ≡ false = bits-differ a null s.ranges.a null-fits c.if-a-eq-NULL.false in
     (sym (order-by a b false false false true na (equal-known a b e na) (equal-not-less a b e) e), omega arith)
 
 -- what is known where the lesser one is
-lesser : (c : tie.Joined3) → Lesser c.before.before.args.a c.before.before.args.b c.if3.least
+lesser : (c : tie.Joined-a-b-2) → Lesser c.args.a c.args.b c.if-a-b-2.least-bits
 lesser c =
-    let s = c.before.before in
+    let s = c in
     let l = lt-bits s.args.a s.args.b s.ranges.a s.ranges.b in
-    elim c.if3.branch [ inl h ↦ inl (sym l ∙ h.0.taken, h.1) | inr h ↦ inr (sym l ∙ h.0.left, h.1) ]
+    elim c.if-a-b-2.branch-raw [ inl h ↦ inl (sym l ∙ h.if-a-b-2.true, h.least-is-bits) | inr h ↦ inr (sym l ∙ h.if-a-b-2.false, h.least-is-bits) ]
 
-cast-result-3 : tie.Need-overflow-cast-result-3
+cast-result-3 : tie.Need-overflow_cast-result-then-least
 cast-result-3 c = search rules
 
-returns-3 : tie.Need-returns-3
+returns-3 : tie.Need-returns-then-least
 returns-3 c =
-    let s = c.before.before.before in
-    (sym (some-null s.args.a s.args.b s.ranges.a s.ranges.b c.before.if3.least (lesser c.before) c.if4.true), omega arith)
+    let s = c in
+    (sym (some-null s.args.a s.args.b s.ranges.a s.ranges.b c.if-a-b-2.least-bits (lesser c.before) c.if-least.true), omega arith)
 
-cast-result-4 : tie.Need-overflow-cast-result-4
+cast-result-4 : tie.Need-overflow_cast-result-then-a-b-3
 cast-result-4 c = search rules
 
-returns-4 : tie.Need-returns-4
+returns-4 : tie.Need-returns-then-a-b-3
 returns-4 c =
-    let s = c.before.before.before.before in
-    let l : lt_z s.args.a s.args.b ≡ true = sym (lt-bits s.args.a s.args.b s.ranges.a s.ranges.b) ∙ c.if5.true in
-    (sym (is-less s.args.a s.args.b s.ranges.a s.ranges.b c.before.before.if3.least (lesser c.before.before) c.before.if4.false l), omega arith)
+    let s = c in
+    let l : lt_z s.args.a s.args.b ≡ true = sym (lt-bits s.args.a s.args.b s.ranges.a s.ranges.b) ∙ c.if-a-b-3.true in
+    (sym (is-less s.args.a s.args.b s.ranges.a s.ranges.b c.if-a-b-2.least-bits (lesser c.before.before) c.if-least.false l), omega arith)
 
-cast-result-5 : tie.Need-overflow-cast-result-5
+cast-result-5 : tie.Need-overflow_cast-result-2
 cast-result-5 c = search rules
 
-returns-5 : tie.Need-returns-5
+returns-5 : tie.Need-returns
 returns-5 c =
-    let s = c.before.before.before.before in
+    let s = c in
     let a = s.args.a in
     let b = s.args.b in
-    let l : lt_z a b ≡ false = sym (lt-bits a b s.ranges.a s.ranges.b) ∙ c.if5.false in
-    let d : eq_z a b ≡ false = bits-differ a b s.ranges.a s.ranges.b c.before.before.before.if1.false in
-    (sym (is_greater a b s.ranges.a s.ranges.b c.before.before.if3.least (lesser c.before.before) c.before.if4.false l d), omega arith)
+    let l : lt_z a b ≡ false = sym (lt-bits a b s.ranges.a s.ranges.b) ∙ c.if-a-b-3.false in
+    let d : eq_z a b ≡ false = bits-differ a b s.ranges.a s.ranges.b c.if-a-b.false in
+    (sym (is_greater a b s.ranges.a s.ranges.b c.if-a-b-2.least-bits (lesser c.before.before) c.if-least.false l d), omega arith)
 
-pub order-spec : {M : Type 1} → statement M
-order-spec =
+pub order_spec : {M : Type 1} → statement M
+order_spec =
     tie.close
     (tie.spec
     cast-result

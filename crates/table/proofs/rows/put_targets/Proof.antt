@@ -14,10 +14,10 @@ truth-requires c κs = search rules
 exit-requires : tie.Need-exit-requires
 exit-requires c κs = search rules
 
-mul-targets : tie.Need-overflow-mul-targets
+mul-targets : tie.Need-overflow_mul-targets
 mul-targets c = search rules
 
-element-write-targets : tie.Need-element-write-targets
+element-write-targets : tie.Need-bounds-targets-i
 element-write-targets c = search rules
 
 truth-requires-2 : tie.Need-truth-requires-2
@@ -26,13 +26,13 @@ truth-requires-2 c κs = search rules
 exit-requires-2 : tie.Need-exit-requires-2
 exit-requires-2 c κs = search rules
 
-mul-targets-2 : tie.Need-overflow-mul-targets-2
+mul-targets-2 : tie.Need-overflow_mul-targets-2
 mul-targets-2 c = search rules
 
-add-targets : tie.Need-overflow-add-targets
+add-targets : tie.Need-overflow_add-targets
 add-targets c = search rules
 
-element-write-targets-2 : tie.Need-element-write-targets-2
+element-write-targets-2 : tie.Need-bounds-targets-i-2
 element-write-targets-2 c = search rules
 
 truth-requires-3 : tie.Need-truth-requires-3
@@ -41,13 +41,13 @@ truth-requires-3 c κs = search rules
 exit-requires-3 : tie.Need-exit-requires-3
 exit-requires-3 c κs = search rules
 
-mul-targets-3 : tie.Need-overflow-mul-targets-3
+mul-targets-3 : tie.Need-overflow_mul-targets-3
 mul-targets-3 c = search rules
 
-add-targets-2 : tie.Need-overflow-add-targets-2
+add-targets-2 : tie.Need-overflow_add-targets-2
 add-targets-2 c = search rules
 
-element-write-targets-3 : tie.Need-element-write-targets-3
+element-write-targets-3 : tie.Need-bounds-targets-i-3
 element-write-targets-3 c = search rules
 
 truth-requires-4 : tie.Need-truth-requires-4
@@ -56,13 +56,13 @@ truth-requires-4 c κs = search rules
 exit-requires-4 : tie.Need-exit-requires-4
 exit-requires-4 c κs = search rules
 
-mul-targets-4 : tie.Need-overflow-mul-targets-4
+mul-targets-4 : tie.Need-overflow_mul-targets-4
 mul-targets-4 c = search rules
 
-add-targets-3 : tie.Need-overflow-add-targets-3
+add-targets-3 : tie.Need-overflow_add-targets-3
 add-targets-3 c = search rules
 
-element-write-targets-4 : tie.Need-element-write-targets-4
+element-write-targets-4 : tie.Need-bounds-targets-i-4
 element-write-targets-4 c = search rules
 
 abbrev four_set : List ℕ → ℕ → ℕ → ℕ → ℕ → ℕ → List ℕ
@@ -73,15 +73,15 @@ four l i a a' b b' c c' d d' p q r s = ap₂ (λ (x y : ℕ). four_set l i x y c
 
 returns : tie.Need-returns
 returns c =
-    let a = c.before.before.before.before.before.before.before.before.args in
+    let a = c.args in
     four a.targets.now a.i _ _ _ _ _ _ _ _
-    (c.before.before.before.before.before.before.exit.ensures ∙ ap exit c.before.before.before.before.before.before.before.truth.ensures)
-    (c.before.before.before.before.exit2.ensures ∙ ap exit c.before.before.before.before.before.truth2.ensures)
-    (c.before.before.exit3.ensures ∙ ap exit c.before.before.before.truth3.ensures)
-    (c.exit4.ensures ∙ ap exit c.before.truth4.ensures)
+    (c.exit.ensures ∙ ap exit c.truth.ensures)
+    (c.exit-2.ensures ∙ ap exit c.truth-2.ensures)
+    (c.exit-3.ensures ∙ ap exit c.truth-3.ensures)
+    (c.exit-4.ensures ∙ ap exit c.truth-4.ensures)
 
-pub put-targets-spec : {M : Type 1} → statement M
-put-targets-spec =
+pub put_targets_spec : {M : Type 1} → statement M
+put_targets_spec =
     tie.close
     (tie.spec
     truth-requires

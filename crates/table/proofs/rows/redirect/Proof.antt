@@ -7,49 +7,49 @@ use Rattle.table.proofs.Linking.{Redirecting, redirect-start, redirect-more, red
 use Rattle.table.proofs.rows.redirect.Statement.{statement}
 use Rattle.table.proofs.rows.redirect.Tie as tie
 
-abbrev invariant-loop : tie.invariant-loop
+abbrev invariant-loop : tie.invariant-loop-j
 invariant-loop targets₀ a b from end j₀ targets j = (end ≡ 4 * b) × Redirecting a b from targets₀ targets j
 
-abbrev decreases-loop : tie.decreases-loop
+abbrev decreases-loop : tie.decreases-loop-j
 decreases-loop targets₀ a b from end j₀ targets j = 4 * b - j
 
-mul-end : tie.Need-overflow-mul-end invariant-loop decreases-loop
+mul-end : tie.Need-overflow_mul-end invariant-loop decreases-loop
 mul-end c = omega (arith, c.requires.1)
 
-mul-j : tie.Need-overflow-mul-j invariant-loop decreases-loop
+mul-j : tie.Need-overflow_mul-j invariant-loop decreases-loop
 mul-j c = omega (arith, c.requires.0)
 
-loop-holds : tie.Need-loop-init invariant-loop decreases-loop
+loop-holds : tie.Need-loop-j-init invariant-loop decreases-loop
 loop-holds c = (refl, redirect-start _ _ _ _ c.requires.2 c.requires.0 c.requires.1)
 
-element-copy-out-redirected : tie.Need-element-copy-out-redirected invariant-loop decreases-loop
-element-copy-out-redirected c = omega (arith, c.before.before.requires.1, c.loop-test.true)
+element-copy-out-redirected : tie.Need-bounds-targets-j invariant-loop decreases-loop
+element-copy-out-redirected c = omega (arith, c.requires.1, c.loop-j-test.true)
 
 redirected-requires : tie.Need-redirected-requires invariant-loop decreases-loop
 redirected-requires c κs = search rules
 
-element-write-targets : tie.Need-element-write-targets invariant-loop decreases-loop
-element-write-targets c = omega (arith, c.before.before.before.before.requires.1, c.before.before.loop-test.true)
+element-write-targets : tie.Need-bounds-targets-j-in-loop-j invariant-loop decreases-loop
+element-write-targets c = omega (arith, c.requires.1, c.loop-j-test.true)
 
-add-j : tie.Need-overflow-add-j invariant-loop decreases-loop
-add-j c = omega (arith, c.before.before.before.before.requires.1, c.before.before.loop-test.true)
+add-j : tie.Need-overflow_add-j invariant-loop decreases-loop
+add-j c = omega (arith, c.requires.1, c.loop-j-test.true)
 
-loop-less : tie.Need-loop-smaller invariant-loop decreases-loop
-loop-less c = omega (arith, c.before.before.loop-test.true)
+loop-less : tie.Need-loop-j-smaller invariant-loop decreases-loop
+loop-less c = omega (arith, c.loop-j-test.true)
 
-loop-again : tie.Need-loop-preserved invariant-loop decreases-loop
+loop-again : tie.Need-loop-j-preserved invariant-loop decreases-loop
 loop-again c =
-    let s = c.before.before.before.before in
-    let l = c.before.before.before.loop in
-    (refl, redirect-more _ _ _ _ s.requires.2 s.requires.0 s.requires.1 l.targets l.j l.invariant.1 c.before.before.loop-test.true _ c.redirected.ensures)
+    let s = c in
+    let l = c.loop-j in
+    (refl, redirect-more _ _ _ _ s.requires.2 s.requires.0 s.requires.1 l.targets l.j l.invariant.1 c.loop-j-test.true _ c.redirected.ensures)
 
 returns : tie.Need-returns invariant-loop decreases-loop
 returns c =
-    let s = c.before.before in
-    redirect-done _ _ _ _ s.requires.2 s.requires.0 s.requires.1 c.before.loop.targets c.before.loop.j c.before.loop.invariant.1 c.loop-test.false
+    let s = c in
+    redirect-done _ _ _ _ s.requires.2 s.requires.0 s.requires.1 c.loop-j.targets c.loop-j.j c.loop-j.invariant.1 c.loop-j-test.false
 
-pub redirect-spec : {M : Type 1} → statement M
-redirect-spec =
+pub redirect_spec : {M : Type 1} → statement M
+redirect_spec =
     tie.close
     (tie.spec
     invariant-loop

@@ -6,24 +6,24 @@ use Rattle.statement.specs.Compiled.{left_side, right_side}
 use Rattle.table.proofs.rows.right_tested.Statement.{statement}
 use Rattle.table.proofs.rows.right_tested.Tie as tie
 
-tests-null-requires : tie.Need-tests-null-requires
+tests-null-requires : tie.Need-tests_null-requires
 tests-null-requires c κs = search rules
 
-left-side-requires : tie.Need-left-side-requires
+left-side-requires : tie.Need-left_side-requires
 left-side-requires c κs = search rules
 
-returns : tie.Need-returns
+returns : tie.Need-returns-then-tests_null
 returns c =
-    let a = c.before.before.before.args.c in
-    c.left-side.ensures ∙ sym (ap (λ (b : Bool). cond b (left_side a) (right_side a)) (sym c.before.before.tests_null.ensures ∙ c.before.if1.true))
+    let a = c.args.c in
+    c.left_side.ensures ∙ sym (ap (λ (b : Bool). cond b (left_side a) (right_side a)) (sym c.tests_null.ensures ∙ c.if-tests_null.true))
 
-right-side-requires : tie.Need-right-side-requires
+right-side-requires : tie.Need-right_side-requires
 right-side-requires c κs = search rules
 
-returns-2 : tie.Need-returns-2
+returns-2 : tie.Need-returns
 returns-2 c =
-    let a = c.before.before.before.args.c in
-    c.right_side.ensures ∙ sym (ap (λ (b : Bool). cond b (left_side a) (right_side a)) (sym c.before.before.tests_null.ensures ∙ c.before.if1.false))
+    let a = c.args.c in
+    c.right_side.ensures ∙ sym (ap (λ (b : Bool). cond b (left_side a) (right_side a)) (sym c.tests_null.ensures ∙ c.if-tests_null.false))
 
-pub right-tested-spec : {M : Type 1} → statement M
-right-tested-spec = tie.close (tie.spec tests-null-requires left-side-requires returns right-side-requires returns-2)
+pub right_tested_spec : {M : Type 1} → statement M
+right_tested_spec = tie.close (tie.spec tests-null-requires left-side-requires returns right-side-requires returns-2)

@@ -6,32 +6,32 @@ use borrow.Author.Rules.{rules}
 use Rattle.table.proofs.rows.side_of.Statement.{statement}
 use Rattle.table.proofs.rows.side_of.Tie as tie
 
-number-at-requires : tie.Need-number-at-requires
+number-at-requires : tie.Need-number_at-number-requires
 number-at-requires c κs = search rules
 
-returns : tie.Need-returns
+returns : tie.Need-returns-then-o-eq1
 returns c =
-    let a = c.before.before.before.before.args in
-    let e = sym (is-mark a.o c.before.before.if1.true) in
-    (ap place_in e, search rules ∙ c.number_at.ensures ∙ ap (number_in a.values.now) e)
+    let a = c.args in
+    let e = sym (is-mark a.o c.if-o-eq1.true) in
+    (ap place_in e, search rules ∙ c.number_at-number.ensures ∙ ap (number_in a.values.now) e)
 
-returns-2 : tie.Need-returns-2
+returns-2 : tie.Need-returns-then-o-eq0
 returns-2 c =
-    let a = c.before.before.before.before.before.args in
-    let e = sym (is-constant a.o c.before.if2.true) in
+    let a = c.args in
+    let e = sym (is-constant a.o c.if-o-eq0.true) in
     (ap place_in e, search rules ∙ ap (number_in a.values.now) e)
 
-sub-t7 : tie.Need-overflow-sub-t7
+sub-t7 : tie.Need-overflow_sub-result
 sub-t7 c = search rules
 
-cast-t8 : tie.Need-overflow-cast-t8
+cast-t8 : tie.Need-overflow_cast-result
 cast-t8 c = search rules
 
-returns-3 : tie.Need-returns-3
+returns-3 : tie.Need-returns
 returns-3 c =
-    let a = c.before.before.before.before.before.args in
-    let e = sym (is-column a.o c.before.before.before.if1.false c.before.if2.false) in
+    let a = c.args in
+    let e = sym (is-column a.o c.if-o-eq1.false c.if-o-eq0.false) in
     (ap place_in e, ap (number_in a.values.now) e)
 
-pub side-of-spec : {M : Type 1} → statement M
-side-of-spec = tie.close (tie.spec number-at-requires returns returns-2 sub-t7 cast-t8 returns-3)
+pub side_of_spec : {M : Type 1} → statement M
+side_of_spec = tie.close (tie.spec number-at-requires returns returns-2 sub-t7 cast-t8 returns-3)

@@ -8,24 +8,24 @@ use borrow.Author.Tests.{eq-eqb, ne_eqb}
 use Rattle.table.proofs.rows.start_of.Statement.{statement}
 use Rattle.table.proofs.rows.start_of.Tie as tie
 
-cast-result : tie.Need-overflow-cast-result
+cast-result : tie.Need-overflow_cast-result
 cast-result c = search rules
 
-returns : tie.Need-returns
-returns c = let a = c.before.args in sym (ap (λ (b : Bool). cond b 8 (get_or a.t1 (a.depth - 1) 0)) (eq-eqb a.depth 0 c.if1.true))
+returns : tie.Need-returns-then-depth-eq0
+returns c = let a = c.args in sym (ap (λ (b : Bool). cond b 8 (get_or a.starts (a.depth - 1) 0)) (eq-eqb a.depth 0 c.if-depth-eq0.true))
 
-sub-result : tie.Need-overflow-sub-result
+sub-result : tie.Need-overflow_sub-result
 sub-result c = search rules
 
-array-read-result : tie.Need-array-read-result
+array-read-result : tie.Need-bounds-starts-depth
 array-read-result c = search rules
 
-cast-result-2 : tie.Need-overflow-cast-result-2
+cast-result-2 : tie.Need-overflow_cast-result-2
 cast-result-2 c = search rules
 
-returns-2 : tie.Need-returns-2
-returns-2 c = let a = c.before.args in sym (ap (λ (b : Bool). cond b 8 (get_or a.t1 (a.depth - 1) 0)) (ne_eqb a.depth 0 c.if1.false))
+returns-2 : tie.Need-returns
+returns-2 c = let a = c.args in sym (ap (λ (b : Bool). cond b 8 (get_or a.starts (a.depth - 1) 0)) (ne_eqb a.depth 0 c.if-depth-eq0.false))
 
-pub start-of-spec : {M : Type 1} → statement M
-start-of-spec =
+pub start_of_spec : {M : Type 1} → statement M
+start_of_spec =
     tie.close (tie.spec cast-result returns sub-result array-read-result cast-result-2 returns-2)
