@@ -13,74 +13,74 @@ use Rattle.soundness.proofs.Widths.{query_at, tested-query, width_small, queries
 use Rattle.soundness.proofs.queries_are_sound.Statement.{statement}
 use Rattle.soundness.proofs.queries_are_sound.Tie as tie
 
-abbrev invariant-loop : tie.invariant-loop
+abbrev invariant-loop : tie.invariant-loop-i
 invariant-loop used n queries there widths count ok₀ i₀ ok i = (count ≤ 16) × (length queries ≡ 16) × Tested (query_at there widths) count queries ok i
 
-abbrev decreases-loop : tie.decreases-loop
+abbrev decreases-loop : tie.decreases-loop-i
 decreases-loop used n queries there widths count ok₀ i₀ ok i = count - i
 
-least-requires : tie.Need-least-requires invariant-loop decreases-loop
+least-requires : tie.Need-least-there-requires invariant-loop decreases-loop
 least-requires c κs = tt
 
-widths-requires : tie.Need-widths-requires invariant-loop decreases-loop
+widths-requires : tie.Need-widths-widths-requires invariant-loop decreases-loop
 widths-requires c κs = tt
 
-least-requires-2 : tie.Need-least-requires-2 invariant-loop decreases-loop
+least-requires-2 : tie.Need-least-count-requires invariant-loop decreases-loop
 least-requires-2 c κs = tt
 
-loop-holds : tie.Need-loop-init invariant-loop decreases-loop
-loop-holds c = (omega (arith, c.least2.ensures), search rules, tested-start _ _ _)
+loop-holds : tie.Need-loop-i-init invariant-loop decreases-loop
+loop-holds c = (omega (arith, c.least-count.ensures), search rules, tested-start _ _ _)
 
-mul-q : tie.Need-overflow-mul-q invariant-loop decreases-loop
+mul-q : tie.Need-offset_bounds-queries-i invariant-loop decreases-loop
 mul-q c = omega arith
 
-array-copy-out-q : tie.Need-array-copy-out-q invariant-loop decreases-loop
+array-copy-out-q : tie.Need-bounds-queries-i invariant-loop decreases-loop
 array-copy-out-q c = omega arith
 
-width-at-requires : tie.Need-width-at-requires invariant-loop decreases-loop
+width-at-requires : tie.Need-width_at-first-requires invariant-loop decreases-loop
 width-at-requires c κs = tt
 
-width-with-requires : tie.Need-width-with-requires invariant-loop decreases-loop
+width-with-requires : tie.Need-width_with-columns-requires invariant-loop decreases-loop
 width-with-requires c κs =
-    let w = c.before.before.before.before.before in
-    (width_small w.before.before.args.tables _ w.widths.ensures _ _ c.width-at.ensures, w.widths.ensures.1)
+    let w = c in
+    (width_small w.args.tables _ w.widths-widths.ensures _ _ c.width_at-first.ensures, w.widths-widths.ensures.1)
 
-cast_ok : tie.Need-overflow-cast-ok invariant-loop decreases-loop
+cast_ok : tie.Need-overflow_cast-ok invariant-loop decreases-loop
 cast_ok c = search rules
 
-query-is-sound-requires : tie.Need-query-is-sound-requires invariant-loop decreases-loop
+query-is-sound-requires : tie.Need-query_is_sound-requires invariant-loop decreases-loop
 query-is-sound-requires c κs = tt
 
-add-i : tie.Need-overflow-add-i invariant-loop decreases-loop
+add-i : tie.Need-overflow_add-i invariant-loop decreases-loop
 add-i c = omega arith
 
-loop-less : tie.Need-loop-smaller invariant-loop decreases-loop
+loop-less : tie.Need-loop-i-smaller invariant-loop decreases-loop
 loop-less c = omega arith
 
-loop-again : tie.Need-loop-preserved invariant-loop decreases-loop
+loop-again : tie.Need-loop-i-preserved invariant-loop decreases-loop
 loop-again c =
-    let d = c.before.before.before in
-    let l = d.before.before.before.loop in
+    let d = c in
+    let l = d.loop-i in
     let v = l.invariant in (
       v.0,
       v.1,
-      tested-query _ d.before.before.before.before.before.widths.result _ _ (omega arith) l.ok l.i _ d.before.before.loop-test.true _ _ _ d.width-at.ensures c.before.before.width-with.ensures
-          c.query-is-sound.ensures v.2,
+      tested-query _ d.widths-widths.result _ _ (omega arith) l.ok l.i _ d.loop-i-test.true _ _ _ d.width_at-first.ensures c.width_with-columns.ensures
+          c.query_is_sound.ensures v.2,
     )
 
 returns : tie.Need-returns invariant-loop decreases-loop
 unfolding queries_sound
 returns c =
-    let l = c.before.loop in
-    let d = c.before.before.before.before in
-    let a = d.before.args in
+    let l = c.loop-i in
+    let d = c in
+    let a = d.args in
     let e : length a.tables ≡ 8 = search rules in
-    tested-end _ _ _ _ _ c.loop-test.false l.invariant.2
-    ∙ queries-beside a.tables a.used d.least.result e d.least.ensures c.before.before.before.widths.result c.before.before.before.widths.ensures (take c.before.before.least2.result a.t3)
-    ∙ of-min (all (sound_query (schemas_of a.tables a.used))) a.n c.before.before.least2.result 16 a.t3 l.invariant.1 c.before.before.least2.ensures
+    tested-end _ _ _ _ _ c.loop-i-test.false l.invariant.2
+    ∙ queries-beside a.tables a.used d.least-there.result e d.least-there.ensures c.widths-widths.result c.widths-widths.ensures (take c.least-count.result a.queries)
+    ∙ of-min (all (sound_query (schemas_of a.tables a.used))) a.n c.least-count.result 16 a.queries l.invariant.1 c.least-count.ensures
 
-pub queries-are-sound-spec : {M : Type 1} → statement M
-queries-are-sound-spec =
+pub queries_are_sound_spec : {M : Type 1} → statement M
+queries_are_sound_spec =
     tie.close
     (tie.spec
     invariant-loop

@@ -11,18 +11,18 @@ fifteen : (c : tie.Start) → length c.args.c.steps ≡ 15
 fifteen c = search rules
 
 eight : (c : tie.Start) → length c.args.c.comparisons ≡ 8
-eight c = c.well-formed.0.1.1.0.1.0.1
+eight c = c.well_formed.0.1.1.0.1.0.1
 
-cast-n : tie.Need-overflow-cast-n
+cast-n : tie.Need-overflow_cast-n
 cast-n c = search rules
 
-marks-fit-requires : tie.Need-marks-fit-requires
+marks-fit-requires : tie.Need-marks_fit-requires
 marks-fit-requires c κs = search rules
 
 returns : tie.Need-returns
 returns c =
     let s = c.before.before.before in
-    c.marks-fit.ensures ∙ outer_told s.args.outer s.args.c (fifteen s) (eight s) s.requires
+    c.marks_fit.ensures ∙ outer_told s.args.outer s.args.c (fifteen s) (eight s) s.requires
 
-pub outer-is-sound-spec : {M : Type 1} → statement M
-outer-is-sound-spec = tie.close (tie.spec cast-n marks-fit-requires returns)
+pub outer_is_sound_spec : {M : Type 1} → statement M
+outer_is_sound_spec = tie.close (tie.spec cast-n marks-fit-requires returns)

@@ -3,14 +3,14 @@ use borrow.Author.Tests.{eq-eqb, ne_eqb}
 use Rattle.soundness.proofs.statements.form_fits.Statement.{statement}
 use Rattle.soundness.proofs.statements.form_fits.Tie as tie
 
-returns : tie.Need-returns
-returns c = rw (eq-eqb _ _ c.if1.true)
+returns : tie.Need-returns-then-form-eq-INSERT
+returns c = rw (eq-eqb _ _ c.if-form-eq-INSERT.true)
 
-returns-2 : tie.Need-returns-2
-returns-2 c = rw (ne_eqb _ _ c.before.if1.false, eq-eqb _ _ c.if2.true)
+returns-2 : tie.Need-returns-then-form-eq-UPDATE
+returns-2 c = rw (ne_eqb _ _ c.if-form-eq-INSERT.false, eq-eqb _ _ c.if-form-eq-UPDATE.true)
 
-returns-3 : tie.Need-returns-3
-returns-3 c = rw (ne_eqb _ _ c.before.if1.false, ne_eqb _ _ c.if2.false)
+returns-3 : tie.Need-returns
+returns-3 c = rw (ne_eqb _ _ c.if-form-eq-INSERT.false, ne_eqb _ _ c.if-form-eq-UPDATE.false)
 
-pub form-fits-spec : {M : Type 1} → statement M
-form-fits-spec = tie.close (tie.spec returns returns-2 returns-3)
+pub form_fits_spec : {M : Type 1} → statement M
+form_fits_spec = tie.close (tie.spec returns returns-2 returns-3)

@@ -10,55 +10,55 @@ use Rattle.soundness.proofs.Widths.{asked, no-columns, query-no, query-one, quer
 use Rattle.soundness.proofs.statements.query_is_sound.Statement.{statement}
 use Rattle.soundness.proofs.statements.query_is_sound.Tie as tie
 
-cast-n : tie.Need-overflow-cast-n
+cast-n : tie.Need-overflow_cast-n
 cast-n c = search rules
 
-are-below-requires : tie.Need-are-below-requires
-are-below-requires c κs = let q = c.before.before.before.before.args.q in leb-true q.count 8 (and_right (leb 1 q.count) _ c.before.before.if1.true)
+are-below-requires : tie.Need-are_below-requires
+are-below-requires c κs = let q = c.args.q in leb-true q.count 8 (and_right (leb 1 q.count) _ c.if-n.true)
 
-is-sound-requires : tie.Need-is-sound-requires
+is-sound-requires : tie.Need-is_sound-requires
 is-sound-requires c κs = search rules
 
 eight : (c : tie.Start) → length c.args.q.selected ≡ 8
 eight c = search rules
 
 -- what is asked of it but for its marks
-sound : (c : tie.After-is-sound) →
-    let a = c.before.before.before.before.before.before.args in
-    (c.before.are-below.result && c.is-sound.result) ≡ asked a.columns a.q
-sound c = ap₂ ◌&&◌ c.before.are-below.ensures c.is-sound.ensures
+sound : (c : tie.After-is_sound) →
+    let a = c.args in
+    (c.are_below.result && c.is_sound.result) ≡ asked a.columns a.q
+sound c = ap₂ ◌&&◌ c.are_below.ensures c.is_sound.ensures
 
-outer-is-sound-requires : tie.Need-outer-is-sound-requires
+outer-is-sound-requires : tie.Need-outer_is_sound-requires
 outer-is-sound-requires c κs =
     let d = c.before.before in
-    let t = d.before.before.before.before in
-    let a = t.before.before.args in
-    query-ordered a.columns a.q t.if1.true _ (sound d) c.if2.true
+    let t = d in
+    let a = t.args in
+    query-ordered a.columns a.q t.if-n.true _ (sound d) c.if-sound-q.true
 
-returns : tie.Need-returns
+returns : tie.Need-returns-then-sound-q
 returns c =
     let d = c.before.before.before in
-    let t = d.before.before.before.before in
-    let s = t.before.before in
+    let t = d in
+    let s = t.before.before.before.before.before.before in
     let a = s.args in
-    (c.outer-is-sound.ensures ∙ query-two a.columns a.q t.if1.true _ (sound d) c.before.if2.true, no-columns a.q (eight s))
+    (c.outer_is_sound.ensures ∙ query-two a.columns a.q t.if-n.true _ (sound d) c.if-sound-q.true, no-columns a.q (eight s))
 
-returns-2 : tie.Need-returns-2
+returns-2 : tie.Need-returns-then-n
 returns-2 c =
     let d = c.before.before in
-    let t = d.before.before.before.before in
-    let s = t.before.before in
+    let t = d in
+    let s = t.before.before.before.before.before.before in
     let a = s.args in
-    (query-one a.columns a.q t.if1.true _ (sound d) c.if2.false, no-columns a.q (eight s))
+    (query-one a.columns a.q t.if-n.true _ (sound d) c.if-sound-q.false, no-columns a.q (eight s))
 
-returns-3 : tie.Need-returns-3
+returns-3 : tie.Need-returns
 returns-3 c =
     let s = c.before.before in
     let a = s.args in
-    (query-no a.columns a.q c.if1.false, no-columns a.q (eight s))
+    (query-no a.columns a.q c.if-n.false, no-columns a.q (eight s))
 
-pub query-is-sound-spec : {M : Type 1} → statement M
-query-is-sound-spec =
+pub query_is_sound_spec : {M : Type 1} → statement M
+query_is_sound_spec =
     tie.close
     (tie.spec
     cast-n

@@ -6,16 +6,16 @@ use lib.ListN.{length, get_or-eq_default}
 use Rattle.soundness.proofs.statements.width_at.Statement.{statement}
 use Rattle.soundness.proofs.statements.width_at.Tie as tie
 
-array-read-result : tie.Need-array-read-result
+array-read-result : tie.Need-bounds-widths-i
 array-read-result c = search rules
 
-returns : tie.Need-returns
+returns : tie.Need-returns-then-i-lt-TABLES
 returns c = search rules
 
-returns-2 : tie.Need-returns-2
+returns-2 : tie.Need-returns-else-i-lt-TABLES
 returns-2 c =
-    let e : length c.before.args.t1 ≡ 8 = search rules in
-    sym (get_or-eq_default c.before.args.t1 0 (omega arith))
+    let e : length c.args.widths ≡ 8 = search rules in
+    sym (get_or-eq_default c.args.widths 0 (omega arith))
 
-pub width-at-spec : {M : Type 1} → statement M
-width-at-spec = tie.close (tie.spec array-read-result returns returns-2)
+pub width_at_spec : {M : Type 1} → statement M
+width_at_spec = tie.close (tie.spec array-read-result returns returns-2)
