@@ -226,6 +226,7 @@ least-fixed f fixed (c ∷ cs) h n k =
 -- ---- classes
 
 sides-of : {c : Comparison Joint} {cs : Clause} → Member c cs → Member c.left (sides cs) × Member c.right (sides cs)
+sides-of {cs = []} m = elim m [ ]
 sides-of {cs = d ∷ cs} (head e) = (head (ap (λ (c : Comparison Joint). c.left) e), tail (head (ap (λ (c : Comparison Joint). c.right) e)))
 sides-of {cs = d ∷ cs} (tail m) = let s = sides-of m in (tail (tail s.0), tail (tail s.1))
 
@@ -242,6 +243,7 @@ linked-side {cs} {x} {y = z} (through h k) = go (linked-side h) (linked-side k)
     go e (inr m) = inr m
 
 member-constants : {z : ℤ} {xs : List Joint} → Member (constant z) xs → Member z (constants xs)
+member-constants {z} {xs = []} m = elim m [ ]
 member-constants {z} {xs = y ∷ xs} (head e) = subst (λ (x : Joint). Member z (constants (x ∷ xs))) e (head refl)
 member-constants {z} {xs = column i ∷ xs} (tail m) = member-constants m
 member-constants {z} {xs = constant y ∷ xs} (tail m) = tail (member-constants m)
@@ -249,6 +251,7 @@ member-constants {z} {xs = asked k ∷ xs} (tail m) = member-constants m
 member-constants {z} {xs = given k ∷ xs} (tail m) = member-constants m
 
 member-marks : {k : ℕ} {xs : List Joint} → Member (given k) xs → Member k (update_marks xs)
+member-marks {k} {xs = []} m = elim m [ ]
 member-marks {k} {xs = y ∷ xs} (head e) = subst (λ (x : Joint). Member k (update_marks (x ∷ xs))) e (head refl)
 member-marks {k} {xs = column i ∷ xs} (tail m) = member-marks m
 member-marks {k} {xs = constant y ∷ xs} (tail m) = member-marks m
@@ -282,6 +285,7 @@ all_first : (w : ℤ) (zs : List ℤ) → differ (w ∷ zs) ≡ false → All (�
 all_first w zs h = All-map (λ z e. eq_z-true w z (not-false (eq_z w z) e)) (any_false (λ (z : ℤ). not (eq_z w z)) zs h)
 
 differ-not : {y z : ℤ} {zs : List ℤ} → differ zs ≡ false → Member y zs → Member z zs → y ≡ z
+differ-not {zs = []} h m _ = elim m [ ]
 differ-not {zs = w ∷ zs} h (head p) (head q) = p ∙ sym q
 differ-not {zs = w ∷ zs} h (head p) (tail n) = p ∙ member-has (all_first w zs h) n
 differ-not {zs = w ∷ zs} h (tail m) (head q) = sym (q ∙ member-has (all_first w zs h) m)
@@ -456,6 +460,7 @@ lowest-within j k (m ∷ ms) h = let a = All-head h in let b = lowest-within j m
 
 lowest-is : {j : ℕ} (k : ℕ) (ks : List ℕ) → Member j (k ∷ ks) → All (λ (m : ℕ). j ≤ m) (k ∷ ks) → lowest k ks ≡ j
 lowest-is k [] (head e) h = sym e
+lowest-is k [] (tail n) h = elim n [ ]
 lowest-is k (m ∷ ms) (head e) h = let a = lowest-within _ m ms (All-tail h) in omega arith
 lowest-is k (m ∷ ms) (tail n) h = let a = All-head h in let b = lowest-is m ms n (All-tail h) in omega arith
 
@@ -487,6 +492,7 @@ module _ (cs : Clause) (fit : All Fits (sides cs)) (single : Single cs) (k : ℕ
       go (given j) h link e ms p a = least-mark ms (subst (Member j) p (member-marks (class-has cs (asked k) (λ q. absurd (asked-given q)) link))) a
         where
           least-mark : (ms : List ℕ) → Member j ms → All (λ (m : ℕ). (least_of cs (asked k) ≤ marks-from + m) × (m < 65536)) ms → mark j ≡ mark_entry ms
+          least-mark [] n a = elim n [ ]
           least-mark (m ∷ ms) n a = ap mark (sym (lowest-is m ms n (All-map (λ i b. let c : marks-from + j ≤ marks-from + i = subst (λ (n : ℕ). n ≤ marks-from + i) e b.0 in omega arith) a)))
 
   entry-least : entry_of_code (least_of cs (asked k)) ≡ class_entry (constants (class cs (asked k))) (update_marks (class cs (asked k)))

@@ -6,52 +6,52 @@ use borrow.Author.Rules.{rules}
 use Rattle.pattern.proofs.clause_pattern.Statement.{statement}
 use Rattle.pattern.proofs.clause_pattern.Tie as tie
 
-paired-requires : tie.Need-paired-requires
+paired-requires : tie.Need-paired-p-requires
 paired-requires c κs = search rules
 
-all-any-requires : tie.Need-all-any-requires
+all-any-requires : tie.Need-all_any-requires
 all-any-requires c κs = search rules
 
-returns : tie.Need-returns
+returns : tie.Need-returns-then-i-eq0
 returns c =
-    let a = c.before.before.before.before.args in
-    let m = sym c.before.before.before.paired.ensures.many_is ∙ c.before.before.if1.true in
+    let a = c.args in
+    let m = sym c.paired-p.ensures.many_is ∙ c.if-p.true in
     let t = count-many a.query a.update m in
-    c.All-any.ensures ∙ at-many a.query a.update a.i (omega arith) m
+    c.all_any.ensures ∙ at-many a.query a.update a.i (omega arith) m
 
-no-pattern-requires : tie.Need-no-pattern-requires
+no-pattern-requires : tie.Need-no_pattern-requires
 no-pattern-requires c κs = search rules
 
-returns-2 : tie.Need-returns-2
+returns-2 : tie.Need-returns-then-p
 returns-2 c =
-    let a = c.before.before.before.before.args in
-    let m = sym c.before.before.before.paired.ensures.many_is ∙ c.before.before.if1.true in
+    let a = c.args in
+    let m = sym c.paired-p.ensures.many_is ∙ c.if-p.true in
     let t = count-many a.query a.update m in
-    let ne = c.before.if2.false in
-    c.no-pattern.ensures ∙ at-past a.query a.update a.i (omega arith)
+    let ne = c.if-i-eq0.false in
+    c.no_pattern.ensures ∙ at-past a.query a.update a.i (omega arith)
 
-no-pattern-requires-2 : tie.Need-no-pattern-requires-2
+no-pattern-requires-2 : tie.Need-no_pattern-requires-then-p-i
 no-pattern-requires-2 c κs = search rules
 
-returns-3 : tie.Need-returns-3
+returns-3 : tie.Need-returns-then-p-i
 returns-3 c =
-    let a = c.before.before.before.before.before.args in
-    let m = sym c.before.before.before.before.paired.ensures.many_is ∙ c.before.before.before.if1.false in
-    let t = (c.before.before.before.before.paired.ensures.worked c.before.before.before.if1.false).total-is ∙ count-worked a.query a.update m in
-    c.no-pattern2.ensures ∙ at-past a.query a.update a.i (omega arith)
+    let a = c.args in
+    let m = sym c.paired-p.ensures.many_is ∙ c.if-p.false in
+    let t = (c.paired-p.ensures.worked c.if-p.false).total-is ∙ count-worked a.query a.update m in
+    c.no_pattern-then-p-i.ensures ∙ at-past a.query a.update a.i (omega arith)
 
-clause-at-requires : tie.Need-clause-at-requires
-clause-at-requires c κs = (c.before.before.before.paired.ensures.worked c.before.before.if1.false, c.if3.false)
+clause-at-requires : tie.Need-clause_at-requires
+clause-at-requires c κs = (c.paired-p.ensures.worked c.if-p.false, c.if-p-i.false)
 
-returns-4 : tie.Need-returns-4
+returns-4 : tie.Need-returns
 returns-4 c =
-    let a = c.before.before.before.before.before.args in
-    let m = sym c.before.before.before.before.paired.ensures.many_is ∙ c.before.before.before.if1.false in
-    let t = (c.before.before.before.before.paired.ensures.worked c.before.before.before.if1.false).total-is ∙ count-worked a.query a.update m in
-    c.clause-at.ensures ∙ at-worked a.query a.update a.i (omega arith) m
+    let a = c.args in
+    let m = sym c.paired-p.ensures.many_is ∙ c.if-p.false in
+    let t = (c.paired-p.ensures.worked c.if-p.false).total-is ∙ count-worked a.query a.update m in
+    c.clause_at.ensures ∙ at-worked a.query a.update a.i (omega arith) m
 
-pub clause-pattern-spec : {M : Type 1} → statement M
-clause-pattern-spec =
+pub clause_pattern_spec : {M : Type 1} → statement M
+clause_pattern_spec =
     tie.close
     (tie.spec
     paired-requires

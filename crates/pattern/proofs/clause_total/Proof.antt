@@ -10,21 +10,21 @@ use Rattle.pattern.proofs.clause_total.Tie as tie
 relevant-requires : tie.Need-relevant-requires
 relevant-requires c κs = search rules
 
-returns : tie.Need-returns
-returns c = let a = c.before.before.args in total-none a.query a.update (sym c.before.relevant.ensures ∙ not-true _ c.if1.true)
+returns : tie.Need-returns-then-not-relevant
+returns c = let a = c.args in total-none a.query a.update (sym c.relevant.ensures ∙ not-true _ c.if-not-relevant.true-raw)
 
-paired-requires : tie.Need-paired-requires
+paired-requires : tie.Need-paired-p-requires
 paired-requires c κs = search rules
 
-returns-2 : tie.Need-returns-2
-returns-2 c = let a = c.before.before.before.before.args in total-many a.query a.update (sym c.before.before.before.relevant.ensures ∙ not-false _ c.before.before.if1.false) (sym c.before.paired.ensures.many_is ∙ c.if2.true)
+returns-2 : tie.Need-returns-then-p
+returns-2 c = let a = c.args in total-many a.query a.update (sym c.relevant.ensures ∙ not-false _ c.if-not-relevant.false-raw) (sym c.paired-p.ensures.many_is ∙ c.if-p.true)
 
-cast-result : tie.Need-overflow-cast-result
-cast-result c = let w = (c.before.before.paired.ensures.worked c.before.if2.false).few in omega arith
+cast-result : tie.Need-overflow_cast-result
+cast-result c = let w = (c.paired-p.ensures.worked c.if-p.false).few in omega arith
 
-returns-3 : tie.Need-returns-3
-returns-3 c = let a = c.before.before.before.before.before.args in (c.before.before.paired.ensures.worked c.before.if2.false).total-is ∙ total-worked a.query a.update (sym c.before.before.before.before.relevant.ensures ∙ not-false _ c.before.before.before.if1.false) (sym c.before.before.paired.ensures.many_is ∙ c.before.if2.false)
+returns-3 : tie.Need-returns
+returns-3 c = let a = c.args in (c.paired-p.ensures.worked c.if-p.false).total-is ∙ total-worked a.query a.update (sym c.relevant.ensures ∙ not-false _ c.if-not-relevant.false-raw) (sym c.paired-p.ensures.many_is ∙ c.if-p.false)
 
-pub clause-total-spec : {M : Type 1} → statement M
-clause-total-spec =
+pub clause_total_spec : {M : Type 1} → statement M
+clause_total_spec =
     tie.close (tie.spec relevant-requires returns paired-requires returns-2 cast-result returns-3)

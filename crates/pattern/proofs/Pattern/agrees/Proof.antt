@@ -13,82 +13,82 @@ use Rattle.pattern.proofs.Agreeing.{Agreeing, not_there, other-count, agree-more
 use Rattle.pattern.proofs.Pattern.agrees.Statement.{statement}
 use Rattle.pattern.proofs.Pattern.agrees.Tie as tie
 
-abbrev invariant-loop : tie.invariant-loop
+abbrev invariant-loop : tie.invariant-loop-i
 invariant-loop count values n entries i₀ i = (i ≤ n) × Agreeing entries values n true i
 
-abbrev decreases-loop : tie.decreases-loop
+abbrev decreases-loop : tie.decreases-loop-i
 decreases-loop count values n entries i₀ i = n - i
 
 eight : (c : tie.Start invariant-loop decreases-loop) → length c.args.self.entries ≡ 8
-eight c = c.well-formed.0.1.1.1.0.1.0.1
+eight c = c.well_formed.0.1.1.1.0.1.0.1
 
-values-long : (c : tie.Start invariant-loop decreases-loop) → length c.args.t2 ≡ 8
+values-long : (c : tie.Start invariant-loop decreases-loop) → length c.args.values ≡ 8
 values-long c = search rules
 
-returns : tie.Need-returns invariant-loop decreases-loop
-returns c = let s = c.before.before in let a = s.args in not_there a.self a.t2 a.count (eight s) (values-long s) (not-true _ c.if1.true)
+returns : tie.Need-returns-then-not-self invariant-loop decreases-loop
+returns c = let s = c.before.before in let a = s.args in not_there a.self a.values a.count (eight s) (values-long s) (not-true _ c.if-not-self.true)
 
-used-requires : tie.Need-used-requires invariant-loop decreases-loop
+used-requires : tie.Need-used-n-requires invariant-loop decreases-loop
 used-requires c κs = search rules
 
-used-requires-2 : tie.Need-used-requires-2 invariant-loop decreases-loop
+used-requires-2 : tie.Need-used-requires invariant-loop decreases-loop
 used-requires-2 c κs = search rules
 
-returns-2 : tie.Need-returns-2 invariant-loop decreases-loop
-returns-2 c = let s = c.before.before.before.before.before in let a = s.args in other-count a.self a.t2 a.count (eight s) (values-long s) (not-false _ c.before.before.before.if1.false) (λ e. c.if2.true (c.before.before.used.ensures ∙ e ∙ sym c.before.used2.ensures))
+returns-2 : tie.Need-returns-then-n-used invariant-loop decreases-loop
+returns-2 c = let s = c.before.before.before.before.before in let a = s.args in other-count a.self a.values a.count (eight s) (values-long s) (not-false _ c.if-not-self.false) (λ e. c.if-n-used.true (c.used-n.ensures ∙ e ∙ sym c.used.ensures))
 
-loop-holds : tie.Need-loop-init invariant-loop decreases-loop
+loop-holds : tie.Need-loop-i-init invariant-loop decreases-loop
 loop-holds c = (omega arith, refl)
 
-mul-place : tie.Need-overflow-mul-place invariant-loop decreases-loop
+mul-place : tie.Need-offset_bounds-entries-i invariant-loop decreases-loop
 mul-place c = omega arith
 
-array-copy-out-place : tie.Need-array-copy-out-place invariant-loop decreases-loop
+array-copy-out-place : tie.Need-bounds-entries-i invariant-loop decreases-loop
 array-copy-out-place c = omega arith
 
-mul-agrees : tie.Need-overflow-mul-agrees invariant-loop decreases-loop
+mul-agrees : tie.Need-offset_bounds-values-i invariant-loop decreases-loop
 mul-agrees c = omega arith
 
-array-copy-out-agrees : tie.Need-array-copy-out-agrees invariant-loop decreases-loop
+array-copy-out-agrees : tie.Need-bounds-values-i invariant-loop decreases-loop
 array-copy-out-agrees c = omega arith
 
 agrees-requires : tie.Need-agrees-requires invariant-loop decreases-loop
 agrees-requires c κs = search rules
 
-returns-3 : tie.Need-returns-3 invariant-loop decreases-loop
+returns-3 : tie.Need-returns-then-not-agrees invariant-loop decreases-loop
 returns-3 c =
     let s = c.before.before.before.before.before.before.before.before.before.before.before.before in
     let a = s.args in
-    let l = c.before.before.before.before.before.loop in
-    let u = c.before.before.before.before.before.before.before.before.before.used in
-    let m = agree-more a.self.entries a.t2 u.result (eight s) (values-long s) (omega (arith, u.ensures)) true c.before.agrees.result l.i (to_z w32 (of_z w32 (get_or a.t2 l.i (pos 0)))) _ _ c.before.before.before.before.loop-test.true (search rules) refl c.before.agrees.ensures l.invariant.1 in
-    agree-done a.self a.t2 a.count (eight s) (values-long s) u.result u.ensures (c.before.before.before.before.before.before.before.if2.false ∙ c.before.before.before.before.before.before.before.before.used2.ensures) false (l.i + 1) refl (not-false _ c.before.before.before.before.before.before.before.before.before.before.if1.false)
-    (subst (λ (g : Bool). Agreeing a.self.entries a.t2 u.result g (l.i + 1)) (not-true c.before.agrees.result c.if3.true) m)
+    let l = c.loop-i in
+    let u = c.used-n in
+    let m = agree-more a.self.entries a.values u.result (eight s) (values-long s) (omega (arith, u.ensures)) true c.agrees.result l.i (to_z w32 (of_z w32 (get_or a.values l.i (pos 0)))) _ _ c.loop-i-test.true (search rules) refl c.agrees.ensures l.invariant.1 in
+    agree-done a.self a.values a.count (eight s) (values-long s) u.result u.ensures (c.if-n-used.false ∙ c.used.ensures) false (l.i + 1) refl (not-false _ c.if-not-self.false)
+    (subst (λ (g : Bool). Agreeing a.self.entries a.values u.result g (l.i + 1)) (not-true c.agrees.result c.if-not-agrees.true-raw) m)
 
-add-i : tie.Need-overflow-add-i invariant-loop decreases-loop
+add-i : tie.Need-overflow_add-i invariant-loop decreases-loop
 add-i c = omega arith
 
-loop-less : tie.Need-loop-smaller invariant-loop decreases-loop
+loop-less : tie.Need-loop-i-smaller invariant-loop decreases-loop
 loop-less c = omega arith
 
-loop-again : tie.Need-loop-preserved invariant-loop decreases-loop
+loop-again : tie.Need-loop-i-preserved invariant-loop decreases-loop
 loop-again c =
     let s = c.before.before.before.before.before.before.before.before.before.before.before.before in
     let a = s.args in
-    let l = c.before.before.before.before.before.loop in
-    let u = c.before.before.before.before.before.before.before.before.before.used in
-    let m = agree-more a.self.entries a.t2 u.result (eight s) (values-long s) (omega (arith, u.ensures)) true c.before.agrees.result l.i (to_z w32 (of_z w32 (get_or a.t2 l.i (pos 0)))) _ _ c.before.before.before.before.loop-test.true (search rules) refl c.before.agrees.ensures l.invariant.1 in
-    (omega arith, subst (λ (g : Bool). Agreeing a.self.entries a.t2 u.result g (l.i + 1)) (not-false c.before.agrees.result c.if3.false) m)
+    let l = c.loop-i in
+    let u = c.used-n in
+    let m = agree-more a.self.entries a.values u.result (eight s) (values-long s) (omega (arith, u.ensures)) true c.agrees.result l.i (to_z w32 (of_z w32 (get_or a.values l.i (pos 0)))) _ _ c.loop-i-test.true (search rules) refl c.agrees.ensures l.invariant.1 in
+    (omega arith, subst (λ (g : Bool). Agreeing a.self.entries a.values u.result g (l.i + 1)) (not-false c.agrees.result c.if-not-agrees.false-raw) m)
 
-returns-4 : tie.Need-returns-4 invariant-loop decreases-loop
+returns-4 : tie.Need-returns invariant-loop decreases-loop
 returns-4 c =
     let s = c.before.before.before.before.before.before.before.before in
     let a = s.args in
-    let l = c.before.loop in
-    agree-done a.self a.t2 a.count (eight s) (values-long s) c.before.before.before.before.before.used.result c.before.before.before.before.before.used.ensures (c.before.before.before.if2.false ∙ c.before.before.before.before.used2.ensures) true l.i (le-ltb l.i c.before.before.before.before.before.used.result (omega arith)) (not-false _ c.before.before.before.before.before.before.if1.false) l.invariant.1
+    let l = c.loop-i in
+    agree-done a.self a.values a.count (eight s) (values-long s) c.used-n.result c.used-n.ensures (c.if-n-used.false ∙ c.used.ensures) true l.i (le-ltb l.i c.used-n.result (omega arith)) (not-false _ c.if-not-self.false) l.invariant.1
 
-pub agrees-spec : {M : Type 1} → statement M
-agrees-spec =
+pub agrees_spec : {M : Type 1} → statement M
+agrees_spec =
     tie.close
     (tie.spec
     invariant-loop

@@ -11,58 +11,58 @@ use Rattle.pattern.proofs.Mapped.{mapped, mapped-more, mapped-all}
 use Rattle.pattern.proofs.Pattern.filled.Statement.{statement}
 use Rattle.pattern.proofs.Pattern.filled.Tie as tie
 
-abbrev invariant-loop : tie.invariant-loop
+abbrev invariant-loop : tie.invariant-loop-i
 invariant-loop self values entries₀ i₀ entries i = (i ≤ 8) × (length entries₀ ≡ 8) × (length entries ≡ 8) × (entries ≡ mapped (filled_place values) entries₀ i)
 
-abbrev decreases-loop : tie.decreases-loop
+abbrev decreases-loop : tie.decreases-loop-i
 decreases-loop self values entries₀ i₀ entries i = 8 - i
 
 eight : (c : tie.Start invariant-loop decreases-loop) → length c.args.self.entries ≡ 8
-eight c = c.well-formed.0.1.1.1.0.1.0.1
+eight c = c.well_formed.0.1.1.1.0.1.0.1
 
-loop-holds : tie.Need-loop-init invariant-loop decreases-loop
+loop-holds : tie.Need-loop-i-init invariant-loop decreases-loop
 loop-holds c = (omega arith, eight c.before, eight c.before, refl)
 
-mul-place : tie.Need-overflow-mul-place invariant-loop decreases-loop
+mul-place : tie.Need-offset_bounds-entries-i invariant-loop decreases-loop
 mul-place c = omega arith
 
-array-copy-out-place : tie.Need-array-copy-out-place invariant-loop decreases-loop
+array-copy-out-place : tie.Need-bounds-entries-i invariant-loop decreases-loop
 array-copy-out-place c = omega arith
 
-filled-requires : tie.Need-filled-requires invariant-loop decreases-loop
+filled-requires : tie.Need-filled-entry-requires invariant-loop decreases-loop
 filled-requires c κs = search rules
 
-mul-entries : tie.Need-overflow-mul-entries invariant-loop decreases-loop
+mul-entries : tie.Need-offset_bounds-entries-i-in-loop-i invariant-loop decreases-loop
 mul-entries c = omega arith
 
-array-set-from-entries : tie.Need-array-set-from-entries invariant-loop decreases-loop
+array-set-from-entries : tie.Need-bounds-entries-i-in-loop-i invariant-loop decreases-loop
 array-set-from-entries c = omega arith
 
-add-i : tie.Need-overflow-add-i invariant-loop decreases-loop
+add-i : tie.Need-overflow_add-i invariant-loop decreases-loop
 add-i c = omega arith
 
-loop-less : tie.Need-loop-smaller invariant-loop decreases-loop
+loop-less : tie.Need-loop-i-smaller invariant-loop decreases-loop
 loop-less c = omega arith
 
-loop-again : tie.Need-loop-preserved invariant-loop decreases-loop
+loop-again : tie.Need-loop-i-preserved invariant-loop decreases-loop
 loop-again c =
-    let a = c.before.before.before.before.before.args in
-    let l = c.before.before.before.loop in (
+    let a = c.args in
+    let l = c.loop-i in (
       omega arith,
       l.invariant.1,
       simp length-set l.invariant.2,
-      mapped-more (filled_place a.values.now) a.self.entries l.entries l.i _ (placed c.filled.result) (omega arith) l.invariant.3 (ap placed c.filled.ensures),
+      mapped-more (filled_place a.values.now) a.self.entries l.entries l.i _ (placed c.filled-entry.result) (omega arith) l.invariant.3 (ap placed c.filled-entry.ensures),
     )
 
 returns : tie.Need-returns invariant-loop decreases-loop
 unfolding filled_of
 returns c =
-    let a = c.before.before.before.args in
-    let l = c.before.loop in
+    let a = c.args in
+    let l = c.loop-i in
     ap (λ (e : List Place). record { there = a.self.there; entries = e; count = a.self.count }) (l.invariant.3 ∙ mapped-all (filled_place a.values.now) a.self.entries l.i (omega arith))
 
-pub filled-spec : {M : Type 1} → statement M
-filled-spec =
+pub filled_spec : {M : Type 1} → statement M
+filled_spec =
     tie.close
     (tie.spec
     invariant-loop

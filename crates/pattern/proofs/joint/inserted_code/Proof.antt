@@ -10,41 +10,41 @@ use Rattle.pattern.specs.Flat.{Coding}
 use Rattle.pattern.proofs.joint.inserted_code.Statement.{statement}
 use Rattle.pattern.proofs.joint.inserted_code.Tie as tie
 
-add-result : tie.Need-overflow-add-result
+add-result : tie.Need-overflow_add-result
 add-result c = search rules
 
-returns : tie.Need-returns
-returns c = let a = c.before.args in inserted_below a.t1 a.n a.from a.column _ c.if1.true (omega arith) refl
+returns : tie.Need-returns-then-column-from
+returns c = let a = c.args in inserted_below a.settings a.n a.from a.column _ c.if-column-from.true (omega arith) refl
 
-cast-i : tie.Need-overflow-cast-i
+cast-i : tie.Need-overflow_cast-i
 cast-i c = search rules
 
-mul-item : tie.Need-overflow-mul-item
+mul-item : tie.Need-offset_bounds-settings-i
 mul-item c = search rules
 
-array-copy-out-item : tie.Need-array-copy-out-item
+array-copy-out-item : tie.Need-bounds-settings-i
 array-copy-out-item c = search rules
 
-new-value-requires : tie.Need-new-value-requires
+new-value-requires : tie.Need-new_value-value-requires
 new-value-requires c κs = search rules
 
-value-code-requires : tie.Need-value-code-requires
+value-code-requires : tie.Need-value_code-requires
 value-code-requires c κs = search rules
 
-returns-2 : tie.Need-returns-2
+returns-2 : tie.Need-returns-then-i-n
 returns-2 c =
-    let a = c.before.before.before.before.before.args in
-    inserted-there a.t1 a.n (omega arith) a.from a.column _ _ c.before.before.before.before.if1.false c.before.before.before.if2.true
-    (subst (λ (v : Value). Coding (of_value (value_read v)) c.value-code.result) c.before.new-value.ensures c.value-code.ensures)
+    let a = c.args in
+    inserted-there a.settings a.n (omega arith) a.from a.column _ _ c.if-column-from.false c.if-i-n.true
+    (subst (λ (v : Value). Coding (of_value (value_read v)) c.value_code.result) c.new_value-value.ensures c.value_code.ensures)
 
-add-result-2 : tie.Need-overflow-add-result-2
+add-result-2 : tie.Need-overflow_add-result-2
 add-result-2 c = search rules
 
-returns-3 : tie.Need-returns-3
-returns-3 c = let a = c.before.before.args in inserted-past a.t1 a.n (omega arith) a.from a.column _ c.before.if1.false c.if2.false (omega arith) refl
+returns-3 : tie.Need-returns
+returns-3 c = let a = c.args in inserted-past a.settings a.n (omega arith) a.from a.column _ c.if-column-from.false c.if-i-n.false (omega arith) refl
 
-pub inserted-code-spec : {M : Type 1} → statement M
-inserted-code-spec =
+pub inserted_code_spec : {M : Type 1} → statement M
+inserted_code_spec =
     tie.close
     (tie.spec
     add-result

@@ -10,36 +10,36 @@ use borrow.Author.Rules.{rules}
 use Rattle.pattern.proofs.joint.operand_code.Statement.{statement}
 use Rattle.pattern.proofs.joint.operand_code.Tie as tie
 
-mark-code-requires : tie.Need-mark-code-requires
+mark-code-requires : tie.Need-mark_code-requires
 mark-code-requires c κs = search rules
 
-returns : tie.Need-returns
+returns : tie.Need-returns-then-o-eq1
 returns c =
-    let a = c.before.before.before.before.args in
-    operand-mark a.role a.from (map setting_read (take a.n a.settings)) a.o _ c.before.before.if1.true c.mark_code.ensures
+    let a = c.args in
+    operand-mark a.role a.from (map setting_read (take a.n a.settings)) a.o _ c.if-o-eq1.true c.mark_code.ensures
 
-constant-code-requires : tie.Need-constant-code-requires
+constant-code-requires : tie.Need-constant_code-requires
 constant-code-requires c κs = search rules
 
-returns-2 : tie.Need-returns-2
+returns-2 : tie.Need-returns-then-o-eq0
 returns-2 c =
-    let a = c.before.before.before.before.before.before.args in
+    let a = c.args in
     let y : ℤ = to_z w32 (of_z w32 a.o.number) in
-    operand-constant a.role a.from (map setting_read (take a.n a.settings)) a.o _ y c.before.before.if2.true (search rules) (constant-coding y _ c.constant-code.ensures)
+    operand-constant a.role a.from (map setting_read (take a.n a.settings)) a.o _ y c.if-o-eq0.true (search rules) (constant-coding y _ c.constant_code.ensures)
 
-sub-column-code : tie.Need-overflow-sub-column-code
+sub-column-code : tie.Need-overflow_sub-o
 sub-column-code c = search rules
 
-column-code-requires : tie.Need-column-code-requires
+column-code-requires : tie.Need-column_code-requires
 column-code-requires c κs = search rules
 
-returns-3 : tie.Need-returns-3
+returns-3 : tie.Need-returns
 returns-3 c =
-    let a = c.before.before.before.before.before.before.args in
-    operand-column a.role a.from (map setting_read (take a.n a.settings)) a.o _ c.before.before.before.before.if1.false c.before.before.if2.false c.column-code.ensures
+    let a = c.args in
+    operand-column a.role a.from (map setting_read (take a.n a.settings)) a.o _ c.if-o-eq1.false c.if-o-eq0.false c.column_code.ensures
 
-pub operand-code-spec : {M : Type 1} → statement M
-operand-code-spec =
+pub operand_code_spec : {M : Type 1} → statement M
+operand_code_spec =
     tie.close
     (tie.spec
     mark-code-requires

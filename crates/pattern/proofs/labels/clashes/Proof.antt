@@ -9,7 +9,7 @@ use borrow.Author.Rules.{rules}
 use Rattle.pattern.proofs.labels.clashes.Statement.{statement}
 use Rattle.pattern.proofs.labels.clashes.Tie as tie
 
-is-join-requires : tie.Need-is-join-requires
+is-join-requires : tie.Need-is_join-requires
 is-join-requires c κs = search rules
 
 greater-requires : tie.Need-greater-requires
@@ -17,8 +17,8 @@ greater-requires c κs = search rules
 
 returns : tie.Need-returns
 returns c =
-    let a = c.before.before.args in
-    ap₂ (λ (j : Bool) (m : ℕ). (j && ltb m 4294967296) && not (eqb a.a a.b)) c.before.is_join.ensures c.greater.ensures ∙ clash-is (predicate_at a.op) a.a a.b
+    let a = c.args in
+    ap₂ (λ (j : Bool) (m : ℕ). (j && ltb m 4294967296) && not (eqb a.a a.b)) c.is_join.ensures c.greater.ensures ∙ clash-is (predicate_at a.op) a.a a.b
 
-pub clashes-spec : {M : Type 1} → statement M
-clashes-spec = tie.close (tie.spec is-join-requires greater-requires returns)
+pub clashes_spec : {M : Type 1} → statement M
+clashes_spec = tie.close (tie.spec is-join-requires greater-requires returns)

@@ -9,48 +9,48 @@ use Rattle.pattern.proofs.labels.clause_pattern.Tie as tie
 forty : (c : tie.Start) → length c.args.codes ≡ 40
 forty c = search rules
 
-label-all-requires : tie.Need-label-all-requires
+label-all-requires : tie.Need-label_all-l-requires
 label-all-requires c κs = search rules
 
-no-pattern-requires : tie.Need-no-pattern-requires
+no-pattern-requires : tie.Need-no_pattern-requires
 no-pattern-requires c κs = search rules
 
-returns : tie.Need-returns
+returns : tie.Need-returns-then-l
 returns c =
     let s = c.before.before.before in
     let a = s.args in
-    c.no-pattern.ensures ∙ pattern-clash a.codes a.ops a.n a.marks (forty s) s.requires.0.few c.before.before.label-all.result c.before.before.label-all.ensures c.before.if1.true
+    c.no_pattern.ensures ∙ pattern-clash a.codes a.ops a.n a.marks (forty s) s.requires.0.few c.label_all-l.result c.label_all-l.ensures c.if-l.true
 
-some-fails-requires : tie.Need-some-fails-requires
+some-fails-requires : tie.Need-some_fails-requires
 some-fails-requires c κs = search rules
 
-no-pattern-requires-2 : tie.Need-no-pattern-requires-2
+no-pattern-requires-2 : tie.Need-no_pattern-requires-then-some_fails
 no-pattern-requires-2 c κs = search rules
 
-returns-2 : tie.Need-returns-2
+returns-2 : tie.Need-returns-then-some_fails
 returns-2 c =
     let s = c.before.before.before.before.before.before in
     let a = s.args in
-    let l = c.before.before.before.before.before.label-all in
-    c.no-pattern2.ensures
-    ∙ pattern-fails a.codes a.ops a.n a.marks (forty s) s.requires.0.few l.result l.ensures c.before.before.before.before.if1.false (sym c.before.before.some-fails.ensures ∙ c.before.if2.true)
+    let l = c.label_all-l in
+    c.no_pattern-then-some_fails.ensures
+    ∙ pattern-fails a.codes a.ops a.n a.marks (forty s) s.requires.0.few l.result l.ensures c.if-l.false (sym c.some_fails.ensures ∙ c.if-some_fails.true)
 
-places-requires : tie.Need-places-requires
+places-requires : tie.Need-places-entries-requires
 places-requires c κs = search rules
 
-cast-t10 : tie.Need-overflow-cast-t10
+cast-t10 : tie.Need-overflow_cast-result
 cast-t10 c = search rules
 
-returns-3 : tie.Need-returns-3
+returns-3 : tie.Need-returns
 returns-3 c =
     let s = c.before.before.before.before.before.before in
     let a = s.args in
-    let l = c.before.before.before.before.before.label-all in
-    pattern-there a.codes a.ops a.n a.marks (forty s) s.requires.0.few l.result l.ensures c.before.before.before.before.if1.false (sym c.before.before.some-fails.ensures ∙ c.before.if2.false)
-    s.requires.1 s.requires.0.marks-there c.places.result c.places.ensures
+    let l = c.label_all-l in
+    pattern-there a.codes a.ops a.n a.marks (forty s) s.requires.0.few l.result l.ensures c.if-l.false (sym c.some_fails.ensures ∙ c.if-some_fails.false)
+    s.requires.1 s.requires.0.marks-there c.places-entries.result c.places-entries.ensures
 
-pub clause-pattern-spec : {M : Type 1} → statement M
-clause-pattern-spec =
+pub clause_pattern_spec : {M : Type 1} → statement M
+clause_pattern_spec =
     tie.close
     (tie.spec
     label-all-requires

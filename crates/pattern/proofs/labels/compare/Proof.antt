@@ -7,7 +7,7 @@ use Rattle.pattern.specs.Least.{code_constant}
 use Rattle.pattern.proofs.labels.compare.Statement.{statement}
 use Rattle.pattern.proofs.labels.compare.Tie as tie
 
-tests-null-requires : tie.Need-tests-null-requires
+tests-null-requires : tie.Need-tests_null-requires
 tests-null-requires c κs = search rules
 
 order-requires : tie.Need-order-requires
@@ -16,12 +16,12 @@ order-requires c κs = search rules
 truth-requires : tie.Need-truth-requires
 truth-requires c κs = search rules
 
-returns : tie.Need-returns
+returns : tie.Need-returns-then-tests_null
 returns c =
-    let s = c.before.before.before in
-    let a = s.before.args in
-    c.truth.ensures ∙ ap (truth_by (predicate_at a.op)) c.before.order.ensures
-    ∙ null_order (predicate_at a.op) (sym s.tests_null.ensures ∙ c.before.before.if1.true) (code_constant a.a) (code_constant a.b)
+    let s = c in
+    let a = s.args in
+    c.truth.ensures ∙ ap (truth_by (predicate_at a.op)) c.order.ensures
+    ∙ null_order (predicate_at a.op) (sym s.tests_null.ensures ∙ c.if-tests_null.true) (code_constant a.a) (code_constant a.b)
 
 order-requires-2 : tie.Need-order-requires-2
 order-requires-2 c κs = search rules
@@ -29,12 +29,12 @@ order-requires-2 c κs = search rules
 truth-requires-2 : tie.Need-truth-requires-2
 truth-requires-2 c κs = search rules
 
-returns-2 : tie.Need-returns-2
+returns-2 : tie.Need-returns
 returns-2 c =
-    let s = c.before.before.before in
-    let a = s.before.args in
-    c.truth2.ensures ∙ ap (truth_by (predicate_at a.op)) c.before.order2.ensures
-    ∙ by_order (predicate_at a.op) (sym s.tests_null.ensures ∙ c.before.before.if1.false) (code_constant a.a) (code_constant a.b)
+    let s = c in
+    let a = s.args in
+    c.truth-2.ensures ∙ ap (truth_by (predicate_at a.op)) c.order-2.ensures
+    ∙ by_order (predicate_at a.op) (sym s.tests_null.ensures ∙ c.if-tests_null.false) (code_constant a.a) (code_constant a.b)
 
-pub compare-spec : {M : Type 1} → statement M
-compare-spec = tie.close (tie.spec tests-null-requires order-requires truth-requires returns order-requires-2 truth-requires-2 returns-2)
+pub compare_spec : {M : Type 1} → statement M
+compare_spec = tie.close (tie.spec tests-null-requires order-requires truth-requires returns order-requires-2 truth-requires-2 returns-2)

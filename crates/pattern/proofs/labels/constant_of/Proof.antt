@@ -8,20 +8,20 @@ use borrow.Author.Rules.{rules}
 use Rattle.pattern.proofs.labels.constant_of.Statement.{statement}
 use Rattle.pattern.proofs.labels.constant_of.Tie as tie
 
-cast-result : tie.Need-overflow-cast-result
+cast-result : tie.Need-overflow_cast-result
 cast-result c = search rules
 
-cast-result-2 : tie.Need-overflow-cast-result-2
+cast-result-2 : tie.Need-overflow_cast-result-2
 cast-result-2 c = search rules
 
-sub-result : tie.Need-overflow-sub-result
+sub-result : tie.Need-overflow_sub-result
 sub-result c = subst (SFits w64) (sym (constant-is c.args.code c.requires)) (constant-64 c.args.code c.requires)
 
-cast-result-3 : tie.Need-overflow-cast-result-3
+cast-result-3 : tie.Need-overflow_cast-result-3
 cast-result-3 c = rw (constant-is c.args.code c.requires, to_z-of_z (constant-64 c.args.code c.requires)) (constant-32 c.args.code c.requires)
 
 returns : tie.Need-returns
 returns c = rw (constant-is c.args.code c.requires, to_z-of_z (constant-64 c.args.code c.requires), to_z-of_z (constant-32 c.args.code c.requires))
 
-pub constant-of-spec : {M : Type 1} → statement M
-constant-of-spec = tie.close (tie.spec cast-result cast-result-2 sub-result cast-result-3 returns)
+pub constant_of_spec : {M : Type 1} → statement M
+constant_of_spec = tie.close (tie.spec cast-result cast-result-2 sub-result cast-result-3 returns)

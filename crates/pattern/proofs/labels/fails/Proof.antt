@@ -3,7 +3,7 @@ use borrow.Author.Rules.{rules}
 use Rattle.pattern.proofs.labels.fails.Statement.{statement}
 use Rattle.pattern.proofs.labels.fails.Tie as tie
 
-greater-requires : tie.Need-greater-requires
+greater-requires : tie.Need-greater-constants-requires
 greater-requires c κs = search rules
 
 strict-requires : tie.Need-strict-requires
@@ -16,7 +16,7 @@ compare-requires : tie.Need-compare-requires
 compare-requires c κs = search rules
 
 returns : tie.Need-returns
-returns c = rw (c.before.before.strict.ensures, c.before.never.ensures, c.before.before.before.greater.ensures, c.compare.ensures)
+returns c = rw (c.strict.ensures, c.never.ensures, c.greater-constants.ensures, c.compare.ensures)
 
-pub fails-spec : {M : Type 1} → statement M
-fails-spec = tie.close (tie.spec greater-requires strict-requires never-requires compare-requires returns)
+pub fails_spec : {M : Type 1} → statement M
+fails_spec = tie.close (tie.spec greater-requires strict-requires never-requires compare-requires returns)

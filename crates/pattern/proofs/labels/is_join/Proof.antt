@@ -6,5 +6,5 @@ use Rattle.pattern.proofs.labels.is_join.Tie as tie
 returns : tie.Need-returns
 returns c = join-number c.args.op
 
-pub is-join-spec : {M : Type 1} → statement M
-is-join-spec = tie.close (tie.spec returns)
+pub is_join_spec : {M : Type 1} → statement M
+is_join_spec = tie.close (tie.spec returns)

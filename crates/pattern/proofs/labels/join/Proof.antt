@@ -10,7 +10,7 @@ use borrow.Author.Rules.{rules}
 use Rattle.pattern.proofs.labels.join.Statement.{statement}
 use Rattle.pattern.proofs.labels.join.Tie as tie
 
-is-join-requires : tie.Need-is-join-requires
+is-join-requires : tie.Need-is_join-requires
 is-join-requires c κs = search rules
 
 greater-requires : tie.Need-greater-requires
@@ -22,21 +22,21 @@ lesser-requires c κs = search rules
 relabel-requires : tie.Need-relabel-requires
 relabel-requires c κs = search rules
 
-returns : tie.Need-returns
+returns : tie.Need-returns-then-is_join
 returns c =
-    let s = c.before.before.before.before.before.before in
+    let s = c in
     let a = s.args in
-    let j = sym c.before.before.before.before.before.is_join.ensures ∙ c.before.before.before.before.if1.true in
+    let j = sym c.is_join.ensures ∙ c.if-is_join.true in
     c.relabel.ensures
-    ∙ ap₂ (λ (x y : ℕ). map (rename_code x y) a.labels.now) c.before.before.greater.ensures c.before.lesser.ensures
+    ∙ ap₂ (λ (x y : ℕ). map (rename_code x y) a.labels.now) c.greater.ensures c.lesser.ensures
     ∙ sym (ap (λ (g : ℕ → ℕ). map g a.labels.now) (joins-labels (predicate_at a.op) a.a a.b a.labels.now j))
 
-returns-2 : tie.Need-returns-2
+returns-2 : tie.Need-returns-else-is_join
 returns-2 c =
-    let a = c.before.before.args in
-    leaves-labels (predicate_at a.op) a.a a.b a.labels.now (sym c.before.is_join.ensures ∙ c.if1.false)
+    let a = c.args in
+    leaves-labels (predicate_at a.op) a.a a.b a.labels.now (sym c.is_join.ensures ∙ c.if-is_join.false)
 
-pub join-spec : {M : Type 1} → statement M
-join-spec =
+pub join_spec : {M : Type 1} → statement M
+join_spec =
     tie.close
     (tie.spec is-join-requires greater-requires lesser-requires relabel-requires returns returns-2)

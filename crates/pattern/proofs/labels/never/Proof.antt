@@ -12,13 +12,13 @@ use Rattle.pattern.proofs.labels.never.Tie as tie
 lesser-requires : tie.Need-lesser-requires
 lesser-requires c κs = search rules
 
-tests-null-requires : tie.Need-tests-null-requires
+tests-null-requires : tie.Need-tests_null-requires
 tests-null-requires c κs = search rules
 
 returns : tie.Need-returns
 returns c =
-    let a = c.before.before.args in
-    ap₂ (λ (n : ℕ) (t : Bool). eqb n 0 && not t) c.before.lesser.ensures c.tests_null.ensures ∙ never-is (predicate_at a.op) a.a a.b
+    let a = c.args in
+    ap₂ (λ (n : ℕ) (t : Bool). eqb n 0 && not t) c.lesser.ensures c.tests_null.ensures ∙ never-is (predicate_at a.op) a.a a.b
 
-pub never-spec : {M : Type 1} → statement M
-never-spec = tie.close (tie.spec lesser-requires tests-null-requires returns)
+pub never_spec : {M : Type 1} → statement M
+never_spec = tie.close (tie.spec lesser-requires tests-null-requires returns)

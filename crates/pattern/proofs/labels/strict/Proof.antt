@@ -12,8 +12,8 @@ truth-requires c κs = search rules
 
 returns : tie.Need-returns
 returns c =
-    let op = c.before.args.op in
+    let op = c.args.op in
     ap (λ (b : Bool). not (eqb op 6) && not b) c.truth.ensures ∙ strict-number op
 
-pub strict-spec : {M : Type 1} → statement M
-strict-spec = tie.close (tie.spec truth-requires returns)
+pub strict_spec : {M : Type 1} → statement M
+strict_spec = tie.close (tie.spec truth-requires returns)

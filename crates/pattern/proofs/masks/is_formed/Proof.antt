@@ -13,79 +13,79 @@ use Rattle.pattern.proofs.Formed.{join-balanced, join-fails, push-balanced, bala
 use Rattle.pattern.proofs.masks.is_formed.Statement.{statement}
 use Rattle.pattern.proofs.masks.is_formed.Tie as tie
 
-abbrev invariant-loop : tie.invariant-loop
+abbrev invariant-loop : tie.invariant-loop-i
 invariant-loop condition n depth₀ i₀ depth i = (i + 1 ≤ 2 * n) × (depth ≤ i) × (length condition.steps ≡ 15) × (balanced depth (drop i (used_steps condition)) ≡ balanced 0 (used_steps condition))
 
-abbrev decreases-loop : tie.decreases-loop
+abbrev decreases-loop : tie.decreases-loop-i
 decreases-loop condition n depth₀ i₀ depth i = 2 * n - i
 
-cast-n : tie.Need-overflow-cast-n invariant-loop decreases-loop
+cast-n : tie.Need-overflow_cast-n invariant-loop decreases-loop
 cast-n c = search rules
 
-returns : tie.Need-returns invariant-loop decreases-loop
-returns c = sym (formed-many c.before.args.t1 c.if1.true)
+returns : tie.Need-returns-then-n-gt-COMPARISONS invariant-loop decreases-loop
+returns c = sym (formed-many c.args.condition c.if-n-gt-COMPARISONS.true)
 
-returns-2 : tie.Need-returns-2 invariant-loop decreases-loop
-returns-2 c = sym (formed-none c.before.before.args.t1 c.if2.true)
+returns-2 : tie.Need-returns-then-n-eq0 invariant-loop decreases-loop
+returns-2 c = sym (formed-none c.args.condition c.if-n-eq0.true)
 
-loop-holds : tie.Need-loop-init invariant-loop decreases-loop
+loop-holds : tie.Need-loop-i-init invariant-loop decreases-loop
 loop-holds c = (omega arith, omega arith, search rules, refl)
 
-add-loop : tie.Need-overflow-add-loop invariant-loop decreases-loop
+add-loop : tie.Need-overflow_add-i invariant-loop decreases-loop
 add-loop c = omega arith
 
-mul-loop : tie.Need-overflow-mul-loop invariant-loop decreases-loop
+mul-loop : tie.Need-overflow_mul-n invariant-loop decreases-loop
 mul-loop c = omega arith
 
-element-copy-out-step : tie.Need-element-copy-out-step invariant-loop decreases-loop
+element-copy-out-step : tie.Need-bounds-condition-i invariant-loop decreases-loop
 element-copy-out-step c = omega arith
 
-add-depth : tie.Need-overflow-add-depth invariant-loop decreases-loop
+add-depth : tie.Need-overflow_add-depth invariant-loop decreases-loop
 add-depth c = omega arith
 
-returns-3 : tie.Need-returns-3 invariant-loop decreases-loop
+returns-3 : tie.Need-returns-then-depth-lt2 invariant-loop decreases-loop
 returns-3 c =
-    let a = c.before.before.before.before.before.before.before.args in
-    let l = c.before.before.before.before.loop in
-    let t = c.before.before.before.loop-test.true in
-    let n = steps_next a.t1 l.invariant.2 (omega arith) l.i (omega arith) in
-    sym (join-fails l.depth (get_or a.t1.steps l.i 0) (drop (l.i + 1) (used_steps a.t1)) c.before.if3.false c.if4.true)
-    ∙ ap (balanced l.depth) (sym n) ∙ l.invariant.3 ∙ sym (formed-some a.t1 l.invariant.2 (omega arith) (λ e. omega arith))
+    let a = c.args in
+    let l = c.loop-i in
+    let t = c.loop-i-test.true in
+    let n = steps_next a.condition l.invariant.2 (omega arith) l.i (omega arith) in
+    sym (join-fails l.depth (get_or a.condition.steps l.i 0) (drop (l.i + 1) (used_steps a.condition)) c.if-step-eq-COMPARISON.false c.if-depth-lt2.true)
+    ∙ ap (balanced l.depth) (sym n) ∙ l.invariant.3 ∙ sym (formed-some a.condition l.invariant.2 (omega arith) (λ e. omega arith))
 
-sub-depth : tie.Need-overflow-sub-depth invariant-loop decreases-loop
+sub-depth : tie.Need-overflow_sub-depth invariant-loop decreases-loop
 sub-depth c = omega arith
 
-add-i : tie.Need-overflow-add-i invariant-loop decreases-loop
+add-i : tie.Need-overflow_add-i-in-loop-i invariant-loop decreases-loop
 add-i c = omega arith
 
-loop-less : tie.Need-loop-smaller invariant-loop decreases-loop
+loop-less : tie.Need-loop-i-smaller invariant-loop decreases-loop
 loop-less c = omega arith
 
-loop-again : tie.Need-loop-preserved invariant-loop decreases-loop
+loop-again : tie.Need-loop-i-preserved invariant-loop decreases-loop
 loop-again c =
-    let a = c.before.before.before.before.before.before.args in
-    let l = c.before.before.before.loop in
-    let ss = used_steps a.t1 in
-    let s : ℕ = get_or a.t1.steps l.i 0 in
-    let n = steps_next a.t1 l.invariant.2 (omega arith) l.i (omega arith) in
+    let a = c.args in
+    let l = c.loop-i in
+    let ss = used_steps a.condition in
+    let s : ℕ = get_or a.condition.steps l.i 0 in
+    let n = steps_next a.condition l.invariant.2 (omega arith) l.i (omega arith) in
     let rest = drop (l.i + 1) ss in
-    let e : (c.if3.depth ≤ l.i + 1) × (balanced c.if3.depth rest ≡ balanced l.depth (s ∷ rest)) =
+    let e : (c.if-step-eq-COMPARISON.depth ≤ l.i + 1) × (balanced c.if-step-eq-COMPARISON.depth rest ≡ balanced l.depth (s ∷ rest)) =
     ⊎_elim
-    (λ w. let k : c.if3.depth ≡ l.depth + 1 = w.1 in (omega arith, ap (λ (d : ℕ). balanced d rest) k ∙ sym (push-balanced l.depth s rest w.0.taken)))
-    (λ w. let k : c.if3.depth ≡ l.depth - 1 = w.2 in (omega arith, ap (λ (d : ℕ). balanced d rest) k ∙ sym (join-balanced l.depth s rest w.0.left w.1.left)))
-    c.if3.branch in
+    (λ w. let k : c.if-step-eq-COMPARISON.depth ≡ l.depth + 1 = w.depth-is in (omega arith, ap (λ (d : ℕ). balanced d rest) k ∙ sym (push-balanced l.depth s rest w.if-step-eq-COMPARISON.true)))
+    (λ w. let k : c.if-step-eq-COMPARISON.depth ≡ l.depth - 1 = w.depth-is in (omega arith, ap (λ (d : ℕ). balanced d rest) k ∙ sym (join-balanced l.depth s rest w.if-step-eq-COMPARISON.false w.if-depth-lt2.false)))
+    c.if-step-eq-COMPARISON.branch-raw in
     (omega arith, e.0, l.invariant.2, e.1 ∙ ap (balanced l.depth) (sym n) ∙ l.invariant.3)
 
-returns-4 : tie.Need-returns-4 invariant-loop decreases-loop
+returns-4 : tie.Need-returns invariant-loop decreases-loop
 returns-4 c =
-    let a = c.before.before.before.before.args in
-    let l = c.before.loop in
-    let d : length (used_steps a.t1) ≤ l.i = omega (arith, steps-length a.t1 l.invariant.2 (omega arith)) in
-    sym (balanced-end l.depth) ∙ ap (balanced l.depth) (sym (drop_of_length-le (used_steps a.t1) d)) ∙ l.invariant.3
-    ∙ sym (formed-some a.t1 l.invariant.2 (omega arith) (λ e. omega arith))
+    let a = c.args in
+    let l = c.loop-i in
+    let d : length (used_steps a.condition) ≤ l.i = omega (arith, steps-length a.condition l.invariant.2 (omega arith)) in
+    sym (balanced-end l.depth) ∙ ap (balanced l.depth) (sym (drop_of_length-le (used_steps a.condition) d)) ∙ l.invariant.3
+    ∙ sym (formed-some a.condition l.invariant.2 (omega arith) (λ e. omega arith))
 
-pub is-formed-spec : {M : Type 1} → statement M
-is-formed-spec =
+pub is_formed_spec : {M : Type 1} → statement M
+is_formed_spec =
     tie.close
     (tie.spec
     invariant-loop

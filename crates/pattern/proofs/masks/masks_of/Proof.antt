@@ -11,82 +11,82 @@ use Rattle.pattern.proofs.Running.{Running, run-start, run-steps, run_more, run-
 use Rattle.pattern.proofs.masks.masks_of.Statement.{statement}
 use Rattle.pattern.proofs.masks.masks_of.Tie as tie
 
-abbrev invariant-loop : tie.invariant-loop
+abbrev invariant-loop : tie.invariant-loop-i
 invariant-loop condition n s₀ i₀ s i = (i + 1 ≤ 2 * n) × Running condition s i
 
-abbrev decreases-loop : tie.decreases-loop
+abbrev decreases-loop : tie.decreases-loop-i
 decreases-loop condition n s₀ i₀ s i = 2 * n - i
 
-eight : (c : tie.Start invariant-loop decreases-loop) → length c.args.t1.comparisons ≡ 8
-eight c = c.well-formed.0.1.1.0.1.0.1
+eight : (c : tie.Start invariant-loop decreases-loop) → length c.args.condition.comparisons ≡ 8
+eight c = c.well_formed.0.1.1.0.1.0.1
 
-fifteen : (c : tie.Start invariant-loop decreases-loop) → length c.args.t1.steps ≡ 15
+fifteen : (c : tie.Start invariant-loop decreases-loop) → length c.args.condition.steps ≡ 15
 fifteen c = search rules
 
-turned : tie.Need-loop-preserved invariant-loop decreases-loop
+turned : tie.Need-loop-i-preserved invariant-loop decreases-loop
 turned c =
     let s = c.before.before.before.before.before.before in
-    let l = c.before.before.before.loop in
-    let d = s.args.t1 in (
+    let l = c.loop-i in
+    let d = s.args.condition in (
       omega arith,
-      subst (λ (x : Stack). Running d x (l.i + 1)) (sym c.stepped.ensures) (run_more d (fifteen s) (eight s) (formed-few d s.requires) l.s l.i l.invariant.1 (omega arith) (get_or d.steps l.i 0) refl),
+      subst (λ (x : Stack). Running d x (l.i + 1)) (sym c.stepped-s.ensures) (run_more d (fifteen s) (eight s) (formed-few d s.requires) l.s l.i l.invariant.1 (omega arith) (get_or d.steps l.i 0) refl),
     )
 
-done : tie.Need-returns-2 invariant-loop decreases-loop
+done : tie.Need-returns invariant-loop decreases-loop
 done c =
     let s = c.before.before.before.before.before.before in
-    let l = c.before.before.before.loop in
-    run-done s.args.t1 (fifteen s) (formed-few s.args.t1 s.requires) l.s l.i (omega arith) l.invariant.1
+    let l = c.loop-i in
+    run-done s.args.condition (fifteen s) (formed-few s.args.condition s.requires) l.s l.i (omega arith) l.invariant.1
 
-cast-n : tie.Need-overflow-cast-n invariant-loop decreases-loop
+cast-n : tie.Need-overflow_cast-n invariant-loop decreases-loop
 cast-n c = search rules
 
-returns : tie.Need-returns invariant-loop decreases-loop
-returns c = run_none c.before.args.t1 c.if1.true _ refl refl refl
+returns : tie.Need-returns-then-n-eq0 invariant-loop decreases-loop
+returns c = run_none c.args.condition c.if-n-eq0.true _ refl refl refl
 
-empty-requires : tie.Need-empty-requires invariant-loop decreases-loop
+empty-requires : tie.Need-empty-s-requires invariant-loop decreases-loop
 empty-requires c κs = search rules
 
-loop-holds : tie.Need-loop-init invariant-loop decreases-loop
+loop-holds : tie.Need-loop-i-init invariant-loop decreases-loop
 loop-holds c =
     let s = c.before.before in
-    let d = s.args.t1 in
-    let b = sym (formed-some d (fifteen s) (formed-few d s.requires) c.before.if1.false) ∙ s.requires in
-    (omega arith, subst (λ (x : Stack). Running d x 0) (sym c.empty.ensures) (run-start d b))
+    let d = s.args.condition in
+    let b = sym (formed-some d (fifteen s) (formed-few d s.requires) c.if-n-eq0.false) ∙ s.requires in
+    (omega arith, subst (λ (x : Stack). Running d x 0) (sym c.empty-s.ensures) (run-start d b))
 
-add-loop : tie.Need-overflow-add-loop invariant-loop decreases-loop
+add-loop : tie.Need-overflow_add-i invariant-loop decreases-loop
 add-loop c = omega arith
 
-mul-loop : tie.Need-overflow-mul-loop invariant-loop decreases-loop
+mul-loop : tie.Need-overflow_mul-n invariant-loop decreases-loop
 mul-loop c = omega arith
 
-element-copy-out-stepped : tie.Need-element-copy-out-stepped invariant-loop decreases-loop
-element-copy-out-stepped c = omega (arith, formed-few c.before.before.before.before.args.t1 c.before.before.before.before.requires)
+element-copy-out-stepped : tie.Need-bounds-condition-i invariant-loop decreases-loop
+element-copy-out-stepped c = omega (arith, formed-few c.args.condition c.requires)
 
-stepped-requires : tie.Need-stepped-requires invariant-loop decreases-loop
+stepped-requires : tie.Need-stepped-s-requires invariant-loop decreases-loop
 stepped-requires c κs =
     let s = c.before.before.before.before.before in
-    let l = c.before.before.loop in
-    let d = s.args.t1 in
+    let l = c.loop-i in
+    let d = s.args.condition in
     run-steps d (fifteen s) (eight s) (formed-few d s.requires) l.s l.i l.invariant.1 (omega arith) (get_or d.steps l.i 0) refl
 
-add-i : tie.Need-overflow-add-i invariant-loop decreases-loop
+add-i : tie.Need-overflow_add-i-in-loop-i invariant-loop decreases-loop
 add-i c = omega arith
 
-loop-less : tie.Need-loop-smaller invariant-loop decreases-loop
+loop-less : tie.Need-loop-i-smaller invariant-loop decreases-loop
 loop-less c = omega arith
 
-loop-again : tie.Need-loop-preserved invariant-loop decreases-loop
+loop-again : tie.Need-loop-i-preserved invariant-loop decreases-loop
 loop-again c = turned c
 
-cast-t8 : tie.Need-overflow-cast-t8 invariant-loop decreases-loop
+cast-t8 : tie.Need-overflow_cast-result invariant-loop decreases-loop
 cast-t8 c = omega (arith, (done c).few)
 
-returns-2 : tie.Need-returns-2 invariant-loop decreases-loop
+returns-2 : tie.Need-returns invariant-loop decreases-loop
 returns-2 c = done c
 
-pub masks-of-spec : {M : Type 1} → statement M
-masks-of-spec =
+pub masks_of_spec : {M : Type 1} → statement M
+masks_of_spec =
     tie.close
     (tie.spec
     invariant-loop

@@ -13,11 +13,11 @@ use Rattle.pattern.proofs.pairing.all_any.Tie as tie
 used-requires : tie.Need-used-requires
 used-requires c κs = search rules
 
-cast-t6 : tie.Need-overflow-cast-t6
+cast-t6 : tie.Need-overflow_cast-result
 cast-t6 c = search rules
 
 returns : tie.Need-returns
 returns c = any-made c.used.result (omega (arith, c.used.ensures)) ∙ ap (λ (n : ℕ). pattern_struct (replicate n anything)) c.used.ensures
 
-pub all-any-spec : {M : Type 1} → statement M
-all-any-spec = tie.close (tie.spec used-requires cast-t6 returns)
+pub all_any_spec : {M : Type 1} → statement M
+all_any_spec = tie.close (tie.spec used-requires cast-t6 returns)

@@ -7,67 +7,67 @@ use borrow.Author.Rules.{rules}
 use Rattle.pattern.proofs.pairing.clause_at.Statement.{statement}
 use Rattle.pattern.proofs.pairing.clause_at.Tie as tie
 
-start-of-requires : tie.Need-start-of-requires
+start-of-requires : tie.Need-start_of-from-requires
 start-of-requires c κs = search rules
 
-array-read-inserted : tie.Need-array-read-inserted
+array-read-inserted : tie.Need-bounds-masks-i
 array-read-inserted c =
-    let b = c.before.before.before.start_of_lem in
-    let s = c.before.before.before.before.before.before in
+    let b = c.start_of-from in
+    let s = c in
     let a = s.args in
     let w = s.requires.0.query-masked.few in
-    let h = insert-below a.query a.update a.p s.requires.0 a.i s.requires.1 b.result b.ensures c.before.if1.true in
+    let h = insert-below a.query a.update a.p s.requires.0 a.i s.requires.1 b.result b.ensures c.if-update-eq-INSERT.true in
     omega arith
 
 inserted-requires : tie.Need-inserted-requires
 inserted-requires c κs = search rules
 
-returns : tie.Need-returns
+returns : tie.Need-returns-then-update-eq-INSERT
 returns c =
-    let b = c.before.before.before.before.start_of_lem in
-    let s = c.before.before.before.before.before.before.before in
+    let b = c.start_of-from in
+    let s = c in
     let a = s.args in
-    c.inserted.ensures ∙ ap (clause_pattern (entry_count a.query)) (insert-chosen a.query a.update a.p s.requires.0 a.i s.requires.1 b.result b.ensures c.before.before.if1.true)
+    c.inserted.ensures ∙ ap (clause_pattern (entry_count a.query)) (insert-chosen a.query a.update a.p s.requires.0 a.i s.requires.1 b.result b.ensures c.if-update-eq-INSERT.true)
 
-cast-size : tie.Need-overflow-cast-size
+cast-size : tie.Need-overflow_cast-size
 cast-size c = search rules
 
-cast-size-2 : tie.Need-overflow-cast-size-2
+cast-size-2 : tie.Need-overflow_cast-size-2
 cast-size-2 c = search rules
 
-mul-size : tie.Need-overflow-mul-size
+mul-size : tie.Need-overflow_mul-size
 mul-size c =
-    let s = c.before.before.before.before.before.before.before in
+    let s = c in
     let a = s.args in
     let w = s.requires.0 in
     omega (arith, product-few a.p.query.count a.p.update.count w.query-masked.few w.update-masked.few)
 
-pair-at-requires : tie.Need-pair-at-requires
+pair-at-requires : tie.Need-pair_at-requires
 pair-at-requires c κs = search rules
 
-returns-2 : tie.Need-returns-2
+returns-2 : tie.Need-returns-then-k-size
 returns-2 c =
-    let b = c.before.before.before.before.before.before.start_of_lem in
-    let s = c.before.before.before.before.before.before.before.before.before in
+    let b = c.start_of-from in
+    let s = c in
     let a = s.args in
-    c.pair-at.ensures ∙ ap (clause_pattern (entry_count a.query)) (first-chosen a.query a.update a.p s.requires.0 a.i s.requires.1 b.result b.ensures c.before.before.before.before.if1.false c.before.if2.true)
+    c.pair_at.ensures ∙ ap (clause_pattern (entry_count a.query)) (first-chosen a.query a.update a.p s.requires.0 a.i s.requires.1 b.result b.ensures c.if-update-eq-INSERT.false c.if-k-size.true)
 
-pair-at-requires-2 : tie.Need-pair-at-requires-2
+pair-at-requires-2 : tie.Need-pair_at-requires-2
 pair-at-requires-2 c κs =
-    let b = c.before.before.before.before.before.start_of_lem in
-    let s = c.before.before.before.before.before.before.before.before in
+    let b = c.start_of-from in
+    let s = c in
     let a = s.args in
-    (s.requires.0, (second-chosen a.query a.update a.p s.requires.0 a.i s.requires.1 b.result b.ensures c.before.before.before.if1.false c.if2.false).1)
+    (s.requires.0, (second-chosen a.query a.update a.p s.requires.0 a.i s.requires.1 b.result b.ensures c.if-update-eq-INSERT.false c.if-k-size.false).1)
 
-returns-3 : tie.Need-returns-3
+returns-3 : tie.Need-returns
 returns-3 c =
-    let b = c.before.before.before.before.before.before.start_of_lem in
-    let s = c.before.before.before.before.before.before.before.before.before in
+    let b = c.start_of-from in
+    let s = c in
     let a = s.args in
-    c.pair-at2.ensures ∙ ap (clause_pattern (entry_count a.query)) (sym (second-chosen a.query a.update a.p s.requires.0 a.i s.requires.1 b.result b.ensures c.before.before.before.before.if1.false c.before.if2.false).0)
+    c.pair_at-2.ensures ∙ ap (clause_pattern (entry_count a.query)) (sym (second-chosen a.query a.update a.p s.requires.0 a.i s.requires.1 b.result b.ensures c.if-update-eq-INSERT.false c.if-k-size.false).0)
 
-pub clause-at-spec : {M : Type 1} → statement M
-clause-at-spec =
+pub clause_at_spec : {M : Type 1} → statement M
+clause_at_spec =
     tie.close
     (tie.spec
     start-of-requires

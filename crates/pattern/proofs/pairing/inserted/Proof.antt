@@ -15,37 +15,37 @@ use borrow.Author.Rules.{rules}
 use Rattle.pattern.proofs.pairing.inserted.Statement.{statement}
 use Rattle.pattern.proofs.pairing.inserted.Tie as tie
 
-empty-requires : tie.Need-empty-requires
+empty-requires : tie.Need-empty-start-requires
 empty-requires c κs = search rules
 
-used-requires : tie.Need-used-requires
+used-requires : tie.Need-used-n-requires
 used-requires c κs = search rules
 
-add-requires : tie.Need-add-requires
-add-requires c κs = (omega arith, omega (arith, c.before.used.ensures), c.before.before.before.before.before.before.requires, subst (λ (s : Joined). All Readable s.codes) (sym c.before.before.before.before.before.empty.ensures) none-readable)
+add-requires : tie.Need-add-all-requires
+add-requires c κs = (omega arith, omega (arith, c.used-n.ensures), c.requires, subst (λ (s : Joined). All Readable s.codes) (sym c.empty-start.ensures) none-readable)
 
-used-requires-2 : tie.Need-used-requires-2
+used-requires-2 : tie.Need-used-requires
 used-requires-2 c κs = search rules
 
-clause-pattern-requires : tie.Need-clause-pattern-requires
+clause-pattern-requires : tie.Need-clause_pattern-requires
 clause-pattern-requires c κs =
-    let e = c.before.before.before.before.before.before.before.before.before.empty in
-    let a = c.before.before.before.before.before.before.before.before.before.before.args in
-    let ss = map setting_read (take c.before.before.before.before.before.used.result a.update.settings) in
-    (one-ready (chosen_of 2 a.from ss a.query.condition a.mask) e.result c.before.before.before.add.result e.ensures c.before.before.before.add.ensures.0, omega (arith, c.used2.ensures))
+    let e = c.empty-start in
+    let a = c.args in
+    let ss = map setting_read (take c.used-n.result a.update.settings) in
+    (one-ready (chosen_of 2 a.from ss a.query.condition a.mask) e.result c.add-all.result e.ensures c.add-all.ensures.0, omega (arith, c.used.ensures))
 
 returns : tie.Need-returns
 returns c =
-    let e = c.before.before.before.before.before.before.before.before.before.before.empty in
-    let a = c.before.before.before.before.before.before.before.before.before.before.before.args in
-    let ss = map setting_read (take c.before.before.before.before.before.before.used.result a.update.settings) in
-    c.clause-pattern.ensures
-    ∙ one-pattern (chosen_of 2 a.from ss a.query.condition a.mask) e.result c.before.before.before.before.add.result e.ensures c.before.before.before.before.add.ensures.0 c.before.used2.result (omega (arith, c.before.used2.ensures))
-    ∙ ap₂ (λ (m : ℕ) (l : List (ℕ × M.Value)). clause_pattern m (chosen_of 2 a.from l a.query.condition a.mask)) c.before.used2.ensures
-    (settings-are a.update c.before.before.before.before.before.before.used.result c.before.before.before.before.add.ensures.1 c.before.before.before.before.before.before.used.ensures)
+    let e = c.empty-start in
+    let a = c.args in
+    let ss = map setting_read (take c.used-n.result a.update.settings) in
+    c.clause_pattern.ensures
+    ∙ one-pattern (chosen_of 2 a.from ss a.query.condition a.mask) e.result c.add-all.result e.ensures c.add-all.ensures.0 c.used.result (omega (arith, c.used.ensures))
+    ∙ ap₂ (λ (m : ℕ) (l : List (ℕ × M.Value)). clause_pattern m (chosen_of 2 a.from l a.query.condition a.mask)) c.used.ensures
+    (settings-are a.update c.used-n.result c.add-all.ensures.1 c.used-n.ensures)
 
-pub inserted-spec : {M : Type 1} → statement M
-inserted-spec =
+pub inserted_spec : {M : Type 1} → statement M
+inserted_spec =
     tie.close
     (tie.spec
     empty-requires

@@ -15,48 +15,48 @@ use borrow.Author.Rules.{rules}
 use Rattle.pattern.proofs.pairing.joined.Statement.{statement}
 use Rattle.pattern.proofs.pairing.joined.Tie as tie
 
-empty-requires : tie.Need-empty-requires
+empty-requires : tie.Need-empty-start-requires
 empty-requires c κs = search rules
 
-used-requires : tie.Need-used-requires
+used-requires : tie.Need-used-n-requires
 used-requires c κs = search rules
 
-add-requires : tie.Need-add-requires
-add-requires c κs = (omega arith, omega (arith, c.before.used.ensures), c.before.before.before.before.before.before.requires.1, subst (λ (s : Joined). All Readable s.codes) (sym c.before.before.before.before.before.empty.ensures) none-readable)
+add-requires : tie.Need-add-first-requires
+add-requires c κs = (omega arith, omega (arith, c.used-n.ensures), c.requires.1, subst (λ (s : Joined). All Readable s.codes) (sym c.empty-start.ensures) none-readable)
 
-add-requires-2 : tie.Need-add-requires-2
+add-requires-2 : tie.Need-add-all-requires
 add-requires-2 c κs = search rules
 
-used-requires-2 : tie.Need-used-requires-2
+used-requires-2 : tie.Need-used-requires
 used-requires-2 c κs = search rules
 
-clause-pattern-requires : tie.Need-clause-pattern-requires
+clause-pattern-requires : tie.Need-clause_pattern-requires
 clause-pattern-requires c κs =
-    let e = c.before.before.before.before.before.before.before.before.before.before.before.before.before.empty in
-    let a = c.before.before.before.before.before.before.before.before.before.before.before.before.before.before.args in
-    let ss = map setting_read (take c.before.before.before.before.before.before.before.before.before.used.result a.update.settings) in
-    let first = c.before.before.before.before.before.before.before.add in
-    let all = c.before.before.before.add2 in (
+    let e = c.empty-start in
+    let a = c.args in
+    let ss = map setting_read (take c.used-n.result a.update.settings) in
+    let first = c.add-first in
+    let all = c.add-all in (
       two_ready (chosen_of 0 a.from ss a.update.condition a.given) e.result first.result e.ensures first.ensures.0
           (chosen_of a.role a.from ss a.query.condition a.asked) all.result all.ensures.0,
-      omega (arith, c.used2.ensures),
+      omega (arith, c.used.ensures),
     )
 
 returns : tie.Need-returns
 returns c =
-    let e = c.before.before.before.before.before.before.before.before.before.before.before.before.before.before.empty in
-    let a = c.before.before.before.before.before.before.before.before.before.before.before.before.before.before.before.args in
-    let ss = map setting_read (take c.before.before.before.before.before.before.before.before.before.before.used.result a.update.settings) in
-    let first = c.before.before.before.before.before.before.before.before.add in
-    let all = c.before.before.before.before.add2 in
-    c.clause-pattern.ensures
+    let e = c.empty-start in
+    let a = c.args in
+    let ss = map setting_read (take c.used-n.result a.update.settings) in
+    let first = c.add-first in
+    let all = c.add-all in
+    c.clause_pattern.ensures
     ∙ two-pattern (chosen_of 0 a.from ss a.update.condition a.given) e.result first.result e.ensures first.ensures.0
-    (chosen_of a.role a.from ss a.query.condition a.asked) all.result all.ensures.0 c.before.used2.result (omega (arith, c.before.used2.ensures))
-    ∙ ap₂ (λ (m : ℕ) (l : List (ℕ × M.Value)). clause_pattern m (chosen_of 0 a.from l a.update.condition a.given ++ chosen_of a.role a.from l a.query.condition a.asked)) c.before.used2.ensures
-    (settings-are a.update c.before.before.before.before.before.before.before.before.before.before.used.result first.ensures.1 c.before.before.before.before.before.before.before.before.before.before.used.ensures)
+    (chosen_of a.role a.from ss a.query.condition a.asked) all.result all.ensures.0 c.used.result (omega (arith, c.used.ensures))
+    ∙ ap₂ (λ (m : ℕ) (l : List (ℕ × M.Value)). clause_pattern m (chosen_of 0 a.from l a.update.condition a.given ++ chosen_of a.role a.from l a.query.condition a.asked)) c.used.ensures
+    (settings-are a.update c.used-n.result first.ensures.1 c.used-n.ensures)
 
-pub joined-spec : {M : Type 1} → statement M
-joined-spec =
+pub joined_spec : {M : Type 1} → statement M
+joined_spec =
     tie.close
     (tie.spec
     empty-requires

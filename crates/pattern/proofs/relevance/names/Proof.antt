@@ -7,22 +7,22 @@ use borrow.Author.Rules.{rules}
 use Rattle.pattern.proofs.relevance.names.Statement.{statement}
 use Rattle.pattern.proofs.relevance.names.Tie as tie
 
-returns : tie.Need-returns
-returns c = let a = c.before.before.args in sym (ap (names_any (take a.n a.columns)) (is-mark a.o c.if1.true))
+returns : tie.Need-returns-then-o-eq1
+returns c = let a = c.args in sym (ap (names_any (take a.n a.columns)) (is-mark a.o c.if-o-eq1.true))
 
-returns-2 : tie.Need-returns-2
-returns-2 c = let a = c.before.before.before.before.args in sym (ap (names_any (take a.n a.columns)) (is-constant a.o c.if2.true))
+returns-2 : tie.Need-returns-then-o-eq0
+returns-2 c = let a = c.args in sym (ap (names_any (take a.n a.columns)) (is-constant a.o c.if-o-eq0.true))
 
-sub-is-among : tie.Need-overflow-sub-is-among
+sub-is-among : tie.Need-overflow_sub-o
 sub-is-among c = search rules
 
-is-among-requires : tie.Need-is-among-requires
+is-among-requires : tie.Need-is_among-requires
 is-among-requires c κs = search rules
 
-returns-3 : tie.Need-returns-3
+returns-3 : tie.Need-returns
 returns-3 c =
-    let a = c.before.before.before.before.before.before.args in
-    c.is_among.ensures ∙ sym (ap (names_any (take a.n a.columns)) (is-column a.o c.before.before.before.before.if1.false c.before.before.if2.false))
+    let a = c.args in
+    c.is_among.ensures ∙ sym (ap (names_any (take a.n a.columns)) (is-column a.o c.if-o-eq1.false c.if-o-eq0.false))
 
-pub names-spec : {M : Type 1} → statement M
-names-spec = tie.close (tie.spec returns returns-2 sub-is-among is-among-requires returns-3)
+pub names_spec : {M : Type 1} → statement M
+names_spec = tie.close (tie.spec returns returns-2 sub-is-among is-among-requires returns-3)

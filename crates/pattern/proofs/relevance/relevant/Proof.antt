@@ -11,27 +11,27 @@ use Rattle.pattern.proofs.relevance.relevant.Tie as tie
 reads-requires : tie.Need-reads-requires
 reads-requires c κs = search rules
 
-returns : tie.Need-returns
-returns c = let a = c.before.before.args in sym (other-table a.query a.update (sym c.before.reads.ensures ∙ not-true _ c.if1.true))
+returns : tie.Need-returns-then-not-reads
+returns c = let a = c.args in sym (other-table a.query a.update (sym c.reads.ensures ∙ not-true _ c.if-not-reads.true-raw))
 
-start-of-requires : tie.Need-start-of-requires
+start-of-requires : tie.Need-start_of-from-requires
 start-of-requires c κs = search rules
 
 touches-requires : tie.Need-touches-requires
 touches-requires c κs = search rules
 
-returns-2 : tie.Need-returns-2
+returns-2 : tie.Need-returns-then-update-eq-UPDATE
 returns-2 c =
-    let a = c.before.before.before.before.before.before.args in
+    let a = c.args in
     c.touches.ensures
-    ∙ ap (λ (k : ℕ). sets_used k a.query a.update) c.before.start_of_lem.ensures
-    ∙ sym (update-relevant a.query a.update (sym c.before.before.before.before.before.reads.ensures ∙ not-false _ c.before.before.before.before.if1.false) c.before.before.if2.true)
+    ∙ ap (λ (k : ℕ). sets_used k a.query a.update) c.start_of-from.ensures
+    ∙ sym (update-relevant a.query a.update (sym c.reads.ensures ∙ not-false _ c.if-not-reads.false-raw) c.if-update-eq-UPDATE.true)
 
-returns-3 : tie.Need-returns-3
+returns-3 : tie.Need-returns
 returns-3 c =
-    let a = c.before.before.before.before.args in
-    sym (other-relevant a.query a.update (sym c.before.before.before.reads.ensures ∙ not-false _ c.before.before.if1.false) c.if2.false)
+    let a = c.args in
+    sym (other-relevant a.query a.update (sym c.reads.ensures ∙ not-false _ c.if-not-reads.false-raw) c.if-update-eq-UPDATE.false)
 
-pub relevant-spec : {M : Type 1} → statement M
-relevant-spec =
+pub relevant_spec : {M : Type 1} → statement M
+relevant_spec =
     tie.close (tie.spec reads-requires returns start-of-requires touches-requires returns-2 returns-3)

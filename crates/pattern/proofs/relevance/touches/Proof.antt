@@ -10,67 +10,67 @@ use Rattle.pattern.proofs.relevance.touches.Tie as tie
 selected-long : (c : tie.Start) → length c.args.query.selected ≡ 8
 selected-long c = search rules
 
-columns-of-requires : tie.Need-columns-of-requires
+columns-of-requires : tie.Need-columns_of-columns-requires
 columns-of-requires c κs = search rules
 
-used-requires : tie.Need-used-requires
+used-requires : tie.Need-used-n-requires
 used-requires c κs = search rules
 
-used-requires-2 : tie.Need-used-requires-2
+used-requires-2 : tie.Need-used-requires
 used-requires-2 c κs = search rules
 
 selects-requires : tie.Need-selects-requires
 selects-requires c κs = search rules
 
-returns : tie.Need-returns
+returns : tie.Need-returns-then-selects
 returns c =
     let s = c.before.before.before.before.before.before.before in
     let a = s.args in
-    let of = c.before.before.before.before.before.columns_of in
-    let n = c.before.before.before.before.used in
-    let m = c.before.before.used2 in
-    sym (by-selected a.query a.update a.from of.ensures.1 of.result n.result of.ensures.0 n.ensures m.result (selected-long s) m.ensures (sym c.before.selects.ensures ∙ c.if1.true))
+    let of = c.columns_of-columns in
+    let n = c.used-n in
+    let m = c.used in
+    sym (by-selected a.query a.update a.from of.ensures.1 of.result n.result of.ensures.0 n.ensures m.result (selected-long s) m.ensures (sym c.selects.ensures ∙ c.if-selects.true))
 
-comparison-steps-requires : tie.Need-comparison-steps-requires
+comparison-steps-requires : tie.Need-comparison_steps-asked-requires
 comparison-steps-requires c κs = search rules
 
-used-requires-3 : tie.Need-used-requires-3
+used-requires-3 : tie.Need-used-there-requires
 used-requires-3 c κs = search rules
 
 tests-requires : tie.Need-tests-requires
 tests-requires c κs = search rules
 
-returns-2 : tie.Need-returns-2
+returns-2 : tie.Need-returns-then-asked-there
 returns-2 c =
     let s = c.before.before.before.before.before.before.before.before.before.before.before.before in
     let a = s.args in
-    let of = c.before.before.before.before.before.before.before.before.before.before.columns_of in
-    let n = c.before.before.before.before.before.before.before.before.before.used in
-    let m = c.before.before.before.before.before.before.before.used2 in
-    let k = c.before.before.before.comparison-steps in
-    let l = c.before.before.used3 in
+    let of = c.columns_of-columns in
+    let n = c.used-n in
+    let m = c.used in
+    let k = c.comparison_steps-asked in
+    let l = c.used-there in
     c.tests.ensures.0
-    ∙ sym (by-tested a.query a.update a.from of.ensures.1 of.result n.result of.ensures.0 n.ensures m.result (selected-long s) m.ensures (sym c.before.before.before.before.before.before.selects.ensures ∙ c.before.before.before.before.before.if1.false)
-    k.result c.tests.ensures.1 (omega (arith, k.ensures, l.ensures, c.before.if2.true)))
+    ∙ sym (by-tested a.query a.update a.from of.ensures.1 of.result n.result of.ensures.0 n.ensures m.result (selected-long s) m.ensures (sym c.selects.ensures ∙ c.if-selects.false)
+    k.result c.tests.ensures.1 (omega (arith, k.ensures, l.ensures, c.if-asked-there.true)))
 
 tests-requires-2 : tie.Need-tests-requires-2
 tests-requires-2 c κs = search rules
 
-returns-3 : tie.Need-returns-3
+returns-3 : tie.Need-returns
 returns-3 c =
     let s = c.before.before.before.before.before.before.before.before.before.before.before.before in
     let a = s.args in
-    let of = c.before.before.before.before.before.before.before.before.before.before.columns_of in
-    let n = c.before.before.before.before.before.before.before.before.before.used in
-    let m = c.before.before.before.before.before.before.before.used2 in
-    let k = c.before.before.before.comparison-steps in
-    let l = c.before.before.used3 in
-    c.tests2.ensures.0
-    ∙ sym (by-tested a.query a.update a.from of.ensures.1 of.result n.result of.ensures.0 n.ensures m.result (selected-long s) m.ensures (sym c.before.before.before.before.before.before.selects.ensures ∙ c.before.before.before.before.before.if1.false)
-    l.result c.tests2.ensures.1 (omega (arith, k.ensures, l.ensures, c.before.if2.false)))
+    let of = c.columns_of-columns in
+    let n = c.used-n in
+    let m = c.used in
+    let k = c.comparison_steps-asked in
+    let l = c.used-there in
+    c.tests-2.ensures.0
+    ∙ sym (by-tested a.query a.update a.from of.ensures.1 of.result n.result of.ensures.0 n.ensures m.result (selected-long s) m.ensures (sym c.selects.ensures ∙ c.if-selects.false)
+    l.result c.tests-2.ensures.1 (omega (arith, k.ensures, l.ensures, c.if-asked-there.false)))
 
-pub touches-spec : {M : Type 1} → statement M
-touches-spec =
+pub touches_spec : {M : Type 1} → statement M
+touches_spec =
     tie.close
     (tie.spec
     columns-of-requires

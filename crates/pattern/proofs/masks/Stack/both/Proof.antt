@@ -4,59 +4,59 @@ use borrow.Author.Rules.{rules}
 use Rattle.pattern.proofs.masks.Stack.both.Statement.{statement}
 use Rattle.pattern.proofs.masks.Stack.both.Tie as tie
 
-sub-left : tie.Need-overflow-sub-left
+sub-left : tie.Need-overflow_sub-left
 sub-left c = search rules
 
-array-read-left : tie.Need-array-read-left
+array-read-left : tie.Need-bounds-lengths-depth
 array-read-left c = search rules
 
-cast-left : tie.Need-overflow-cast-left
+cast-left : tie.Need-overflow_cast-left
 cast-left c = search rules
 
-sub-right : tie.Need-overflow-sub-right
+sub-right : tie.Need-overflow_sub-right
 sub-right c = search rules
 
-array-read-right : tie.Need-array-read-right
+array-read-right : tie.Need-bounds-lengths-depth-2
 array-read-right c = search rules
 
-cast-right : tie.Need-overflow-cast-right
+cast-right : tie.Need-overflow_cast-right
 cast-right c = search rules
 
-add_start : tie.Need-overflow-add-start
+add_start : tie.Need-overflow_add-start
 add_start c = search rules
 
-sub-start : tie.Need-overflow-sub-start
+sub-start : tie.Need-overflow_sub-start
 sub-start c = search rules
 
-product-requires : tie.Need-product-requires
+product-requires : tie.Need-product-next-requires
 product-requires c κs = search rules
 
-mul-lengths : tie.Need-overflow-mul-lengths
+mul-lengths : tie.Need-overflow_mul-lengths
 mul-lengths c = search rules
 
-cast-lengths : tie.Need-overflow-cast-lengths
+cast-lengths : tie.Need-overflow_cast-lengths
 cast-lengths c = search rules
 
-sub-lengths : tie.Need-overflow-sub-lengths
+sub-lengths : tie.Need-overflow_sub-lengths
 sub-lengths c = search rules
 
-array-write-lengths : tie.Need-array-write-lengths
+array-write-lengths : tie.Need-bounds-lengths-depth-3
 array-write-lengths c = search rules
 
-sub-t9 : tie.Need-overflow-sub-t9
+sub-t9 : tie.Need-overflow_sub-result
 sub-t9 c = search rules
 
-mul-t15 : tie.Need-overflow-mul-t15
+mul-t15 : tie.Need-overflow_mul-result
 mul-t15 c = search rules
 
-add-t19 : tie.Need-overflow-add-t19
+add-t19 : tie.Need-overflow_add-result
 add-t19 c = search rules
 
 returns : tie.Need-returns
-returns c = both-made c.before.before.before.before.args.self c.product.result c.product.ensures
+returns c = both-made c.args.self c.product-next.result c.product-next.ensures
 
-pub both-spec : {M : Type 1} → statement M
-both-spec =
+pub both_spec : {M : Type 1} → statement M
+both_spec =
     tie.close
     (tie.spec
     sub-left
