@@ -128,9 +128,11 @@ module _ {lent : Lengths} {size : ℕ} where
 
   pub follows-after : {s : Store} {m : Model} → Follows lent size s m → (cs : List Call) → Follows lent size (after s cs) (T.after lent size m (map plain_call cs))
   follows-after F [] = F
-  follows-after F (c ∷ cs) = follows-after (follows-step F c) cs
+  follows-after {s = s} {m = m} F (c ∷ cs) = follows-after {s = (step s c).0} {m = (T.step lent size m (plain_call c)).0} (follows-step F c) cs
 
   pub follows-gets : {s : Store} {m : Model} → Follows lent size s m → (cs : List Call)
       → map (λ (x : Seen). x.got) (gets s cs) ≡ gots_of cs (map (λ (x : T.Seen). x.out) (T.outs lent size m (map plain_call cs)))
   follows-gets F [] = refl
-  follows-gets F (c ∷ cs) = ap₂ (λ (g : Got) (l : List Got). g ∷ l) (meets F c).got (follows-gets (follows-step F c) cs)
+  follows-gets {s = s} {m = m} F (c ∷ cs) =
+      ap₂ (λ (g : Got) (l : List Got). g ∷ l) (meets F c).got
+      (follows-gets {s = (step s c).0} {m = (T.step lent size m (plain_call c)).0} (follows-step F c) cs)

@@ -4,17 +4,17 @@ use borrow.Author.Tests.{le-leb, lt-leb, eq-eqb, ne_eqb}
 use Rattle.cache.proofs.ask_refusal.Statement.{statement}
 use Rattle.cache.proofs.ask_refusal.Tie as tie
 
-returns : tie.Need-returns
+returns : tie.Need-returns-then-unfit
 returns c = search rules
 
-returns-2 : tie.Need-returns-2
-returns-2 c = let a = c.before.before.args in rw (c.before.if1.false, le-leb a.count a.query c.if2.true)
+returns-2 : tie.Need-returns-then-count-query
+returns-2 c = let a = c.args in rw (c.if-unfit.false, le-leb a.count a.query c.if-count-query.true)
 
-returns-3 : tie.Need-returns-3
-returns-3 c = let a = c.before.before.before.args in rw (c.before.before.if1.false, lt-leb a.count a.query c.before.if2.false, ne_eqb a.values a.parameters c.if3.true)
+returns-3 : tie.Need-returns-then-values-parameters
+returns-3 c = let a = c.args in rw (c.if-unfit.false, lt-leb a.count a.query c.if-count-query.false, ne_eqb a.values a.parameters c.if-values-parameters.true)
 
-returns-4 : tie.Need-returns-4
-returns-4 c = let a = c.before.before.before.args in rw (c.before.before.if1.false, lt-leb a.count a.query c.before.if2.false, eq-eqb a.values a.parameters c.if3.false)
+returns-4 : tie.Need-returns
+returns-4 c = let a = c.args in rw (c.if-unfit.false, lt-leb a.count a.query c.if-count-query.false, eq-eqb a.values a.parameters c.if-values-parameters.false)
 
-pub ask-refusal-spec : {M : Type 1} → statement M
-ask-refusal-spec = tie.close (tie.spec returns returns-2 returns-3 returns-4)
+pub ask_refusal_spec : {M : Type 1} → statement M
+ask_refusal_spec = tie.close (tie.spec returns returns-2 returns-3 returns-4)

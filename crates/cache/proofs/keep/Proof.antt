@@ -13,54 +13,54 @@ use Rattle.cache.proofs.AskReturns.{keep-not, keep-done}
 use Rattle.cache.proofs.keep.Statement.{statement}
 use Rattle.cache.proofs.keep.Tie as tie
 
-test : (c : tie.Else1) → let a = c.before.before.before.before.before.args in (leb a.size a.slot-bytes && c.before.before.take_last.result.there) ≡ true
-test c = not-false _ c.if1.false
+test : (c : tie.Else-not-fits-taken) → let a = c.args in (leb a.size a.slot_bytes && c.take_last-taken.result.there) ≡ true
+test c = not-false _ c.if-not-fits-taken.false-raw
 
-last : (c : tie.Else1) → let a = c.before.before.before.before.before.args in Last a.slot-bytes (length a.memory.now) c.before.before.take_last.result a.size
+last : (c : tie.Else-not-fits-taken) → let a = c.args in Last a.slot_bytes (length a.memory.now) c.take_last-taken.result a.size
 last c =
-    let s = c.before.before.before.before.before in
+    let s = c in
     let a = s.args in
-    let t = c.before.before.take_last in
-    let fits = and_left (leb a.size a.slot-bytes) _ (test c) in
-    let there = and_right (leb a.size a.slot-bytes) _ (test c) in
-    subst (λ (u : Taken). Last a.slot-bytes (length a.memory.now) u a.size) (sym t.ensures)
-    (s.requires.1 (sym (ap (λ (u : Taken). u.there) t.ensures) ∙ there) (leb-true a.size a.slot-bytes fits))
+    let t = c.take_last-taken in
+    let fits = and_left (leb a.size a.slot_bytes) _ (test c) in
+    let there = and_right (leb a.size a.slot_bytes) _ (test c) in
+    subst (λ (u : Taken). Last a.slot_bytes (length a.memory.now) u a.size) (sym t.ensures)
+    (s.requires.1 (sym (ap (λ (u : Taken). u.there) t.ensures) ∙ there) (leb-true a.size a.slot_bytes fits))
 
-take-last-requires : tie.Need-take-last-requires
+take-last-requires : tie.Need-take_last-taken-requires
 take-last-requires c κs = search rules
 
 nowhere-requires : tie.Need-nowhere-requires
 nowhere-requires c κs = search rules
 
-returns : tie.Need-returns
+returns : tie.Need-returns-then-not-fits-taken
 returns c =
-    let s = c.before.before.before.before.before.before in
+    let s = c in
     let a = s.args in
-    let t = c.before.before.before.take_last in
-    keep-not a.slots a.slot-bytes a.size a.bytes.now a.memory.now s.requires.0 t.result t.ensures _ c.nowhere.ensures (not-true _ c.before.if1.true)
+    let t = c.take_last-taken in
+    keep-not a.slots a.slot_bytes a.size a.bytes.now a.memory.now s.requires.0 t.result t.ensures _ c.nowhere.ensures (not-true _ c.if-not-fits-taken.true-raw)
 
-cast-copy : tie.Need-overflow-cast-copy
+cast-copy : tie.Need-overflow_cast-slot
 cast-copy c = search rules
 
-mul-copy : tie.Need-overflow-mul-copy
+mul-copy : tie.Need-overflow_mul-slot
 mul-copy c = omega (arith, (last c.before).start)
 
 copy-requires : tie.Need-copy-requires
-copy-requires c κs = ((last c.before).ends, omega (arith, c.before.before.before.before.before.before.requires.0))
+copy-requires c κs = ((last c.before).ends, omega (arith, c.requires.0))
 
-cast-t18 : tie.Need-overflow-cast-t18
+cast-t18 : tie.Need-overflow_cast-result
 cast-t18 c = omega (arith, (last c.before.before.before.before.before).small)
 
-same_length : tie.Need-same-length
+same_length : tie.Need-shape_of-memory
 same_length c = search rules
 
-returns-2 : tie.Need-returns-2
+returns-2 : tie.Need-returns
 returns-2 c =
-    let s = c.before.before.before.before.before.before.before.before.before.before in
+    let s = c in
     let a = s.args in
     let e = c.before.before.before.before.before in
-    let t = c.before.before.before.before.before.before.before.take_last in
-    keep-done a.slots a.slot-bytes a.size a.bytes.now a.memory.now s.requires.0 t.result t.ensures _ (test e) c.before.before.before.copy.ensures
+    let t = c.take_last-taken in
+    keep-done a.slots a.slot_bytes a.size a.bytes.now a.memory.now s.requires.0 t.result t.ensures _ (test e) c.copy.ensures
 
 pub keep_spec : {M : Type 1} → statement M
 keep_spec =

@@ -3,11 +3,11 @@ use borrow.Author.Rules.{rules}
 use Rattle.cache.proofs.not_answered.Statement.{statement}
 use Rattle.cache.proofs.not_answered.Tie as tie
 
-nowhere-requires : tie.Need-nowhere-requires
+nowhere-requires : tie.Need-nowhere-place-requires
 nowhere-requires c κs = search rules
 
 returns : tie.Need-returns
-returns c = rw c.nowhere.ensures
+returns c = rw c.nowhere-place.ensures
 
-pub not-answered-spec : {M : Type 1} → statement M
-not-answered-spec = tie.close (tie.spec nowhere-requires returns)
+pub not_answered_spec : {M : Type 1} → statement M
+not_answered_spec = tie.close (tie.spec nowhere-requires returns)

@@ -10,39 +10,39 @@ use Rattle.cache.proofs.take_effect.Statement.{statement}
 use Rattle.cache.proofs.take_effect.Tie as tie
 
 -- what is known of an update that is not refused
-known : (c : tie.Else1) → let a = c.before.args in (sound_slots a.slots ≡ true) × (a.n ≤ 16) × (a.u.table ≤ 8)
-known c = c.before.requires c.if1.false
+known : (c : tie.Else-refusal-ne0) → let a = c.args in (sound_slots a.slots ≡ true) × (a.n ≤ 16) × (a.u.table ≤ 8)
+known c = c.requires c.if-refusal-ne0.false
 
-returns : tie.Need-returns
-returns c = (settled-refused _ _ _ c.if1.true, settled-refused _ _ _ c.if1.true)
+returns : tie.Need-returns-then-refusal-ne0
+returns c = (settled-refused _ _ _ c.if-refusal-ne0.true, settled-refused _ _ _ c.if-refusal-ne0.true)
 
-cast-i : tie.Need-overflow-cast-i
+cast-i : tie.Need-overflow_cast-i
 cast-i c = search rules
 
-areas-requires : tie.Need-areas-requires
+areas-requires : tie.Need-areas-start-requires
 areas-requires c κs = (known c.before).2
 
-dropped-by-requires : tie.Need-dropped-by-requires
-dropped-by-requires c κs = let K = known c.before.before.before in (K.0, K.1)
+dropped-by-requires : tie.Need-dropped_by-gone-requires
+dropped-by-requires c κs = let K = known c.before.before in (K.0, K.1)
 
-change-requires : tie.Need-change-requires
+change-requires : tie.Need-change-done-requires
 change-requires c κs = search rules
 
-drop-requires : tie.Need-drop-requires
+drop-requires : tie.Need-drop-left-requires
 drop-requires c κs = search rules
 
-same_length : tie.Need-same-length
+same_length : tie.Need-shape_of-cells
 same_length c = search rules
 
-returns-2 : tie.Need-returns-2
+returns-2 : tie.Need-returns
 returns-2 c =
-    let z = c.before.before.before.before.before.before.before.before.if1.false in
-    let es = c.before.before.before.before.before.before.areas.ensures in
-    let done = c.before.before.change.ensures in
-    (effect-done _ _ _ _ _ _ _ _ _ _ z _ es _ _ _ c.before.before.before.before.dropped-by.ensures c.drop.ensures done.0, cells-done _ _ _ _ _ z _ _ es _ done.1)
+    let z = c.if-refusal-ne0.false in
+    let es = c.areas-start.ensures in
+    let done = c.change-done.ensures in
+    (effect-done _ _ _ _ _ _ _ _ _ _ z _ es _ _ _ c.dropped_by-gone.ensures c.drop-left.ensures done.0, cells-done _ _ _ _ _ z _ _ es _ done.1)
 
-pub take-effect-spec : {M : Type 1} → statement M
-take-effect-spec =
+pub take_effect_spec : {M : Type 1} → statement M
+take_effect_spec =
     tie.close
     (tie.spec
     returns

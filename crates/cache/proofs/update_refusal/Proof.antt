@@ -4,24 +4,24 @@ use borrow.Author.Tests.{le-leb, lt-leb, eq-eqb, ne_eqb}
 use Rattle.cache.proofs.update_refusal.Statement.{statement}
 use Rattle.cache.proofs.update_refusal.Tie as tie
 
-returns : tie.Need-returns
+returns : tie.Need-returns-then-unfit
 returns c = search rules
 
-returns-2 : tie.Need-returns-2
-returns-2 c = let a = c.before.before.args in rw (c.before.if1.false, le-leb a.count a.update c.if2.true)
+returns-2 : tie.Need-returns-then-count-update
+returns-2 c = let a = c.args in rw (c.if-unfit.false, le-leb a.count a.update c.if-count-update.true)
 
-returns-3 : tie.Need-returns-3
-returns-3 c = let a = c.before.before.before.args in rw (c.before.before.if1.false, lt-leb a.count a.update c.before.if2.false, ne_eqb a.values a.parameters c.if3.true)
+returns-3 : tie.Need-returns-then-values-parameters
+returns-3 c = let a = c.args in rw (c.if-unfit.false, lt-leb a.count a.update c.if-count-update.false, ne_eqb a.values a.parameters c.if-values-parameters.true)
 
-returns-4 : tie.Need-returns-4
+returns-4 : tie.Need-returns-then-full
 returns-4 c =
-    let a = c.before.before.before.before.args in
-    rw (c.before.before.before.if1.false, lt-leb a.count a.update c.before.before.if2.false, eq-eqb a.values a.parameters c.before.if3.false, c.if4.true)
+    let a = c.args in
+    rw (c.if-unfit.false, lt-leb a.count a.update c.if-count-update.false, eq-eqb a.values a.parameters c.if-values-parameters.false, c.if-full.true)
 
-returns-5 : tie.Need-returns-5
+returns-5 : tie.Need-returns
 returns-5 c =
-    let a = c.before.before.before.before.args in
-    rw (c.before.before.before.if1.false, lt-leb a.count a.update c.before.before.if2.false, eq-eqb a.values a.parameters c.before.if3.false, c.if4.false)
+    let a = c.args in
+    rw (c.if-unfit.false, lt-leb a.count a.update c.if-count-update.false, eq-eqb a.values a.parameters c.if-values-parameters.false, c.if-full.false)
 
-pub update-refusal-spec : {M : Type 1} → statement M
-update-refusal-spec = tie.close (tie.spec returns returns-2 returns-3 returns-4 returns-5)
+pub update_refusal_spec : {M : Type 1} → statement M
+update_refusal_spec = tie.close (tie.spec returns returns-2 returns-3 returns-4 returns-5)

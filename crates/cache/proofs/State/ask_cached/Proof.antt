@@ -14,54 +14,54 @@ known c =
     let long : length c.args.self.slots.order ≡ 64 = search rules in
     held-known c.args.self (sound-is c.args.self c.requires.0) long c.args.p c.requires.1
 
-element-copy-out-x : tie.Need-element-copy-out-x
+element-copy-out-x : tie.Need-bounds-slots-p
 element-copy-out-x c = (known c.before.before.before.before).place
 
-cast-x : tie.Need-overflow-cast-x
+cast-x : tie.Need-overflow_cast-x-2
 cast-x c = search rules
 
-mul-length : tie.Need-overflow-mul-length
+mul-length : tie.Need-offset_bounds-lengths-x
 mul-length c = omega (arith, (known c.before.before.before.before.before).slot)
 
-array-read-length : tie.Need-array-read-length
+array-read-length : tie.Need-bounds-lengths-x
 array-read-length c = (known c.before.before.before.before.before).slot
 
-cast-length : tie.Need-overflow-cast-length
+cast-length : tie.Need-overflow_cast-length
 cast-length c = search rules
 
-not-answered-requires : tie.Need-not-answered-requires
+not-answered-requires : tie.Need-not_answered-requires
 not-answered-requires c κs = search rules
 
-returns : tie.Need-returns
+returns : tie.Need-returns-then-answer-length
 returns c key =
-    let a = c.before.before.before.before.before.before.before.args in
-    cached-short a.self a.memory.now a.answer.now a.p _ c.before.if1.true (refused-is a.self key 13 _ c.not-answered.ensures)
+    let a = c.args in
+    cached-short a.self a.memory.now a.answer.now a.p _ c.if-answer-length.true (refused-is a.self key 13 _ c.not_answered.ensures)
 
-cast-copy : tie.Need-overflow-cast-copy
+cast-copy : tie.Need-overflow_cast-self
 cast-copy c = search rules
 
-mul-copy : tie.Need-overflow-mul-copy
+mul-copy : tie.Need-overflow_mul-x
 mul-copy c = omega (arith, (known c.before.before.before.before.before.before.before.before).start)
 
 copy-requires : tie.Need-copy-requires
-copy-requires c κs = (omega (arith, c.before.before.if1.false), omega (arith, (known c.before.before.before.before.before.before.before.before).ends, c.before.before.before.before.before.before.before.before.requires.2))
+copy-requires c κs = (omega (arith, c.if-answer-length.false), omega (arith, (known c.before.before.before.before.before.before.before.before).ends, c.requires.2))
 
-move-to-front-requires : tie.Need-move-to-front-requires
+move-to-front-requires : tie.Need-move_to_front-moved-requires
 move-to-front-requires c κs = search rules
 
-nowhere-requires : tie.Need-nowhere-requires
+nowhere-requires : tie.Need-nowhere-place-requires
 nowhere-requires c κs = search rules
 
-same_length : tie.Need-same-length
+same_length : tie.Need-shape_of-answer
 same_length c = search rules
 
-returns-2 : tie.Need-returns-2
+returns-2 : tie.Need-returns
 returns-2 c key =
-    let a = c.before.before.before.before.before.before.before.before.before.before.before.before.before.args in
-    rw c.nowhere.ensures (cached-done a.self a.memory.now a.answer.now a.p _ _ c.before.before.before.before.before.before.before.if1.false c.before.move-to-front.ensures c.before.before.before.before.copy.ensures)
+    let a = c.args in
+    rw c.nowhere-place.ensures (cached-done a.self a.memory.now a.answer.now a.p _ _ c.if-answer-length.false c.move_to_front-moved.ensures c.copy.ensures)
 
-pub ask-cached-spec : {M : Type 1} → statement M
-ask-cached-spec =
+pub ask_cached_spec : {M : Type 1} → statement M
+ask_cached_spec =
     tie.close
     (tie.spec
     element-copy-out-x

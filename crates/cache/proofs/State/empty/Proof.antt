@@ -4,7 +4,7 @@ use Rattle.cache.specs.Calls.{empty_state}
 use Rattle.cache.proofs.State.empty.Statement.{statement}
 use Rattle.cache.proofs.State.empty.Tie as tie
 
-none-requires : tie.Need-none-requires
+none-requires : tie.Need-none-none-requires
 none-requires c κs = search rules
 
 open-requires : tie.Need-open-requires
@@ -12,7 +12,7 @@ open-requires c κs = search rules
 
 returns : tie.Need-returns
 unfolding empty_state
-returns c = rw (c.before.before.before.before.none.ensures, c.«open».ensures)
+returns c = rw (c.none-none.ensures, c.«open».ensures)
 
-pub empty-spec : {M : Type 1} → statement M
-empty-spec = tie.close (tie.spec none-requires open-requires returns)
+pub empty_spec : {M : Type 1} → statement M
+empty_spec = tie.close (tie.spec none-requires open-requires returns)

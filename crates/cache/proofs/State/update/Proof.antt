@@ -9,74 +9,74 @@ use Rattle.cache.proofs.State.update.Statement.{statement}
 use Rattle.cache.proofs.State.update.Tie as tie
 
 -- the lengths of the arrays
-long : (c : tie.Start) → Long c.args.t1
-long c = record { tables = c.well-formed.0.1.1.0.1.0.1; updates = simp length-map at c.well-formed.0.1.1.1.1.0.1.0.1 }
+long : (c : tie.Start) → Long c.args.self
+long c = record { tables = c.well_formed.0.1.1.0.1.0.1; updates = c.well_formed.0.1.1.1.1.0.1.0.1 }
 
-order : (c : tie.Start) → length c.args.t1.slots.order ≡ 64
+order : (c : tie.Start) → length c.args.self.slots.order ≡ 64
 order c = search rules
 
-number : (c : tie.After-update-refusal) →
-    let a = c.before.before.before.before.before.before.before.before.args in
-    c.update-refusal.result ≡ update_refusal a.t1 (length a.cells.now) (length a.memory.now) a.update (length a.values.now)
+number : (c : tie.After-update_refusal-refusal) →
+    let a = c.args in
+    c.update_refusal-refusal.result ≡ update_refusal a.self (length a.cells.now) (length a.memory.now) a.update (length a.values.now)
 number c =
     let s = c.before.before.before.before.before.before.before.before in
-    let bad = unfit-is s.args.t1 _ _ _ _ c.before.before.before.before.before.before.is-sound.ensures c.before.before.before.before.before.is-unfit.ensures in
-    update-told s.args.t1 (long s) _ _ _ (length s.args.cells.now) (length s.args.memory.now) _ _ _ bad c.before.is-full.ensures _ c.update-refusal.ensures
+    let bad = unfit-is s.args.self _ _ _ _ c.is_sound-sound.ensures c.is_unfit-unfit.ensures in
+    update-told s.args.self (long s) _ _ _ (length s.args.cells.now) (length s.args.memory.now) _ _ _ bad c.is_full-full.ensures _ c.update_refusal-refusal.ensures
 
-is-sound-requires : tie.Need-is-sound-requires
+is-sound-requires : tie.Need-is_sound-sound-requires
 is-sound-requires c κs = search rules
 
-is-unfit-requires : tie.Need-is-unfit-requires
+is-unfit-requires : tie.Need-is_unfit-unfit-requires
 is-unfit-requires c κs = search rules
 
-mul-u : tie.Need-overflow-mul-u
+mul-u : tie.Need-offset_bounds-self-update
 mul-u c = search rules
 
-element-copy-out-u : tie.Need-element-copy-out-u
+element-copy-out-u : tie.Need-bounds-self-update
 element-copy-out-u c = search rules
 
-cast-i : tie.Need-overflow-cast-i
+cast-i : tie.Need-overflow_cast-i
 cast-i c = search rules
 
-mul-t : tie.Need-overflow-mul-t
+mul-t : tie.Need-offset_bounds-self-i
 mul-t c = search rules
 
-element-copy-out-t : tie.Need-element-copy-out-t
+element-copy-out-t : tie.Need-bounds-self-i
 element-copy-out-t c = search rules
 
-is-full-requires : tie.Need-is-full-requires
+is-full-requires : tie.Need-is_full-full-requires
 is-full-requires c κs = search rules
 
-update-refusal-requires : tie.Need-update-refusal-requires
+update-refusal-requires : tie.Need-update_refusal-refusal-requires
 update-refusal-requires c κs = search rules
 
-take-effect-requires : tie.Need-take-effect-requires
+take-effect-requires : tie.Need-take_effect-effect-requires
 take-effect-requires c κs = let s = c.before.before.before.before.before.before.before.before.before.before.before.before.before in effective _ (long s) (order s) s.args.cells.now _ _ s.args.values.now _ _ (number c.before.before.before.before.before)
 
-mul-t-2 : tie.Need-overflow-mul-t-2
+mul-t-2 : tie.Need-offset_bounds-self-i-2
 mul-t-2 c = search rules
 
-element-set-from-t : tie.Need-element-set-from-t
+element-set-from-t : tie.Need-bounds-self-i-2
 element-set-from-t c = search rules
 
-sub-t37 : tie.Need-overflow-sub-t37
+sub-t37 : tie.Need-overflow_sub-result
 sub-t37 c =
     let s = c.before.before.before.before.before.before.before.before.before.before.before.before.before.before.before.before.before.before in
-    let done = c.before.before.before.before.take-effect.ensures in
+    let done = c.take_effect-effect.ensures in
     fewer _ (long s) (order s) _ _ _ _ _ _ (number c.before.before.before.before.before.before.before.before.before.before) _ _ _ done.0 done.1
 
-same_length : tie.Need-same-length
+same_length : tie.Need-shape_of-cells
 same_length c = search rules
 
 returns : tie.Need-returns
 unfolding with_change
 returns c =
     let s = c.before.before.before.before.before.before.before.before.before.before.before.before.before.before.before.before.before.before in
-    let done = c.before.before.before.before.take-effect.ensures in
+    let done = c.take_effect-effect.ensures in
     update-is _ (long s) (order s) _ _ _ _ _ _ (number c.before.before.before.before.before.before.before.before.before.before) _ _ _ done.0 done.1
 
-pub update-spec : {M : Type 1} → statement M
-update-spec =
+pub update_spec : {M : Type 1} → statement M
+update_spec =
     tie.close
     (tie.spec
     is-sound-requires

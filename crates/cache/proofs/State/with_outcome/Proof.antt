@@ -5,30 +5,30 @@ use Rattle.cache.specs.Calls.{with_cache}
 use Rattle.cache.proofs.State.with_outcome.Statement.{statement}
 use Rattle.cache.proofs.State.with_outcome.Tie as tie
 
-cast-x : tie.Need-overflow-cast-x
+cast-x : tie.Need-overflow_cast-x
 cast-x c = search rules
 
-mul-key : tie.Need-overflow-mul-key
+mul-key : tie.Need-offset_bounds-self-x
 mul-key c = search rules
 
-element-set-from-key : tie.Need-element-set-from-key
+element-set-from-key : tie.Need-bounds-self-x
 element-set-from-key c = search rules
 
-mul-self : tie.Need-overflow-mul-self
+mul-self : tie.Need-offset_bounds-self-x-then-x-lt-SLOTS
 mul-self c = search rules
 
-element-write-self : tie.Need-element-write-self
+element-write-self : tie.Need-bounds-self-x-then-x-lt-SLOTS
 element-write-self c = search rules
 
-returns : tie.Need-returns
+returns : tie.Need-returns-then-x-lt-SLOTS
 unfolding with_cache
-returns c = rw (lt-ltb c.before.before.before.before.args.outcome.place.slot 64 c.if1.true)
+returns c = rw (lt-ltb c.args.outcome.place.slot 64 c.if-x-lt-SLOTS.true)
 
-returns-2 : tie.Need-returns-2
+returns-2 : tie.Need-returns-else-x-lt-SLOTS
 unfolding with_cache
-returns-2 c = rw (le-ltb c.before.before.before.before.args.outcome.place.slot 64 c.if1.false)
+returns-2 c = rw (le-ltb c.args.outcome.place.slot 64 c.if-x-lt-SLOTS.false)
 
-pub with-outcome-spec : {M : Type 1} → statement M
-with-outcome-spec =
+pub with_outcome_spec : {M : Type 1} → statement M
+with_outcome_spec =
     tie.close
     (tie.spec cast-x mul-key element-set-from-key mul-self element-write-self returns returns-2)

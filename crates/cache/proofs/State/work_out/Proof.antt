@@ -17,10 +17,10 @@ sound : (c : tie.Start) → Sound c.args.self
 sound c = sound-is c.args.self c.requires.0
 
 tables : (c : tie.Start) → length c.args.self.tables ≡ 8
-tables c = c.well-formed.0.1.1.0.1.0.1
+tables c = c.well_formed.0.1.1.0.1.0.1
 
 queries : (c : tie.Start) → length c.args.self.queries ≡ 16
-queries c = c.well-formed.0.1.1.1.0.1.0.1
+queries c = c.well_formed.0.1.1.1.0.1.0.1
 
 few : (c : tie.Start) → c.args.query < 16
 few c = omega (arith, (sound c).few-queries, c.requires.1)
@@ -42,79 +42,79 @@ there c = omega (arith, used c no_query, (sound c).few-tables, tables c)
 long : (c : tie.Start) → c.args.self.table_count ≤ length c.args.self.tables
 long c = omega (arith, (sound c).few-tables, tables c)
 
-mul-q : tie.Need-overflow-mul-q
+mul-q : tie.Need-offset_bounds-queries-query
 mul-q c = omega (arith, few c.before.before.before)
 
-array-copy-out-q : tie.Need-array-copy-out-q
+array-copy-out-q : tie.Need-bounds-queries-query
 array-copy-out-q c = few c.before.before.before
 
-cast_t : tie.Need-overflow-cast-t
+cast_t : tie.Need-overflow_cast-t
 cast_t c = search rules
 
-array-copy-out-t : tie.Need-array-copy-out-t
+array-copy-out-t : tie.Need-bounds-tables-q
 array-copy-out-t c = let s = c.before.before.before.before.before in query-table s.args.self (sound s) (tables s) (queries s) s.args.query _ s.requires.1
 
-mul-t : tie.Need-overflow-mul-t
+mul-t : tie.Need-offset_bounds-tables-q
 mul-t c = omega (arith, array-copy-out-t c)
 
-cast-areas : tie.Need-overflow-cast-areas
+cast-areas : tie.Need-overflow_cast-q
 cast-areas c = search rules
 
-areas-requires : tie.Need-areas-requires
+areas-requires : tie.Need-areas-start-requires
 areas-requires c κs = omega (arith, array-copy-out-t c.before.before)
 
 select-requires : tie.Need-select-requires
 select-requires c κs = search rules
 
-same_length : tie.Need-same-length
+same_length : tie.Need-shape_of-answer-then-q-eq0
 same_length c = search rules
 
-returns : tie.Need-returns
+returns : tie.Need-returns-then-q-eq0
 returns c =
     let s = c.before.before.before.before.before.before.before.before.before.before.before.before.before.before in
     let a = s.args in
-    let r = c.before.before.select in
-    one-works a.self a.cells.now a.query a.values.now a.answer.now _ _ (inside s) c.before.before.before.before.if1.true (there s)
-    (rows-512 a.self (sound s) (long s) (query_at a.self a.query).table (used s no_query) a.cells.now) _ c.before.before.before.before.before.before.areas.ensures r.result _
+    let r = c.select in
+    one-works a.self a.cells.now a.query a.values.now a.answer.now _ _ (inside s) c.if-q-eq0.true (there s)
+    (rows-512 a.self (sound s) (long s) (query_at a.self a.query).table (used s no_query) a.cells.now) _ c.areas-start.ensures r.result _
     r.ensures.0 r.ensures.1
 
-sub-i : tie.Need-overflow-sub-i
+sub-i : tie.Need-overflow_sub-i
 sub-i c = search rules
 
-cast-i : tie.Need-overflow-cast-i
+cast-i : tie.Need-overflow_cast-i
 cast-i c = search rules
 
-array-copy-out-u : tie.Need-array-copy-out-u
+array-copy-out-u : tie.Need-bounds-tables-i
 array-copy-out-u c =
     let s = c.before.before.before.before.before.before.before.before.before.before.before in
-    second-table s.args.self (sound s) (tables s) (queries s) s.args.query _ s.requires.1 c.before.if1.false
+    second-table s.args.self (sound s) (tables s) (queries s) s.args.query _ s.requires.1 c.if-q-eq0.false
 
-mul-u : tie.Need-overflow-mul-u
+mul-u : tie.Need-offset_bounds-tables-i
 mul-u c = omega (arith, array-copy-out-u c)
 
-areas-requires-2 : tie.Need-areas-requires-2
+areas-requires-2 : tie.Need-areas-beside-requires
 areas-requires-2 c κs = omega (arith, array-copy-out-u c.before)
 
-select-pair-requires : tie.Need-select-pair-requires
+select-pair-requires : tie.Need-select_pair-requires
 select-pair-requires c κs = search rules
 
-same-length-2 : tie.Need-same-length-2
+same-length-2 : tie.Need-shape_of-answer
 same-length-2 c = search rules
 
-returns-2 : tie.Need-returns-2
+returns-2 : tie.Need-returns
 returns-2 c =
     let s = c.before.before.before.before.before.before.before.before.before.before.before.before.before.before.before.before.before in
     let a = s.args in
-    let r = c.before.before.select-pair in
-    let some = c.before.before.before.before.before.before.before.if1.false in
+    let r = c.select_pair in
+    let some = c.if-q-eq0.false in
     let k = used-second s _ some in
     pair-works a.self a.cells.now a.query a.values.now a.answer.now _ _ (inside s) some (there s) (omega (arith, k, long s))
     (paired_same a.self (sound s) (long s) (query_at a.self a.query).table (used s no_query) a.cells.now)
-    (paired_same a.self (sound s) (long s) _ k a.cells.now) _ _ c.before.before.before.before.before.before.before.before.before.areas.ensures c.before.before.before.before.areas2.ensures r.result _
+    (paired_same a.self (sound s) (long s) _ k a.cells.now) _ _ c.areas-start.ensures c.areas-beside.ensures r.result _
     r.ensures.0 r.ensures.1
 
-pub work-out-spec : {M : Type 1} → statement M
-work-out-spec =
+pub work_out_spec : {M : Type 1} → statement M
+work_out_spec =
     tie.close
     (tie.spec
     mul-q

@@ -8,38 +8,38 @@ use Rattle.cache.proofs.Opening.{Cleared, cleared-start, cleared_more, cleared-e
 use Rattle.cache.proofs.lent.clear_cells.Statement.{statement}
 use Rattle.cache.proofs.lent.clear_cells.Tie as tie
 
-abbrev invariant-loop : tie.invariant-loop
+abbrev invariant-loop : tie.invariant-loop-i
 invariant-loop cells₀ i₀ cells i = Cleared (pos 0) cells₀ cells i
 
-abbrev decreases-loop : tie.decreases-loop
+abbrev decreases-loop : tie.decreases-loop-i
 decreases-loop cells₀ i₀ cells i = length cells₀ - i
 
-loop-holds : tie.Need-loop-init invariant-loop decreases-loop
+loop-holds : tie.Need-loop-i-init invariant-loop decreases-loop
 loop-holds c = cleared-start _ _
 
-mul-cells : tie.Need-overflow-mul-cells invariant-loop decreases-loop
+mul-cells : tie.Need-offset_bounds-cells-i invariant-loop decreases-loop
 mul-cells c = search rules
 
-slice-set-of-cells : tie.Need-slice-set-of-cells invariant-loop decreases-loop
+slice-set-of-cells : tie.Need-slice_set_of-cells invariant-loop decreases-loop
 slice-set-of-cells c = search rules
 
-add-i : tie.Need-overflow-add-i invariant-loop decreases-loop
+add-i : tie.Need-overflow_add-i invariant-loop decreases-loop
 add-i c = search rules
 
-loop-less : tie.Need-loop-smaller invariant-loop decreases-loop
-loop-less c = omega (arith, c.before.loop.invariant.long, c.loop-test.true)
+loop-less : tie.Need-loop-i-smaller invariant-loop decreases-loop
+loop-less c = omega (arith, c.loop-i.invariant.long, c.loop-i-test.true)
 
-loop-again : tie.Need-loop-preserved invariant-loop decreases-loop
-loop-again c = cleared_more _ _ _ _ c.loop-test.true c.before.loop.invariant
+loop-again : tie.Need-loop-i-preserved invariant-loop decreases-loop
+loop-again c = cleared_more _ _ _ _ c.loop-i-test.true c.loop-i.invariant
 
-same_length : tie.Need-same-length invariant-loop decreases-loop
-same_length c = c.before.loop.invariant.long
+same_length : tie.Need-shape_of-cells invariant-loop decreases-loop
+same_length c = c.loop-i.invariant.long
 
 returns : tie.Need-returns invariant-loop decreases-loop
-returns c = cleared-end _ _ _ _ c.loop-test.false c.before.loop.invariant
+returns c = cleared-end _ _ _ _ c.loop-i-test.false c.loop-i.invariant
 
-pub clear-cells-spec : {M : Type 1} → statement M
-clear-cells-spec =
+pub clear_cells_spec : {M : Type 1} → statement M
+clear_cells_spec =
     tie.close
     (tie.spec
     invariant-loop

@@ -9,14 +9,14 @@ use Rattle.cache.proofs.matching.judged.Tie as tie
 abbrev many : Bool → Bool → ℕ
 many free pushed = cond free 0 (cond pushed 2 1)
 
-returns : tie.Need-returns
-returns c = rw (eq-eqb c.before.args.held 0 c.if1.true)
+returns : tie.Need-returns-then-held-eq0
+returns c = rw (eq-eqb c.args.held 0 c.if-held-eq0.true)
 
-returns-2 : tie.Need-returns-2
-returns-2 c = sym (ap₂ many (ne_eqb c.before.before.args.held 0 c.before.if1.false) c.if2.true)
+returns-2 : tie.Need-returns-then-ring-form
+returns-2 c = sym (ap₂ many (ne_eqb c.args.held 0 c.if-held-eq0.false) c.if-ring-form.true)
 
-returns-3 : tie.Need-returns-3
-returns-3 c = sym (ap₂ many (ne_eqb c.before.before.args.held 0 c.before.if1.false) c.if2.false)
+returns-3 : tie.Need-returns
+returns-3 c = sym (ap₂ many (ne_eqb c.args.held 0 c.if-held-eq0.false) c.if-ring-form.false)
 
-pub judged-spec : {M : Type 1} → statement M
-judged-spec = tie.close (tie.spec returns returns-2 returns-3)
+pub judged_spec : {M : Type 1} → statement M
+judged_spec = tie.close (tie.spec returns returns-2 returns-3)

@@ -13,107 +13,107 @@ use Rattle.cache.proofs.Marking.{Held, held-known, slot-below, agrees_at_lem, Ma
 use Rattle.cache.proofs.matching.mark_query.Statement.{statement}
 use Rattle.cache.proofs.matching.mark_query.Tie as tie
 
-abbrev invariant-loop2 : tie.invariant-loop2
+abbrev invariant-loop2 : tie.invariant-loop-j
 invariant-loop2 q query update values keys marks₀ order held total i f j₀ marks j = Held keys order held × Marking (agrees_at keys q f) held order marks₀ j marks
 
-abbrev decreases-loop2 : tie.decreases-loop2
+abbrev decreases-loop2 : tie.decreases-loop-j
 decreases-loop2 q query update values keys marks₀ order held total i f j₀ marks j = held - j
 
-abbrev invariant-loop : tie.invariant-loop
+abbrev invariant-loop : tie.invariant-loop-i
 invariant-loop q query update values keys marks₀ order held total i₀ marks i = Held keys order held × (total ≡ clause_total query update) × Clauses keys held order q query update values marks₀ i marks
 
-abbrev decreases-loop : tie.decreases-loop
+abbrev decreases-loop : tie.decreases-loop-i
 decreases-loop q query update values keys marks₀ order held total i₀ marks i = total - i
 
 -- the test, read
-agrees : (c : tie.Joined1 invariant-loop2 decreases-loop2 invariant-loop decreases-loop) (b : Bool) →
-    let a = c.before.before.before.before.before.before.before.before.before.before.before.before.args in
-    c.before.agrees-key.result ≡ b → agrees_at a.t2 a.q c.before.before.before.before.before.filled.result (get_or a.slots.order c.before.before.before.before.loop2.j 0) ≡ b
+agrees : (c : tie.Joined-agrees_key invariant-loop2 decreases-loop2 invariant-loop decreases-loop) (b : Bool) →
+    let a = c.args in
+    c.agrees_key.result ≡ b → agrees_at a.keys a.q c.filled-f.result (get_or a.slots.order c.loop-j.j 0) ≡ b
 agrees c b e =
-    let l = c.before.before.before.before.loop2 in
-    sym (agrees_at_lem _ _ _ l.invariant.0 l.j c.before.before.before.loop2-test.true _ _ _) ∙ sym c.before.agrees-key.ensures ∙ e
+    let l = c.loop-j in
+    sym (agrees_at_lem _ _ _ l.invariant.0 l.j c.loop-j-test.true _ _ _) ∙ sym c.agrees_key.ensures ∙ e
 
-cast-held : tie.Need-overflow-cast-held invariant-loop2 decreases-loop2 invariant-loop decreases-loop
+cast-held : tie.Need-overflow_cast-held invariant-loop2 decreases-loop2 invariant-loop decreases-loop
 cast-held c = search rules
 
-clause-total-requires : tie.Need-clause-total-requires invariant-loop2 decreases-loop2 invariant-loop decreases-loop
+clause-total-requires : tie.Need-clause_total-total-requires invariant-loop2 decreases-loop2 invariant-loop decreases-loop
 clause-total-requires c κs = search rules
 
-loop-holds : tie.Need-loop-init invariant-loop2 decreases-loop2 invariant-loop decreases-loop
+loop-holds : tie.Need-loop-i-init invariant-loop2 decreases-loop2 invariant-loop decreases-loop
 loop-holds c =
-    let g : length c.before.before.before.args.gone ≡ 64 = search rules in
-    let k : length c.before.before.before.args.t2 ≡ 64 = search rules in
-    let o : length c.before.before.before.args.slots.order ≡ 64 = search rules in
-    (held-known _ _ c.before.before.before.requires k o, c.clause-total.ensures, clauses-start _ _ _ _ _ _ _ _ g)
+    let g : length c.args.gone ≡ 64 = search rules in
+    let k : length c.args.keys ≡ 64 = search rules in
+    let o : length c.args.slots.order ≡ 64 = search rules in
+    (held-known _ _ c.requires k o, c.clause_total-total.ensures, clauses-start _ _ _ _ _ _ _ _ g)
 
-clause-pattern-requires : tie.Need-clause-pattern-requires invariant-loop2 decreases-loop2 invariant-loop decreases-loop
+clause-pattern-requires : tie.Need-clause_pattern-p-requires invariant-loop2 decreases-loop2 invariant-loop decreases-loop
 clause-pattern-requires c κs = search rules
 
-filled-requires : tie.Need-filled-requires invariant-loop2 decreases-loop2 invariant-loop decreases-loop
+filled-requires : tie.Need-filled-f-requires invariant-loop2 decreases-loop2 invariant-loop decreases-loop
 filled-requires c κs = search rules
 
-loop2-holds : tie.Need-loop2-init invariant-loop2 decreases-loop2 invariant-loop decreases-loop
-loop2-holds c = let l = c.before.before.before.loop in (l.invariant.0, marking-start _ _ _ _ l.invariant.2.long)
+loop2-holds : tie.Need-loop-j-init invariant-loop2 decreases-loop2 invariant-loop decreases-loop
+loop2-holds c = let l = c.loop-i in (l.invariant.0, marking-start _ _ _ _ l.invariant.2.long)
 
-array-read-x : tie.Need-array-read-x invariant-loop2 decreases-loop2 invariant-loop decreases-loop
-array-read-x c = omega (arith, c.before.loop2.invariant.0.few, c.before.loop2.invariant.0.order-64)
+array-read-x : tie.Need-bounds-order-j invariant-loop2 decreases-loop2 invariant-loop decreases-loop
+array-read-x c = omega (arith, c.loop-j.invariant.0.few, c.loop-j.invariant.0.order-64)
 
-cast-x : tie.Need-overflow-cast-x invariant-loop2 decreases-loop2 invariant-loop decreases-loop
-cast-x c = omega (arith, slot-below _ _ _ c.before.loop2.invariant.0 _ c.loop2-test.true)
+cast-x : tie.Need-overflow_cast-x invariant-loop2 decreases-loop2 invariant-loop decreases-loop
+cast-x c = omega (arith, slot-below _ _ _ c.loop-j.invariant.0 _ c.loop-j-test.true)
 
-mul-k : tie.Need-overflow-mul-k invariant-loop2 decreases-loop2 invariant-loop decreases-loop
-mul-k c = omega (arith, slot-below _ _ _ c.before.loop2.invariant.0 _ c.loop2-test.true)
+mul-k : tie.Need-offset_bounds-keys-x invariant-loop2 decreases-loop2 invariant-loop decreases-loop
+mul-k c = omega (arith, slot-below _ _ _ c.loop-j.invariant.0 _ c.loop-j-test.true)
 
-array-copy-out-k : tie.Need-array-copy-out-k invariant-loop2 decreases-loop2 invariant-loop decreases-loop
-array-copy-out-k c = slot-below _ _ _ c.before.loop2.invariant.0 _ c.loop2-test.true
+array-copy-out-k : tie.Need-bounds-keys-x invariant-loop2 decreases-loop2 invariant-loop decreases-loop
+array-copy-out-k c = slot-below _ _ _ c.loop-j.invariant.0 _ c.loop-j-test.true
 
-agrees-key-requires : tie.Need-agrees-key-requires invariant-loop2 decreases-loop2 invariant-loop decreases-loop
+agrees-key-requires : tie.Need-agrees_key-requires invariant-loop2 decreases-loop2 invariant-loop decreases-loop
 agrees-key-requires c κs = search rules
 
-array-write-marks : tie.Need-array-write-marks invariant-loop2 decreases-loop2 invariant-loop decreases-loop
+array-write-marks : tie.Need-bounds-marks-x invariant-loop2 decreases-loop2 invariant-loop decreases-loop
 array-write-marks c =
-    let l = c.before.before.before.before.loop2 in
-    omega (arith, l.invariant.1.long, slot-below _ _ _ l.invariant.0 _ c.before.before.before.loop2-test.true)
+    let l = c.loop-j in
+    omega (arith, l.invariant.1.long, slot-below _ _ _ l.invariant.0 _ c.loop-j-test.true)
 
-add-j : tie.Need-overflow-add-j invariant-loop2 decreases-loop2 invariant-loop decreases-loop
+add-j : tie.Need-overflow_add-j invariant-loop2 decreases-loop2 invariant-loop decreases-loop
 add-j c = search rules
 
-loop2-less : tie.Need-loop2-smaller invariant-loop2 decreases-loop2 invariant-loop decreases-loop
+loop2-less : tie.Need-loop-j-smaller invariant-loop2 decreases-loop2 invariant-loop decreases-loop
 loop2-less c = search rules
 
-loop2-again : tie.Need-loop2-preserved invariant-loop2 decreases-loop2 invariant-loop decreases-loop
+loop2-again : tie.Need-loop-j-preserved invariant-loop2 decreases-loop2 invariant-loop decreases-loop
 loop2-again c =
-    let l = c.before.before.before.before.loop2 in
-    let t = c.before.before.before.loop2-test.true in
+    let l = c.loop-j in
+    let t = c.loop-j-test.true in
     let H = l.invariant.0 in
     let e = agrees c in (
       H,
       ⊎_elim
-          (λ w. rw w.1 (marking-yes _ _ _ _ _ _ (omega (arith, H.few, H.order-64)) t l.invariant.1 (e true w.0.taken)))
-          (λ w. rw w.1 (marking-no _ _ _ _ _ _ (omega (arith, H.few, H.order-64)) t l.invariant.1 (e false w.0.left)))
-          c.if1.branch,
+          (λ w. rw w.marks-is (marking-yes _ _ _ _ _ _ (omega (arith, H.few, H.order-64)) t l.invariant.1 (e true w.if-agrees_key.true)))
+          (λ w. rw w.marks-is (marking-no _ _ _ _ _ _ (omega (arith, H.few, H.order-64)) t l.invariant.1 (e false w.if-agrees_key.false)))
+          c.if-agrees_key.branch-raw,
     )
 
-add-i : tie.Need-overflow-add-i invariant-loop2 decreases-loop2 invariant-loop decreases-loop
+add-i : tie.Need-overflow_add-i invariant-loop2 decreases-loop2 invariant-loop decreases-loop
 add-i c = search rules
 
-loop-less : tie.Need-loop-smaller invariant-loop2 decreases-loop2 invariant-loop decreases-loop
+loop-less : tie.Need-loop-i-smaller invariant-loop2 decreases-loop2 invariant-loop decreases-loop
 loop-less c = search rules
 
-loop-again : tie.Need-loop-preserved invariant-loop2 decreases-loop2 invariant-loop decreases-loop
+loop-again : tie.Need-loop-i-preserved invariant-loop2 decreases-loop2 invariant-loop decreases-loop
 loop-again c =
-    let l = c.before.before.before.before.before.loop in
-    let f = c.before.before.filled.ensures ∙ ap (filled_of _) c.before.before.before.clause-pattern.ensures in (
+    let l = c.loop-i in
+    let f = c.filled-f.ensures ∙ ap (filled_of _) c.clause_pattern-p.ensures in (
       l.invariant.0,
       l.invariant.1,
-      clauses-more _ _ _ _ _ _ _ _ _ _ _ _ _ (omega (arith, l.invariant.1)) f l.invariant.2 c.loop2-test.false c.before.loop2.invariant.1,
+      clauses-more _ _ _ _ _ _ _ _ _ _ _ _ _ (omega (arith, l.invariant.1)) f l.invariant.2 c.loop-j-test.false c.loop-j.invariant.1,
     )
 
 returns : tie.Need-returns invariant-loop2 decreases-loop2 invariant-loop decreases-loop
-returns c = let l = c.before.loop in clauses-end _ _ _ _ _ _ _ _ _ _ (omega (arith, l.invariant.1)) l.invariant.2
+returns c = let l = c.loop-i in clauses-end _ _ _ _ _ _ _ _ _ _ (omega (arith, l.invariant.1)) l.invariant.2
 
-pub mark-query-spec : {M : Type 1} → statement M
-mark-query-spec =
+pub mark_query_spec : {M : Type 1} → statement M
+mark_query_spec =
     tie.close
     (tie.spec
     invariant-loop2

@@ -10,62 +10,62 @@ use Rattle.cache.proofs.Marking.{Held, held-known, slot-below, key-at, Finding, 
 use Rattle.cache.proofs.matching.queries_held.Statement.{statement}
 use Rattle.cache.proofs.matching.queries_held.Tie as tie
 
-abbrev invariant-loop : tie.invariant-loop
+abbrev invariant-loop : tie.invariant-loop-i
 invariant-loop keys found₀ order held i₀ found i = Held keys order held × Finding keys order held i found
 
-abbrev decreases-loop : tie.decreases-loop
+abbrev decreases-loop : tie.decreases-loop-i
 decreases-loop keys found₀ order held i₀ found i = held - i
 
-cast-held : tie.Need-overflow-cast-held invariant-loop decreases-loop
+cast-held : tie.Need-overflow_cast-held invariant-loop decreases-loop
 cast-held c = search rules
 
-loop-holds : tie.Need-loop-init invariant-loop decreases-loop
+loop-holds : tie.Need-loop-i-init invariant-loop decreases-loop
 loop-holds c =
-    let k : length c.before.before.args.t1 ≡ 64 = search rules in
-    let o : length c.before.before.args.slots.order ≡ 64 = search rules in
-    (held-known _ _ c.before.before.requires k o, finding-start _ _ _)
+    let k : length c.args.keys ≡ 64 = search rules in
+    let o : length c.args.slots.order ≡ 64 = search rules in
+    (held-known _ _ c.requires k o, finding-start _ _ _)
 
-array-read-k : tie.Need-array-read-k invariant-loop decreases-loop
-array-read-k c = omega (arith, c.before.loop.invariant.0.few, c.before.loop.invariant.0.order-64)
+array-read-k : tie.Need-bounds-order-i invariant-loop decreases-loop
+array-read-k c = omega (arith, c.loop-i.invariant.0.few, c.loop-i.invariant.0.order-64)
 
-cast-k : tie.Need-overflow-cast-k invariant-loop decreases-loop
+cast-k : tie.Need-overflow_cast-k invariant-loop decreases-loop
 cast-k c = search rules
 
-mul-k : tie.Need-overflow-mul-k invariant-loop decreases-loop
-mul-k c = omega (arith, slot-below _ _ _ c.before.loop.invariant.0 _ c.loop-test.true)
+mul-k : tie.Need-offset_bounds-keys-order invariant-loop decreases-loop
+mul-k c = omega (arith, slot-below _ _ _ c.loop-i.invariant.0 _ c.loop-i-test.true)
 
-array-copy-out-k : tie.Need-array-copy-out-k invariant-loop decreases-loop
-array-copy-out-k c = slot-below _ _ _ c.before.loop.invariant.0 _ c.loop-test.true
+array-copy-out-k : tie.Need-bounds-keys-order invariant-loop decreases-loop
+array-copy-out-k c = slot-below _ _ _ c.loop-i.invariant.0 _ c.loop-i-test.true
 
-cast-q : tie.Need-overflow-cast-q invariant-loop decreases-loop
+cast-q : tie.Need-overflow_cast-q invariant-loop decreases-loop
 cast-q c = search rules
 
-array-write-found : tie.Need-array-write-found invariant-loop decreases-loop
-array-write-found c = c.if1.true
+array-write-found : tie.Need-bounds-found-q invariant-loop decreases-loop
+array-write-found c = c.if-q-lt-QUERIES.true
 
-add-i : tie.Need-overflow-add-i invariant-loop decreases-loop
+add-i : tie.Need-overflow_add-i invariant-loop decreases-loop
 add-i c = search rules
 
-loop-less : tie.Need-loop-smaller invariant-loop decreases-loop
+loop-less : tie.Need-loop-i-smaller invariant-loop decreases-loop
 loop-less c = search rules
 
-loop-again : tie.Need-loop-preserved invariant-loop decreases-loop
+loop-again : tie.Need-loop-i-preserved invariant-loop decreases-loop
 loop-again c =
-    let l = c.before.before.before.before.loop in
-    let t = c.before.before.before.loop-test.true in
+    let l = c.loop-i in
+    let t = c.loop-i-test.true in
     let k = key-at _ _ _ l.invariant.0 _ t _ in (
       l.invariant.0,
       ⊎_elim
-          (λ w. rw w.1 (finding-more _ _ _ l.invariant.0 _ _ t l.invariant.1 _ k w.0.taken))
-          (λ w. rw w.1 (finding-skip _ _ _ l.invariant.0 _ _ t l.invariant.1 _ k w.0.left))
-          c.if1.branch,
+          (λ w. rw w.found-is (finding-more _ _ _ l.invariant.0 _ _ t l.invariant.1 _ k w.if-q-lt-QUERIES.true))
+          (λ w. rw w.found-is (finding-skip _ _ _ l.invariant.0 _ _ t l.invariant.1 _ k w.if-q-lt-QUERIES.false))
+          c.if-q-lt-QUERIES.branch-raw,
     )
 
 returns : tie.Need-returns invariant-loop decreases-loop
-returns c = finding-end _ _ _ _ _ c.loop-test.false c.before.loop.invariant.1
+returns c = finding-end _ _ _ _ _ c.loop-i-test.false c.loop-i.invariant.1
 
-pub queries-held-spec : {M : Type 1} → statement M
-queries-held-spec =
+pub queries_held_spec : {M : Type 1} → statement M
+queries_held_spec =
     tie.close
     (tie.spec
     invariant-loop

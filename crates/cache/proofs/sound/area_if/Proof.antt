@@ -8,24 +8,24 @@ use native.Mathlib.Omega.{arith}
 use Rattle.cache.proofs.sound.area_if.Statement.{statement}
 use Rattle.cache.proofs.sound.area_if.Tie as tie
 
-mul-result : tie.Need-overflow-mul-result
+mul-result : tie.Need-overflow_mul-result
 mul-result c =
-    let a = c.before.args in
+    let a = c.args in
     let few : a.count ≤ 255 = search rules in
     let low : a.capacity ≤ 65535 = search rules in
     let m : a.count * a.capacity ≤ 255 * 65535 = mul-le-mul few low in
     record { fits = omega arith }
 
-returns : tie.Need-returns
+returns : tie.Need-returns-then-there
 returns c =
-    let a = c.before.args in
+    let a = c.args in
     let few : a.count ≤ 255 = search rules in
     let low : a.capacity ≤ 65535 = search rules in
     let m : a.count * a.capacity ≤ 255 * 65535 = mul-le-mul few low in
-    (ap (λ (b : Bool). cond b (a.count * a.capacity) 0) (sym c.if1.true), omega arith)
+    (ap (λ (b : Bool). cond b (a.count * a.capacity) 0) (sym c.if-there.true), omega arith)
 
-returns-2 : tie.Need-returns-2
+returns-2 : tie.Need-returns-else-there
 returns-2 c = search rules
 
-pub area-if-spec : {M : Type 1} → statement M
-area-if-spec = tie.close (tie.spec mul-result returns returns-2)
+pub area_if_spec : {M : Type 1} → statement M
+area_if_spec = tie.close (tie.spec mul-result returns returns-2)

@@ -8,40 +8,40 @@ use Rattle.cache.proofs.Tested.{Counted, counted_start, counted-more, counted-en
 use Rattle.cache.proofs.sound.parameters_of.Statement.{statement}
 use Rattle.cache.proofs.sound.parameters_of.Tie as tie
 
-abbrev invariant-loop : tie.invariant-loop
+abbrev invariant-loop : tie.invariant-loop-i
 invariant-loop n queries counts₀ i₀ counts i = (n ≤ 16) × (length queries ≡ 16) × (length counts ≡ 16) × Counted n queries counts i
 
-abbrev decreases-loop : tie.decreases-loop
+abbrev decreases-loop : tie.decreases-loop-i
 decreases-loop n queries counts₀ i₀ counts i = n - i
 
-loop-holds : tie.Need-loop-init invariant-loop decreases-loop
-loop-holds c = let e : length c.args.t1 ≡ 16 = search rules in (c.requires, e, refl, counted_start _ _ c.requires (omega (arith, c.requires)))
+loop-holds : tie.Need-loop-i-init invariant-loop decreases-loop
+loop-holds c = let e : length c.args.queries ≡ 16 = search rules in (c.requires, e, refl, counted_start _ _ c.requires (omega (arith, c.requires)))
 
-mul-q : tie.Need-overflow-mul-q invariant-loop decreases-loop
+mul-q : tie.Need-offset_bounds-queries-i invariant-loop decreases-loop
 mul-q c = omega arith
 
-array-copy-out-q : tie.Need-array-copy-out-q invariant-loop decreases-loop
+array-copy-out-q : tie.Need-bounds-queries-i invariant-loop decreases-loop
 array-copy-out-q c = omega arith
 
-array-write-counts : tie.Need-array-write-counts invariant-loop decreases-loop
+array-write-counts : tie.Need-bounds-counts-i invariant-loop decreases-loop
 array-write-counts c = search rules
 
-add-i : tie.Need-overflow-add-i invariant-loop decreases-loop
+add-i : tie.Need-overflow_add-i invariant-loop decreases-loop
 add-i c = search rules
 
-loop-less : tie.Need-loop-smaller invariant-loop decreases-loop
+loop-less : tie.Need-loop-i-smaller invariant-loop decreases-loop
 loop-less c = search rules
 
-loop-again : tie.Need-loop-preserved invariant-loop decreases-loop
+loop-again : tie.Need-loop-i-preserved invariant-loop decreases-loop
 loop-again c =
-    let l = c.before.before.loop in
+    let l = c.loop-i in
     let v = l.invariant in
-    (v.0, v.1, simp length-set v.2, counted-more _ _ (omega arith) l.counts l.i _ c.before.loop-test.true v.3)
+    (v.0, v.1, simp length-set v.2, counted-more _ _ (omega arith) l.counts l.i _ c.loop-i-test.true v.3)
 
 returns : tie.Need-returns invariant-loop decreases-loop
-returns c = let l = c.before.loop in counted-end _ _ l.counts l.i c.loop-test.false l.invariant.3
+returns c = let l = c.loop-i in counted-end _ _ l.counts l.i c.loop-i-test.false l.invariant.3
 
-pub parameters-of-spec : {M : Type 1} → statement M
-parameters-of-spec =
+pub parameters_of_spec : {M : Type 1} → statement M
+parameters_of_spec =
     tie.close
     (tie.spec invariant-loop decreases-loop loop-holds mul-q array-copy-out-q array-write-counts add-i loop-less loop-again returns)

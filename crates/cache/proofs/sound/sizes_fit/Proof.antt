@@ -5,17 +5,17 @@ use Rattle.cache.proofs.Tested.{sizes-tested, sizes-past, sizes-small}
 use Rattle.cache.proofs.sound.sizes_fit.Statement.{statement}
 use Rattle.cache.proofs.sound.sizes_fit.Tie as tie
 
-mul-result : tie.Need-overflow-mul-result
+mul-result : tie.Need-overflow_mul-result
 mul-result c =
-    let a = c.before.args in
-    let m : a.slots * a.bytes ≤ 64 * 4096 = sizes-small a.cells a.memory a.slots a.bytes c.if1.true in
+    let a = c.args in
+    let m : a.slots * a.bytes ≤ 64 * 4096 = sizes-small a.cells a.memory a.slots a.bytes c.if-within.true in
     record { fits = omega arith }
 
-returns : tie.Need-returns
-returns c = let a = c.before.args in sizes-tested a.cells a.memory a.slots a.bytes c.if1.true
+returns : tie.Need-returns-then-within
+returns c = let a = c.args in sizes-tested a.cells a.memory a.slots a.bytes c.if-within.true
 
-returns-2 : tie.Need-returns-2
-returns-2 c = let a = c.before.args in sizes-past a.cells a.memory a.slots a.bytes c.if1.false
+returns-2 : tie.Need-returns
+returns-2 c = let a = c.args in sizes-past a.cells a.memory a.slots a.bytes c.if-within.false
 
-pub sizes-fit-spec : {M : Type 1} → statement M
-sizes-fit-spec = tie.close (tie.spec mul-result returns returns-2)
+pub sizes_fit_spec : {M : Type 1} → statement M
+sizes_fit_spec = tie.close (tie.spec mul-result returns returns-2)
