@@ -7,129 +7,129 @@ use Rattle.console.proofs.Replying.{values-inside, text-inside, reply-add, reply
 use Rattle.console.proofs.respond.Statement.{statement}
 use Rattle.console.proofs.respond.Tie as tie
 
-slice-aggregate-read-line : tie.Need-slice-aggregate-read-line
+slice-aggregate-read-line : tie.Need-slice_bounds-read_line-end
 slice-aggregate-read-line c = search rules
 
-read-line-requires : tie.Need-read-line-requires
+read-line-requires : tie.Need-read_line-said-requires
 read-line-requires c κs = search rules
 
-sub-respond-add : tie.Need-overflow-sub-respond-add
+sub-respond-add : tie.Need-slice_bounds-respond_add-count
 sub-respond-add c =
-    let r = c.before.before.before.before.before.read-line in
-    text-inside _ _ r.ensures.0 c.before.before.if1.true
+    let r = c.read_line-said in
+    text-inside _ _ r.ensures.0 c.if-said-eq-ADD.true
 
-part-respond-add-start : tie.Need-slice-bounds-respond-add-start
+part-respond-add-start : tie.Need-slice_bounds-respond_add-start
 part-respond-add-start c = sub-respond-add c
 
-part-respond-add-end : tie.Need-slice-bounds-respond-add-end
+part-respond-add-end : tie.Need-slice_bounds-respond_add-end
 part-respond-add-end c = search rules
 
-respond-add-requires : tie.Need-respond-add-requires
+respond-add-requires : tie.Need-respond_add-requires
 respond-add-requires c κs = search rules
 
-same_length : tie.Need-same-length
+same_length : tie.Need-shape_of-cells-then-said-eq-ADD
 same_length c = search rules
 
-same-length-2 : tie.Need-same-length-2
+same-length-2 : tie.Need-shape_of-memory-then-said-eq-ADD
 same-length-2 c = search rules
 
-same-length-3 : tie.Need-same-length-3
+same-length-3 : tie.Need-shape_of-out-then-said-eq-ADD
 same-length-3 c = search rules
 
-returns : tie.Need-returns
+returns : tie.Need-returns-then-said-eq-ADD
 returns c =
-    let r = c.before.before.before.before.before.before.before.before.before.before.read-line in
-    reply-add _ _ r.ensures.0 _ _ _ _ _ _ _ c.before.before.before.before.before.before.before.if1.true c.before.before.respond-add.ensures
+    let r = c.read_line-said in
+    reply-add _ _ r.ensures.0 _ _ _ _ _ _ _ c.if-said-eq-ADD.true c.respond_add.ensures
 
-sub-respond-ask : tie.Need-overflow-sub-respond-ask
+sub-respond-ask : tie.Need-slice_bounds-respond_ask-count
 sub-respond-ask c = search rules
 
-part-respond-ask-start : tie.Need-slice-bounds-respond-ask-start
+part-respond-ask-start : tie.Need-slice_bounds-respond_ask-start
 part-respond-ask-start c = search rules
 
-part-respond-ask-end : tie.Need-slice-bounds-respond-ask-end
+part-respond-ask-end : tie.Need-slice_bounds-respond_ask-end
 part-respond-ask-end c =
-    let r = c.before.before.before.before.before.before.before.before.read-line in
+    let r = c.read_line-said in
     values-inside _ _ r.ensures.0 (replicate 512 (pos 0)) _ refl r.ensures.1
 
-respond-ask-requires : tie.Need-respond-ask-requires
+respond-ask-requires : tie.Need-respond_ask-requires
 respond-ask-requires c κs = search rules
 
-same-length-4 : tie.Need-same-length-4
+same-length-4 : tie.Need-shape_of-cells-then-said-eq-ASK
 same-length-4 c = search rules
 
-same-length-5 : tie.Need-same-length-5
+same-length-5 : tie.Need-shape_of-memory-then-said-eq-ASK
 same-length-5 c = search rules
 
-same-length-6 : tie.Need-same-length-6
+same-length-6 : tie.Need-shape_of-answer-then-said-eq-ASK
 same-length-6 c = search rules
 
-same-length-7 : tie.Need-same-length-7
+same-length-7 : tie.Need-shape_of-out-then-said-eq-ASK
 same-length-7 c = search rules
 
-returns-2 : tie.Need-returns-2
+returns-2 : tie.Need-returns-then-said-eq-ASK
 returns-2 c =
-    let r = c.before.before.before.before.before.before.before.before.before.before.before.before.before.before.before.before.before.before.read-line in
-    reply-ask _ _ r.ensures.0 _ _ _ _ _ (replicate 512 (pos 0)) _ refl r.ensures.1 _ _ _ _ c.before.before.before.before.before.before.before.before.before.before.before.before.before.if2.true c.before.before.before.before.before.before.respond-ask.ensures
+    let r = c.read_line-said in
+    reply-ask _ _ r.ensures.0 _ _ _ _ _ (replicate 512 (pos 0)) _ refl r.ensures.1 _ _ _ _ c.if-said-eq-ASK.true c.respond_ask.ensures
 
-sub-respond-do : tie.Need-overflow-sub-respond-do
+sub-respond-do : tie.Need-slice_bounds-respond_do-count
 sub-respond-do c = search rules
 
-part-respond-do-start : tie.Need-slice-bounds-respond-do-start
+part-respond-do-start : tie.Need-slice_bounds-respond_do-start
 part-respond-do-start c = search rules
 
-part-respond-do-end : tie.Need-slice-bounds-respond-do-end
+part-respond-do-end : tie.Need-slice_bounds-respond_do-end
 part-respond-do-end c =
-    let r = c.before.before.before.before.before.before.before.before.before.before.read-line in
+    let r = c.read_line-said in
     values-inside _ _ r.ensures.0 (replicate 512 (pos 0)) _ refl r.ensures.1
 
-respond-do-requires : tie.Need-respond-do-requires
+respond-do-requires : tie.Need-respond_do-requires
 respond-do-requires c κs = search rules
 
-same-length-8 : tie.Need-same-length-8
+same-length-8 : tie.Need-shape_of-cells-then-said-eq-DO
 same-length-8 c = search rules
 
-same-length-9 : tie.Need-same-length-9
+same-length-9 : tie.Need-shape_of-memory-then-said-eq-DO
 same-length-9 c = search rules
 
-same-length-10 : tie.Need-same-length-10
+same-length-10 : tie.Need-shape_of-out-then-said-eq-DO
 same-length-10 c = search rules
 
-returns-3 : tie.Need-returns-3
+returns-3 : tie.Need-returns-then-said-eq-DO
 returns-3 c =
-    let r = c.before.before.before.before.before.before.before.before.before.before.before.before.before.before.before.before.read-line in
-    reply-change _ _ r.ensures.0 _ _ _ _ _ (replicate 512 (pos 0)) _ refl r.ensures.1 _ _ _ c.before.before.before.before.before.before.before.before.before.if3.true c.before.before.before.respond-do.ensures
+    let r = c.read_line-said in
+    reply-change _ _ r.ensures.0 _ _ _ _ _ (replicate 512 (pos 0)) _ refl r.ensures.1 _ _ _ c.if-said-eq-DO.true c.respond_do.ensures
 
-respond-flush-requires : tie.Need-respond-flush-requires
+respond-flush-requires : tie.Need-respond_flush-requires
 respond-flush-requires c κs = search rules
 
-same-length-11 : tie.Need-same-length-11
+same-length-11 : tie.Need-shape_of-cells-then-said-eq-FLUSH
 same-length-11 c = search rules
 
-same-length-12 : tie.Need-same-length-12
+same-length-12 : tie.Need-shape_of-memory-then-said-eq-FLUSH
 same-length-12 c = search rules
 
-same-length-13 : tie.Need-same-length-13
+same-length-13 : tie.Need-shape_of-out-then-said-eq-FLUSH
 same-length-13 c = search rules
 
-returns-4 : tie.Need-returns-4
+returns-4 : tie.Need-returns-then-said-eq-FLUSH
 returns-4 c =
-    let r = c.before.before.before.before.before.before.before.before.before.before.before.before.before.before.before.read-line in
-    reply-flush _ _ r.ensures.0 _ _ _ _ _ _ _ c.before.before.before.before.before.before.if4.true c.before.before.respond-flush.ensures
+    let r = c.read_line-said in
+    reply-flush _ _ r.ensures.0 _ _ _ _ _ _ _ c.if-said-eq-FLUSH.true c.respond_flush.ensures
 
-write-bad-requires : tie.Need-write-bad-requires
+write-bad-requires : tie.Need-write_bad-length-requires
 write-bad-requires c κs = search rules
 
-same-length-14 : tie.Need-same-length-14
+same-length-14 : tie.Need-shape_of-out
 same-length-14 c = search rules
 
-returns-5 : tie.Need-returns-5
+returns-5 : tie.Need-returns
 returns-5 c =
-    let r = c.before.before.before.before.before.before.before.before.before.before.before.before.before.read-line in
-    reply-bad _ _ r.ensures.0 _ _ _ _ _ _ _ c.before.before.before.before.before.before.before.before.before.before.if1.false c.before.before.before.before.before.before.before.before.if2.false c.before.before.before.before.before.before.if3.false c.before.before.before.before.if4.false c.before.before.write-bad.ensures
+    let r = c.read_line-said in
+    reply-bad _ _ r.ensures.0 _ _ _ _ _ _ _ c.if-said-eq-ADD.false c.if-said-eq-ASK.false c.if-said-eq-DO.false c.if-said-eq-FLUSH.false c.write_bad-length.ensures
 
-pub respond-spec : {M : Type 1} → statement M
-respond-spec =
+pub respond_spec : {M : Type 1} → statement M
+respond_spec =
     tie.close
     (tie.spec
     slice-aggregate-read-line

@@ -5,35 +5,35 @@ use Rattle.console.proofs.Calling.{call-refused, call-done, update-is}
 use Rattle.console.proofs.respond_do.Statement.{statement}
 use Rattle.console.proofs.respond_do.Tie as tie
 
-update-requires : tie.Need-update-requires
+update-requires : tie.Need-update-updated-requires
 update-requires c κs = search rules
 
-write-refused-requires : tie.Need-write-refused-requires
+write-refused-requires : tie.Need-write_refused-length-requires
 write-refused-requires c κs = search rules
 
-same_length : tie.Need-same-length
+same_length : tie.Need-shape_of-cells-then-updated-ne0
 same_length c = search rules
 
-same-length-2 : tie.Need-same-length-2
+same-length-2 : tie.Need-shape_of-out-then-updated-ne0
 same-length-2 c = search rules
 
-returns : tie.Need-returns
-returns c = call-refused _ _ _ _ _ (update _ _) _ (update-is _ _ _ _ _ _ c.before.before.before.before.before.before.before.before.update.ensures) _ _ c.before.before.before.before.if1.true c.before.before.write-refused.ensures
+returns : tie.Need-returns-then-updated-ne0
+returns c = call-refused _ _ _ _ _ (update _ _) _ (update-is _ _ _ _ _ _ c.update-updated.ensures) _ _ c.if-updated-ne0.true c.write_refused-length.ensures
 
-write-updated-requires : tie.Need-write-updated-requires
+write-updated-requires : tie.Need-write_updated-length-requires
 write-updated-requires c κs = search rules
 
-same-length-3 : tie.Need-same-length-3
+same-length-3 : tie.Need-shape_of-cells
 same-length-3 c = search rules
 
-same-length-4 : tie.Need-same-length-4
+same-length-4 : tie.Need-shape_of-out
 same-length-4 c = search rules
 
-returns-2 : tie.Need-returns-2
-returns-2 c = call-done _ _ _ _ _ (update _ _) _ (update-is _ _ _ _ _ _ c.before.before.before.before.before.before.before.before.update.ensures) _ _ c.before.before.before.before.if1.false c.before.before.write-updated.ensures
+returns-2 : tie.Need-returns
+returns-2 c = call-done _ _ _ _ _ (update _ _) _ (update-is _ _ _ _ _ _ c.update-updated.ensures) _ _ c.if-updated-ne0.false c.write_updated-length.ensures
 
-pub respond-do-spec : {M : Type 1} → statement M
-respond-do-spec =
+pub respond_do_spec : {M : Type 1} → statement M
+respond_do_spec =
     tie.close
     (tie.spec
     update-requires

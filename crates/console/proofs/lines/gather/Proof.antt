@@ -6,50 +6,50 @@ use Rattle.console.proofs.Gathering.{Gathering, gathering-start, gathering-stop,
 use Rattle.console.proofs.lines.gather.Statement.{statement}
 use Rattle.console.proofs.lines.gather.Tie as tie
 
-abbrev invariant-loop : tie.invariant-loop
+abbrev invariant-loop : tie.invariant-loop-at
 invariant-loop input from line₀ held at₀ to₀ line at to = Gathering input from line₀ held line at to
 
-abbrev decreases-loop : tie.decreases-loop
+abbrev decreases-loop : tie.decreases-loop-at
 decreases-loop input from line₀ held at₀ to₀ line at to = length input - at
 
-loop-holds : tie.Need-loop-init invariant-loop decreases-loop
+loop-holds : tie.Need-loop-at-init invariant-loop decreases-loop
 loop-holds c = gathering-start _ _ _ _
 
-shared-slice-read-if1 : tie.Need-shared-slice-read-if1 invariant-loop decreases-loop
+shared-slice-read-if1 : tie.Need-bounds-input-at invariant-loop decreases-loop
 shared-slice-read-if1 c = search rules
 
-add-t11 : tie.Need-overflow-add-t11 invariant-loop decreases-loop
+add-t11 : tie.Need-overflow_add-result invariant-loop decreases-loop
 add-t11 c = search rules
 
-same_length : tie.Need-same-length invariant-loop decreases-loop
-same_length c = c.before.before.before.loop.invariant.long
+same_length : tie.Need-shape_of-line-then-input-at-eq-NEWLINE invariant-loop decreases-loop
+same_length c = c.loop-at.invariant.long
 
-returns : tie.Need-returns invariant-loop decreases-loop
-returns c = gathering-stop _ _ _ _ _ _ _ c.before.before.before.loop.invariant c.before.before.loop-test.true c.if1.true
+returns : tie.Need-returns-then-input-at-eq-NEWLINE invariant-loop decreases-loop
+returns c = gathering-stop _ _ _ _ _ _ _ c.loop-at.invariant c.loop-at-test.true c.if-input-at-eq-NEWLINE.true
 
-shared-slice-read-put-byte : tie.Need-shared-slice-read-put-byte invariant-loop decreases-loop
+shared-slice-read-put-byte : tie.Need-bounds-input-at-in-loop-at invariant-loop decreases-loop
 shared-slice-read-put-byte c = search rules
 
-put-byte-requires : tie.Need-put-byte-requires invariant-loop decreases-loop
+put-byte-requires : tie.Need-put_byte-to-requires invariant-loop decreases-loop
 put-byte-requires c κs = tt
 
-add_at : tie.Need-overflow-add-at invariant-loop decreases-loop
+add_at : tie.Need-overflow_add-at invariant-loop decreases-loop
 add_at c = search rules
 
-loop-less : tie.Need-loop-smaller invariant-loop decreases-loop
+loop-less : tie.Need-loop-at-smaller invariant-loop decreases-loop
 loop-less c = search rules
 
-loop-again : tie.Need-loop-preserved invariant-loop decreases-loop
-loop-again c = gathering-more _ _ _ _ _ _ _ c.before.before.before.before.before.before.before.before.loop.invariant c.before.before.before.before.before.before.before.loop-test.true _ _ c.before.before.before.before.before.if1.false c.before.before.put_byte.ensures.ends c.before.before.put_byte.ensures.text
+loop-again : tie.Need-loop-at-preserved invariant-loop decreases-loop
+loop-again c = gathering-more _ _ _ _ _ _ _ c.loop-at.invariant c.loop-at-test.true _ _ c.if-input-at-eq-NEWLINE.false c.put_byte-to.ensures.ends c.put_byte-to.ensures.text
 
-same-length-2 : tie.Need-same-length-2 invariant-loop decreases-loop
-same-length-2 c = c.before.loop.invariant.long
+same-length-2 : tie.Need-shape_of-line invariant-loop decreases-loop
+same-length-2 c = c.loop-at.invariant.long
 
-returns-2 : tie.Need-returns-2 invariant-loop decreases-loop
-returns-2 c = gathering-end _ _ _ _ _ _ _ c.before.loop.invariant c.loop-test.false
+returns-2 : tie.Need-returns invariant-loop decreases-loop
+returns-2 c = gathering-end _ _ _ _ _ _ _ c.loop-at.invariant c.loop-at-test.false
 
-pub gather-spec : {M : Type 1} → statement M
-gather-spec =
+pub gather_spec : {M : Type 1} → statement M
+gather_spec =
     tie.close
     (tie.spec
     invariant-loop

@@ -11,47 +11,43 @@ use Rattle.console.proofs.lines.read_line.Tie as tie
 said-requires : tie.Need-said-requires
 said-requires c κs = search rules
 
-returns : tie.Need-returns
+returns : tie.Need-returns-then-line-gt-BYTES
 returns c =
-    let s = c.before.before.before.args in
-    told (command_of s.line.now) bad s.values.now c.said.result (long-line s.line.now c.before.if1.true) refl c.said.ensures
+    let s = c.args in
+    told (command_of s.line.now) bad s.values.now c.said.result (long-line s.line.now c.if-line-gt-BYTES.true) refl c.said.ensures
 
-slice-aggregate-starts-with : tie.Need-slice-aggregate-starts-with
-slice-aggregate-starts-with c = search rules
-
-starts-with-requires : tie.Need-starts-with-requires
+starts-with-requires : tie.Need-starts_with-requires
 starts-with-requires c κs = search rules
 
-said-requires-2 : tie.Need-said-requires-2
+said-requires-2 : tie.Need-said-requires-then-starts_with
 said-requires-2 c κs = search rules
 
-returns-2 : tie.Need-returns-2
+returns-2 : tie.Need-returns-then-starts_with
 returns-2 c =
-    let s = c.before.before.before.before.before.before.args in
-    told (command_of s.line.now) (add (drop 4 s.line.now)) s.values.now c.said2.result
-    (add-line s.line.now c.before.before.before.before.if1.false c.before.before.starts_with.result c.before.before.starts_with.ensures c.before.if2.true) refl c.said2.ensures
+    let s = c.args in
+    told (command_of s.line.now) (add (drop 4 s.line.now)) s.values.now c.said-then-starts_with.result
+    (add-line s.line.now c.if-line-gt-BYTES.false c.starts_with.result c.starts_with.ensures c.if-starts_with.true) refl c.said-then-starts_with.ensures
 
-read-words-requires : tie.Need-read-words-requires
+read-words-requires : tie.Need-read_words-requires
 read-words-requires c κs = search rules
 
-same_length : tie.Need-same-length
+same_length : tie.Need-shape_of-values
 same_length c = search rules
 
-returns-3 : tie.Need-returns-3
+returns-3 : tie.Need-returns
 returns-3 c =
-    let s = c.before.before.before.before.before.before.before.before.args in
-    let e = other-line s.line.now c.before.before.before.before.before.before.if1.false c.before.before.before.before.starts_with.result c.before.before.before.before.starts_with.ensures c.before.before.before.if2.false in (
-      c.before.read-words.ensures.0 ∙ sym (ap line_of e),
-      c.before.read-words.ensures.1 ∙ sym (ap (λ (k : Command). filled s.values.now 0 (values_of k)) e),
+    let s = c.args in
+    let e = other-line s.line.now c.if-line-gt-BYTES.false c.starts_with.result c.starts_with.ensures c.if-starts_with.false in (
+      c.read_words.ensures.0 ∙ sym (ap line_of e),
+      c.read_words.ensures.1 ∙ sym (ap (λ (k : Command). filled s.values.now 0 (values_of k)) e),
     )
 
-pub read-line-spec : {M : Type 1} → statement M
-read-line-spec =
+pub read_line_spec : {M : Type 1} → statement M
+read_line_spec =
     tie.close
     (tie.spec
     said-requires
     returns
-    slice-aggregate-starts-with
     starts-with-requires
     said-requires-2
     returns-2

@@ -11,57 +11,53 @@ use borrow.Author.Rules.{rules}
 use Rattle.console.proofs.lines.read_words.Statement.{statement}
 use Rattle.console.proofs.lines.read_words.Tie as tie
 
-word-end-requires : tie.Need-word-end-requires
+word-end-requires : tie.Need-word_end-end-requires
 word-end-requires c κs = search rules
 
-read-numbered-requires : tie.Need-read-numbered-requires
+read-numbered-requires : tie.Need-read_numbered-requires
 read-numbered-requires c κs = search rules
 
-same_length : tie.Need-same-length
+same_length : tie.Need-shape_of-values-then-end-line
 same_length c = search rules
 
-returns : tie.Need-returns
+returns : tie.Need-returns-then-end-line
 returns c = search rules
 
-slice-aggregate-is-word : tie.Need-slice-aggregate-is-word
-slice-aggregate-is-word c = search rules
-
-is-word-requires : tie.Need-is-word-requires
+is-word-requires : tie.Need-is_word-requires
 is-word-requires c κs = search rules
 
 said-requires : tie.Need-said-requires
 said-requires c κs = search rules
 
-returns-2 : tie.Need-returns-2
+returns-2 : tie.Need-returns-then-is_word
 returns-2 c =
-    let s = c.before.before.before.before.before.before.before.args in
-    let e : c.before.before.before.before.before.word-end.result ≡ length (take_while not_space s.line.now) = omega (arith, c.before.before.before.before.before.word-end.ensures.0) in
+    let s = c.args in
+    let e : c.word_end-end.result ≡ length (take_while not_space s.line.now) = omega (arith, c.word_end-end.ensures.0) in
     told (words_say (words s.line.now)) flush s.values.now c.said.result
-    (one_word s.line.now c.before.before.before.before.before.word-end.result e c.before.before.before.before.if1.false c.before.before.is_is_word.result c.before.before.is_is_word.ensures
-    ∙ ap (λ (b : Bool). cond b flush bad) c.before.if2.true)
+    (one_word s.line.now c.word_end-end.result e c.if-end-line.false c.is_word.result c.is_word.ensures
+    ∙ ap (λ (b : Bool). cond b flush bad) c.if-is_word.true)
     refl c.said.ensures
 
 said-requires-2 : tie.Need-said-requires-2
 said-requires-2 c κs = search rules
 
-returns-3 : tie.Need-returns-3
+returns-3 : tie.Need-returns
 returns-3 c =
-    let s = c.before.before.before.before.before.before.before.args in
-    let e : c.before.before.before.before.before.word-end.result ≡ length (take_while not_space s.line.now) = omega (arith, c.before.before.before.before.before.word-end.ensures.0) in
-    told (words_say (words s.line.now)) bad s.values.now c.said2.result
-    (one_word s.line.now c.before.before.before.before.before.word-end.result e c.before.before.before.before.if1.false c.before.before.is_is_word.result c.before.before.is_is_word.ensures
-    ∙ ap (λ (b : Bool). cond b flush bad) c.before.if2.false)
-    refl c.said2.ensures
+    let s = c.args in
+    let e : c.word_end-end.result ≡ length (take_while not_space s.line.now) = omega (arith, c.word_end-end.ensures.0) in
+    told (words_say (words s.line.now)) bad s.values.now c.said-2.result
+    (one_word s.line.now c.word_end-end.result e c.if-end-line.false c.is_word.result c.is_word.ensures
+    ∙ ap (λ (b : Bool). cond b flush bad) c.if-is_word.false)
+    refl c.said-2.ensures
 
-pub read-words-spec : {M : Type 1} → statement M
-read-words-spec =
+pub read_words_spec : {M : Type 1} → statement M
+read_words_spec =
     tie.close
     (tie.spec
     word-end-requires
     read-numbered-requires
     same_length
     returns
-    slice-aggregate-is-word
     is-word-requires
     said-requires
     returns-2

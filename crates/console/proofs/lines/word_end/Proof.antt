@@ -12,44 +12,44 @@ use Rattle.console.specs.Parts.{not_space}
 use Rattle.console.proofs.lines.word_end.Statement.{statement}
 use Rattle.console.proofs.lines.word_end.Tie as tie
 
-abbrev invariant-loop : tie.invariant-loop
+abbrev invariant-loop : tie.invariant-loop-i
 invariant-loop line at i₀ i = (at + length (take_while not_space (drop at line)) ≡ i + length (take_while not_space (drop i line))) × (i ≤ length line)
 
-abbrev decreases-loop : tie.decreases-loop
+abbrev decreases-loop : tie.decreases-loop-i
 decreases-loop line at i₀ i = length line - i
 
-loop-holds : tie.Need-loop-init invariant-loop decreases-loop
+loop-holds : tie.Need-loop-i-init invariant-loop decreases-loop
 loop-holds c = search rules
 
-shared-slice-read-if1 : tie.Need-shared-slice-read-if1 invariant-loop decreases-loop
+shared-slice-read-if1 : tie.Need-bounds-line-i invariant-loop decreases-loop
 shared-slice-read-if1 c = search rules
 
-returns : tie.Need-returns invariant-loop decreases-loop
+returns : tie.Need-returns-then-line-i-eq32 invariant-loop decreases-loop
 returns c =
-    let s = c.before.before.before.before.args.line.now in
-    let i = c.before.before.before.loop.i in
-    omega (arith, count-stop not_space s i c.before.before.loop-test.true (ap not (eq-eqb (get_or s i 0) 32 c.if1.true)))
+    let s = c.args.line.now in
+    let i = c.loop-i.i in
+    omega (arith, count-stop not_space s i c.loop-i-test.true (ap not (eq-eqb (get_or s i 0) 32 c.if-line-i-eq32.true)))
 
-add-i : tie.Need-overflow-add-i invariant-loop decreases-loop
+add-i : tie.Need-overflow_add-i invariant-loop decreases-loop
 add-i c = search rules
 
-loop-less : tie.Need-loop-smaller invariant-loop decreases-loop
+loop-less : tie.Need-loop-i-smaller invariant-loop decreases-loop
 loop-less c = search rules
 
-loop-again : tie.Need-loop-preserved invariant-loop decreases-loop
+loop-again : tie.Need-loop-i-preserved invariant-loop decreases-loop
 loop-again c =
-    let s = c.before.before.before.before.args.line.now in
-    let i = c.before.before.before.loop.i in
-    omega (arith, count-more not_space s i c.before.before.loop-test.true (ap not (ne_eqb (get_or s i 0) 32 c.if1.false)))
+    let s = c.args.line.now in
+    let i = c.loop-i.i in
+    omega (arith, count-more not_space s i c.loop-i-test.true (ap not (ne_eqb (get_or s i 0) 32 c.if-line-i-eq32.false)))
 
-returns-2 : tie.Need-returns-2 invariant-loop decreases-loop
+returns-2 : tie.Need-returns invariant-loop decreases-loop
 returns-2 c =
-    let s = c.before.before.args.line.now in
-    let i = c.before.loop.i in
-    omega (arith, count-end not_space s i c.loop-test.false)
+    let s = c.args.line.now in
+    let i = c.loop-i.i in
+    omega (arith, count-end not_space s i c.loop-i-test.false)
 
-pub word-end-spec : {M : Type 1} → statement M
-word-end-spec =
+pub word_end_spec : {M : Type 1} → statement M
+word_end_spec =
     tie.close
     (tie.spec
     invariant-loop

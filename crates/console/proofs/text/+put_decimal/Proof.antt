@@ -28,43 +28,43 @@ put-decimal-below t =
 abbrev calls : ℕ → put-decimal-lts.Claims
 calls t = (put-byte-reads.Asked, put-byte-reads.Learnt, put-decimal-below t, put-decimal.Post)
 
-cast-digit : (t : ℕ) → put-decimal-lts.Need-overflow-cast-digit (calls t) (put-decimal-at t) put-decimal.Post
+cast-digit : (t : ℕ) → put-decimal-lts.Need-overflow_cast-digit (calls t) (put-decimal-at t) put-decimal.Post
 cast-digit t c = omega arith
 
-add-digit : (t : ℕ) → put-decimal-lts.Need-overflow-add-digit (calls t) (put-decimal-at t) put-decimal.Post
+add-digit : (t : ℕ) → put-decimal-lts.Need-overflow_add-digit (calls t) (put-decimal-at t) put-decimal.Post
 add-digit t c = omega arith
 
-put-byte-requires : (t : ℕ) → put-decimal-lts.Need-put-byte-requires (calls t) (put-decimal-at t) put-decimal.Post
+put-byte-requires : (t : ℕ) → put-decimal-lts.Need-put_byte-requires (calls t) (put-decimal-at t) put-decimal.Post
 put-byte-requires t c κs = tt
 
-same_length : (t : ℕ) → put-decimal-lts.Need-same-length (calls t) (put-decimal-at t) put-decimal.Post
+same_length : (t : ℕ) → put-decimal-lts.Need-shape_of-out-then-n-lt10 (calls t) (put-decimal-at t) put-decimal.Post
 same_length t c = puts-long c.before.before.put_byte.ensures
 
-returns : (t : ℕ) → put-decimal-lts.Need-returns (calls t) (put-decimal-at t) put-decimal.Post
+returns : (t : ℕ) → put-decimal-lts.Need-returns-then-n-lt10 (calls t) (put-decimal-at t) put-decimal.Post
 returns t c =
     let k = c.before.before in
-    puts-as (sym (decimal-one _ k.before.before.if1.true)) k.put_byte.ensures
+    puts-as (sym (decimal-one _ k.before.before.if-n-lt10.true)) k.put_byte.ensures
 
-put-decimal-requires : (t : ℕ) → put-decimal-lts.Need-put-decimal-requires (calls t) (put-decimal-at t) put-decimal.Post
+put-decimal-requires : (t : ℕ) → put-decimal-lts.Need-put_decimal-end-requires (calls t) (put-decimal-at t) put-decimal.Post
 put-decimal-requires t c κs = (omega (arith, c.before.before.before.requires.0), tt)
 
-put-byte-requires-2 : (t : ℕ) → put-decimal-lts.Need-put-byte-requires-2 (calls t) (put-decimal-at t) put-decimal.Post
+put-byte-requires-2 : (t : ℕ) → put-decimal-lts.Need-put_byte-requires-2 (calls t) (put-decimal-at t) put-decimal.Post
 put-byte-requires-2 t c κs = tt
 
-same-length-2 : (t : ℕ) → put-decimal-lts.Need-same-length-2 (calls t) (put-decimal-at t) put-decimal.Post
+same-length-2 : (t : ℕ) → put-decimal-lts.Need-shape_of-out (calls t) (put-decimal-at t) put-decimal.Post
 same-length-2 t c =
     let k = c.before.before in
-    puts-long k.put-byte2.ensures ∙ puts-long k.before.before.before.before.put-decimal.ensures
+    puts-long k.put_byte-2.ensures ∙ puts-long k.before.before.before.before.put_decimal-end.ensures
 
-returns-2 : (t : ℕ) → put-decimal-lts.Need-returns-2 (calls t) (put-decimal-at t) put-decimal.Post
+returns-2 : (t : ℕ) → put-decimal-lts.Need-returns (calls t) (put-decimal-at t) put-decimal.Post
 returns-2 t c =
     let k = c.before.before in
     let d = k.before.before.before.before in
     let s = d.before.before.before.before in
-    puts-as (sym (decimal-more _ d.before.before.if1.false s.ranges.n.fits)) (puts-both d.put-decimal.ensures k.put-byte2.ensures)
+    puts-as (sym (decimal-more _ d.before.before.if-n-lt10.false s.ranges.n.fits)) (puts-both d.put_decimal-end.ensures k.put_byte-2.ensures)
 
-pub +put-decimal-spec : {M : Type 1} → statement M
-+put-decimal-spec = close μ-put-decimal λ t. put-decimal-lts.spec (calls t) (put-decimal-at t) put-decimal.Post
+pub +put_decimal_spec : {M : Type 1} → statement M
++put_decimal_spec = close μ-put-decimal λ t. put-decimal-lts.spec (calls t) (put-decimal-at t) put-decimal.Post
     (cast-digit t)
     (add-digit t)
     (put-byte-requires t)

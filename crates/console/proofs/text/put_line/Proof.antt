@@ -4,19 +4,19 @@ use Rattle.console.proofs.Puttings.{puts-both}
 use Rattle.console.proofs.text.put_line.Statement.{statement}
 use Rattle.console.proofs.text.put_line.Tie as tie
 
-put-item-requires : tie.Need-put-item-requires
+put-item-requires : tie.Need-put_item-end-requires
 put-item-requires c κs = search rules
 
-put-byte-requires : tie.Need-put-byte-requires
+put-byte-requires : tie.Need-put_byte-requires
 put-byte-requires c κs = search rules
 
-same_length : tie.Need-same-length
+same_length : tie.Need-shape_of-out
 same_length c = search rules
 
 returns : tie.Need-returns
 returns c =
-    let e = c.before.before in
-    puts-both e.before.before.before.before.put_item.ensures e.put_byte.ensures
+    let e = c in
+    puts-both e.put_item-end.ensures e.put_byte.ensures
 
-pub put-line-spec : {M : Type 1} → statement M
-put-line-spec = tie.close (tie.spec put-item-requires put-byte-requires same_length returns)
+pub put_line_spec : {M : Type 1} → statement M
+put_line_spec = tie.close (tie.spec put-item-requires put-byte-requires same_length returns)

@@ -11,54 +11,54 @@ use Rattle.console.proofs.Shown.{row_more, row-end}
 use Rattle.console.proofs.text.put_row.Statement.{statement}
 use Rattle.console.proofs.text.put_row.Tie as tie
 
-abbrev invariant-loop : tie.invariant-loop
+abbrev invariant-loop : tie.invariant-loop-i
 invariant-loop out₀ at row place₀ i₀ out place i = (i ≤ length row) × Left (row_text (numbers_of row)) out₀ at (row_text (numbers_of (drop i row))) out place
 
-abbrev decreases-loop : tie.decreases-loop
+abbrev decreases-loop : tie.decreases-loop-i
 decreases-loop out₀ at row place₀ i₀ out place i = length row - i
 
-loop-holds : tie.Need-loop-init invariant-loop decreases-loop
+loop-holds : tie.Need-loop-i-init invariant-loop decreases-loop
 loop-holds c = (omega arith, left-start _ _ _)
 
-sub-loop : tie.Need-overflow-sub-loop invariant-loop decreases-loop
+sub-loop : tie.Need-overflow_sub-row invariant-loop decreases-loop
 sub-loop c = search rules
 
-put-byte-requires : tie.Need-put-byte-requires invariant-loop decreases-loop
+put-byte-requires : tie.Need-put_byte-start-requires invariant-loop decreases-loop
 put-byte-requires c κs = search rules
 
-four-at-requires : tie.Need-four-at-requires invariant-loop decreases-loop
+four-at-requires : tie.Need-four_at-requires invariant-loop decreases-loop
 four-at-requires c κs = omega arith
 
-put-number-requires : tie.Need-put-number-requires invariant-loop decreases-loop
+put-number-requires : tie.Need-put_number-place-requires invariant-loop decreases-loop
 put-number-requires c κs = search rules
 
-add-i : tie.Need-overflow-add-i invariant-loop decreases-loop
+add-i : tie.Need-overflow_add-i invariant-loop decreases-loop
 add-i c = search rules
 
-loop-less : tie.Need-loop-smaller invariant-loop decreases-loop
+loop-less : tie.Need-loop-i-smaller invariant-loop decreases-loop
 loop-less c = search rules
 
-loop-again : tie.Need-loop-preserved invariant-loop decreases-loop
+loop-again : tie.Need-loop-i-preserved invariant-loop decreases-loop
 loop-again c =
-    let v = c.before.before in
-    let b = v.before.before.before.before.before in
-    let l = b.before.before.before in
-    let room : l.loop.i + 4 ≤ length l.before.before.before.args.row.now = omega arith in (
+    let v = c in
+    let b = v in
+    let l = b in
+    let room : l.loop-i.i + 4 ≤ length l.args.row.now = omega arith in (
       room,
-      left-more _ _ (row_more _ l.loop.i room) (puts-both b.put_byte.ensures (puts-as (ap (λ (n : ℕ). number_text (number_of n)) v.before.four-at.ensures) v.put-number.ensures)) l.loop.invariant.1,
+      left-more _ _ (row_more _ l.loop-i.i room) (puts-both b.put_byte-start.ensures (puts-as (ap (λ (n : ℕ). number_text (number_of n)) v.four_at.ensures) v.put_number-place.ensures)) l.loop-i.invariant.1,
     )
 
-same_length : tie.Need-same-length invariant-loop decreases-loop
-same_length c = c.before.loop.invariant.1.long
+same_length : tie.Need-shape_of-out invariant-loop decreases-loop
+same_length c = c.loop-i.invariant.1.long
 
 returns : tie.Need-returns invariant-loop decreases-loop
 returns c =
-    let l = c.before.loop in
-    let row = c.before.before.before.before.args.row.now in
+    let l = c.loop-i in
+    let row = c.args.row.now in
     left_end (row-end row l.i (omega arith)) l.invariant.1
 
-pub put-row-spec : {M : Type 1} → statement M
-put-row-spec =
+pub put_row_spec : {M : Type 1} → statement M
+put_row_spec =
     tie.close
     (tie.spec
     invariant-loop

@@ -10,36 +10,36 @@ use Rattle.console.proofs.Shown.{first_more, first-end}
 use Rattle.console.proofs.text.put_rows.Statement.{statement}
 use Rattle.console.proofs.text.put_rows.Tie as tie
 
-row-refusal-requires : tie.Need-row-refusal-requires
+row-refusal-requires : tie.Need-row_refusal-requires
 row-refusal-requires c κs = search rules
 
 row-requires : tie.Need-row-requires
 row-requires c κs = search rules
 
-put-row-requires : tie.Need-put-row-requires
+put-row-requires : tie.Need-put_row-end-requires
 put-row-requires c κs = search rules
 
-put-further-requires : tie.Need-put-further-requires
+put-further-requires : tie.Need-put_further-requires
 put-further-requires c κs = search rules
 
-same_length : tie.Need-same-length
+same_length : tie.Need-shape_of-out-then-row_refusal-eq0
 same_length c = search rules
 
-returns : tie.Need-returns
+returns : tie.Need-returns-then-row_refusal-eq0
 returns c =
-    let f = c.before.before in
-    let r = f.before.before.before.before in
-    let t = r.before.before.before in
-    puts-as (sym (first_more _ (sym t.before.row-refusal.ensures ∙ t.if1.true)))
-    (puts-both (puts-as (ap (λ (s : List ℕ). row_text (numbers_of s)) r.before.row.ensures.0) r.put-row.ensures) f.put-further.ensures)
+    let f = c in
+    let r = f in
+    let t = r in
+    puts-as (sym (first_more _ (sym t.row_refusal.ensures ∙ t.if-row_refusal-eq0.true)))
+    (puts-both (puts-as (ap (λ (s : List ℕ). row_text (numbers_of s)) r.row.ensures.0) r.put_row-end.ensures) f.put_further.ensures)
 
-returns-2 : tie.Need-returns-2
+returns-2 : tie.Need-returns
 returns-2 c =
-    let a = c.before.before.before.before.args in
-    puts-as (sym (first-end a.bytes.now (λ e. c.if1.false (c.before.row-refusal.ensures ∙ e)))) (puts_none a.out.now a.at)
+    let a = c.args in
+    puts-as (sym (first-end a.bytes.now (λ e. c.if-row_refusal-eq0.false (c.row_refusal.ensures ∙ e)))) (puts_none a.out.now a.at)
 
-pub put-rows-spec : {M : Type 1} → statement M
-put-rows-spec =
+pub put_rows_spec : {M : Type 1} → statement M
+put_rows_spec =
     tie.close
     (tie.spec
     row-refusal-requires

@@ -5,50 +5,42 @@ use Rattle.console.proofs.Puttings.{puts-both, puts-parts}
 use Rattle.console.proofs.text.write_answer.Statement.{statement}
 use Rattle.console.proofs.text.write_answer.Tie as tie
 
-put-source-requires : tie.Need-put-source-requires
+put-source-requires : tie.Need-put_source-read-requires
 put-source-requires c κs = search rules
 
-slice-aggregate-put-item : tie.Need-slice-aggregate-put-item
-slice-aggregate-put-item c = search rules
-
-put-item-requires : tie.Need-put-item-requires
+put-item-requires : tie.Need-put_item-colon-requires
 put-item-requires c κs = search rules
 
-slice-aggregate-put-bytes : tie.Need-slice-aggregate-put-bytes
-slice-aggregate-put-bytes c = search rules
-
-put-bytes-requires : tie.Need-put-bytes-requires
+put-bytes-requires : tie.Need-put_bytes-start-requires
 put-bytes-requires c κs = search rules
 
-put-rows-requires : tie.Need-put-rows-requires
+put-rows-requires : tie.Need-put_rows-end-requires
 put-rows-requires c κs = search rules
 
-put-byte-requires : tie.Need-put-byte-requires
+put-byte-requires : tie.Need-put_byte-requires
 put-byte-requires c κs = search rules
 
-same_length : tie.Need-same-length
+same_length : tie.Need-shape_of-out
 same_length c = search rules
 
 returns : tie.Need-returns
 unfolding answer_text
 returns c =
-    let e = c.before.before in
-    let r = e.before.before.before.before in
-    let b = r.before.before.before.before in
-    let i = b.before.before.before.before.before in
+    let e = c in
+    let r = e in
+    let b = r in
+    let i = b in
     puts-parts
     (puts-both
-    (puts-both i.before.before.before.before.before.put-source.ensures (puts-both i.put_item.ensures (puts-both b.put-bytes.ensures r.put-rows.ensures)))
+    (puts-both i.put_source-read.ensures (puts-both i.put_item-colon.ensures (puts-both b.put_bytes-start.ensures r.put_rows-end.ensures)))
     e.put_byte.ensures)
 
-pub write-answer-spec : {M : Type 1} → statement M
-write-answer-spec =
+pub write_answer_spec : {M : Type 1} → statement M
+write_answer_spec =
     tie.close
     (tie.spec
     put-source-requires
-    slice-aggregate-put-item
     put-item-requires
-    slice-aggregate-put-bytes
     put-bytes-requires
     put-rows-requires
     put-byte-requires

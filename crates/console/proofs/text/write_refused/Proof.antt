@@ -5,19 +5,16 @@ use Rattle.console.proofs.Puttings.{puts-parts}
 use Rattle.console.proofs.text.write_refused.Statement.{statement}
 use Rattle.console.proofs.text.write_refused.Tie as tie
 
-slice-aggregate-put-line : tie.Need-slice-aggregate-put-line
-slice-aggregate-put-line c = search rules
-
-put-line-requires : tie.Need-put-line-requires
+put-line-requires : tie.Need-put_line-requires
 put-line-requires c κs = search rules
 
-same_length : tie.Need-same-length
+same_length : tie.Need-shape_of-out
 same_length c = search rules
 
 returns : tie.Need-returns
 unfolding refused_text
-returns c = puts-parts c.before.before.put-line.ensures
+returns c = puts-parts c.put_line.ensures
 
-pub write-refused-spec : {M : Type 1} → statement M
-write-refused-spec =
-    tie.close (tie.spec slice-aggregate-put-line put-line-requires same_length returns)
+pub write_refused_spec : {M : Type 1} → statement M
+write_refused_spec =
+    tie.close (tie.spec put-line-requires same_length returns)
