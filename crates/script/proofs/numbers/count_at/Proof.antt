@@ -11,13 +11,13 @@ use Rattle.script.specs.Script.{natural_of}
 use Rattle.script.proofs.numbers.count_at.Statement.{statement}
 use Rattle.script.proofs.numbers.count_at.Tie as tie
 
-small : (c : tie.After-struct-told) → SFits w32 c.before.before.next.result.value
+small : (c : tie.After-struct_told-1) → SFits w32 c.next-t.result.value
 small c = search rules
 
-next-requires : tie.Need-next-requires
+next-requires : tie.Need-next-t-requires
 next-requires c κs = search rules
 
-cast-natural : tie.Need-overflow-cast-natural
+cast-natural : tie.Need-overflow_cast-t
 cast-natural c = rw (to_z-of_z (small c)) (sfits_widen {w = w32} tt (small c))
 
 natural-requires : tie.Need-natural-requires
@@ -25,12 +25,12 @@ natural-requires c κs = search rules
 
 returns : tie.Need-returns
 returns c =
-    let t = c.before.before.before.next in
+    let t = c.next-t in
     let v : c.natural.result ≡ natural_of t.result.value =
     c.natural.ensures ∙ rw (to_z-of_z (small c.before), to_z-of_z (sfits_widen {w = w32} {w' = w64} tt (small c.before)))
     in
     ap (λ (n : ℕ). record { value = n; next = t.result.next }) v
     ∙ ap (λ (x : Token). record { value = natural_of x.value; next = x.next }) t.ensures
 
-pub count-at-spec : {M : Type 1} → statement M
-count-at-spec = tie.close (tie.spec next-requires cast-natural natural-requires returns)
+pub count_at_spec : {M : Type 1} → statement M
+count_at_spec = tie.close (tie.spec next-requires cast-natural natural-requires returns)

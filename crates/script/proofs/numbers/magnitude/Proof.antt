@@ -35,27 +35,27 @@ above : (z : ℤ) → SFits w32 z → lt_z z (pos 0) ≡ false → T (non_neg z)
 above (pos n) p h = (tt, record { fits = omega arith })
 above (negsuc n) p h = absurd (true≢false h)
 
-known : (c : tie.Then1) → Below c.before.args.z
-known c = below c.before.args.z c.before.ranges.z (rw (to_z-of_z c.before.ranges.z) at c.if1.true)
+known : (c : tie.Then-z-lt0) → Below c.args.z
+known c = below c.args.z c.ranges.z (rw (to_z-of_z c.ranges.z) at c.if-z-lt0.true)
 
-sub-result : tie.Need-overflow-sub-result
-sub-result c = rw (to_z-of_z c.before.ranges.z, (known c).is) (known c).fits
+sub-result : tie.Need-overflow_sub-result
+sub-result c = rw (to_z-of_z c.ranges.z, (known c).is) (known c).fits
 
-cast-result : tie.Need-overflow-cast-result
-cast-result c = rw (to_z-of_z c.before.ranges.z, (known c).is, to_z-of_z (known c).fits) (tt, record { fits = omega (arith, (known c).fits) })
+cast-result : tie.Need-overflow_cast-result
+cast-result c = rw (to_z-of_z c.ranges.z, (known c).is, to_z-of_z (known c).fits) (tt, record { fits = omega (arith, (known c).fits) })
 
-add-result : tie.Need-overflow-add-result
-add-result c = rw (to_z-of_z c.before.ranges.z, (known c).is, to_z-of_z (known c).fits) (record { fits = omega (arith, (known c).fits) })
+add-result : tie.Need-overflow_add-result
+add-result c = rw (to_z-of_z c.ranges.z, (known c).is, to_z-of_z (known c).fits) (record { fits = omega (arith, (known c).fits) })
 
-returns : tie.Need-returns
-returns c = rw (to_z-of_z c.before.ranges.z, (known c).is, to_z-of_z (known c).fits) (known c).abs
+returns : tie.Need-returns-then-z-lt0
+returns c = rw (to_z-of_z c.ranges.z, (known c).is, to_z-of_z (known c).fits) (known c).abs
 
-cast-result-2 : tie.Need-overflow-cast-result-2
+cast-result-2 : tie.Need-overflow_cast-result-2
 cast-result-2 c =
-    rw (to_z-of_z c.before.ranges.z) (above c.before.args.z c.before.ranges.z (rw (to_z-of_z c.before.ranges.z) at c.if1.false))
+    rw (to_z-of_z c.ranges.z) (above c.args.z c.ranges.z (rw (to_z-of_z c.ranges.z) at c.if-z-lt0.false))
 
-returns-2 : tie.Need-returns-2
-returns-2 c = rw (to_z-of_z c.before.ranges.z)
+returns-2 : tie.Need-returns
+returns-2 c = rw (to_z-of_z c.ranges.z)
 
-pub magnitude-spec : {M : Type 1} → statement M
-magnitude-spec = tie.close (tie.spec sub-result cast-result add-result returns cast-result-2 returns-2)
+pub magnitude_spec : {M : Type 1} → statement M
+magnitude_spec = tie.close (tie.spec sub-result cast-result add-result returns cast-result-2 returns-2)

@@ -25,15 +25,15 @@ nothing : (z : ℤ) → lt_z (pos 0) z ≡ false → 0 ≡ natural_of z
 nothing (pos n) h = omega (arith, ltb-false 0 n h)
 nothing (negsuc n) h = refl
 
-cast-result : tie.Need-overflow-cast-result
+cast-result : tie.Need-overflow_cast-result
 cast-result c =
-    above (to_z w64 (of_z w64 c.before.args.z)) (sfits_to_z (Fits-of_z c.before.ranges.z)) c.if1.true
+    above (to_z w64 (of_z w64 c.args.z)) (sfits_to_z (Fits-of_z c.ranges.z)) c.if-z-gt0.true
 
-returns : tie.Need-returns
-returns c = rw (to_z-of_z c.before.ranges.z) (itself c.before.args.z (rw (to_z-of_z c.before.ranges.z) at c.if1.true))
+returns : tie.Need-returns-then-z-gt0
+returns c = rw (to_z-of_z c.ranges.z) (itself c.args.z (rw (to_z-of_z c.ranges.z) at c.if-z-gt0.true))
 
-returns-2 : tie.Need-returns-2
-returns-2 c = nothing c.before.args.z (rw (to_z-of_z c.before.ranges.z) at c.if1.false)
+returns-2 : tie.Need-returns-else-z-gt0
+returns-2 c = nothing c.args.z (rw (to_z-of_z c.ranges.z) at c.if-z-gt0.false)
 
-pub natural-spec : {M : Type 1} → statement M
-natural-spec = tie.close (tie.spec cast-result returns returns-2)
+pub natural_spec : {M : Type 1} → statement M
+natural_spec = tie.close (tie.spec cast-result returns returns-2)

@@ -9,50 +9,50 @@ use Rattle.script.proofs.Constants.{Reading, reading-start, reading-more, readin
 use Rattle.script.proofs.numbers.read_numbers.Statement.{statement}
 use Rattle.script.proofs.numbers.read_numbers.Tie as tie
 
-abbrev invariant-loop : tie.invariant-loop
+abbrev invariant-loop : tie.invariant-loop-n
 invariant-loop text from numbers₀ at₀ n₀ numbers at n = Reading text from numbers₀ numbers at n
 
-abbrev decreases-loop : tie.decreases-loop
+abbrev decreases-loop : tie.decreases-loop-n
 decreases-loop text from numbers₀ at₀ n₀ numbers at n = length numbers₀ - n
 
-loop-holds : tie.Need-loop-init invariant-loop decreases-loop
+loop-holds : tie.Need-loop-n-init invariant-loop decreases-loop
 loop-holds c = reading-start _ _ _
 
-next-requires : tie.Need-next-requires invariant-loop decreases-loop
+next-requires : tie.Need-next-t-requires invariant-loop decreases-loop
 next-requires c κs = search rules
 
-same_length : tie.Need-same-length invariant-loop decreases-loop
-same_length c = c.before.before.before.before.loop.invariant.long
+same_length : tie.Need-shape_of-numbers-then-t-ne-CONSTANT invariant-loop decreases-loop
+same_length c = c.loop-n.invariant.long
 
-returns : tie.Need-returns invariant-loop decreases-loop
-returns c = reading-stop _ _ _ _ _ _ c.before.before.before.before.loop.invariant c.before.before.next.result c.before.before.next.ensures c.if1.true
+returns : tie.Need-returns-then-t-ne-CONSTANT invariant-loop decreases-loop
+returns c = reading-stop _ _ _ _ _ _ c.loop-n.invariant c.next-t.result c.next-t.ensures c.if-t-ne-CONSTANT.true
 
-mul-z : tie.Need-overflow-mul-z invariant-loop decreases-loop
+mul-z : tie.Need-offset_bounds-numbers-n invariant-loop decreases-loop
 mul-z c = search rules
 
-slice-set-from-z : tie.Need-slice-set-from-z invariant-loop decreases-loop
+slice-set-from-z : tie.Need-bounds-numbers-n invariant-loop decreases-loop
 slice-set-from-z c = search rules
 
-add-n : tie.Need-overflow-add-n invariant-loop decreases-loop
+add-n : tie.Need-overflow_add-n invariant-loop decreases-loop
 add-n c = search rules
 
-loop-less : tie.Need-loop-smaller invariant-loop decreases-loop
+loop-less : tie.Need-loop-n-smaller invariant-loop decreases-loop
 loop-less c = search rules
 
-loop-again : tie.Need-loop-preserved invariant-loop decreases-loop
+loop-again : tie.Need-loop-n-preserved invariant-loop decreases-loop
 loop-again c =
-    let t = c.before.before.before.next in
+    let t = c.next-t in
     let z : to_z w32 (of_z w32 t.result.value) ≡ t.result.value = search rules in
-    reading-more _ _ _ _ _ _ c.before.before.before.before.before.loop.invariant t.result _ c.before.before.before.before.loop-test.true t.ensures c.before.if1.false z
+    reading-more _ _ _ _ _ _ c.loop-n.invariant t.result _ c.loop-n-test.true t.ensures c.if-t-ne-CONSTANT.false z
 
-same-length-2 : tie.Need-same-length-2 invariant-loop decreases-loop
-same-length-2 c = c.before.loop.invariant.long
+same-length-2 : tie.Need-shape_of-numbers invariant-loop decreases-loop
+same-length-2 c = c.loop-n.invariant.long
 
-returns-2 : tie.Need-returns-2 invariant-loop decreases-loop
-returns-2 c = reading-full _ _ _ _ _ _ c.before.loop.invariant c.loop-test.false
+returns-2 : tie.Need-returns invariant-loop decreases-loop
+returns-2 c = reading-full _ _ _ _ _ _ c.loop-n.invariant c.loop-n-test.false
 
-pub read-numbers-spec : {M : Type 1} → statement M
-read-numbers-spec =
+pub read_numbers_spec : {M : Type 1} → statement M
+read_numbers_spec =
     tie.close
     (tie.spec
     invariant-loop

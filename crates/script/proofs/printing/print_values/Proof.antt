@@ -5,35 +5,35 @@ use lib.ListN.{length}
 use Rattle.script.proofs.printing.print_values.Statement.{statement}
 use Rattle.script.proofs.printing.print_values.Tie as tie
 
-abbrev invariant-loop : tie.invariant-loop
+abbrev invariant-loop : tie.invariant-loop-i
 invariant-loop row bits₀ i₀ bits i = Unit
 
-abbrev decreases-loop : tie.decreases-loop
+abbrev decreases-loop : tie.decreases-loop-i
 decreases-loop row bits₀ i₀ bits i = length row - i
 
-loop-holds : tie.Need-loop-init invariant-loop decreases-loop
+loop-holds : tie.Need-loop-i-init invariant-loop decreases-loop
 loop-holds c = search rules
 
-shared-slice-read-with-byte : tie.Need-shared-slice-read-with-byte invariant-loop decreases-loop
+shared-slice-read-with-byte : tie.Need-bounds-row-i invariant-loop decreases-loop
 shared-slice-read-with-byte c = search rules
 
-with-byte-requires : tie.Need-with-byte-requires invariant-loop decreases-loop
+with-byte-requires : tie.Need-with_byte-bits-requires invariant-loop decreases-loop
 with-byte-requires c κs = search rules
 
-add-i : tie.Need-overflow-add-i invariant-loop decreases-loop
+add-i : tie.Need-overflow_add-i invariant-loop decreases-loop
 add-i c = search rules
 
-loop-less : tie.Need-loop-smaller invariant-loop decreases-loop
+loop-less : tie.Need-loop-i-smaller invariant-loop decreases-loop
 loop-less c = search rules
 
-loop-again : tie.Need-loop-preserved invariant-loop decreases-loop
+loop-again : tie.Need-loop-i-preserved invariant-loop decreases-loop
 loop-again c = search rules
 
 returns : tie.Need-returns invariant-loop decreases-loop
 returns c = search rules
 
-pub print-values-spec : {M : Type 1} → statement M
-print-values-spec =
+pub print_values_spec : {M : Type 1} → statement M
+print_values_spec =
     tie.close
     (tie.spec
     invariant-loop
