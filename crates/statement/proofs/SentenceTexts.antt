@@ -71,11 +71,11 @@ module _ (s ls ps : List ℕ) (r : Entry) where
   starts-not h₁ h₂ h₃ h₄ h₅ f n l =
       subst (Takes s r.c (Entered s ls ps r))
       (sym (
-        passing-stops (keyword TABLE) (a_table n) from-select (tokens s) h₁
-        ∙ passing-stops (keyword SELECT) (a_select n) from-insert (tokens s) h₂
-        ∙ passing-stops (keyword INSERT) (an_insert n) from-update (tokens s) h₃
-        ∙ passing-stops (keyword UPDATE) (an_update n) from-delete (tokens s) h₄
-        ∙ passing-stops (keyword DELETE) (a_delete n) fails (tokens s) h₅)) f
+      passing-stops (keyword TABLE) (a_table n) from-select (tokens s) h₁
+      ∙ passing-stops (keyword SELECT) (a_select n) from-insert (tokens s) h₂
+      ∙ passing-stops (keyword INSERT) (an_insert n) from-update (tokens s) h₃
+      ∙ passing-stops (keyword UPDATE) (an_update n) from-delete (tokens s) h₄
+      ∙ passing-stops (keyword DELETE) (a_delete n) fails (tokens s) h₅)) f
     where
       from-delete : Reader Sentence
       from-delete = passing (keyword DELETE) (a_delete n) fails
