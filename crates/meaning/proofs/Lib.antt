@@ -26,3 +26,9 @@ pub mod Postfix
 pub mod Outer
 pub mod Written
 pub mod Resolve
+pub mod ExamplesHold
+pub mod EdgesHold
+pub mod OuterHold
+pub mod PairedHold
+pub mod RingsHold
+pub mod NullsHold

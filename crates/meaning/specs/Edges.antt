@@ -989,306 +989,242 @@ table =
     ∷ null-pairs
     ∷ []
 
-columns-hold : Holds columns
+pub columns-hold : Holds columns
 unfolding computing
 columns-hold = record { taken = refl; numbers-are = refl }
 
-lists-hold : Holds lists
+pub lists-hold : Holds lists
 unfolding computing
 lists-hold = record { taken = refl; numbers-are = refl }
 
-rows-hold : Holds rows
+pub rows-hold : Holds rows
 unfolding computing
 rows-hold = record { taken = refl; numbers-are = refl }
 
-marks-hold : Holds marks
+pub marks-hold : Holds marks
 unfolding computing
 marks-hold = record { taken = refl; numbers-are = refl }
 
-comparisons-hold : Holds comparisons
+pub comparisons-hold : Holds comparisons
 unfolding computing
 comparisons-hold = record { taken = refl; numbers-are = refl }
 
-depths-hold : Holds depths
+pub depths-hold : Holds depths
 unfolding computing
 depths-hold = record { taken = refl; numbers-are = refl }
 
-beside-hold : Holds beside
+pub beside-hold : Holds beside
 unfolding computing
 beside-hold = record { taken = refl; numbers-are = refl }
 
-deepest-hold : Holds deepest
+pub deepest-hold : Holds deepest
 unfolding computing
 deepest-hold = record { taken = refl; numbers-are = refl }
 
-names-hold : Holds names
+pub names-hold : Holds names
 unfolding computing
 names-hold = record { taken = refl; numbers-are = refl }
 
-named-hold : Holds named
+pub named-hold : Holds named
 unfolding computing
 named-hold = record { taken = refl; numbers-are = refl }
 
-constants-hold : Holds constants
+pub constants-hold : Holds constants
 unfolding computing
 constants-hold = record { taken = refl; numbers-are = refl }
 
-texts-hold : Holds texts
+pub texts-hold : Holds texts
 unfolding computing
 texts-hold = record { taken = refl; numbers-are = refl }
 
-words-hold : Holds words
+pub words-hold : Holds words
 unfolding computing
 words-hold = record { taken = refl; numbers-are = refl }
 
-spaces-hold : Holds spaces
+pub spaces-hold : Holds spaces
 unfolding computing
 spaces-hold = record { taken = refl; numbers-are = refl }
 
-others-hold : Holds others
+pub others-hold : Holds others
 unfolding computing
 others-hold = record { taken = refl; numbers-are = refl }
 
-digits-hold : Holds digits
+pub digits-hold : Holds digits
 unfolding computing
 digits-hold = record { taken = refl; numbers-are = refl }
 
-signs-hold : Holds signs
+pub signs-hold : Holds signs
 unfolding computing
 signs-hold = record { taken = refl; numbers-are = refl }
 
-conditions-hold : Holds conditions
+pub conditions-hold : Holds conditions
 unfolding computing
 conditions-hold = record { taken = refl; numbers-are = refl }
 
-forms-hold : Holds forms
+pub forms-hold : Holds forms
 unfolding computing
 forms-hold = record { taken = refl; numbers-are = refl }
 
-before-hold : Holds before
+pub before-hold : Holds before
 unfolding computing
 before-hold = record { taken = refl; numbers-are = refl }
 
-unknown-hold : Holds unknown
+pub unknown-hold : Holds unknown
 unfolding computing
 unknown-hold = record { taken = refl; numbers-are = refl }
 
-twice-hold : Holds twice
+pub twice-hold : Holds twice
 unfolding computing
 twice-hold = record { taken = refl; numbers-are = refl }
 
-counted-hold : Holds counted
+pub counted-hold : Holds counted
 unfolding computing
 counted-hold = record { taken = refl; numbers-are = refl }
 
-cells-enough-hold : Holds cells-enough
+pub cells-enough-hold : Holds cells-enough
 unfolding computing
 cells-enough-hold = record { taken = refl; numbers-are = refl }
 
-cells-short-hold : Holds cells-short
+pub cells-short-hold : Holds cells-short
 unfolding computing
 cells-short-hold = record { taken = refl; numbers-are = refl }
 
-cells-left-hold : Holds cells_left
+pub cells-left-hold : Holds cells_left
 unfolding computing
 cells-left-hold = record { taken = refl; numbers-are = refl }
 
-eighth-table-hold : Holds eighth-table
+pub eighth-table-hold : Holds eighth-table
 unfolding computing
 eighth-table-hold = record { taken = refl; numbers-are = refl }
 
-ninth-table-hold : Holds ninth-table
+pub ninth-table-hold : Holds ninth-table
 unfolding computing
 ninth-table-hold = record { taken = refl; numbers-are = refl }
 
-sixteenth-question-hold : Holds sixteenth-question
+pub sixteenth-question-hold : Holds sixteenth-question
 unfolding computing
 sixteenth-question-hold = record { taken = refl; numbers-are = refl }
 
-seventeenth-question-hold : Holds seventeenth-question
+pub seventeenth-question-hold : Holds seventeenth-question
 unfolding computing
 seventeenth-question-hold = record { taken = refl; numbers-are = refl }
 
-sixteenth-update-hold : Holds sixteenth-update
+pub sixteenth-update-hold : Holds sixteenth-update
 unfolding computing
 sixteenth-update-hold = record { taken = refl; numbers-are = refl }
 
-seventeenth-update-hold : Holds seventeenth-update
+pub seventeenth-update-hold : Holds seventeenth-update
 unfolding computing
 seventeenth-update-hold = record { taken = refl; numbers-are = refl }
 
-dots-hold : Holds dots
+pub dots-hold : Holds dots
 unfolding computing
 dots-hold = record { taken = refl; numbers-are = refl }
 
-bare-hold : Holds bare
+pub bare-hold : Holds bare
 unfolding computing
 bare-hold = record { taken = refl; numbers-are = refl }
 
-elsewhere-hold : Holds elsewhere
+pub elsewhere-hold : Holds elsewhere
 unfolding computing
 elsewhere-hold = record { taken = refl; numbers-are = refl }
 
-from-two-hold : Holds from-two
+pub from-two-hold : Holds from-two
 unfolding computing
 from-two-hold = record { taken = refl; numbers-are = refl }
 
-pair-limits-hold : Holds pair-limits
+pub pair-limits-hold : Holds pair-limits
 unfolding computing
 pair-limits-hold = record { taken = refl; numbers-are = refl }
 
-pair-names-hold : Holds pair-names
+pub pair-names-hold : Holds pair-names
 unfolding computing
 pair-names-hold = record { taken = refl; numbers-are = refl }
 
-long-names-hold : Holds long-names
+pub long-names-hold : Holds long-names
 unfolding computing
 long-names-hold = record { taken = refl; numbers-are = refl }
 
-third-hold : Holds third
+pub third-hold : Holds third
 unfolding computing
 third-hold = record { taken = refl; numbers-are = refl }
 
-same-table-hold : Holds same-table
+pub same-table-hold : Holds same-table
 unfolding computing
 same-table-hold = record { taken = refl; numbers-are = refl }
 
-sixteenth-pair-hold : Holds sixteenth-pair
+pub sixteenth-pair-hold : Holds sixteenth-pair
 unfolding computing
 sixteenth-pair-hold = record { taken = refl; numbers-are = refl }
 
-seventeenth-pair-hold : Holds seventeenth-pair
+pub seventeenth-pair-hold : Holds seventeenth-pair
 unfolding computing
 seventeenth-pair-hold = record { taken = refl; numbers-are = refl }
 
-capitals-hold : Holds capitals
+pub capitals-hold : Holds capitals
 unfolding computing
 capitals-hold = record { taken = refl; numbers-are = refl }
 
-exact-hold : Holds exact
+pub exact-hold : Holds exact
 unfolding computing
 exact-hold = record { taken = refl; numbers-are = refl }
 
-exact-forms-hold : Holds exact-forms
+pub exact-forms-hold : Holds exact-forms
 unfolding computing
 exact-forms-hold = record { taken = refl; numbers-are = refl }
 
-looked-up-hold : Holds looked-up
+pub looked-up-hold : Holds looked-up
 unfolding computing
 looked-up-hold = record { taken = refl; numbers-are = refl }
 
-repeated-hold : Holds repeated
+pub repeated-hold : Holds repeated
 unfolding computing
 repeated-hold = record { taken = refl; numbers-are = refl }
 
-paired-hold : Holds paired
+pub paired-hold : Holds paired
 unfolding computing
 paired-hold = record { taken = refl; numbers-are = refl }
 
-ring-sizes-hold : Holds ring-sizes
+pub ring-sizes-hold : Holds ring-sizes
 unfolding computing
 ring-sizes-hold = record { taken = refl; numbers-are = refl }
 
-ring-or-rows-hold : Holds ring-or-rows
+pub ring-or-rows-hold : Holds ring-or-rows
 unfolding computing
 ring-or-rows-hold = record { taken = refl; numbers-are = refl }
 
-ring-words-hold : Holds ring-words
+pub ring-words-hold : Holds ring-words
 unfolding computing
 ring-words-hold = record { taken = refl; numbers-are = refl }
 
-ring-forms-hold : Holds ring-forms
+pub ring-forms-hold : Holds ring-forms
 unfolding computing
 ring-forms-hold = record { taken = refl; numbers-are = refl }
 
-ring-cells-hold : Holds ring-cells
+pub ring-cells-hold : Holds ring-cells
 unfolding computing
 ring-cells-hold = record { taken = refl; numbers-are = refl }
 
-ring-left-hold : Holds ring-left
+pub ring-left-hold : Holds ring-left
 unfolding computing
 ring-left-hold = record { taken = refl; numbers-are = refl }
 
-null-words-hold : Holds null-words
+pub null-words-hold : Holds null-words
 unfolding computing
 null-words-hold = record { taken = refl; numbers-are = refl }
 
-null-tests-hold : Holds null-tests
+pub null-tests-hold : Holds null-tests
 unfolding computing
 null-tests-hold = record { taken = refl; numbers-are = refl }
 
-no-null-tests-hold : Holds no-null-tests
+pub no-null-tests-hold : Holds no-null-tests
 unfolding computing
 no-null-tests-hold = record { taken = refl; numbers-are = refl }
 
-null-limits-hold : Holds null-limits
+pub null-limits-hold : Holds null-limits
 unfolding computing
 null-limits-hold = record { taken = refl; numbers-are = refl }
 
-null-pairs-hold : Holds null-pairs
+pub null-pairs-hold : Holds null-pairs
 unfolding computing
 null-pairs-hold = record { taken = refl; numbers-are = refl }
-
-pub all_hold : All Holds table
-all_hold =
-    cons columns-hold
-    (cons lists-hold
-    (cons rows-hold
-    (cons marks-hold
-    (cons comparisons-hold
-    (cons depths-hold
-    (cons beside-hold
-    (cons deepest-hold
-    (cons names-hold
-    (cons named-hold
-    (cons constants-hold
-    (cons texts-hold
-    (cons words-hold
-    (cons spaces-hold
-    (cons others-hold
-    (cons digits-hold
-    (cons signs-hold
-    (cons conditions-hold
-    (cons forms-hold
-    (cons before-hold
-    (cons unknown-hold
-    (cons twice-hold
-    (cons counted-hold
-    (cons cells-enough-hold
-    (cons cells-short-hold
-    (cons cells-left-hold
-    (cons eighth-table-hold
-    (cons ninth-table-hold
-    (cons sixteenth-question-hold
-    (cons seventeenth-question-hold
-    (cons sixteenth-update-hold
-    (cons seventeenth-update-hold
-    (cons dots-hold
-    (cons bare-hold
-    (cons elsewhere-hold
-    (cons from-two-hold
-    (cons pair-limits-hold
-    (cons pair-names-hold
-    (cons long-names-hold
-    (cons third-hold
-    (cons same-table-hold
-    (cons sixteenth-pair-hold
-    (cons seventeenth-pair-hold
-    (cons capitals-hold
-    (cons exact-hold
-    (cons exact-forms-hold
-    (cons looked-up-hold
-    (cons repeated-hold
-    (cons paired-hold
-    (cons ring-sizes-hold
-    (cons ring-or-rows-hold
-    (cons ring-words-hold
-    (cons ring-forms-hold
-    (cons ring-cells-hold
-    (cons ring-left-hold
-    (cons null-words-hold
-    (cons null-tests-hold
-    (cons no-null-tests-hold
-    (cons null-limits-hold
-    (cons null-pairs-hold
-    nil)))))))))))))))))))))))))))))))))))))))))))))))))))))))))))

@@ -72,7 +72,7 @@ is_taken (rows n) = true
 is_taken flushed = true
 
 -- all texts and calls are taken, and then the outcome holds
-abbrev Holds : Example → Type 0
+abbrev pub Holds : Example → Type 0
 Holds e = (all is_taken (outs six start (adds e ++ e.calls)) ≡ true) × Says (after six start (adds e ++ e.calls)) e.outcome
 
 abbrev pair : String → String → List Pattern → Example
@@ -134,59 +134,45 @@ examples =
 abbrev row : List Example → ℕ → Example
 row es k = get_or es k (pair Q Q [])
 
-starred-0 : Holds (row examples 0)
+pub starred-0 : Holds (row examples 0)
 unfolding computing
 starred-0 = (refl, refl)
 
-starred-1 : Holds (row examples 1)
+pub starred-1 : Holds (row examples 1)
 unfolding computing
 starred-1 = (refl, refl)
 
-starred-2 : Holds (row examples 2)
+pub starred-2 : Holds (row examples 2)
 unfolding computing
 starred-2 = (refl, refl)
 
-starred-3 : Holds (row examples 3)
+pub starred-3 : Holds (row examples 3)
 unfolding computing
 starred-3 = (refl, refl)
 
-starred-4 : Holds (row examples 4)
+pub starred-4 : Holds (row examples 4)
 unfolding computing
 starred-4 = (refl, refl)
 
-starred-5 : Holds (row examples 5)
+pub starred-5 : Holds (row examples 5)
 unfolding computing
 starred-5 = (refl, refl)
 
-starred-6 : Holds (row examples 6)
+pub starred-6 : Holds (row examples 6)
 unfolding computing
 starred-6 = (refl, refl)
 
-starred-7 : Holds (row examples 7)
+pub starred-7 : Holds (row examples 7)
 unfolding computing
 starred-7 = (refl, refl)
 
-starred-8 : Holds (row examples 8)
+pub starred-8 : Holds (row examples 8)
 unfolding computing
 starred-8 = (refl, (refl, refl, refl))
 
-starred-9 : Holds (row examples 9)
+pub starred-9 : Holds (row examples 9)
 unfolding computing
 starred-9 = (refl, (refl, refl, refl))
-
-pub starred : All Holds examples
-starred =
-    cons starred-0
-    (cons starred-1
-    (cons starred-2
-    (cons starred-3
-    (cons starred-4
-    (cons starred-5
-    (cons starred-6
-    (cons starred-7
-    (cons starred-8
-    (cons starred-9
-    nil)))))))))
 
 -- the joint counts of the last two rows, and of the ninth a key that it spares and one that it drops
 module _ (q u : String) where
@@ -250,44 +236,41 @@ slips =
     }
     ∷ []
 
-caught-0 : Holds (row slips 0)
+pub caught-0 : Holds (row slips 0)
 unfolding computing
 caught-0 = (refl, refl)
 
-caught-1 : Holds (row slips 1)
+pub caught-1 : Holds (row slips 1)
 unfolding computing
 caught-1 = (refl, refl)
 
-caught-2 : Holds (row slips 2)
+pub caught-2 : Holds (row slips 2)
 unfolding computing
 caught-2 = (refl, refl)
 
-caught-3 : Holds (row slips 3)
+pub caught-3 : Holds (row slips 3)
 unfolding computing
 caught-3 = (refl, refl)
 
-caught-4 : Holds (row slips 4)
+pub caught-4 : Holds (row slips 4)
 unfolding computing
 caught-4 = (refl, refl)
 
-caught-5 : Holds (row slips 5)
+pub caught-5 : Holds (row slips 5)
 unfolding computing
 caught-5 = (refl, refl)
 
-caught-6 : Holds (row slips 6)
+pub caught-6 : Holds (row slips 6)
 unfolding computing
 caught-6 = (refl, refl)
 
-caught-7 : Holds (row slips 7)
+pub caught-7 : Holds (row slips 7)
 unfolding computing
 caught-7 = (refl, refl)
 
-caught-8 : Holds (row slips 8)
+pub caught-8 : Holds (row slips 8)
 unfolding computing
 caught-8 = (refl, refl)
-
-pub caught : All Holds slips
-caught = cons caught-0 (cons caught-1 (cons caught-2 (cons caught-3 (cons caught-4 (cons caught-5 (cons caught-6 (cons caught-7 (cons caught-8 nil))))))))
 
 -- ---- request A.2: names from the service keypad
 

@@ -74,73 +74,57 @@ asked c =
     let s : Plain × Out = step lent filled (add (bytes "SELECT rating.flow FROM " ++ bytes c.0)) in
     (is_taken s.1, (query_at s.0 0).parameters, rows_read s.0 (record { query = 0; values = c.1 }))
 
-abbrev Holds : Counted → Type 0
+abbrev pub Holds : Counted → Type 0
 Holds c = asked c ≡ (true, length c.1, c.2)
 
 -- row k of the table, counted from 0
 abbrev row : ℕ → Counted
 row k = get_or table k ("", [], 0)
 
-holds-0 : Holds (row 0)
+pub holds-0 : Holds (row 0)
 unfolding computing
 holds-0 = refl
 
-holds-1 : Holds (row 1)
+pub holds-1 : Holds (row 1)
 unfolding computing
 holds-1 = refl
 
-holds-2 : Holds (row 2)
+pub holds-2 : Holds (row 2)
 unfolding computing
 holds-2 = refl
 
-holds-3 : Holds (row 3)
+pub holds-3 : Holds (row 3)
 unfolding computing
 holds-3 = refl
 
-holds-4 : Holds (row 4)
+pub holds-4 : Holds (row 4)
 unfolding computing
 holds-4 = refl
 
-holds-5 : Holds (row 5)
+pub holds-5 : Holds (row 5)
 unfolding computing
 holds-5 = refl
 
-holds-6 : Holds (row 6)
+pub holds-6 : Holds (row 6)
 unfolding computing
 holds-6 = refl
 
-holds-7 : Holds (row 7)
+pub holds-7 : Holds (row 7)
 unfolding computing
 holds-7 = refl
 
-holds-8 : Holds (row 8)
+pub holds-8 : Holds (row 8)
 unfolding computing
 holds-8 = refl
 
-holds-9 : Holds (row 9)
+pub holds-9 : Holds (row 9)
 unfolding computing
 holds-9 = refl
 
-holds-10 : Holds (row 10)
+pub holds-10 : Holds (row 10)
 unfolding computing
 holds-10 = refl
 
-holds-11 : Holds (row 11)
+pub holds-11 : Holds (row 11)
 unfolding computing
 holds-11 = refl
-
-pub all_hold : All Holds table
-all_hold =
-    cons holds-0
-    (cons holds-1
-    (cons holds-2
-    (cons holds-3
-    (cons holds-4
-    (cons holds-5
-    (cons holds-6
-    (cons holds-7
-    (cons holds-8
-    (cons holds-9
-    (cons holds-10
-    (cons holds-11
-    nil)))))))))))

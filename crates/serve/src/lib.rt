@@ -1,4 +1,4 @@
-// A store at a descriptor: the lines of an input are answered one by one, and what is printed for a line is written as soon as it is answered.
+// A store at an input and an output: the lines of the input are answered one by one, and what is printed for a line is written as soon as it is answered.
 #![tactic(auto)]
 
 ghost use Rattle.std.specs.Prelude.{◌≡◌, true, [], ◌≤◌, ◌<◌, length, take};
@@ -8,6 +8,7 @@ ghost use Rattle.serve.specs.Turns.{most-lent, most-printed, store_of, session_o
 
 use cache::State;
 use console::{Gathered, Line};
+use std::io::{Read, Write};
 
 // The store that document 01's `desk` opens, and the bytes that it lends for answers.
 #[derive(Clone, Copy)]
@@ -143,10 +144,10 @@ struct Printed {
     written: bool,
 }
 
-fn print(text: &[u8], output: i32) -> Printed
+fn print<W: Write>(text: &[u8], output: &mut W) -> Printed
     ensures { result.bytes ≡ length text.now }
 {
-    let written = io::write_all(output, text);
+    let written = output.write_all(text).is_ok();
     Printed {
         bytes: text.len(),
         written,
@@ -154,7 +155,7 @@ fn print(text: &[u8], output: i32) -> Printed
 }
 
 // Gathers a line on, and if it ends answers it and writes what is printed for it.
-fn answer_next(
+fn answer_next<W: Write>(
     served: Served,
     cells: &mut [i32],
     memory: &mut [u8],
@@ -162,7 +163,7 @@ fn answer_next(
     piece: &[u8],
     line: &mut [u8],
     out: &mut [u8],
-    output: i32,
+    output: &mut W,
 ) -> Served
     requires { (served.next < length piece.now) × (served.held ≤ length line.old) × (length line.old ≡ most-held) × (length answer.old ≤ most-lent) × (most-printed ≤ length out.old) }
     ensures numbers { (served.next < result.next) × (result.next ≤ length piece.now) × (result.held ≤ length line.old) }
@@ -177,7 +178,7 @@ fn answer_next(
 }
 
 // Answers the lines that end in a piece of the input, and holds what is left of it, as long as what is printed can be written.
-fn answer_piece(
+fn answer_piece<W: Write>(
     served: Served,
     cells: &mut [i32],
     memory: &mut [u8],
@@ -185,7 +186,7 @@ fn answer_piece(
     piece: &[u8],
     line: &mut [u8],
     out: &mut [u8],
-    output: i32,
+    output: &mut W,
 ) -> Served
     requires { (served.held ≤ length line.old) × (length line.old ≡ most-held) × (length answer.old ≤ most-lent) × (most-printed ≤ length out.old) }
     ensures numbers { (result.held ≤ length line.old) × (result.next ≤ length piece.now) × Whole result.written result.next (length piece.now) }
@@ -205,11 +206,11 @@ fn answer_piece(
 
 // ---- with input
 
-// Reads a piece of the input: how many bytes there are, 0 at its end.
-fn read_some(input: i32, piece: &mut [u8]) -> usize
+// Reads a piece of the input: how many bytes there are, 0 at its end and where it can't be read.
+fn read_some<R: Read>(input: &mut R, piece: &mut [u8]) -> usize
     ensures { result ≤ length piece.new }
 {
-    io::count(libc::read(input, piece), piece)
+    input.read(piece).unwrap_or(0)
 }
 
 // How many reads are left after one that got `got` bytes: none at the end of the input, nor if nothing more can be written.
@@ -222,7 +223,7 @@ fn reads_left(left: u64, got: usize, written: bool) -> u64
 }
 
 // Reads a piece of the input, and answers the lines that end in it.
-fn answer_read(
+fn answer_read<R: Read, W: Write>(
     served: Served,
     cells: &mut [i32],
     memory: &mut [u8],
@@ -230,8 +231,8 @@ fn answer_read(
     piece: &mut [u8],
     line: &mut [u8],
     out: &mut [u8],
-    input: i32,
-    output: i32,
+    input: &mut R,
+    output: &mut W,
 ) -> Served
     requires { (served.held ≤ length line.old) × (length line.old ≡ most-held) × (length answer.old ≤ most-lent) × (most-printed ≤ length out.old) × (0 < served.left) }
     ensures numbers { (result.held ≤ length line.old) × (result.left < served.left) × (result.left ≡ reads_left served.left result.got result.written) × Whole result.written result.next result.got }
@@ -247,7 +248,7 @@ fn answer_read(
 }
 
 // Answers the lines of an input until it ends.
-fn answer_all(
+fn answer_all<R: Read, W: Write>(
     served: Served,
     cells: &mut [i32],
     memory: &mut [u8],
@@ -255,8 +256,8 @@ fn answer_all(
     piece: &mut [u8],
     line: &mut [u8],
     out: &mut [u8],
-    input: i32,
-    output: i32,
+    input: &mut R,
+    output: &mut W,
 ) -> Served
     requires { (served.held ≤ length line.old) × (length line.old ≡ most-held) × (length answer.old ≤ most-lent) × (most-printed ≤ length out.old) }
     ensures numbers { result.held ≤ length line.old }
@@ -271,14 +272,14 @@ fn answer_all(
 }
 
 // Answers a last line that no newline ends, and writes what is printed for it.
-fn answer_last(
+fn answer_last<W: Write>(
     served: Served,
     cells: &mut [i32],
     memory: &mut [u8],
     answer: &mut [u8],
     line: &[u8],
     out: &mut [u8],
-    output: i32,
+    output: &mut W,
 ) -> Served
     requires { (served.held ≤ length line.now) × (length answer.old ≤ most-lent) × (most-printed ≤ length out.old) }
     ensures { Finishes (session_of served.state cells.old memory.old answer.old (take served.held line.now)) (session_of result.state cells.new memory.new answer.new []) (take result.printed out.new) }
@@ -292,14 +293,14 @@ fn answer_last(
 }
 
 // Answers a last line, as long as what is printed can be written.
-fn answer_end(
+fn answer_end<W: Write>(
     served: Served,
     cells: &mut [i32],
     memory: &mut [u8],
     answer: &mut [u8],
     line: &[u8],
     out: &mut [u8],
-    output: i32,
+    output: &mut W,
 ) -> Served
     requires { (served.held ≤ length line.now) × (length answer.old ≤ most-lent) × (most-printed ≤ length out.old) }
     ensures { Ends served.written (session_of served.state cells.old memory.old answer.old (take served.held line.now)) result.written (session_of result.state cells.new memory.new answer.new []) }
@@ -311,7 +312,7 @@ fn answer_end(
 }
 
 // Answers the lines of an input, a last one that no newline ends among them.
-fn answer_input(
+fn answer_input<R: Read, W: Write>(
     served: Served,
     cells: &mut [i32],
     memory: &mut [u8],
@@ -319,8 +320,8 @@ fn answer_input(
     piece: &mut [u8],
     line: &mut [u8],
     out: &mut [u8],
-    input: i32,
-    output: i32,
+    input: &mut R,
+    output: &mut W,
 ) -> Served
     requires { (served.held ≤ length line.old) × (length line.old ≡ most-held) × (length answer.old ≤ most-lent) × (most-printed ≤ length out.old) }
     ensures { Runs (session_of served.state cells.old memory.old answer.old (take served.held line.old)) result.written (session_of result.state cells.new memory.new answer.new []) }
@@ -351,15 +352,15 @@ fn open(cells: &mut [i32], memory: &mut [u8]) -> Served
 }
 
 // Opens a store, and answers the lines of an input until it ends or nothing more can be written.
-fn run(
+fn run<R: Read, W: Write>(
     cells: &mut [i32],
     memory: &mut [u8],
     answer: &mut [u8],
     piece: &mut [u8],
     line: &mut [u8],
     out: &mut [u8],
-    input: i32,
-    output: i32,
+    input: &mut R,
+    output: &mut W,
 ) -> Served
     requires { (length cells.old ≡ 4096) × (length memory.old ≡ 256) × (length answer.old ≡ most-lent) × (length line.old ≡ most-held) × (most-printed ≤ length out.old) }
     ensures { Serves (start_of cells.old memory.old) answer.old result.written (session_of result.state cells.new memory.new answer.new []) }
@@ -399,7 +400,7 @@ fn no_text() -> [u8; PRINTED]
 }
 
 // Opens a store, and answers the lines of an input until it ends or nothing more can be written.
-pub fn serve(input: i32, output: i32) {
+pub fn serve<R: Read, W: Write>(input: &mut R, output: &mut W) {
     let mut cells = no_cells();
     let mut memory = no_memory();
     let mut answer = no_answer();

@@ -7,17 +7,17 @@ use Rattle.serve.proofs.gather_on.Tie as tie
 gather-requires : tie.Need-gather-requires
 gather-requires c κs = search rules
 
-same_length : tie.Need-same-length
+same_length : tie.Need-shape_of-line
 same_length c = search rules
 
 returns : tie.Need-returns
 returns c =
-    let a = c.before.before.before.before.before.before.args in
-    let h = c.before.before.before.before.before.before.requires in
-    let g = c.before.before.gather in (
+    let a = c.args in
+    let h = c.requires in
+    let g = c.gather in (
       gathers-numbers a.piece.now a.at a.line.now a.held g.result _ g.ensures.0 g.ensures.1 h.1 h.2 h.0,
       gathers-line a.piece.now a.at a.line.now a.held g.result _ g.ensures.0 g.ensures.1 h.1 h.2,
     )
 
-pub gather-on-spec : {M : Type 1} → statement M
-gather-on-spec = tie.close (tie.spec gather-requires same_length returns)
+pub gather_on_spec : {M : Type 1} → statement M
+gather_on_spec = tie.close (tie.spec gather-requires same_length returns)

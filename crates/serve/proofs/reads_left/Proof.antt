@@ -7,14 +7,14 @@ use borrow.Author.Rules.{rules}
 use Rattle.serve.proofs.reads_left.Statement.{statement}
 use Rattle.serve.proofs.reads_left.Tie as tie
 
-sub-result : tie.Need-overflow-sub-result
+sub-result : tie.Need-overflow_sub-result
 sub-result c = search rules
 
-returns : tie.Need-returns
-returns c = (omega (arith, c.before.requires), sym (ap (λ (b : Bool). cond b (c.before.args.left - 1) 0) c.if1.true))
+returns : tie.Need-returns-then-written-got
+returns c = (omega (arith, c.requires), sym (ap (λ (b : Bool). cond b (c.args.left - 1) 0) c.if-written-got.true))
 
-returns-2 : tie.Need-returns-2
-returns-2 c = (c.before.requires, sym (ap (λ (b : Bool). cond b (c.before.args.left - 1) 0) c.if1.false))
+returns-2 : tie.Need-returns-else-written-got
+returns-2 c = (c.requires, sym (ap (λ (b : Bool). cond b (c.args.left - 1) 0) c.if-written-got.false))
 
-pub reads-left-spec : {M : Type 1} → statement M
-reads-left-spec = tie.close (tie.spec sub-result returns returns-2)
+pub reads_left_spec : {M : Type 1} → statement M
+reads_left_spec = tie.close (tie.spec sub-result returns returns-2)
