@@ -1,7 +1,12 @@
 // The stored scripts of data/, each given to a store of its own: what is printed for them is held to what an independent store printed (tests/store-scripts).
 #![tactic(auto)]
 
+use std::{fs, str};
+
 const SCRIPTS: u8 = 24;
+
+// Standard output.
+const OUT: i32 = 1;
 
 // The two digits of a number below 100, and `.desk` behind them.
 fn name(n: u8) -> [u8; 7] {
@@ -17,27 +22,22 @@ fn name(n: u8) -> [u8; 7] {
 }
 
 fn print(text: &[u8]) {
-    io::write_all(libc::STDOUT_FILENO, text);
+    io::write_all(OUT, text);
 }
 
-fn replay(n: u8) {
+fn replay(rt: &HostRuntime, n: u8) {
     let path = name(n);
     print(b"-- ");
     print(&path[0..2]);
     print(b"\n");
-    let script = os::open_read(&path);
-    if script < 0 {
-        print(b"missing\n");
-        return;
+    match fs::open(rt, str::from_utf8(&path).unwrap_or("")) {
+        Ok(mut script) => serve::serve(&mut script, &mut rt.stdout()),
+        Err(_) => print(b"missing\n"),
     }
-    serve::serve(script, libc::STDOUT_FILENO);
-    libc::close(script);
 }
 
-fn main() {
-    let mut n: u8 = 0;
-    while n < SCRIPTS {
-        n += 1;
-        replay(n);
+fn main(rt: HostRuntime) {
+    for n in 1..=SCRIPTS {
+        replay(&rt, n);
     }
 }
