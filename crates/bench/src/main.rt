@@ -15,6 +15,8 @@ use calls::COUNTERS;
 use plan::{Call, PLAN};
 use script::{print, print_item};
 use slots::SlotList;
+use std::io as streams;
+use std::time::Instant;
 use table::{Query, Table};
 
 // The most values of a list.
@@ -24,7 +26,7 @@ const VALUES: usize = 65536;
 const RECORD: usize = 8 + 4 * (Query::SELECTED * (Table::ROWS as usize));
 
 // The state, and of the list: its calls, and the values that they use.
-#[derive(Drop)]
+#[derive(Clone, Copy)]
 struct Bench {
     state: State,
     calls: usize,
@@ -57,9 +59,20 @@ fn print_counters(counters: [u64; COUNTERS], sum: bool) {
     print(b"\n");
 }
 
-// The processor time used, in microseconds.
-fn print_time() {
-    script::print_line(b"time ", script::natural(libc::clock()));
+// The clock, and when the program began.
+#[derive(Clone, Copy)]
+struct Watch<'a> {
+    rt: &'a HostRuntime,
+    start: Instant,
+}
+
+// The time since the program began, in microseconds.
+fn print_time(watch: Watch<'_>) {
+    let micros = match watch.start.elapsed(watch.rt) {
+        Ok(time) => u64::try_from(time.as_micros()).unwrap_or(0),
+        Err(_) => 0,
+    };
+    script::print_line(b"time ", micros);
 }
 
 // ---- the list, run
@@ -230,6 +243,7 @@ fn run_other(
     cells: &mut [i32],
     memory: &mut [u8],
     answer: &mut [u8],
+    watch: Watch<'_>,
 ) -> Bench {
     let letter = plan::letter(line);
     let count = script::count_at(line, 1);
@@ -239,7 +253,7 @@ fn run_other(
             s.calls = 0;
             s.used = 0;
         }
-        plan::TIME => print_time(),
+        plan::TIME => print_time(watch),
         plan::KEEP => keep(s, n, input, plan, values, cells, memory, answer),
         plan::RUN | plan::CHECK => {
             let state = run(s, letter, n, input, plan, values, cells, memory, answer);
@@ -259,6 +273,7 @@ fn run_line(
     cells: &mut [i32],
     memory: &mut [u8],
     answer: &mut [u8],
+    watch: Watch<'_>,
 ) -> Bench {
     let line = script::part(input, at, b'\n');
     let letter = plan::letter(line);
@@ -270,7 +285,7 @@ fn run_line(
         let call = number_call(line, values, s.used);
         return with_call(s, plan, call, call.to);
     }
-    run_other(s, line, input, plan, values, cells, memory, answer)
+    run_other(s, line, input, plan, values, cells, memory, answer, watch)
 }
 
 // ---- all lines
@@ -298,11 +313,12 @@ fn run_all(
     cells: &mut [i32],
     memory: &mut [u8],
     answer: &mut [u8],
+    watch: Watch<'_>,
 ) {
     let mut s = no_store(cells, memory);
     let mut at = 0;
     while at < input.len() {
-        s = run_line(s, input, at, plan, values, cells, memory, answer);
+        s = run_line(s, input, at, plan, values, cells, memory, answer, watch);
         at = script::next_line(input, at);
     }
 }
@@ -338,7 +354,8 @@ fn no_record() -> [u8; RECORD]
     [0; RECORD]
 }
 
-fn main() {
+fn main(rt: HostRuntime) -> streams::Result<()> {
+    let start = Instant::now(&rt)?;
     let mut input = no_memory();
     let mut plan = no_plan();
     let mut values = no_values();
@@ -353,5 +370,7 @@ fn main() {
         &mut cells,
         &mut memory,
         &mut answer,
+        Watch { rt: &rt, start },
     );
+    Ok(())
 }

@@ -34,7 +34,7 @@ pub const CHECK: usize = 67;
 pub const TIME: usize = 84;
 
 // A call.
-#[derive(Drop)]
+#[derive(Clone, Copy)]
 pub struct Call {
     pub letter: usize,
     pub number: usize,

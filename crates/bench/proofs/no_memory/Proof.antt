@@ -7,5 +7,5 @@ use Rattle.bench.proofs.no_memory.Tie as tie
 returns : tie.Need-returns
 returns c = sym (length-replicate {A = ℕ} 262144 0)
 
-pub no-memory-spec : {M : Type 1} → statement M
-no-memory-spec = tie.close (tie.spec returns)
+pub no_memory_spec : {M : Type 1} → statement M
+no_memory_spec = tie.close (tie.spec returns)

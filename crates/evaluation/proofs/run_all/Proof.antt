@@ -6,47 +6,47 @@ use lib.ListN.{length}
 use Rattle.evaluation.proofs.run_all.Statement.{statement}
 use Rattle.evaluation.proofs.run_all.Tie as tie
 
-abbrev invariant-loop : tie.invariant-loop
+abbrev invariant-loop : tie.invariant-loop-at
 invariant-loop input numbers₀ cells₀ out₀ s₀ at₀ numbers cells out s at = (length numbers ≡ length numbers₀) × (length cells ≡ length cells₀) × (length out ≡ length out₀)
 
-abbrev decreases-loop : tie.decreases-loop
+abbrev decreases-loop : tie.decreases-loop-at
 decreases-loop input numbers₀ cells₀ out₀ s₀ at₀ numbers cells out s at = length input - at
 
-empty-requires : tie.Need-empty-requires invariant-loop decreases-loop
+empty-requires : tie.Need-empty-s-requires invariant-loop decreases-loop
 empty-requires c κs = search rules
 
-loop-holds : tie.Need-loop-init invariant-loop decreases-loop
+loop-holds : tie.Need-loop-at-init invariant-loop decreases-loop
 loop-holds c = search rules
 
 part-requires : tie.Need-part-requires invariant-loop decreases-loop
 part-requires c κs = search rules
 
-run-requires : tie.Need-run-requires invariant-loop decreases-loop
+run-requires : tie.Need-run-s-requires invariant-loop decreases-loop
 run-requires c κs = search rules
 
-next-line-requires : tie.Need-next-line-requires invariant-loop decreases-loop
+next-line-requires : tie.Need-next_line-at-requires invariant-loop decreases-loop
 next-line-requires c κs = search rules
 
-loop-less : tie.Need-loop-smaller invariant-loop decreases-loop
+loop-less : tie.Need-loop-at-smaller invariant-loop decreases-loop
 loop-less c = search rules
 
-loop-again : tie.Need-loop-preserved invariant-loop decreases-loop
+loop-again : tie.Need-loop-at-preserved invariant-loop decreases-loop
 loop-again c = search rules
 
-same_length : tie.Need-same-length invariant-loop decreases-loop
+same_length : tie.Need-shape_of-numbers invariant-loop decreases-loop
 same_length c = search rules
 
-same-length-2 : tie.Need-same-length-2 invariant-loop decreases-loop
+same-length-2 : tie.Need-shape_of-cells invariant-loop decreases-loop
 same-length-2 c = search rules
 
-same-length-3 : tie.Need-same-length-3 invariant-loop decreases-loop
+same-length-3 : tie.Need-shape_of-out invariant-loop decreases-loop
 same-length-3 c = search rules
 
 returns : tie.Need-returns invariant-loop decreases-loop
 returns c = search rules
 
-pub run-all-spec : {M : Type 1} → statement M
-run-all-spec =
+pub run_all_spec : {M : Type 1} → statement M
+run_all_spec =
     tie.close
     (tie.spec
     invariant-loop

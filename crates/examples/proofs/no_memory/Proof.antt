@@ -8,5 +8,5 @@ use Rattle.examples.proofs.no_memory.Tie as tie
 returns : tie.Need-returns
 returns c = sym (length-replicate {A = ℕ} 262145 0)
 
-pub no-memory-spec : {M : Type 1} → statement M
-no-memory-spec = tie.close (tie.spec returns)
+pub no_memory_spec : {M : Type 1} → statement M
+no_memory_spec = tie.close (tie.spec returns)

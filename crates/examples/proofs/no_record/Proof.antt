@@ -8,5 +8,5 @@ use Rattle.examples.proofs.no_record.Tie as tie
 returns : tie.Need-returns
 returns c = sym (length-replicate {A = ℕ} 2097128 0)
 
-pub no-record-spec : {M : Type 1} → statement M
-no-record-spec = tie.close (tie.spec returns)
+pub no_record_spec : {M : Type 1} → statement M
+no_record_spec = tie.close (tie.spec returns)

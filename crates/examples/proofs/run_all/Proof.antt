@@ -6,50 +6,50 @@ use lib.ListN.{length}
 use Rattle.examples.proofs.run_all.Statement.{statement}
 use Rattle.examples.proofs.run_all.Tie as tie
 
-abbrev invariant-loop : tie.invariant-loop
+abbrev invariant-loop : tie.invariant-loop-at
 invariant-loop input numbers₀ cells₀ memory₀ answer₀ s₀ at₀ numbers cells memory answer s at = (length numbers ≡ length numbers₀) × (length cells ≡ length cells₀) × (length memory ≡ length memory₀) × (length answer ≡ length answer₀)
 
-abbrev decreases-loop : tie.decreases-loop
+abbrev decreases-loop : tie.decreases-loop-at
 decreases-loop input numbers₀ cells₀ memory₀ answer₀ s₀ at₀ numbers cells memory answer s at = length input - at
 
-no-store-requires : tie.Need-no-store-requires invariant-loop decreases-loop
+no-store-requires : tie.Need-no_store-s-requires invariant-loop decreases-loop
 no-store-requires c κs = search rules
 
-loop-holds : tie.Need-loop-init invariant-loop decreases-loop
+loop-holds : tie.Need-loop-at-init invariant-loop decreases-loop
 loop-holds c = search rules
 
-part-requires : tie.Need-part-requires invariant-loop decreases-loop
+part-requires : tie.Need-part-line-requires invariant-loop decreases-loop
 part-requires c κs = search rules
 
-run-line-requires : tie.Need-run-line-requires invariant-loop decreases-loop
+run-line-requires : tie.Need-run_line-s-requires invariant-loop decreases-loop
 run-line-requires c κs = search rules
 
-next-line-requires : tie.Need-next-line-requires invariant-loop decreases-loop
+next-line-requires : tie.Need-next_line-at-requires invariant-loop decreases-loop
 next-line-requires c κs = search rules
 
-loop-less : tie.Need-loop-smaller invariant-loop decreases-loop
+loop-less : tie.Need-loop-at-smaller invariant-loop decreases-loop
 loop-less c = search rules
 
-loop-again : tie.Need-loop-preserved invariant-loop decreases-loop
+loop-again : tie.Need-loop-at-preserved invariant-loop decreases-loop
 loop-again c = search rules
 
-same_length : tie.Need-same-length invariant-loop decreases-loop
+same_length : tie.Need-shape_of-numbers invariant-loop decreases-loop
 same_length c = search rules
 
-same-length-2 : tie.Need-same-length-2 invariant-loop decreases-loop
+same-length-2 : tie.Need-shape_of-cells invariant-loop decreases-loop
 same-length-2 c = search rules
 
-same-length-3 : tie.Need-same-length-3 invariant-loop decreases-loop
+same-length-3 : tie.Need-shape_of-memory invariant-loop decreases-loop
 same-length-3 c = search rules
 
-same-length-4 : tie.Need-same-length-4 invariant-loop decreases-loop
+same-length-4 : tie.Need-shape_of-answer invariant-loop decreases-loop
 same-length-4 c = search rules
 
 returns : tie.Need-returns invariant-loop decreases-loop
 returns c = search rules
 
-pub run-all-spec : {M : Type 1} → statement M
-run-all-spec =
+pub run_all_spec : {M : Type 1} → statement M
+run_all_spec =
     tie.close
     (tie.spec
     invariant-loop
