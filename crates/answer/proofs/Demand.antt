@@ -1,5 +1,5 @@
 -- The claims of specs/Demand. Assumes nothing.
-use mathlib.Core.Path.{◌≡◌, refl, sym, ap, ◌∙◌}
+use mathlib.Core.Path.{◌≡◌, refl, ap, ◌∙◌}
 use mathlib.Core.Logic.{◌≢◌, ◌↔◌}
 use mathlib.Core.Bool.{Bool, true, false, ◌&&◌, cond}
 use mathlib.Core.List.{List, []}
@@ -11,7 +11,7 @@ use lib.Dec.{leb, ltb, eqb}
 use lib.ListN.{length, get_or, take, drop}
 use Rattle.lists.proofs.Bools.{and_left, and_right, and_both}
 use Rattle.meaning.specs.Record.{four_at, columns_in, row_count, row_bytes, is_record, has_row, row_refusal, row_part}
-use Rattle.answer.specs.Demand.{IsRecord, ShownExactlyIf, ShowsItsPart, RefusedShowsNothing, Demands}
+use Rattle.answer.specs.Demand.{IsRecord, Demands}
 
 module _ (bs : List ℕ) where
   -- the bytes of all rows

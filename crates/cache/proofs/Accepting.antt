@@ -1,11 +1,11 @@
 -- A text is accepted exactly if no refusal condition holds, of the program's call. Assumes nothing.
-use mathlib.Core.Path.{◌≡◌, refl, sym, ap, ap₂, ◌∙◌, subst}
-use mathlib.Core.Bool.{Bool, true, false, not, ◌&&◌, ◌||◌}
-use mathlib.Core.List.{List, [], ◌∷◌, map}
-use Prim.Native.Nat.{ℕ, ◌+◌, ◌-◌, ◌*◌, ◌≤◌, ◌<◌}
+use mathlib.Core.Path.{◌≡◌, refl, sym, ap, ◌∙◌, subst}
+use mathlib.Core.Bool.{Bool, true, false, not, ◌&&◌}
+use mathlib.Core.List.{List, []}
+use Prim.Native.Nat.{ℕ, ◌-◌, ◌*◌, ◌≤◌, ◌<◌}
 use native.Mathlib.Omega.{arith}
 use borrow.Author.Tests.{eqb-true, eq-eqb, leb-false, lt-leb, ltb-false, le-ltb}
-use lib.Dec.{eqb, leb, ltb}
+use lib.Dec.{eqb, leb}
 use lib.IntN.{nat_abs}
 use lib.ListN.{length, length-map, length-replicate}
 use Rattle.lists.specs.Lists.{All, cons}
@@ -22,12 +22,12 @@ use Rattle.meaning.specs.Demand.{Acceptable}
 use Rattle.meaning.proofs.Accepted as M
 use Rattle.meaning.proofs.Accepted.{clear}
 use Rattle.meaning.proofs.Limits.{within-exactly-if}
-use Rattle.statement.specs.Catalog.{schema_of, rowless, catalog}
+use Rattle.statement.specs.Catalog.{rowless, catalog}
 use Rattle.statement.specs.Compiled.{text_conditions}
 use Rattle.statement.proofs.SoundNames.{or-none}
 use Rattle.statement.proofs.Compiles.{schemas-are}
 use Rattle.cache.specs.declared.State.{State}
-use Rattle.cache.specs.Sound.{used_tables, schemas_in, areas_of, IsSound, sound_state}
+use Rattle.cache.specs.Sound.{used_tables, schemas_in, areas_of, sound_state}
 use Rattle.cache.specs.Means.{Typed}
 use Rattle.cache.specs.Calls.{unfit}
 use Rattle.cache.specs.Run.{Store, add, step}

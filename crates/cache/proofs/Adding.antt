@@ -23,9 +23,6 @@ use Rattle.meaning.specs.Plain as P
 use Rattle.meaning.specs.Plain.{Plain, schemas, no_place, is_none, its_sentence, other_lengths, add, or_else, lowest_of, refusal, adding, placed, added_text}
 use Rattle.meaning.specs.Demand.{Acceptable}
 use Rattle.meaning.proofs.Accepted.{text-taken}
-use Rattle.statement.specs.declared.Table.{Table}
-use Rattle.statement.specs.declared.Query.{Query}
-use Rattle.statement.specs.declared.Update.{Update}
 use Rattle.statement.specs.declared.Statement.{Statement as Struct}
 use Rattle.statement.specs.Catalog.{schema_of, catalog}
 use Rattle.statement.specs.Compiled.{table_struct, query_struct, update_struct, struct_of, text_conditions, struct_of_text, compiled_of}
@@ -37,7 +34,7 @@ use Rattle.table.specs.Evaluated.{row_cells}
 use Rattle.cache.specs.declared.State.{State}
 use Rattle.cache.specs.Sound.{used_tables, areas_of, sound_state}
 use Rattle.cache.specs.Means.{tables_from, Compiled, Means, Typed}
-use Rattle.cache.specs.Calls.{settled, compiled_beside, add_refused, added_table, added_query, added_update, added_by, add_refusal, add_of}
+use Rattle.cache.specs.Calls.{compiled_beside, add_refused, added_table, added_query, added_update, added_by, add_refusal, add_of}
 use Rattle.cache.specs.Run.{Store, step_add, step}
 use Rattle.cache.specs.Run as R
 use Rattle.cache.specs.Demand.{lengths_lent}

@@ -1,11 +1,11 @@
 -- A question that is answered on a sound state: new, its record reads back as the rows that Meaning lists, and the rows of its table are read; kept, it is its slot's
 -- bytes. Assumes nothing.
 use mathlib.Core.Path.{◌≡◌, refl, sym, ap, ◌∙◌, subst}
-use mathlib.Core.Logic.{◌≢◌, ◌⊎◌, inl, inr}
+use mathlib.Core.Logic.{◌⊎◌, inl, inr}
 use mathlib.Core.Bool.{Bool, true, false, cond}
 use mathlib.Core.Option.{Option, none, some}
-use mathlib.Core.List.{List, [], ◌∷◌, ◌++◌}
-use Prim.Native.Nat.{ℕ, zero, suc, ◌+◌, ◌≤◌, ◌<◌}
+use mathlib.Core.List.{List, [], ◌++◌}
+use Prim.Native.Nat.{ℕ, zero, suc, ◌+◌, ◌<◌}
 use native.Mathlib.Omega.{arith}
 use borrow.Author.Tests.{ltb-false}
 use lib.Dec.{leb, ltb}
@@ -34,12 +34,12 @@ use Rattle.table.proofs.Means.{answer-means}
 use Rattle.slots.specs.declared.Found.{Found}
 use Rattle.slots.specs.declared.Found.TheVariants.{At, Nothing}
 use Rattle.slots.specs.Keys.{key_of, slot_has}
-use Rattle.slots.specs.Order.{held_slots, front_of}
-use Rattle.slots.proofs.KeyLaws.{key-few, has_key, FoundAt, found_at, found_inside}
+use Rattle.slots.specs.Order.{front_of}
+use Rattle.slots.proofs.KeyLaws.{key-few, has_key, found_at, found_inside}
 use Rattle.cache.specs.declared.State.{State}
 use Rattle.cache.specs.Sound.{query_at, sound_state}
 use Rattle.cache.specs.Means.{Means, Typed}
-use Rattle.cache.specs.Calls.{settled, start_of, table_at, Asks, asks, ask_refused, ask_refusal, with_cache, bytes_at, cached_length, ask_cached, rows_at, rows_over, rows_for, record_at, too_many, new_refusal, newly, ask_new, ask_found, found_in, ask_of}
+use Rattle.cache.specs.Calls.{settled, start_of, table_at, Asks, asks, ask_refused, ask_refusal, with_cache, bytes_at, cached_length, ask_cached, rows_at, rows_over, rows_for, too_many, new_refusal, newly, ask_new, ask_found, found_in, ask_of}
 use Rattle.cache.specs.Run.{Store, Seen, ask, step_ask, step}
 use Rattle.cache.specs.Demand.{lengths_lent, NewAnswer, ItsSlotsBytes, KeptAnswer}
 use Rattle.cache.proofs.Sounds.{Sound, sound-is, query-at}

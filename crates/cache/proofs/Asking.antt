@@ -16,7 +16,7 @@ use Rattle.meaning.specs.Meaning.{Row, answer}
 use Rattle.meaning.specs.Record.{encode}
 use Rattle.meaning.specs.Plain as P
 use Rattle.meaning.specs.Plain.{Plain, record_of, ask, Out, refused, answered, guard, or_else, refusal}
-use Rattle.lists.specs.Lists.{All, keep, written, pairs}
+use Rattle.lists.specs.Lists.{All, keep, pairs}
 use Rattle.meaning.proofs.Accepted.{key-asked}
 use Rattle.meaning.proofs.Outer.{skipped-pairs}
 use Rattle.trace.specs.Model.{ask_refusal as plain_refusal, short_refusal, new_refusal as plain_new}

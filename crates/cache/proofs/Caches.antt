@@ -10,7 +10,7 @@ use borrow.Author.Tests.{leb-true}
 use lib.Dec.{leb}
 use lib.ListN.{length, set}
 use lib.Seq.{get_or-set_same, get_or-set_other}
-use Rattle.lists.specs.Lists.{All, keep, count, written}
+use Rattle.lists.specs.Lists.{All, keep, written}
 use Rattle.lists.proofs.Lists.{All-map, map_same, keep-map}
 use Rattle.lists.proofs.Written.{slot-written, slot-length}
 use Rattle.meaning.specs.Key as M

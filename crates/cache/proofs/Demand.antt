@@ -25,8 +25,7 @@ use Rattle.trace.specs.Model as T
 use Rattle.trace.specs.Model.{Model, turned, asked}
 use Rattle.trace.specs.Demand as D
 use Rattle.trace.proofs.Demand.{demands as on-model}
-use Rattle.cache.specs.Sound.{opening}
-use Rattle.cache.specs.Run.{Start, opening_of, opened, Call, add, ask, update, flush, Got, Seen, step, after, plain_call, got_of, plain_after}
+use Rattle.cache.specs.Run.{Start, opening_of, opened, Call, add, ask, update, flush, Got, step, after, plain_call, got_of, plain_after}
 use Rattle.cache.specs.Means.{Means}
 use Rattle.cache.specs.Demand.{SameAsPlain, slot_count, slot_size, past, next_ask, AnewOnlyIf, ThirdDemand, StandsInList, DropsInList, KeptOtherwise, RowsRead, Values32, AnswerReadsBack, Demands}
 use Rattle.cache.proofs.SoundMeans.{sound-exactly-if}

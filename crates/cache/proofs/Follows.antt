@@ -6,11 +6,10 @@ use mathlib.Core.List.{List, [], ◌∷◌, map}
 use Prim.Native.Nat.{ℕ, ◌≤◌, zero-le}
 use lib.IntN.{ℤ, pos}
 use lib.ListN.{length, replicate, length-replicate}
-use Rattle.lists.specs.Lists.{nil}
 use Rattle.meaning.specs.Limits.{most-slots}
 use Rattle.meaning.specs.Plain as P
 use Rattle.meaning.specs.Plain.{Lengths, Plain, Opening, opening_refused, Out}
-use Rattle.trace.specs.Slots.{slot_bytes, empty}
+use Rattle.trace.specs.Slots.{empty}
 use Rattle.trace.specs.Model as T
 use Rattle.trace.specs.Model.{Model}
 use Rattle.slots.specs.Keys.{no_key}

@@ -3,7 +3,7 @@ use mathlib.Core.Path.{◌≡◌, refl, sym, ap, ◌∙◌, subst}
 use mathlib.Core.Bool.{Bool, true, false, ◌&&◌, cond}
 use mathlib.Core.Option.{Option, some}
 use mathlib.Core.List.{List, [], ◌++◌, map}
-use Prim.Native.Nat.{ℕ, zero, suc, ◌+◌, ◌≤◌, ◌<◌}
+use Prim.Native.Nat.{ℕ, zero, suc, ◌≤◌, ◌<◌}
 use native.Mathlib.Omega.{arith}
 use borrow.Author.Tests.{eqb-true}
 use lib.Dec.{eqb, ltb}
@@ -36,7 +36,7 @@ use Rattle.cache.specs.declared.State.{State}
 use Rattle.cache.specs.declared.Added.{Added}
 use Rattle.cache.specs.Sound.{sound_state, length_at, query_at}
 use Rattle.cache.specs.Means.{Means, Typed}
-use Rattle.cache.specs.Calls.{settled, added_of, added_by, add_refusal, add_of, compiled_beside, add_refused, Asks, asks, ask_refused, ask_refusal, with_cache, bytes_at, ask_cached, kept, record_at, new_refusal, newly, ask_new, ask_found, found_in, ask_of, Updates, updates, update_at, update_refused, update_refusal, is_matched, with_change, update_done, update_of, unfit, emptied, flush_of}
+use Rattle.cache.specs.Calls.{settled, added_of, added_by, add_refusal, add_of, compiled_beside, add_refused, Asks, asks, ask_refused, ask_refusal, with_cache, bytes_at, ask_cached, record_at, new_refusal, newly, ask_new, ask_found, found_in, ask_of, Updates, updates, update_at, update_refused, update_refusal, is_matched, with_change, update_done, update_of, unfit, emptied, flush_of}
 use Rattle.cache.specs.Run.{Store, Call, add, ask, update, flush, Got, Seen, step_ask, step_update, step_flush, step, plain_call, buffer_of, got_of}
 use Rattle.cache.specs.Demand.{lengths_lent}
 use Rattle.cache.proofs.Sounds.{Sound, sound-is, held_below, held-sound, query-at}

@@ -1,22 +1,21 @@
 -- What an opening gives, taken or refused; and that a flush drops every kept answer. Assumes nothing.
-use mathlib.Core.Path.{◌≡◌, refl, sym, ap, ◌∙◌}
+use mathlib.Core.Path.{◌≡◌, refl, sym, ap}
 use mathlib.Core.Logic.{◌≢◌, ◌↔◌}
 use mathlib.Core.Bool.{Bool, true, false, cond}
 use mathlib.Core.List.{[], map}
-use Prim.Native.Nat.{ℕ, ◌≤◌}
+use Prim.Native.Nat.{◌≤◌}
 use native.Mathlib.Omega.{arith}
-use lib.IntN.{ℤ, pos}
+use lib.IntN.{pos}
 use lib.ListN.{length, replicate}
-use Rattle.lists.specs.Lists.{from}
 use Rattle.lists.proofs.Bools.{clash}
 use Rattle.meaning.specs.Plain.{Opening, opening_refused}
 use Rattle.slots.specs.declared.SlotList.{SlotList}
 use Rattle.slots.specs.Keys.{key_read, slot_key}
-use Rattle.slots.specs.Order.{held_slots, open_of as slots_open, clear_of}
+use Rattle.slots.specs.Order.{held_slots, open_of as slots_open}
 use Rattle.slots.proofs.Laws.{open-slots, clear-is}
 use Rattle.cache.specs.Sound.{opening, OpeningWithin}
 use Rattle.cache.specs.Calls.{Opens, opens, empty_state, open_of, unfit, with_cache, emptied, flush_of}
-use Rattle.cache.specs.Run.{Store, Start, opening_of, opened_by, opened, store_of, step_flush, step, flush}
+use Rattle.cache.specs.Run.{Store, Start, opening_of, store_of, step_flush, step}
 use Rattle.cache.specs.Demand.{Fresh, OpensExactlyIf, OpeningTaken, OpeningRefused, keys_held, FlushDropsAll}
 use Rattle.cache.proofs.Sounds.{sizes-fit, fit-sizes}
 

@@ -25,7 +25,7 @@ use Rattle.statement.specs.Compiled.{struct_of, text_conditions, struct_of_text,
 use Rattle.cache.specs.declared.State.{State}
 use Rattle.cache.specs.declared.Added.{Added}
 use Rattle.cache.specs.Sound.{sound_state}
-use Rattle.cache.specs.Calls.{settled, unfit, compiled_beside, add_refused, added_of, has_place, added_by, add_refusal, add_of}
+use Rattle.cache.specs.Calls.{unfit, compiled_beside, add_refused, added_of, has_place, added_by, add_refusal, add_of}
 use Rattle.cache.proofs.Tested.{counts-few, counts_of}
 use Rattle.cache.proofs.Settled.{settled-refused, settled-done}
 

@@ -15,13 +15,12 @@ use Rattle.lists.proofs.Bools.{and_left, and_right, and_both, or_left, or_right,
 use Rattle.lists.proofs.Lists.{All-map, All-both, All-take, all_true, all-of, All-source, All-image}
 use Rattle.lists.proofs.Places.{All-at}
 use Rattle.meaning.specs.Limits.{most-cells, most-memory, most-slots, least-slot-bytes, most-slot-bytes, most-tables, most-queries, most-updates}
-use Rattle.meaning.specs.Names.{Schema}
 use Rattle.meaning.specs.Plain.{Opening, opening_refused}
 use Rattle.statement.specs.declared.Table.{Table}
 use Rattle.statement.specs.declared.Query.{Query}
 use Rattle.statement.specs.declared.Update.{Update}
 use Rattle.statement.specs.Compiled.{no_table, no_query, no_update}
-use Rattle.statement.specs.Catalog.{schema_of, schemas_of}
+use Rattle.statement.specs.Catalog.{schema_of}
 use Rattle.statement.specs.Sound as S
 use Rattle.statement.specs.Sound.{sound_query, sound_update, TablesFit}
 use Rattle.statement.proofs.SoundNames.{or-none}
@@ -32,7 +31,7 @@ use Rattle.slots.specs.Keys.{slot_key, held_keys, same_key, held_twice}
 use Rattle.slots.specs.Order.{held_slots}
 use Rattle.slots.proofs.Laws as L
 use Rattle.cache.specs.declared.State.{State}
-use Rattle.cache.specs.Sound.{opening, sound_sizes, sound_counts, used_tables, areas_of, sound_areas, start_fits, rows_fit, sound_rows, length_at, length_fits, sound_lengths, query_at, sound_key, sound_keys, sound_tables, sound_answers, sound_state, used_queries, used_updates, OpeningWithin, KeyFits, schemas_in, sizes_of}
+use Rattle.cache.specs.Sound.{sound_sizes, sound_counts, used_tables, areas_of, sound_areas, start_fits, rows_fit, sound_rows, length_at, length_fits, sound_lengths, query_at, sound_key, sound_keys, sound_tables, sound_answers, sound_state, used_queries, used_updates, OpeningWithin, KeyFits, schemas_in, sizes_of}
 use Rattle.cache.specs.Calls.{table_at, update_at}
 use Rattle.cache.specs.Means.{Typed}
 

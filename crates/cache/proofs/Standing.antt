@@ -10,11 +10,11 @@ use native.Mathlib.Omega.{arith}
 use borrow.Author.Tests.{ltb-true}
 use lib.Dec.{ltb}
 use lib.IntN.{ℤ}
-use lib.ListN.{length, get_or, take, length-map, get_or-map}
+use lib.ListN.{length, get_or, length-map, get_or-map}
 use lib.Seq.{length-take-le, get_or-take}
 use Rattle.lists.specs.Lists.{All, nil, cons}
 use Rattle.lists.proofs.Bools.{and_left}
-use Rattle.lists.proofs.Lists.{All-map, All-both, All-take}
+use Rattle.lists.proofs.Lists.{All-map}
 use Rattle.lists.proofs.Places.{All-at}
 use Rattle.meaning.specs.Limits.{most-items}
 use Rattle.meaning.specs.Names.{Schema}
@@ -34,7 +34,7 @@ use Rattle.cache.specs.Means as L
 use Rattle.cache.specs.Means.{tables_in, Compiled, Means, Typed}
 use Rattle.cache.specs.Calls.{start_of, table_at, update_at}
 use Rattle.cache.specs.Demand.{FromSentences, StandsForPlain}
-use Rattle.cache.proofs.Sounds.{Sound, sound-is, schemas-long, tables-fit, query-at, update-at, All-first}
+use Rattle.cache.proofs.Sounds.{Sound, schemas-long, query-at, update-at, All-first}
 use Rattle.cache.proofs.SoundMeans.{sentence-holds}
 use Rattle.cache.proofs.Areas.{schemas-from}
 use Rattle.cache.proofs.Pushing.{area-inside as area_in}

@@ -7,7 +7,7 @@ use native.Mathlib.Omega.{arith}
 use borrow.Author.Tests.{leb-false, le-leb, eq-eqb}
 use lib.Dec.{eqb, leb}
 use lib.IntN.{ℤ}
-use lib.ListN.{length, get_or, take, drop, set}
+use lib.ListN.{length, get_or, take, set}
 use lib.Seq.{get_or-take, length-take-le, take-set-lt, take-take}
 use Rattle.lists.proofs.Bools.{and_both}
 use Rattle.lists.proofs.Places.{All-at}

@@ -2,18 +2,17 @@
 use mathlib.Core.Path.{◌≡◌, refl, sym, ap, ap₂, ◌∙◌, subst}
 use mathlib.Core.Bool.{Bool, true, false, cond}
 use mathlib.Core.Option.{none, some}
-use mathlib.Core.List.{List, [], ◌∷◌, ◌++◌, map}
-use Prim.Native.Nat.{ℕ, zero, suc, ◌+◌, ◌-◌, ◌*◌, ◌≤◌, ◌<◌}
+use mathlib.Core.List.{List, [], ◌∷◌, ◌++◌}
+use Prim.Native.Nat.{ℕ, suc, ◌+◌, ◌-◌, ◌≤◌, ◌<◌}
 use native.Mathlib.Omega.{arith}
 use borrow.Author.Tests.{le-ltb, le-leb, leb-true, leb-false, lt-ltb}
 use lib.Dec.{leb, ltb}
 use lib.IntN.{ℤ}
 use lib.ListN.{length, take, drop, get_or, length-map}
-use Rattle.lists.specs.Lists.{All, nil, cons, keep, pairs, turned, written}
+use Rattle.lists.specs.Lists.{All, nil, cons, keep, pairs, turned}
 use Rattle.lists.proofs.Turned.{length-turned}
 use Rattle.lists.proofs.Bools.{and_left, and_right}
 use Rattle.lists.proofs.Places.{get_or-inside, length-keep}
-use Rattle.meaning.specs.Cells.{rows_in}
 use Rattle.meaning.specs.Limits.{most-items, most-rows, most-listed}
 use Rattle.meaning.specs.Names.{Schema}
 use Rattle.meaning.specs.Meaning.{Row}
@@ -28,10 +27,9 @@ use Rattle.statement.specs.Compiled.{no_table, no_query}
 use Rattle.statement.specs.Sound.{second_by, second_read, sound_table, sound_tables}
 use Rattle.statement.proofs.SoundTable.{table-parts}
 use Rattle.table.specs.declared.listing.Selected.{Selected}
-use Rattle.table.specs.Evaluated.{row_cells, area_rows, rows_used, meets_stored, selected_stored, answer_stored, record_stored, selected_by, selected_in, rows_paired, passes_stored, pairs_used, pairs_read, paired_refusal, said_by, paired_put, pair_says, pair_leaves}
+use Rattle.table.specs.Evaluated.{row_cells, area_rows, rows_used, meets_stored, selected_stored, answer_stored, record_stored, selected_by, selected_in, rows_paired, passes_stored, pairs_used, pairs_read, paired_refusal, said_by, pair_says, pair_leaves}
 use Rattle.cache.specs.declared.State.{State}
 use Rattle.cache.specs.Sound.{used_tables, areas_of, query_at}
-use Rattle.cache.specs.Means.{Typed}
 use Rattle.cache.specs.Calls.{start_of, table_at, rows_at, rows_over, rows_for, read_over, read_for, record_at, too_many, new_refusal}
 use Rattle.cache.specs.Outcomes.{WorksOut}
 use Rattle.cache.proofs.Sounds.{Sound, All-first}

@@ -1,7 +1,6 @@
 -- The user's three demands, about the calls as the program makes them: `Calls` is what the contracts of the code say that it gives and leaves. Each claim stands below
 -- its sentence, and is proved in proofs/Demand. Assumes nothing: these are definitions.
 use Rattle.std.specs.Prelude.{◌≡◌, ◌≢◌, ◌⊎◌, ◌↔◌, Bool, true, false, not, ◌&&◌, cond, List, [], ◌∷◌, ◌++◌, map, ℕ, ◌+◌, ◌*◌, ◌≤◌, ◌<◌, eqb, ltb, ℤ, pos, nat_abs, length, get_or, replicate}
-use Rattle.std.proofs.Math.Option.{Option, none, some}
 use Rattle.lists.specs.Lists.{All, any, keep, count, from, written}
 use Rattle.meaning.specs.Key.{Key, same_key}
 use Rattle.meaning.specs.Demand.{rank, WithinLimits, ReadsBack, Is32, rows_listed}
@@ -9,7 +8,7 @@ use Rattle.meaning.specs.Tokens.{tokens}
 use Rattle.meaning.specs.Grammar as G
 use Rattle.meaning.specs.Grammar.{items, Sentence, spell}
 use Rattle.meaning.specs.Names.{Schema, unknown, taken, miscounted, twice}
-use Rattle.meaning.specs.Statement.{Second, creates, asks, changes, statement_of}
+use Rattle.meaning.specs.Statement.{creates, asks, changes, statement_of}
 use Rattle.meaning.specs.Plain as P
 use Rattle.meaning.specs.Plain.{Plain, schemas, Opening, opening_refused, record_of, matches_key}
 use Rattle.trace.specs.History.{Event, history, fits, Answered, hits, since, Filled, Ground}

@@ -1,13 +1,11 @@
 -- Which plain store a state and its cells stand for: document 01, "The plain store". Its tables are read off the state and the cells; its statements agree with the stored
 -- ones in every used entry, which fixes their table, columns, marks, truth and clauses. That there are sentences behind them, which refusals 4 to 8 let pass, is claimed of every
 -- sound state (`Demand.StandsForPlain`). Assumes nothing: these are definitions.
-use Rattle.std.specs.Prelude.{◌≡◌, List, [], ◌∷◌, ℕ, ◌+◌, ◌*◌, ℤ, length, take}
+use Rattle.std.specs.Prelude.{◌≡◌, List, [], ◌∷◌, ℕ, ◌+◌, ◌*◌, ℤ, length}
 use Rattle.lists.specs.Lists.{All}
 use Rattle.meaning.specs.Plain as P
 use Rattle.meaning.specs.Plain.{Plain}
 use Rattle.statement.specs.declared.Table.{Table}
-use Rattle.statement.specs.declared.Query.{Query}
-use Rattle.statement.specs.declared.Update.{Update}
 use Rattle.statement.specs.Catalog.{schema_of}
 use Rattle.statement.specs.Sound.{AgreesQuery, AgreesUpdate, QueryFits, UpdateFits, TableStructFits}
 use Rattle.table.specs.Evaluated.{rows_used}

@@ -1,6 +1,6 @@
 -- A line of `desk` answered: document 01, "Examples", last paragraph. A store is the state with its lent memories; a line makes one call, or is a bad line, which the store
 -- is not asked. Assumes nothing: these are definitions.
-use Rattle.std.specs.Prelude.{List, [], ◌∷◌, ℕ, ℤ, length, take}
+use Rattle.std.specs.Prelude.{List, [], ◌∷◌, ℕ, ℤ, take}
 use Rattle.cache.specs.declared.State.{State}
 use Rattle.cache.specs.Calls.{settled}
 use Rattle.cache.specs.Run.{Store, Call, add, ask, update, flush, Seen, step}

@@ -2,7 +2,7 @@
 -- adding it gives, or 0 where it is taken, by computation. Each limit stands at its last good value and one past it. Assumes nothing.
 use Rattle.std.specs.Prelude.{◌≡◌, refl, true, List, [], ◌∷◌, ◌++◌, map, ℕ, replicate}
 use Prim.Native.String.{String}
-use Rattle.lists.specs.Lists.{bytes, all, All, nil, cons}
+use Rattle.lists.specs.Lists.{bytes, all}
 use Rattle.meaning.specs.Plain.{Lengths, Plain, opened, Call, add, refusal, after, outs}
 use Rattle.meaning.specs.Examples.{computing, is_taken}
 

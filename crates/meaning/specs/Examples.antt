@@ -2,7 +2,7 @@
 -- with them the names of request A.2; those of A.1, A.4, A.5 and A.6 are in `Paired`, `Rings`, `Nulls` and `Outer`. Assumes nothing.
 use Rattle.std.specs.Prelude.{◌≡◌, refl, Bool, true, false, cond, List, [], ◌∷◌, ◌++◌, map, ℕ, ◌-◌, ℤ, pos, ltb, get_or}
 use Prim.Native.String.{String}
-use Rattle.lists.specs.Lists.{bytes, all, All, nil, cons}
+use Rattle.lists.specs.Lists.{bytes, all}
 use Rattle.lists.specs.Tests.{eq_list}
 use Rattle.meaning.specs.Condition.{count_of}
 use Rattle.meaning.specs.Tokens as T

@@ -2,7 +2,7 @@
 -- numbers are in `Edges`. Assumes nothing.
 use Rattle.std.specs.Prelude.{◌≡◌, refl, Bool, true, false, List, [], ◌∷◌, ◌++◌, map, ℕ, ℤ, pos, get_or}
 use Prim.Native.String.{String}
-use Rattle.lists.specs.Lists.{bytes, all, All, nil, cons}
+use Rattle.lists.specs.Lists.{bytes, all}
 use Rattle.meaning.specs.Operator.{null}
 use Rattle.meaning.specs.Meaning.{Row}
 use Rattle.meaning.specs.Pattern.{Pattern, number, mark, anything, patterns, patterns_of_two, matches}

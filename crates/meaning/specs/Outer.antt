@@ -1,7 +1,7 @@
 -- The rows that a question over two tables reads, request A.6, by computation: r1 + m × r2, of three rows beside three. Assumes nothing.
 use Rattle.std.specs.Prelude.{◌≡◌, refl, Bool, true, false, List, [], ◌∷◌, ◌++◌, map, ℕ, ℤ, length, get_or}
 use Prim.Native.String.{String}
-use Rattle.lists.specs.Lists.{bytes, All, nil, cons}
+use Rattle.lists.specs.Lists.{bytes}
 use Rattle.meaning.specs.Operator.{null}
 use Rattle.meaning.specs.Meaning.{Row}
 use Rattle.meaning.specs.Plain.{Table, Lengths, Plain, query_at, rows_read, opened, add, change, Out, step, after}

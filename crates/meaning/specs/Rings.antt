@@ -2,7 +2,7 @@
 -- numbers are in `Edges`. Assumes nothing.
 use Rattle.std.specs.Prelude.{◌≡◌, refl, Bool, true, false, List, [], ◌∷◌, ◌++◌, map, ℕ, pos, get_or}
 use Prim.Native.String.{String}
-use Rattle.lists.specs.Lists.{bytes, all, All, nil, cons}
+use Rattle.lists.specs.Lists.{bytes, all}
 use Rattle.meaning.specs.Meaning.{Row}
 use Rattle.meaning.specs.Pattern.{Pattern, number, mark, anything, removal, patterns, patterns_of_two}
 use Rattle.meaning.specs.Plain.{Lengths, Plain, table_at, query_at, update_at, pushed_by, matches_key, opened, Call, add, change, Out, refused, rows, step, after, outs}

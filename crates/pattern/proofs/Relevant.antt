@@ -2,13 +2,13 @@
 use mathlib.Core.Path.{◌≡◌, refl, sym, ap, ap₂, ◌∙◌}
 use mathlib.Core.Bool.{Bool, true, false, ◌&&◌, ◌||◌, cond, or-false}
 use mathlib.Core.List.{List, [], ◌∷◌, map}
-use Prim.Native.Nat.{ℕ, zero, suc, ◌+◌, ◌-◌, ◌≤◌, min}
+use Prim.Native.Nat.{ℕ, zero, suc, ◌+◌, ◌≤◌, min}
 use native.Mathlib.Omega.{arith}
 use lib.Dec.{eqb}
 use borrow.Author.Tests.{eq-eqb, ne_eqb, eqb-true, eqb-false}
 use lib.ListN.{length, take, length-map, length-take}
 use lib.Seq.{take-take, take_all, take-nil}
-use Rattle.lists.specs.Lists.{any, keep, cons_if, count}
+use Rattle.lists.specs.Lists.{any, keep, cons_if}
 use Rattle.lists.proofs.Bools.{or_assoc}
 use Rattle.lists.proofs.Lists.{any_append, any-map, map-take}
 use Rattle.meaning.specs.Condition as C

@@ -1,7 +1,6 @@
 -- Parts of a text between bytes, and numbers. Assumes nothing: these are definitions.
 use Rattle.std.specs.Prelude.{Bool, true, false, not, List, [], ◌∷◌, ℕ, zero, suc, ◌+◌, min, eqb, ℤ, pos, negsuc, length, drop, get_or}
 use Rattle.lists.specs.Lists.{take_while}
-use Rattle.token.specs.declared.Token.{Token}
 use Rattle.token.specs.Tokens.{token_at}
 use Rattle.script.specs.declared.numbers.Count.{Count}
 

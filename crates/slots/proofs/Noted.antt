@@ -3,12 +3,12 @@
 use mathlib.Core.Path.{◌≡◌, refl, sym, ap, ap₂, ◌∙◌, subst}
 use mathlib.Core.Bool.{Bool, true, false, ◌&&◌, ◌||◌, or-false}
 use mathlib.Core.List.{List, [], ◌∷◌, ◌++◌, map}
-use Prim.Native.Nat.{ℕ, suc, ◌+◌, ◌%◌, ◌≤◌, ◌<◌}
+use Prim.Native.Nat.{ℕ, ◌+◌, ◌%◌, ◌≤◌, ◌<◌}
 use native.Mathlib.Numerals.{add-one}
 use native.Mathlib.Omega.{arith}
 use borrow.Author.Tests.{eqb-true, eqb-false, ne_eqb}
 use lib.Dec.{eqb}
-use lib.ListN.{length, take, get_or, set, replicate}
+use lib.ListN.{length, take, get_or, set}
 use lib.Seq.{take-suc, take-suc-set, get_or-set_same, get_or-set_other}
 use Rattle.lists.specs.Lists.{All, nil, cons, any, repeats}
 use Rattle.lists.proofs.Bools.{or_left, or_right, or_assoc, clash}

@@ -16,7 +16,7 @@ use Rattle.meaning.specs.Postfix.{Node, nodes_in, leaves, outer_marks_in}
 use Rattle.meaning.specs.Tokens as T
 use Rattle.meaning.specs.Tokens.{Name}
 use Rattle.meaning.specs.Grammar.{Given, Term, Test, comparison, Dotted, Listed, items, Sentence, table, select, pair, insert, update, delete, sentence}
-use Rattle.meaning.specs.Limits.{too_long, table_named, where_of, term_columns, term_givens, outside32, givens, mark_count, past_limit}
+use Rattle.meaning.specs.Limits.{too_long, table_named, where_of, term_columns, term_givens, outside32, mark_count, past_limit}
 use Rattle.meaning.specs.Names.{Schema, same_name, has, position, table_names, columns_of, missing, is_of, pair_place, pair_missing, unknown, taken, miscounted, twice}
 use Rattle.meaning.specs.Statement.{settings, setting_marks, numbered_all, resolved_where, statement_of}
 use Rattle.meaning.specs.Cells.{areas_size}

@@ -25,7 +25,6 @@ use Rattle.meaning.specs.Resolve.{is_below}
 use Rattle.meaning.specs.Pattern.{placed_from}
 use Rattle.statement.proofs.ByKind.{column-read, parameter-read}
 use Rattle.statement.specs.declared.Setting.{Setting}
-use Rattle.statement.specs.declared.Comparison.{Comparison}
 use Rattle.statement.specs.Compiled.{operand_struct, comparison_struct, no_comparison, condition_struct, setting_struct}
 use Rattle.statement.specs.Built.{places_of, places_below, operand_below, sides_below, condition_below, unknown_on, settings_from}
 use Rattle.statement.proofs.Found.{has-ltb}

@@ -1,5 +1,5 @@
 -- A condition prepared as numbers, one comparison after another. Assumes nothing.
-use Prim.Native.Nat.{ℕ, zero, suc, ◌+◌, ◌*◌, ◌≤◌, ◌<◌, min}
+use Prim.Native.Nat.{ℕ, zero, suc, ◌+◌, ◌*◌, ◌≤◌, ◌<◌}
 use mathlib.Core.Path.{◌≡◌, refl, sym, ap, ap₂, ◌∙◌, subst}
 use mathlib.Core.Bool.{Bool, true, false, cond}
 use mathlib.Core.List.{List}
@@ -22,7 +22,7 @@ use Rattle.statement.specs.Sound.{operand_read, comparison_read}
 use Rattle.statement.specs.declared.Comparison.{Comparison}
 use Rattle.statement.specs.declared.Condition.{Condition}
 use Rattle.statement.specs.declared.Operand.{Operand}
-use Rattle.table.specs.Tests.{longest, met, unmet, right_tested, place_in, number_in, place_of, number_of, side_at, next_at, Prepared}
+use Rattle.table.specs.Tests.{longest, met, right_tested, place_in, number_in, place_of, number_of, side_at, next_at, Prepared}
 use Rattle.table.specs.Linking.{exit, target_by, targets_put, Unlinked, Linked}
 use Rattle.table.proofs.Linking.{exit_out}
 use Rattle.table.proofs.Tested.{Shaped, prepared-by}

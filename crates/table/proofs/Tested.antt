@@ -12,7 +12,7 @@ use lib.Seq.{drop-cons, get_or-take, take_all}
 use Rattle.lists.specs.Lists.{All, nil, cons, cons_if, keep}
 use Rattle.meaning.specs.Cells.{rows_in}
 use Rattle.meaning.specs.Condition as C
-use Rattle.meaning.specs.Postfix.{top, joined, run_on, truth_of}
+use Rattle.meaning.specs.Postfix.{top, joined, run_on}
 use Rattle.meaning.specs.Meaning.{Row, operand_value}
 use Rattle.statement.specs.Operators.{order_of}
 use Rattle.statement.specs.Compiled.{no_comparison}
@@ -22,7 +22,7 @@ use Rattle.statement.specs.declared.Condition.{Condition}
 use Rattle.statement.proofs.OperatorLaws.{order_small}
 use Rattle.table.specs.Evaluated.{meets_stored}
 use Rattle.table.specs.Changed.{settled}
-use Rattle.table.specs.Tests.{longest, met, unmet, side_at, next_at, arrives, Forward, passes, Prepared, TestsRow}
+use Rattle.table.specs.Tests.{longest, met, side_at, next_at, arrives, Forward, passes, Prepared, TestsRow}
 use Rattle.table.specs.Linking.{exit, run_at, held_of, Linked}
 use Rattle.table.proofs.Means.{meets-where}
 

@@ -1,6 +1,6 @@
 -- How the targets of a test are made, as the code takes it: at first each comparison leads straight to `met` or `unmet`; then the steps of the condition join what they
 -- stand for, by leading the left part on to the right one. Assumes nothing: these are definitions.
-use Rattle.std.specs.Prelude.{◌≡◌, ◌≢◌, Bool, true, false, cond, ◌&&◌, ◌||◌, List, [], ◌∷◌, ℕ, zero, suc, ◌+◌, ◌*◌, ◌-◌, ◌≤◌, ◌<◌, ltb, leb, eqb, ℤ, pos, length, get_or, set, take}
+use Rattle.std.specs.Prelude.{◌≡◌, ◌≢◌, Bool, true, cond, ◌&&◌, ◌||◌, List, [], ◌∷◌, ℕ, zero, suc, ◌+◌, ◌*◌, ◌-◌, ◌≤◌, ◌<◌, ltb, leb, eqb, length, get_or, set, take}
 use Rattle.meaning.specs.Postfix.{top, joined}
 use Rattle.statement.specs.Operators.{predicate_at, truth_by}
 use Rattle.table.specs.Tests.{met, unmet, arrives, Forward}

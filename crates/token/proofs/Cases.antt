@@ -18,7 +18,6 @@ use Rattle.meaning.specs.Tokens as M
 use Rattle.meaning.specs.Tokens.{is_digit, is_small, is_capital, is_name_byte, is_word_byte, is_space, is_minus, folded, decimal, is_name, name, constant, other, keywords, keyword_or, is_keyword, word, negative, signs, sign_in, token_from, token_here, first_token}
 use Rattle.meaning.proofs.Stream.{from-word, from-minus, from-sign}
 use Rattle.meaning.proofs.Folding.{name-begins, small-keyword}
-use Rattle.token.specs.declared.Token.{Token}
 use Rattle.token.specs.Tokens.{kind_of, made, token_of, token_at}
 use Rattle.token.specs.Parts.{part, pair_of, single_of, read_at}
 use Rattle.token.proofs.Runs.{drop_here, length-zero}

@@ -1,7 +1,7 @@
 -- `State::add` meets its contract: refused with 2, refused by the text's number, or the statement placed. Assumes nothing.
 use borrow.Author.Rules.{rules}
 use mathlib.Core.Path.{◌≡◌}
-use lib.ListN.{length, length-map}
+use lib.ListN.{length}
 use Rattle.cache.specs.Calls.{unfit}
 use Rattle.cache.proofs.Settled.{unfit-is}
 use Rattle.cache.proofs.Placing.{add-unfit, add-refused, add_done, add-place}

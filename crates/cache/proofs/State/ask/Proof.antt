@@ -1,7 +1,7 @@
 -- `State::ask` meets its contract: its number, and what becomes of it. Assumes nothing.
 use mathlib.Core.Path.{◌≡◌}
 use borrow.Author.Rules.{rules}
-use lib.ListN.{length, length-map}
+use lib.ListN.{length}
 use Rattle.cache.proofs.Settled.{unfit-is}
 use Rattle.cache.proofs.AskReturns.{number-told}
 use Rattle.cache.proofs.State.ask.Statement.{statement}

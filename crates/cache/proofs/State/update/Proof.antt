@@ -1,7 +1,7 @@
 -- `State::update` meets its contract: its number, and what is left of its table and the slots, refused or not. Assumes nothing.
 use mathlib.Core.Path.{◌≡◌}
 use borrow.Author.Rules.{rules}
-use lib.ListN.{length, length-map}
+use lib.ListN.{length}
 use Rattle.cache.specs.Calls.{with_change, update_refusal}
 use Rattle.cache.proofs.Settled.{unfit-is}
 use Rattle.cache.proofs.UpdateReturns.{Long, update-told, effective, fewer, update-is}

@@ -4,7 +4,7 @@ use mathlib.Core.Path.{◌≡◌, refl, ap, ◌∙◌}
 use mathlib.Core.List.{List}
 use native.Mathlib.Omega.{arith}
 use borrow.Author.Rules.{rules}
-use lib.ListN.{length, length-set, length-map}
+use lib.ListN.{length, length-set}
 use Rattle.pattern.specs.declared.Place.{Place}
 use Rattle.pattern.specs.Stored.{placed, filled_place, filled_of}
 use Rattle.pattern.proofs.Mapped.{mapped, mapped-more, mapped-all}

@@ -5,7 +5,7 @@ use mathlib.Core.Path.{◌≡◌, refl, subst}
 use mathlib.Core.List.{map}
 use native.Mathlib.Omega.{arith}
 use borrow.Author.Rules.{rules}
-use lib.ListN.{length, take, get_or, length-map}
+use lib.ListN.{length, take, get_or}
 use Rattle.meaning.specs.Condition as C
 use Rattle.meaning.specs.Statement as M
 use Rattle.statement.specs.declared.Operand.{Operand}

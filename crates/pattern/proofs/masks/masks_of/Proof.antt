@@ -4,7 +4,7 @@ use Prim.Native.Nat.{◌+◌, ◌-◌, ◌*◌, ◌≤◌}
 use mathlib.Core.Path.{◌≡◌, refl, sym, subst, ◌∙◌}
 use native.Mathlib.Omega.{arith}
 use borrow.Author.Rules.{rules}
-use lib.ListN.{length, get_or, length-map}
+use lib.ListN.{length, get_or}
 use Rattle.pattern.specs.declared.masks.Stack.{Stack}
 use Rattle.pattern.proofs.Formed.{formed-few, formed-some}
 use Rattle.pattern.proofs.Running.{Running, run-start, run-steps, run_more, run-done, run_none}

@@ -1,12 +1,11 @@
 -- `script::numbers::count_at` meets its contract. Assumes nothing.
-use mathlib.Core.Path.{◌≡◌, ap, ap₂, ◌∙◌}
+use mathlib.Core.Path.{◌≡◌, ap, ◌∙◌}
 use Prim.Native.Nat.{ℕ}
 use borrow.Author.Rules.{rules}
 use mir.Syntax.{w32, w64}
-use mir.Val.{SFits, to_z, of_z}
+use mir.Val.{SFits}
 use mir.Facts.{sfits_widen, to_z-of_z}
 use Rattle.token.specs.declared.Token.{Token}
-use Rattle.script.specs.declared.numbers.Count.{Count}
 use Rattle.script.specs.Script.{natural_of}
 use Rattle.script.proofs.numbers.count_at.Statement.{statement}
 use Rattle.script.proofs.numbers.count_at.Tie as tie

@@ -1,7 +1,7 @@
 -- `is_sound` meets its contract. Assumes nothing.
 use borrow.Author.Rules.{rules}
 use mathlib.Core.Path.{◌≡◌, ◌∙◌}
-use lib.ListN.{length, length-map}
+use lib.ListN.{length}
 use Rattle.statement.specs.Sound.{used_steps, used_comparisons}
 use Rattle.soundness.specs.Parts.{steps_on}
 use Rattle.soundness.proofs.Numbering.{numbered-few}

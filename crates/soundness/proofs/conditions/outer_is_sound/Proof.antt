@@ -1,7 +1,7 @@
 -- `outer_is_sound` meets its contract. Assumes nothing.
 use borrow.Author.Rules.{rules}
 use mathlib.Core.Path.{◌≡◌, ◌∙◌}
-use lib.ListN.{length, length-map}
+use lib.ListN.{length}
 use Rattle.soundness.proofs.Outer.{outer_told}
 use Rattle.soundness.proofs.conditions.outer_is_sound.Statement.{statement}
 use Rattle.soundness.proofs.conditions.outer_is_sound.Tie as tie

@@ -5,7 +5,7 @@ use mathlib.Core.Bool.{true}
 use Prim.Native.Nat.{ℕ, ◌≤◌}
 use native.Mathlib.Omega.{arith}
 use lib.Dec.{eqb}
-use lib.ListN.{length, take, length-map}
+use lib.ListN.{length, take}
 use Rattle.soundness.specs.declared.statements.Numbered.{Numbered}
 use Rattle.soundness.specs.Parts.{form_fits, setting_marks}
 use Rattle.soundness.proofs.Settings.{settings-few, next-few, if-few, update-told, update-no}

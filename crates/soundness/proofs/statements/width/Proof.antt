@@ -2,7 +2,7 @@
 use borrow.Author.Rules.{rules}
 use mathlib.Core.Path.{◌≡◌}
 use native.Mathlib.Omega.{arith}
-use lib.ListN.{length, length-map}
+use lib.ListN.{length}
 use Rattle.statement.proofs.Found.{column-count}
 use Rattle.soundness.proofs.statements.width.Statement.{statement}
 use Rattle.soundness.proofs.statements.width.Tie as tie

@@ -1,5 +1,4 @@
 -- `mark_of` meets its contract. Assumes nothing.
-use borrow.Author.Rules.{rules}
 use mathlib.Core.Path.{sym}
 use Rattle.statement.proofs.ByKind.{mark_code}
 use Rattle.statement.proofs.assembling.mark_of.Statement.{statement}

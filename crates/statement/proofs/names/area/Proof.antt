@@ -3,7 +3,7 @@ use borrow.Author.Rules.{rules}
 use mathlib.Core.Path.{◌≡◌, ap}
 use Prim.Native.Nat.{ℕ, ◌*◌, ◌≤◌}
 use native.Mathlib.Omega.{arith}
-use lib.ListN.{length, length-map}
+use lib.ListN.{length}
 use Rattle.statement.proofs.Found.{names-count, area_small}
 use Rattle.statement.proofs.names.area.Statement.{statement}
 use Rattle.statement.proofs.names.area.Tie as tie

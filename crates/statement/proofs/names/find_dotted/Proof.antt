@@ -3,7 +3,7 @@ use borrow.Author.Rules.{rules}
 use mathlib.Core.Path.{◌≡◌, ap₂, ◌∙◌}
 use Prim.Native.Nat.{◌+◌, ◌≤◌, ◌<◌}
 use native.Mathlib.Omega.{arith}
-use lib.ListN.{length, length-map}
+use lib.ListN.{length}
 use Rattle.statement.specs.Catalog.{name_of_struct, scope_names, other_names}
 use Rattle.meaning.specs.Grammar.{Dotted}
 use Rattle.statement.specs.Built.{place_of}

@@ -2,7 +2,7 @@
 use borrow.Author.Rules.{rules}
 use mathlib.Core.Path.{◌≡◌, sym, ap, ◌∙◌}
 use mathlib.Core.Bool.{Bool}
-use lib.ListN.{length, length-map}
+use lib.ListN.{length}
 use Rattle.statement.specs.Built.{start_in}
 use Rattle.statement.proofs.Found.{names-count}
 use Rattle.statement.proofs.names.start.Statement.{statement}

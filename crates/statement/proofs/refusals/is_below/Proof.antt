@@ -1,7 +1,6 @@
 -- `is_below` meets its contract. Assumes nothing.
 use borrow.Author.Rules.{rules}
 use mathlib.Core.Path.{sym, ap}
-use native.Mathlib.Omega.{arith}
 use Rattle.meaning.specs.Resolve.{is_below}
 use Rattle.statement.proofs.ByKind.{is-constant, is-mark, is-column}
 use Rattle.statement.proofs.refusals.is_below.Statement.{statement}

@@ -2,7 +2,7 @@
 use mathlib.Core.Path.{◌≡◌}
 use native.Mathlib.Omega.{arith}
 use borrow.Author.Rules.{rules}
-use lib.ListN.{length, length-map}
+use lib.ListN.{length}
 use Rattle.table.proofs.Fitting.{place-room, inserted, updated, gone-few, deleted}
 use Rattle.table.proofs.changes.change_area.Statement.{statement}
 use Rattle.table.proofs.changes.change_area.Tie as tie

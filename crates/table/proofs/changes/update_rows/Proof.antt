@@ -1,9 +1,9 @@
 -- `update_rows` meets its contract. The invariant: the rows left, worked on by the test of the prepared numbers, give what is wanted (`Left`); of the rows in use that
 -- test says what the condition says (`rows_pass`). The measure is the rows left. Assumes nothing.
-use Prim.Native.Nat.{◌+◌, ◌-◌, ◌*◌, ◌≤◌}
+use Prim.Native.Nat.{◌+◌, ◌*◌, ◌≤◌}
 use mathlib.Core.Logic.{⊎_elim}
 use mathlib.Core.Path.{◌≡◌, sym, ap, ◌∙◌}
-use mathlib.Core.List.{List, map}
+use mathlib.Core.List.{map}
 use native.Mathlib.Omega.{arith}
 use borrow.Author.Rules.{rules}
 use lib.ListN.{length, take}

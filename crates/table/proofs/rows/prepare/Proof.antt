@@ -3,7 +3,7 @@ use Prim.Native.Nat.{◌-◌, ◌<◌}
 use mathlib.Core.Path.{◌≡◌, refl}
 use native.Mathlib.Omega.{arith}
 use borrow.Author.Rules.{rules}
-use lib.ListN.{length, length-map}
+use lib.ListN.{length}
 use Rattle.table.proofs.Preparing.{Filled, fill_start, fill_more, fill_done}
 use Rattle.table.proofs.Linking.{none-linked}
 use Rattle.table.proofs.rows.prepare.Statement.{statement}

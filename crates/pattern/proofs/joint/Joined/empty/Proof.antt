@@ -6,7 +6,6 @@ use native.Mathlib.Omega.{arith}
 use lib.ListN.{length, length-set, replicate}
 use lib.Seq.{paste}
 use Rattle.pattern.specs.Flat.{no_clause}
-use Rattle.pattern.specs.declared.joint.Joined.{Joined}
 use Rattle.pattern.proofs.Numbering.{asked-codes, mark-more, mark-done}
 use Rattle.pattern.proofs.joint.Joined.empty.Statement.{statement}
 use Rattle.pattern.proofs.joint.Joined.empty.Tie as tie
