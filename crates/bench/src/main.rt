@@ -15,8 +15,7 @@ use calls::COUNTERS;
 use plan::{Call, PLAN};
 use script::{print, print_item};
 use slots::SlotList;
-use std::io as streams;
-use std::time::Instant;
+use std::time::CpuClock;
 use table::{Query, Table};
 
 // The most values of a list.
@@ -59,16 +58,9 @@ fn print_counters(counters: [u64; COUNTERS], sum: bool) {
     print(b"\n");
 }
 
-// The clock, and when the program began.
-#[derive(Clone, Copy)]
-struct Watch<'a> {
-    rt: &'a HostRuntime,
-    start: Instant,
-}
-
-// The time since the program began, in microseconds.
-fn print_time(watch: Watch<'_>) {
-    let micros = match watch.start.elapsed(watch.rt) {
+// The processor time used, in microseconds.
+fn print_time(rt: &HostRuntime) {
+    let micros = match rt.process_cpu_time() {
         Ok(time) => u64::try_from(time.as_micros()).unwrap_or(0),
         Err(_) => 0,
     };
@@ -243,7 +235,7 @@ fn run_other(
     cells: &mut [i32],
     memory: &mut [u8],
     answer: &mut [u8],
-    watch: Watch<'_>,
+    rt: &HostRuntime,
 ) -> Bench {
     let letter = plan::letter(line);
     let count = script::count_at(line, 1);
@@ -253,7 +245,7 @@ fn run_other(
             s.calls = 0;
             s.used = 0;
         }
-        plan::TIME => print_time(watch),
+        plan::TIME => print_time(rt),
         plan::KEEP => keep(s, n, input, plan, values, cells, memory, answer),
         plan::RUN | plan::CHECK => {
             let state = run(s, letter, n, input, plan, values, cells, memory, answer);
@@ -273,7 +265,7 @@ fn run_line(
     cells: &mut [i32],
     memory: &mut [u8],
     answer: &mut [u8],
-    watch: Watch<'_>,
+    rt: &HostRuntime,
 ) -> Bench {
     let line = script::part(input, at, b'\n');
     let letter = plan::letter(line);
@@ -285,7 +277,7 @@ fn run_line(
         let call = number_call(line, values, s.used);
         return with_call(s, plan, call, call.to);
     }
-    run_other(s, line, input, plan, values, cells, memory, answer, watch)
+    run_other(s, line, input, plan, values, cells, memory, answer, rt)
 }
 
 // ---- all lines
@@ -313,12 +305,12 @@ fn run_all(
     cells: &mut [i32],
     memory: &mut [u8],
     answer: &mut [u8],
-    watch: Watch<'_>,
+    rt: &HostRuntime,
 ) {
     let mut s = no_store(cells, memory);
     let mut at = 0;
     while at < input.len() {
-        s = run_line(s, input, at, plan, values, cells, memory, answer, watch);
+        s = run_line(s, input, at, plan, values, cells, memory, answer, rt);
         at = script::next_line(input, at);
     }
 }
@@ -354,8 +346,7 @@ fn no_record() -> [u8; RECORD]
     [0; RECORD]
 }
 
-fn main(rt: HostRuntime) -> streams::Result<()> {
-    let start = Instant::now(&rt)?;
+fn main(rt: HostRuntime) {
     let mut input = no_memory();
     let mut plan = no_plan();
     let mut values = no_values();
@@ -370,7 +361,6 @@ fn main(rt: HostRuntime) -> streams::Result<()> {
         &mut cells,
         &mut memory,
         &mut answer,
-        Watch { rt: &rt, start },
+        &rt,
     );
-    Ok(())
 }

@@ -4,10 +4,10 @@ use Rattle.bench.proofs.run_all.Statement.{statement}
 use Rattle.bench.proofs.run_all.Tie as tie
 
 abbrev invariant-loop : tie.invariant-loop-at
-invariant-loop input plan₀ values₀ cells₀ memory₀ answer₀ watch s₀ at₀ plan values cells memory answer s at = (length values ≡ length values₀) × (length cells ≡ length cells₀) × (length memory ≡ length memory₀) × (length answer ≡ length answer₀)
+invariant-loop input plan₀ values₀ cells₀ memory₀ answer₀ rt s₀ at₀ plan values cells memory answer s at = (length values ≡ length values₀) × (length cells ≡ length cells₀) × (length memory ≡ length memory₀) × (length answer ≡ length answer₀)
 
 abbrev decreases-loop : tie.decreases-loop-at
-decreases-loop input plan₀ values₀ cells₀ memory₀ answer₀ watch s₀ at₀ plan values cells memory answer s at = length input - at
+decreases-loop input plan₀ values₀ cells₀ memory₀ answer₀ rt s₀ at₀ plan values cells memory answer s at = length input - at
 
 no-store-requires : tie.Need-no_store-s-requires invariant-loop decreases-loop
 no-store-requires c κs = search rules
