@@ -32,20 +32,20 @@ module _ (bs : List ℕ) where
         version = eqb-true (get_or bs 4 0) 1 (and_left (eqb (get_or bs 4 0) 1) _ h₂);
         columns = (leb-true 1 (columns_in bs) (and_left (leb 1 (columns_in bs)) _ h₃), leb-true (columns_in bs) 8 (and_left (leb (columns_in bs) 8) _ h₄));
         rows = leb-true (row_count bs) 65535 (and_left (leb (row_count bs) 65535) _ h₅);
-        length-agrees = omega (arith, four, rows-bytes);
+        length_agrees = omega (arith, four, rows-bytes);
         whole = omega (arith, there);
       }
 
   is-record : IsRecord bs → is_record bs ≡ true
   unfolding is_record
   is-record R =
-      and_both (leb 8 (length bs)) _ (le-leb 8 (length bs) (omega (arith, R.whole, R.length-agrees)))
+      and_both (leb 8 (length bs)) _ (le-leb 8 (length bs) (omega (arith, R.whole, R.length_agrees)))
       (and_both (eqb (get_or bs 4 0) 1) _ (eq-eqb (get_or bs 4 0) 1 R.version)
       (and_both (leb 1 (columns_in bs)) _ (le-leb 1 (columns_in bs) R.columns.0)
       (and_both (leb (columns_in bs) 8) _ (le-leb (columns_in bs) 8 R.columns.1)
       (and_both (leb (row_count bs) 65535) _ (le-leb (row_count bs) 65535 R.rows)
       (and_both (eqb (four_at bs 0) (row_count bs * row_bytes bs + 4)) _
-      (eq-eqb (four_at bs 0) (row_count bs * row_bytes bs + 4) (omega (arith, R.length-agrees, rows-bytes)))
+      (eq-eqb (four_at bs 0) (row_count bs * row_bytes bs + 4) (omega (arith, R.length_agrees, rows-bytes)))
       (le-leb (four_at bs 0 + 4) (length bs) (omega (arith, R.whole))))))))
 
   abbrev number_by : Bool → ℕ
@@ -80,4 +80,4 @@ module _ (bs : List ℕ) where
       go false h = (refl, refl, refl)
 
 pub demands : Demands
-demands = record { shown-exactly-if = shown-there; shows-its-part = shows; refused-shows-nothing = shows_nothing }
+demands = record { shown_exactly_if = shown-there; shows_its_part = shows; refused_shows_nothing = shows_nothing }

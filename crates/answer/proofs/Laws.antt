@@ -11,10 +11,10 @@ use Rattle.lists.specs.Lists.{All, flat, written}
 use Rattle.lists.proofs.Places.{flat-length}
 use Rattle.lists.proofs.Written.{written-append}
 use Rattle.meaning.specs.Demand.{ReadsBack, IsRow}
-use Rattle.meaning.specs.Limits.{most-items, most-listed}
+use Rattle.meaning.specs.Limits.{most_items, most_listed}
 use Rattle.meaning.specs.Meaning.{Row}
 use Rattle.meaning.specs.Record.{bits_of, bytes4, bytes2, number_bytes, body, encode}
-use Rattle.meaning.proofs.Record.{numbers-length, encode-length, record-reads-back}
+use Rattle.meaning.proofs.Record.{numbers-length, encode-length, record_reads_back}
 use Rattle.answer.specs.Answer.{record_length, header}
 
 -- a value written, and then more values behind it
@@ -45,6 +45,6 @@ module _ (columns : ℕ) (rows : List Row) (wide : All (λ r. length r ≡ colum
       ∙ sym (ap (written out 0) record_is)
 
 -- a buffer at whose start a record was written shows each row as the numbers of that row, and no other row
-pub buffer-reads-back : (out : List ℕ) (columns : ℕ) (rows : List Row) → 1 ≤ columns → columns ≤ most-items → length rows ≤ most-listed
+pub buffer-reads-back : (out : List ℕ) (columns : ℕ) (rows : List Row) → 1 ≤ columns → columns ≤ most_items → length rows ≤ most_listed
     → All (IsRow columns) rows → ReadsBack (written out 0 (encode columns rows)) columns rows
-buffer-reads-back out columns rows = record-reads-back columns rows (drop (0 + length (encode columns rows)) out)
+buffer-reads-back out columns rows = record_reads_back columns rows (drop (0 + length (encode columns rows)) out)

@@ -10,7 +10,7 @@ use denote.Ref.{Bor}
 use lib.Dec.{leb, ltb, eqb}
 use lib.ListN.{length, take, drop, get_or}
 use Rattle.lists.proofs.Bools.{and_left, and_right}
-use Rattle.meaning.specs.Limits.{most-items, most-listed}
+use Rattle.meaning.specs.Limits.{most_items, most_listed}
 use Rattle.meaning.specs.Record.{columns_in, row_count, row_bytes, four_at, is_record, has_row, row_start, row_part}
 use Rattle.answer.specs.Answer.{past}
 
@@ -19,8 +19,8 @@ module _ (bs : List ℕ) where
   sized : is_record bs ≡ true → row_count bs * row_bytes bs + 8 ≤ length bs
   unfolding is_record
   sized h =
-      let t₅ = and_right (leb (columns_in bs) most-items) _ (and_right (leb 1 (columns_in bs)) _ (and_right (eqb (get_or bs 4 0) 1) _ (and_right (leb 8 (length bs)) _ h))) in
-      let t₆ = and_right (leb (row_count bs) most-listed) _ t₅ in
+      let t₅ = and_right (leb (columns_in bs) most_items) _ (and_right (leb 1 (columns_in bs)) _ (and_right (eqb (get_or bs 4 0) 1) _ (and_right (leb 8 (length bs)) _ h))) in
+      let t₆ = and_right (leb (row_count bs) most_listed) _ t₅ in
       let z : four_at bs 0 ≡ row_count bs * row_bytes bs + 4 = eqb-true (four_at bs 0) (row_count bs * row_bytes bs + 4) (and_left _ (leb (four_at bs 0 + 4) (length bs)) t₆) in
       let l : four_at bs 0 + 4 ≤ length bs = leb-true (four_at bs 0 + 4) (length bs) (and_right (eqb (four_at bs 0) (row_count bs * row_bytes bs + 4)) _ t₆) in
       let k : row_count bs * row_bytes bs + 4 + 4 ≤ length bs = subst (λ (n : ℕ). n + 4 ≤ length bs) z l in

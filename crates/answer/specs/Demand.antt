@@ -1,4 +1,4 @@
--- Refusal 14 as claims: document 01, "Meaning", second paragraph, and "Numbers for a call not taken". `row_refusal` and `row_part` are what the contracts of `row_refusal` and
+-- Refusal 14 as claims: document 01, "Meaning", second paragraph, and "Numbers for a call not taken". `row_refusal` and `row_part` are what the contracts of the functions `row_refusal` and
 -- `row` say that they give. Each claim is proved in proofs/Demand. Assumes nothing: these are definitions.
 use Rattle.std.specs.Prelude.{◌≡◌, ◌≢◌, ◌↔◌, List, [], ℕ, ◌+◌, ◌*◌, ◌≤◌, ◌<◌, length, get_or, take, drop}
 use Rattle.meaning.specs.Demand.{Between}
@@ -10,7 +10,7 @@ pub record IsRecord (bs : List ℕ) : Type 0 where
   pub version : get_or bs 4 0 ≡ 1
   pub columns : Between 1 8 (columns_in bs)
   pub rows : row_count bs ≤ 65535
-  pub length-agrees : four_at bs 0 ≡ 4 + 4 * (columns_in bs * row_count bs)
+  pub length_agrees : four_at bs 0 ≡ 4 + 4 * (columns_in bs * row_count bs)
   pub whole : 4 + four_at bs 0 ≤ length bs
 
 -- 14: "bytes that are no record .., or no such row", and only then; "Rows count from 0."
@@ -26,6 +26,6 @@ abbrev pub RefusedShowsNothing : Type 0
 RefusedShowsNothing = (bs : List ℕ) (i : ℕ) → row_refusal bs i ≢ 0 → (row_refusal bs i ≡ 14) × (row_start bs i ≡ 0) × (row_part bs i ≡ [])
 
 pub record Demands : Type 0 where
-  pub shown-exactly-if : ShownExactlyIf
-  pub shows-its-part : ShowsItsPart
-  pub refused-shows-nothing : RefusedShowsNothing
+  pub shown_exactly_if : ShownExactlyIf
+  pub shows_its_part : ShowsItsPart
+  pub refused_shows_nothing : RefusedShowsNothing

@@ -14,14 +14,14 @@ use Rattle.lists.proofs.Lists.{All-head, All-tail, All-take}
 use Rattle.meaning.specs.Cells.{areas_size}
 use Rattle.meaning.specs.Grammar as G
 use Rattle.meaning.specs.Grammar.{items, Sentence, sentence}
-use Rattle.meaning.specs.Limits.{most-tables, most-queries, most-updates}
+use Rattle.meaning.specs.Limits.{most_tables, most_queries, most_updates}
 use Rattle.meaning.specs.Names.{Schema, unknown, taken, miscounted}
 use Rattle.meaning.specs.Plain as P
 use Rattle.meaning.specs.Plain.{Plain, schemas, cells_left, other_lengths, no_place, refusal}
 use Rattle.meaning.specs.Demand.{Acceptable}
 use Rattle.meaning.proofs.Accepted as M
 use Rattle.meaning.proofs.Accepted.{clear}
-use Rattle.meaning.proofs.Limits.{within-exactly-if}
+use Rattle.meaning.proofs.Limits.{within_exactly_if}
 use Rattle.statement.specs.Catalog.{rowless, catalog}
 use Rattle.statement.specs.Compiled.{text_conditions}
 use Rattle.statement.proofs.SoundNames.{or-none}
@@ -33,7 +33,7 @@ use Rattle.cache.specs.Calls.{unfit}
 use Rattle.cache.specs.Run.{Store, add, step}
 use Rattle.cache.specs.Demand.{conditions, HasPlace, Accepted, AcceptedExactlyIf}
 use Rattle.cache.proofs.Sounds.{Sound, sound-is, schemas-long}
-use Rattle.cache.proofs.SoundMeans.{sound-exactly-if}
+use Rattle.cache.proofs.SoundMeans.{sound_exactly_if}
 use Rattle.cache.proofs.Refusals.{number_is}
 use Rattle.cache.proofs.StaysAdded.{columns-few, areas-are}
 
@@ -61,7 +61,7 @@ module _ (s : State) (T : Typed s) (h : sound_state s ≡ true) where
   left_is : cells_left beside ≡ s.cells - areas_of (used_tables s)
   left_is =
       ap (λ (n : ℕ). s.cells - n)
-      (ap areas_size same-schemas ∙ areas-are (used_tables s) (All-take s.table_count T.tables-fit) (columns-few [] (used_tables s) S.tables))
+      (ap areas_size same-schemas ∙ areas-are (used_tables s) (All-take s.table_count T.tables_fit) (columns-few [] (used_tables s) S.tables))
 
   -- a place in a list of so many
   below : (most n k : ℕ) → n ≡ k → leb most n ≡ false → k < most
@@ -73,26 +73,26 @@ module _ (s : State) (T : Typed s) (h : sound_state s ≡ true) where
   place_is : (x : Sentence) → no_place beside x ≡ false → HasPlace s x
   unfolding no_place
   place_is (G.table t cs ring z) e =
-      let n : length (items cs) * nat_abs z ≤ cells_left beside = ltb-false (cells_left beside) (length (items cs) * nat_abs z) (or_right (leb most-tables (length beside.tables)) _ e) in (
-        below most-tables (length beside.tables) s.table_count tables-there (or_left (leb most-tables (length beside.tables)) _ e),
+      let n : length (items cs) * nat_abs z ≤ cells_left beside = ltb-false (cells_left beside) (length (items cs) * nat_abs z) (or_right (leb most_tables (length beside.tables)) _ e) in (
+        below most_tables (length beside.tables) s.table_count tables-there (or_left (leb most_tables (length beside.tables)) _ e),
         omega (arith, n, left_is, S.areas),
       )
-  place_is (G.select cs t w) e = below most-queries (length beside.queries) s.query_count queries-there e
-  place_is (G.pair cs t u w) e = below most-queries (length beside.queries) s.query_count queries-there e
-  place_is (G.insert t vs) e = below most-updates (length beside.updates) s.update_count updates-there e
-  place_is (G.update t ss w) e = below most-updates (length beside.updates) s.update_count updates-there e
-  place_is (G.delete t w) e = below most-updates (length beside.updates) s.update_count updates-there e
+  place_is (G.select cs t w) e = below most_queries (length beside.queries) s.query_count queries-there e
+  place_is (G.pair cs t u w) e = below most_queries (length beside.queries) s.query_count queries-there e
+  place_is (G.insert t vs) e = below most_updates (length beside.updates) s.update_count updates-there e
+  place_is (G.update t ss w) e = below most_updates (length beside.updates) s.update_count updates-there e
+  place_is (G.delete t w) e = below most_updates (length beside.updates) s.update_count updates-there e
 
   is-place : (x : Sentence) → HasPlace s x → no_place beside x ≡ false
   unfolding no_place
   is-place (G.table t cs ring z) p =
-      or-none (leb most-tables (length beside.tables)) _ (is_below most-tables (length beside.tables) s.table_count tables-there p.0)
+      or-none (leb most_tables (length beside.tables)) _ (is_below most_tables (length beside.tables) s.table_count tables-there p.0)
       (le-ltb (cells_left beside) (length (items cs) * nat_abs z) (omega (arith, p.1, left_is)))
-  is-place (G.select cs t w) p = is_below most-queries (length beside.queries) s.query_count queries-there p
-  is-place (G.pair cs t u w) p = is_below most-queries (length beside.queries) s.query_count queries-there p
-  is-place (G.insert t vs) p = is_below most-updates (length beside.updates) s.update_count updates-there p
-  is-place (G.update t ss w) p = is_below most-updates (length beside.updates) s.update_count updates-there p
-  is-place (G.delete t w) p = is_below most-updates (length beside.updates) s.update_count updates-there p
+  is-place (G.select cs t w) p = is_below most_queries (length beside.queries) s.query_count queries-there p
+  is-place (G.pair cs t u w) p = is_below most_queries (length beside.queries) s.query_count queries-there p
+  is-place (G.insert t vs) p = is_below most_updates (length beside.updates) s.update_count updates-there p
+  is-place (G.update t ss w) p = is_below most_updates (length beside.updates) s.update_count updates-there p
+  is-place (G.delete t w) p = is_below most_updates (length beside.updates) s.update_count updates-there p
 
   -- beside it the lengths lent are its own
   own-lengths : other_lengths beside.lengths beside ≡ false
@@ -102,11 +102,11 @@ module _ (s : State) (T : Typed s) (h : sound_state s ≡ true) where
   -- no condition of a text holds exactly if it is acceptable there
   text-clear : (text : List ℕ) → All (λ c. c.1 ≡ false) (text_conditions beside text) → (x : Sentence) × Acceptable beside.lengths beside text x
   unfolding refusal
-  text-clear text a = (M.accepted-exactly-if beside.lengths beside text).0 ((clear 0 (P.conditions beside.lengths beside (P.add text)) refl).1 (cons own-lengths a))
+  text-clear text a = (M.accepted_exactly_if beside.lengths beside text).0 ((clear 0 (P.conditions beside.lengths beside (P.add text)) refl).1 (cons own-lengths a))
 
   clear-text : (text : List ℕ) (x : Sentence) → Acceptable beside.lengths beside text x → All (λ c. c.1 ≡ false) (text_conditions beside text)
   unfolding refusal
-  clear-text text x a = All-tail ((clear 0 (P.conditions beside.lengths beside (P.add text)) refl).0 ((M.accepted-exactly-if beside.lengths beside text).1 (x, a)))
+  clear-text text x a = All-tail ((clear 0 (P.conditions beside.lengths beside (P.add text)) refl).0 ((M.accepted_exactly_if beside.lengths beside text).1 (x, a)))
 
 -- ---- 2
 
@@ -133,8 +133,8 @@ module _ (s : Store) where
 
 -- ---- both
 
-pub accepted-exactly-if : AcceptedExactlyIf
-accepted-exactly-if s text T = (there, back)
+pub accepted_exactly_if : AcceptedExactlyIf
+accepted_exactly_if s text T = (there, back)
   where
     there : (step s (add text)).1.got.refusal ≡ 0 → (x : Sentence) × Accepted s text x
     there z =
@@ -146,12 +146,12 @@ accepted-exactly-if s text T = (there, back)
         let ts = same-schemas s.state T h in (
           x,
           record {
-            sound = (sound-exactly-if s.state T).0 h;
-            cells-lent = f.1;
-            memory-lent = f.2;
+            sound = (sound_exactly_if s.state T).0 h;
+            cells_lent = f.1;
+            memory_lent = f.2;
             short = t.1.short;
             spelled = t.1.spelled;
-            within = (within-exactly-if x).0 t.1.within;
+            within = (within_exactly_if x).0 t.1.within;
             known = ap (λ (l : List Schema). unknown l x) (sym ts) ∙ t.1.known;
             fresh = ap (λ (l : List Schema). taken l x) (sym ts) ∙ t.1.fresh;
             counted = ap (λ (l : List Schema). miscounted l x) (sym ts) ∙ t.1.counted;
@@ -162,14 +162,14 @@ accepted-exactly-if s text T = (there, back)
 
     back : (x : Sentence) × Accepted s text x → (step s (add text)).1.got.refusal ≡ 0
     back (x, A) =
-        let h : sound_state s.state ≡ true = (sound-exactly-if s.state T).1 A.sound in
+        let h : sound_state s.state ≡ true = (sound_exactly_if s.state T).1 A.sound in
         let ts = same-schemas s.state T h in
         number_is s (add text)
-        ∙ (clear 0 (conditions s (add text)) refl).1 (cons (is-fit s h A.cells-lent A.memory-lent) (clear-text s.state T h text x (record {
+        ∙ (clear 0 (conditions s (add text)) refl).1 (cons (is-fit s h A.cells_lent A.memory_lent) (clear-text s.state T h text x (record {
           lengths = own-lengths s.state T h;
           short = A.short;
           spelled = A.spelled;
-          within = (within-exactly-if x).1 A.within;
+          within = (within_exactly_if x).1 A.within;
           known = ap (λ (l : List Schema). unknown l x) ts ∙ A.known;
           fresh = ap (λ (l : List Schema). taken l x) ts ∙ A.fresh;
           counted = ap (λ (l : List Schema). miscounted l x) ts ∙ A.counted;

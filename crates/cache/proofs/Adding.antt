@@ -14,7 +14,7 @@ use Rattle.lists.proofs.Bools.{or_left}
 use Rattle.meaning.specs.Cells.{areas_size}
 use Rattle.meaning.specs.Grammar as G
 use Rattle.meaning.specs.Grammar.{items, Sentence, sentence}
-use Rattle.meaning.specs.Limits.{most-tables, most-queries, most-updates, too_long, past_limit}
+use Rattle.meaning.specs.Limits.{most_tables, most_queries, most_updates, too_long, past_limit}
 use Rattle.meaning.specs.Meaning.{Row}
 use Rattle.meaning.specs.Names.{Schema, unknown, taken, miscounted, twice}
 use Rattle.meaning.specs.Statement as M
@@ -57,13 +57,13 @@ module _ (p q : Plain) (ts : schemas p ≡ schemas q) (qs : length p.queries ≡
   places_same : (s : Sentence) → no_place p s ≡ no_place q s
   unfolding no_place
   places_same (G.table t cs ring z) =
-      ap₂ (λ (n k : ℕ). leb most-tables n || ltb k (length (items cs) * nat_abs z)) tables-many
+      ap₂ (λ (n k : ℕ). leb most_tables n || ltb k (length (items cs) * nat_abs z)) tables-many
       (ap₂ (λ (n : ℕ) (x : List Schema). n - areas_size x) cells ts)
-  places_same (G.select cs t w) = ap (leb most-queries) qs
-  places_same (G.pair cs t u w) = ap (leb most-queries) qs
-  places_same (G.insert t vs) = ap (leb most-updates) us
-  places_same (G.update t ss w) = ap (leb most-updates) us
-  places_same (G.delete t w) = ap (leb most-updates) us
+  places_same (G.select cs t w) = ap (leb most_queries) qs
+  places_same (G.pair cs t u w) = ap (leb most_queries) qs
+  places_same (G.insert t vs) = ap (leb most_updates) us
+  places_same (G.update t ss w) = ap (leb most_updates) us
+  places_same (G.delete t w) = ap (leb most_updates) us
 
   conditions-same : (text : List ℕ) → text_conditions p text ≡ text_conditions q text
   conditions-same text =
@@ -87,7 +87,7 @@ no_rows true = refl
 no_rows false = refl
 
 schema-back : (t : Schema) → schema_of (table_struct t) ≡ t
-schema-back t = λ i. record { name = (table-agrees t).name-is i; columns = (table-agrees t).columns-are i; capacity = t.capacity; ring = t.ring }
+schema-back t = λ i. record { name = (table-agrees t).name_is i; columns = (table-agrees t).columns_are i; capacity = t.capacity; ring = t.ring }
 
 new-table : (t : Schema) (start : ℕ) (cells : List ℤ) → table_in (table_struct t) start cells ≡ record { schema = t; rows = [] }
 new-table t start cells =
@@ -97,63 +97,63 @@ new-table t start cells =
 -- ---- the statement added, beside what the state stands for
 
 module _ (s : State) (T : Typed s) (S : Sound s) (cells : List ℤ) (p : Plain) (m : Means s cells p) where
-  table-stands : (t : Schema) → length p.tables < most-tables → Means (added_table s (table_struct t)).state cells (adding p (creates t))
+  table-stands : (t : Schema) → length p.tables < most_tables → Means (added_table s (table_struct t)).state cells (adding p (creates t))
   table-stands t h =
-      let few : s.table_count < length s.tables = omega (arith, T.eight-tables, table-count s T S cells p m) in
+      let few : s.table_count < length s.tables = omega (arith, T.eight_tables, table-count s T S cells p m) in
       record {
         cells_are = m.cells_are;
-        memory-is = m.memory-is;
-        tables-are =
+        memory_is = m.memory_is;
+        tables_are =
             sym
             (ap (λ ts. tables_from 0 ts cells) (take_more s.tables s.table_count (table_struct t) few)
             ∙ tables-append 0 (used_tables s) (table_struct t ∷ []) cells
-            ∙ ap₂ (λ (x : List P.Table) (y : P.Table). x ++ y ∷ []) (sym m.tables-are) (new-table t (0 + areas_of (used_tables s)) cells));
-        queries-are = m.queries-are;
-        updates-are = m.updates-are;
+            ∙ ap₂ (λ (x : List P.Table) (y : P.Table). x ++ y ∷ []) (sym m.tables_are) (new-table t (0 + areas_of (used_tables s)) cells));
+        queries_are = m.queries_are;
+        updates_are = m.updates_are;
       }
 
-  query-stands : (q : M.Query) → AgreesQuery (query_struct q) q → length p.queries < most-queries
+  query-stands : (q : M.Query) → AgreesQuery (query_struct q) q → length p.queries < most_queries
       → Means (added_query s (query_struct q)).state cells (adding p (asks q))
   query-stands q a h =
-      let few : s.query_count < length s.queries = omega (arith, T.sixteen-queries, query-count s T S cells p m) in
+      let few : s.query_count < length s.queries = omega (arith, T.sixteen_queries, query-count s T S cells p m) in
       record {
         cells_are = m.cells_are;
-        memory-is = m.memory-is;
-        tables-are = m.tables-are;
-        queries-are =
+        memory_is = m.memory_is;
+        tables_are = m.tables_are;
+        queries_are =
             subst (λ l. Compiled AgreesQuery l (p.queries ++ q ∷ [])) (sym (take_more s.queries s.query_count (query_struct q) few))
-            (compiled-more m.queries-are a);
-        updates-are = m.updates-are;
+            (compiled-more m.queries_are a);
+        updates_are = m.updates_are;
       }
 
-  update-stands : (u : M.Update) → AgreesUpdate (update_struct u) u → length p.updates < most-updates
+  update-stands : (u : M.Update) → AgreesUpdate (update_struct u) u → length p.updates < most_updates
       → Means (added_update s (update_struct u)).state cells (adding p (changes u))
   update-stands u a h =
-      let few : s.update_count < length s.updates = omega (arith, T.sixteen-updates, update-count s T S cells p m) in
+      let few : s.update_count < length s.updates = omega (arith, T.sixteen_updates, update-count s T S cells p m) in
       record {
         cells_are = m.cells_are;
-        memory-is = m.memory-is;
-        tables-are = m.tables-are;
-        queries-are = m.queries-are;
-        updates-are =
+        memory_is = m.memory_is;
+        tables_are = m.tables_are;
+        queries_are = m.queries_are;
+        updates_are =
             subst (λ l. Compiled AgreesUpdate l (p.updates ++ u ∷ [])) (sym (take_more s.updates s.update_count (update_struct u) few))
-            (compiled-more m.updates-are a);
+            (compiled-more m.updates_are a);
       }
 
 -- a place is free for the statement
 abbrev Free : Plain → Statement → Type 0
-Free p (creates t) = length p.tables < most-tables
-Free p (asks q) = length p.queries < most-queries
-Free p (changes u) = length p.updates < most-updates
+Free p (creates t) = length p.tables < most_tables
+Free p (asks q) = length p.queries < most_queries
+Free p (changes u) = length p.updates < most_updates
 
 place-free : (p : Plain) (ts : List Schema) (s : Sentence) → no_place p s ≡ false → Free p (statement_of ts s)
 unfolding no_place statement_of
-place-free p ts (G.table t cs ring z) h = leb-false most-tables (length p.tables) (or_left (leb most-tables (length p.tables)) _ h)
-place-free p ts (G.select cs t w) h = leb-false most-queries (length p.queries) h
-place-free p ts (G.pair cs t u w) h = leb-false most-queries (length p.queries) h
-place-free p ts (G.insert t vs) h = leb-false most-updates (length p.updates) h
-place-free p ts (G.update t ss w) h = leb-false most-updates (length p.updates) h
-place-free p ts (G.delete t w) h = leb-false most-updates (length p.updates) h
+place-free p ts (G.table t cs ring z) h = leb-false most_tables (length p.tables) (or_left (leb most_tables (length p.tables)) _ h)
+place-free p ts (G.select cs t w) h = leb-false most_queries (length p.queries) h
+place-free p ts (G.pair cs t u w) h = leb-false most_queries (length p.queries) h
+place-free p ts (G.insert t vs) h = leb-false most_updates (length p.updates) h
+place-free p ts (G.update t ss w) h = leb-false most_updates (length p.updates) h
+place-free p ts (G.delete t w) h = leb-false most_updates (length p.updates) h
 
 -- ---- the whole call
 

@@ -15,7 +15,7 @@ use Rattle.lists.specs.Lists.{All, nil, cons, keep, turned, written}
 use Rattle.lists.proofs.Lists.{All-take, All-drop, All-keep}
 use Rattle.lists.proofs.Turned.{All-turned}
 use Rattle.meaning.specs.Key.{Key}
-use Rattle.meaning.specs.Limits.{most-listed}
+use Rattle.meaning.specs.Limits.{most_listed}
 use Rattle.meaning.specs.Statement.{Second}
 use Rattle.meaning.specs.Cells.{rows_in}
 use Rattle.meaning.specs.Meaning.{Row, answer}
@@ -24,7 +24,7 @@ use Rattle.meaning.specs.Demand.{ReadsBack, Is32, rows_listed}
 use Rattle.meaning.specs.Plain as P
 use Rattle.meaning.specs.Plain.{Plain, record_of, or_else}
 use Rattle.meaning.proofs.Accepted.{Asked, key-asked}
-use Rattle.meaning.proofs.Record.{record-reads-back}
+use Rattle.meaning.proofs.Record.{record_reads_back}
 use Rattle.meaning.proofs.Within32.{Row32, answer-rows, pairs-32}
 use Rattle.statement.specs.Sound.{second_read, AgreesQuery}
 use Rattle.statement.proofs.SoundQuery.{query-parts}
@@ -43,7 +43,7 @@ use Rattle.cache.specs.Calls.{settled, start_of, table_at, Asks, asks, ask_refus
 use Rattle.cache.specs.Run.{Store, Seen, ask, step_ask, step}
 use Rattle.cache.specs.Demand.{lengths_lent, NewAnswer, ItsSlotsBytes, KeptAnswer}
 use Rattle.cache.proofs.Sounds.{Sound, sound-is, query-at}
-use Rattle.cache.proofs.Standing.{stands-for-plain}
+use Rattle.cache.proofs.Standing.{stands_for_plain}
 use Rattle.cache.proofs.Meanings.{query-agrees}
 use Rattle.cache.proofs.Asking.{listed-asked, read_asked, record_is, ask-number}
 use Rattle.cache.proofs.Meets.{there, few-values, place}
@@ -133,12 +133,12 @@ module _ (s : Store) (p : Plain) (T : Typed s.state) (h : sound_state s.state �
   reads-back few later =
       let q = P.query_at p k.query in
       let Q = query-parts _ (query_at s.state k.query) (query-at s.state T S k.query here) in
-      let n : (query_at s.state k.query).count ≡ length q.selected = agrees.count-is in
+      let n : (query_at s.state k.query).count ≡ length q.selected = agrees.count_is in
       subst (λ (l : List Row). ReadsBack (encode (length q.selected) l ++ later) (length q.selected) l)
       (listed-asked s.state T S s.cells p m k.query here k.values)
-      (record-reads-back (length q.selected) (answer q k.values rows) later (omega (arith, Q.some-selected)) (omega (arith, Q.few-selected))
-      (ltb-false most-listed (length (answer q k.values rows))
-      (ap (λ (l : List Row). ltb most-listed (length l)) (sym (answer-means (query_at s.state k.query) q agrees k.values rows)) ∙ few))
+      (record_reads_back (length q.selected) (answer q k.values rows) later (omega (arith, Q.some_selected)) (omega (arith, Q.few_selected))
+      (ltb-false most_listed (length (answer q k.values rows))
+      (ap (λ (l : List Row). ltb most_listed (length l)) (sym (answer-means (query_at s.state k.query) q agrees k.values rows)) ∙ few))
       (answer-rows q k.values rows
       (over-32 s.state s.cells (query_at s.state k.query) k.values (second_read (query_at s.state k.query)) small)))
 
@@ -147,9 +147,9 @@ few-of : (many : Bool) (n : ℕ) → or_else many 16 n ≡ 0 → many ≡ false
 few-of true n e = absurd (omega arith)
 few-of false n e = refl
 
-pub new-answer : NewAnswer
+pub new_answer : NewAnswer
 unfolding new_refusal
-new-answer s p k buffer T h m small e z = go (answered s k.query k.values buffer e)
+new_answer s p k buffer T h m small e z = go (answered s k.query k.values buffer e)
   where
     go : Answered s k.query k.values buffer (step s (ask k.query k.values buffer))
         → ReadsBack (step s (ask k.query k.values buffer)).1.got.answer (length (P.query_at p k.query).selected) (rows_listed p k)
@@ -169,12 +169,12 @@ new-answer s p k buffer T h m small e z = go (answered s k.query k.values buffer
 
 -- ---- a kept one
 
-pub kept-answer : KeptAnswer
-kept-answer s k buffer T h e z = go (answered s k.query k.values buffer e)
+pub kept_answer : KeptAnswer
+kept_answer s k buffer T h e z = go (answered s k.query k.values buffer e)
   where
     go : Answered s k.query k.values buffer (step s (ask k.query k.values buffer)) → ItsSlotsBytes s k buffer (step s (ask k.query k.values buffer)).1
     go (c, inl (i, f, r)) =
-        let P = stands-for-plain s T h in
+        let P = stands_for_plain s T h in
         let A : Asked (lengths_lent s) P.0 k = key-asked (lengths_lent s) P.0 k (sym (ask-number s P.0 T h P.1 k.query k.values buffer) ∙ c) in
         let F = found_at s.state.keys s.state.slots (key_of k.query k.values) i f in
         let at : get_or s.state.slots.order i 0 ≡ F.slot = place s P.0 T h P.1 k.query k.values buffer A i F in
@@ -182,9 +182,9 @@ kept-answer s k buffer T h e z = go (answered s k.query k.values buffer e)
         record {
           slot = F.slot;
           held = (i, found_inside s.state.slots (slot_has s.state.keys (key_of k.query k.values)) i F, at);
-          key-is = (has_key s.state.keys (key_of k.query k.values) F.slot F.has).1 ∙ key-few k.query k.values few;
-          length-is = ap (λ (x : Store × Seen). x.1.got.length) r ∙ ap (λ (x : ℕ). get_or s.state.lengths x 0) at;
-          answer-is = ap (λ (x : Store × Seen). x.1.got.answer) r ∙ ap (λ (x : ℕ). written buffer 0 (bytes_at s.state s.memory x)) at;
+          key_is = (has_key s.state.keys (key_of k.query k.values) F.slot F.has).1 ∙ key-few k.query k.values few;
+          length_is = ap (λ (x : Store × Seen). x.1.got.length) r ∙ ap (λ (x : ℕ). get_or s.state.lengths x 0) at;
+          answer_is = ap (λ (x : Store × Seen). x.1.got.answer) r ∙ ap (λ (x : ℕ). written buffer 0 (bytes_at s.state s.memory x)) at;
           none_read = ap (λ (x : Store × Seen). x.1.scanned) r;
         }
     go (c, inr (f, y, r)) = absurd (z (ap (λ (x : Store × Seen). x.1.kept) r))

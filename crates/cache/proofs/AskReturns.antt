@@ -14,7 +14,7 @@ use Rattle.lists.specs.Lists.{written}
 use Rattle.lists.proofs.Bools.{and_right}
 use Rattle.lists.proofs.Places.{get_or-inside}
 use Rattle.lists.proofs.Written.{length-written, written-there}
-use Rattle.meaning.specs.Limits.{most-queries, most-slots}
+use Rattle.meaning.specs.Limits.{most_queries, most_slots}
 use Rattle.meaning.specs.Plain.{or_else}
 use Rattle.statement.specs.declared.Query.{Query}
 use Rattle.statement.specs.Compiled.{no_query}
@@ -41,14 +41,14 @@ use Rattle.cache.proofs.Settled.{settled-refused, settled-done, Fit, fit_is, or-
 
 module _ (s : State) (cells memory query values : ℕ) where
   -- the query as it is read: where there are so few, its number is its place
-  module _ (d : Query) (long : length s.queries ≡ most-queries) where
+  module _ (d : Query) (long : length s.queries ≡ most_queries) where
     abbrev parameters : ℕ
-    parameters = (get_or s.queries (query % most-queries) d).parameters
+    parameters = (get_or s.queries (query % most_queries) d).parameters
 
-    parameters-are : unfit s cells memory ≡ false → leb s.query_count query ≡ false → parameters ≡ (query_at s query).parameters
-    parameters-are h k =
-        let few = (sound-is s (fit_is s cells memory h).sound).few-queries in
-        let below : query < most-queries = omega (arith, few, leb-false s.query_count query k) in
+    parameters_are : unfit s cells memory ≡ false → leb s.query_count query ≡ false → parameters ≡ (query_at s query).parameters
+    parameters_are h k =
+        let few = (sound-is s (fit_is s cells memory h).sound).few_queries in
+        let below : query < most_queries = omega (arith, few, leb-false s.query_count query k) in
         ap (λ (i : ℕ). (get_or s.queries i d).parameters) (mod-eq_of_lt below)
         ∙ ap (λ (q : Query). q.parameters) (get_or-inside s.queries query d no_query (omega (arith, below, long)))
 
@@ -57,7 +57,7 @@ module _ (s : State) (cells memory query values : ℕ) where
     unfolding ask_refusal
     number_at true h m k = rw h
     number_at false h true k = rw k
-    number_at false h false k = ap (λ (p : ℕ). ask_number (unfit s cells memory) s.query_count query p values) (parameters-are h k)
+    number_at false h false k = ap (λ (p : ℕ). ask_number (unfit s cells memory) s.query_count query p values) (parameters_are h k)
 
     pub number-told : (bad : Bool) → bad ≡ unfit s cells memory → (n : ℕ) → n ≡ ask_number bad s.query_count query parameters values
         → n ≡ ask_refusal s cells memory query values
@@ -112,12 +112,12 @@ module _ (slots : SlotList) (bytes size : ℕ) (from memory : List ℕ) (long : 
   keep-done new h f = let z = test-is ∙ h in (rw z (ap₂ taking e (sym size_is)), rw z (f ∙ ap (λ (u : Taken). written memory (u.slot * bytes) first) e))
 
 module _ (s : State) (r : List ℕ) (p : Place) (e : p ≡ place_of s.slots s.slot_bytes r) where
-  pub place_kept : ((taken_of s.slots).there ≡ true → (taken_of s.slots).slot < most-slots) → (key : Key) → placed s key p ≡ kept s key r
+  pub place_kept : ((taken_of s.slots).there ≡ true → (taken_of s.slots).slot < most_slots) → (key : Key) → placed s key p ≡ kept s key r
   unfolding place_of kept with_cache
   place_kept below key = ap (placed s key) e ∙ go (takes s.slots s.slot_bytes r) refl
     where
       go : (b : Bool) → takes s.slots s.slot_bytes r ≡ b → placed s key (place_of s.slots s.slot_bytes r) ≡ kept s key r
-      go true z = rw (z, lt-ltb (taken_of s.slots).slot most-slots (below (and_right (leb (length r) s.slot_bytes) _ z)))
+      go true z = rw (z, lt-ltb (taken_of s.slots).slot most_slots (below (and_right (leb (length r) s.slot_bytes) _ z)))
       go false z = rw z
 
   pub bytes-kept : (after memory : List ℕ) → after ≡ place_bytes s.slots s.slot_bytes r memory → after ≡ kept_memory s r memory

@@ -10,7 +10,7 @@ use lib.Dec.{eqb, leb, ltb}
 use lib.IntN.{ℤ}
 use lib.ListN.{length}
 use Rattle.meaning.specs.Key.{Key}
-use Rattle.meaning.specs.Limits.{most-listed}
+use Rattle.meaning.specs.Limits.{most_listed}
 use Rattle.meaning.specs.Statement.{Second}
 use Rattle.meaning.specs.Meaning.{Row, answer}
 use Rattle.meaning.specs.Record.{encode}
@@ -50,10 +50,10 @@ pub cache-means : (s : State) (cells : List ℤ) (p : Plain) → Means s cells p
 unfolding with_cache
 cache-means s cells p m slots keys lengths = record {
   cells_are = m.cells_are;
-  memory-is = m.memory-is;
-  tables-are = m.tables-are;
-  queries-are = m.queries-are;
-  updates-are = m.updates-are;
+  memory_is = m.memory_is;
+  tables_are = m.tables_are;
+  queries_are = m.queries_are;
+  updates_are = m.updates_are;
 }
 
 kept-means : (s : State) (cells : List ℤ) (p : Plain) → Means s cells p → (k : Stored) (r : List ℕ) → Means (kept s k r) cells p
@@ -122,7 +122,7 @@ module _ (s : State) (T : Typed s) (S : Sound s) (cells : List ℤ) (p : Plain) 
   pub many_is : (vs : List ℤ) → too_many s cells n vs ≡ P.too_many p (record { query = n; values = vs })
   unfolding too_many P.too_many
   many_is vs =
-      ap (λ (l : List Row). ltb most-listed (length l))
+      ap (λ (l : List Row). ltb most_listed (length l))
       (answer-means (query_at s n) (P.query_at p n) agrees vs (rows_for s cells (query_at s n) vs) ∙ listed-asked vs)
 
 -- ---- the whole call
@@ -149,7 +149,7 @@ module _ (s : Store) (p : Plain) (T : Typed s.state) (h : sound_state s.state �
       (λ a. same-else 10 (leb s.state.query_count n) _ _ _ (ap (λ k. leb k n) (sym count))
       (λ b. ap (λ k. or_else (not (eqb (length vs) k)) 11 0)
       (query-agrees s.state T S s.cells p m n
-      (subst (λ k. n < k) count (leb-false (length p.queries) n b))).parameters-are))
+      (subst (λ k. n < k) count (leb-false (length p.queries) n b))).parameters_are))
 
   -- 16 and 13
   pub new-number : n < s.state.query_count → new_refusal s.state s.cells (length buffer) n vs ≡ plain_new p key (length buffer)

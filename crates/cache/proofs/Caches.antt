@@ -14,7 +14,7 @@ use Rattle.lists.specs.Lists.{All, keep, written}
 use Rattle.lists.proofs.Lists.{All-map, map_same, keep-map}
 use Rattle.lists.proofs.Written.{slot-written, slot-length}
 use Rattle.meaning.specs.Key as M
-use Rattle.meaning.specs.Limits.{most-slots}
+use Rattle.meaning.specs.Limits.{most_slots}
 use Rattle.trace.specs.History.{fits}
 use Rattle.trace.specs.Slots.{Held, move_to_front, take_last, put_in, put, drop_by}
 use Rattle.slots.specs.declared.Key.{Key}
@@ -82,7 +82,7 @@ module _ (s : State) (T : Typed s) (S : Sound s) (memory : List ℕ) where
 
   -- no slot, none taken
   none-there : s.slots.count ≡ 0 → taken.there ≡ false
-  none-there z = ap (λ (t : Taken). t.there) (sym (taken_none s.slots (ap (λ (n : ℕ). leb 1 n && leb n most-slots) z)))
+  none-there z = ap (λ (t : Taken). t.there) (sym (taken_none s.slots (ap (λ (n : ℕ). leb 1 n && leb n most_slots) z)))
 
   module _ (key : Key) (r : List ℕ) where
     abbrev keys' : List Key
@@ -108,9 +108,9 @@ module _ (s : State) (T : Typed s) (S : Sound s) (memory : List ℕ) where
     put-taken : taken.slot < s.slots.count → (hs fs : List ℕ) → Last s.keys s.lengths memory s.slots hs fs
         → cache_in keys' lengths' taken.slots memory' ≡ put_in s.slot_bytes (cache_of s memory) (key_read key) r (take_last (cache_of s memory))
     put-taken h hs fs Z =
-        let held = ap (map (held_in keys' lengths')) Z.held-now
+        let held = ap (map (held_in keys' lengths')) Z.held_now
         ∙ ap₂ (λ (e : Held M.Key) (l : List (Held M.Key)). e ∷ l) (held-here h) (map_same held_at (All-map held-other Z.apart)) in
-        ap₂ (λ (l : List (Held M.Key)) (f : List ℕ). record { held = l; free = f; memory = memory' }) held Z.free-now
+        ap₂ (λ (l : List (Held M.Key)) (f : List ℕ). record { held = l; free = f; memory = memory' }) held Z.free_now
         ∙ ap (put_in s.slot_bytes (cache_of s memory) (key_read key) r) (sym Z.takes)
 
     put-by : (b : Bool) → Dec (1 ≤ s.slots.count)

@@ -28,15 +28,15 @@ use Rattle.trace.proofs.Demand.{demands as on-model}
 use Rattle.cache.specs.Run.{Start, opening_of, opened, Call, add, ask, update, flush, Got, step, after, plain_call, got_of, plain_after}
 use Rattle.cache.specs.Means.{Means}
 use Rattle.cache.specs.Demand.{SameAsPlain, slot_count, slot_size, past, next_ask, AnewOnlyIf, ThirdDemand, StandsInList, DropsInList, KeptOtherwise, RowsRead, Values32, AnswerReadsBack, Demands}
-use Rattle.cache.proofs.SoundMeans.{sound-exactly-if}
-use Rattle.cache.proofs.Openings.{opens-exactly-if, opening-taken, opening-refused, flush-drops-all}
-use Rattle.cache.proofs.Accepting.{accepted-exactly-if}
-use Rattle.cache.proofs.Answers.{new-answer, kept-answer}
-use Rattle.cache.proofs.Refusals.{lowest-number, rings-never-full, refused-changes-nothing}
-use Rattle.cache.proofs.StaysSound.{opens-sound, stays-sound}
-use Rattle.cache.proofs.Standing.{stands-for-plain}
-use Rattle.cache.proofs.Plainly.{does-as-plain}
-use Rattle.cache.proofs.Dropping.{drops-exactly-matched}
+use Rattle.cache.proofs.SoundMeans.{sound_exactly_if}
+use Rattle.cache.proofs.Openings.{opens_exactly_if, opening_taken, opening-refused, flush_drops_all}
+use Rattle.cache.proofs.Accepting.{accepted_exactly_if}
+use Rattle.cache.proofs.Answers.{new_answer, kept_answer}
+use Rattle.cache.proofs.Refusals.{lowest_number, rings_never_full, refused_changes_nothing}
+use Rattle.cache.proofs.StaysSound.{opens_sound, stays_sound}
+use Rattle.cache.proofs.Standing.{stands_for_plain}
+use Rattle.cache.proofs.Plainly.{does_as_plain}
+use Rattle.cache.proofs.Dropping.{drops_exactly_matched}
 use Rattle.cache.proofs.Meets.{Meets, patterns-mean}
 use Rattle.cache.proofs.Follows.{Follows, follows-opened, gots_of, plain-gets, meets, follows-after, follows-gets}
 
@@ -56,11 +56,11 @@ ask_out lent size m k b = guard_out (T.ask_refusal lent m.store k) m _ (go (find
     go none = guard_out (T.new_refusal m.store k b) m _ (inr (_, refl))
     go (some w) = guard_out (T.short_refusal b (slot_bytes size m.cache.memory w.0)) m _ (inr (_, refl))
 
-answer-of : (buffer : List ℕ) (o : Out) → AskOut o → (g : Got) → g ≡ got_of buffer o → g.refusal ≡ 0 → (r : List ℕ) × (o ≡ answered r)
-answer-of buffer o (inl (n, e)) g i z =
+answer_of : (buffer : List ℕ) (o : Out) → AskOut o → (g : Got) → g ≡ got_of buffer o → g.refusal ≡ 0 → (r : List ℕ) × (o ≡ answered r)
+answer_of buffer o (inl (n, e)) g i z =
     let a : 0 ≡ suc n = sym z ∙ ap (λ (x : Got). x.refusal) (i ∙ ap (got_of buffer) e) in
     absurd (omega arith)
-answer-of buffer o (inr a) g i z = a
+answer_of buffer o (inr a) g i z = a
 
 -- ---- demand 3
 
@@ -92,11 +92,11 @@ pub follows : (o : Start) (cs : List Call)
     → Follows (opening_of o).lent (T.slot_size (opening_of o)) (after (opened o) cs) (D.after_calls (start_of o) (map plain_call cs))
 follows o cs = follows-after (follows-opened o) cs
 
-pub same-as-plain : SameAsPlain
-same-as-plain o cs =
-    let same = on-model.same-as-plain (start_of o) (map plain_call cs) in (
+pub same_as_plain : SameAsPlain
+same_as_plain o cs =
+    let same = on-model.same_as_plain (start_of o) (map plain_call cs) in (
       follows-gets (follows-opened o) cs ∙ ap (gots_of cs) same.0 ∙ plain-gets (opening_of o).lent (P.opened (opening_of o)) cs,
-      sym (follows o cs).means.tables-are ∙ ap (λ (p : Plain). p.tables) same.1,
+      sym (follows o cs).means.tables_are ∙ ap (λ (p : Plain). p.tables) same.1,
     )
 
 -- the next question, on the state and in the model
@@ -106,19 +106,19 @@ module _ (o : Start) (cs : List Call) (k : Key) (buffer : List ℕ) where
   next = meets (follows o cs) (ask k.query k.values buffer)
 
   next-answer : (next_ask o cs k buffer).got.refusal ≡ 0 → (r : List ℕ) × ((D.next_call (start_of o) (map plain_call cs) (P.ask k (length buffer))).out ≡ answered r)
-  next-answer e = answer-of buffer _ (ask_out _ _ (D.after_calls (start_of o) (map plain_call cs)) k (length buffer)) _ next.got e
+  next-answer e = answer_of buffer _ (ask_out _ _ (D.after_calls (start_of o) (map plain_call cs)) k (length buffer)) _ next.got e
 
-pub anew-only-if : AnewOnlyIf
-anew-only-if o cs k buffer e z =
+pub anew_only_if : AnewOnlyIf
+anew_only_if o cs k buffer e z =
     let a = next-answer o cs k buffer e in
-    let g = on-model.anew-only-if (start_of o) (map plain_call cs) k (length buffer) a.0 a.1 (sym (next o cs k buffer).kept ∙ z) in
+    let g = on-model.anew_only_if (start_of o) (map plain_call cs) k (length buffer) a.0 a.1 (sym (next o cs k buffer).kept ∙ z) in
     subst₂ (λ (n size : ℕ). Ground same_key n size (record_of (plain_after o cs) k) k (past o cs)) (slots-are o) (size_is o) g
 
-pub kept-otherwise : KeptOtherwise
-kept-otherwise o cs k buffer e asked fit hit few =
+pub kept_otherwise : KeptOtherwise
+kept_otherwise o cs k buffer e asked fit hit few =
     let a = next-answer o cs k buffer e in
     (next o cs k buffer).kept
-    ∙ on-model.kept-otherwise (start_of o) (map plain_call cs) k (length buffer) a.0 a.1 asked (rw (size_is o) fit) hit (rw (size_is o, slots-are o) few)
+    ∙ on-model.kept_otherwise (start_of o) (map plain_call cs) k (length buffer) a.0 a.1 asked (rw (size_is o) fit) hit (rw (size_is o, slots-are o) few)
 
 -- what a question gets in the model: a refusal, a kept answer and no row read, or the rows of its table or its two read
 abbrev AskSeen : Model → Key → T.Seen → Type 0
@@ -149,60 +149,60 @@ rows-read o cs k buffer e = go (ask-seen (opening_of o).lent (T.slot_size (openi
       (λ z. (next o cs k buffer).scanned ∙ y.1),
     )
     go (inr (inr y)) = (
-      (λ z. (next o cs k buffer).scanned ∙ y.1 ∙ ap (λ (p : Plain). P.rows_read p k) (on-model.same-as-plain (start_of o) (map plain_call cs)).1),
+      (λ z. (next o cs k buffer).scanned ∙ y.1 ∙ ap (λ (p : Plain). P.rows_read p k) (on-model.same_as_plain (start_of o) (map plain_call cs)).1),
       (λ z. absurd (z ((next o cs k buffer).kept ∙ y.0))),
     )
 
 -- ---- the list as a whole
 
-pub third-demand : ThirdDemand
-third-demand o cs = record {
-  same = (same-as-plain o cs).0;
-  tables = (same-as-plain o cs).1;
-  anew = λ before k buffer behind e. anew-only-if o before k buffer;
+pub third_demand : ThirdDemand
+third_demand o cs = record {
+  same = (same_as_plain o cs).0;
+  tables = (same_as_plain o cs).1;
+  anew = λ before k buffer behind e. anew_only_if o before k buffer;
 }
 
-pub stands-in-list : StandsInList
-stands-in-list o cs =
-    subst (Means (after (opened o) cs).state (after (opened o) cs).cells) (on-model.same-as-plain (start_of o) (map plain_call cs)).1 (follows o cs).means
+pub stands_in_list : StandsInList
+stands_in_list o cs =
+    subst (Means (after (opened o) cs).state (after (opened o) cs).cells) (on-model.same_as_plain (start_of o) (map plain_call cs)).1 (follows o cs).means
 
-pub drops-in-list : DropsInList
-drops-in-list o cs n us =
-    drops-exactly-matched patterns-mean (after (opened o) cs) n us (plain_after o cs) (follows o cs).typed (follows o cs).sound (stands-in-list o cs)
+pub drops_in_list : DropsInList
+drops_in_list o cs n us =
+    drops_exactly_matched patterns-mean (after (opened o) cs) n us (plain_after o cs) (follows o cs).typed (follows o cs).sound (stands_in_list o cs)
 
-pub answer-reads-back : AnswerReadsBack
-answer-reads-back o cs v k buffer e =
+pub answer_reads_back : AnswerReadsBack
+answer_reads_back o cs v k buffer e =
     let a = next-answer o cs k buffer e in
     let b : (next_ask o cs k buffer).got.answer ≡ written buffer 0 a.0 = ap (λ (x : Got). x.answer) ((next o cs k buffer).got ∙ ap (got_of buffer) a.1) in
     subst (λ (l : List ℕ). ReadsBack l (length (P.query_at (plain_after o cs) k.query).selected) (rows_listed (plain_after o cs) k)) (sym b)
-    (on-model.kept-reads-back (start_of o) (map plain_call cs) (All-image plain_call (All-map values-32 v)) k (length buffer) a.0 a.1 (drop (0 + length a.0) buffer))
+    (on-model.kept_reads_back (start_of o) (map plain_call cs) (All-image plain_call (All-map values-32 v)) k (length buffer) a.0 a.1 (drop (0 + length a.0) buffer))
 
 -- ---- all claims
 
 pub demands : Demands
 demands = record {
-  lowest-number = lowest-number;
-  rings-never-full = rings-never-full;
-  refused-changes-nothing = refused-changes-nothing;
-  opens-exactly-if = opens-exactly-if;
-  opening-taken = opening-taken;
+  lowest_number = lowest_number;
+  rings_never_full = rings_never_full;
+  refused_changes_nothing = refused_changes_nothing;
+  opens_exactly_if = opens_exactly_if;
+  opening_taken = opening_taken;
   opening-refused = opening-refused;
-  sound-exactly-if = sound-exactly-if;
-  opens-sound = opens-sound;
-  stays-sound = stays-sound;
-  accepted-exactly-if = accepted-exactly-if;
-  stands-for-plain = stands-for-plain;
-  does-as-plain = does-as-plain;
-  new-answer = new-answer;
-  kept-answer = kept-answer;
-  drops-exactly-matched = drops-exactly-matched patterns-mean;
-  flush-drops-all = flush-drops-all;
-  third-demand = third-demand;
-  same-as-plain = same-as-plain;
-  anew-only-if = anew-only-if;
-  stands-in-list = stands-in-list;
-  drops-in-list = drops-in-list;
-  kept-otherwise = kept-otherwise;
+  sound_exactly_if = sound_exactly_if;
+  opens_sound = opens_sound;
+  stays_sound = stays_sound;
+  accepted_exactly_if = accepted_exactly_if;
+  stands_for_plain = stands_for_plain;
+  does_as_plain = does_as_plain;
+  new_answer = new_answer;
+  kept_answer = kept_answer;
+  drops_exactly_matched = drops_exactly_matched patterns-mean;
+  flush_drops_all = flush_drops_all;
+  third_demand = third_demand;
+  same_as_plain = same_as_plain;
+  anew_only_if = anew_only_if;
+  stands_in_list = stands_in_list;
+  drops_in_list = drops_in_list;
+  kept_otherwise = kept_otherwise;
   rows-read = rows-read;
-  answer-reads-back = answer-reads-back;
+  answer_reads_back = answer_reads_back;
 }

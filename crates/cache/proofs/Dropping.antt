@@ -87,9 +87,9 @@ module _ (mean : MatchesMean) (s : State) (T : Typed s) (S : Sound s) (cells : L
       ∙ sym (length-map (keep (λ x. match (key_at x)) (held_slots s.slots)) key_at)
       ∙ ap length (keep-map key_at match (held_slots s.slots) ∙ ap (keep match) (sym (keys_of (held_slots s.slots))))
 
-pub drops-exactly-matched : MatchesMean → DropsExactlyMatched
+pub drops_exactly_matched : MatchesMean → DropsExactlyMatched
 unfolding step update_of settled update_done with_change
-drops-exactly-matched mean s n us p T h m = go (update_refusal s.state (length s.cells) (length s.memory) n (length us)) refl
+drops_exactly_matched mean s n us p T h m = go (update_refusal s.state (length s.cells) (length s.memory) n (length us)) refl
   where
     after : ℕ → Store × Seen
     after k =

@@ -10,7 +10,7 @@ use lib.ListN.{length}
 use Rattle.lists.specs.Lists.{All, cons}
 use Rattle.lists.proofs.Lists.{All-map, All-both, All-left}
 use Rattle.meaning.specs.Key as M
-use Rattle.meaning.specs.Limits.{most-slots, most-marks}
+use Rattle.meaning.specs.Limits.{most_slots, most_marks}
 use Rattle.trace.specs.Slots.{Held, found, find}
 use Rattle.slots.specs.declared.Key.{Key}
 use Rattle.slots.specs.declared.Found.TheVariants.{Nothing}
@@ -52,9 +52,9 @@ module _ (f : ℕ → Held M.Key) (k : M.Key) where
 abbrev pub as_key : ℕ → List ℤ → M.Key
 as_key n vs = record { query = n; values = vs }
 
-module _ (keys : List Key) (lengths : List ℕ) (l : SlotList) (below : All (λ x. x < most-slots) (held_slots l))
-    (n : ℕ) (vs : List ℤ) (few : length vs ≤ most-marks) where
-  others : {xs : List ℕ} → All (λ x. x < most-slots) xs → All (λ x. slot_has keys (key_of n vs) x ≡ false) xs → All (Other (held_in keys lengths) (as_key n vs)) xs
+module _ (keys : List Key) (lengths : List ℕ) (l : SlotList) (below : All (λ x. x < most_slots) (held_slots l))
+    (n : ℕ) (vs : List ℤ) (few : length vs ≤ most_marks) where
+  others : {xs : List ℕ} → All (λ x. x < most_slots) xs → All (λ x. slot_has keys (key_of n vs) x ≡ false) xs → All (Other (held_in keys lengths) (as_key n vs)) xs
   others b h = All-map (λ x c e. has_other keys (key_of n vs) x c.0 c.1 (e ∙ sym (key-few n vs few))) (All-both b h)
 
   pub find-held : (i : ℕ) (F : FoundAt (slot_has keys (key_of n vs)) (held_slots l) i)

@@ -6,7 +6,7 @@ use mathlib.Core.List.{List, [], ◌∷◌, map}
 use Prim.Native.Nat.{ℕ, ◌≤◌, zero-le}
 use lib.IntN.{ℤ, pos}
 use lib.ListN.{length, replicate, length-replicate}
-use Rattle.meaning.specs.Limits.{most-slots}
+use Rattle.meaning.specs.Limits.{most_slots}
 use Rattle.meaning.specs.Plain as P
 use Rattle.meaning.specs.Plain.{Lengths, Plain, Opening, opening_refused, Out}
 use Rattle.trace.specs.Slots.{empty}
@@ -22,7 +22,7 @@ use Rattle.cache.specs.Run.{Store, Start, opening_of, store_of, opened, Call, Go
 use Rattle.cache.specs.Demand.{lengths_lent}
 use Rattle.cache.proofs.Sounds.{sizes-fit}
 use Rattle.cache.proofs.Typed.{opened-typed, step_typed}
-use Rattle.cache.proofs.StaysSound.{opens-sound, stays-sound}
+use Rattle.cache.proofs.StaysSound.{opens_sound, stays_sound}
 use Rattle.cache.proofs.Model.{held_in, cache_of}
 use Rattle.cache.proofs.Meets.{Meets, step-meets}
 
@@ -42,9 +42,9 @@ pub record Follows (lent : Lengths) (size : ℕ) (s : Store) (m : Model) : Type 
 module _ (o : Opening) where
   empty-means : (cells : List ℤ) → Means (empty_state o) cells (record { lengths = o.lent; tables = []; queries = []; updates = [] })
   unfolding empty_state
-  empty-means cells = record { cells_are = refl; memory-is = refl; tables-are = refl; queries-are = L.nil; updates-are = L.nil }
+  empty-means cells = record { cells_are = refl; memory_is = refl; tables_are = refl; queries_are = L.nil; updates_are = L.nil }
 
-  empty-cache : (memory : List ℕ) → o.slots ≤ most-slots → empty o.slots memory ≡ cache_of (empty_state o) memory
+  empty-cache : (memory : List ℕ) → o.slots ≤ most_slots → empty o.slots memory ≡ cache_of (empty_state o) memory
   unfolding empty_state
   empty-cache memory h =
       ap₂ (λ (h f : List ℕ). record { held = map (held_in (replicate 64 no_key) (replicate 64 0)) h; free = f; memory = memory })
@@ -81,7 +81,7 @@ module _ (o : Start) where
     typed = t;
     sound = h;
     means = empty-means (opening_of o) (replicate (length o.cells) (pos 0));
-    cached = empty-cache (opening_of o) (replicate (length o.memory) 0) (sizes-fit (opening_of o) e).few-slots;
+    cached = empty-cache (opening_of o) (replicate (length o.memory) 0) (sizes-fit (opening_of o) e).few_slots;
     lent_is =
         ap₂ (λ (a b : ℕ). record { cells = a; memory = b }) (length-replicate (length o.cells) (pos 0)) (length-replicate (length o.memory) 0);
     size_is = empty-bytes (opening_of o);
@@ -89,7 +89,7 @@ module _ (o : Start) where
 
   pub follows-opened : Follows (opening_of o).lent (T.slot_size (opening_of o)) (opened o) (T.opened (opening_of o) o.memory)
   unfolding open_of
-  follows-opened = follows_by (opening_refused (opening_of o)) refl (opened-typed o) (opens-sound o)
+  follows-opened = follows_by (opening_refused (opening_of o)) refl (opened-typed o) (opens_sound o)
 
 -- ---- each call keeps it so
 
@@ -118,10 +118,10 @@ module _ {lent : Lengths} {size : ℕ} where
       let M = meets F c in
       record {
         typed = step_typed s c F.typed;
-        sound = stays-sound s c F.typed F.sound;
+        sound = stays_sound s c F.typed F.sound;
         means = M.means;
         cached = M.cached;
-        lent_is = ap₂ (λ (a b : ℕ). record { cells = a; memory = b }) M.cells-long M.memory-long ∙ F.lent_is;
+        lent_is = ap₂ (λ (a b : ℕ). record { cells = a; memory = b }) M.cells_long M.memory_long ∙ F.lent_is;
         size_is = M.bytes_same ∙ F.size_is;
       }
 

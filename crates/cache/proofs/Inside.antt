@@ -9,7 +9,7 @@ use lib.Dec.{leb, ltb}
 use lib.ListN.{length, get_or, length-map}
 use lib.Seq.{length-take-le}
 use Rattle.lists.proofs.Bools.{and_left}
-use Rattle.meaning.specs.Limits.{most-memory, most-slots, most-tables, most-queries}
+use Rattle.meaning.specs.Limits.{most_memory, most_slots, most_tables, most_queries}
 use Rattle.statement.specs.declared.Query.{Query}
 use Rattle.statement.specs.Catalog.{schema_of}
 use Rattle.statement.specs.Sound.{columns_at, second_by, sound_second, sound_query}
@@ -31,54 +31,54 @@ pub behind-zero : (n : ℕ) → (n ≡ 0 → ⊥) → n ≡ suc (n - 1)
 behind-zero zero h = absurd (h refl)
 behind-zero (suc n) h = omega arith
 
-module _ (s : State) (S : Sound s) (tables : length s.tables ≡ most-tables) (queries : length s.queries ≡ most-queries) (i : ℕ) (d : Query) (h : i < s.query_count) where
+module _ (s : State) (S : Sound s) (tables : length s.tables ≡ most_tables) (queries : length s.queries ≡ most_queries) (i : ℕ) (d : Query) (h : i < s.query_count) where
   abbrev query : Query
   query = get_or s.queries i d
 
   sound : sound_query (schemas_in s) query ≡ true
-  sound = All-first {P = λ (x : Query). sound_query (schemas_in s) x ≡ true} s.query_count s.queries i d (omega (arith, S.few-queries)) h S.queries
+  sound = All-first {P = λ (x : Query). sound_query (schemas_in s) x ≡ true} s.query_count s.queries i d (omega (arith, S.few_queries)) h S.queries
 
   long : length (schemas_in s) ≡ s.table_count
-  long = length-map (used_tables s) schema_of ∙ length-take-le s.table_count s.tables (omega (arith, S.few-tables))
+  long = length-map (used_tables s) schema_of ∙ length-take-le s.table_count s.tables (omega (arith, S.few_tables))
 
   pub query-there : query.table < s.table_count
   query-there = subst (λ (n : ℕ). query.table < n) long (query-parts (schemas_in s) query sound).there
 
-  pub query-table : query.table < most-tables
-  query-table = omega (arith, query-there, S.few-tables)
+  pub query-table : query.table < most_tables
+  query-table = omega (arith, query-there, S.few_tables)
 
   -- and its second one (A.1)
   pub second-there : (k : ℕ) → query.second ≡ suc k → k < s.table_count
   second-there k e =
       let t : sound_second (schemas_in s) query.table (columns_at (schemas_in s) query.table) (some (record { table = k; start = query.start })) ≡ true =
       ap (λ (n : ℕ). sound_second (schemas_in s) query.table (columns_at (schemas_in s) query.table) (second_by n query.start)) (sym e)
-      ∙ (query-parts (schemas_in s) query sound).second-sound in
+      ∙ (query-parts (schemas_in s) query sound).second_sound in
       subst (λ (n : ℕ). k < n) long (ltb-true k (length (schemas_in s)) (and_left (ltb k (length (schemas_in s))) _ t))
 
   pub second-used : (query.second ≡ 0 → ⊥) → query.second - 1 < s.table_count
   second-used h = second-there (query.second - 1) (behind-zero query.second h)
 
-  pub second-table : (query.second ≡ 0 → ⊥) → query.second - 1 < most-tables
-  second-table h = omega (arith, second-used h, S.few-tables)
+  pub second-table : (query.second ≡ 0 → ⊥) → query.second - 1 < most_tables
+  second-table h = omega (arith, second-used h, S.few_tables)
 
 -- ---- slots
 
 -- the slot at the place p of the order: its answer lies inside the cache memory
 pub record Held (s : State) (p : ℕ) : Type 0 where
-  pub place : p < most-slots
-  pub slot : get_or s.slots.order p 0 < most-slots
-  pub start : get_or s.slots.order p 0 * s.slot_bytes ≤ most-memory
+  pub place : p < most_slots
+  pub slot : get_or s.slots.order p 0 < most_slots
+  pub start : get_or s.slots.order p 0 * s.slot_bytes ≤ most_memory
   pub ends : get_or s.slots.order p 0 * s.slot_bytes + cached_length s p ≤ s.memory
 
 some-slot : (l : SlotList) → (taken_of l).there ≡ true → 1 ≤ l.count
 unfolding taken_of
-some-slot l h = leb-true 1 l.count (and_left (leb 1 l.count) (leb l.count most-slots) (go (is_open l) h))
+some-slot l h = leb-true 1 l.count (and_left (leb 1 l.count) (leb l.count most_slots) (go (is_open l) h))
   where
     go : (b : Bool) → (cond b (last_taken l) (none_taken l)).there ≡ true → b ≡ true
     go true e = refl
     go false e = e
 
-module _ (s : State) (S : Sound s) (long : length s.slots.order ≡ most-slots) where
+module _ (s : State) (S : Sound s) (long : length s.slots.order ≡ most_slots) where
   pub held-known : (p : ℕ) → p < s.slots.held → Held s p
   held-known p h =
       let H : HeldSound s (get_or s.slots.order p 0) =
@@ -86,7 +86,7 @@ module _ (s : State) (S : Sound s) (long : length s.slots.order ≡ most-slots) 
       record {
         place = omega (arith, S.slots.within, S.slots.few);
         slot = omega (arith, H.slot, S.slots.few);
-        start = omega (arith, H.ends, S.sizes.few-memory);
+        start = omega (arith, H.ends, S.sizes.few_memory);
         ends = H.ends;
       }
 
@@ -97,10 +97,10 @@ module _ (s : State) (S : Sound s) (long : length s.slots.order ≡ most-slots) 
       let ends : t.slot * s.slot_bytes + n ≤ s.memory = slot-room s S t.slot n below fits in
       record {
         slot = omega (arith, S.slots.few);
-        start = omega (arith, S.sizes.few-memory);
+        start = omega (arith, S.sizes.few_memory);
         ends = ends;
         small = omega (arith, S.sizes.most_bytes);
       }
 
-  pub last-below : (taken_of s.slots).there ≡ true → (taken_of s.slots).slot < most-slots
+  pub last-below : (taken_of s.slots).there ≡ true → (taken_of s.slots).slot < most_slots
   last-below there = (last-known 0 there (omega arith)).slot

@@ -20,11 +20,11 @@ use Rattle.cache.specs.Means.{Means, Typed}
 use Rattle.cache.specs.Calls.{start_of, table_at, update_at}
 use Rattle.cache.proofs.Sounds.{Sound, schemas-long}
 use Rattle.cache.proofs.Areas.{schemas-from, table_in, table-from}
-use Rattle.cache.proofs.Standing.{compiled-length, compiled-at, few-tables, few-queries, few-updates}
+use Rattle.cache.proofs.Standing.{compiled-length, compiled-at, few_tables, few_queries, few_updates}
 
 module _ (s : State) (T : Typed s) (S : Sound s) (cells : List ℤ) (p : Plain) (m : Means s cells p) where
   pub schemas-mean : schemas p ≡ schemas_in s
-  schemas-mean = ap (map (λ (t : P.Table). t.schema)) m.tables-are ∙ schemas-from 0 (used_tables s) cells
+  schemas-mean = ap (map (λ (t : P.Table). t.schema)) m.tables_are ∙ schemas-from 0 (used_tables s) cells
 
   pub table-count : length p.tables ≡ s.table_count
   table-count = sym (length-map p.tables (λ (t : P.Table). t.schema)) ∙ ap length schemas-mean ∙ schemas-long s T S
@@ -32,33 +32,33 @@ module _ (s : State) (T : Typed s) (S : Sound s) (cells : List ℤ) (p : Plain) 
   -- a table in use, with its rows
   pub table-at : (i : ℕ) → i < s.table_count → P.table_at p i ≡ table_in (table_at s i) (start_of s i) cells
   table-at i h =
-      let n : length (used_tables s) ≡ s.table_count = length-take-le s.table_count s.tables (few-tables s T S) in
+      let n : length (used_tables s) ≡ s.table_count = length-take-le s.table_count s.tables (few_tables s T S) in
       let e : 0 + areas_of (take i (used_tables s)) ≡ areas_of (take i (used_tables s)) = omega arith in
-      ap (λ (ts : List P.Table). get_or ts i P.no_table) m.tables-are
+      ap (λ (ts : List P.Table). get_or ts i P.no_table) m.tables_are
       ∙ table-from 0 (used_tables s) cells i (subst (λ (n : ℕ). i < n) (sym n) h)
       ∙ ap₂ (λ (t : Table) (k : ℕ). table_in t k cells) (get_or-take s.table_count s.tables i no_table h)
       (e ∙ ap areas_of (take-take i s.table_count s.tables (omega arith)))
 
   used-queries : length (take s.query_count s.queries) ≡ s.query_count
-  used-queries = length-take-le s.query_count s.queries (few-queries s T S)
+  used-queries = length-take-le s.query_count s.queries (few_queries s T S)
 
   pub query-count : length p.queries ≡ s.query_count
-  query-count = compiled-length m.queries-are ∙ used-queries
+  query-count = compiled-length m.queries_are ∙ used-queries
 
   -- a question in use is the compiled form of the plain store's
   pub query-agrees : (i : ℕ) → i < s.query_count → AgreesQuery (query_at s i) (P.query_at p i)
   query-agrees i h =
       subst (λ (q : Query). AgreesQuery q (P.query_at p i)) (get_or-take s.query_count s.queries i no_query h)
-      (compiled-at no_query P.no_query m.queries-are i (subst (λ (n : ℕ). i < n) (sym used-queries) h))
+      (compiled-at no_query P.no_query m.queries_are i (subst (λ (n : ℕ). i < n) (sym used-queries) h))
 
   used-updates : length (take s.update_count s.updates) ≡ s.update_count
-  used-updates = length-take-le s.update_count s.updates (few-updates s T S)
+  used-updates = length-take-le s.update_count s.updates (few_updates s T S)
 
   pub update-count : length p.updates ≡ s.update_count
-  update-count = compiled-length m.updates-are ∙ used-updates
+  update-count = compiled-length m.updates_are ∙ used-updates
 
   -- and so is an update
   pub update_agrees : (i : ℕ) → i < s.update_count → AgreesUpdate (update_at s i) (P.update_at p i)
   update_agrees i h =
       subst (λ (u : Update). AgreesUpdate u (P.update_at p i)) (get_or-take s.update_count s.updates i no_update h)
-      (compiled-at no_update P.no_update m.updates-are i (subst (λ (n : ℕ). i < n) (sym used-updates) h))
+      (compiled-at no_update P.no_update m.updates_are i (subst (λ (n : ℕ). i < n) (sym used-updates) h))

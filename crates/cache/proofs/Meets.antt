@@ -14,7 +14,7 @@ use Rattle.lists.specs.Lists.{All, written}
 use Rattle.lists.proofs.Bools.{and_right, not-false}
 use Rattle.lists.proofs.Lists.{All-head, All-right, All-map, All-every, All-get_or}
 use Rattle.meaning.specs.Key.{Key, same_key}
-use Rattle.meaning.specs.Limits.{most-slots, most-marks}
+use Rattle.meaning.specs.Limits.{most_slots, most_marks}
 use Rattle.meaning.specs.Plain as P
 use Rattle.meaning.specs.Plain.{Lengths, Plain, other_lengths, refusal, record_of, rows_read, matches_key, Out, refused, answered, does, guard, or_else}
 use Rattle.meaning.proofs.Accepted.{Asked, key-asked}
@@ -43,7 +43,7 @@ use Rattle.cache.proofs.Sounds.{Sound, sound-is, held_below, held-sound, query-a
 use Rattle.cache.proofs.Meanings.{query-count, query-agrees}
 use Rattle.cache.proofs.Asking.{cache-means, read_asked, record_is, ask-number, new-number}
 use Rattle.cache.proofs.Updating.{update-there, update-long}
-use Rattle.cache.proofs.Plainly.{does-as-plain}
+use Rattle.cache.proofs.Plainly.{does_as_plain}
 use Rattle.cache.proofs.Dropping.{MatchesMean, matched-is}
 use Rattle.cache.proofs.Model.{held_in, cache_of}
 use Rattle.cache.proofs.Finds.{as_key, find-held, find-missed}
@@ -58,8 +58,8 @@ model_of s p = record { store = p; cache = cache_of s.state s.memory }
 pub record Meets (s : Store) (buffer : List ℕ) (r : Store × Seen) (q : Model × T.Seen) : Type 0 where
   pub means : Means r.0.state r.0.cells q.0.store
   pub cached : q.0.cache ≡ cache_of r.0.state r.0.memory
-  pub cells-long : length r.0.cells ≡ length s.cells
-  pub memory-long : length r.0.memory ≡ length s.memory
+  pub cells_long : length r.0.cells ≡ length s.cells
+  pub memory_long : length r.0.memory ≡ length s.memory
   pub bytes_same : r.0.state.slot_bytes ≡ s.state.slot_bytes
   pub got : r.1.got ≡ got_of buffer q.1.out
   pub kept : r.1.kept ≡ q.1.kept
@@ -72,8 +72,8 @@ module _ (s : Store) (p : Plain) (m : Means s.state s.cells p) where
   refused-meets buffer n = record {
     means = m;
     cached = refl;
-    cells-long = refl;
-    memory-long = refl;
+    cells_long = refl;
+    memory_long = refl;
     bytes_same = refl;
     got = refl;
     kept = refl;
@@ -106,25 +106,25 @@ module _ (s : Store) (p : Plain) (Ty : Typed s.state) (h : sound_state s.state �
   short-meets true r q d = refused-meets s p m buffer 13
   short-meets false r q d = d
 
-  below : All (λ x. x < most-slots) (held_slots s.state.slots)
+  below : All (λ x. x < most_slots) (held_slots s.state.slots)
   below = All-map (λ x l. omega (arith, S.slots.few)) (held_below s.state S)
 
   module _ (A : Asked (lengths_lent s) p (as_key n vs)) where
     pub there : n < s.state.query_count
     there = subst (λ k. n < k) (query-count s.state Ty S s.cells p m) A.there
 
-    pub few-values : length vs ≤ most-marks
+    pub few-values : length vs ≤ most_marks
     few-values =
         let e : length vs ≡ (query_at s.state n).parameters =
-        A.values ∙ sym (query-agrees s.state Ty S s.cells p m n there).parameters-are in
-        rw e (query-parts _ (query_at s.state n) (query-at s.state Ty S n there)).few-parameters
+        A.values ∙ sym (query-agrees s.state Ty S s.cells p m n there).parameters_are in
+        rw e (query-parts _ (query_at s.state n) (query-at s.state Ty S n there)).few_parameters
 
-    memory-lent : length s.memory ≡ s.state.memory
+    memory_lent : length s.memory ≡ s.state.memory
     unfolding other_lengths
-    memory-lent =
+    memory_lent =
         let same : Bool = eqb (length s.cells) p.lengths.cells in
         eqb-true (length s.memory) p.lengths.memory (and_right same _ (not-false (same && eqb (length s.memory) p.lengths.memory) A.lengths))
-        ∙ m.memory-is
+        ∙ m.memory_is
 
     -- ---- found at place i of the order, in the slot x; its record has k bytes
 
@@ -149,7 +149,7 @@ module _ (s : Store) (p : Plain) (Ty : Typed s.state) (h : sound_state s.state �
           ∙ get_or_at F.before F.slot F.after 0 i F.place
 
       long : length (bytes_at s.state s.memory F.slot) ≡ length_at s.state F.slot
-      long = bytes-long s.state Ty S s.memory memory-lent F.slot (All-head (All-right F.before (rw F.split at (held-sound s.state S))))
+      long = bytes-long s.state Ty S s.memory memory_lent F.slot (All-head (All-right F.before (rw F.split at (held-sound s.state S))))
 
       cached-is : ask_cached s.state s.memory buffer i ≡ shown i F.slot (length (bytes_at s.state s.memory F.slot))
       unfolding ask_cached
@@ -163,8 +163,8 @@ module _ (s : Store) (p : Plain) (Ty : Typed s.state) (h : sound_state s.state �
           (record {
             means = cache-means s.state s.cells p m (front_of s.state.slots i) s.state.keys s.state.lengths;
             cached = sym (cached-front s.state Ty S s.memory _ i F);
-            cells-long = refl;
-            memory-long = refl;
+            cells_long = refl;
+            memory_long = refl;
             bytes_same = refl;
             got = refl;
             kept = refl;
@@ -194,8 +194,8 @@ module _ (s : Store) (p : Plain) (Ty : Typed s.state) (h : sound_state s.state �
           cached =
               ap (λ (k : Key). put size (fits size r) (cache_of s.state s.memory) k r) (sym (key-few n vs few-values))
               ∙ sym (cached-put s.state Ty S s.memory (key_of n vs) r);
-          cells-long = refl;
-          memory-long = kept-long s.state Ty S s.memory memory-lent r;
+          cells_long = refl;
+          memory_long = kept-long s.state Ty S s.memory memory_lent r;
           bytes_same = ap (λ (t : State). t.slot_bytes) K.3;
           got = refl;
           kept = refl;
@@ -287,13 +287,13 @@ module _ (s : Store) (p : Plain) (Ty : Typed s.state) (h : sound_state s.state �
   add_meets : (text : List ℕ) → Meets s [] (step s (add text)) (T.step lent bytes (model_of s p) (P.add text))
   unfolding step
   add_meets text =
-      let D = does-as-plain s (add text) p Ty h m tt in
+      let D = does_as_plain s (add text) p Ty h m tt in
       subst (Meets s [] (step s (add text))) (sym (plain-guard (refusal lent p (P.add text)) (does p (P.add text))))
       (record {
         means = D.1;
         cached = sym (text-leaves text).0;
-        cells-long = refl;
-        memory-long = refl;
+        cells_long = refl;
+        memory_long = refl;
         bytes_same = (text-leaves text).1;
         got = D.0;
         kept = refl;
@@ -305,7 +305,7 @@ module _ (s : Store) (p : Plain) (Ty : Typed s.state) (h : sound_state s.state �
   one-zero k e = absurd (omega arith)
 
   eight : (n : ℕ) → length (update_at s.state n).settings ≡ 8
-  eight n = All-get_or n no_update refl (All-map (λ u f. f.eight) Ty.updates-fit)
+  eight n = All-get_or n no_update refl (All-map (λ u f. f.eight) Ty.updates_fit)
 
   module _ (n : ℕ) (us : List ℤ) where
     abbrev done : Updates
@@ -323,8 +323,8 @@ module _ (s : Store) (p : Plain) (Ty : Typed s.state) (h : sound_state s.state �
       means = M;
       cached =
           sym (cached-drop s.state Ty (sound-is s.state h) s.memory (is_matched s.state s.cells (update_at s.state n) us) (matches_key p n us) (matched-is patterns-mean s.state Ty (sound-is s.state h) s.cells p m n (update-there s p Ty h m n us e) (update-long s p Ty h m n us e) us));
-      cells-long = cells-length (update_at s.state n) _ _ s.cells us (eight n);
-      memory-long = refl;
+      cells_long = cells-length (update_at s.state n) _ _ s.cells us (eight n);
+      memory_long = refl;
       bytes_same = refl;
       got = g;
       kept = refl;
@@ -343,7 +343,7 @@ module _ (s : Store) (p : Plain) (Ty : Typed s.state) (h : sound_state s.state �
     update-meets : Meets s [] (step s (update n us)) (T.step lent bytes (model_of s p) (P.change n us))
     unfolding step update_of
     update-meets =
-        let D = does-as-plain s (update n us) p Ty h m tt in
+        let D = does_as_plain s (update n us) p Ty h m tt in
         by_number (update_refusal s.state (length s.cells) (length s.memory) n (length us)) (refusal lent p (P.change n us)) refl D.0 D.1
 
   -- a flush drops every answer
@@ -357,8 +357,8 @@ module _ (s : Store) (p : Plain) (Ty : Typed s.state) (h : sound_state s.state �
   flushed-by false zero g = record {
     means = cache-means s.state s.cells p m _ s.state.keys s.state.lengths;
     cached = sym (cached-drop s.state Ty (sound-is s.state h) s.memory (λ x. true) (λ k. true) (All-every (λ x. refl) (held_slots s.state.slots)));
-    cells-long = refl;
-    memory-long = refl;
+    cells_long = refl;
+    memory_long = refl;
     bytes_same = refl;
     got = g;
     kept = refl;
@@ -367,7 +367,7 @@ module _ (s : Store) (p : Plain) (Ty : Typed s.state) (h : sound_state s.state �
 
   flush-meets : Meets s [] (step s flush) (T.step lent bytes (model_of s p) P.flush)
   unfolding step flush_of
-  flush-meets = flushed-by (unfit s.state (length s.cells) (length s.memory)) (refusal lent p P.flush) (does-as-plain s flush p Ty h m tt).0
+  flush-meets = flushed-by (unfit s.state (length s.cells) (length s.memory)) (refusal lent p P.flush) (does_as_plain s flush p Ty h m tt).0
 
   -- ---- every call
 

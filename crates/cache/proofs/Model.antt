@@ -10,7 +10,7 @@ use lib.ListN.{length, take, drop, get_or}
 use Rattle.lists.specs.Lists.{All, unsnoc, behind}
 use Rattle.lists.proofs.Lists.{map-append}
 use Rattle.meaning.specs.Key as M
-use Rattle.meaning.specs.Limits.{most-slots}
+use Rattle.meaning.specs.Limits.{most_slots}
 use Rattle.trace.specs.Slots.{Held, Cache, last_held, last_free, take_last}
 use Rattle.slots.specs.declared.Key.{Key}
 use Rattle.slots.specs.declared.SlotList.{SlotList}
@@ -38,15 +38,15 @@ unsnoc-last (y ∷ a) x = ap (behind y) (unsnoc-last a x)
 
 module _ (keys : List Key) (lengths memory : List ℕ) (l : SlotList) where
   pub record Last (hs fs : List ℕ) : Type 0 where
-    pub held-now : held_slots (taken_of l).slots ≡ (taken_of l).slot ∷ hs
-    pub free-now : free_slots (taken_of l).slots ≡ fs
+    pub held_now : held_slots (taken_of l).slots ≡ (taken_of l).slot ∷ hs
+    pub free_now : free_slots (taken_of l).slots ≡ fs
     pub apart : All (λ x. x ≢ (taken_of l).slot) hs
     pub takes : take_last (cache_in keys lengths l memory) ≡ some ((taken_of l).slot, map (held_in keys lengths) hs, fs)
 
   last-free : TakenFree l → Last (held_slots l) (free_slots (taken_of l).slots)
   last-free F = record {
-    held-now = F.held;
-    free-now = refl;
+    held_now = F.held;
+    free_now = refl;
     apart = F.apart;
     takes =
         ap (λ (f : List ℕ). last_free (map (held_in keys lengths) (held_slots l)) (unsnoc f)) F.free
@@ -55,8 +55,8 @@ module _ (keys : List Key) (lengths memory : List ℕ) (l : SlotList) where
 
   last-held : (H : TakenHeld l) → Last H.others []
   last-held H = record {
-    held-now = H.held;
-    free-now = H.free;
+    held_now = H.held;
+    free_now = H.free;
     apart = H.apart;
     takes =
         ap₂ (λ (h f : List ℕ). last_free (map (held_in keys lengths) h) (unsnoc f)) H.before H.none
@@ -64,7 +64,7 @@ module _ (keys : List Key) (lengths memory : List ℕ) (l : SlotList) where
         ∙ ap last_held (unsnoc-last (map (held_in keys lengths) H.others) (held_in keys lengths (taken_of l).slot));
   }
 
-  pub last-is : Sound l → length l.order ≡ most-slots → 1 ≤ l.count → (hs fs : List ℕ) × Last hs fs
+  pub last-is : Sound l → length l.order ≡ most_slots → 1 ≤ l.count → (hs fs : List ℕ) × Last hs fs
   last-is S long any = go (dec_lt l.held l.count)
     where
       go : Dec (l.held < l.count) → (hs fs : List ℕ) × Last hs fs

@@ -23,7 +23,7 @@ use Rattle.cache.proofs.Sounds.{sizes-fit, fit-sizes}
 
 empty-fresh : (o : Opening) → o.slots ≤ 64 → Fresh (empty_state o) o
 unfolding empty_state slots_open
-empty-fresh o h = record { no-tables = refl; no-queries = refl; no-updates = refl; none-held = refl; sizes = refl; order = open-slots o.slots h }
+empty-fresh o h = record { no_tables = refl; no_queries = refl; no_updates = refl; none_held = refl; sizes = refl; order = open-slots o.slots h }
 
 module _ (o : Start) where
   abbrev by : Bool → Opens
@@ -40,7 +40,7 @@ module _ (o : Start) where
       × ((store_of (by b)).cells ≡ replicate (length o.cells) (pos 0))
       × ((store_of (by b)).memory ≡ replicate (length o.memory) 0)
   taken-by true e z = absurd (omega arith)
-  taken-by false e z = (empty-fresh (opening_of o) (sizes-fit (opening_of o) e).few-slots, refl, refl)
+  taken-by false e z = (empty-fresh (opening_of o) (sizes-fit (opening_of o) e).few_slots, refl, refl)
 
   refused-by : (b : Bool) → (by b).result.refusal ≢ 0
       → ((by b).result.refusal ≡ 1)
@@ -50,13 +50,13 @@ module _ (o : Start) where
   refused-by true h = (refl, empty-fresh (opening 0 0 0 8) (omega arith), refl, refl)
   refused-by false h = absurd (h refl)
 
-pub opens-exactly-if : OpensExactlyIf
+pub opens_exactly_if : OpensExactlyIf
 unfolding open_of
-opens-exactly-if o = exactly-by o (opening_refused (opening_of o)) refl
+opens_exactly_if o = exactly-by o (opening_refused (opening_of o)) refl
 
-pub opening-taken : OpeningTaken
+pub opening_taken : OpeningTaken
 unfolding open_of
-opening-taken o = taken-by o (opening_refused (opening_of o)) refl
+opening_taken o = taken-by o (opening_refused (opening_of o)) refl
 
 pub opening-refused : OpeningRefused
 unfolding open_of
@@ -64,9 +64,9 @@ opening-refused o = refused-by o (opening_refused (opening_of o))
 
 -- ---- flush
 
-pub flush-drops-all : FlushDropsAll
+pub flush_drops_all : FlushDropsAll
 unfolding step flush_of with_cache
-flush-drops-all s = go (unfit s.state (length s.cells) (length s.memory))
+flush_drops_all s = go (unfit s.state (length s.cells) (length s.memory))
   where
     by : Bool → Store
     by b = (step_flush s (cond b (record { refusal = 2; state = s.state }) (record { refusal = 0; state = emptied s.state }))).0

@@ -14,7 +14,7 @@ use Rattle.lists.proofs.Bools.{or_left, not-false, clash}
 use Rattle.lists.proofs.Lists.{All-head, All-tail}
 use Rattle.meaning.specs.Grammar as G
 use Rattle.meaning.specs.Grammar.{Sentence, sentence}
-use Rattle.meaning.specs.Limits.{most-tables, most-queries, most-updates}
+use Rattle.meaning.specs.Limits.{most_tables, most_queries, most_updates}
 use Rattle.meaning.specs.Statement.{statement_of}
 use Rattle.meaning.specs.Plain.{Plain, schemas, no_place, add_conditions, lowest_of}
 use Rattle.meaning.proofs.Accepted.{clear}
@@ -32,20 +32,20 @@ use Rattle.cache.proofs.Settled.{settled-refused, settled-done}
 -- ---- refusal 9: a text that is not refused has a place
 
 module _ (s : State) (p : Plain) (t : length p.tables ≡ s.table_count) (q : length p.queries ≡ s.query_count) (u : length p.updates ≡ s.update_count) where
-  change-place : leb most-updates (length p.updates) ≡ false → has_place 3 s ≡ true
-  change-place h = let l = leb-false most-updates (length p.updates) h in lt-ltb s.update_count most-updates (omega arith)
+  change-place : leb most_updates (length p.updates) ≡ false → has_place 3 s ≡ true
+  change-place h = let l = leb-false most_updates (length p.updates) h in lt-ltb s.update_count most_updates (omega arith)
 
   sentence-place : (x : Sentence) → no_place p x ≡ false → has_place (struct_of (statement_of (schemas p) x)).kind s ≡ true
   unfolding no_place struct_of statement_of
   sentence-place (G.table n cs ring z) h =
-      let l = leb-false most-tables (length p.tables) (or_left (leb most-tables (length p.tables)) _ h) in
-      lt-ltb s.table_count most-tables (omega arith)
+      let l = leb-false most_tables (length p.tables) (or_left (leb most_tables (length p.tables)) _ h) in
+      lt-ltb s.table_count most_tables (omega arith)
   sentence-place (G.select cs n w) h =
-      let l = leb-false most-queries (length p.queries) h in
-      lt-ltb s.query_count most-queries (omega arith)
+      let l = leb-false most_queries (length p.queries) h in
+      lt-ltb s.query_count most_queries (omega arith)
   sentence-place (G.pair cs n m w) h =
-      let l = leb-false most-queries (length p.queries) h in
-      lt-ltb s.query_count most-queries (omega arith)
+      let l = leb-false most_queries (length p.queries) h in
+      lt-ltb s.query_count most_queries (omega arith)
   sentence-place (G.insert n vs) h = change-place h
   sentence-place (G.update n ss w) h = change-place h
   sentence-place (G.delete n w) h = change-place h
@@ -73,14 +73,14 @@ module _ (s : State) (text : List ℕ) (long : length s.tables ≡ 8) (ok : soun
 -- ---- a statement by its kind
 
 module _ (s : State) (k : ℕ) (h : has_place k s ≡ true) where
-  pub table-place : k ≡ 1 → s.table_count < 8
-  table-place e = ltb-true s.table_count 8 (ap (λ (i : ℕ). has_place i s) (sym e) ∙ h)
+  pub table_place : k ≡ 1 → s.table_count < 8
+  table_place e = ltb-true s.table_count 8 (ap (λ (i : ℕ). has_place i s) (sym e) ∙ h)
 
-  pub query-place : k ≡ 2 → s.query_count < 16
-  query-place e = ltb-true s.query_count 16 (ap (λ (i : ℕ). has_place i s) (sym e) ∙ h)
+  pub query_place : k ≡ 2 → s.query_count < 16
+  query_place e = ltb-true s.query_count 16 (ap (λ (i : ℕ). has_place i s) (sym e) ∙ h)
 
-  pub update-place : k ≡ 3 → s.update_count < 16
-  update-place e = ltb-true s.update_count 16 (ap (λ (i : ℕ). has_place i s) (sym e) ∙ h)
+  pub update_place : k ≡ 3 → s.update_count < 16
+  update_place e = ltb-true s.update_count 16 (ap (λ (i : ℕ). has_place i s) (sym e) ∙ h)
 
 -- there is no fourth kind
 pub is-update : (s : State) (k : ℕ) → has_place k s ≡ true → (k ≡ 1 → ⊥) → (k ≡ 2 → ⊥) → k ≡ 3

@@ -33,9 +33,9 @@ flush-same s p h m =
     go true = (refl, m)
     go false = (refl, cache-means s.state s.cells p m _ _ _)
 
-pub does-as-plain : DoesAsPlain
-does-as-plain s (add text) p T h m a = add_same s p T h m text
-does-as-plain s (ask n vs buffer) p T h m (inl a) = ask-same s p T h m n vs buffer a
-does-as-plain s (ask n vs buffer) p T h m (inr (a, b)) = ask-refused-same s p T h m n vs buffer a b
-does-as-plain s (update n us) p T h m a = update_same s p T h m n us
-does-as-plain s flush p T h m a = flush-same s p h m
+pub does_as_plain : DoesAsPlain
+does_as_plain s (add text) p T h m a = add_same s p T h m text
+does_as_plain s (ask n vs buffer) p T h m (inl a) = ask-same s p T h m n vs buffer a
+does_as_plain s (ask n vs buffer) p T h m (inr (a, b)) = ask-refused-same s p T h m n vs buffer a b
+does_as_plain s (update n us) p T h m a = update_same s p T h m n us
+does_as_plain s flush p T h m a = flush-same s p h m

@@ -11,7 +11,7 @@ use lib.ListN.{length, take, drop}
 use lib.Seq.{get_or-take, length-take-le, take-take}
 use Rattle.lists.proofs.Bools.{and_right}
 use Rattle.lists.proofs.Turned.{length-turned}
-use Rattle.meaning.specs.Limits.{most-items}
+use Rattle.meaning.specs.Limits.{most_items}
 use Rattle.meaning.specs.Cells.{rows_in}
 use Rattle.meaning.proofs.Cells.{rows-length}
 use Rattle.statement.specs.declared.Table.{Table}
@@ -41,24 +41,24 @@ module _ (s : State) (S : Sound s) (few : s.table_count ≤ length s.tables) (i 
       let b : areas_of (take i (used_tables s)) ≡ start_of s i = ap areas_of (take-take i s.table_count s.tables (omega arith)) in
       omega (arith, S.areas)
 
-  pub some-rows : 1 ≤ t.capacity
-  some-rows = All-first {P = λ (t : Table). 1 ≤ t.capacity} s.table_count s.tables i no_table few h (rows-some [] (used_tables s) S.tables)
+  pub some_rows : 1 ≤ t.capacity
+  some_rows = All-first {P = λ (t : Table). 1 ≤ t.capacity} s.table_count s.tables i no_table few h (rows-some [] (used_tables s) S.tables)
 
-  few-columns : t.count ≤ most-items
-  few-columns = All-first {P = λ (t : Table). t.count ≤ most-items} s.table_count s.tables i no_table few h (columns-few [] (used_tables s) S.tables)
+  few_columns : t.count ≤ most_items
+  few_columns = All-first {P = λ (t : Table). t.count ≤ most_items} s.table_count s.tables i no_table few h (columns-few [] (used_tables s) S.tables)
 
-  few-rows : t.rows ≤ t.capacity
-  few-rows = All-first {P = λ (t : Table). t.rows ≤ t.capacity} s.table_count s.tables i no_table few h S.rows
+  few_rows : t.rows ≤ t.capacity
+  few_rows = All-first {P = λ (t : Table). t.rows ≤ t.capacity} s.table_count s.tables i no_table few h S.rows
 
   module _ (cells : List ℤ) (long : length cells ≡ s.cells) where
     -- as many rows as the table says
     pub rows-many : length (rows_at s cells i) ≡ t.rows
     rows-many =
-        ap length (rows-used t (start_of s i) cells few-rows (subst (λ (n : ℕ). start_of s i + t.count * t.capacity ≤ n) (sym long) area-inside))
+        ap length (rows-used t (start_of s i) cells few_rows (subst (λ (n : ℕ). start_of s i + t.count * t.capacity ≤ n) (sym long) area-inside))
         ∙ length-turned t.oldest (rows_in t.count t.rows (drop (start_of s i) cells))
         ∙ rows-length t.count t.rows (drop (start_of s i) cells)
 
     pub first-row : (u : Update) → is_pushing t u ≡ true → take 1 (rows_at s cells i) ≡ oldest_row t (start_of s i) cells ∷ []
     first-row u e =
         let c : t.capacity ≤ t.rows = leb-true t.capacity t.rows (and_right (eqb u.form 0) _ (and_right t.ring _ e)) in
-        oldest-first t (start_of s i) cells few-columns (omega (arith, rows-many, some-rows, c))
+        oldest-first t (start_of s i) cells few_columns (omega (arith, rows-many, some_rows, c))

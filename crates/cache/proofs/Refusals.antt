@@ -258,14 +258,14 @@ ascending s (ask n vs buffer) = go (found_in s.state n vs)
 ascending s (update n vs) = refl
 ascending s flush = refl
 
-pub lowest-number : LowestNumber
-lowest-number s c = subst (Lowest s c) (sym (number_is s c)) (record { given = l.given; lower = l.lower; only = l.only })
+pub lowest_number : LowestNumber
+lowest_number s c = subst (Lowest s c) (sym (number_is s c)) (record { given = l.given; lower = l.lower; only = l.only })
   where
     l : LowestIn (conditions s c) (lowest_of (conditions s c))
     l = lowest-in 0 (conditions s c) (ascending s c)
 
-pub rings-never-full : RingsNeverFull
-rings-never-full s n vs r e =
+pub rings_never_full : RingsNeverFull
+rings_never_full s n vs r e =
     go (unfit s.state (length s.cells) (length s.memory)) (leb s.state.update_count n) (not (eqb (length vs) (update_at s.state n).parameters)) (sym number ∙ e)
   where
     free : is_full s.state (update_at s.state n) ≡ false
@@ -286,8 +286,8 @@ rings-never-full s n vs r e =
     go false false true h = absurd (omega arith)
     go false false false h = absurd (omega arith)
 
-pub refused-changes-nothing : RefusedChangesNothing
-refused-changes-nothing s (add text) h = add-refused s text h
-refused-changes-nothing s (ask n vs buffer) h = ask-refused s n vs buffer h
-refused-changes-nothing s (update n vs) h = update-refused s n vs h
-refused-changes-nothing s flush h = flush-refused s h
+pub refused_changes_nothing : RefusedChangesNothing
+refused_changes_nothing s (add text) h = add-refused s text h
+refused_changes_nothing s (ask n vs buffer) h = ask-refused s n vs buffer h
+refused_changes_nothing s (update n vs) h = update-refused s n vs h
+refused_changes_nothing s flush h = flush-refused s h

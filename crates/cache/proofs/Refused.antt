@@ -46,7 +46,7 @@ pub unfit-is : (s : State) (cells : List ℤ) (p : Plain) → sound_state s ≡ 
 unfolding unfit other_lengths
 unfit-is s cells p h m a b =
     ap (λ c. not c || not (eqb a s.cells && eqb b s.memory)) h
-    ∙ ap₂ (λ x y. not (eqb a x && eqb b y)) (sym m.cells_are) (sym m.memory-is)
+    ∙ ap₂ (λ x y. not (eqb a x && eqb b y)) (sym m.cells_are) (sym m.memory_is)
 
 -- where it does not apply, the cells have the state's length
 pub lengths-same : (s : State) (cells : List ℤ) (p : Plain) → Means s cells p → (lent : Lengths) → other_lengths lent p ≡ false → lent.cells ≡ s.cells

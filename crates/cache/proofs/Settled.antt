@@ -32,7 +32,7 @@ unfit-is s cells memory sound bad e h = h ∙ ap (λ (b : Bool). unfit_if b s.ce
 pub record Fit (s : State) (cells memory : ℕ) : Type 0 where
   pub sound : sound_state s ≡ true
   pub cells_are : cells ≡ s.cells
-  pub memory-is : memory ≡ s.memory
+  pub memory_is : memory ≡ s.memory
 
 pub fit_is : (s : State) (cells memory : ℕ) → unfit s cells memory ≡ false → Fit s cells memory
 unfolding unfit
@@ -41,7 +41,7 @@ fit_is s cells memory h =
     record {
       sound = not-false (sound_state s) (or_left (not (sound_state s)) _ h);
       cells_are = eqb-true cells s.cells (and_left (eqb cells s.cells) _ a);
-      memory-is = eqb-true memory s.memory (and_right (eqb cells s.cells) _ a);
+      memory_is = eqb-true memory s.memory (and_right (eqb cells s.cells) _ a);
     }
 
 -- the first condition fails, and so do the others

@@ -14,7 +14,7 @@ use Rattle.lists.specs.Lists.{All, all, repeats}
 use Rattle.lists.proofs.Bools.{and_left, and_right, and_both, or_left, or_right, not-true}
 use Rattle.lists.proofs.Lists.{All-map, All-both, All-take, all_true, all-of, All-source, All-image}
 use Rattle.lists.proofs.Places.{All-at}
-use Rattle.meaning.specs.Limits.{most-cells, most-memory, most-slots, least-slot-bytes, most-slot-bytes, most-tables, most-queries, most-updates}
+use Rattle.meaning.specs.Limits.{most_cells, most_memory, most_slots, least_slot_bytes, most_slot_bytes, most_tables, most_queries, most_updates}
 use Rattle.meaning.specs.Plain.{Opening, opening_refused}
 use Rattle.statement.specs.declared.Table.{Table}
 use Rattle.statement.specs.declared.Query.{Query}
@@ -24,7 +24,7 @@ use Rattle.statement.specs.Catalog.{schema_of}
 use Rattle.statement.specs.Sound as S
 use Rattle.statement.specs.Sound.{sound_query, sound_update, TablesFit}
 use Rattle.statement.proofs.SoundNames.{or-none}
-use Rattle.statement.proofs.SoundTables.{tables-fit as all_fit}
+use Rattle.statement.proofs.SoundTables.{tables_fit as all_fit}
 use Rattle.soundness.specs.Soundness.{tables_sound, queries_sound, updates_sound}
 use Rattle.slots.specs.declared.Key.{Key}
 use Rattle.slots.specs.Keys.{slot_key, held_keys, same_key, held_twice}
@@ -39,19 +39,19 @@ use Rattle.cache.specs.Means.{Typed}
 
 module _ (o : Opening) where
   abbrev many_cells : Bool
-  many_cells = ltb most-cells o.lent.cells
+  many_cells = ltb most_cells o.lent.cells
 
   abbrev much_memory : Bool
-  much_memory = ltb most-memory o.lent.memory
+  much_memory = ltb most_memory o.lent.memory
 
   abbrev many_slots : Bool
-  many_slots = ltb most-slots o.slots
+  many_slots = ltb most_slots o.slots
 
   abbrev short_slots : Bool
-  short_slots = ltb o.slot_bytes least-slot-bytes
+  short_slots = ltb o.slot_bytes least_slot_bytes
 
   abbrev long_slots : Bool
-  long_slots = ltb most-slot-bytes o.slot_bytes
+  long_slots = ltb most_slot_bytes o.slot_bytes
 
   pub sizes-fit : opening_refused o ≡ false → OpeningWithin o
   unfolding opening_refused
@@ -61,36 +61,36 @@ module _ (o : Opening) where
       let h₄ = or_right many_slots _ h₃ in
       let h₅ = or_right short_slots _ h₄ in
       record {
-        few-cells = ltb-false most-cells o.lent.cells (or_left many_cells _ h₁);
-        few-memory = ltb-false most-memory o.lent.memory (or_left much_memory _ h₂);
-        few-slots = ltb-false most-slots o.slots (or_left many_slots _ h₃);
-        least-bytes = ltb-false o.slot_bytes least-slot-bytes (or_left short_slots _ h₄);
-        most_bytes = ltb-false most-slot-bytes o.slot_bytes (or_left long_slots _ h₅);
+        few_cells = ltb-false most_cells o.lent.cells (or_left many_cells _ h₁);
+        few_memory = ltb-false most_memory o.lent.memory (or_left much_memory _ h₂);
+        few_slots = ltb-false most_slots o.slots (or_left many_slots _ h₃);
+        least_bytes = ltb-false o.slot_bytes least_slot_bytes (or_left short_slots _ h₄);
+        most_bytes = ltb-false most_slot_bytes o.slot_bytes (or_left long_slots _ h₅);
         room = ltb-false o.lent.memory (o.slots * o.slot_bytes) (or_right long_slots _ h₅);
       }
 
   pub fit-sizes : OpeningWithin o → opening_refused o ≡ false
   unfolding opening_refused
   fit-sizes F =
-      or-none many_cells _ (le-ltb most-cells o.lent.cells F.few-cells)
-      (or-none much_memory _ (le-ltb most-memory o.lent.memory F.few-memory)
-      (or-none many_slots _ (le-ltb most-slots o.slots F.few-slots)
-      (or-none short_slots _ (le-ltb o.slot_bytes least-slot-bytes F.least-bytes)
-      (or-none long_slots _ (le-ltb most-slot-bytes o.slot_bytes F.most_bytes)
+      or-none many_cells _ (le-ltb most_cells o.lent.cells F.few_cells)
+      (or-none much_memory _ (le-ltb most_memory o.lent.memory F.few_memory)
+      (or-none many_slots _ (le-ltb most_slots o.slots F.few_slots)
+      (or-none short_slots _ (le-ltb o.slot_bytes least_slot_bytes F.least_bytes)
+      (or-none long_slots _ (le-ltb most_slot_bytes o.slot_bytes F.most_bytes)
       (le-ltb o.lent.memory (o.slots * o.slot_bytes) F.room)))))
 
 -- ---- the state
 
 -- the length of the answer in the slot x
 pub record LengthSound (s : State) (x : ℕ) : Type 0 where
-  pub least : least-slot-bytes ≤ length_at s x
+  pub least : least_slot_bytes ≤ length_at s x
   pub most : length_at s x ≤ s.slot_bytes
 
 pub record Sound (s : State) : Type 0 where
   pub sizes : OpeningWithin (sizes_of s)
-  pub few-tables : s.table_count ≤ most-tables
-  pub few-queries : s.query_count ≤ most-queries
-  pub few-updates : s.update_count ≤ most-updates
+  pub few_tables : s.table_count ≤ most_tables
+  pub few_queries : s.query_count ≤ most_queries
+  pub few_updates : s.update_count ≤ most_updates
   pub areas : areas_of (used_tables s) ≤ s.cells
   pub rows : All (λ (t : Table). t.rows ≤ t.capacity) (used_tables s)
   pub starts : All (λ (t : Table). start_fits t ≡ true) (used_tables s)
@@ -106,18 +106,18 @@ module _ (s : State) where
   abbrev length_test : ℕ → Bool
   length_test x = length_fits (length_at s x) s.slot_bytes
 
-  length-is : (x : ℕ) → length_test x ≡ true → LengthSound s x
-  length-is x e = record {
-    least = leb-true least-slot-bytes (length_at s x) (and_left (leb least-slot-bytes (length_at s x)) _ e);
-    most = leb-true (length_at s x) s.slot_bytes (and_right (leb least-slot-bytes (length_at s x)) _ e);
+  length_is : (x : ℕ) → length_test x ≡ true → LengthSound s x
+  length_is x e = record {
+    least = leb-true least_slot_bytes (length_at s x) (and_left (leb least_slot_bytes (length_at s x)) _ e);
+    most = leb-true (length_at s x) s.slot_bytes (and_right (leb least_slot_bytes (length_at s x)) _ e);
   }
 
   is-length : (x : ℕ) → LengthSound s x → length_test x ≡ true
   is-length x L =
-      and_both (leb least-slot-bytes (length_at s x)) _ (le-leb least-slot-bytes (length_at s x) L.least) (le-leb (length_at s x) s.slot_bytes L.most)
+      and_both (leb least_slot_bytes (length_at s x)) _ (le-leb least_slot_bytes (length_at s x) L.least) (le-leb (length_at s x) s.slot_bytes L.most)
 
-  key-is : (k : Key) → sound_key s k ≡ true → KeyFits s k
-  key-is k e = record {
+  key_is : (k : Key) → sound_key s k ≡ true → KeyFits s k
+  key_is k e = record {
     there = ltb-true k.query s.query_count (and_left (ltb k.query s.query_count) _ e);
     values = eqb-true k.count (query_at s k.query).parameters (and_right (ltb k.query s.query_count) _ e);
   }
@@ -143,7 +143,7 @@ module _ (s : State) where
   sound-is h =
       let h₁ = and_right (sound_sizes s) _ h in
       let counts = and_left (sound_counts s) _ h₁ in
-      let few = and_right (leb s.table_count most-tables) _ counts in
+      let few = and_right (leb s.table_count most_tables) _ counts in
       let h₂ = and_right (sound_counts s) _ h₁ in
       let ts = and_left (sound_tables s) (sound_answers s) h₂ in
       let ts₁ = and_right (sound_areas s) _ ts in
@@ -154,18 +154,18 @@ module _ (s : State) where
       let keys = and_left (sound_keys s) _ answers₁ in
       record {
         sizes = sizes-fit (sizes_of s) (not-true _ (and_left (sound_sizes s) _ h));
-        few-tables = leb-true s.table_count most-tables (and_left (leb s.table_count most-tables) _ counts);
-        few-queries = leb-true s.query_count most-queries (and_left (leb s.query_count most-queries) _ few);
-        few-updates = leb-true s.update_count most-updates (and_right (leb s.query_count most-queries) _ few);
+        few_tables = leb-true s.table_count most_tables (and_left (leb s.table_count most_tables) _ counts);
+        few_queries = leb-true s.query_count most_queries (and_left (leb s.query_count most_queries) _ few);
+        few_updates = leb-true s.update_count most_updates (and_right (leb s.query_count most_queries) _ few);
         areas = leb-true (areas_of (used_tables s)) s.cells (and_left (sound_areas s) _ ts);
         rows = All-map (λ t e. leb-true t.rows t.capacity (and_left (leb t.rows t.capacity) _ e)) (all_true rows_fit (used_tables s) (and_left (sound_rows s) _ ts₁));
         starts = All-map (λ t e. and_right (leb t.rows t.capacity) (start_fits t) e) (all_true rows_fit (used_tables s) (and_left (sound_rows s) _ ts₁));
         tables = and_left tables_test _ texts;
         queries = all_true (sound_query (schemas_in s)) (used_queries s) (and_left queries_test _ statements);
         updates = all_true (sound_update (schemas_in s)) (used_updates s) (and_right queries_test _ statements);
-        lengths = All-map length-is (all_true length_test (held_slots s.slots) (and_left (sound_lengths s) _ answers));
+        lengths = All-map length_is (all_true length_test (held_slots s.slots) (and_left (sound_lengths s) _ answers));
         keys =
-            All-map (λ x e. key-is (slot_key s.keys x) e)
+            All-map (λ x e. key_is (slot_key s.keys x) e)
             (All-source (slot_key s.keys) (held_slots s.slots) (all_true (sound_key s) (held_keys s.keys s.slots) (and_left slot_keys _ keys)));
         once = not-true (held_twice s.keys s.slots) (and_right slot_keys _ keys);
         slots = L.sound-is s.slots (and_right (sound_keys s) _ answers₁);
@@ -195,9 +195,9 @@ module _ (s : State) where
     is-sound =
         and_both (sound_sizes s) _ (ap not (fit-sizes (sizes_of s) S.sizes))
         (and_both (sound_counts s) _
-        (and_both (leb s.table_count most-tables) _ (le-leb s.table_count most-tables S.few-tables)
-        (and_both (leb s.query_count most-queries) _ (le-leb s.query_count most-queries S.few-queries)
-        (le-leb s.update_count most-updates S.few-updates)))
+        (and_both (leb s.table_count most_tables) _ (le-leb s.table_count most_tables S.few_tables)
+        (and_both (leb s.query_count most_queries) _ (le-leb s.query_count most_queries S.few_queries)
+        (le-leb s.update_count most_updates S.few_updates)))
         (and_both (sound_tables s) _ tables-hold answers-hold))
 
 -- ---- what it says at a place
@@ -232,18 +232,18 @@ module _ (s : State) (S : Sound s) where
 
 module _ (s : State) (T : Typed s) (S : Sound s) where
   pub rows_at : (i : ℕ) → i < s.table_count → (table_at s i).rows ≤ (table_at s i).capacity
-  rows_at i h = All-first {P = λ (t : Table). t.rows ≤ t.capacity} s.table_count s.tables i no_table (omega (arith, T.eight-tables, S.few-tables)) h S.rows
+  rows_at i h = All-first {P = λ (t : Table). t.rows ≤ t.capacity} s.table_count s.tables i no_table (omega (arith, T.eight_tables, S.few_tables)) h S.rows
 
   pub start-at : (i : ℕ) → i < s.table_count → start_fits (table_at s i) ≡ true
-  start-at i h = All-first {P = λ (t : Table). start_fits t ≡ true} s.table_count s.tables i no_table (omega (arith, T.eight-tables, S.few-tables)) h S.starts
+  start-at i h = All-first {P = λ (t : Table). start_fits t ≡ true} s.table_count s.tables i no_table (omega (arith, T.eight_tables, S.few_tables)) h S.starts
 
   pub query-at : (i : ℕ) → i < s.query_count → sound_query (schemas_in s) (query_at s i) ≡ true
   query-at i h =
-      All-first {P = λ (q : Query). sound_query (schemas_in s) q ≡ true} s.query_count s.queries i no_query (omega (arith, T.sixteen-queries, S.few-queries)) h S.queries
+      All-first {P = λ (q : Query). sound_query (schemas_in s) q ≡ true} s.query_count s.queries i no_query (omega (arith, T.sixteen_queries, S.few_queries)) h S.queries
 
   pub update-at : (i : ℕ) → i < s.update_count → sound_update (schemas_in s) (update_at s i) ≡ true
   update-at i h =
-      All-first {P = λ (u : Update). sound_update (schemas_in s) u ≡ true} s.update_count s.updates i no_update (omega (arith, T.sixteen-updates, S.few-updates)) h S.updates
+      All-first {P = λ (u : Update). sound_update (schemas_in s) u ≡ true} s.update_count s.updates i no_update (omega (arith, T.sixteen_updates, S.few_updates)) h S.updates
 
   -- the slot at a held place of the order
   pub held_at : (i : ℕ) → i < s.slots.held → HeldSound s (get_or s.slots.order i 0)
@@ -252,7 +252,7 @@ module _ (s : State) (T : Typed s) (S : Sound s) where
 
   -- the tables that there are
   pub schemas-long : length (schemas_in s) ≡ s.table_count
-  schemas-long = length-map (used_tables s) schema_of ∙ length-take-le s.table_count s.tables (omega (arith, T.eight-tables, S.few-tables))
+  schemas-long = length-map (used_tables s) schema_of ∙ length-take-le s.table_count s.tables (omega (arith, T.eight_tables, S.few_tables))
 
-  pub tables-fit : TablesFit (schemas_in s)
-  tables-fit = all_fit (used_tables s) (All-take s.table_count T.tables-fit) S.tables
+  pub tables_fit : TablesFit (schemas_in s)
+  tables_fit = all_fit (used_tables s) (All-take s.table_count T.tables_fit) S.tables

@@ -16,7 +16,7 @@ use Rattle.lists.specs.Lists.{All, nil, cons}
 use Rattle.lists.proofs.Bools.{and_left}
 use Rattle.lists.proofs.Lists.{All-map}
 use Rattle.lists.proofs.Places.{All-at}
-use Rattle.meaning.specs.Limits.{most-items}
+use Rattle.meaning.specs.Limits.{most_items}
 use Rattle.meaning.specs.Names.{Schema}
 use Rattle.meaning.specs.Grammar.{Sentence}
 use Rattle.meaning.specs.Statement as M
@@ -74,7 +74,7 @@ map-split f (x ∷ l) (z ∷ before) y behind e =
 
 -- ---- the columns of a table in use
 
-columns-length : (t : Table) → TableStructFits t → t.count ≤ most-items → length (schema_of t).columns ≡ t.count
+columns-length : (t : Table) → TableStructFits t → t.count ≤ most_items → length (schema_of t).columns ≡ t.count
 columns-length t F h = length-map (used_columns t) name_of_struct ∙ length-take-le t.count t.columns (omega (arith, F.eight))
 
 -- ---- places in use
@@ -90,33 +90,33 @@ StartsBehind s i none = Unit {0}
 StartsBehind s i (some t) = t.start ≡ (table_at s i).count
 
 module _ (s : State) (T : Typed s) (S : Sound s) where
-  pub few-tables : s.table_count ≤ length s.tables
-  few-tables = omega (arith, T.eight-tables, S.few-tables)
+  pub few_tables : s.table_count ≤ length s.tables
+  few_tables = omega (arith, T.eight_tables, S.few_tables)
 
-  pub few-queries : s.query_count ≤ length s.queries
-  few-queries = omega (arith, T.sixteen-queries, S.few-queries)
+  pub few_queries : s.query_count ≤ length s.queries
+  few_queries = omega (arith, T.sixteen_queries, S.few_queries)
 
-  pub few-updates : s.update_count ≤ length s.updates
-  few-updates = omega (arith, T.sixteen-updates, S.few-updates)
+  pub few_updates : s.update_count ≤ length s.updates
+  few_updates = omega (arith, T.sixteen_updates, S.few_updates)
 
   module _ (i : ℕ) (h : i < s.table_count) where
     the-table : get_or (used_tables s) i no_table ≡ table_at s i
     the-table = get_or-take s.table_count s.tables i no_table h
 
-    pub few-columns : (table_at s i).count ≤ most-items
-    few-columns =
-        All-first {P = λ (t : Table). t.count ≤ most-items} s.table_count s.tables i no_table few-tables h (columns-few [] (used_tables s) S.tables)
+    pub few_columns : (table_at s i).count ≤ most_items
+    few_columns =
+        All-first {P = λ (t : Table). t.count ≤ most_items} s.table_count s.tables i no_table few_tables h (columns-few [] (used_tables s) S.tables)
 
     -- its columns beside the others
     pub columns-at : columns_at (schemas_in s) i ≡ (table_at s i).count
     columns-at =
         ap (λ (t : Schema). length t.columns) (get_or-map schema_of (used_tables s) i no_table)
         ∙ ap (λ (t : Table). length (schema_of t).columns) the-table
-        ∙ columns-length (table_at s i) (All-at i no_table (omega (arith, few-tables)) T.tables-fit) few-columns
+        ∙ columns-length (table_at s i) (All-at i no_table (omega (arith, few_tables)) T.tables_fit) few_columns
 
     -- its area
     pub area-inside : start_of s i + (table_at s i).count * (table_at s i).capacity ≤ s.cells
-    area-inside = area_in s S few-tables i h
+    area-inside = area_in s S few_tables i h
 
   -- the table of a question, and of an update, is there
   pub query-table : (i : ℕ) → i < s.query_count → (query_at s i).table < s.table_count
@@ -125,7 +125,7 @@ module _ (s : State) (T : Typed s) (S : Sound s) where
 
   -- and so is a question's second table
   pub sound-second : (i : ℕ) → i < s.query_count → SecondThere s (second_read (query_at s i))
-  sound-second i h = go (second_read (query_at s i)) (query-parts (schemas_in s) (query_at s i) (query-at s T S i h)).second-sound
+  sound-second i h = go (second_read (query_at s i)) (query-parts (schemas_in s) (query_at s i) (query-at s T S i h)).second_sound
     where
       go : (o : Option M.Second) → sound_second (schemas_in s) (query_at s i).table (columns_at (schemas_in s) (query_at s i).table) o ≡ true → SecondThere s o
       go none e = tt
@@ -133,7 +133,7 @@ module _ (s : State) (T : Typed s) (S : Sound s) where
           subst (λ (n : ℕ). t.table < n) (schemas-long s T S) (ltb-true t.table (length (schemas_in s)) (and_left (ltb t.table (length (schemas_in s))) _ e))
 
   pub second-starts : (i : ℕ) → i < s.query_count → StartsBehind s (query_at s i).table (second_read (query_at s i))
-  second-starts i h = go (second_read (query_at s i)) (query-parts (schemas_in s) (query_at s i) (query-at s T S i h)).second-sound
+  second-starts i h = go (second_read (query_at s i)) (query-parts (schemas_in s) (query_at s i) (query-at s T S i h)).second_sound
     where
       go : (o : Option M.Second) → sound_second (schemas_in s) (query_at s i).table (columns_at (schemas_in s) (query_at s i).table) o ≡ true → StartsBehind s (query_at s i).table o
       go none e = tt
@@ -148,7 +148,7 @@ module _ (s : State) (T : Typed s) (S : Sound s) where
 
 -- a stored table that is the compiled form of a schema has it
 agrees-schema : (t : Table) (r : Schema) → AgreesTable t r → r ≡ schema_of t
-agrees-schema t r A = λ j. record { name = sym A.name-is j; columns = sym A.columns-are j; capacity = sym A.capacity-is j; ring = sym A.ring-is j }
+agrees-schema t r A = λ j. record { name = sym A.name_is j; columns = sym A.columns_are j; capacity = sym A.capacity_is j; ring = sym A.ring_is j }
 
 module _ (s : State) (cells : List ℤ) (I : IsSound s) where
   -- a statement of a sentence that passes
@@ -190,7 +190,7 @@ module _ (s : State) (cells : List ℤ) (I : IsSound s) where
   stands-for : (p : Plain) × Means s cells p × FromSentences p
   stands-for = (
     plain,
-    record { cells_are = refl; memory-is = refl; tables-are = refl; queries-are = queries-from.1; updates-are = updates-from.1 },
+    record { cells_are = refl; memory_is = refl; tables_are = refl; queries_are = queries-from.1; updates_are = updates-from.1 },
     record {
       tables = table-from;
       queries = subst (λ ts. All (λ q. (x : Sentence) × Passes ts x × (statement_of ts x ≡ asks q)) queries-from.0) (sym schemas-same) queries-from.2;
@@ -199,5 +199,5 @@ module _ (s : State) (cells : List ℤ) (I : IsSound s) where
   )
 
 -- a sound state stands for a plain store
-pub stands-for-plain : StandsForPlain
-stands-for-plain s T h = stands-for s.state s.cells (sentence-holds s.state T h)
+pub stands_for_plain : StandsForPlain
+stands_for_plain s T h = stands-for s.state s.cells (sentence-holds s.state T h)

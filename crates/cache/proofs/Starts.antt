@@ -19,7 +19,7 @@ use Rattle.cache.specs.Sound.{StartFits, start_fits}
 pub rows-some : (before : List Schema) (ts : List Table) → sound_tables before ts ≡ true → All (λ (t : Table). 1 ≤ t.capacity) ts
 rows-some before [] h = nil
 rows-some before (t ∷ ts) h =
-    cons (table-parts before t (and_left (sound_table before t) _ h)).some-rows (rows-some (before ++ (schema_of t ∷ [])) ts (and_right (sound_table before t) _ h))
+    cons (table-parts before t (and_left (sound_table before t) _ h)).some_rows (rows-some (before ++ (schema_of t ∷ [])) ts (and_right (sound_table before t) _ h))
 
 -- ---- the test and the sentence
 
@@ -27,12 +27,12 @@ pub start-means : (t : Table) → start_fits t ≡ true → 1 ≤ t.capacity →
 start-means t e c = go (eqb t.oldest 0) refl e
   where
     go : (b : Bool) → eqb t.oldest 0 ≡ b → (b || (t.ring && (eqb t.rows t.capacity && ltb t.oldest t.capacity))) ≡ true → StartFits t
-    go true z h = let k : t.oldest ≡ 0 = eqb-true t.oldest 0 z in record { below = λ r. omega (arith, c, k); unless-full = λ f. k }
+    go true z h = let k : t.oldest ≡ 0 = eqb-true t.oldest 0 z in record { below = λ r. omega (arith, c, k); unless_full = λ f. k }
     go false z h =
         let full : (eqb t.rows t.capacity && ltb t.oldest t.capacity) ≡ true = and_right t.ring _ h in
         record {
           below = λ r. ltb-true t.oldest t.capacity (and_right (eqb t.rows t.capacity) _ full);
-          unless-full = λ f. absurd (f (and_left t.ring _ h) (eqb-true t.rows t.capacity (and_left (eqb t.rows t.capacity) _ full)));
+          unless_full = λ f. absurd (f (and_left t.ring _ h) (eqb-true t.rows t.capacity (and_left (eqb t.rows t.capacity) _ full)));
         }
 
 pub means-start : (t : Table) → StartFits t → start_fits t ≡ true
@@ -41,8 +41,8 @@ means-start t F = go (eqb t.oldest 0) t.ring (eqb t.rows t.capacity) refl refl r
     go : (z r f : Bool) → eqb t.oldest 0 ≡ z → t.ring ≡ r → eqb t.rows t.capacity ≡ f → (z || (r && (f && ltb t.oldest t.capacity))) ≡ true
     go true r f ez er ef = refl
     go false true true ez er ef = lt-ltb t.oldest t.capacity (F.below er)
-    go false true false ez er ef = absurd (eqb-false t.oldest 0 ez (F.unless-full (λ a b. eqb-false t.rows t.capacity ef b)))
-    go false false f ez er ef = absurd (eqb-false t.oldest 0 ez (F.unless-full (λ a b. true≢false (sym a ∙ er))))
+    go false true false ez er ef = absurd (eqb-false t.oldest 0 ez (F.unless_full (λ a b. eqb-false t.rows t.capacity ef b)))
+    go false false f ez er ef = absurd (eqb-false t.oldest 0 ez (F.unless_full (λ a b. true≢false (sym a ∙ er))))
 
 -- the first row is the oldest
 pub start_first : (t : Table) → t.oldest ≡ 0 → start_fits t ≡ true

@@ -15,7 +15,7 @@ use Rattle.lists.proofs.Bools.{and_left, and_right, and_both, or_left, or_right,
 use Rattle.lists.proofs.Lists.{All-head, All-tail, All-map, All-append, All-take, map-append}
 use Rattle.meaning.specs.Grammar as G
 use Rattle.meaning.specs.Grammar.{items, Sentence, sentence}
-use Rattle.meaning.specs.Limits.{most-items, most-tables, most-queries, most-updates}
+use Rattle.meaning.specs.Limits.{most_items, most_tables, most_queries, most_updates}
 use Rattle.meaning.specs.Names.{Schema}
 use Rattle.meaning.specs.Cells.{areas_size}
 use Rattle.meaning.specs.Statement.{statement_of}
@@ -47,46 +47,46 @@ use Rattle.cache.proofs.Parts.{take_more}
 -- ---- refusal 9: a text that is not refused has a place
 
 pub record Placed (tables queries updates used cells : ℕ) (r : Statement) : Type 0 where
-  pub table-place : r.kind ≡ 1 → tables < most-tables
-  pub table-room : r.kind ≡ 1 → r.table.count * r.table.capacity ≤ cells - used
+  pub table_place : r.kind ≡ 1 → tables < most_tables
+  pub table_room : r.kind ≡ 1 → r.table.count * r.table.capacity ≤ cells - used
   pub table_empty : r.kind ≡ 1 → r.table.rows ≡ 0
-  pub table-first : r.kind ≡ 1 → r.table.oldest ≡ 0
-  pub query-place : r.kind ≡ 2 → queries < most-queries
-  pub update-place : r.kind ≡ 3 → updates < most-updates
+  pub table_first : r.kind ≡ 1 → r.table.oldest ≡ 0
+  pub query_place : r.kind ≡ 2 → queries < most_queries
+  pub update_place : r.kind ≡ 3 → updates < most_updates
 
 module _ (p : Plain) where
   abbrev PlacedIn : Statement → Type 0
   PlacedIn r = Placed (length p.tables) (length p.queries) (length p.updates) (areas_size (schemas p)) p.lengths.cells r
 
-  query-placed : (r : Statement) → r.kind ≡ 2 → leb most-queries (length p.queries) ≡ false → PlacedIn r
+  query-placed : (r : Statement) → r.kind ≡ 2 → leb most_queries (length p.queries) ≡ false → PlacedIn r
   query-placed r k h = record {
-    table-place = λ e. absurd (omega arith);
-    table-room = λ e. absurd (omega arith);
+    table_place = λ e. absurd (omega arith);
+    table_room = λ e. absurd (omega arith);
     table_empty = λ e. absurd (omega arith);
-    table-first = λ e. absurd (omega arith);
-    query-place = λ e. leb-false most-queries (length p.queries) h;
-    update-place = λ e. absurd (omega arith);
+    table_first = λ e. absurd (omega arith);
+    query_place = λ e. leb-false most_queries (length p.queries) h;
+    update_place = λ e. absurd (omega arith);
   }
 
-  update-placed : (r : Statement) → r.kind ≡ 3 → leb most-updates (length p.updates) ≡ false → PlacedIn r
+  update-placed : (r : Statement) → r.kind ≡ 3 → leb most_updates (length p.updates) ≡ false → PlacedIn r
   update-placed r k h = record {
-    table-place = λ e. absurd (omega arith);
-    table-room = λ e. absurd (omega arith);
+    table_place = λ e. absurd (omega arith);
+    table_room = λ e. absurd (omega arith);
     table_empty = λ e. absurd (omega arith);
-    table-first = λ e. absurd (omega arith);
-    query-place = λ e. absurd (omega arith);
-    update-place = λ e. leb-false most-updates (length p.updates) h;
+    table_first = λ e. absurd (omega arith);
+    query_place = λ e. absurd (omega arith);
+    update_place = λ e. leb-false most_updates (length p.updates) h;
   }
 
   sentence-placed : (s : Sentence) → no_place p s ≡ false → PlacedIn (struct_of (statement_of (schemas p) s))
   unfolding no_place struct_of statement_of
   sentence-placed (G.table t cs ring z) h = record {
-    table-place = λ e. leb-false most-tables (length p.tables) (or_left (leb most-tables (length p.tables)) _ h);
-    table-room = λ e. ltb-false (cells_left p) (length (items cs) * nat_abs z) (or_right (leb most-tables (length p.tables)) _ h);
+    table_place = λ e. leb-false most_tables (length p.tables) (or_left (leb most_tables (length p.tables)) _ h);
+    table_room = λ e. ltb-false (cells_left p) (length (items cs) * nat_abs z) (or_right (leb most_tables (length p.tables)) _ h);
     table_empty = λ e. refl;
-    table-first = λ e. refl;
-    query-place = λ e. absurd (omega arith);
-    update-place = λ e. absurd (omega arith);
+    table_first = λ e. refl;
+    query_place = λ e. absurd (omega arith);
+    update_place = λ e. absurd (omega arith);
   }
   sentence-placed (G.select cs t w) h = query-placed _ refl h
   sentence-placed (G.pair cs t u w) h = query-placed _ refl h
@@ -119,12 +119,12 @@ module _ (text : List ℕ) (tables : List Table) (used queries updates cells : �
       let u : length store.updates ≡ updates = length-replicate updates _ in
       let a : areas_size (schemas store) ≡ areas_size (schemas_of tables used) = ap areas_size (schemas-are tables used queries updates cells) in
       record {
-        table-place = λ e. subst (λ (n : ℕ). n < most-tables) t (P.table-place e);
-        table-room = λ e. subst (λ (n : ℕ). r.table.count * r.table.capacity ≤ cells - n) a (P.table-room e);
+        table_place = λ e. subst (λ (n : ℕ). n < most_tables) t (P.table_place e);
+        table_room = λ e. subst (λ (n : ℕ). r.table.count * r.table.capacity ≤ cells - n) a (P.table_room e);
         table_empty = P.table_empty;
-        table-first = P.table-first;
-        query-place = λ e. subst (λ (n : ℕ). n < most-queries) q (P.query-place e);
-        update-place = λ e. subst (λ (n : ℕ). n < most-updates) u (P.update-place e);
+        table_first = P.table_first;
+        query_place = λ e. subst (λ (n : ℕ). n < most_queries) q (P.query_place e);
+        update_place = λ e. subst (λ (n : ℕ). n < most_updates) u (P.update_place e);
       }
 
 -- ---- one more at the end of those in use
@@ -136,7 +136,7 @@ module _ {A : Type 0} where
 module _ (s : State) (T : Typed s) (S : Sound s) where
   -- ---- a question
 
-  module _ (q : Query) (ok : sound_query (schemas_in s) q ≡ true) (place : s.query_count < most-queries) where
+  module _ (q : Query) (ok : sound_query (schemas_in s) q ≡ true) (place : s.query_count < most_queries) where
     abbrev asking : State
     asking = (added_query s q).state
 
@@ -149,14 +149,14 @@ module _ (s : State) (T : Typed s) (S : Sound s) where
     pub query-added : Sound asking
     query-added = record {
       sizes = S.sizes;
-      few-tables = S.few-tables;
-      few-queries = omega arith;
-      few-updates = S.few-updates;
+      few_tables = S.few_tables;
+      few_queries = omega arith;
+      few_updates = S.few_updates;
       areas = S.areas;
       rows = S.rows;
       starts = S.starts;
       tables = S.tables;
-      queries = All-more s.queries s.query_count q (omega (arith, T.sixteen-queries)) ok S.queries;
+      queries = All-more s.queries s.query_count q (omega (arith, T.sixteen_queries)) ok S.queries;
       updates = S.updates;
       lengths = All-map (λ x L. record { least = L.least; most = L.most }) S.lengths;
       keys = All-map (λ x K. key-stays (slot_key s.keys x) K) S.keys;
@@ -166,18 +166,18 @@ module _ (s : State) (T : Typed s) (S : Sound s) where
 
   -- ---- an update
 
-  pub update-added : (u : Update) → sound_update (schemas_in s) u ≡ true → s.update_count < most-updates → Sound (added_update s u).state
+  pub update-added : (u : Update) → sound_update (schemas_in s) u ≡ true → s.update_count < most_updates → Sound (added_update s u).state
   update-added u ok place = record {
     sizes = S.sizes;
-    few-tables = S.few-tables;
-    few-queries = S.few-queries;
-    few-updates = omega arith;
+    few_tables = S.few_tables;
+    few_queries = S.few_queries;
+    few_updates = omega arith;
     areas = S.areas;
     rows = S.rows;
     starts = S.starts;
     tables = S.tables;
     queries = S.queries;
-    updates = All-more s.updates s.update_count u (omega (arith, T.sixteen-updates)) ok S.updates;
+    updates = All-more s.updates s.update_count u (omega (arith, T.sixteen_updates)) ok S.updates;
     lengths = All-map (λ x L. record { least = L.least; most = L.most }) S.lengths;
     keys = All-map (λ x K. record { there = K.there; values = K.values }) S.keys;
     once = S.once;
@@ -187,16 +187,16 @@ module _ (s : State) (T : Typed s) (S : Sound s) where
 -- ---- a table
 
 -- each of sound tables has few columns
-pub columns-few : (before : List Schema) (ts : List Table) → sound_tables before ts ≡ true → All (λ (t : Table). t.count ≤ most-items) ts
+pub columns-few : (before : List Schema) (ts : List Table) → sound_tables before ts ≡ true → All (λ (t : Table). t.count ≤ most_items) ts
 columns-few before [] h = nil
 columns-few before (t ∷ ts) h =
-    cons (table-parts before t (and_left (sound_table before t) _ h)).few-columns (columns-few (before ++ (schema_of t ∷ [])) ts (and_right (sound_table before t) _ h))
+    cons (table-parts before t (and_left (sound_table before t) _ h)).few_columns (columns-few (before ++ (schema_of t ∷ [])) ts (and_right (sound_table before t) _ h))
 
 -- the areas of the tables are those that their TABLE texts say
-pub areas-are : (ts : List Table) → All TableStructFits ts → All (λ (t : Table). t.count ≤ most-items) ts → areas_size (map schema_of ts) ≡ areas_of ts
+pub areas-are : (ts : List Table) → All TableStructFits ts → All (λ (t : Table). t.count ≤ most_items) ts → areas_size (map schema_of ts) ≡ areas_of ts
 areas-are [] F h = refl
 areas-are (t ∷ ts) F h =
-    let few : t.count ≤ most-items = All-head h in
+    let few : t.count ≤ most_items = All-head h in
     let long : length (map name_of_struct (used_columns t)) ≡ t.count =
     length-map (used_columns t) name_of_struct ∙ length-take-le t.count t.columns (omega (arith, (All-head F).eight)) in
     ap₂ (λ (n m : ℕ). n * t.capacity + m) long (areas-are ts (All-tail F) (All-tail h))
@@ -214,13 +214,13 @@ tables_more before (a ∷ ts) t h k =
     (tables_more (before ++ (schema_of a ∷ [])) ts t (and_right (sound_table before a) _ h)
     (subst (λ (us : List Schema). sound_table us t ≡ true) (sym (append_assoc before (schema_of a ∷ []) (map schema_of ts))) k))
 
-module _ (s : State) (T : Typed s) (S : Sound s) (t : Table) (ok : sound_table (schemas_in s) t ≡ true) (place : s.table_count < most-tables)
+module _ (s : State) (T : Typed s) (S : Sound s) (t : Table) (ok : sound_table (schemas_in s) t ≡ true) (place : s.table_count < most_tables)
     (room : t.count * t.capacity ≤ s.cells - areas_size (schemas_in s)) (empty : t.rows ≡ 0) (first : t.oldest ≡ 0) where
   abbrev created : State
   created = (added_table s t).state
 
   used-more : used_tables created ≡ used_tables s ++ (t ∷ [])
-  used-more = take_more s.tables s.table_count t (omega (arith, T.eight-tables))
+  used-more = take_more s.tables s.table_count t (omega (arith, T.eight_tables))
 
   schemas-more : schemas_in created ≡ schemas_in s ++ (schema_of t ∷ [])
   schemas-more = ap (map schema_of) used-more ∙ map-append schema_of (used_tables s) (t ∷ [])
@@ -228,16 +228,16 @@ module _ (s : State) (T : Typed s) (S : Sound s) (t : Table) (ok : sound_table (
   pub table-added : Sound created
   table-added = record {
     sizes = S.sizes;
-    few-tables = omega arith;
-    few-queries = S.few-queries;
-    few-updates = S.few-updates;
+    few_tables = omega arith;
+    few_queries = S.few_queries;
+    few_updates = S.few_updates;
     areas =
         let a : areas_size (schemas_in s) ≡ areas_of (used_tables s) =
-        areas-are (used_tables s) (All-take s.table_count T.tables-fit) (columns-few [] (used_tables s) S.tables) in
+        areas-are (used_tables s) (All-take s.table_count T.tables_fit) (columns-few [] (used_tables s) S.tables) in
         let m : areas_of (used_tables created) ≡ areas_of (used_tables s) + t.count * t.capacity = ap areas_of used-more ∙ areas-more (used_tables s) t in
         omega (arith, S.areas);
-    rows = All-more s.tables s.table_count t (omega (arith, T.eight-tables)) (omega arith) S.rows;
-    starts = All-more s.tables s.table_count t (omega (arith, T.eight-tables)) (start_first t first) S.starts;
+    rows = All-more s.tables s.table_count t (omega (arith, T.eight_tables)) (omega arith) S.rows;
+    starts = All-more s.tables s.table_count t (omega (arith, T.eight_tables)) (start_first t first) S.starts;
     tables = ap (sound_tables []) used-more ∙ tables_more [] (used_tables s) t S.tables ok;
     queries =
         subst (λ (ts : List Schema). All (λ (q : Query). sound_query ts q ≡ true) (used_queries s)) (sym schemas-more)
@@ -265,13 +265,13 @@ module _ (s : Store) (text : List ℕ) (T : Typed s.state) (S : Sound s.state) w
 
   placed : compiled.refusal ≡ 0 → Placed st.table_count st.query_count st.update_count (areas_size (schemas_in st)) st.cells compiled
   placed h =
-      compiled-placed text st.tables st.table_count st.query_count st.update_count st.cells (omega (arith, T.eight-tables, S.few-tables)) h
+      compiled-placed text st.tables st.table_count st.query_count st.update_count st.cells (omega (arith, T.eight_tables, S.few_tables)) h
 
   pub add-stays : Sound (step s (add text)).0.state
   add-stays =
       by-add Sound s S text
       (λ h.
       let P = placed h.1 in
-      table-added st T S compiled.table ((sound h.1).table-sound h.2) (P.table-place h.2) (P.table-room h.2) (P.table_empty h.2) (P.table-first h.2))
-      (λ h. query-added st T S compiled.query ((sound h.1).query-sound h.2) ((placed h.1).query-place h.2))
-      (λ h. update-added st T S compiled.update ((sound h.1).update-sound h.2) ((placed h.1).update-place h.2))
+      table-added st T S compiled.table ((sound h.1).table_sound h.2) (P.table_place h.2) (P.table_room h.2) (P.table_empty h.2) (P.table_first h.2))
+      (λ h. query-added st T S compiled.query ((sound h.1).query_sound h.2) ((placed h.1).query_place h.2))
+      (λ h. update-added st T S compiled.update ((sound h.1).update_sound h.2) ((placed h.1).update_place h.2))

@@ -12,7 +12,7 @@ use lib.Seq.{get_or-set_same, get_or-set_other}
 use Rattle.lists.specs.Lists.{All, cons}
 use Rattle.lists.proofs.Lists.{All-map, All-both, All-left, All-keep}
 use Rattle.lists.proofs.Moved.{Moved, moved-All}
-use Rattle.meaning.specs.Limits.{least-slot-bytes}
+use Rattle.meaning.specs.Limits.{least_slot_bytes}
 use Rattle.slots.specs.declared.Key.{Key}
 use Rattle.slots.specs.declared.SlotList.{SlotList}
 use Rattle.slots.specs.Keys.{no_key, key_read, slot_key, held_twice}
@@ -34,18 +34,18 @@ dropped-count p l = refl
 
 pub record Answers (s : State) (slots : SlotList) (keys : List Key) (lengths : List ℕ) : Type 0 where
   pub count_same : slots.count ≡ s.slots.count
-  pub slots-sound : L.Sound slots
-  pub lengths-fit : All (λ (x : ℕ). (least-slot-bytes ≤ get_or lengths x 0) × (get_or lengths x 0 ≤ s.slot_bytes)) (held_slots slots)
-  pub keys-sound : All (λ (x : ℕ). KeyFits s (slot_key keys x)) (held_slots slots)
+  pub slots_sound : L.Sound slots
+  pub lengths_fit : All (λ (x : ℕ). (least_slot_bytes ≤ get_or lengths x 0) × (get_or lengths x 0 ≤ s.slot_bytes)) (held_slots slots)
+  pub keys_sound : All (λ (x : ℕ). KeyFits s (slot_key keys x)) (held_slots slots)
   pub once : held_twice keys slots ≡ false
 
 pub answers-are : (s : State) → Sound s → Answers s s.slots s.keys s.lengths
 unfolding held_twice
 answers-are s S = record {
   count_same = refl;
-  slots-sound = S.slots;
-  lengths-fit = All-map (λ x L. (L.least, L.most)) S.lengths;
-  keys-sound = S.keys;
+  slots_sound = S.slots;
+  lengths_fit = All-map (λ x L. (L.least, L.most)) S.lengths;
+  keys_sound = S.keys;
   once = S.once;
 }
 
@@ -56,26 +56,26 @@ module _ (s : State) (S : Sound s) where
     sizes =
         let e : slots.count ≡ s.slots.count = A.count_same in
         record {
-          few-cells = S.sizes.few-cells;
-          few-memory = S.sizes.few-memory;
-          few-slots = omega (arith, S.sizes.few-slots);
-          least-bytes = S.sizes.least-bytes;
+          few_cells = S.sizes.few_cells;
+          few_memory = S.sizes.few_memory;
+          few_slots = omega (arith, S.sizes.few_slots);
+          least_bytes = S.sizes.least_bytes;
           most_bytes = S.sizes.most_bytes;
           room = subst (λ (n : ℕ). n * s.slot_bytes ≤ s.memory) (sym e) S.sizes.room;
         };
-    few-tables = S.few-tables;
-    few-queries = S.few-queries;
-    few-updates = S.few-updates;
+    few_tables = S.few_tables;
+    few_queries = S.few_queries;
+    few_updates = S.few_updates;
     areas = S.areas;
     rows = S.rows;
     starts = S.starts;
     tables = S.tables;
     queries = S.queries;
     updates = S.updates;
-    lengths = All-map (λ x L. record { least = L.0; most = L.1 }) A.lengths-fit;
-    keys = All-map (λ x K. record { there = K.there; values = K.values }) A.keys-sound;
+    lengths = All-map (λ x L. record { least = L.0; most = L.1 }) A.lengths_fit;
+    keys = All-map (λ x K. record { there = K.there; values = K.values }) A.keys_sound;
     once = A.once;
-    slots = A.slots-sound;
+    slots = A.slots_sound;
   }
 
   abbrev answers : Answers s s.slots s.keys s.lengths
@@ -91,9 +91,9 @@ module _ (s : State) (S : Sound s) where
     unfolding front_of
     front-stays = answers-sound (front_of s.slots p) s.keys s.lengths (record {
       count_same = refl;
-      slots-sound = front-sound s.slots p (omega (arith, S.slots.within)) S.slots;
-      lengths-fit = moved-All held_moved answers.lengths-fit;
-      keys-sound = moved-All held_moved answers.keys-sound;
+      slots_sound = front-sound s.slots p (omega (arith, S.slots.within)) S.slots;
+      lengths_fit = moved-All held_moved answers.lengths_fit;
+      keys_sound = moved-All held_moved answers.keys_sound;
       once = front-once s.keys s.slots p h answers.once;
     })
 
@@ -105,9 +105,9 @@ module _ (s : State) (S : Sound s) where
         let left : ℕ → Bool = λ (x : ℕ). not (p x) in
         answers-sound (drop_by p s.slots) s.keys s.lengths (record {
           count_same = dropped-count p s.slots;
-          slots-sound = drop-sound s.slots p S.slots T.order-64;
-          lengths-fit = rw (drop-held s.slots p) (All-keep left (λ x h e. h) answers.lengths-fit);
-          keys-sound = rw (drop-held s.slots p) (All-keep left (λ x h e. h) answers.keys-sound);
+          slots_sound = drop-sound s.slots p S.slots T.order-64;
+          lengths_fit = rw (drop-held s.slots p) (All-keep left (λ x h e. h) answers.lengths_fit);
+          keys_sound = rw (drop-held s.slots p) (All-keep left (λ x h e. h) answers.keys_sound);
           once = drop-once s.keys s.slots p answers.once;
         })
 
@@ -140,7 +140,7 @@ module _ (s : State) (S : Sound s) where
     last-below : last < s.slots.count
     last-below = taken-below s.slots S.slots T.order-64 some
 
-    module _ (key : Key) (r : List ℕ) (ok : KeyFits s key) (least : least-slot-bytes ≤ length r) (most : length r ≤ s.slot_bytes)
+    module _ (key : Key) (r : List ℕ) (ok : KeyFits s key) (least : least_slot_bytes ≤ length r) (most : length r ≤ s.slot_bytes)
         (new : All (λ (x : ℕ). key_read (slot_key s.keys x) ≢ key_read key) (held_slots s.slots)) where
       abbrev keys' : List Key
       keys' = set s.keys last key
@@ -161,7 +161,7 @@ module _ (s : State) (S : Sound s) where
       length-there x h = get_or-set_other s.lengths last x (length r) 0 h
 
       abbrev Fit : ℕ → Type 0
-      Fit n = (least-slot-bytes ≤ n) × (n ≤ s.slot_bytes)
+      Fit n = (least_slot_bytes ≤ n) × (n ≤ s.slot_bytes)
 
       -- what the others had they have still
       still-have : (O : Others) {P Q : ℕ → Type 0} → ((x : ℕ) → x ≢ last → P x → Q x) → All P (held_slots s.slots) → All Q O.others
@@ -171,11 +171,11 @@ module _ (s : State) (S : Sound s) where
       put-answers : (O : Others) → Answers s (taken_of s.slots).slots keys' lengths'
       put-answers O = record {
         count_same = ap (λ t. t.slots.count) (taken_is s.slots S.slots T.order-64 some);
-        slots-sound = taken-sound s.slots S.slots T.order-64 some;
-        lengths-fit = rw O.held
-            (cons (subst Fit (sym length-here) (least, most)) (still-have O (λ x h L. subst Fit (sym (length-there x h)) L) answers.lengths-fit));
-        keys-sound = rw O.held
-            (cons (subst (KeyFits s) (sym key_here) ok) (still-have O (λ x h K. subst (KeyFits s) (sym (key-there x h)) K) answers.keys-sound));
+        slots_sound = taken-sound s.slots S.slots T.order-64 some;
+        lengths_fit = rw O.held
+            (cons (subst Fit (sym length-here) (least, most)) (still-have O (λ x h L. subst Fit (sym (length-there x h)) L) answers.lengths_fit));
+        keys_sound = rw O.held
+            (cons (subst (KeyFits s) (sym key_here) ok) (still-have O (λ x h K. subst (KeyFits s) (sym (key-there x h)) K) answers.keys_sound));
         once = put-once s.keys s.slots key S.slots T.order-64 some T.keys-64 answers.once new;
       }
 

@@ -65,7 +65,7 @@ module _ (s : Store) (query : ℕ) (values : List ℤ) (buffer : List ℕ) (T : 
     pub key-sound : KeyFits st (key_of query values)
     unfolding key_of
     key-sound =
-        let few : (query_at st query).parameters ≤ 8 = (query-parts (schemas_in st) (query_at st query) (query-at st T S query query-there)).few-parameters in
+        let few : (query_at st query).parameters ≤ 8 = (query-parts (schemas_in st) (query_at st query) (query-at st T S query query-there)).few_parameters in
         record { there = query-there; values = omega (arith, values-many) }
 
     new-key : found_in st query values ≡ Nothing → All (λ (x : ℕ). key_read (slot_key st.keys x) ≢ key_read (key_of query values)) (held_slots st.slots)

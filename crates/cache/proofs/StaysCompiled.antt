@@ -17,7 +17,7 @@ use Rattle.meaning.specs.Resolve.{resolve_nodes, marks_past}
 use Rattle.meaning.specs.Tokens.{Name}
 use Rattle.meaning.specs.Grammar as G
 use Rattle.meaning.specs.Grammar.{Given, mark, Term, given, comparison, items, Dotted, Sentence, sentence}
-use Rattle.meaning.specs.Limits.{most-items, most-name, most-comparisons, list_columns, list_givens, all_names, where_of, term_givens, givens, mark_in, outside32, is_within32, past_limit}
+use Rattle.meaning.specs.Limits.{most_items, most_name, most_comparisons, list_columns, list_givens, all_names, where_of, term_givens, givens, mark_in, outside32, is_within32, past_limit}
 use Rattle.meaning.specs.Names.{Schema, position, columns_of, pair_place}
 use Rattle.meaning.specs.Statement as M
 use Rattle.meaning.specs.Statement.{constant, numbered, numbered_all, settings, setting_marks, operand_of, mark_in_term, resolved_where, statement_of}
@@ -56,20 +56,20 @@ module _ {A : Type 0} where
 
 pub record Fitting (r : Statement) : Type 0 where
   pub table_fits : TableStructFits r.table
-  pub query-fits : QueryFits r.query
-  pub update-fits : UpdateFits r.update
+  pub query_fits : QueryFits r.query
+  pub update_fits : UpdateFits r.update
 
 pub no_table_lem : TableStructFits no_table
-no_table_lem = record { eight = refl; name-fits = refl; columns-fit = All-replicate 8 no_name refl }
+no_table_lem = record { eight = refl; name_fits = refl; columns_fit = All-replicate 8 no_name refl }
 
 no-condition : ConditionFits (condition_struct [])
 no-condition = record { eight = refl; fifteen = refl; constants = All-replicate 8 no_comparison (refl, refl) }
 
 pub no-query : QueryFits no_query
-no-query = record { eight = refl; condition-fits = no-condition }
+no-query = record { eight = refl; condition_fits = no-condition }
 
 pub no-update : UpdateFits no_update
-no-update = record { eight = refl; constants = All-replicate 8 no_setting refl; condition-fits = no-condition }
+no-update = record { eight = refl; constants = All-replicate 8 no_setting refl; condition_fits = no-condition }
 
 -- ---- constants
 
@@ -97,7 +97,7 @@ module _ {C : Type 0} (place : C → ℕ) where
   comparisons-fit m (any_of ∷ ns) h = comparisons-fit m ns h
 
   -- a WHERE, names resolved
-  where-fits : (m : ℕ) (w : Where (Term C)) → length (comparisons_in w) ≤ most-comparisons → All Small (term_givens (operands_in w))
+  where-fits : (m : ℕ) (w : Where (Term C)) → length (comparisons_in w) ≤ most_comparisons → All Small (term_givens (operands_in w))
       → ConditionFits (condition_struct (nodes_in (resolved_where place m w)))
   where-fits m w few small =
       let ns : List (Node M.Operand) = nodes_in (resolved_where place m w) in
@@ -131,31 +131,31 @@ module _ (s : Sentence) (h : past_limit s ≡ false) where
   abbrev within : Limits s
   within = limits_of s h
 
-  few-columns : length (list_columns s) ≤ most-items
-  few-columns = ltb-false most-items (length (list_columns s)) (or_left (ltb most-items (length (list_columns s))) _ within.items-few)
+  few_columns : length (list_columns s) ≤ most_items
+  few_columns = ltb-false most_items (length (list_columns s)) (or_left (ltb most_items (length (list_columns s))) _ within.items_few)
 
-  few-givens : length (list_givens s) ≤ most-items
-  few-givens = ltb-false most-items (length (list_givens s)) (or_right (ltb most-items (length (list_columns s))) _ within.items-few)
+  few-givens : length (list_givens s) ≤ most_items
+  few-givens = ltb-false most_items (length (list_givens s)) (or_right (ltb most_items (length (list_columns s))) _ within.items_few)
 
-  short-names : All (λ (n : Name). length n ≤ most-name) (all_names s)
-  short-names = All-map (λ n e. ltb-false most-name (length n) e) (any_false (λ (n : Name). ltb most-name (length n)) (all_names s) within.names-short)
+  short-names : All (λ (n : Name). length n ≤ most_name) (all_names s)
+  short-names = All-map (λ n e. ltb-false most_name (length n) e) (any_false (λ (n : Name). ltb most_name (length n)) (all_names s) within.names_short)
 
   small-constants : All Small (list_givens s ++ term_givens (operands_in (where_of s)))
-  small-constants = any_false outside32 (givens s) within.constants-small
+  small-constants = any_false outside32 (givens s) within.constants_small
 
   small-tested : All Small (term_givens (operands_in (where_of s)))
   small-tested = All-right (list_givens s) small-constants
 
-  few-tested : length (comparisons_in (where_of s)) ≤ most-comparisons
-  few-tested = ltb-false most-comparisons (length (comparisons_in (where_of s))) within.comparisons-few
+  few-tested : length (comparisons_in (where_of s)) ≤ most_comparisons
+  few-tested = ltb-false most_comparisons (length (comparisons_in (where_of s))) within.comparisons_few
 
-name-fits : (n : Name) → length n ≤ most-name → NameFits (name_struct n)
-name-fits n h = padded-length 12 0 n h
+name_fits : (n : Name) → length n ≤ most_name → NameFits (name_struct n)
+name_fits n h = padded-length 12 0 n h
 
 -- ---- the five forms
 
 -- the settings of an update
-settings-fitting : (ss : List (ℕ × M.Value)) → length ss ≤ most-items → All (λ (s : Setting). ValueFits (new_value s)) (map setting_struct ss)
+settings-fitting : (ss : List (ℕ × M.Value)) → length ss ≤ most_items → All (λ (s : Setting). ValueFits (new_value s)) (map setting_struct ss)
     → (length (padded 8 no_setting (map setting_struct ss)) ≡ 8) × All (λ (s : Setting). ValueFits (new_value s)) (padded 8 no_setting (map setting_struct ss))
 settings-fitting ss h a = (padded-length 8 no_setting (map setting_struct ss) (omega (arith, length-map ss setting_struct)), All-padded 8 no_setting refl a)
 
@@ -165,35 +165,35 @@ sentence-fits ts (G.table t cs ring z) h =
     let names = short-names (G.table t cs ring z) h in
     record {
       table_fits = record {
-        eight = padded-length 8 no_name (map name_struct (items cs)) (omega (arith, length-map (items cs) name_struct, few-columns (G.table t cs ring z) h));
-        name-fits = name-fits t (All-head names);
-        columns-fit = All-padded 8 no_name refl (All-image name_struct (All-map name-fits (All-left (items cs) _ (All-tail names))));
+        eight = padded-length 8 no_name (map name_struct (items cs)) (omega (arith, length-map (items cs) name_struct, few_columns (G.table t cs ring z) h));
+        name_fits = name_fits t (All-head names);
+        columns_fit = All-padded 8 no_name refl (All-image name_struct (All-map name_fits (All-left (items cs) _ (All-tail names))));
       };
-      query-fits = no-query;
-      update-fits = no-update;
+      query_fits = no-query;
+      update_fits = no-update;
     }
 sentence-fits ts (G.select cs t w) h =
     let at : List ℕ = map (position (columns_of ts t)) (items cs) in
     record {
       table_fits = no_table_lem;
-      query-fits = record {
-        eight = padded-length 8 0 at (omega (arith, length-map (items cs) (position (columns_of ts t)), few-columns (G.select cs t w) h));
-        condition-fits = where-fits (position (columns_of ts t)) 0 (mapped_in comparison w) (few-tested (G.select cs t w) h) (small-tested (G.select cs t w) h);
+      query_fits = record {
+        eight = padded-length 8 0 at (omega (arith, length-map (items cs) (position (columns_of ts t)), few_columns (G.select cs t w) h));
+        condition_fits = where-fits (position (columns_of ts t)) 0 (mapped_in comparison w) (few-tested (G.select cs t w) h) (small-tested (G.select cs t w) h);
       };
-      update-fits = no-update;
+      update_fits = no-update;
     }
 sentence-fits ts (G.pair cs t u w) h =
     let s : Sentence = G.pair cs t u w in
     let place : Dotted → ℕ = pair_place t (columns_of ts t) u (columns_of ts u) in
     record {
       table_fits = no_table_lem;
-      query-fits = record {
-        eight = padded-length 8 0 (map place (items cs)) (omega (arith, length-map (items cs) place, length-map (items cs) (λ (c : Dotted). c.1), few-columns s h));
-        condition-fits =
-            where-fits place 0 (mapped_in comparison w) (subst (λ (n : ℕ). n ≤ most-comparisons) (bare-count (mapped_in comparison w)) (few-tested s h))
+      query_fits = record {
+        eight = padded-length 8 0 (map place (items cs)) (omega (arith, length-map (items cs) place, length-map (items cs) (λ (c : Dotted). c.1), few_columns s h));
+        condition_fits =
+            where-fits place 0 (mapped_in comparison w) (subst (λ (n : ℕ). n ≤ most_comparisons) (bare-count (mapped_in comparison w)) (few-tested s h))
             (subst (All Small) (bare-givens (mapped_in comparison w)) (small-tested s h));
       };
-      update-fits = no-update;
+      update_fits = no-update;
     }
 sentence-fits ts (G.insert t vs) h =
     let ss : List (ℕ × M.Value) = placed_from 0 (numbered_all 0 (items vs)) in
@@ -201,37 +201,37 @@ sentence-fits ts (G.insert t vs) h =
     (values-fit 0 0 (items vs) (All-left (items vs) _ (small-constants (G.insert t vs) h))) in
     record {
       table_fits = no_table_lem;
-      query-fits = no-query;
-      update-fits = record { eight = F.0; constants = F.1; condition-fits = no-condition };
+      query_fits = no-query;
+      update_fits = record { eight = F.0; constants = F.1; condition_fits = no-condition };
     }
 sentence-fits ts (G.update t ss w) h =
     let s : Sentence = G.update t ss w in
     let F = settings-fitting (settings (columns_of ts t) 0 (items ss))
-    (omega (arith, settings-length (columns_of ts t) 0 (items ss), length-map (items ss) (λ (s : Name × Given). s.0), few-columns s h))
+    (omega (arith, settings-length (columns_of ts t) 0 (items ss), length-map (items ss) (λ (s : Name × Given). s.0), few_columns s h))
     (settings-fit (columns_of ts t) 0 (items ss) (All-left (list_givens s) _ (small-constants s h))) in
     record {
       table_fits = no_table_lem;
-      query-fits = no-query;
-      update-fits = record {
+      query_fits = no-query;
+      update_fits = record {
         eight = F.0;
         constants = F.1;
-        condition-fits = where-fits (position (columns_of ts t)) (setting_marks (items ss)) (mapped_in comparison w) (few-tested s h) (small-tested s h);
+        condition_fits = where-fits (position (columns_of ts t)) (setting_marks (items ss)) (mapped_in comparison w) (few-tested s h) (small-tested s h);
       };
     }
 sentence-fits ts (G.delete t w) h = record {
   table_fits = no_table_lem;
-  query-fits = no-query;
-  update-fits = record {
+  query_fits = no-query;
+  update_fits = record {
     eight = refl;
     constants = All-replicate 8 no_setting refl;
-    condition-fits = where-fits (position (columns_of ts t)) 0 (mapped_in comparison w) (few-tested (G.delete t w) h) (small-tested (G.delete t w) h);
+    condition_fits = where-fits (position (columns_of ts t)) 0 (mapped_in comparison w) (few-tested (G.delete t w) h) (small-tested (G.delete t w) h);
   };
 }
 
 -- ---- any text
 
 refused-fits : (n : ℕ) → Fitting (refused_by n)
-refused-fits n = record { table_fits = no_table_lem; query-fits = no-query; update-fits = no-update }
+refused-fits n = record { table_fits = no_table_lem; query_fits = no-query; update_fits = no-update }
 
 module _ (text : List ℕ) (tables : List Table) (used queries updates cells : ℕ) where
   abbrev store : Plain

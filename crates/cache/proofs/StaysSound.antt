@@ -25,9 +25,9 @@ empty-sound : (o : Opening) → OpeningWithin o → Sound (empty_state o)
 unfolding empty_state slots_open
 empty-sound o F = record {
   sizes = F;
-  few-tables = omega arith;
-  few-queries = omega arith;
-  few-updates = omega arith;
+  few_tables = omega arith;
+  few_queries = omega arith;
+  few_updates = omega arith;
   areas = omega arith;
   rows = nil;
   starts = nil;
@@ -37,22 +37,22 @@ empty-sound o F = record {
   lengths = nil;
   keys = nil;
   once = refl;
-  slots = open-sound o.slots F.few-slots;
+  slots = open-sound o.slots F.few_slots;
 }
 
 -- what a refused opening gives
 none-fit : OpeningWithin (opening 0 0 0 8)
 none-fit = record {
-  few-cells = omega arith;
-  few-memory = omega arith;
-  few-slots = omega arith;
-  least-bytes = omega arith;
+  few_cells = omega arith;
+  few_memory = omega arith;
+  few_slots = omega arith;
+  least_bytes = omega arith;
   most_bytes = omega arith;
   room = omega arith;
 }
 
-pub opens-sound : OpensSound
-opens-sound o =
+pub opens_sound : OpensSound
+opens_sound o =
     by-opened (λ (s : State). sound_state s ≡ true) o
     (is-sound (empty_state (opening 0 0 0 8)) (empty-sound (opening 0 0 0 8) none-fit))
     (λ e. is-sound (empty_state (opening_of o)) (empty-sound (opening_of o) (sizes-fit (opening_of o) e)))
@@ -65,5 +65,5 @@ call_stays s (ask n vs buffer) T S = ask-stays s n vs buffer T S
 call_stays s (update n vs) T S = update-stays s n vs T S
 call_stays s flush T S = by-flush Sound s S (drop-stays s.state S T (λ x. true))
 
-pub stays-sound : StaysSound
-stays-sound s c T h = is-sound (step s c).0.state (call_stays s c T (sound-is s.state h))
+pub stays_sound : StaysSound
+stays_sound s c T h = is-sound (step s c).0.state (call_stays s c T (sound-is s.state h))

@@ -71,9 +71,9 @@ module _ (s : State) (S : Sound s) (i : ℕ) (there : i < s.table_count) (n k : 
   unfolding with_change
   rows-changed = record {
     sizes = S.sizes;
-    few-tables = S.few-tables;
-    few-queries = S.few-queries;
-    few-updates = S.few-updates;
+    few_tables = S.few_tables;
+    few_queries = S.few_queries;
+    few_updates = S.few_updates;
     areas = subst (λ (m : ℕ). m ≤ s.cells) (sym (ap areas_of used-changed ∙ areas-same n k (used_tables s) i)) S.areas;
     rows = subst (All (λ (t : Table). t.rows ≤ t.capacity)) (sym (take-set-lt s.table_count s.tables i (with_rows (table_at s i) n k) there))
         (All-set i (with_rows (table_at s i) n k) few S.rows);
@@ -123,11 +123,11 @@ module _ (s : Store) (number : ℕ) (values : List ℤ) (T : Typed s.state) (S :
     table-there = subst (λ (n : ℕ). u.table < n) (schemas-long st T S) (update-parts (schemas_in st) u (update-at st T S number number-there)).there
 
     eight : length u.settings ≡ 8
-    eight = (All-get_or number no_update no-update T.updates-fit).eight
+    eight = (All-get_or number no_update no-update T.updates_fit).eight
 
-    update-sound : Sound (update_done st s.cells u values).result.state
+    update_sound : Sound (update_done st s.cells u values).result.state
     unfolding update_done with_change with_cache
-    update-sound =
+    update_sound =
         let t : Table = table_at st u.table in
         let c : Changed = change_of u t (start_of st u.table) s.cells values in
         rows-changed dropped (drop-stays st S T test) u.table table-there c.rows c.oldest
@@ -135,4 +135,4 @@ module _ (s : Store) (number : ℕ) (values : List ℤ) (T : Typed s.state) (S :
         (change-starts u t (start_of st u.table) s.cells values eight (start-at st T S u.table table-there))
 
   pub update-stays : Sound (step s (update number values)).0.state
-  update-stays = by-update Sound s S number values update-sound
+  update-stays = by-update Sound s S number values update_sound

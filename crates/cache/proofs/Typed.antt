@@ -36,16 +36,16 @@ use Rattle.cache.proofs.StaysCompiled.{All-replicate, Fitting, no_table_lem, no-
 empty-typed : (o : Opening) → Typed (empty_state o)
 unfolding empty_state slots_open
 empty-typed o = record {
-  eight-tables = refl;
-  sixteen-queries = refl;
-  sixteen-updates = refl;
+  eight_tables = refl;
+  sixteen_queries = refl;
+  sixteen_updates = refl;
   keys-64 = refl;
   lengths-64 = refl;
   order-64 = refl;
-  tables-fit = All-replicate 8 no_table no_table_lem;
-  queries-fit = All-replicate 16 no_query no-query;
-  updates-fit = All-replicate 16 no_update no-update;
-  keys-fit = All-replicate 64 no_key refl;
+  tables_fit = All-replicate 8 no_table no_table_lem;
+  queries_fit = All-replicate 16 no_query no-query;
+  updates_fit = All-replicate 16 no_update no-update;
+  keys_fit = All-replicate 64 no_key refl;
 }
 
 pub opened-typed : (o : Start) → Typed (opened o).state
@@ -68,84 +68,84 @@ module _ (s : State) (T : Typed s) where
       → length lengths ≡ length s.lengths → All (λ (k : Key). length k.values ≡ 8) keys → Typed (with_cache s slots keys lengths)
   unfolding with_cache
   cache-typed slots keys lengths o k l f = record {
-    eight-tables = T.eight-tables;
-    sixteen-queries = T.sixteen-queries;
-    sixteen-updates = T.sixteen-updates;
+    eight_tables = T.eight_tables;
+    sixteen_queries = T.sixteen_queries;
+    sixteen_updates = T.sixteen_updates;
     keys-64 = k ∙ T.keys-64;
     lengths-64 = l ∙ T.lengths-64;
     order-64 = o ∙ T.order-64;
-    tables-fit = T.tables-fit;
-    queries-fit = T.queries-fit;
-    updates-fit = T.updates-fit;
-    keys-fit = f;
+    tables_fit = T.tables_fit;
+    queries_fit = T.queries_fit;
+    updates_fit = T.updates_fit;
+    keys_fit = f;
   }
 
   put_typed : (q : ℕ) (vs : List ℤ) (r : List ℕ) → Typed (put_in s (key_of q vs) r (taken_of s.slots))
   put_typed q vs r =
       let x : ℕ = (taken_of s.slots).slot in
       cache-typed (taken_of s.slots).slots _ _ (taken-length s.slots) (length-set s.keys x (key_of q vs)) (length-set s.lengths x (length r))
-      (All-set x (key_of q vs) (key-long q vs) T.keys-fit)
+      (All-set x (key_of q vs) (key-long q vs) T.keys_fit)
 
   change-typed : (i : ℕ) (t : Table) (slots : SlotList) → TableStructFits t → length slots.order ≡ length s.slots.order → Typed (with_change s i t slots)
   unfolding with_change
   change-typed i t slots f o = record {
-    eight-tables = length-set s.tables i t ∙ T.eight-tables;
-    sixteen-queries = T.sixteen-queries;
-    sixteen-updates = T.sixteen-updates;
+    eight_tables = length-set s.tables i t ∙ T.eight_tables;
+    sixteen_queries = T.sixteen_queries;
+    sixteen_updates = T.sixteen_updates;
     keys-64 = T.keys-64;
     lengths-64 = T.lengths-64;
     order-64 = o ∙ T.order-64;
-    tables-fit = All-set i t f T.tables-fit;
-    queries-fit = T.queries-fit;
-    updates-fit = T.updates-fit;
-    keys-fit = T.keys-fit;
+    tables_fit = All-set i t f T.tables_fit;
+    queries_fit = T.queries_fit;
+    updates_fit = T.updates_fit;
+    keys_fit = T.keys_fit;
   }
 
   rows-typed : (i n k : ℕ) → TableStructFits (with_rows (table_at s i) n k)
   rows-typed i n k =
-      let F : TableStructFits (table_at s i) = All-get_or i no_table no_table_lem T.tables-fit in
-      record { eight = F.eight; name-fits = F.name-fits; columns-fit = F.columns-fit }
+      let F : TableStructFits (table_at s i) = All-get_or i no_table no_table_lem T.tables_fit in
+      record { eight = F.eight; name_fits = F.name_fits; columns_fit = F.columns_fit }
 
   table-added : (t : Table) → TableStructFits t → Typed (added_table s t).state
   table-added t f = record {
-    eight-tables = length-set s.tables s.table_count t ∙ T.eight-tables;
-    sixteen-queries = T.sixteen-queries;
-    sixteen-updates = T.sixteen-updates;
+    eight_tables = length-set s.tables s.table_count t ∙ T.eight_tables;
+    sixteen_queries = T.sixteen_queries;
+    sixteen_updates = T.sixteen_updates;
     keys-64 = T.keys-64;
     lengths-64 = T.lengths-64;
     order-64 = T.order-64;
-    tables-fit = All-set s.table_count t f T.tables-fit;
-    queries-fit = T.queries-fit;
-    updates-fit = T.updates-fit;
-    keys-fit = T.keys-fit;
+    tables_fit = All-set s.table_count t f T.tables_fit;
+    queries_fit = T.queries_fit;
+    updates_fit = T.updates_fit;
+    keys_fit = T.keys_fit;
   }
 
   query-added : (q : Query) → QueryFits q → Typed (added_query s q).state
   query-added q f = record {
-    eight-tables = T.eight-tables;
-    sixteen-queries = length-set s.queries s.query_count q ∙ T.sixteen-queries;
-    sixteen-updates = T.sixteen-updates;
+    eight_tables = T.eight_tables;
+    sixteen_queries = length-set s.queries s.query_count q ∙ T.sixteen_queries;
+    sixteen_updates = T.sixteen_updates;
     keys-64 = T.keys-64;
     lengths-64 = T.lengths-64;
     order-64 = T.order-64;
-    tables-fit = T.tables-fit;
-    queries-fit = All-set s.query_count q f T.queries-fit;
-    updates-fit = T.updates-fit;
-    keys-fit = T.keys-fit;
+    tables_fit = T.tables_fit;
+    queries_fit = All-set s.query_count q f T.queries_fit;
+    updates_fit = T.updates_fit;
+    keys_fit = T.keys_fit;
   }
 
   update-added : (u : Update) → UpdateFits u → Typed (added_update s u).state
   update-added u f = record {
-    eight-tables = T.eight-tables;
-    sixteen-queries = T.sixteen-queries;
-    sixteen-updates = length-set s.updates s.update_count u ∙ T.sixteen-updates;
+    eight_tables = T.eight_tables;
+    sixteen_queries = T.sixteen_queries;
+    sixteen_updates = length-set s.updates s.update_count u ∙ T.sixteen_updates;
     keys-64 = T.keys-64;
     lengths-64 = T.lengths-64;
     order-64 = T.order-64;
-    tables-fit = T.tables-fit;
-    queries-fit = T.queries-fit;
-    updates-fit = All-set s.update_count u f T.updates-fit;
-    keys-fit = T.keys-fit;
+    tables_fit = T.tables_fit;
+    queries_fit = T.queries_fit;
+    updates_fit = All-set s.update_count u f T.updates_fit;
+    keys_fit = T.keys_fit;
   }
 
 -- ---- each call
@@ -155,11 +155,11 @@ unfolding front_of update_done
 step_typed s (add text) T =
     let st : State = s.state in
     let F : Fitting (compiled_beside st text) = compiled-fits text st.tables st.table_count st.query_count st.update_count st.cells in
-    by-add Typed s T text (λ h. table-added st T _ F.table_fits) (λ h. query-added st T _ F.query-fits) (λ h. update-added st T _ F.update-fits)
+    by-add Typed s T text (λ h. table-added st T _ F.table_fits) (λ h. query-added st T _ F.query_fits) (λ h. update-added st T _ F.update_fits)
 step_typed s (ask n vs buffer) T =
     let st : State = s.state in
     by-ask Typed s T n vs buffer
-    (λ p a e. cache-typed st T (front_of st.slots p) st.keys st.lengths (front_length p st.slots.order) refl refl T.keys-fit)
+    (λ p a e. cache-typed st T (front_of st.slots p) st.keys st.lengths (front_length p st.slots.order) refl refl T.keys_fit)
     (λ a e h. put_typed st T n vs (record_at st s.cells n vs))
 step_typed s (update n vs) T =
     let st : State = s.state in
@@ -167,4 +167,4 @@ step_typed s (update n vs) T =
     (λ a. change-typed st T (update_at st n).table _ _ (rows-typed st T (update_at st n).table _ _) (drop-length st.slots (is_matched st s.cells (update_at st n) vs)))
 step_typed s flush T =
     let st : State = s.state in
-    by-flush Typed s T (cache-typed st T _ st.keys st.lengths (drop-length st.slots (λ x. true)) refl refl T.keys-fit)
+    by-flush Typed s T (cache-typed st T _ st.keys st.lengths (drop-length st.slots (λ x. true)) refl refl T.keys_fit)

@@ -13,7 +13,7 @@ use lib.Seq.{length-take-le, set-get_or}
 use Rattle.lists.specs.Lists.{All, count}
 use Rattle.lists.proofs.Lists.{All-head, All-tail}
 use Rattle.lists.proofs.Places.{get_or-inside}
-use Rattle.meaning.specs.Limits.{most-tables, most-updates, most-slots}
+use Rattle.meaning.specs.Limits.{most_tables, most_updates, most_slots}
 use Rattle.meaning.specs.Plain.{or_else}
 use Rattle.meaning.proofs.Accepted.{clear}
 use Rattle.statement.specs.declared.Table.{Table}
@@ -45,18 +45,18 @@ use Rattle.cache.proofs.DropsMarked.{drop-marked, drop-fewer, drop-count, marks-
 
 -- the lengths of the arrays
 pub record Long (s : State) : Type 0 where
-  pub tables : length s.tables ≡ most-tables
-  pub updates : length s.updates ≡ most-updates
+  pub tables : length s.tables ≡ most_tables
+  pub updates : length s.updates ≡ most_updates
 
-pub table_below : (s : State) → sound_state s ≡ true → (i : ℕ) → i < s.table_count → i < most-tables
-table_below s h i k = omega (arith, (sound-is s h).few-tables)
+pub table_below : (s : State) → sound_state s ≡ true → (i : ℕ) → i < s.table_count → i < most_tables
+table_below s h i k = omega (arith, (sound-is s h).few_tables)
 
-table-read : (s : State) → sound_state s ≡ true → length s.tables ≡ most-tables → (i : ℕ) (d : Table) → i < s.table_count → get_or s.tables i d ≡ table_at s i
+table-read : (s : State) → sound_state s ≡ true → length s.tables ≡ most_tables → (i : ℕ) (d : Table) → i < s.table_count → get_or s.tables i d ≡ table_at s i
 table-read s h l i d k = get_or-inside s.tables i d no_table (omega (arith, table_below s h i k))
 
 module _ (s : State) (h : sound_state s ≡ true) (L : Long s) (i : ℕ) (k : i < s.update_count) where
-  pub update-below : i < most-updates
-  update-below = omega (arith, (sound-is s h).few-updates)
+  pub update-below : i < most_updates
+  update-below = omega (arith, (sound-is s h).few_updates)
 
   update-read : (d : Update) → get_or s.updates i d ≡ update_at s i
   update-read d = get_or-inside s.updates i d no_update (omega (arith, update-below, L.updates))
@@ -67,8 +67,8 @@ module _ (s : State) (h : sound_state s ≡ true) (L : Long s) (i : ℕ) (k : i 
       let u : Update = get_or s.updates i d in
       let S : Sound s = sound-is s h in
       let sound : sound_update (schemas_in s) u ≡ true =
-      All-first {P = λ (x : Update). sound_update (schemas_in s) x ≡ true} s.update_count s.updates i d (omega (arith, S.few-updates, L.updates)) k S.updates in
-      let long : length (schemas_in s) ≡ s.table_count = length-map (used_tables s) schema_of ∙ length-take-le s.table_count s.tables (omega (arith, S.few-tables, L.tables)) in
+      All-first {P = λ (x : Update). sound_update (schemas_in s) x ≡ true} s.update_count s.updates i d (omega (arith, S.few_updates, L.updates)) k S.updates in
+      let long : length (schemas_in s) ≡ s.table_count = length-map (used_tables s) schema_of ∙ length-take-le s.table_count s.tables (omega (arith, S.few_tables, L.tables)) in
       omega (arith, (update-parts (schemas_in s) u sound).there)
 
 -- ---- the refusals
@@ -89,10 +89,10 @@ module _ (s : State) (cells memory update values : ℕ) where
 
 -- the update and its table as they are read: where there are so few, their numbers are their places
 abbrev pub update_read : State → ℕ → Update → Update
-update_read s update d = get_or s.updates (update % most-updates) d
+update_read s update d = get_or s.updates (update % most_updates) d
 
 abbrev pub table_read : State → Update → Table → Table
-table_read s u d = get_or s.tables (u.table % most-tables) d
+table_read s u d = get_or s.tables (u.table % most_tables) d
 
 abbrev full_for : Update → Table → Bool
 full_for u t = eqb u.form 0 && (not t.ring && leb t.capacity t.rows)
@@ -102,7 +102,7 @@ module _ (s : State) (L : Long s) (update : ℕ) (d : Update) where
   u = update_read s update d
 
   module _ (h : sound_state s ≡ true) (k : update < s.update_count) where
-    place_is : update % most-updates ≡ update
+    place_is : update % most_updates ≡ update
     place_is = mod-eq_of_lt (update-below s h L update k)
 
     read_is : u ≡ update_at s update
@@ -111,7 +111,7 @@ module _ (s : State) (L : Long s) (update : ℕ) (d : Update) where
     read-there : u.table < s.table_count
     read-there = subst (λ (i : ℕ). (get_or s.updates i d).table < s.table_count) (sym place_is) (table-there s h L update k d)
 
-    number_is : u.table % most-tables ≡ u.table
+    number_is : u.table % most_tables ≡ u.table
     number_is = mod-eq_of_lt (table_below s h u.table read-there)
 
     table_is : (e : Table) → table_read s u e ≡ table_at s u.table
@@ -146,7 +146,7 @@ cells-done u t cells us k z start from es after e = e ∙ ap (λ (i : ℕ). cell
 
 -- ---- what is done
 
-module _ (s : State) (L : Long s) (h : sound_state s ≡ true) (long : length s.slots.order ≡ most-slots) (u : Update) (k : u.table < s.table_count) (cells values : List ℤ) (lent : length cells ≡ s.cells)
+module _ (s : State) (L : Long s) (h : sound_state s ≡ true) (long : length s.slots.order ≡ most_slots) (u : Update) (k : u.table < s.table_count) (cells values : List ℤ) (lent : length cells ≡ s.cells)
     (t : Table) (et : t ≡ table_at s u.table) where
   abbrev test : ℕ → Bool
   test = is_matched s cells u values
@@ -164,7 +164,7 @@ module _ (s : State) (L : Long s) (h : sound_state s ≡ true) (long : length s.
   marks_for t = marks_both s.keys s.slots s.queries s.query_count u t start cells values
 
   matched : All (λ x. is_marked (marks_for t) x ≡ test x) (held_slots s.slots)
-  matched = rw et (marks-matched s S u cells values (first-row s S (omega (arith, S.few-tables, L.tables)) u.table k cells lent u))
+  matched = rw et (marks-matched s S u cells values (first-row s S (omega (arith, S.few_tables, L.tables)) u.table k cells lent u))
 
   abbrev effect : Effect
   effect = effect_of s.tables s.keys s.slots s.queries s.query_count u t cells values
@@ -195,7 +195,7 @@ module _ (s : State) (L : Long s) (h : sound_state s ≡ true) (long : length s.
 
 -- ---- refused or done
 
-module _ (s : State) (L : Long s) (long : length s.slots.order ≡ most-slots) (cells : List ℤ) (memory update : ℕ) (values : List ℤ) (d : Update) (n : ℕ)
+module _ (s : State) (L : Long s) (long : length s.slots.order ≡ most_slots) (cells : List ℤ) (memory update : ℕ) (values : List ℤ) (d : Update) (n : ℕ)
     (r : n ≡ update_refusal s (length cells) memory update (length values)) where
   abbrev v : Update
   v = update_read s update d
@@ -209,8 +209,8 @@ module _ (s : State) (L : Long s) (long : length s.slots.order ≡ most-slots) (
   pub effective : Effective n s.slots s.query_count v.table
   effective z =
       let S = sound-is s (known z).sound in
-      let few : v.table ≤ most-tables = omega (arith, there z, S.few-tables) in
-      (is-sound _ S.slots, S.few-queries, few)
+      let few : v.table ≤ most_tables = omega (arith, there z, S.few_tables) in
+      (is-sound _ S.slots, S.few_queries, few)
 
   module _ (e : Table) (o : Effect) (after : List ℤ)
       (eo : let w = table_read s v e in o ≡ settled n (effect_of s.tables s.keys s.slots s.queries s.query_count v w cells values) (no_effect w s.slots))
@@ -225,7 +225,7 @@ module _ (s : State) (L : Long s) (long : length s.slots.order ≡ most-slots) (
           refusal = n;
           rows = o.count;
           invalidated = s.slots.held - o.slots.held;
-          state = with_change s (v.table % most-tables) (with_rows w o.rows o.oldest) o.slots;
+          state = with_change s (v.table % most_tables) (with_rows w o.rows o.oldest) o.slots;
         })
         after
 
@@ -241,7 +241,7 @@ module _ (s : State) (L : Long s) (long : length s.slots.order ≡ most-slots) (
     -- refused, the state has its table and its slots again
     same : (q : n ≡ 0 → ⊥) → result (no_effect w s.slots) cells ≡ updates (update_refused s n) cells
     unfolding with_change
-    same q = rw (set-get_or s.tables (v.table % most-tables) e, none s.slots.held)
+    same q = rw (set-get_or s.tables (v.table % most_tables) e, none s.slots.held)
       where
         none : (k : ℕ) → k - k ≡ 0
         none k = omega arith

@@ -36,8 +36,8 @@ use Rattle.cache.specs.Run as R
 use Rattle.cache.specs.Demand.{lengths_lent}
 use Rattle.cache.proofs.Areas.{table_in, tables-set}
 use Rattle.cache.proofs.Sounds.{Sound, sound-is, rows_at, start-at, update-at}
-use Rattle.cache.proofs.Pushing.{some-rows, rows-many}
-use Rattle.cache.proofs.Standing.{few-tables, few-updates, update-table, few-columns, columns-at, area-inside}
+use Rattle.cache.proofs.Pushing.{some_rows, rows-many}
+use Rattle.cache.proofs.Standing.{few_tables, few_updates, update-table, few_columns, columns-at, area-inside}
 use Rattle.cache.proofs.Meanings.{table-at, update-count, update_agrees}
 use Rattle.cache.proofs.Refused.{Same, settled_same, same-else, unfit-is, lengths-same}
 
@@ -75,16 +75,16 @@ module _ (s : State) (T : Typed s) (S : Sound s) (cells : List ℤ) (p : Plain) 
   inside = subst (λ k. start + t.count * t.capacity ≤ k) (sym long) (area-inside s T S i table-there)
 
   rows-counted : length (rows_used t start cells) ≡ t.rows
-  rows-counted = rows-many s S (few-tables s T S) i table-there cells long
+  rows-counted = rows-many s S (few_tables s T S) i table-there cells long
 
-  form-is : eqb u.form 0 ≡ is_insert (P.update_at p n).change
-  form-is = ap (λ k. eqb k 0) agrees.form-is ∙ insert-form (P.update_at p n).change
+  form_is : eqb u.form 0 ≡ is_insert (P.update_at p n).change
+  form_is = ap (λ k. eqb k 0) agrees.form_is ∙ insert-form (P.update_at p n).change
 
   -- 12
   pub full_is : is_full s u ≡ full p n
   unfolding full
   full_is =
-      ap₂ (λ (a : Bool) (k : ℕ). a && (not t.ring && leb t.capacity k)) form-is (sym rows-counted)
+      ap₂ (λ (a : Bool) (k : ℕ). a && (not t.ring && leb t.capacity k)) form_is (sym rows-counted)
       ∙ ap (λ (x : P.Table). is_insert (P.update_at p n).change && (not x.schema.ring && leb x.schema.capacity (length x.rows))) (sym table_is)
 
   -- the rows that it changes
@@ -94,12 +94,12 @@ module _ (s : State) (T : Typed s) (S : Sound s) (cells : List ℤ) (p : Plain) 
   -- the row that it pushes out, or none
   pub pushed-is : pushed_by s cells u ≡ P.pushed_by p n
   pushed-is =
-      ap₂ (λ (a : Bool) (k : ℕ). cond (t.ring && (a && leb t.capacity k)) (take 1 (rows_used t start cells)) []) form-is (sym rows-counted)
+      ap₂ (λ (a : Bool) (k : ℕ). cond (t.ring && (a && leb t.capacity k)) (take 1 (rows_used t start cells)) []) form_is (sym rows-counted)
       ∙ ap (λ (x : P.Table). P.pushed x (P.update_at p n).change) (sym table_is)
 
   module _ (us : List ℤ) (room : full p n ≡ false) where
     eight : length u.settings ≡ 8
-    eight = (All-at n no_update (omega (arith, few-updates s T S)) T.updates-fit).eight
+    eight = (All-at n no_update (omega (arith, few_updates s T S)) T.updates_fit).eight
 
     -- an INSERT into a table that is no ring has a row free
     free : u.form ≡ 0 → t.ring ≡ false → t.rows < t.capacity
@@ -114,12 +114,12 @@ module _ (s : State) (T : Typed s) (S : Sound s) (cells : List ℤ) (p : Plain) 
         (le-leb t.rows t.capacity (rows_at s T S i table-there))
 
     -- it fits
-    pub update-fits : fits u t start cells ≡ true
-    update-fits =
-        fits-sound u t start cells area-fits (few-columns s T S i table-there)
+    pub update_fits : fits u t start cells ≡ true
+    update_fits =
+        fits-sound u t start cells area-fits (few_columns s T S i table-there)
         (ap (λ c. sound_form u.form c u) (sym (columns-at s T S i table-there))
-        ∙ (update-parts (schemas_in s) u (update-at s T S n there)).form-sound)
-        (start-at s T S i table-there) (some-rows s S (few-tables s T S) i table-there) free
+        ∙ (update-parts (schemas_in s) u (update-at s T S n there)).form_sound)
+        (start-at s T S i table-there) (some_rows s S (few_tables s T S) i table-there) free
 
     abbrev after : List ℤ
     after = cells_after u t start cells us
@@ -131,17 +131,17 @@ module _ (s : State) (T : Typed s) (S : Sound s) (cells : List ℤ) (p : Plain) 
     place = (change_of u t start cells us).oldest
 
     -- the rows inserted, matched or deleted
-    pub count-is : (change_of u t start cells us).count ≡ rows_by p n us
+    pub count_is : (change_of u t start cells us).count ≡ rows_by p n us
     unfolding rows_by
-    count-is =
-        change-count u (P.update_at p n) agrees t start cells us eight update-fits
+    count_is =
+        change-count u (P.update_at p n) agrees t start cells us eight update_fits
         ∙ ap (rows_changed (P.update_at p n).change us) rows-were
 
     -- the table's rows after it
     rows_then : rows_used (with_rows t used place) start after
         ≡ changed (P.update_at p n).change us (P.remaining (P.table_at p (P.update_at p n).table) (P.update_at p n).change)
     rows_then =
-        change-used u (P.update_at p n) agrees t start cells us eight update-fits (starts_first t (start-at s T S i table-there)) (with_rows t used place) refl refl refl
+        change-used u (P.update_at p n) agrees t start cells us eight update_fits (starts_first t (start-at s T S i table-there)) (with_rows t used place) refl refl refl
         ∙ ap (λ (x : P.Table). changed (P.update_at p n).change us (P.remaining x (P.update_at p n).change)) (sym table_is)
 
     -- and all tables
@@ -150,14 +150,14 @@ module _ (s : State) (T : Typed s) (S : Sound s) (cells : List ℤ) (p : Plain) 
     tables_then =
         let e : get_or (used_tables s) i no_table ≡ t = get_or-take s.table_count s.tables i no_table table-there in
         let k : areas_of (take i (used_tables s)) ≡ start = ap areas_of (take-take i s.table_count s.tables (omega (arith, table-there))) in
-        let l : length (used_tables s) ≡ s.table_count = length-take-le s.table_count s.tables (few-tables s T S) in
+        let l : length (used_tables s) ≡ s.table_count = length-take-le s.table_count s.tables (few_tables s T S) in
         sym
         (ap (λ ts. tables_from 0 ts after) (take-set-lt s.table_count s.tables i (with_rows t used place) table-there)
         ∙ ap (λ x. tables_from 0 (set (used_tables s) i (with_rows x used place)) after) (sym e)
         ∙ tables-set (used_tables s) S.rows i (subst (λ n. i < n) (sym l) table-there) used place cells after (cells-length u t start cells us eight)
         (λ a c n h. rows_before_lem u t start cells us eight a c n (subst (λ k. a + n * c ≤ k) k h))
         (λ a c n h. rows_behind u t start cells us eight a c n (subst₂ (λ (k : ℕ) (x : Table). k + x.count * x.capacity ≤ a) k e h))
-        ∙ ap₂ (λ (ts : List P.Table) (x : P.Table). set ts i x) (sym m.tables-are)
+        ∙ ap₂ (λ (ts : List P.Table) (x : P.Table). set ts i x) (sym m.tables_are)
         (ap₂ (λ (x : Table) (k : ℕ). table_in (with_rows x used place) k after) e k
         ∙ ap₂ (λ (x : Schema) (r : List Row). record { schema = x; rows = r }) (ap (λ (x : P.Table). x.schema) (sym table_is)) rows_then)
         ∙ ap (λ j. set p.tables j (record { schema = (P.table_at p (P.update_at p n).table).schema; rows = changed (P.update_at p n).change us (P.remaining (P.table_at p (P.update_at p n).table) (P.update_at p n).change) })) agrees.table_is)
@@ -167,10 +167,10 @@ module _ (s : State) (T : Typed s) (S : Sound s) (cells : List ℤ) (p : Plain) 
     unfolding with_change changed_by
     change-stands slots = record {
       cells_are = m.cells_are;
-      memory-is = m.memory-is;
-      tables-are = tables_then;
-      queries-are = m.queries-are;
-      updates-are = m.updates-are;
+      memory_is = m.memory_is;
+      tables_are = tables_then;
+      queries_are = m.queries_are;
+      updates_are = m.updates_are;
     }
 
 -- ---- the whole call
@@ -191,7 +191,7 @@ module _ (s : Store) (p : Plain) (T : Typed s.state) (h : sound_state s.state �
       (λ b.
       let there : n < s.state.update_count = subst (λ k. n < k) count (leb-false (length p.updates) n b) in
       ap₂ (λ (k : ℕ) (f : Bool). or_else (not (eqb (length us) k)) 11 (or_else f 12 0))
-      (update_agrees s.state T S s.cells p m n there).parameters-are
+      (update_agrees s.state T S s.cells p m n there).parameters_are
       (full_is s.state T S s.cells p m n there (lengths-same s.state s.cells p m (lengths_lent s) a))))
 
   -- an update that is not refused, on the plain store
@@ -208,7 +208,7 @@ module _ (s : Store) (p : Plain) (T : Typed s.state) (h : sound_state s.state �
     done-same : Same [] (step_update s (update_done s.state s.cells (update_at s.state n) us)) (changed_by p n us, rows (rows_by p n us))
     unfolding update_done
     done-same = (
-      ap (λ k. got_of [] (rows k)) (count-is s.state T S s.cells p m n update-there update-long us taken.room),
+      ap (λ k. got_of [] (rows k)) (count_is s.state T S s.cells p m n update-there update-long us taken.room),
       change-stands s.state T S s.cells p m n update-there update-long us taken.room (drop_by (is_matched s.state s.cells (update_at s.state n) us) s.state.slots),
     )
 

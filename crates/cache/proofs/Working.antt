@@ -13,7 +13,7 @@ use Rattle.lists.specs.Lists.{All, nil, cons, keep, pairs, turned}
 use Rattle.lists.proofs.Turned.{length-turned}
 use Rattle.lists.proofs.Bools.{and_left, and_right}
 use Rattle.lists.proofs.Places.{get_or-inside, length-keep}
-use Rattle.meaning.specs.Limits.{most-items, most-rows, most-listed}
+use Rattle.meaning.specs.Limits.{most_items, most_rows, most_listed}
 use Rattle.meaning.specs.Names.{Schema}
 use Rattle.meaning.specs.Meaning.{Row}
 use Rattle.meaning.specs.Plain.{or_else}
@@ -49,26 +49,26 @@ unfolding answer_stored
 listed-few q vs rows = omega (arith, length-map (keep (meets_stored q.condition vs) rows) (selected_stored q), length-keep (meets_stored q.condition vs) rows)
 
 -- each of sound tables has few columns and few rows
-tables-few : (before : List Schema) (ts : List Table) → sound_tables before ts ≡ true → All (λ (t : Table). (t.count ≤ most-items) × (t.capacity ≤ most-rows)) ts
+tables-few : (before : List Schema) (ts : List Table) → sound_tables before ts ≡ true → All (λ (t : Table). (t.count ≤ most_items) × (t.capacity ≤ most_rows)) ts
 tables-few before [] h = nil
 tables-few before (t ∷ ts) h =
     let P = table-parts before t (and_left (sound_table before t) _ h) in
-    cons (P.few-columns, P.few-rows) (tables-few (before ++ (schema_of t ∷ [])) ts (and_right (sound_table before t) _ h))
+    cons (P.few_columns, P.few_rows) (tables-few (before ++ (schema_of t ∷ [])) ts (and_right (sound_table before t) _ h))
 
 module _ (s : State) (S : Sound s) (long : s.table_count ≤ length s.tables) (i : ℕ) (h : i < s.table_count) where
-  few : ((table_at s i).count ≤ most-items) × ((table_at s i).capacity ≤ most-rows)
+  few : ((table_at s i).count ≤ most_items) × ((table_at s i).capacity ≤ most_rows)
   few =
-      All-first {P = λ (t : Table). (t.count ≤ most-items) × (t.capacity ≤ most-rows)} s.table_count s.tables i no_table long h
+      All-first {P = λ (t : Table). (t.count ≤ most_items) × (t.capacity ≤ most_rows)} s.table_count s.tables i no_table long h
       (tables-few [] (used_tables s) S.tables)
 
-  pub rows-512 : (cells : List ℤ) → length (rows_at s cells i) ≤ most-rows
+  pub rows-512 : (cells : List ℤ) → length (rows_at s cells i) ≤ most_rows
   rows-512 cells =
       let r : (table_at s i).rows ≤ (table_at s i).capacity =
       All-first {P = λ (t : Table). t.rows ≤ t.capacity} s.table_count s.tables i no_table long h S.rows in
       omega (arith, rows_few (table_at s i) (start_of s i) cells, r, few.1)
 
   pub paired_same : (cells : List ℤ) → rows_paired (table_at s i) (start_of s i) cells ≡ rows_at s cells i
-  paired_same cells = ap (λ (b : Bool). cond b (rows_at s cells i) []) (le-leb (table_at s i).count most-items few.0)
+  paired_same cells = ap (λ (b : Bool). cond b (rows_at s cells i) []) (le-leb (table_at s i).count most_items few.0)
 
 -- ---- the query and its tables, as they are read
 
@@ -102,7 +102,7 @@ module _ (s : State) (cells : List ℤ) (query : ℕ) (values : List ℤ) (answe
     read_one : read_for s cells (query_at s query) values ≡ length (rows_at s cells (query_at s query).table)
     read_one = ap (read_over s cells (query_at s query) values) alone
 
-    module _ (there : (query_at s query).table < length s.tables) (few-rows : length (rows_at s cells (query_at s query).table) ≤ most-rows)
+    module _ (there : (query_at s query).table < length s.tables) (few_rows : length (rows_at s cells (query_at s query).table) ≤ most_rows)
         (start : ℕ) (starts : start ≡ areas_of (take asked.table s.tables)) where
       abbrev rows : List Row
       rows = rows_used (get_or s.tables asked.table e) start cells
@@ -120,8 +120,8 @@ module _ (s : State) (cells : List ℤ) (query : ℕ) (values : List ℤ) (answe
       unfolding too_many
       not-many =
           let rows : List Row = rows_for s cells (query_at s query) values in
-          let n : length rows ≤ most-rows = subst (λ (l : List Row). length l ≤ most-rows) (sym for-one) few-rows in
-          le-ltb most-listed (length (answer_stored (query_at s query) values rows)) (omega (arith, listed-few (query_at s query) values rows, n))
+          let n : length rows ≤ most_rows = subst (λ (l : List Row). length l ≤ most_rows) (sym for-one) few_rows in
+          le-ltb most_listed (length (answer_stored (query_at s query) values rows)) (omega (arith, listed-few (query_at s query) values rows, n))
 
       number-one : new_refusal s cells (length answer) query values ≡ or_else (ltb (length answer) (length rec)) 13 0
       unfolding new_refusal
@@ -248,10 +248,10 @@ module _ (s : State) (cells : List ℤ) (query : ℕ) (values : List ℤ) (answe
           (subst (WorksOut s cells query values answer _) (sym (h ∙ left)) (two-by many (leb (length rec) (length answer)) refl refl))
         where
           said : pair_says asked t start u beside cells values answer ≡ said_by (paired_refusal many (leb (length rec) (length answer))) scanned (length rec)
-          said = λ i. said_by (paired_refusal (ltb most-listed (length (listed-is i))) (leb (length (record-two i)) (length answer))) (read_is i) (length (record-two i))
+          said = λ i. said_by (paired_refusal (ltb most_listed (length (listed-is i))) (leb (length (record-two i)) (length answer))) (read_is i) (length (record-two i))
 
           left : pair_leaves asked t start u beside cells values answer ≡ cond many answer (put answer 0 rec)
-          left = λ i. cond (ltb most-listed (length (listed-is i))) answer (put answer 0 (record-two i))
+          left = λ i. cond (ltb most_listed (length (listed-is i))) answer (put answer 0 (record-two i))
 
   -- the same, its second table's number read off the query
   abbrev other : ℕ

@@ -3,7 +3,7 @@
 use Rattle.std.specs.Prelude.{Bool, false, not, ◌&&◌, ◌||◌, cond, List, [], ◌∷◌, map, ℕ, zero, suc, ◌+◌, ◌*◌, eqb, leb, ltb, ℤ, pos, length, take, drop, get_or, set, replicate}
 use Rattle.std.proofs.Math.Option.{Option, none, some}
 use Rattle.lists.specs.Lists.{written, keep, count, any, pairs}
-use Rattle.meaning.specs.Limits.{most-tables, most-queries, most-updates, most-listed}
+use Rattle.meaning.specs.Limits.{most_tables, most_queries, most_updates, most_listed}
 use Rattle.meaning.specs.Statement.{Second}
 use Rattle.meaning.specs.Pattern.{removal}
 use Rattle.meaning.specs.Plain.{Opening, opening_refused, lowest_of}
@@ -156,9 +156,9 @@ added_of (suc (suc (suc (suc k)))) s c = add_refused s 0
 -- whether there is a place for a statement of the kind, for the code
 abbrev pub has_place : ℕ → State → Bool
 has_place zero s = false
-has_place (suc zero) s = ltb s.table_count most-tables
-has_place (suc (suc zero)) s = ltb s.query_count most-queries
-has_place (suc (suc (suc zero))) s = ltb s.update_count most-updates
+has_place (suc zero) s = ltb s.table_count most_tables
+has_place (suc (suc zero)) s = ltb s.query_count most_queries
+has_place (suc (suc (suc zero))) s = ltb s.update_count most_updates
 has_place (suc (suc (suc (suc k)))) s = false
 
 unfoldable pub added_by : State → Statement → Added
@@ -277,7 +277,7 @@ record_at s cells query values = record_stored (query_at s query) values (rows_f
 
 -- 16: "an answer of more than 65,535 rows"
 unfoldable pub too_many : State → List ℤ → ℕ → List ℤ → Bool
-too_many s cells query values = ltb most-listed (length (answer_stored (query_at s query) values (rows_for s cells (query_at s query) values)))
+too_many s cells query values = ltb most_listed (length (answer_stored (query_at s query) values (rows_for s cells (query_at s query) values)))
 
 -- 16 and 13, of an answer worked out
 abbrev pub new_conditions : State → List ℤ → ℕ → ℕ → List ℤ → List (ℕ × Bool)

@@ -81,10 +81,10 @@ OpensExactlyIf = (o : Start) → ((opened_by o).result.refusal ≡ 0) ↔ Openin
 
 -- a state without tables, statements or kept answers, of these sizes: "The order of use is one list of slots, at first 0, 1, 2 and on."
 pub record Fresh (s : State) (o : Opening) : Type 0 where
-  pub no-tables : s.table_count ≡ 0
-  pub no-queries : s.query_count ≡ 0
-  pub no-updates : s.update_count ≡ 0
-  pub none-held : s.slots.held ≡ 0
+  pub no_tables : s.table_count ≡ 0
+  pub no_queries : s.query_count ≡ 0
+  pub no_updates : s.update_count ≡ 0
+  pub none_held : s.slots.held ≡ 0
   pub sizes : sizes_of s ≡ o
   pub order : slots_of s.slots ≡ from 0 o.slots
 
@@ -128,8 +128,8 @@ HasPlace s (G.delete t w) = s.update_count < 16
 pub record Accepted (s : Store) (text : List ℕ) (x : Sentence) : Type 0 where
   -- 2
   pub sound : IsSound s.state
-  pub cells-lent : length s.cells ≡ s.state.cells
-  pub memory-lent : length s.memory ≡ s.state.memory
+  pub cells_lent : length s.cells ≡ s.state.cells
+  pub memory_lent : length s.memory ≡ s.state.memory
   -- 3
   pub short : length text ≤ 256
   -- 4
@@ -188,9 +188,9 @@ NewAnswer = (s : Store) (p : Plain) (k : Key) (buffer : List ℕ) → Typed s.st
 pub record ItsSlotsBytes (s : Store) (k : Key) (buffer : List ℕ) (r : Seen) : Type 0 where
   pub slot : ℕ
   pub held : (i : ℕ) × (i < s.state.slots.held) × (get_or s.state.slots.order i 0 ≡ slot)
-  pub key-is : key_read (slot_key s.state.keys slot) ≡ k
-  pub length-is : r.got.length ≡ length_at s.state slot
-  pub answer-is : r.got.answer ≡ written buffer 0 (bytes_at s.state s.memory slot)
+  pub key_is : key_read (slot_key s.state.keys slot) ≡ k
+  pub length_is : r.got.length ≡ length_at s.state slot
+  pub answer_is : r.got.answer ≡ written buffer 0 (bytes_at s.state s.memory slot)
   pub none_read : r.scanned ≡ 0
 
 abbrev pub KeptAnswer : Type 0
@@ -300,27 +300,27 @@ AnswerReadsBack = (o : Start) (cs : List Call) → All Values32 cs → (k : Key)
 -- ---- all of these
 
 pub record Demands : Type 0 where
-  pub lowest-number : LowestNumber
-  pub rings-never-full : RingsNeverFull
-  pub refused-changes-nothing : RefusedChangesNothing
-  pub opens-exactly-if : OpensExactlyIf
-  pub opening-taken : OpeningTaken
+  pub lowest_number : LowestNumber
+  pub rings_never_full : RingsNeverFull
+  pub refused_changes_nothing : RefusedChangesNothing
+  pub opens_exactly_if : OpensExactlyIf
+  pub opening_taken : OpeningTaken
   pub opening-refused : OpeningRefused
-  pub sound-exactly-if : SoundExactlyIf
-  pub opens-sound : OpensSound
-  pub stays-sound : StaysSound
-  pub accepted-exactly-if : AcceptedExactlyIf
-  pub stands-for-plain : StandsForPlain
-  pub does-as-plain : DoesAsPlain
-  pub new-answer : NewAnswer
-  pub kept-answer : KeptAnswer
-  pub drops-exactly-matched : DropsExactlyMatched
-  pub flush-drops-all : FlushDropsAll
-  pub third-demand : ThirdDemand
-  pub same-as-plain : SameAsPlain
-  pub anew-only-if : AnewOnlyIf
-  pub stands-in-list : StandsInList
-  pub drops-in-list : DropsInList
-  pub kept-otherwise : KeptOtherwise
+  pub sound_exactly_if : SoundExactlyIf
+  pub opens_sound : OpensSound
+  pub stays_sound : StaysSound
+  pub accepted_exactly_if : AcceptedExactlyIf
+  pub stands_for_plain : StandsForPlain
+  pub does_as_plain : DoesAsPlain
+  pub new_answer : NewAnswer
+  pub kept_answer : KeptAnswer
+  pub drops_exactly_matched : DropsExactlyMatched
+  pub flush_drops_all : FlushDropsAll
+  pub third_demand : ThirdDemand
+  pub same_as_plain : SameAsPlain
+  pub anew_only_if : AnewOnlyIf
+  pub stands_in_list : StandsInList
+  pub drops_in_list : DropsInList
+  pub kept_otherwise : KeptOtherwise
   pub rows-read : RowsRead
-  pub answer-reads-back : AnswerReadsBack
+  pub answer_reads_back : AnswerReadsBack

@@ -72,8 +72,8 @@ old ns = line buffer (answer ns) 1 0 0
 abbrev texts : List Call
 texts = ADD "TABLE stage (site, level) ROWS 3" ∷ ADD "INSERT INTO stage VALUES (?, ?)" ∷ ADD "SELECT level FROM stage WHERE site = ?" ∷ []
 
-abbrev added-lines : List Seen
-added-lines = plain (added a_table 0) ∷ plain (added an_update 0) ∷ plain (added a_query 0) ∷ []
+abbrev added_lines : List Seen
+added_lines = plain (added a_table 0) ∷ plain (added an_update 0) ∷ plain (added a_query 0) ∷ []
 
 -- document 01's transcript
 abbrev transcript : List Call
@@ -89,7 +89,7 @@ transcript =
     ∷ [])
 
 pub transcript-is : gets (opened desk) transcript
-    ≡ added-lines
+    ≡ added_lines
     ++ (plain (rows 1)
     ∷ new (120 ∷ []) 1
     ∷ plain (rows 1)
@@ -104,7 +104,7 @@ transcript-is = refl
 -- five keys in four slots: the first is evicted and the second is not; a flush drops the four
 pub crowded-is : gets (opened desk) (texts
     ++ (ASK 0 (1 ∷ []) ∷ ASK 0 (2 ∷ []) ∷ ASK 0 (3 ∷ []) ∷ ASK 0 (4 ∷ []) ∷ ASK 0 (5 ∷ []) ∷ ASK 0 (2 ∷ []) ∷ ASK 0 (1 ∷ []) ∷ flush ∷ ASK 0 (2 ∷ []) ∷ []))
-    ≡ added-lines ++ (new [] 0 ∷ new [] 0 ∷ new [] 0 ∷ new [] 0 ∷ new [] 0 ∷ old [] ∷ new [] 0 ∷ plain flushed ∷ new [] 0 ∷ [])
+    ≡ added_lines ++ (new [] 0 ∷ new [] 0 ∷ new [] 0 ∷ new [] 0 ∷ new [] 0 ∷ old [] ∷ new [] 0 ∷ plain flushed ∷ new [] 0 ∷ [])
 unfolding computing
 crowded-is = refl
 
@@ -118,36 +118,36 @@ pub short-is : gets (opened desk) (texts
     ∷ ASK 0 (5 ∷ [])
     ∷ ASK 0 (1 ∷ [])
     ∷ []))
-    ≡ added-lines
+    ≡ added_lines
     ++ (new [] 0 ∷ new [] 0 ∷ new [] 0 ∷ new [] 0 ∷ line (9 ∷ 9 ∷ 9 ∷ []) (refused 13) 0 0 0 ∷ new [] 0 ∷ new [] 0 ∷ [])
 unfolding computing
 short-is = refl
 
 -- the same of one question, the order of use alone: two slots are held, each with a record of 8 bytes, and the one at place 1 is asked for
-abbrev two-held : State
-two-held = with_cache (empty_state (opening 0 16 2 8)) (record { order = 0 ∷ 1 ∷ []; held = 2; count = 2 }) [] (8 ∷ 8 ∷ [])
+abbrev two_held : State
+two_held = with_cache (empty_state (opening 0 16 2 8)) (record { order = 0 ∷ 1 ∷ []; held = 2; count = 2 }) [] (8 ∷ 8 ∷ [])
 
-abbrev order-after : ℕ → List ℕ
-order-after n = slots_of (ask_cached two-held (replicate 16 7) (replicate n 9) 1).result.state.slots
+abbrev order_after : ℕ → List ℕ
+order_after n = slots_of (ask_cached two_held (replicate 16 7) (replicate n 9) 1).result.state.slots
 
-pub short-stays : order-after 7 ≡ 0 ∷ 1 ∷ []
+pub short-stays : order_after 7 ≡ 0 ∷ 1 ∷ []
 unfolding computing
 short-stays = refl
 
-pub found-moves : order-after 8 ≡ 1 ∷ 0 ∷ []
+pub found-moves : order_after 8 ≡ 1 ∷ 0 ∷ []
 unfolding computing
 found-moves = refl
 
 -- "Dropping by the old row only" is a slip: a row moved to site 9 drops site 9's answer
 pub moved-is : gets (opened desk) (texts
     ++ (ADD "UPDATE stage SET site = ? WHERE site = ?" ∷ DO 0 (7 ∷ 120 ∷ []) ∷ ASK 0 (9 ∷ []) ∷ DO 1 (9 ∷ 7 ∷ []) ∷ ASK 0 (9 ∷ []) ∷ []))
-    ≡ added-lines ++ (plain (added an_update 1) ∷ plain (rows 1) ∷ new [] 1 ∷ line [] (rows 1) 0 0 1 ∷ new (120 ∷ []) 1 ∷ [])
+    ≡ added_lines ++ (plain (added an_update 1) ∷ plain (rows 1) ∷ new [] 1 ∷ line [] (rows 1) 0 0 1 ∷ new (120 ∷ []) 1 ∷ [])
 unfolding computing
 moved-is = refl
 
 -- A.4: a ring of three rows. The INSERT of minute 4 pushes minute 1 out, and drops the answers of both; that of minute 2 is kept
-abbrev ring-filled : List Call
-ring-filled =
+abbrev ring_filled : List Call
+ring_filled =
     ADD "TABLE recent (minute, level) RING 3"
     ∷ ADD "INSERT INTO recent VALUES (?, ?)"
     ∷ ADD "SELECT level FROM recent WHERE minute = ?"
@@ -157,9 +157,9 @@ ring-filled =
     ∷ DO 0 (3 ∷ 30 ∷ [])
     ∷ []
 
-pub ring-is : gets (opened desk) (ring-filled
+pub ring_is : gets (opened desk) (ring_filled
     ++ (ASK 0 (1 ∷ []) ∷ ASK 0 (2 ∷ []) ∷ ASK 0 (4 ∷ []) ∷ DO 0 (4 ∷ 40 ∷ []) ∷ ASK 0 (2 ∷ []) ∷ ASK 0 (1 ∷ []) ∷ []))
-    ≡ added-lines
+    ≡ added_lines
     ++ (plain (added an_update 1)
     ∷ plain (rows 1)
     ∷ plain (rows 1)
@@ -172,7 +172,7 @@ pub ring-is : gets (opened desk) (ring-filled
     ∷ new [] 3
     ∷ [])
 unfolding computing
-ring-is = refl
+ring_is = refl
 
 -- where the oldest row lies then, and the cells of the three rows
 abbrev lying : List Call → ℕ × List ℤ
@@ -181,12 +181,12 @@ lying cs =
     ((get_or s.state.tables 0 no_table).oldest, take 6 s.cells)
 
 -- the new row takes the cells of the one removed
-pub pushed-lies : lying (ring-filled ++ (DO 0 (4 ∷ 40 ∷ []) ∷ [])) ≡ (1, map pos (4 ∷ 40 ∷ 2 ∷ 20 ∷ 3 ∷ 30 ∷ []))
+pub pushed-lies : lying (ring_filled ++ (DO 0 (4 ∷ 40 ∷ []) ∷ [])) ≡ (1, map pos (4 ∷ 40 ∷ 2 ∷ 20 ∷ 3 ∷ 30 ∷ []))
 unfolding computing
 pushed-lies = refl
 
 -- a DELETE, also of no row, puts the oldest row first in the area again
-pub deleted-lies : lying (ring-filled ++ (DO 0 (4 ∷ 40 ∷ []) ∷ DO 1 (9 ∷ []) ∷ [])) ≡ (0, map pos (2 ∷ 20 ∷ 3 ∷ 30 ∷ 4 ∷ 40 ∷ []))
+pub deleted-lies : lying (ring_filled ++ (DO 0 (4 ∷ 40 ∷ []) ∷ DO 1 (9 ∷ []) ∷ [])) ≡ (0, map pos (2 ∷ 20 ∷ 3 ∷ 30 ∷ 4 ∷ 40 ∷ []))
 unfolding computing
 deleted-lies = refl
 

@@ -28,20 +28,20 @@ pub data Compiled {A B : Type 0} (R : A → B → Type 0) : List A → List B �
 
 pub record Means (s : State) (cells : List ℤ) (p : Plain) : Type 0 where
   pub cells_are : p.lengths.cells ≡ s.cells
-  pub memory-is : p.lengths.memory ≡ s.memory
-  pub tables-are : p.tables ≡ tables_in s cells
-  pub queries-are : Compiled AgreesQuery (used_queries s) p.queries
-  pub updates-are : Compiled AgreesUpdate (used_updates s) p.updates
+  pub memory_is : p.lengths.memory ≡ s.memory
+  pub tables_are : p.tables ≡ tables_in s cells
+  pub queries_are : Compiled AgreesQuery (used_queries s) p.queries
+  pub updates_are : Compiled AgreesUpdate (used_updates s) p.updates
 
 -- what the types of a state say: the lengths of its arrays, and 32 bits of constants
 pub record Typed (s : State) : Type 0 where
-  pub eight-tables : length s.tables ≡ 8
-  pub sixteen-queries : length s.queries ≡ 16
-  pub sixteen-updates : length s.updates ≡ 16
+  pub eight_tables : length s.tables ≡ 8
+  pub sixteen_queries : length s.queries ≡ 16
+  pub sixteen_updates : length s.updates ≡ 16
   pub keys-64 : length s.keys ≡ 64
   pub lengths-64 : length s.lengths ≡ 64
   pub order-64 : length s.slots.order ≡ 64
-  pub tables-fit : All TableStructFits s.tables
-  pub queries-fit : All QueryFits s.queries
-  pub updates-fit : All UpdateFits s.updates
-  pub keys-fit : All (λ (k : Key). length k.values ≡ 8) s.keys
+  pub tables_fit : All TableStructFits s.tables
+  pub queries_fit : All QueryFits s.queries
+  pub updates_fit : All UpdateFits s.updates
+  pub keys_fit : All (λ (k : Key). length k.values ≡ 8) s.keys

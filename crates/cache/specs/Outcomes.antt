@@ -1,7 +1,7 @@
 -- What a question gives, without the state, as the code hands it on; and the state with it. What an update leaves, in the same way. Assumes nothing: these are definitions.
 use Rattle.std.specs.Prelude.{◌≡◌, Bool, true, false, not, ◌&&◌, ◌||◌, cond, List, [], ◌∷◌, ℕ, ◌+◌, ◌*◌, ◌≤◌, ◌<◌, eqb, leb, ltb, ℤ, length, take, set}
 use Rattle.lists.specs.Lists.{written}
-use Rattle.meaning.specs.Limits.{most-tables, most-queries, most-memory, most-slots, most-slot-bytes}
+use Rattle.meaning.specs.Limits.{most_tables, most_queries, most_memory, most_slots, most_slot_bytes}
 use Rattle.meaning.specs.Plain.{lowest_of}
 use Rattle.statement.specs.declared.Table.{Table}
 use Rattle.statement.specs.declared.Query.{Query}
@@ -42,7 +42,7 @@ placed_if true s key p = with_cache s p.slots (set s.keys p.slot key) (set s.len
 placed_if false s key p = with_cache s p.slots s.keys s.lengths
 
 abbrev pub placed : State → Key → Place → State
-placed s key p = placed_if (ltb p.slot most-slots) s key p
+placed s key p = placed_if (ltb p.slot most_slots) s key p
 
 abbrev pub outcome_of : State → Key → Outcome → Asked
 outcome_of s key o = record { refusal = o.refusal; cached = o.cached; scanned = o.scanned; length = o.length; state = placed s key o.place }
@@ -63,10 +63,10 @@ pub record WorksOut (s : State) (cells : List ℤ) (query : ℕ) (values : List 
 
 -- n bytes in the slot t: there they lie inside the memory
 pub record Last (bytes memory : ℕ) (t : Taken) (n : ℕ) : Type 0 where
-  pub slot : t.slot < most-slots
-  pub start : t.slot * bytes ≤ most-memory
+  pub slot : t.slot < most_slots
+  pub start : t.slot * bytes ≤ most_memory
   pub ends : t.slot * bytes + n ≤ memory
-  pub small : n ≤ most-slot-bytes
+  pub small : n ≤ most_slot_bytes
 
 -- if n bytes take the last slot, there is room for them
 abbrev pub Room : SlotList → ℕ → ℕ → ℕ → Type 0
@@ -95,7 +95,7 @@ update_number unfit count update parameters values full =
 
 -- what is known of an update of a table where it is not refused
 abbrev pub Effective : ℕ → SlotList → ℕ → ℕ → Type 0
-Effective refusal slots n table = refusal ≡ 0 → (sound_slots slots ≡ true) × (n ≤ most-queries) × (table ≤ most-tables)
+Effective refusal slots n table = refusal ≡ 0 → (sound_slots slots ≡ true) × (n ≤ most_queries) × (table ≤ most_tables)
 
 -- refused, it leaves the table and the slots as they are
 abbrev pub no_effect : Table → SlotList → Effect

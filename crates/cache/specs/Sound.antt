@@ -4,7 +4,7 @@
 use Rattle.std.specs.Prelude.{◌≡◌, Bool, true, not, ◌&&◌, ◌||◌, List, [], ◌∷◌, ◌++◌, map, ℕ, ◌+◌, ◌*◌, ◌≤◌, ◌<◌, eqb, leb, ltb, get_or, take}
 use Rattle.lists.specs.Lists.{All, all, Distinct}
 use Rattle.meaning.specs.Key as M
-use Rattle.meaning.specs.Limits.{most-tables, most-queries, most-updates, least-slot-bytes}
+use Rattle.meaning.specs.Limits.{most_tables, most_queries, most_updates, least_slot_bytes}
 use Rattle.meaning.specs.Names.{Schema}
 use Rattle.meaning.specs.Plain.{Opening, opening_refused}
 use Rattle.meaning.specs.Demand.{Between}
@@ -63,10 +63,10 @@ keys_in s = map key_read (held_keys s.keys s.slots)
 
 -- what refusal 1 lets pass: it is "opening outside the limits, or slots × bytes over the kept memory"
 pub record OpeningWithin (o : Opening) : Type 0 where
-  pub few-cells : o.lent.cells ≤ 32768
-  pub few-memory : o.lent.memory ≤ 262144
-  pub few-slots : o.slots ≤ 64
-  pub least-bytes : 8 ≤ o.slot_bytes
+  pub few_cells : o.lent.cells ≤ 32768
+  pub few_memory : o.lent.memory ≤ 262144
+  pub few_slots : o.slots ≤ 64
+  pub least_bytes : 8 ≤ o.slot_bytes
   pub most_bytes : o.slot_bytes ≤ 4096
   pub room : o.slots * o.slot_bytes ≤ o.lent.memory
 
@@ -84,7 +84,7 @@ pub record NamesEachOnce (l : SlotList) : Type 0 where
 -- A.4, of the starting place: "in a sound state it is below the ring's size, and 0 unless a ring is full"
 pub record StartFits (t : Table) : Type 0 where
   pub below : t.ring ≡ true → t.oldest < t.capacity
-  pub unless-full : (t.ring ≡ true → t.rows ≡ t.capacity → ⊥) → t.oldest ≡ 0
+  pub unless_full : (t.ring ≡ true → t.rows ≡ t.capacity → ⊥) → t.oldest ≡ 0
 
 pub record IsSound (s : State) : Type 0 where
   -- "its sizes pass refusal 1"
@@ -118,7 +118,7 @@ sound_sizes s = not (opening_refused (sizes_of s))
 
 -- "its counts are within the limits"
 abbrev pub sound_counts : State → Bool
-sound_counts s = leb s.table_count most-tables && (leb s.query_count most-queries && leb s.update_count most-updates)
+sound_counts s = leb s.table_count most_tables && (leb s.query_count most_queries && leb s.update_count most_updates)
 
 -- "its tables' areas of columns × ROWS cells follow one another from cell 0 on inside the cells"
 abbrev pub sound_areas : State → Bool
@@ -143,7 +143,7 @@ sound_texts s =
 
 -- "kept lengths are from 8 to the slot's bytes"
 abbrev pub length_fits : ℕ → ℕ → Bool
-length_fits length bytes = leb least-slot-bytes length && leb length bytes
+length_fits length bytes = leb least_slot_bytes length && leb length bytes
 
 abbrev pub sound_lengths : State → Bool
 sound_lengths s = all (λ (x : ℕ). length_fits (length_at s x) s.slot_bytes) (held_slots s.slots)

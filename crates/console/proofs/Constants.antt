@@ -29,7 +29,7 @@ use Rattle.token.proofs.Cases.{none_is, some_is}
 use Rattle.token.proofs.Words.{digit-word}
 use Rattle.console.specs.declared.lines.Value.{Value}
 use Rattle.console.specs.Parts.{number_of, value_of}
-use Rattle.console.specs.Lines.{most-number, number_in, constant_in, whole_token, value_in}
+use Rattle.console.specs.Lines.{most_number, number_in, constant_in, whole_token, value_in}
 
 -- ---- a value, as the first token tells it
 
@@ -153,7 +153,7 @@ word_none w h =
     go true = refl
     go false = refl
 
-word-digits : (w : List ℕ) → all is_digit w ≡ true → constant_in (word w) ≡ cond (leb (decimal w) most-number) (some (pos (decimal w))) none
+word-digits : (w : List ℕ) → all is_digit w ≡ true → constant_in (word w) ≡ cond (leb (decimal w) most_number) (some (pos (decimal w))) none
 unfolding word
 word-digits w h = ap (λ (d : Bool). constant_in (cond d (constant (pos (decimal w))) (unnumbered w))) h
 
@@ -175,7 +175,7 @@ module _ (b : ℕ) (s : List ℕ) where
   run_none h (c ∷ u) e = refl
 
   choose : Bool → Option ℕ
-  choose d = cond (d && leb (decimal w) most-number) (some (decimal w)) none
+  choose d = cond (d && leb (decimal w) most_number) (some (decimal w)) none
 
   number-value : (b ≡ 45 → ⊥) → value_in w ≡ positive (number_in w)
   unfolding value_in number_in choose
@@ -190,7 +190,7 @@ module _ (b : ℕ) (s : List ℕ) where
       go true e true f =
           let d = digits-run f in
           ap whole_token (from-word b s e ∙ ap₂ (λ (u v : List ℕ). (word (b ∷ u), v)) (whole_run d) d)
-          ∙ word-digits w f ∙ turn (leb (decimal w) most-number) ∙ sym (ap (λ (d : Bool). positive (choose d)) f)
+          ∙ word-digits w f ∙ turn (leb (decimal w) most_number) ∙ sym (ap (λ (d : Bool). positive (choose d)) f)
         where
           turn : (c : Bool) → cond c (some (pos (decimal w))) none ≡ positive (cond c (some (decimal w)) none)
           turn true = refl

@@ -30,9 +30,9 @@ use Rattle.console.specs.Demand.{BadChangesNothing, refusal_of, RefusedChangesNo
 
 -- ---- bad and refused lines
 
-bad-changes-nothing : BadChangesNothing
+bad_changes_nothing : BadChangesNothing
 unfolding answered_of
-bad-changes-nothing s buffer line e = ap (commanded s buffer) e
+bad_changes_nothing s buffer line e = ap (commanded s buffer) e
 
 module _ (s : Store) (buffer : List ℕ) where
   abbrev left : Call → Store × Seen → Answered
@@ -42,7 +42,7 @@ module _ (s : Store) (buffer : List ℕ) where
       → called s buffer c ≡ record { store = s; buffer = buffer; text = refused_text (step s c).1.got.refusal }
   call-refused c b h =
       let n = (step s c).1.got.refusal in
-      ap (left c) (of-store.refused-changes-nothing s c h)
+      ap (left c) (of-store.refused_changes_nothing s c h)
       ∙ ap₂ (λ (x y : List ℕ). record { store = s; buffer = x; text = y }) (b n) (sym (settled-refused n _ _ h))
 
   command-refused : (c : Command) → refusal_of s buffer c ≢ 0 → commanded s buffer c ≡ record { store = s; buffer = buffer; text = refused_text (refusal_of s buffer c) }
@@ -52,9 +52,9 @@ module _ (s : Store) (buffer : List ℕ) where
   command-refused L.flush h = call-refused flush (λ n. refl) h
   command-refused L.bad h = absurd (h refl)
 
-refused-changes-nothing : RefusedChangesNothing
+refused_changes_nothing : RefusedChangesNothing
 unfolding answered_of
-refused-changes-nothing s buffer line h = command-refused s buffer (command_of line) h
+refused_changes_nothing s buffer line h = command-refused s buffer (command_of line) h
 
 -- ---- the calls of a list of lines
 
@@ -142,15 +142,15 @@ module _ (lent : Lengths) where
       (printed-said a.store b.store a.buffer ls k.rest ∙ ap (λ (x : List ℕ). plain_printed lent b.store x xs) k.buffers)
       ∙ ap₂ (λ (u : Unsaid) (x : List Seen). plain_printed lent p buffer ((l, u) ∷ said_of ls x)) q.0 q.1
 
-prints-as-plain : PrintsAsPlain
-prints-as-plain o buffer ls =
-    printed-same (opening_of o).lent (opened o) (P.opened (opening_of o)) buffer ls (of-store.same-as-plain o (calls_for (opened o) buffer ls)).0
+prints_as_plain : PrintsAsPlain
+prints_as_plain o buffer ls =
+    printed-same (opening_of o).lent (opened o) (P.opened (opening_of o)) buffer ls (of-store.same_as_plain o (calls_for (opened o) buffer ls)).0
 
 -- ---- the calls that the lines make
 
-prints-its-calls : PrintsItsCalls
-prints-its-calls o buffer ls =
-    printed-said (opening_of o).lent (opened o) (P.opened (opening_of o)) buffer ls (of-store.same-as-plain o (calls_for (opened o) buffer ls)).0
+prints_its_calls : PrintsItsCalls
+prints_its_calls o buffer ls =
+    printed-said (opening_of o).lent (opened o) (P.opened (opening_of o)) buffer ls (of-store.same_as_plain o (calls_for (opened o) buffer ls)).0
 
 command-after : (s : Store) (buffer : List ℕ) (c : Command) (cs : List Call) → after s (calls_by buffer c cs) ≡ after (commanded s buffer c).store cs
 command-after s buffer (L.add text) cs = refl
@@ -159,22 +159,22 @@ command-after s buffer (L.change n zs) cs = refl
 command-after s buffer L.flush cs = refl
 command-after s buffer L.bad cs = refl
 
-lines-make-calls : LinesMakeCalls
+lines_make_calls : LinesMakeCalls
 unfolding answered_of
-lines-make-calls s buffer [] = refl
-lines-make-calls s buffer (l ∷ ls) =
+lines_make_calls s buffer [] = refl
+lines_make_calls s buffer (l ∷ ls) =
     let a = answered_of s buffer l in
-    lines-make-calls a.store a.buffer ls ∙ sym (command-after s buffer (command_of l) (calls_for a.store a.buffer ls))
+    lines_make_calls a.store a.buffer ls ∙ sym (command-after s buffer (command_of l) (calls_for a.store a.buffer ls))
 
-tables-as-plain : TablesAsPlain
-tables-as-plain o buffer ls =
-    ap (λ (s : Store). tables_in s.state s.cells) (lines-make-calls (opened o) buffer ls) ∙ (of-store.same-as-plain o (calls_for (opened o) buffer ls)).1
+tables_as_plain : TablesAsPlain
+tables_as_plain o buffer ls =
+    ap (λ (s : Store). tables_in s.state s.cells) (lines_make_calls (opened o) buffer ls) ∙ (of-store.same_as_plain o (calls_for (opened o) buffer ls)).1
 
-anew-only-if : AnewOnlyIf
-anew-only-if o buffer ls k lent h g =
+anew_only_if : AnewOnlyIf
+anew_only_if o buffer ls k lent h g =
     let cs = calls_for (opened o) buffer ls in
-    let e = lines-make-calls (opened o) buffer ls in
-    of-store.anew-only-if o cs k lent
+    let e = lines_make_calls (opened o) buffer ls in
+    of-store.anew_only_if o cs k lent
     (subst (λ (s : Store). (step s (ask k.query k.values lent)).1.got.refusal ≡ 0) e h)
     (subst (λ (s : Store). (step s (ask k.query k.values lent)).1.kept ≡ 0) e g)
 
@@ -291,21 +291,21 @@ module _ (lent : Lengths) where
       ap₂ (λ (t : List ℕ) (u : List (List ℕ)). t ∷ u) n.text
       (buffers-alike x.store n.plain x.buffer y.buffer ls n.lengths n.first g ∙ ap (λ (t : Store). printed_for t y.buffer ls) n.stores)
 
-buffer-does-not-matter : BufferDoesNotMatter
-buffer-does-not-matter o b c ls e =
-    let same : (x : List ℕ) → Same (opening_of o).lent (opened o) (P.opened (opening_of o)) (calls_for (opened o) x ls) = λ x. (of-store.same-as-plain o (calls_for (opened o) x ls)).0 in
+buffer_does_not_matter : BufferDoesNotMatter
+buffer_does_not_matter o b c ls e =
+    let same : (x : List ℕ) → Same (opening_of o).lent (opened o) (P.opened (opening_of o)) (calls_for (opened o) x ls) = λ x. (of-store.same_as_plain o (calls_for (opened o) x ls)).0 in
     buffers-alike (opening_of o).lent (opened o) (P.opened (opening_of o)) b c ls e (same b) (same c)
 
 -- ---- all claims
 
 pub demands : Demands
 demands = record {
-  bad-changes-nothing = bad-changes-nothing;
-  refused-changes-nothing = refused-changes-nothing;
-  prints-as-plain = prints-as-plain;
-  buffer-does-not-matter = buffer-does-not-matter;
-  lines-make-calls = lines-make-calls;
-  prints-its-calls = prints-its-calls;
-  tables-as-plain = tables-as-plain;
-  anew-only-if = anew-only-if;
+  bad_changes_nothing = bad_changes_nothing;
+  refused_changes_nothing = refused_changes_nothing;
+  prints_as_plain = prints_as_plain;
+  buffer_does_not_matter = buffer_does_not_matter;
+  lines_make_calls = lines_make_calls;
+  prints_its_calls = prints_its_calls;
+  tables_as_plain = tables_as_plain;
+  anew_only_if = anew_only_if;
 }

@@ -19,7 +19,7 @@ use Rattle.console.specs.Printed.{bad_text}
 use Rattle.console.specs.Desk.{commanded, answered_of, Replies, replies, replies_with, reply_of}
 use Rattle.console.specs.Commands.{reply_to}
 use Rattle.console.proofs.Calling.{store_of}
-use Rattle.console.proofs.Said.{command-says, count-is, is_ask, is-change, is-flush, is-bad}
+use Rattle.console.proofs.Said.{command-says, count_is, is_ask, is-change, is-flush, is-bad}
 
 module _ (line : List ℕ) (l : Line) (e : l ≡ line_of (command_of line)) where
   command-is : l.command ≡ (line_of (command_of line)).command
@@ -32,7 +32,7 @@ module _ (line : List ℕ) (l : Line) (e : l ≡ line_of (command_of line)) wher
     said = values_of (command_of line)
 
     count : l.count ≡ length said
-    count = ap (λ (x : Line). x.count) e ∙ count-is (command_of line)
+    count = ap (λ (x : Line). x.count) e ∙ count_is (command_of line)
 
     values-fit : 0 + length said ≤ length room
     values-fit = omega (arith, (command-says line).few, long)

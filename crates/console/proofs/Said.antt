@@ -14,7 +14,7 @@ use Rattle.lists.specs.Lists.{bytes}
 use Rattle.meaning.specs.Tokens.{is_space, behind_prefix}
 use Rattle.meaning.proofs.Readers.{some-none, some_same}
 use Rattle.meaning.proofs.Stream.{prefix-length}
-use Rattle.console.specs.Lines.{on_first, words, is_word, number_in, value_in, and_value, values_in, Command, add, ask, change, flush, bad, numbered, words_say, line_says, most-line, command_of, line_of, values_of}
+use Rattle.console.specs.Lines.{on_first, words, is_word, number_in, value_in, and_value, values_in, Command, add, ask, change, flush, bad, numbered, words_say, line_says, most_line, command_of, line_of, values_of}
 
 -- ---- no more values than bytes
 
@@ -77,10 +77,10 @@ prefix-drop (b ∷ p) (c ∷ s) left e = go (eqb b c) e (prefix-drop p s left)
 
 -- what is known of what a line says
 pub record Says (line : List ℕ) (c : Command) : Type 0 where
-  pub few : length (values_of c) ≤ most-line
+  pub few : length (values_of c) ≤ most_line
   pub text : (line_of c).command ≡ 1 → (4 ≤ length line) × (c ≡ add (drop 4 line))
 
-line-says : (line : List ℕ) → length line ≤ most-line → Says line (line_says line)
+line-says : (line : List ℕ) → length line ≤ most_line → Says line (line_says line)
 line-says line h = go (behind_prefix (bytes "ADD ") line) refl
   where
     go : (o : Option (List ℕ)) → behind_prefix (bytes "ADD ") line ≡ o → Says line (elim o [ some text ↦ add text | none ↦ words_say (words line) ])
@@ -93,20 +93,20 @@ line-says line h = go (behind_prefix (bytes "ADD ") line) refl
 
 pub command-says : (line : List ℕ) → Says line (command_of line)
 unfolding command_of
-command-says line = go (leb (length line) most-line) refl
+command-says line = go (leb (length line) most_line) refl
   where
-    go : (t : Bool) → leb (length line) most-line ≡ t → Says line (elim t [ true ↦ line_says line | false ↦ bad ])
-    go true e = line-says line (leb-true (length line) most-line e)
+    go : (t : Bool) → leb (length line) most_line ≡ t → Says line (elim t [ true ↦ line_says line | false ↦ bad ])
+    go true e = line-says line (leb-true (length line) most_line e)
     go false e = record { few = omega arith; text = λ f. absurd (omega (arith, f)) }
 
 -- ---- the other commands
 
-pub count-is : (c : Command) → (line_of c).count ≡ length (values_of c)
-count-is (add text) = refl
-count-is (ask n zs) = refl
-count-is (change n zs) = refl
-count-is flush = refl
-count-is bad = refl
+pub count_is : (c : Command) → (line_of c).count ≡ length (values_of c)
+count_is (add text) = refl
+count_is (ask n zs) = refl
+count_is (change n zs) = refl
+count_is flush = refl
+count_is bad = refl
 
 pub is_ask : (c : Command) → (line_of c).command ≡ 2 → c ≡ ask (line_of c).number (values_of c)
 is_ask (add text) e = absurd (omega (arith, e))

@@ -10,7 +10,7 @@ use lib.ListN.{length, drop, get_or, length-drop}
 use Rattle.lists.specs.Lists.{bytes, from}
 use Rattle.lists.proofs.Bools.{and_left, and_right}
 use Rattle.lists.proofs.Walks.{from_cons, from-none}
-use Rattle.meaning.specs.Limits.{most-items}
+use Rattle.meaning.specs.Limits.{most_items}
 use Rattle.meaning.specs.Record.{number_of, numbers_of, four_at, columns_in, row_count, row_bytes, is_record, has_row, row_part, row_refusal}
 use Rattle.token.proofs.Runs.{drop_here}
 use Rattle.console.specs.Printed.{source_word, line, item, added_text, decimal_text, number_text, row_text, further_text, rows_text, rows_there, rows_shown}
@@ -94,7 +94,7 @@ module _ (bs : List ℕ) where
   unfolding is_record
   limits h =
       let c = and_right (eqb (get_or bs 4 0) 1) _ (and_right (leb 8 (length bs)) _ h) in
-      let r = and_right (leb (columns_in bs) most-items) _ (and_right (leb 1 (columns_in bs)) _ c) in
+      let r = and_right (leb (columns_in bs) most_items) _ (and_right (leb 1 (columns_in bs)) _ c) in
       let l = and_right (leb (row_count bs) _) _ r in
       let e : four_at bs 0 ≡ row_count bs * row_bytes bs + 4 = eqb-true (four_at bs 0) (row_count bs * row_bytes bs + 4) (and_left (eqb (four_at bs 0) (row_count bs * row_bytes bs + 4)) _ l) in
       let n : four_at bs 0 + 4 ≤ length bs = leb-true (four_at bs 0 + 4) (length bs) (and_right (eqb (four_at bs 0) (row_count bs * row_bytes bs + 4)) _ l) in
@@ -104,8 +104,8 @@ module _ (bs : List ℕ) where
         whole = omega (arith, e, n);
       }
 
-  pub few-rows : rows_there bs ≤ 65535
-  few-rows = go (is_record bs) refl
+  pub few_rows : rows_there bs ≤ 65535
+  few_rows = go (is_record bs) refl
     where
       go : (b : Bool) → is_record bs ≡ b → cond b (row_count bs) 0 ≤ 65535
       go false e = omega arith

@@ -152,11 +152,11 @@ AnewOnlyIf = (o : Start) (buffer : List ℕ) (ls : List (List ℕ)) (k : Key) (l
 -- ---- all of these
 
 pub record Demands : Type 0 where
-  pub bad-changes-nothing : BadChangesNothing
-  pub refused-changes-nothing : RefusedChangesNothing
-  pub prints-as-plain : PrintsAsPlain
-  pub buffer-does-not-matter : BufferDoesNotMatter
-  pub lines-make-calls : LinesMakeCalls
-  pub prints-its-calls : PrintsItsCalls
-  pub tables-as-plain : TablesAsPlain
-  pub anew-only-if : AnewOnlyIf
+  pub bad_changes_nothing : BadChangesNothing
+  pub refused_changes_nothing : RefusedChangesNothing
+  pub prints_as_plain : PrintsAsPlain
+  pub buffer_does_not_matter : BufferDoesNotMatter
+  pub lines_make_calls : LinesMakeCalls
+  pub prints_its_calls : PrintsItsCalls
+  pub tables_as_plain : TablesAsPlain
+  pub anew_only_if : AnewOnlyIf

@@ -54,8 +54,8 @@ is_word t w = eq_list eqb w (bytes t)
 
 -- ---- numbers and values
 
-abbrev pub most-number : ℕ
-most-number = 2147483647
+abbrev pub most_number : ℕ
+most_number = 2147483647
 
 abbrev pub is_empty : List ℕ → Bool
 is_empty [] = true
@@ -63,7 +63,7 @@ is_empty (b ∷ s) = false
 
 -- "a statement's number is digits only", within 32 bits
 unfoldable pub number_in : List ℕ → Option ℕ
-number_in w = cond (not (is_empty w) && (all is_digit w && leb (decimal w) most-number)) (some (decimal w)) none
+number_in w = cond (not (is_empty w) && (all is_digit w && leb (decimal w) most_number)) (some (decimal w)) none
 
 -- "a value is a constant", within 32 bits: the word is one token
 abbrev pub constant_in : Token → Option ℤ
@@ -117,11 +117,11 @@ words_say (w ∷ n ∷ vs) = numbered w (number_in n) (values_in vs)
 abbrev pub line_says : List ℕ → Command
 line_says line = elim (behind_prefix (bytes "ADD ") line) [ some text ↦ add text | none ↦ words_say (words line) ]
 
-abbrev pub most-line : ℕ
-most-line = 512
+abbrev pub most_line : ℕ
+most_line = 512
 
 unfoldable pub command_of : List ℕ → Command
-command_of line = elim (leb (length line) most-line) [ true ↦ line_says line | false ↦ bad ]
+command_of line = elim (leb (length line) most_line) [ true ↦ line_says line | false ↦ bad ]
 
 -- ---- a command as the program has it: 0 a bad line, 1 ADD, 2 ASK, 3 DO, 4 FLUSH; the statement's number; how many values
 

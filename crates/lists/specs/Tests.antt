@@ -34,12 +34,12 @@ T-both false b t = absurd t
 
 -- ---- deciders of equality that compute, by these tests
 
-abbrev pub by-test : {P : Type 0} (b : Bool) → (T b → P) → (P → T b) → Dec P
-by-test true f g = yes (f tt)
-by-test false f g = no g
+abbrev pub by_test : {P : Type 0} (b : Bool) → (T b → P) → (P → T b) → Dec P
+by_test true f g = yes (f tt)
+by_test false f g = no g
 
 abbrev pub dec_n : Discrete ℕ
-dec_n m n = by-test (eqb m n) (eqb→eq m n) (λ e. subst (λ (k : ℕ). T (eqb m k)) e (eqb_refl m))
+dec_n m n = by_test (eqb m n) (eqb→eq m n) (λ e. subst (λ (k : ℕ). T (eqb m k)) e (eqb_refl m))
 
 pub eq_z→eq : (a b : ℤ) → T (eq_z a b) → a ≡ b
 eq_z→eq (pos a) (pos b) t = ap pos (eqb→eq a b t)
@@ -52,7 +52,7 @@ eq_z-refl (pos a) = eqb_refl a
 eq_z-refl (negsuc a) = eqb_refl a
 
 abbrev pub dec_z : Discrete ℤ
-dec_z a b = by-test (eq_z a b) (eq_z→eq a b) (λ e. subst (λ (c : ℤ). T (eq_z a c)) e (eq_z-refl a))
+dec_z a b = by_test (eq_z a b) (eq_z→eq a b) (λ e. subst (λ (c : ℤ). T (eq_z a c)) e (eq_z-refl a))
 
 module _ {A : Type 0} (same : A → A → Bool) where
   pub eq_list→eq : ((x y : A) → T (same x y) → x ≡ y) → (xs ys : List A) → T (eq_list same xs ys) → xs ≡ ys
@@ -69,7 +69,7 @@ module _ {A : Type 0} (same : A → A → Bool) where
 
 abbrev pub dec_list : {A : Type 0} (same : A → A → Bool) → ((x y : A) → T (same x y) → x ≡ y) → ((x : A) → T (same x x)) → Discrete (List A)
 dec_list same f g xs ys =
-    by-test (eq_list same xs ys) (eq_list→eq same f xs ys) (λ e. subst (λ (zs : List _). T (eq_list same xs zs)) e (eq_list-refl same g xs))
+    by_test (eq_list same xs ys) (eq_list→eq same f xs ys) (λ e. subst (λ (zs : List _). T (eq_list same xs zs)) e (eq_list-refl same g xs))
 
 -- bytes
 abbrev pub dec_bytes : Discrete (List ℕ)

@@ -17,7 +17,7 @@ use Rattle.lists.proofs.Lists.{All-head, All-tail}
 use Rattle.meaning.specs.Tokens.{tokens}
 use Rattle.meaning.specs.Grammar.{Sentence, sentence}
 use Rattle.meaning.specs.Key.{Key}
-use Rattle.meaning.specs.Limits.{most-text}
+use Rattle.meaning.specs.Limits.{most_text}
 use Rattle.meaning.specs.Plain.{Lengths, Plain, query_at, update_at, Call, add, ask, change, flush, other_lengths, full, add_conditions, ask_conditions, change_conditions, conditions, or_else, lowest_of, refusal, refused, added_text, does, guard}
 use Rattle.meaning.specs.Demand.{rank, LowestNumber, RefusedChangesNothing, ReadsExactly, OneSentence, Acceptable, AcceptedExactlyIf, AcceptedIsAdded}
 use Rattle.meaning.proofs.Decides.{decides, unique}
@@ -103,9 +103,9 @@ ascending lent p flush = refl
 -- ---- demand 1
 
 -- the lowest number that applies is given, and only then
-pub lowest-number : LowestNumber
+pub lowest_number : LowestNumber
 unfolding refusal
-lowest-number lent p c =
+lowest_number lent p c =
     let l = lowest-in 0 (conditions lent p c) (ascending lent p c) in
     record { given = l.given; lower = l.lower; only = l.only }
 
@@ -118,18 +118,18 @@ module _ {S O : Type 0} (s : S) (f : ℕ → O) (done : S × O) where
   guard-done n e = ap (λ k. guard k s f done) e
 
 -- a refused call changes nothing
-pub refused-changes-nothing : RefusedChangesNothing
-refused-changes-nothing lent p c h = guard-refused p refused (does p c) (refusal lent p c) h
+pub refused_changes_nothing : RefusedChangesNothing
+refused_changes_nothing lent p c h = guard-refused p refused (does p c) (refusal lent p c) h
 
 -- ---- demand 2
 
 -- a text is read as a sentence exactly if its tokens are the sentence's
-pub reads-exactly : ReadsExactly
-reads-exactly text s = decides (tokens text) s
+pub reads_exactly : ReadsExactly
+reads_exactly text s = decides (tokens text) s
 
 -- one spelling, one sentence
-pub one-sentence : OneSentence
-one-sentence s t e = unique s t e
+pub one_sentence : OneSentence
+one_sentence s t e = unique s t e
 
 module _ (lent : Lengths) (p : Plain) (text : List ℕ) where
   acceptable-of : (o : Option Sentence) → sentence text ≡ o → All (λ c. c.1 ≡ false) (add_conditions lent p text o) → (s : Sentence) × Acceptable lent p text s
@@ -143,7 +143,7 @@ module _ (lent : Lengths) (p : Plain) (text : List ℕ) where
         s,
         record {
           lengths = All-head h;
-          short = ltb-false most-text (length text) (All-head h₃);
+          short = ltb-false most_text (length text) (All-head h₃);
           spelled = (decides (tokens text) s).0 e;
           within = All-head h₅;
           known = All-head h₆;
@@ -156,7 +156,7 @@ module _ (lent : Lengths) (p : Plain) (text : List ℕ) where
 
   none-holds : (s : Sentence) → Acceptable lent p text s → All (λ c. c.1 ≡ false) (add_conditions lent p text (some s))
   none-holds s h =
-      cons h.lengths (cons (le-ltb most-text (length text) h.short) (cons refl (cons h.within
+      cons h.lengths (cons (le-ltb most_text (length text) h.short) (cons refl (cons h.within
       (cons h.known (cons h.fresh (cons h.counted (cons h.different (cons h.place nil))))))))
 
   its-sentence : (s : Sentence) → Acceptable lent p text s → sentence text ≡ some s
@@ -169,17 +169,17 @@ module _ (lent : Lengths) (p : Plain) (text : List ℕ) where
       (subst (λ o. All (λ c. c.1 ≡ false) (add_conditions lent p text o)) (sym (its-sentence s h)) (none-holds s h))
 
 -- a text is accepted exactly if no condition holds
-pub accepted-exactly-if : AcceptedExactlyIf
+pub accepted_exactly_if : AcceptedExactlyIf
 unfolding refusal
-accepted-exactly-if lent p text = (
+accepted_exactly_if lent p text = (
   (λ e. acceptable-of lent p text (sentence text) refl ((clear 0 (conditions lent p (add text)) (ascending lent p (add text))).0 e)),
   (λ h. not-refused lent p text h.0 h.1),
 )
 
 -- and then its statement is added
-pub accepted-is-added : AcceptedIsAdded
+pub accepted_is_added : AcceptedIsAdded
 unfolding added_text
-accepted-is-added lent p text s h =
+accepted_is_added lent p text s h =
     guard-done p refused (does p (add text)) (refusal lent p (add text)) (not-refused lent p text s h)
     ∙ ap (added_text p) (its-sentence lent p text s h)
 
@@ -188,7 +188,7 @@ accepted-is-added lent p text s h =
 -- a text: its sentence, and that no condition holds
 pub text-taken : (lent : Lengths) (p : Plain) (text : List ℕ) → refusal lent p (add text) ≡ 0 → (s : Sentence) × (sentence text ≡ some s) × Acceptable lent p text s
 text-taken lent p text e =
-    let (s, h) = (accepted-exactly-if lent p text).0 e in
+    let (s, h) = (accepted_exactly_if lent p text).0 e in
     (s, its-sentence lent p text s h, h)
 
 -- a question

@@ -43,11 +43,11 @@ module _ (c : ℕ) where
       ap (λ (t : List ℤ). take c l ++ t) (flat_rows n (drop c l)) ∙ sym (take-add c (n * c) l) ∙ ap (λ (k : ℕ). take k l) (sym (mul-suc n))
 
   -- each has c cells
-  pub rows-wide : (n : ℕ) (l : List ℤ) → n * c ≤ length l → All (λ (r : Row). length r ≡ c) (rows_in c n l)
-  rows-wide zero l h = nil
-  rows-wide (suc n) l h =
+  pub rows_wide : (n : ℕ) (l : List ℤ) → n * c ≤ length l → All (λ (r : Row). length r ≡ c) (rows_in c n l)
+  rows_wide zero l h = nil
+  rows_wide (suc n) l h =
       let q : suc n * c ≡ c + n * c = mul-suc n in
-      cons (length-take-le c l (omega arith)) (rows-wide n (drop c l) (simp length-drop (omega arith)))
+      cons (length-take-le c l (omega arith)) (rows_wide n (drop c l) (simp length-drop (omega arith)))
 
   -- rows of c cells are read back
   pub rows-flat : (rows : List Row) (rest : List ℤ) → All (λ (r : Row). length r ≡ c) rows → rows_in c (length rows) (flat rows ++ rest) ≡ rows

@@ -27,10 +27,10 @@ complement-twice le = refl
 complement-twice gt = refl
 complement-twice ge = refl
 
-pub opposite-twice : (p : Predicate) → opposite (opposite p) ≡ p
-opposite-twice (by o) = ap by (complement-twice o)
-opposite-twice is-null = refl
-opposite-twice is-not-null = refl
+pub opposite_twice : (p : Predicate) → opposite (opposite p) ≡ p
+opposite_twice (by o) = ap by (complement-twice o)
+opposite_twice is-null = refl
+opposite_twice is-not-null = refl
 
 -- of two numbers
 pub complement-negates : (o : Operator) (a b : ℤ) → related (complement o) a b ≡ not (related o a b)
@@ -46,14 +46,14 @@ not₃-known true = refl
 not₃-known false = refl
 
 -- the opposite has the negated truth, in three values
-pub opposite-negates : (p : Predicate) (a b : ℤ) → compared (opposite p) a b ≡ not₃ (compared p a b)
-opposite-negates (by o) a b = go (is_null a || is_null b)
+pub opposite_negates : (p : Predicate) (a b : ℤ) → compared (opposite p) a b ≡ not₃ (compared p a b)
+opposite_negates (by o) a b = go (is_null a || is_null b)
   where
     go : (n : Bool) → cond n unknown (known (related (complement o) a b)) ≡ not₃ (cond n unknown (known (related o a b)))
     go true = refl
     go false = ap known (complement-negates o a b) ∙ not₃-known (related o a b)
-opposite-negates is-null a b = not₃-known (is_null a)
-opposite-negates is-not-null a b = ap known (sym (not-not (is_null a))) ∙ not₃-known (not (is_null a))
+opposite_negates is-null a b = not₃-known (is_null a)
+opposite_negates is-not-null a b = ap known (sym (not-not (is_null a))) ∙ not₃-known (not (is_null a))
 
 -- ---- what NOT, AND and OR make true, and what they make false
 
@@ -102,7 +102,7 @@ module _ {O : Type 0} (v : O → ℤ) where
   pub clauses-polar : {l : Level} (p : Bool) (c : Condition O l) → any (meets v) (clauses p c) ≡ is_true (polar p (eval v c))
   clauses-polar true (compare c) = or-false (holds v c && true) ∙ and-true (holds v c)
   clauses-polar false (compare c) =
-      or-false (holds v (opposed c) && true) ∙ and-true (holds v (opposed c)) ∙ ap is_true (opposite-negates c.op (v c.left) (v c.right))
+      or-false (holds v (opposed c) && true) ∙ and-true (holds v (opposed c)) ∙ ap is_true (opposite_negates c.op (v c.left) (v c.right))
   clauses-polar true (negate c) = clauses-polar false c
   clauses-polar false (negate c) = clauses-polar true c ∙ sym (true-not false (eval v c))
   clauses-polar p (group c) = clauses-polar p c

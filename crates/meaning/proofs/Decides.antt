@@ -20,17 +20,17 @@ use Rattle.meaning.proofs.Readers.{some-none, some_same, either_first, either_se
 
 -- ---- soundness
 
-pub name-is : (t : Token) (n : Name) → name_of t ≡ some n → t ≡ name n
-name-is (keyword k) n e = some-none (sym e)
-name-is (name m) n e = ap name (some_same e)
-name-is (T.constant z) n e = some-none (sym e)
-name-is (operator o) n e = some-none (sym e)
-name-is T.mark n e = some-none (sym e)
-name-is comma n e = some-none (sym e)
-name-is lparen n e = some-none (sym e)
-name-is rparen n e = some-none (sym e)
-name-is dot n e = some-none (sym e)
-name-is other n e = some-none (sym e)
+pub name_is : (t : Token) (n : Name) → name_of t ≡ some n → t ≡ name n
+name_is (keyword k) n e = some-none (sym e)
+name_is (name m) n e = ap name (some_same e)
+name_is (T.constant z) n e = some-none (sym e)
+name_is (operator o) n e = some-none (sym e)
+name_is T.mark n e = some-none (sym e)
+name_is comma n e = some-none (sym e)
+name_is lparen n e = some-none (sym e)
+name_is rparen n e = some-none (sym e)
+name_is dot n e = some-none (sym e)
+name_is other n e = some-none (sym e)
 
 pub constant-is : (t : Token) (z : ℤ) → constant_of t ≡ some z → t ≡ T.constant z
 constant-is (keyword k) z e = some-none (sym e)
@@ -60,20 +60,20 @@ operator-is other o e = some-none (sym e)
 abbrev pub Exact : {A : Type 0} → (A → List Token → List Token) → Reader A → Type 0
 Exact sp r = Sound (λ ts. ts) sp r
 
-pub name-sound : Exact spell_name a_name
-name-sound = a_token-sound name_of name name-is
+pub name_sound : Exact spell_name a_name
+name_sound = a_token-sound name_of name name_is
 
 pub given-sound : Exact spell_given a_given
 given-sound = passing-sound (done-sound mark (λ ts. refl)) (bind-sound (a_token-sound constant_of T.constant constant-is) (λ z. done-sound _ (λ ts. refl)))
 
 pub dotted-sound : Exact spell_dotted a_dotted
-dotted-sound = bind-sound name-sound (λ t. expect-sound (bind-sound name-sound (λ c. done-sound _ (λ ts. refl))))
+dotted-sound = bind-sound name_sound (λ t. expect-sound (bind-sound name_sound (λ c. done-sound _ (λ ts. refl))))
 
 pub term-sound : {C : Type 0} {col : C → List Token → List Token} {a_column : Reader C} → Exact col a_column → Exact (spell_term col) (a_term a_column)
 term-sound s = either-sound (bind-sound s (λ n. done-sound _ (λ ts. refl))) (bind-sound given-sound (λ v. done-sound _ (λ ts. refl)))
 
 pub setting-sound : Exact spell_setting a_setting
-setting-sound = bind-sound name-sound (λ n. expect-sound (bind-sound given-sound (λ v. done-sound _ (λ ts. refl))))
+setting-sound = bind-sound name_sound (λ n. expect-sound (bind-sound given-sound (λ v. done-sound _ (λ ts. refl))))
 
 pub list-sound : {A : Type 0} {item : Reader A} {sp : A → List Token → List Token} → Exact sp item → (n : ℕ) → Exact (spell_list sp) (a_list item n)
 list-sound s zero = fails-sound
@@ -93,23 +93,23 @@ module _ {C : Type 0} {col : C → List Token → List Token} {a_column : Reader
   pub comparison-sound : Exact (spell_condition col) (a_comparison a_column)
   comparison-sound = bind-sound (term-sound s) (λ a. made-sound compare (λ c ts. refl) (behind-sound a))
 
-  pub condition-sound : (n : ℕ) (l : Level) → Exact (spell_condition col {l = l}) (a_condition a_column n l)
+  pub condition_sound : (n : ℕ) (l : Level) → Exact (spell_condition col {l = l}) (a_condition a_column n l)
   unfolding a_condition
-  condition-sound zero l = fails-sound
-  condition-sound (suc n) atom =
-      passing-sound (bind-sound (condition-sound n atom) (λ c. done-sound _ (λ ts. refl)))
-      (passing-sound (bind-sound (condition-sound n disjunction) (λ c. expect-sound (done-sound _ (λ ts. refl)))) comparison-sound)
-  condition-sound (suc n) conjunction =
-      bind-sound (condition-sound n atom) (λ c.
-      passing-sound (bind-sound (condition-sound n conjunction) (λ d. done-sound _ (λ ts. refl))) (done-sound _ (λ ts. refl)))
-  condition-sound (suc n) disjunction =
-      bind-sound (condition-sound n conjunction) (λ c.
-      passing-sound (bind-sound (condition-sound n disjunction) (λ d. done-sound _ (λ ts. refl))) (done-sound _ (λ ts. refl)))
+  condition_sound zero l = fails-sound
+  condition_sound (suc n) atom =
+      passing-sound (bind-sound (condition_sound n atom) (λ c. done-sound _ (λ ts. refl)))
+      (passing-sound (bind-sound (condition_sound n disjunction) (λ c. expect-sound (done-sound _ (λ ts. refl)))) comparison-sound)
+  condition_sound (suc n) conjunction =
+      bind-sound (condition_sound n atom) (λ c.
+      passing-sound (bind-sound (condition_sound n conjunction) (λ d. done-sound _ (λ ts. refl))) (done-sound _ (λ ts. refl)))
+  condition_sound (suc n) disjunction =
+      bind-sound (condition_sound n conjunction) (λ c.
+      passing-sound (bind-sound (condition_sound n disjunction) (λ d. done-sound _ (λ ts. refl))) (done-sound _ (λ ts. refl)))
 
   -- what the reader finds is spelled by the tokens that it was given
   pub sound-condition : (n : ℕ) (l : Level) (ts : List Token) (c : Tree (Test C) l) (more : List Token) → a_condition a_column n l ts ≡ some (c, more)
       → ts ≡ spell_condition col c more
-  sound-condition n l = sound-read (condition-sound n l)
+  sound-condition n l = sound-read (condition_sound n l)
 
 -- ROWS or RING
 abbrev pub spell_size : Bool → List Token → List Token
@@ -149,27 +149,27 @@ spell-ends (update t ss w) = ap (λ us. keyword UPDATE ∷ name t ∷ keyword SE
 spell-ends (delete t w) = ap (λ us. keyword DELETE ∷ keyword FROM ∷ name t ∷ us) (where-ends spell_name w)
 
 pub where-sound : {C : Type 0} {col : C → List Token → List Token} {a_column : Reader C} → Exact col a_column → (n : ℕ) → Exact (spell_where_to col) (a_where a_column n)
-where-sound s n = passing-sound (bind-sound (condition-sound s n disjunction) (λ c. done-sound _ (λ ts. refl))) (done-sound _ (λ ts. refl))
+where-sound s n = passing-sound (bind-sound (condition_sound s n disjunction) (λ c. done-sound _ (λ ts. refl))) (done-sound _ (λ ts. refl))
 
 pub sentence-sound : (n : ℕ) → Exact spell_to (a_sentence n)
 unfolding a_sentence
 sentence-sound n =
     passing-sound
-    (bind-sound name-sound (λ t. expect-sound (bind-sound (list-sound name-sound n) (λ cs. expect-sound (bind-sound size-sound (λ ring.
+    (bind-sound name_sound (λ t. expect-sound (bind-sound (list-sound name_sound n) (λ cs. expect-sound (bind-sound size-sound (λ ring.
     bind-sound (a_token-sound constant_of T.constant constant-is) (λ z. done-sound (table t cs ring z) (λ ts. refl))))))))
     (passing-sound
     (tested-sound is_paired
-    (bind-sound (list-sound dotted-sound n) (λ cs. expect-sound (bind-sound name-sound (λ t. expect-sound (bind-sound name-sound (λ u.
+    (bind-sound (list-sound dotted-sound n) (λ cs. expect-sound (bind-sound name_sound (λ t. expect-sound (bind-sound name_sound (λ u.
     bind-sound (where-sound dotted-sound n) (λ w. done-sound (pair cs t u w) (λ ts. refl))))))))
-    (bind-sound (list-sound name-sound n) (λ cs. expect-sound (bind-sound name-sound (λ t.
-    bind-sound (where-sound name-sound n) (λ w. done-sound (select cs t w) (λ ts. refl)))))))
+    (bind-sound (list-sound name_sound n) (λ cs. expect-sound (bind-sound name_sound (λ t.
+    bind-sound (where-sound name_sound n) (λ w. done-sound (select cs t w) (λ ts. refl)))))))
     (passing-sound
-    (expect-sound (bind-sound name-sound (λ t. expect-sound (expect-sound (bind-sound (list-sound given-sound n) (λ vs. expect-sound (done-sound (insert t vs) (λ ts. refl))))))))
+    (expect-sound (bind-sound name_sound (λ t. expect-sound (expect-sound (bind-sound (list-sound given-sound n) (λ vs. expect-sound (done-sound (insert t vs) (λ ts. refl))))))))
     (passing-sound
-    (bind-sound name-sound (λ t. expect-sound (bind-sound (list-sound setting-sound n) (λ ss.
-    bind-sound (where-sound name-sound n) (λ w. done-sound (update t ss w) (λ ts. refl))))))
+    (bind-sound name_sound (λ t. expect-sound (bind-sound (list-sound setting-sound n) (λ ss.
+    bind-sound (where-sound name_sound n) (λ w. done-sound (update t ss w) (λ ts. refl))))))
     (passing-sound
-    (expect-sound (bind-sound name-sound (λ t. bind-sound (where-sound name-sound n) (λ w. done-sound (delete t w) (λ ts. refl)))))
+    (expect-sound (bind-sound name_sound (λ t. bind-sound (where-sound name_sound n) (λ w. done-sound (delete t w) (λ ts. refl)))))
     fails-sound))))
 
 pub sound-sentence : (n : ℕ) (ts : List Token) (s : Sentence) (more : List Token) → a_sentence n ts ≡ some (s, more) → ts ≡ spell_to s more
@@ -230,7 +230,7 @@ pub record Column {C : Type 0} (col : C → List Token → List Token) (a_column
   pub back : (x : C) (more : List Token) → a_column (col x more) ≡ some (x, more)
   pub starts : (x : C) (more : List Token) → (n : Name) × (ts : List Token) × (col x more ≡ name n ∷ ts)
   pub long : (x : C) (more : List Token) → length more < length (col x more)
-  pub no-column : (v : Given) (more : List Token) → a_column (given_token v ∷ more) ≡ none
+  pub no_column : (v : Given) (more : List Token) → a_column (given_token v ∷ more) ≡ none
 
 module _ {C : Type 0} {col : C → List Token → List Token} {a_column : Reader C} (k : Column col a_column) where
   columns : Reader (Term C)
@@ -243,7 +243,7 @@ module _ {C : Type 0} {col : C → List Token → List Token} {a_column : Reader
   unfolding columns values
   term-complete (column n) more = either_first columns values (col n more) (column n, more) (then_some (λ (n : C). done (column n)) (k.back n more))
   term-complete (given v) more =
-      either_second columns values (given_token v ∷ more) (ap (λ o. then o (λ (n : C). done (column n))) (k.no-column v more))
+      either_second columns values (given_token v ∷ more) (ap (λ o. then o (λ (n : C). done (column n))) (k.no_column v more))
       ∙ then_some (λ (v : Given). done (given v)) (given-complete v more)
 
   -- an operand begins a comparison
@@ -357,7 +357,7 @@ bare = record {
   back = λ x more. refl;
   starts = λ x more. (x, more, refl);
   long = λ x more. le_refl (suc (length more));
-  no-column = λ v more. bare-none v more;
+  no_column = λ v more. bare-none v more;
 }
   where
     bare-none : (v : Given) (more : List Token) → a_name (given_token v ∷ more) ≡ none
@@ -369,7 +369,7 @@ dotted = record {
   back = λ x more. refl;
   starts = λ x more. (x.0, dot ∷ name x.1 ∷ more, refl);
   long = λ x more. omega arith;
-  no-column = λ v more. dotted-none v more;
+  no_column = λ v more. dotted-none v more;
 }
   where
     dotted-none : (v : Given) (more : List Token) → a_dotted (given_token v ∷ more) ≡ none

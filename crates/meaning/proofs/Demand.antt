@@ -1,49 +1,49 @@
 -- The claims of specs/Demand, all proved. Assumes nothing.
 use Rattle.meaning.specs.Demand.{Demands}
-use Rattle.meaning.proofs.Stream.{first-then-rest}
-use Rattle.meaning.proofs.Folding.{capitals-in-names, one_name, case-aside, names-folded}
-use Rattle.meaning.proofs.SameText.{same-tokens, same_text}
-use Rattle.meaning.proofs.Spelling.{has-text, keywords-remain}
-use Rattle.meaning.proofs.Numbering.{marks-numbered}
-use Rattle.meaning.proofs.Limits.{within-exactly-if}
-use Rattle.meaning.proofs.Accepted.{lowest-number, refused-changes-nothing, reads-exactly, one-sentence, accepted-exactly-if, accepted-is-added}
-use Rattle.meaning.proofs.Record.{record-reads-back}
-use Rattle.meaning.proofs.Within32.{answer-reads-back}
-use Rattle.meaning.proofs.Weakening.{patterns-weaken, pushed-weakens, answer-stays}
-use Rattle.meaning.proofs.Nulls.{null-unknown, others-known, three-values, takes-true, null-tests, opposites, null-tests-in-patterns, never_true}
-use Rattle.meaning.proofs.Outer.{no-pair-listed}
+use Rattle.meaning.proofs.Stream.{first_then_rest}
+use Rattle.meaning.proofs.Folding.{capitals_in_names, one_name, case_aside, names_folded}
+use Rattle.meaning.proofs.SameText.{same_tokens, same_text}
+use Rattle.meaning.proofs.Spelling.{has_text, keywords_remain}
+use Rattle.meaning.proofs.Numbering.{marks_numbered}
+use Rattle.meaning.proofs.Limits.{within_exactly_if}
+use Rattle.meaning.proofs.Accepted.{lowest_number, refused_changes_nothing, reads_exactly, one_sentence, accepted_exactly_if, accepted_is_added}
+use Rattle.meaning.proofs.Record.{record_reads_back}
+use Rattle.meaning.proofs.Within32.{answer_reads_back}
+use Rattle.meaning.proofs.Weakening.{patterns_weaken, pushed_weakens, answer_stays}
+use Rattle.meaning.proofs.Nulls.{null_unknown, others_known, three_values, takes_true, null_tests, opposites, null_tests_in_patterns, never_true}
+use Rattle.meaning.proofs.Outer.{no_pair_listed}
 
 pub demands : Demands
 demands = record {
-  lowest-number = lowest-number;
-  refused-changes-nothing = refused-changes-nothing;
-  reads-exactly = reads-exactly;
-  one-sentence = one-sentence;
-  first-then-rest = first-then-rest;
-  capitals-in-names = capitals-in-names;
+  lowest_number = lowest_number;
+  refused_changes_nothing = refused_changes_nothing;
+  reads_exactly = reads_exactly;
+  one_sentence = one_sentence;
+  first_then_rest = first_then_rest;
+  capitals_in_names = capitals_in_names;
   one_name = one_name;
-  case-aside = case-aside;
-  keywords-remain = keywords-remain;
-  names-folded = names-folded;
-  same-tokens = same-tokens;
+  case_aside = case_aside;
+  keywords_remain = keywords_remain;
+  names_folded = names_folded;
+  same_tokens = same_tokens;
   same_text = same_text;
-  has-text = has-text;
-  marks-numbered = marks-numbered;
-  within-exactly-if = within-exactly-if;
-  accepted-exactly-if = accepted-exactly-if;
-  accepted-is-added = accepted-is-added;
-  record-reads-back = record-reads-back;
-  answer-reads-back = answer-reads-back;
-  patterns-weaken = patterns-weaken;
-  pushed-weakens = pushed-weakens;
-  answer-stays = answer-stays;
-  null-unknown = null-unknown;
-  others-known = others-known;
-  three-values = three-values;
-  takes-true = takes-true;
-  null-tests = null-tests;
+  has_text = has_text;
+  marks_numbered = marks_numbered;
+  within_exactly_if = within_exactly_if;
+  accepted_exactly_if = accepted_exactly_if;
+  accepted_is_added = accepted_is_added;
+  record_reads_back = record_reads_back;
+  answer_reads_back = answer_reads_back;
+  patterns_weaken = patterns_weaken;
+  pushed_weakens = pushed_weakens;
+  answer_stays = answer_stays;
+  null_unknown = null_unknown;
+  others_known = others_known;
+  three_values = three_values;
+  takes_true = takes_true;
+  null_tests = null_tests;
   opposites = opposites;
-  null-tests-in-patterns = null-tests-in-patterns;
+  null_tests_in_patterns = null_tests_in_patterns;
   never_true = never_true;
-  no-pair-listed = no-pair-listed;
+  no_pair_listed = no_pair_listed;
 }

@@ -242,8 +242,8 @@ case-folded w h = go (all is_digit w) refl
     go true d = ap word (sym (digits_same w d))
     go false d = word-plain w d h ∙ sym (word_small w d)
 
-pub case-aside : CaseAside
-case-aside v w e hv hw = case-folded v hv ∙ ap word e ∙ sym (case-folded w hw)
+pub case_aside : CaseAside
+case_aside v w e hv hw = case-folded v hv ∙ ap word e ∙ sym (case-folded w hw)
 
 small-no-digit : (b : ℕ) → is_small b ≡ true → is_digit b ≡ false
 small-no-digit b e =
@@ -254,8 +254,8 @@ word-is-name : (b : ℕ) (w : List ℕ) → is_digit b ≡ false → is_keyword 
 word-is-name b w d k h =
     word-plain (b ∷ w) (ap (λ (x : Bool). x && all is_digit w) d) k ∙ ap (λ (x : Bool). cond x (name (folded (b ∷ w))) other) h
 
-pub capitals-in-names : CapitalsInNames
-capitals-in-names b w h l k =
+pub capitals_in_names : CapitalsInNames
+capitals_in_names b w h l k =
     let d : is_digit b ≡ false = sym (digit-folded b) ∙ small-no-digit (folded_byte b) (letter-folded b ∙ l) in
     word-is-name b w d k (name-begins b w (and_right (is_word_byte b) (all is_word_byte w) h) ∙ l)
 
@@ -305,5 +305,5 @@ is_named other = true
 pub word-named : (w : List ℕ) → is_named (word w) ≡ true
 word-named w = word-either (λ (t : Token). is_named t ≡ true) w (λ (z : ℤ). refl) (λ (k : Keyword). refl) (λ (h : is_name (folded w) ≡ true). h) refl
 
-pub names-folded : NamesFolded
-names-folded n = (λ h. (n, name-read n h), λ x. sym (ap is_named x.1) ∙ word-named x.0)
+pub names_folded : NamesFolded
+names_folded n = (λ h. (n, name-read n h), λ x. sym (ap is_named x.1) ∙ word-named x.0)

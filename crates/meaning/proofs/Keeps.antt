@@ -20,7 +20,7 @@ use Rattle.meaning.specs.Condition.{operands_in}
 use Rattle.meaning.specs.Statement as S
 use Rattle.meaning.specs.Statement.{Value, Operand, value, Second, Query, Change, insert, delete, update, Update, Statement, creates, asks, changes, statement_of}
 use Rattle.meaning.specs.Meaning.{Row, answer, changed}
-use Rattle.meaning.specs.Limits.{most-listed}
+use Rattle.meaning.specs.Limits.{most_listed}
 use Rattle.meaning.specs.Record.{encode}
 use Rattle.meaning.specs.Key.{Key}
 use Rattle.meaning.specs.Plain.{Lengths, Table, Plain, schemas, no_table, no_query, no_update, table_at, rows_over, rows_for, query_at, update_at, record_of, too_many, pushed, remaining, matches_key, add, change, other_lengths, ask_conditions, lowest_of, refusal, adding, added_text, changed_by, does}
@@ -52,7 +52,7 @@ record-stays : (p p' : Plain) (k : Key) → query_at p' k.query ≡ query_at p k
 unfolding record_of too_many
 record-stays p p' k q a = (
   ap (λ (q : Query). encode (length q.selected) (answer q k.values (rows_for p' q))) q ∙ ap (encode (length (query_at p k.query).selected)) a,
-  ap (λ (q : Query). ltb most-listed (length (answer q k.values (rows_for p' q)))) q ∙ ap (λ (l : List Row). ltb most-listed (length l)) a,
+  ap (λ (q : Query). ltb most_listed (length (answer q k.values (rows_for p' q)))) q ∙ ap (λ (l : List Row). ltb most_listed (length l)) a,
 )
 
 -- ---- adding
@@ -85,10 +85,10 @@ adding-keeps lent p k A (changes u) =
     (asked-still lent p (adding p (changes u)) k A refl A.there refl, record-stays p (adding p (changes u)) k refl refl)
 
 -- a text that is added leaves every question that could be asked, and its record
-pub add-keeps : (lent : Lengths) (p : Plain) (text : List ℕ) (k : Key) → lowest_of (ask_conditions lent p k) ≡ 0 → refusal lent p (add text) ≡ 0
+pub add_keeps : (lent : Lengths) (p : Plain) (text : List ℕ) (k : Key) → lowest_of (ask_conditions lent p k) ≡ 0 → refusal lent p (add text) ≡ 0
     → (lowest_of (ask_conditions lent (does p (add text)).0 k) ≡ 0) × SameAnswer (does p (add text)).0 p k
 unfolding added_text
-add-keeps lent p text k a h =
+add_keeps lent p text k a h =
     let T : (s : Sentence) × (sentence text ≡ some s) × Acceptable lent p text s = text-taken lent p text h in
     subst (λ (o : Option Sentence). Keeps lent p k (added_text p o).0) (sym T.1) (adding-keeps lent p k (key-asked lent p k a) (statement_of (schemas p) T.0))
 
@@ -118,32 +118,32 @@ module _ (stays : AnswerStays) (lent : Lengths) (p : Plain) (n : ℕ) (us : List
   t = table_at p u.table
 
   fits : (u.table < length p.tables) × FitsTable t.schema u.change
-  fits = All-at n no_update C.there W.updates-fit
+  fits = All-at n no_update C.there W.updates_fit
 
-  abbrev after-it : Table
-  after-it = record { schema = t.schema; rows = changed u.change us (remaining t u.change) }
+  abbrev after_it : Table
+  after_it = record { schema = t.schema; rows = changed u.change us (remaining t u.change) }
 
   -- the rows of a table after the update
-  abbrev rows-after : ℕ → List Row
-  rows-after i = (table_at (changed_by p n us) i).rows
+  abbrev rows_after : ℕ → List Row
+  rows_after i = (table_at (changed_by p n us) i).rows
 
-  other-table : (i : ℕ) → (i ≡ u.table → ⊥) → rows-after i ≡ (table_at p i).rows
+  other-table : (i : ℕ) → (i ≡ u.table → ⊥) → rows_after i ≡ (table_at p i).rows
   unfolding changed_by
-  other-table i ne = ap (λ (t : Table). t.rows) (get_or-set_other p.tables u.table i after-it no_table ne)
+  other-table i ne = ap (λ (t : Table). t.rows) (get_or-set_other p.tables u.table i after_it no_table ne)
 
-  same-table : (i : ℕ) → i ≡ u.table → rows-after i ≡ changed u.change us (remaining t u.change)
+  same_table : (i : ℕ) → i ≡ u.table → rows_after i ≡ changed u.change us (remaining t u.change)
   unfolding changed_by
-  same-table i e =
-      ap (λ (i : ℕ). (get_or (set p.tables u.table after-it) i no_table).rows) e
-      ∙ ap (λ (t : Table). t.rows) (get_or-set_same p.tables u.table after-it no_table fits.0)
+  same_table i e =
+      ap (λ (i : ℕ). (get_or (set p.tables u.table after_it) i no_table).rows) e
+      ∙ ap (λ (t : Table). t.rows) (get_or-set_same p.tables u.table after_it no_table fits.0)
 
   before : (i : ℕ) → i ≡ u.table → t.rows ≡ (table_at p i).rows
   before i e = ap (λ (i : ℕ). (table_at p i).rows) (sym e)
 
   within : All (ChangesWithin u.change) (remaining t u.change)
   within =
-      change-within (length t.schema.columns) t.schema u.change (remaining t u.change) refl fits.1 (All-at n no_update C.there W.updates-in).tested-in
-      (remaining-has t u.change (All-at u.table no_table fits.0 W.rows-wide))
+      change-within (length t.schema.columns) t.schema u.change (remaining t u.change) refl fits.1 (All-at n no_update C.there W.updates_in).tested_in
+      (remaining-has t u.change (All-at u.table no_table fits.0 W.rows_wide))
 
   first-is : q.table ≡ u.table → side_of q u ≡ first
   unfolding side_of
@@ -169,9 +169,9 @@ module _ (stays : AnswerStays) (lent : Lengths) (p : Plain) (n : ℕ) (us : List
   unfolding matches_key side_of
   answer-over none d f m = go (ℕ_discrete q.table u.table)
     where
-      go : Dec (q.table ≡ u.table) → answer q k.values (rows-after q.table) ≡ answer q k.values (table_at p q.table).rows
+      go : Dec (q.table ≡ u.table) → answer q k.values (rows_after q.table) ≡ answer q k.values (table_at p q.table).rows
       go (yes e) =
-          ap (answer q k.values) (same-table q.table e)
+          ap (answer q k.values) (same_table q.table e)
           ∙ stays-beside none first d (first-is e) refl m [] nil
           ∙ ap (answer q k.values) (before q.table e)
       go (no ne) = ap (answer q k.values) (other-table q.table ne)
@@ -192,29 +192,29 @@ module _ (stays : AnswerStays) (lent : Lengths) (p : Plain) (n : ℕ) (us : List
       start_is = ap second_start d
 
       wide : All (λ r. length r ≡ start_of q second) rows₁
-      wide = All-map (λ r h. h ∙ sym f.1 ∙ sym start_is) (All-at q.table no_table (All-at k.query no_query A.there W.queries-fit).there W.rows-wide)
+      wide = All-map (λ r h. h ∙ sym f.1 ∙ sym start_is) (All-at q.table no_table (All-at k.query no_query A.there W.queries_fit).there W.rows_wide)
 
       go : Dec (q.table ≡ u.table) → Dec (s.table ≡ u.table)
-          → answer q k.values (pairs (rows-after q.table) (rows-after s.table)) ≡ answer q k.values (pairs rows₁ rows₂)
+          → answer q k.values (pairs (rows_after q.table) (rows_after s.table)) ≡ answer q k.values (pairs rows₁ rows₂)
       go (yes e) (yes h) = absurd (f.2 (h ∙ sym e))
       go (yes e) (no ne) =
-          ap (answer q k.values) (ap₂ pairs (same-table q.table e) (other-table s.table ne))
+          ap (answer q k.values) (ap₂ pairs (same_table q.table e) (other-table s.table ne))
           ∙ stays-beside (some s) first d (first-is e) refl m rows₂ (All-every (λ o. tt) rows₂)
           ∙ ap (λ (l : List Row). answer q k.values (pairs l rows₂)) (before q.table e)
       go (no ne) (yes h) =
-          ap (answer q k.values) (ap₂ pairs (other-table q.table ne) (same-table s.table h))
+          ap (answer q k.values) (ap₂ pairs (other-table q.table ne) (same_table s.table h))
           ∙ stays-beside (some s) second d (second_is ne h) refl m rows₁ wide
           ∙ ap (λ (l : List Row). answer q k.values (pairs rows₁ l)) (before s.table h)
       go (no ne) (no nh) = ap (answer q k.values) (ap₂ pairs (other-table q.table ne) (other-table s.table nh))
 
-  answer-stays : matches_key p n us k ≡ false → answer q k.values (rows_for (changed_by p n us) q) ≡ answer q k.values (rows_for p q)
-  answer-stays m = answer-over q.second refl (All-at k.query no_query A.there W.pairs-fit) m
+  answer_stays : matches_key p n us k ≡ false → answer q k.values (rows_for (changed_by p n us) q) ≡ answer q k.values (rows_for p q)
+  answer_stays m = answer-over q.second refl (All-at k.query no_query A.there W.pairs_fit) m
 
   changed-keeps : (lowest_of (ask_conditions lent (changed_by p n us) k) ≡ 0) × (matches_key p n us k ≡ false → SameAnswer (changed_by p n us) p k)
   unfolding changed_by
-  changed-keeps = (asked-still lent p (changed_by p n us) k A refl A.there refl, λ m. record-stays p (changed_by p n us) k refl (answer-stays m))
+  changed-keeps = (asked-still lent p (changed_by p n us) k A refl A.there refl, λ m. record-stays p (changed_by p n us) k refl (answer_stays m))
 
 -- an update leaves every question that could be asked, and the record of each whose key it does not match
-pub change-keeps : AnswerStays → (lent : Lengths) (p : Plain) (n : ℕ) (us : List ℤ) (k : Key) → WellFormed p → lowest_of (ask_conditions lent p k) ≡ 0 → refusal lent p (change n us) ≡ 0
+pub change_keeps : AnswerStays → (lent : Lengths) (p : Plain) (n : ℕ) (us : List ℤ) (k : Key) → WellFormed p → lowest_of (ask_conditions lent p k) ≡ 0 → refusal lent p (change n us) ≡ 0
     → (lowest_of (ask_conditions lent (changed_by p n us) k) ≡ 0) × (matches_key p n us k ≡ false → SameAnswer (changed_by p n us) p k)
-change-keeps stays lent p n us k W a h = changed-keeps stays lent p n us k W (key-asked lent p k a) (update-taken lent p n us h)
+change_keeps stays lent p n us k W a h = changed-keeps stays lent p n us k W (key-asked lent p k a) (update-taken lent p n us h)

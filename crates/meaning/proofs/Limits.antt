@@ -17,7 +17,7 @@ use Rattle.meaning.specs.Condition.{comparisons_in, depth_in}
 use Rattle.meaning.specs.Tokens.{Name}
 use Rattle.meaning.specs.Grammar as G
 use Rattle.meaning.specs.Grammar.{Given, items, Dotted, Sentence}
-use Rattle.meaning.specs.Limits.{most-rows, most-name, rows_of, where_of, all_names, givens, mark_count, many_items, rows_outside, many_marks, many_comparisons, deep, long_name, is_within32, outside32, past_limit}
+use Rattle.meaning.specs.Limits.{most_rows, most_name, rows_of, where_of, all_names, givens, mark_count, many_items, rows_outside, many_marks, many_comparisons, deep, long_name, is_within32, outside32, past_limit}
 use Rattle.meaning.specs.Demand.{Between, list_lengths, RowsWithin, ConstantWithin, GivenWithin, WithinLimits, WithinExactlyIf}
 use Rattle.meaning.proofs.Resolved.{items-some}
 
@@ -33,7 +33,7 @@ most k n = (ltb-false k n, le-ltb k n)
 
 -- ---- numbers
 
-rows-within : (z : ℤ) → (not (le_z (pos 1) z && le_z z (pos most-rows)) ≡ false) ↔ RowsWithin z
+rows-within : (z : ℤ) → (not (le_z (pos 1) z && le_z z (pos most_rows)) ≡ false) ↔ RowsWithin z
 rows-within (pos n) = (
   (λ h.
       let k = not-false (leb 1 n && leb n 512) h in
@@ -104,11 +104,11 @@ within-if s h =
     let h₆ = or_right (deep s) _ h₅ in
     record {
       lists = (lists-within s).0 (or_left (many_items s) _ h);
-      rows = (none-all (λ (z : ℤ). not (le_z (pos 1) z && le_z z (pos most-rows))) rows-within (rows_of s)).0 (or_left (rows_outside s) _ h₂);
+      rows = (none-all (λ (z : ℤ). not (le_z (pos 1) z && le_z z (pos most_rows))) rows-within (rows_of s)).0 (or_left (rows_outside s) _ h₂);
       marks = (most 8 (mark_count (givens s))).0 (or_left (many_marks s) _ h₃);
       comparisons = (most 8 (length (comparisons_in (where_of s)))).0 (or_left (many_comparisons s) _ h₄);
       depth = (most 8 (depth_in (where_of s))).0 (or_left (deep s) _ h₅);
-      names = (none-all (λ (n : Name). ltb most-name (length n)) (λ n. most 12 (length n)) (all_names s)).0 (or_left (long_name s) _ h₆);
+      names = (none-all (λ (n : Name). ltb most_name (length n)) (λ n. most 12 (length n)) (all_names s)).0 (or_left (long_name s) _ h₆);
       constants = (none-all outside32 given-within (givens s)).0 (or_right (long_name s) _ h₆);
     }
 
@@ -116,12 +116,12 @@ if-within : (s : Sentence) → WithinLimits s → past_limit s ≡ false
 unfolding past_limit
 if-within s w =
     or-none (many_items s) _ ((lists-within s).1 w.lists)
-    (or-none (rows_outside s) _ ((none-all (λ (z : ℤ). not (le_z (pos 1) z && le_z z (pos most-rows))) rows-within (rows_of s)).1 w.rows)
+    (or-none (rows_outside s) _ ((none-all (λ (z : ℤ). not (le_z (pos 1) z && le_z z (pos most_rows))) rows-within (rows_of s)).1 w.rows)
     (or-none (many_marks s) _ ((most 8 (mark_count (givens s))).1 w.marks)
     (or-none (many_comparisons s) _ ((most 8 (length (comparisons_in (where_of s)))).1 w.comparisons)
     (or-none (deep s) _ ((most 8 (depth_in (where_of s))).1 w.depth)
-    (or-none (long_name s) _ ((none-all (λ (n : Name). ltb most-name (length n)) (λ n. most 12 (length n)) (all_names s)).1 w.names)
+    (or-none (long_name s) _ ((none-all (λ (n : Name). ltb most_name (length n)) (λ n. most 12 (length n)) (all_names s)).1 w.names)
     ((none-all outside32 given-within (givens s)).1 w.constants))))))
 
-pub within-exactly-if : WithinExactlyIf
-within-exactly-if s = (within-if s, if-within s)
+pub within_exactly_if : WithinExactlyIf
+within_exactly_if s = (within-if s, if-within s)

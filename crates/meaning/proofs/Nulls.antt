@@ -12,12 +12,12 @@ use Rattle.meaning.specs.Condition.{Comparison, sides, eval}
 use Rattle.meaning.specs.Meaning.{operand_value}
 use Rattle.meaning.specs.Pattern.{Joint, Clause, same, label, class, constants, differ, strict, never_of, false_of, broken, contradictory}
 use Rattle.meaning.specs.Demand.{NullUnknown, OthersKnown, ThreeValues, TakesTrue, NullTests, Opposites, NullTestsInPatterns, NeverTrue}
-use Rattle.meaning.proofs.Clauses.{opposite-twice, opposite-negates}
+use Rattle.meaning.proofs.Clauses.{opposite_twice, opposite_negates}
 
 -- ---- comparisons
 
-pub null-unknown : NullUnknown
-null-unknown o z = (refl, ap (λ (b : Bool). cond b unknown (known (related o z null))) (or-true (is_null z)))
+pub null_unknown : NullUnknown
+null_unknown o z = (refl, ap (λ (b : Bool). cond b unknown (known (related o z null))) (or-true (is_null z)))
 
 not_null : (z : ℤ) → z ≢ null → is_null z ≡ false
 not_null z n = go (is_null z) refl
@@ -26,17 +26,17 @@ not_null z n = go (is_null z) refl
     go true e = absurd (n (eq_z-true z null e))
     go false e = refl
 
-pub others-known : OthersKnown
-others-known o y z a b = ap₂ (λ (m n : Bool). cond (m || n) unknown (known (related o y z))) (not_null y a) (not_null z b)
+pub others_known : OthersKnown
+others_known o y z a b = ap₂ (λ (m n : Bool). cond (m || n) unknown (known (related o y z))) (not_null y a) (not_null z b)
 
-pub null-tests : NullTests
-null-tests z = (
+pub null_tests : NullTests
+null_tests z = (
   (eq_z-true z null, λ e. ap is_null e),
   ((λ h e. clash (ap is_null e) (not-true (is_null z) h)), (λ n. ap not (not_null z n))),
 )
 
 pub opposites : Opposites
-opposites = record { null-test = refl; twice-itself = opposite-twice; negates = opposite-negates }
+opposites = record { null_test = refl; twice_itself = opposite_twice; negates = opposite_negates }
 
 -- ---- the three values
 
@@ -50,8 +50,8 @@ unknown-true e = absurd (false≢true (ap is_true e))
 unknown-false : {X : Type 0} → unknown ≡ known false → X
 unknown-false e = absurd (false≢true (ap (λ (t : Truth). is_true (not₃ t)) e))
 
-pub three-values : ThreeValues
-three-values = record {
+pub three_values : ThreeValues
+three_values = record {
   not-true = not-is-true;
   not-false = not-is-false;
   and-true = and-is-true;
@@ -98,8 +98,8 @@ three-values = record {
     or-is-false unknown (known false) = ((λ h. (h, refl)), (λ h. h.0))
     or-is-false unknown unknown = ((λ h. (h, h)), (λ h. h.0))
 
-pub takes-true : TakesTrue
-takes-true c vs r = go (eval (operand_value r vs) c)
+pub takes_true : TakesTrue
+takes_true c vs r = go (eval (operand_value r vs) c)
   where
     go : (t : Truth) → (is_true t ≡ true) ↔ (t ≡ known true)
     go (known b) = (ap known, ap is_true)
@@ -107,13 +107,13 @@ takes-true c vs r = go (eval (operand_value r vs) c)
 
 -- ---- rule 6
 
-pub null-tests-in-patterns : NullTestsInPatterns
-null-tests-in-patterns cs x = record {
-  null-constant = λ z zs e. (
+pub null_tests_in_patterns : NullTestsInPatterns
+null_tests_in_patterns cs x = record {
+  null_constant = λ z zs e. (
     ap₂ (false_of is-null) e e,
     ap₂ (false_of is-not-null) e e ∙ not-not (is_null z),
   );
-  no-constant = λ e. (ap₂ (false_of is-null) e e, ap₂ (false_of is-not-null) e e);
+  no_constant = λ e. (ap₂ (false_of is-null) e e, ap₂ (false_of is-not-null) e e);
 }
 
 -- a comparison with an operand whose class holds the null constant

@@ -122,18 +122,18 @@ module _ {C : Type 0} (place : C → ℕ) where
 
 -- ---- statements
 
-pub marks-numbered : MarksNumbered
+pub marks_numbered : MarksNumbered
 unfolding statement_of
-marks-numbered ts (G.table t cs ring z) = tt
-marks-numbered ts (G.select cs t w) = where-marks (position (columns_of ts t)) 0 (mapped_in comparison w)
-marks-numbered ts (G.pair cs t u w) =
+marks_numbered ts (G.table t cs ring z) = tt
+marks_numbered ts (G.select cs t w) = where-marks (position (columns_of ts t)) 0 (mapped_in comparison w)
+marks_numbered ts (G.pair cs t u w) =
     where-marks (pair_place t (columns_of ts t) u (columns_of ts u)) 0 (mapped_in comparison w)
     ∙ ap (λ (vs : List Given). from 1 (mark_count vs)) (sym (bare-givens (mapped_in comparison w)))
-marks-numbered ts (G.insert t vs) = value-marks 0 (items vs) ∙ ap (from 1) (sym (ap mark_count (append-nil (items vs))))
-marks-numbered ts (G.update t ss w) =
+marks_numbered ts (G.insert t vs) = value-marks 0 (items vs) ∙ ap (from 1) (sym (ap mark_count (append-nil (items vs))))
+marks_numbered ts (G.update t ss w) =
     let n : ℕ = setting_marks (items ss) in
     let k : ℕ = mark_count (term_givens (operands_in (mapped_in comparison w))) in
     ap₂ ◌++◌ (set-marks (columns_of ts t) 0 (items ss)) (where-marks (position (columns_of ts t)) n (mapped_in comparison w) ∙ from-same (suc n) (1 + n) k k (omega arith) refl)
     ∙ sym (from-append 1 n k)
     ∙ ap (from 1) (sym (count-append (map (λ (s : Name × Given). s.1) (items ss)) (term_givens (operands_in (mapped_in comparison w)))))
-marks-numbered ts (G.delete t w) = where-marks (position (columns_of ts t)) 0 (mapped_in comparison w)
+marks_numbered ts (G.delete t w) = where-marks (position (columns_of ts t)) 0 (mapped_in comparison w)

@@ -481,5 +481,5 @@ module _ (q : Query) (s : Second) (vs : List ℤ) where
           ∙ sym
           (answer-append q vs (map (λ (o : Row). r ++ o) others) (pairs rows others) ∙ ap (λ l. l ++ answer q vs (pairs rows others)) (skipped r others (All-head w) e))
 
-pub no-pair-listed : NoPairListed
-no-pair-listed q s vs r others h wide = ap (answer q vs) (append-nil (map (λ (o : Row). r ++ o) others)) ∙ skipped q s vs r others wide h
+pub no_pair_listed : NoPairListed
+no_pair_listed q s vs r others h wide = ap (answer q vs) (append-nil (map (λ (o : Row). r ++ o) others)) ∙ skipped q s vs r others wide h

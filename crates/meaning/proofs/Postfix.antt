@@ -14,21 +14,21 @@ use Rattle.lists.proofs.Stacks.{regroup}
 use Rattle.meaning.specs.Operator.{is_true, compared}
 use Rattle.meaning.specs.Condition.{Comparison, Level, atom, conjunction, disjunction, Condition, compare, negate, group, alone, both, single, either, Where, always, under, comparisons, sides, comparisons_in, operands_in, holds, eval, eval_where, clauses, clauses_of}
 use Rattle.meaning.specs.Postfix.{Node, leaf, all_of, any_of, top, joined, signed, join_all, join_any, nodes, nodes_in, leaves, step_on, run_on, truth_of, clauses_of_nodes, balanced_on, is_postfix}
-use Rattle.meaning.proofs.Clauses.{opposite-negates, polar, true-not, true-and, true-or}
+use Rattle.meaning.proofs.Clauses.{opposite_negates, polar, true-not, true-and, true-or}
 
 -- ---- run on a stack
 
 module _ {O A : Type 0} (one : Comparison O → A) (all any : A → A → A) where
   -- a value of conditions (true) and of their negations (false) that is made of the parts' values as the nodes say
   pub record Folds (value : (l : Level) → Bool → Condition O l → A) : Type 0 where
-    pub at-compare : (p : Bool) (c : Comparison O) → value atom p (compare c) ≡ one (signed p c)
-    pub at-negate : (p : Bool) (c : Condition O atom) → value atom p (negate c) ≡ value atom (not p) c
-    pub at-group : (p : Bool) (c : Condition O disjunction) → value atom p (group c) ≡ value disjunction p c
-    pub at-alone : (p : Bool) (c : Condition O atom) → value conjunction p (alone c) ≡ value atom p c
+    pub at_compare : (p : Bool) (c : Comparison O) → value atom p (compare c) ≡ one (signed p c)
+    pub at_negate : (p : Bool) (c : Condition O atom) → value atom p (negate c) ≡ value atom (not p) c
+    pub at_group : (p : Bool) (c : Condition O disjunction) → value atom p (group c) ≡ value disjunction p c
+    pub at_alone : (p : Bool) (c : Condition O atom) → value conjunction p (alone c) ≡ value atom p c
     pub at_both : (p : Bool) (c : Condition O atom) (d : Condition O conjunction)
         → value conjunction p (both c d) ≡ cond p all any (value atom p c) (value conjunction p d)
-    pub at-single : (p : Bool) (c : Condition O conjunction) → value disjunction p (single c) ≡ value conjunction p c
-    pub at-either : (p : Bool) (c : Condition O conjunction) (d : Condition O disjunction)
+    pub at_single : (p : Bool) (c : Condition O conjunction) → value disjunction p (single c) ≡ value conjunction p c
+    pub at_either : (p : Bool) (c : Condition O conjunction) (d : Condition O disjunction)
         → value disjunction p (either c d) ≡ cond p any all (value conjunction p c) (value disjunction p d)
 
   step-all : (p : Bool) (a b : A) (st : List A) → step_on one all any (join_all p) (b ∷ a ∷ st) ≡ cond p all any a b ∷ st
@@ -53,19 +53,19 @@ module _ {O A : Type 0} (one : Comparison O → A) (all any : A → A → A) whe
     -- the nodes of a condition put its value on the stack
     pub run-nodes : {l : Level} (p : Bool) (c : Condition O l) (rest : List (Node O)) (st : List A)
         → run_on one all any (nodes p c ++ rest) st ≡ run_on one all any rest (value l p c ∷ st)
-    run-nodes p (compare c) rest st = ap (λ a. run rest (a ∷ st)) (sym (F.at-compare p c))
-    run-nodes p (negate c) rest st = run-nodes (not p) c rest st ∙ ap (λ a. run rest (a ∷ st)) (sym (F.at-negate p c))
-    run-nodes p (group c) rest st = run-nodes p c rest st ∙ ap (λ a. run rest (a ∷ st)) (sym (F.at-group p c))
-    run-nodes p (alone c) rest st = run-nodes p c rest st ∙ ap (λ a. run rest (a ∷ st)) (sym (F.at-alone p c))
+    run-nodes p (compare c) rest st = ap (λ a. run rest (a ∷ st)) (sym (F.at_compare p c))
+    run-nodes p (negate c) rest st = run-nodes (not p) c rest st ∙ ap (λ a. run rest (a ∷ st)) (sym (F.at_negate p c))
+    run-nodes p (group c) rest st = run-nodes p c rest st ∙ ap (λ a. run rest (a ∷ st)) (sym (F.at_group p c))
+    run-nodes p (alone c) rest st = run-nodes p c rest st ∙ ap (λ a. run rest (a ∷ st)) (sym (F.at_alone p c))
     run-nodes p (both c d) rest st =
         run-joined (nodes p c) (nodes p d) rest (join_all p) st (value atom p c) (value conjunction p d) (value conjunction p (both c d))
         (λ more s. run-nodes p c more s) (λ more s. run-nodes p d more s)
         (step-all p (value atom p c) (value conjunction p d) st ∙ ap (λ a. a ∷ st) (sym (F.at_both p c d)))
-    run-nodes p (single c) rest st = run-nodes p c rest st ∙ ap (λ a. run rest (a ∷ st)) (sym (F.at-single p c))
+    run-nodes p (single c) rest st = run-nodes p c rest st ∙ ap (λ a. run rest (a ∷ st)) (sym (F.at_single p c))
     run-nodes p (either c d) rest st =
         run-joined (nodes p c) (nodes p d) rest (join_any p) st (value conjunction p c) (value disjunction p d) (value disjunction p (either c d))
         (λ more s. run-nodes p c more s) (λ more s. run-nodes p d more s)
-        (step-any p (value conjunction p c) (value disjunction p d) st ∙ ap (λ a. a ∷ st) (sym (F.at-either p c d)))
+        (step-any p (value conjunction p c) (value disjunction p d) st ∙ ap (λ a. a ∷ st) (sym (F.at_either p c d)))
 
     -- so it is what lies on top after them
     pub top-nodes : {l : Level} (p : Bool) (c : Condition O l) (d : A) → top d (run_on one all any (nodes p c) []) ≡ value l p c
@@ -76,18 +76,18 @@ module _ {O A : Type 0} (one : Comparison O → A) (all any : A → A → A) whe
 module _ {O : Type 0} where
   holds-signed : (v : O → ℤ) (p : Bool) (c : Comparison O) → is_true (polar p (compared c.op (v c.left) (v c.right))) ≡ holds v (signed p c)
   holds-signed v true c = refl
-  holds-signed v false c = ap is_true (sym (opposite-negates c.op (v c.left) (v c.right)))
+  holds-signed v false c = ap is_true (sym (opposite_negates c.op (v c.left) (v c.right)))
 
   pub truth-folds : (v : O → ℤ) → Folds (holds v) ◌&&◌ ◌||◌ (λ l p c. is_true (polar p (eval v c)))
   truth-folds v =
       record {
-        at-compare = holds-signed v;
-        at-negate = λ p c. true-not p (eval v c);
-        at-group = λ p c. refl;
-        at-alone = λ p c. refl;
+        at_compare = holds-signed v;
+        at_negate = λ p c. true-not p (eval v c);
+        at_group = λ p c. refl;
+        at_alone = λ p c. refl;
         at_both = λ p c d. true-and p (eval v c) (eval v d);
-        at-single = λ p c. refl;
-        at-either = λ p c d. true-or p (eval v c) (eval v d);
+        at_single = λ p c. refl;
+        at_either = λ p c d. true-or p (eval v c) (eval v d);
       }
 
   -- the nodes of a condition are true exactly where it is
@@ -103,13 +103,13 @@ module _ {O : Type 0} where
   pub clauses-folds : Folds alternatives pairs ◌++◌ (λ l p c. clauses p c)
   clauses-folds =
       record {
-        at-compare = elim [ true ↦ λ c. refl | false ↦ λ c. refl ];
-        at-negate = elim [ true ↦ λ c. refl | false ↦ λ c. refl ];
-        at-group = elim [ true ↦ λ c. refl | false ↦ λ c. refl ];
-        at-alone = elim [ true ↦ λ c. refl | false ↦ λ c. refl ];
+        at_compare = elim [ true ↦ λ c. refl | false ↦ λ c. refl ];
+        at_negate = elim [ true ↦ λ c. refl | false ↦ λ c. refl ];
+        at_group = elim [ true ↦ λ c. refl | false ↦ λ c. refl ];
+        at_alone = elim [ true ↦ λ c. refl | false ↦ λ c. refl ];
         at_both = elim [ true ↦ λ c d. refl | false ↦ λ c d. refl ];
-        at-single = elim [ true ↦ λ c. refl | false ↦ λ c. refl ];
-        at-either = elim [ true ↦ λ c d. refl | false ↦ λ c d. refl ];
+        at_single = elim [ true ↦ λ c. refl | false ↦ λ c. refl ];
+        at_either = elim [ true ↦ λ c d. refl | false ↦ λ c d. refl ];
       }
 
   -- the nodes of a condition have its clauses, in their order
@@ -247,9 +247,9 @@ module _ {O : Type 0} where
       count-joined (nodes p c) (nodes p d) (join_any p) (comparisons c) (comparisons d) (nodes-count p c) (nodes-count p d)
 
   -- at most 15 nodes exactly if at most 8 comparisons
-  pub few-nodes : (w : Where O) → (length (nodes_in w) ≤ 15) ↔ (length (comparisons_in w) ≤ 8)
-  few-nodes always = ((λ h. omega arith), (λ h. omega arith))
-  few-nodes (under c) = ((λ h. omega (arith, nodes-count true c)), (λ h. omega (arith, nodes-count true c)))
+  pub few_nodes : (w : Where O) → (length (nodes_in w) ≤ 15) ↔ (length (comparisons_in w) ≤ 8)
+  few_nodes always = ((λ h. omega arith), (λ h. omega arith))
+  few_nodes (under c) = ((λ h. omega (arith, nodes-count true c)), (λ h. omega (arith, nodes-count true c)))
 
   -- ---- which lists of nodes they are
 

@@ -11,7 +11,7 @@ use Rattle.lists.specs.Tests.{dec_bytes, dec_z}
 use Rattle.lists.proofs.Bools.{yes_of, is-yes, is-no}
 use Rattle.meaning.specs.Operator.{Operator-discrete}
 use Rattle.meaning.specs.Tokens.{Token, Token-discrete, Keyword-discrete, same_token}
-use Rattle.meaning.specs.Grammar.{Reader, then, ◌>>=◌, ◌>>◌, done, fails, passing, either-of, a_token, expect}
+use Rattle.meaning.specs.Grammar.{Reader, then, ◌>>=◌, ◌>>◌, done, fails, passing, either_of, a_token, expect}
 
 -- ---- equality of tokens
 
@@ -77,11 +77,11 @@ module _ {A : Type 0} where
             (t, ap (λ r. t ∷ r.1) p, q ∙ ap (λ r. some r.0) p)
 
   module _ (r q : Reader A) (ts : List Token) where
-    pub either_first : (x : A × List Token) → r ts ≡ some x → either-of r q ts ≡ some x
-    either_first x e = rw (e, either-of)
+    pub either_first : (x : A × List Token) → r ts ≡ some x → either_of r q ts ≡ some x
+    either_first x e = rw (e, either_of)
 
-    pub either_second : r ts ≡ none → either-of r q ts ≡ q ts
-    either_second e = rw (e, either-of)
+    pub either_second : r ts ≡ none → either_of r q ts ≡ q ts
+    either_second e = rw (e, either_of)
 
 pub expect-here : (t : Token) (ts : List Token) → expect t (t ∷ ts) ≡ some (tt, ts)
 expect-here t ts = passing-yes t (done tt) fails ts
@@ -137,10 +137,10 @@ module _ {A : Type 0} {before : List Token → List Token} {sp : A → List Toke
       here [] = q.finds []
       here (u ∷ ts) = at u ts (same_token u t) refl
 
-  pub either-sound : {r q : Reader A} → Sound before sp r → Sound before sp q → Sound before sp (either-of r q)
+  pub either-sound : {r q : Reader A} → Sound before sp r → Sound before sp q → Sound before sp (either_of r q)
   either-sound {r} {q} s z = record { finds = λ ts. at ts (r ts) refl }
     where
-      at : (ts : List Token) (o : Option (A × List Token)) → r ts ≡ o → Spelled sp (either-of r q ts) (before ts)
+      at : (ts : List Token) (o : Option (A × List Token)) → r ts ≡ o → Spelled sp (either_of r q ts) (before ts)
       at ts none e = subst (λ x. Spelled sp x (before ts)) (sym (either_second r q ts e)) (z.finds ts)
       at ts (some x) e = subst (λ x. Spelled sp x (before ts)) (sym (either_first r q ts x e)) (subst (λ x. Spelled sp x (before ts)) e (s.finds ts))
 

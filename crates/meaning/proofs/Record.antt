@@ -15,7 +15,7 @@ use Rattle.lists.specs.Lists.{All, nil, cons, flat}
 use Rattle.lists.proofs.Bools.{and_left, and_right, and_both}
 use Rattle.lists.proofs.Lists.{All-append, All-head, All-tail, All-map}
 use Rattle.lists.proofs.Places.{All-at, flat-length}
-use Rattle.meaning.specs.Limits.{most-items, most-listed, is_within32}
+use Rattle.meaning.specs.Limits.{most_items, most_listed, is_within32}
 use Rattle.meaning.specs.Meaning.{Row}
 use Rattle.meaning.specs.Record.{bits_of, bytes4, bytes2, number_bytes, body, encode, four_at, row_count, row_bytes, is_record, has_row, row_part, number_of, numbers_of}
 use Rattle.meaning.specs.Demand.{ReadsBack, IsRow, RecordReadsBack}
@@ -54,7 +54,7 @@ four-back n h =
     let top : n / 256 / 256 / 256 % 256 ≡ n / 256 / 256 / 256 = omega arith in
     rw (b, c) (omega arith)
 
-two_back : (n : ℕ) → n ≤ most-listed → n / 256 % 256 * 256 + n % 256 ≡ n
+two_back : (n : ℕ) → n ≤ most_listed → n / 256 % 256 * 256 + n % 256 ≡ n
 two_back n h = omega arith
 
 -- the numbers of a row's bytes are those of the row
@@ -143,7 +143,7 @@ row-there c (r ∷ rs) later h (suc i) k =
     ∙ ap (drop (i * (4 * c))) (drop_at (number_bytes r) (number_bytes (flat rs) ++ later) (4 * c) l))
     ∙ row-there c rs later (All-tail h) i (omega arith)
 
-module _ (columns : ℕ) (rows : List Row) (later : List ℕ) (some : 1 ≤ columns) (few : columns ≤ most-items) (short : length rows ≤ most-listed) (are : All (IsRow columns) rows) where
+module _ (columns : ℕ) (rows : List Row) (later : List ℕ) (some : 1 ≤ columns) (few : columns ≤ most_items) (short : length rows ≤ most_listed) (are : All (IsRow columns) rows) where
   abbrev size : ℕ
   size = length (body columns rows)
 
@@ -164,7 +164,7 @@ module _ (columns : ℕ) (rows : List Row) (later : List ℕ) (some : 1 ≤ colu
   values-are : length (flat rows) ≡ length rows * columns
   values-are = flat-length columns rows wide
 
-  few-values : length rows * columns ≤ most-listed * most-items
+  few-values : length rows * columns ≤ most_listed * most_items
   few-values = mul-le-mul short few
 
   size_small : size < 2 ^ 32
@@ -191,8 +191,8 @@ module _ (columns : ℕ) (rows : List Row) (later : List ℕ) (some : 1 ≤ colu
   record_is =
       let t₇ : leb (four_at shape 0 + 4) (length shape) ≡ true = le-leb (four_at shape 0 + 4) (length shape) there in
       let t₆ : eqb (four_at shape 0) (row_count shape * row_bytes shape + 4) ≡ true = eq-eqb (four_at shape 0) (row_count shape * row_bytes shape + 4) size_is in
-      let t₅ : leb (row_count shape) most-listed ≡ true = le-leb (row_count shape) most-listed (subst (λ (k : ℕ). k ≤ most-listed) (sym rows_are) short) in
-      let t₄ : leb columns most-items ≡ true = le-leb columns most-items few in
+      let t₅ : leb (row_count shape) most_listed ≡ true = le-leb (row_count shape) most_listed (subst (λ (k : ℕ). k ≤ most_listed) (sym rows_are) short) in
+      let t₄ : leb columns most_items ≡ true = le-leb columns most_items few in
       let t₃ : leb 1 columns ≡ true = le-leb 1 columns some in
       let t₁ : leb 8 (length shape) ≡ true = le-leb 8 (length shape) (omega arith) in
       and_both _ _ t₁ (and_both _ _ refl (and_both _ _ t₃ (and_both _ _ t₄ (and_both _ _ t₅ (and_both _ _ t₆ t₇)))))
@@ -221,17 +221,17 @@ module _ (columns : ℕ) (rows : List Row) (later : List ℕ) (some : 1 ≤ colu
   shape-reads : ReadsBack shape columns rows
   shape-reads = record {
     is-record = record_is;
-    columns-are = refl;
+    columns_are = refl;
     rows_are = rows_are;
     shown = λ i h. (
       ap (λ (b : Bool). cond b 0 14) (row-yes i h),
       ap numbers_of (part-is i h) ∙ numbers-back (get_or rows i []) (All-at i [] h are).1,
     );
-    not-shown = λ i h. (ap (λ (b : Bool). cond b 0 14) (row-no i h), no_part i h);
+    not_shown = λ i h. (ap (λ (b : Bool). cond b 0 14) (row-no i h), no_part i h);
   }
 
 -- a record, with any bytes behind it, shows the rows that it was made of
-pub record-reads-back : RecordReadsBack
-record-reads-back columns rows later some few short are =
+pub record_reads_back : RecordReadsBack
+record_reads_back columns rows later some few short are =
     subst (λ (bs : List ℕ). ReadsBack bs columns rows) (sym (shape_is columns rows later some few short are))
     (shape-reads columns rows later some few short are)

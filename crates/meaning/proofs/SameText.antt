@@ -14,7 +14,7 @@ use Rattle.lists.specs.Lists.{bytes, all, take_while, drop_while}
 use Rattle.lists.proofs.Bools.{and_left, and_right}
 use Rattle.meaning.specs.Tokens.{Keyword, Token, other, is_digit, is_capital, is_word_byte, is_space, is_minus, folded_byte, folded, negative, signs, behind_prefix, sign_in, token_from, token_here, first_token, scan, tokens}
 use Rattle.meaning.specs.Grammar.{Sentence, read, sentence}
-use Rattle.meaning.specs.Limits.{most-text}
+use Rattle.meaning.specs.Limits.{most_text}
 use Rattle.meaning.specs.Plain.{other_lengths, add_conditions, lowest_of, refusal, refused, added_text, guard}
 use Rattle.meaning.specs.Demand.{keyword_of, SameTokens, SameText}
 use Rattle.meaning.proofs.Folding.{Capital, capital, no-capital, digit-folded, word-folded, all-folded, digits_same, chosen, chosen-same, word-chosen}
@@ -22,11 +22,11 @@ use Rattle.meaning.proofs.Stream.{from-word, from-minus, from-sign, sign-here, s
 
 -- ---- a text counts by its length and its tokens
 
-pub same-tokens : SameTokens
+pub same_tokens : SameTokens
 unfolding refusal
-same-tokens lent p text text' l e =
+same_tokens lent p text text' l e =
     ap (λ (s : Option Sentence). guard (lowest_of (add_conditions lent p text s)) p refused (added_text p s)) (ap read e)
-    ∙ ap (λ (n : ℕ). guard (lowest_of ((2, other_lengths lent p) ∷ (3, ltb most-text n) ∷ drop 2 (add_conditions lent p text (sentence text')))) p refused (added_text p (sentence text'))) l
+    ∙ ap (λ (n : ℕ). guard (lowest_of ((2, other_lengths lent p) ∷ (3, ltb most_text n) ∷ drop 2 (add_conditions lent p text (sentence text')))) p refused (added_text p (sentence text'))) l
 
 -- ---- bytes and runs of bytes in small letters
 
@@ -182,6 +182,6 @@ tokens-merged s =
 
 pub same_text : SameText
 same_text lent p text text' e k =
-    same-tokens lent p text text'
+    same_tokens lent p text text'
     (sym (length-map text folded_byte) ∙ ap length e ∙ length-map text' folded_byte)
     (tokens-merged text ∙ ap₂ (λ (ks : List (Option Keyword)) (s : List ℕ). merged ks (tokens s)) k e ∙ sym (tokens-merged text'))

@@ -153,8 +153,8 @@ word-text w = go (all is_digit w)
     go true = refl
     go false = text-or keywords spelled _ w (named (is_name (folded w)))
 
-pub keywords-remain : KeywordsRemain
-keywords-remain = All-map one (all_true is_spelled keywords spelled)
+pub keywords_remain : KeywordsRemain
+keywords_remain = All-map one (all_true is_spelled keywords spelled)
   where
     one : (k : String × Keyword) → is_spelled k ≡ true → (w : List ℕ) → (word w ≡ keyword k.1) ↔ (w ≡ bytes k.0)
     one k e w =
@@ -488,8 +488,8 @@ named-sentence (G.delete t w) = ap (λ (b : Bool). is_name t && b) (named-where 
 
 -- ---- the claim
 
-pub has-text : HasText
-has-text s = (
+pub has_text : HasText
+has_text s = (
   (λ h. (text_of (spell s), tokens-written (spell s) (named-sentence s ∙ h))),
   (λ x. sym (named-sentence s) ∙ ap (all is_named) (sym x.1) ∙ named-tokens x.0),
 )

@@ -127,8 +127,8 @@ tokens-some s t left e =
     let h = first-shorter s t left e in
     sym (scan-enough (suc (length s)) s (omega arith)) ∙ scan-some (length s) s t left e ∙ ap (λ ts. t ∷ ts) (scan-enough (length s) left (omega arith))
 
-pub first-then-rest : FirstThenRest
-first-then-rest s = go (first_token s) refl
+pub first_then_rest : FirstThenRest
+first_then_rest s = go (first_token s) refl
   where
     go : (o : Option (Token × List ℕ)) → first_token s ≡ o → tokens s ≡ tokens_from o
     go none e = tokens_none s e

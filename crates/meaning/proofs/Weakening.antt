@@ -21,7 +21,7 @@ use Rattle.meaning.specs.Condition.{Comparison, Level, Condition, compare, negat
 use Rattle.meaning.specs.Statement as S
 use Rattle.meaning.specs.Statement.{Value, parameter, Operand, value, Second, Query, Change, insert, delete, update, Update}
 use Rattle.meaning.specs.Meaning.{Row, cell, value_of, operand_value, meets_where, takes, selected, answer, new_row, assigned, changed}
-use Rattle.meaning.specs.Pattern.{differs, Side, neither, first, second, side_of, beside, matters_in, is_side, same_table, matters, second_start, start_of, operand_columns, columns_used, moved, touches, Joint, column, of_value, of_update, of_query, set_column, placed_from, replacing, Clause, query_clauses, update_clauses, both_clauses, joint_clauses, joint_count, most-clauses, contradictory, Entry-discrete, anything, same_entry, Pattern, pattern, clause_patterns, chosen, patterns, agrees, matches, removal, judged, matches_two}
+use Rattle.meaning.specs.Pattern.{differs, Side, neither, first, second, side_of, beside, matters_in, is_side, same_table, matters, second_start, start_of, operand_columns, columns_used, moved, touches, Joint, column, of_value, of_update, of_query, set_column, placed_from, replacing, Clause, query_clauses, update_clauses, both_clauses, joint_clauses, joint_count, most_clauses, contradictory, Entry-discrete, anything, same_entry, Pattern, pattern, clause_patterns, chosen, patterns, agrees, matches, removal, judged, matches_two}
 use Rattle.meaning.specs.Demand.{IsColumn, ChangesWithin, StandsBeside, PatternsWeaken, PushedWeakens, rows_beside, AnswerStays}
 use Rattle.meaning.proofs.Clauses.{clauses_of-mean, eval_where-replaced}
 use Rattle.meaning.proofs.Classes.{joint_value, not-contradictory, pattern-agrees}
@@ -319,9 +319,9 @@ matters-touches q qs s (update ss g) us r o w b h = go (touches k q (update ss g
 -- ---- the claims
 
 -- if the update matters through some row beside another, some pattern agrees with the query's values
-pub patterns-weaken : PatternsWeaken
+pub patterns_weaken : PatternsWeaken
 unfolding matters matches patterns
-patterns-weaken q qs u us r o n w b h =
+patterns_weaken q qs u us r o n w b h =
     let s = side_of q u in
     let k = start_of q s in
     let is = and_left (is_side s) (matters_in q qs s u.change us r o) h in
@@ -329,8 +329,8 @@ patterns-weaken q qs u us r o n w b h =
     let can : (is_side s && touches k q u.change) ≡ true =
     and_both (is_side s) (touches k q u.change) is (matters-touches q qs s u.change us r o w b through) in
     let met = joint-met q qs s u.change us r o w b through in
-    ap₂ (λ (b : Bool) (n : ℕ). any (agrees us qs) (chosen b (ltb most-clauses (joint_count q u.change)) n (joint_clauses k q u.change))) can (sym n)
-    ∙ chosen-agrees met.0 us qs (ltb most-clauses (joint_count q u.change)) (joint_clauses k q u.change) met.1
+    ap₂ (λ (b : Bool) (n : ℕ). any (agrees us qs) (chosen b (ltb most_clauses (joint_count q u.change)) n (joint_clauses k q u.change))) can (sym n)
+    ∙ chosen-agrees met.0 us qs (ltb most_clauses (joint_count q u.change)) (joint_clauses k q u.change) met.1
 
 -- the values of a row as constants are that row
 pub row-again : (us : List ℤ) (r : Row) → new_row (map S.constant r) us ≡ r
@@ -338,11 +338,11 @@ row-again us [] = refl
 row-again us (z ∷ r) = ap (λ (l : Row). z ∷ l) (row-again us r)
 
 -- if the question takes a row that is pushed out, a pattern that is worked out for it agrees
-pub pushed-weakens : PushedWeakens
+pub pushed_weakens : PushedWeakens
 unfolding matters
-pushed-weakens q qs t us r o n is b h =
+pushed_weakens q qs t us r o n is b h =
     let v : Update = removal t r in
-    patterns-weaken q qs v us [] o n tt b
+    patterns_weaken q qs v us [] o n tt b
     (and_both (same_table q v) (matters_in q qs (side_of q v) v.change us [] o) is (ap (λ (x : Row). takes q qs (beside (side_of q v) x o)) (row-again us r) ∙ h))
 
 -- ---- a change that shows nowhere: each row gives a list, and the lists stand one after another
@@ -504,7 +504,7 @@ unmatched-stays q qs u us rows others n w b is h = go q.second refl (side_of q u
     unmoved s e r o k j =
         let d : matters_in q qs (side_of q u) u.change us r o ≡ false =
         sym (ap (λ (b : Bool). b && matters_in q qs (side_of q u) u.change us r o) is)
-        ∙ contra (matters q qs u us r o) (matches q u us qs) (patterns-weaken q qs u us r o n k (subst (λ (s : Side). StandsBeside q s o) (sym e) j)) h in
+        ∙ contra (matters q qs u us r o) (matches q u us qs) (patterns_weaken q qs u us r o n k (subst (λ (s : Side). StandsBeside q s o) (sym e) j)) h in
         subst (λ (s : Side). matters_in q qs s u.change us r o ≡ false) e d
 
     go : (m : Option Second) → q.second ≡ m → (s : Side) → side_of q u ≡ s → All (StandsBeside q s) others
@@ -540,7 +540,7 @@ untaken q qs u us r o n is s e b h =
     let d : side_of q (removal u.table r) ≡ s = same-side q u r ∙ e in
     subst (λ (s : Side). takes q qs (beside s r o) ≡ false) d
     (contra (takes q qs (beside (side_of q (removal u.table r)) r o)) (matches q (removal u.table r) us qs)
-    (pushed-weakens q qs u.table us r o n (ap is_side (same-side q u r) ∙ is) (subst (λ (s : Side). StandsBeside q s o) (sym d) b)) h)
+    (pushed_weakens q qs u.table us r o n (ap is_side (same-side q u r) ∙ is) (subst (λ (s : Side). StandsBeside q s o) (sym d) b)) h)
 
 blocks-none : (f : Row → List Row) {out : List Row} (rows : List Row) → All (λ r. f r ≡ []) out → blocks f (out ++ rows) ≡ blocks f rows
 unfolding blocks
@@ -585,8 +585,8 @@ unmatched-unseen q qs u us out rows others n b is h = go q.second refl (side_of 
     go (some x) d second e b = second-unseen q qs out rows others (All-map (λ o j. All-map (λ r k. untaken q qs u us r o n is second e j k) h) b)
 
 -- where no pattern of the two agrees the answer stays
-pub answer-stays : AnswerStays
-answer-stays q qs u us out rows others n w b is h =
+pub answer_stays : AnswerStays
+answer_stays q qs u us out rows others n w b is h =
     let none : All (λ (v : Update). matches q v us qs ≡ false) (judged u out) = any_false (λ (v : Update). matches q v us qs) (judged u out) (sym (matches-two q u out us qs) ∙ h) in
     unmatched-stays q qs u us rows others n w b is (All-head none)
     ∙ sym (unmatched-unseen q qs u us out rows others n b is (All-source (removal u.table) out (All-tail none)))

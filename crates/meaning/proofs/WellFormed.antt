@@ -20,7 +20,7 @@ use Rattle.meaning.specs.Condition.{Where, always, operands_in, mapped_in}
 use Rattle.meaning.specs.Tokens.{Name}
 use Rattle.meaning.specs.Grammar as G
 use Rattle.meaning.specs.Grammar.{Given, Term, comparison, items, Dotted, Sentence, sentence}
-use Rattle.meaning.specs.Limits.{most-items, most-rows, most-marks, most-tables, most-queries, most-updates, list_columns, list_givens, givens, mark_count, columns_named, term_columns, many_items, rows_outside, many_marks, many_comparisons, deep, long_name, big_constant, past_limit}
+use Rattle.meaning.specs.Limits.{most_items, most_rows, most_marks, most_tables, most_queries, most_updates, list_columns, list_givens, givens, mark_count, columns_named, term_columns, many_items, rows_outside, many_marks, many_comparisons, deep, long_name, big_constant, past_limit}
 use Rattle.meaning.specs.Names.{Schema, no_schema, same_name, table_names, columns_of, has, position, pair_place, missing, unknown, miscounted, twice}
 use Rattle.meaning.specs.Statement.{Value, Operand, Second, Query, Change, insert, delete, update, Update, creates, asks, changes, numbered_all, settings, resolved_where, setting_marks, statement_of}
 use Rattle.meaning.specs.Meaning.{Row, new_row, value_of, meets_where, assigned, updated_row, changed}
@@ -48,10 +48,10 @@ tests (update ss g) = g
 
 -- a table within the limits
 pub record SchemaFits (t : Schema) : Type 0 where
-  pub some-columns : 1 ≤ length t.columns
-  pub few-columns : length t.columns ≤ most-items
-  pub some-rows : 1 ≤ t.capacity
-  pub few-rows : t.capacity ≤ most-rows
+  pub some_columns : 1 ≤ length t.columns
+  pub few_columns : length t.columns ≤ most_items
+  pub some_rows : 1 ≤ t.capacity
+  pub few_rows : t.capacity ≤ most_rows
 
 -- how many columns a query can name: those of its table, or of both
 abbrev pub width_over : List Table → Query → Option Second → ℕ
@@ -64,11 +64,11 @@ width_of ts q = width_over ts q q.second
 -- a query of one of n tables, within the limits, of so many columns
 pub record QueryFits (n : ℕ) (width : ℕ) (q : Query) : Type 0 where
   pub there : q.table < n
-  pub some-selected : 1 ≤ length q.selected
-  pub few-selected : length q.selected ≤ most-items
-  pub few-marks : q.parameters ≤ most-marks
-  pub selected-in : All (λ i. i < width) q.selected
-  pub tested-in : All (Within width) (operands_in q.condition)
+  pub some_selected : 1 ≤ length q.selected
+  pub few_selected : length q.selected ≤ most_items
+  pub few_marks : q.parameters ≤ most_marks
+  pub selected_in : All (λ i. i < width) q.selected
+  pub tested_in : All (Within width) (operands_in q.condition)
 
 -- the second table of a query is there, and its columns start behind those of the first
 abbrev pub SecondFits : List Table → Query → Option Second → Type 0
@@ -80,39 +80,39 @@ PairFits ts q = SecondFits ts q q.second
 
 -- an update within the limits; t is its table
 pub record UpdateFits (t : Schema) (u : Update) : Type 0 where
-  pub few-marks : u.parameters ≤ most-marks
-  pub tested-in : All (Within (length t.columns)) (operands_in (tests u.change))
+  pub few_marks : u.parameters ≤ most_marks
+  pub tested_in : All (Within (length t.columns)) (operands_in (tests u.change))
 
 pub record WellFormed (p : Plain) : Type 0 where
   -- a row has its table's columns, and a table no more rows than its ROWS or RING
-  pub rows-wide : All (λ (t : Table). All (λ (r : Row). length r ≡ length t.schema.columns) t.rows) p.tables
+  pub rows_wide : All (λ (t : Table). All (λ (r : Row). length r ≡ length t.schema.columns) t.rows) p.tables
   pub rows_few : All (λ (t : Table). length t.rows ≤ t.schema.capacity) p.tables
   -- an update's table is there and its change fits it
-  pub updates-fit : All (λ (u : Update). (u.table < length p.tables) × FitsTable (table_at p u.table).schema u.change) p.updates
-  pub updates-in : All (λ (u : Update). UpdateFits (table_at p u.table).schema u) p.updates
-  pub queries-fit : All (λ (q : Query). QueryFits (length p.tables) (width_of p.tables q) q) p.queries
-  pub pairs-fit : All (PairFits p.tables) p.queries
-  pub tables-fit : All (λ (t : Table). SchemaFits t.schema) p.tables
+  pub updates_fit : All (λ (u : Update). (u.table < length p.tables) × FitsTable (table_at p u.table).schema u.change) p.updates
+  pub updates_in : All (λ (u : Update). UpdateFits (table_at p u.table).schema u) p.updates
+  pub queries_fit : All (λ (q : Query). QueryFits (length p.tables) (width_of p.tables q) q) p.queries
+  pub pairs_fit : All (PairFits p.tables) p.queries
+  pub tables_fit : All (λ (t : Table). SchemaFits t.schema) p.tables
   -- the areas are within the lent cells
-  pub areas-fit : areas_size (schemas p) ≤ p.lengths.cells
-  pub few-tables : length p.tables ≤ most-tables
-  pub few-queries : length p.queries ≤ most-queries
-  pub few-updates : length p.updates ≤ most-updates
+  pub areas_fit : areas_size (schemas p) ≤ p.lengths.cells
+  pub few_tables : length p.tables ≤ most_tables
+  pub few_queries : length p.queries ≤ most_queries
+  pub few_updates : length p.updates ≤ most_updates
 
 -- an opened store is well-formed
 pub opened-well : (o : Opening) → WellFormed (opened o)
 opened-well o = record {
-  rows-wide = nil;
+  rows_wide = nil;
   rows_few = nil;
-  updates-fit = nil;
-  updates-in = nil;
-  queries-fit = nil;
-  pairs-fit = nil;
-  tables-fit = nil;
-  areas-fit = omega arith;
-  few-tables = omega arith;
-  few-queries = omega arith;
-  few-updates = omega arith;
+  updates_fit = nil;
+  updates_in = nil;
+  queries_fit = nil;
+  pairs_fit = nil;
+  tables_fit = nil;
+  areas_fit = omega arith;
+  few_tables = omega arith;
+  few_queries = omega arith;
+  few_updates = omega arith;
 }
 
 -- ---- what stays when tables come, or change their rows
@@ -153,11 +153,11 @@ module _ (p p' : Plain) (g : Grows p p') where
       let e : width_of p.tables q ≡ width_of p'.tables q = width-grows q q.second f.there two in
       record {
         there = (g q.table f.there).0;
-        some-selected = f.some-selected;
-        few-selected = f.few-selected;
-        few-marks = f.few-marks;
-        selected-in = subst (λ (n : ℕ). All (λ i. i < n) q.selected) e f.selected-in;
-        tested-in = subst (λ (n : ℕ). All (Within n) (operands_in q.condition)) e f.tested-in;
+        some_selected = f.some_selected;
+        few_selected = f.few_selected;
+        few_marks = f.few_marks;
+        selected_in = subst (λ (n : ℕ). All (λ i. i < n) q.selected) e f.selected_in;
+        tested_in = subst (λ (n : ℕ). All (Within n) (operands_in q.condition)) e f.tested_in;
       }
 
   queries-grow : {qs : List Query} → All (Reads p) qs → All (PairFits p.tables) qs → All (Reads p') qs
@@ -176,32 +176,32 @@ module _ (s : Sentence) (h : past_limit s ≡ false) where
   abbrev past₃ : Bool
   past₃ = many_comparisons s || (deep s || (long_name s || big_constant s))
 
-  items-few : many_items s ≡ false
+  items_few : many_items s ≡ false
   unfolding past_limit
-  items-few = or_left (many_items s) (rows_outside s || (many_marks s || past₃)) h
+  items_few = or_left (many_items s) (rows_outside s || (many_marks s || past₃)) h
 
-  few-listed : length (list_columns s) ≤ most-items
-  few-listed = ltb-false most-items (length (list_columns s)) (or_left (ltb most-items (length (list_columns s))) (ltb most-items (length (list_givens s))) items-few)
+  few-listed : length (list_columns s) ≤ most_items
+  few-listed = ltb-false most_items (length (list_columns s)) (or_left (ltb most_items (length (list_columns s))) (ltb most_items (length (list_givens s))) items_few)
 
   rows_inside : rows_outside s ≡ false
   unfolding past_limit
   rows_inside = or_left (rows_outside s) (many_marks s || past₃) (or_right (many_items s) (rows_outside s || (many_marks s || past₃)) h)
 
-  marks-few : mark_count (givens s) ≤ most-marks
+  marks_few : mark_count (givens s) ≤ most_marks
   unfolding past_limit
-  marks-few =
-      ltb-false most-marks (mark_count (givens s))
+  marks_few =
+      ltb-false most_marks (mark_count (givens s))
       (or_left (many_marks s) past₃ (or_right (rows_outside s) (many_marks s || past₃) (or_right (many_items s) (rows_outside s || (many_marks s || past₃)) h)))
 
-rows-between : (z : ℤ) → le_z (pos 1) z ≡ true → le_z z (pos most-rows) ≡ true → (1 ≤ nat_abs z) × (nat_abs z ≤ most-rows)
-rows-between (pos n) h k = (leb-true 1 n h, leb-true n most-rows k)
+rows-between : (z : ℤ) → le_z (pos 1) z ≡ true → le_z z (pos most_rows) ≡ true → (1 ≤ nat_abs z) × (nat_abs z ≤ most_rows)
+rows-between (pos n) h k = (leb-true 1 n h, leb-true n most_rows k)
 rows-between (negsuc n) h k = clash h refl
 
-capacity-fits : (z : ℤ) → any (λ (z : ℤ). not (le_z (pos 1) z && le_z z (pos most-rows))) (z ∷ []) ≡ false → (1 ≤ nat_abs z) × (nat_abs z ≤ most-rows)
+capacity-fits : (z : ℤ) → any (λ (z : ℤ). not (le_z (pos 1) z && le_z z (pos most_rows))) (z ∷ []) ≡ false → (1 ≤ nat_abs z) × (nat_abs z ≤ most_rows)
 capacity-fits z h =
-    let e : (le_z (pos 1) z && le_z z (pos most-rows)) ≡ true =
-    not-false (le_z (pos 1) z && le_z z (pos most-rows)) (or_left (not (le_z (pos 1) z && le_z z (pos most-rows))) false h) in
-    rows-between z (and_left (le_z (pos 1) z) (le_z z (pos most-rows)) e) (and_right (le_z (pos 1) z) (le_z z (pos most-rows)) e)
+    let e : (le_z (pos 1) z && le_z z (pos most_rows)) ≡ true =
+    not-false (le_z (pos 1) z && le_z z (pos most_rows)) (or_left (not (le_z (pos 1) z && le_z z (pos most_rows))) false h) in
+    rows-between z (and_left (le_z (pos 1) z) (le_z z (pos most_rows)) e) (and_right (le_z (pos 1) z) (le_z z (pos most_rows)) e)
 
 -- ---- a table and columns that are known
 
@@ -239,65 +239,65 @@ module _ (p : Plain) (W : WellFormed p) where
     grows-table : Grows p (adding p (creates t))
     grows-table i h = (omega (arith, length-append p.tables (new ∷ [])), ap (λ (t : Table). t.schema) (get_or-append p.tables (new ∷ []) no_table i h))
 
-    table-well : SchemaFits t → length p.tables < most-tables → areas_size (schemas p) + area_size t ≤ p.lengths.cells → WellFormed (adding p (creates t))
+    table-well : SchemaFits t → length p.tables < most_tables → areas_size (schemas p) + area_size t ≤ p.lengths.cells → WellFormed (adding p (creates t))
     table-well f room area = record {
-      rows-wide = All-append W.rows-wide (cons nil nil);
+      rows_wide = All-append W.rows_wide (cons nil nil);
       rows_few = All-append W.rows_few (cons (omega arith) nil);
-      updates-fit = fits-grows p (adding p (creates t)) grows-table W.updates-fit;
-      updates-in = limits-grow p (adding p (creates t)) grows-table W.updates-fit W.updates-in;
-      queries-fit = queries-grow p (adding p (creates t)) grows-table W.queries-fit W.pairs-fit;
-      pairs-fit = pairs-grow p (adding p (creates t)) grows-table W.queries-fit W.pairs-fit;
-      tables-fit = All-append W.tables-fit (cons f nil);
-      areas-fit =
+      updates_fit = fits-grows p (adding p (creates t)) grows-table W.updates_fit;
+      updates_in = limits-grow p (adding p (creates t)) grows-table W.updates_fit W.updates_in;
+      queries_fit = queries-grow p (adding p (creates t)) grows-table W.queries_fit W.pairs_fit;
+      pairs_fit = pairs-grow p (adding p (creates t)) grows-table W.queries_fit W.pairs_fit;
+      tables_fit = All-append W.tables_fit (cons f nil);
+      areas_fit =
           subst (λ (k : ℕ). k ≤ p.lengths.cells)
           (sym (ap areas_size (map-append (λ (t : Table). t.schema) p.tables (new ∷ [])) ∙ areas-append (schemas p) t)) area;
-      few-tables = one_more p.tables new most-tables room;
-      few-queries = W.few-queries;
-      few-updates = W.few-updates;
+      few_tables = one_more p.tables new most_tables room;
+      few_queries = W.few_queries;
+      few_updates = W.few_updates;
     }
 
-  query-well : (q : Query) → Reads p q → PairFits p.tables q → length p.queries < most-queries → WellFormed (adding p (asks q))
+  query-well : (q : Query) → Reads p q → PairFits p.tables q → length p.queries < most_queries → WellFormed (adding p (asks q))
   query-well q f two room = record {
-    rows-wide = W.rows-wide;
+    rows_wide = W.rows_wide;
     rows_few = W.rows_few;
-    updates-fit = W.updates-fit;
-    updates-in = W.updates-in;
-    queries-fit = All-append W.queries-fit (cons f nil);
-    pairs-fit = All-append W.pairs-fit (cons two nil);
-    tables-fit = W.tables-fit;
-    areas-fit = W.areas-fit;
-    few-tables = W.few-tables;
-    few-queries = one_more p.queries q most-queries room;
-    few-updates = W.few-updates;
+    updates_fit = W.updates_fit;
+    updates_in = W.updates_in;
+    queries_fit = All-append W.queries_fit (cons f nil);
+    pairs_fit = All-append W.pairs_fit (cons two nil);
+    tables_fit = W.tables_fit;
+    areas_fit = W.areas_fit;
+    few_tables = W.few_tables;
+    few_queries = one_more p.queries q most_queries room;
+    few_updates = W.few_updates;
   }
 
-  update-well : (u : Update) → Fits p u → Limited p u → length p.updates < most-updates → WellFormed (adding p (changes u))
+  update-well : (u : Update) → Fits p u → Limited p u → length p.updates < most_updates → WellFormed (adding p (changes u))
   update-well u f e room = record {
-    rows-wide = W.rows-wide;
+    rows_wide = W.rows_wide;
     rows_few = W.rows_few;
-    updates-fit = All-append W.updates-fit (cons f nil);
-    updates-in = All-append W.updates-in (cons e nil);
-    queries-fit = W.queries-fit;
-    pairs-fit = W.pairs-fit;
-    tables-fit = W.tables-fit;
-    areas-fit = W.areas-fit;
-    few-tables = W.few-tables;
-    few-queries = W.few-queries;
-    few-updates = one_more p.updates u most-updates room;
+    updates_fit = All-append W.updates_fit (cons f nil);
+    updates_in = All-append W.updates_in (cons e nil);
+    queries_fit = W.queries_fit;
+    pairs_fit = W.pairs_fit;
+    tables_fit = W.tables_fit;
+    areas_fit = W.areas_fit;
+    few_tables = W.few_tables;
+    few_queries = W.few_queries;
+    few_updates = one_more p.updates u most_updates room;
   }
 
   -- the statement of a text that is not refused
   statement-well : (lent : Lengths) (text : List ℕ) (s : Sentence) → Acceptable lent p text s → WellFormed (adding p (statement_of (schemas p) s))
   unfolding statement_of unknown miscounted twice no_place
   statement-well lent text (G.table t cs ring z) T =
-      let size : (1 ≤ nat_abs z) × (nat_abs z ≤ most-rows) = capacity-fits z (rows_inside (G.table t cs ring z) T.within) in
-      let full : leb most-tables (length p.tables) ≡ false = or_left (leb most-tables (length p.tables)) (ltb (cells_left p) (length (items cs) * nat_abs z)) T.place in
-      let few : ltb (cells_left p) (length (items cs) * nat_abs z) ≡ false = or_right (leb most-tables (length p.tables)) (ltb (cells_left p) (length (items cs) * nat_abs z)) T.place in
+      let size : (1 ≤ nat_abs z) × (nat_abs z ≤ most_rows) = capacity-fits z (rows_inside (G.table t cs ring z) T.within) in
+      let full : leb most_tables (length p.tables) ≡ false = or_left (leb most_tables (length p.tables)) (ltb (cells_left p) (length (items cs) * nat_abs z)) T.place in
+      let few : ltb (cells_left p) (length (items cs) * nat_abs z) ≡ false = or_right (leb most_tables (length p.tables)) (ltb (cells_left p) (length (items cs) * nat_abs z)) T.place in
       let left : length (items cs) * nat_abs z ≤ p.lengths.cells - areas_size (schemas p) = ltb-false (cells_left p) (length (items cs) * nat_abs z) few in
-      let fit : areas_size (schemas p) ≤ p.lengths.cells = W.areas-fit in
+      let fit : areas_size (schemas p) ≤ p.lengths.cells = W.areas_fit in
       table-well (record { name = t; columns = items cs; capacity = nat_abs z; ring = ring })
-      (record { some-columns = items-some cs; few-columns = few-listed (G.table t cs ring z) T.within; some-rows = size.0; few-rows = size.1 })
-      (leb-false most-tables (length p.tables) full)
+      (record { some_columns = items-some cs; few_columns = few-listed (G.table t cs ring z) T.within; some_rows = size.0; few_rows = size.1 })
+      (leb-false most_tables (length p.tables) full)
       (omega arith)
   statement-well lent text (G.select cs t w) T =
       let s : Sentence = G.select cs t w in
@@ -310,16 +310,16 @@ module _ (p : Plain) (W : WellFormed p) where
       query-well (record { table = n; second = none; selected = map (position C) (items cs); condition = resolved_where (position C) 0 x; parameters = mark_count (givens s) })
       (record {
         there = known-table p t (columns_named s) T.known;
-        some-selected = omega (arith, items-some cs);
-        few-selected = omega (arith, few-listed s T.within);
-        few-marks = marks-few s T.within;
-        selected-in = subst (λ (t : Schema). All (λ i. i < length t.columns) (map (position C) (items cs))) e
+        some_selected = omega (arith, items-some cs);
+        few_selected = omega (arith, few-listed s T.within);
+        few_marks = marks_few s T.within;
+        selected_in = subst (λ (t : Schema). All (λ i. i < length t.columns) (map (position C) (items cs))) e
             (selected-inside C (items cs) (All-left (items cs) (term_columns (operands_in x)) known));
-        tested-in = subst (λ (t : Schema). All (Within (length t.columns)) (operands_in (resolved_where (position C) 0 x))) e
+        tested_in = subst (λ (t : Schema). All (Within (length t.columns)) (operands_in (resolved_where (position C) 0 x))) e
             (tested-inside (position C) (length C) 0 x (All-right (items cs) known));
       })
       tt
-      (leb-false most-queries (length p.queries) T.place)
+      (leb-false most_queries (length p.queries) T.place)
   statement-well lent text (G.pair cs t u w) T =
       let s : Sentence = G.pair cs t u w in
       let x : Where (Term Dotted) = mapped_in comparison w in
@@ -339,7 +339,7 @@ module _ (p : Plain) (W : WellFormed p) where
       ap₂ (λ (x y : Schema). length x.columns + length y.columns) (schema-at p n) (schema-at p m) in
       let l : length (map place (items cs)) ≡ length (items cs) = length-map (items cs) place in
       let differ : t ≡ u → ⊥ = λ e. clash (subst (λ (v : Name). same_name t v ≡ true) e (same-name t)) T.different in
-      let few : length (map (λ (c : Dotted). c.1) (items cs)) ≤ most-items = few-listed s T.within in
+      let few : length (map (λ (c : Dotted). c.1) (items cs)) ≤ most_items = few-listed s T.within in
       query-well (record {
         table = n;
         second = some (record { table = m; start = length C });
@@ -349,11 +349,11 @@ module _ (p : Plain) (W : WellFormed p) where
       })
       (record {
         there = there₁;
-        some-selected = omega (arith, items-some cs);
-        few-selected = omega (arith, few, length-map (items cs) (λ (c : Dotted). c.1));
-        few-marks = marks-few s T.within;
-        selected-in = subst (λ (n : ℕ). All (λ i. i < n) (map place (items cs))) e (All-image place (All-left (items cs) (term_columns (operands_in x)) known));
-        tested-in = subst (λ (n : ℕ). All (Within n) (operands_in (resolved_where place 0 x))) e (tested-inside place (length C + length D) 0 x (All-right (items cs) known));
+        some_selected = omega (arith, items-some cs);
+        few_selected = omega (arith, few, length-map (items cs) (λ (c : Dotted). c.1));
+        few_marks = marks_few s T.within;
+        selected_in = subst (λ (n : ℕ). All (λ i. i < n) (map place (items cs))) e (All-image place (All-left (items cs) (term_columns (operands_in x)) known));
+        tested_in = subst (λ (n : ℕ). All (Within n) (operands_in (resolved_where place 0 x))) e (tested-inside place (length C + length D) 0 x (All-right (items cs) known));
       }) (
         there₂,
         ap (λ (t : Schema). length t.columns) (schema-at p n),
@@ -362,7 +362,7 @@ module _ (p : Plain) (W : WellFormed p) where
             ∙ ap (λ (i : ℕ). get_or (table_names (schemas p)) i []) (sym q)
             ∙ position-is (table_names (schemas p)) u [] (not-false (has (table_names (schemas p)) u) k₂)),
       )
-      (leb-false most-queries (length p.queries) T.place)
+      (leb-false most_queries (length p.queries) T.place)
   statement-well lent text (G.insert t vs) T =
       let s : Sentence = G.insert t vs in
       let n : ℕ = position (table_names (schemas p)) t in
@@ -371,8 +371,8 @@ module _ (p : Plain) (W : WellFormed p) where
       let l : length (items vs) ≡ length C = eqb-true (length (items vs)) (length C) (not-false (eqb (length (items vs)) (length C)) T.counted) in
       update-well (record { table = n; change = insert (numbered_all 0 (items vs)); parameters = mark_count (givens s) })
       (known-table p t (columns_named s) T.known, numbered-length 0 (items vs) ∙ l ∙ ap length e)
-      (record { few-marks = marks-few s T.within; tested-in = nil })
-      (leb-false most-updates (length p.updates) T.place)
+      (record { few_marks = marks_few s T.within; tested_in = nil })
+      (leb-false most_updates (length p.updates) T.place)
   statement-well lent text (G.update t ss w) T =
       let s : Sentence = G.update t ss w in
       let x : Where (Term Name) = mapped_in comparison w in
@@ -388,11 +388,11 @@ module _ (p : Plain) (W : WellFormed p) where
             (set-inside C 0 (items ss) (All-left set-names (term_columns (operands_in x)) known)),
       )
       (record {
-        few-marks = marks-few s T.within;
-        tested-in = subst (λ (t : Schema). All (Within (length t.columns)) (operands_in (resolved_where (position C) m x))) e
+        few_marks = marks_few s T.within;
+        tested_in = subst (λ (t : Schema). All (Within (length t.columns)) (operands_in (resolved_where (position C) m x))) e
             (tested-inside (position C) (length C) m x (All-right set-names known));
       })
-      (leb-false most-updates (length p.updates) T.place)
+      (leb-false most_updates (length p.updates) T.place)
   statement-well lent text (G.delete t w) T =
       let s : Sentence = G.delete t w in
       let x : Where (Term Name) = mapped_in comparison w in
@@ -403,10 +403,10 @@ module _ (p : Plain) (W : WellFormed p) where
       update-well (record { table = n; change = delete (resolved_where (position C) 0 x); parameters = mark_count (givens s) })
       (known-table p t (columns_named s) T.known, tt)
       (record {
-        few-marks = marks-few s T.within;
-        tested-in = subst (λ (t : Schema). All (Within (length t.columns)) (operands_in (resolved_where (position C) 0 x))) e (tested-inside (position C) (length C) 0 x known);
+        few_marks = marks_few s T.within;
+        tested_in = subst (λ (t : Schema). All (Within (length t.columns)) (operands_in (resolved_where (position C) 0 x))) e (tested-inside (position C) (length C) 0 x known);
       })
-      (leb-false most-updates (length p.updates) T.place)
+      (leb-false most_updates (length p.updates) T.place)
 
 -- ---- an update
 
@@ -465,22 +465,22 @@ module _ (p : Plain) (n : ℕ) (us : List ℤ) where
   changed-well W h f =
       let u : Update = update_at p n in
       let t : Table = table_at p u.table in
-      let fits : Fits p u = All-at n no_update h W.updates-fit in
+      let fits : Fits p u = All-at n no_update h W.updates_fit in
       record {
-        rows-wide = All-set u.table (record { schema = t.schema; rows = changed u.change us (remaining t u.change) })
-            (changed-wide t.schema u.change us (remaining t u.change) fits.1 (remaining-has t u.change (All-at u.table no_table fits.0 W.rows-wide))) W.rows-wide;
+        rows_wide = All-set u.table (record { schema = t.schema; rows = changed u.change us (remaining t u.change) })
+            (changed-wide t.schema u.change us (remaining t u.change) fits.1 (remaining-has t u.change (All-at u.table no_table fits.0 W.rows_wide))) W.rows_wide;
         rows_few = All-set u.table (record { schema = t.schema; rows = changed u.change us (remaining t u.change) })
-            (changed-few t u.change us (All-at u.table no_table fits.0 W.tables-fit).some-rows (All-at u.table no_table fits.0 W.rows_few) f) W.rows_few;
-        updates-fit = fits-grows p (changed_by p n us) grows-rows W.updates-fit;
-        updates-in = limits-grow p (changed_by p n us) grows-rows W.updates-fit W.updates-in;
-        queries-fit = queries-grow p (changed_by p n us) grows-rows W.queries-fit W.pairs-fit;
-        pairs-fit = pairs-grow p (changed_by p n us) grows-rows W.queries-fit W.pairs-fit;
-        tables-fit = All-set u.table (record { schema = t.schema; rows = changed u.change us (remaining t u.change) })
-            (All-at u.table no_table fits.0 W.tables-fit) W.tables-fit;
-        areas-fit = subst (λ (ts : List Schema). areas_size ts ≤ p.lengths.cells) (sym schemas-stay) W.areas-fit;
-        few-tables = omega (arith, tables-stay, W.few-tables);
-        few-queries = W.few-queries;
-        few-updates = W.few-updates;
+            (changed-few t u.change us (All-at u.table no_table fits.0 W.tables_fit).some_rows (All-at u.table no_table fits.0 W.rows_few) f) W.rows_few;
+        updates_fit = fits-grows p (changed_by p n us) grows-rows W.updates_fit;
+        updates_in = limits-grow p (changed_by p n us) grows-rows W.updates_fit W.updates_in;
+        queries_fit = queries-grow p (changed_by p n us) grows-rows W.queries_fit W.pairs_fit;
+        pairs_fit = pairs-grow p (changed_by p n us) grows-rows W.queries_fit W.pairs_fit;
+        tables_fit = All-set u.table (record { schema = t.schema; rows = changed u.change us (remaining t u.change) })
+            (All-at u.table no_table fits.0 W.tables_fit) W.tables_fit;
+        areas_fit = subst (λ (ts : List Schema). areas_size ts ≤ p.lengths.cells) (sym schemas-stay) W.areas_fit;
+        few_tables = omega (arith, tables-stay, W.few_tables);
+        few_queries = W.few_queries;
+        few_updates = W.few_updates;
       }
 
 -- ---- a call

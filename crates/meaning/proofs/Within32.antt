@@ -17,7 +17,7 @@ use Rattle.meaning.specs.Condition.{Where}
 use Rattle.meaning.specs.Tokens.{Name}
 use Rattle.meaning.specs.Grammar as G
 use Rattle.meaning.specs.Grammar.{Given, mark, items, Sentence, sentence}
-use Rattle.meaning.specs.Limits.{most-listed, list_givens, givens, mark_in, is_within32, outside32, many_items, rows_outside, many_marks, many_comparisons, deep, long_name, big_constant, past_limit}
+use Rattle.meaning.specs.Limits.{most_listed, list_givens, givens, mark_in, is_within32, outside32, many_items, rows_outside, many_marks, many_comparisons, deep, long_name, big_constant, past_limit}
 use Rattle.meaning.specs.Names.{columns_of}
 use Rattle.meaning.specs.Statement.{Value, constant, parameter, Operand, Second, Query, Change, insert, delete, update, Update, numbered, numbered_all, settings, statement_of}
 use Rattle.meaning.specs.Meaning.{Row, cell, value_of, meets_where, takes, selected, answer, assigned, updated_row, changed}
@@ -27,7 +27,7 @@ use Rattle.meaning.specs.Demand.{Acceptable, ReadsBack, IsRow, Is32, Call32, row
 use Rattle.meaning.proofs.Accepted.{clear, text-taken, key-asked}
 use Rattle.meaning.proofs.Pushed.{remaining-has}
 use Rattle.meaning.proofs.WellFormed.{SecondFits, WellFormed, Reads, opened-well, after-well}
-use Rattle.meaning.proofs.Record.{record-reads-back}
+use Rattle.meaning.proofs.Record.{record_reads_back}
 
 -- a value of a statement
 abbrev pub Value32 : Value → Type 0
@@ -170,19 +170,19 @@ pub record-listed : (p : Plain) → WellFormed p → Store32 p → (k : Key) →
 unfolding record_of too_many
 record-listed p W S k h m later =
     let q : Query = query_at p k.query in
-    let f : Reads p q = All-at k.query no_query h W.queries-fit in
-    record-reads-back (length q.selected) (answer q k.values (rows_for p q)) later f.some-selected f.few-selected
-    (ltb-false most-listed (length (answer q k.values (rows_for p q))) m)
-    (answer-rows q k.values (rows_for p q) (over-32 p.tables q q.second f.there (All-at k.query no_query h W.pairs-fit) S.rows))
+    let f : Reads p q = All-at k.query no_query h W.queries_fit in
+    record_reads_back (length q.selected) (answer q k.values (rows_for p q)) later f.some_selected f.few_selected
+    (ltb-false most_listed (length (answer q k.values (rows_for p q))) m)
+    (answer-rows q k.values (rows_for p q) (over-32 p.tables q q.second f.there (All-at k.query no_query h W.pairs_fit) S.rows))
 
 -- an answer is none of a refused question, which is there then
 asked-answered : (n : ℕ) (p : Plain) (x r : List ℕ) → (guard n p refused (p, answered x)).1 ≡ answered r → (n ≡ 0) × (x ≡ r)
 asked-answered zero p x r e = (refl, cc)
 asked-answered (suc n) p x r e = absurd (let z : ◌≡◌ {A = ℕ} 0 1 = cc in omega arith)
 
-pub answer-reads-back : AnswerReadsBack
+pub answer_reads_back : AnswerReadsBack
 unfolding refusal
-answer-reads-back o cs v k buffer r e later =
+answer_reads_back o cs v k buffer r e later =
     let p : Plain = after o.lent (opened o) cs in
     let a = asked-answered (refusal o.lent p (ask k buffer)) p (record_of p k) r e in
     let none = (clear 0 (conditions o.lent p (ask k buffer)) refl).0 a.0 in

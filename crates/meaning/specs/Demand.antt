@@ -12,7 +12,7 @@ use Rattle.meaning.specs.Tokens.{Token, Keyword, Name, is_small, is_capital, is_
 use Rattle.meaning.specs.Grammar as G
 use Rattle.meaning.specs.Grammar.{Given, items, Sentence, spell, sentence}
 use Rattle.meaning.specs.Key.{Key}
-use Rattle.meaning.specs.Limits.{most-text, most-items, most-listed, rows_of, where_of, all_names, givens, mark_count, is_within32, past_limit}
+use Rattle.meaning.specs.Limits.{most_text, most_items, most_listed, rows_of, where_of, all_names, givens, mark_count, is_within32, past_limit}
 use Rattle.meaning.specs.Names.{Schema, unknown, taken, miscounted, twice}
 use Rattle.meaning.specs.Statement.{Value, constant, parameter, Operand, column, value, Second, Query, Change, insert, delete, update, Update, Statement, creates, asks, changes, statement_of}
 use Rattle.meaning.specs.Meaning.{Row, operand_value, meets_where, takes, answer, changed}
@@ -175,7 +175,7 @@ WithinExactlyIf = (s : Sentence) → (past_limit s ≡ false) ↔ WithinLimits s
 -- no condition of refusals 2 to 9 and 15 holds
 pub record Acceptable (lent : Lengths) (p : Plain) (text : List ℕ) (s : Sentence) : Type 0 where
   pub lengths : other_lengths lent p ≡ false
-  pub short : length text ≤ most-text
+  pub short : length text ≤ most_text
   pub spelled : tokens text ≡ spell s
   pub within : past_limit s ≡ false
   pub known : unknown (schemas p) s ≡ false
@@ -197,10 +197,10 @@ AcceptedIsAdded = (lent : Lengths) (p : Plain) (text : List ℕ) (s : Sentence) 
 -- the bytes show the rows
 pub record ReadsBack (bs : List ℕ) (columns : ℕ) (rows : List Row) : Type 0 where
   pub is-record : is_record bs ≡ true
-  pub columns-are : columns_in bs ≡ columns
+  pub columns_are : columns_in bs ≡ columns
   pub rows_are : row_count bs ≡ length rows
   pub shown : (i : ℕ) → i < length rows → (row_refusal bs i ≡ 0) × (numbers_of (row_part bs i) ≡ get_or rows i [])
-  pub not-shown : (i : ℕ) → length rows ≤ i → (row_refusal bs i ≡ 14) × (row_part bs i ≡ [])
+  pub not_shown : (i : ℕ) → length rows ≤ i → (row_refusal bs i ≡ 14) × (row_part bs i ≡ [])
 
 -- a row of so many 32-bit numbers
 abbrev pub IsRow : ℕ → Row → Type 0
@@ -208,7 +208,7 @@ IsRow columns r = (length r ≡ columns) × All (λ z. is_within32 z ≡ true) r
 
 -- the record of rows, also with later bytes behind it
 abbrev pub RecordReadsBack : Type 0
-RecordReadsBack = (columns : ℕ) (rows : List Row) (later : List ℕ) → 1 ≤ columns → columns ≤ most-items → length rows ≤ most-listed → All (IsRow columns) rows
+RecordReadsBack = (columns : ℕ) (rows : List Row) (later : List ℕ) → 1 ≤ columns → columns ≤ most_items → length rows ≤ most_listed → All (IsRow columns) rows
     → ReadsBack (encode columns rows ++ later) columns rows
 
 -- the values of a call have 32 bits, as their type says
@@ -303,16 +303,16 @@ NullTests = (z : ℤ) → ((truth is-null z z ≡ true) ↔ (z ≡ null)) × ((t
 -- "each the opposite of the other", in rule 4's "fixed table of the six comparisons and their opposites", now of eight: document 01 has that "opposite twice
 -- is itself, and it negates the truth"
 pub record Opposites : Type 0 where
-  pub null-test : opposite is-null ≡ is-not-null
-  pub twice-itself : (p : Predicate) → opposite (opposite p) ≡ p
+  pub null_test : opposite is-null ≡ is-not-null
+  pub twice_itself : (p : Predicate) → opposite (opposite p) ≡ p
   pub negates : (p : Predicate) (y z : ℤ) → compared (opposite p) y z ≡ not₃ (compared p y z)
 
 -- "In the patterns IS NULL and IS NOT NULL are tested on the class's constant where there is one": where it is false of that the clause goes by this comparison;
 -- where there is none it does not
 pub record OnConstant (cs : Clause) (x : Joint) : Type 0 where
-  pub null-constant : (z : ℤ) (zs : List ℤ) → constants (class cs x) ≡ z ∷ zs
+  pub null_constant : (z : ℤ) (zs : List ℤ) → constants (class cs x) ≡ z ∷ zs
       → (broken cs (record { left = x; op = is-null; right = x }) ≡ not (is_null z)) × (broken cs (record { left = x; op = is-not-null; right = x }) ≡ is_null z)
-  pub no-constant : constants (class cs x) ≡ []
+  pub no_constant : constants (class cs x) ≡ []
       → (broken cs (record { left = x; op = is-null; right = x }) ≡ false) × (broken cs (record { left = x; op = is-not-null; right = x }) ≡ false)
 
 abbrev pub NullTestsInPatterns : Type 0
@@ -334,34 +334,34 @@ NoPairListed = (q : Query) (s : Second) (vs : List ℤ) (r : Row) (others : List
 -- ---- all of these
 
 pub record Demands : Type 0 where
-  pub lowest-number : LowestNumber
-  pub refused-changes-nothing : RefusedChangesNothing
-  pub reads-exactly : ReadsExactly
-  pub one-sentence : OneSentence
-  pub first-then-rest : FirstThenRest
-  pub capitals-in-names : CapitalsInNames
+  pub lowest_number : LowestNumber
+  pub refused_changes_nothing : RefusedChangesNothing
+  pub reads_exactly : ReadsExactly
+  pub one_sentence : OneSentence
+  pub first_then_rest : FirstThenRest
+  pub capitals_in_names : CapitalsInNames
   pub one_name : OneName
-  pub case-aside : CaseAside
-  pub keywords-remain : KeywordsRemain
-  pub names-folded : NamesFolded
-  pub same-tokens : SameTokens
+  pub case_aside : CaseAside
+  pub keywords_remain : KeywordsRemain
+  pub names_folded : NamesFolded
+  pub same_tokens : SameTokens
   pub same_text : SameText
-  pub has-text : HasText
-  pub marks-numbered : MarksNumbered
-  pub within-exactly-if : WithinExactlyIf
-  pub accepted-exactly-if : AcceptedExactlyIf
-  pub accepted-is-added : AcceptedIsAdded
-  pub record-reads-back : RecordReadsBack
-  pub answer-reads-back : AnswerReadsBack
-  pub patterns-weaken : PatternsWeaken
-  pub pushed-weakens : PushedWeakens
-  pub answer-stays : AnswerStays
-  pub null-unknown : NullUnknown
-  pub others-known : OthersKnown
-  pub three-values : ThreeValues
-  pub takes-true : TakesTrue
-  pub null-tests : NullTests
+  pub has_text : HasText
+  pub marks_numbered : MarksNumbered
+  pub within_exactly_if : WithinExactlyIf
+  pub accepted_exactly_if : AcceptedExactlyIf
+  pub accepted_is_added : AcceptedIsAdded
+  pub record_reads_back : RecordReadsBack
+  pub answer_reads_back : AnswerReadsBack
+  pub patterns_weaken : PatternsWeaken
+  pub pushed_weakens : PushedWeakens
+  pub answer_stays : AnswerStays
+  pub null_unknown : NullUnknown
+  pub others_known : OthersKnown
+  pub three_values : ThreeValues
+  pub takes_true : TakesTrue
+  pub null_tests : NullTests
   pub opposites : Opposites
-  pub null-tests-in-patterns : NullTestsInPatterns
+  pub null_tests_in_patterns : NullTestsInPatterns
   pub never_true : NeverTrue
-  pub no-pair-listed : NoPairListed
+  pub no_pair_listed : NoPairListed

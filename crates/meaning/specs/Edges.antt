@@ -34,7 +34,7 @@ numbers g = map (λ (e : Edge). refusal (lengths g) (store g) (add e.0)) g.edges
 -- the texts before are taken, and the others get their numbers
 pub record Holds (g : Group) : Type 0 where
   pub taken : all is_taken (outs (lengths g) (begun g) (adds g)) ≡ true
-  pub numbers-are : numbers g ≡ map (λ (e : Edge). e.1) g.edges
+  pub numbers_are : numbers g ≡ map (λ (e : Edge). e.1) g.edges
 
 abbrev edge : String → ℕ → Edge
 edge t n = (bytes t, n)
@@ -403,11 +403,11 @@ counted = two (
     ∷ [])
 
 -- 9: "too few cells left": "the opening's less columns × ROWS of each table"
-abbrev pub cells-enough : Group
-cells-enough = record { cells = 6; before = []; edges = edge "TABLE t (a, b) ROWS 3" 0 ∷ edge "TABLE t (a, b, c) ROWS 2" 0 ∷ edge "TABLE t (a) ROWS 7" 9 ∷ edge "TABLE t (a, b) ROWS 4" 9 ∷ [] }
+abbrev pub cells_enough : Group
+cells_enough = record { cells = 6; before = []; edges = edge "TABLE t (a, b) ROWS 3" 0 ∷ edge "TABLE t (a, b, c) ROWS 2" 0 ∷ edge "TABLE t (a) ROWS 7" 9 ∷ edge "TABLE t (a, b) ROWS 4" 9 ∷ [] }
 
-abbrev pub cells-short : Group
-cells-short = record { cells = 5; before = []; edges = edge "TABLE t (a, b) ROWS 3" 9 ∷ edge "TABLE t (a) ROWS 5" 0 ∷ [] }
+abbrev pub cells_short : Group
+cells_short = record { cells = 5; before = []; edges = edge "TABLE t (a, b) ROWS 3" 9 ∷ edge "TABLE t (a) ROWS 5" 0 ∷ [] }
 
 abbrev pub cells_left : Group
 cells_left = record {
@@ -420,11 +420,11 @@ cells_left = record {
 abbrev tables : String → List String
 tables last = "TABLE a (a) ROWS 1" ∷ "TABLE b (a) ROWS 1" ∷ "TABLE c (a) ROWS 1" ∷ "TABLE d (a) ROWS 1" ∷ "TABLE e (a) ROWS 1" ∷ "TABLE f (a) ROWS 1" ∷ "TABLE g (a) ROWS 1" ∷ last ∷ []
 
-abbrev pub eighth-table : Group
-eighth-table = record { cells = 32768; before = tables "SELECT a FROM a"; edges = edge "TABLE h (a) ROWS 1" 0 ∷ [] }
+abbrev pub eighth_table : Group
+eighth_table = record { cells = 32768; before = tables "SELECT a FROM a"; edges = edge "TABLE h (a) ROWS 1" 0 ∷ [] }
 
-abbrev pub ninth-table : Group
-ninth-table = record { cells = 32768; before = tables "TABLE h (a) ROWS 1"; edges = edge "TABLE i (a) ROWS 1" 9 ∷ edge "TABLE h (a) ROWS 1" 7 ∷ edge "TABLE i (a, a) ROWS 1" 7 ∷ edge "DELETE FROM h" 0 ∷ [] }
+abbrev pub ninth_table : Group
+ninth_table = record { cells = 32768; before = tables "TABLE h (a) ROWS 1"; edges = edge "TABLE i (a) ROWS 1" 9 ∷ edge "TABLE h (a) ROWS 1" 7 ∷ edge "TABLE i (a, a) ROWS 1" 7 ∷ edge "DELETE FROM h" 0 ∷ [] }
 
 abbrev many : ℕ → String → List String
 many n t = "TABLE t (a, b) ROWS 1" ∷ replicate n t
@@ -432,21 +432,21 @@ many n t = "TABLE t (a, b) ROWS 1" ∷ replicate n t
 abbrev question : String
 question = "SELECT a FROM t"
 
-abbrev pub sixteenth-question : Group
-sixteenth-question = record { cells = 2; before = many 15 question; edges = edge "SELECT a FROM t" 0 ∷ [] }
+abbrev pub sixteenth_question : Group
+sixteenth_question = record { cells = 2; before = many 15 question; edges = edge "SELECT a FROM t" 0 ∷ [] }
 
-abbrev pub seventeenth-question : Group
-seventeenth-question = record { cells = 2; before = many 16 question; edges = edge "SELECT b FROM t" 9 ∷ edge "SELECT c FROM t" 6 ∷ edge "DELETE FROM t" 0 ∷ [] }
+abbrev pub seventeenth_question : Group
+seventeenth_question = record { cells = 2; before = many 16 question; edges = edge "SELECT b FROM t" 9 ∷ edge "SELECT c FROM t" 6 ∷ edge "DELETE FROM t" 0 ∷ [] }
 
-abbrev pub sixteenth-update : Group
-sixteenth-update = record {
+abbrev pub sixteenth_update : Group
+sixteenth_update = record {
   cells = 2;
   before = many 14 "DELETE FROM t" ++ ("INSERT INTO t VALUES (1, 2)" ∷ []);
   edges = edge "UPDATE t SET a = 1" 0 ∷ edge "INSERT INTO t VALUES (1, 2)" 0 ∷ edge "DELETE FROM t" 0 ∷ [];
 }
 
-abbrev pub seventeenth-update : Group
-seventeenth-update = record {
+abbrev pub seventeenth_update : Group
+seventeenth_update = record {
   cells = 2;
   before = many 14 "DELETE FROM t" ++ ("INSERT INTO t VALUES (1, 2)" ∷ "UPDATE t SET a = 1" ∷ []);
   edges =
@@ -512,8 +512,8 @@ elsewhere = three (
     ∷ [])
 
 -- SELECT alone names two tables, and no more
-abbrev pub from-two : Group
-from-two = three (
+abbrev pub from_two : Group
+from_two = three (
     edge "SELECT t.a FROM t, u, v" 4
     ∷ edge "SELECT t.a FROM t, u, t" 4
     ∷ edge "SELECT t.a FROM t," 4
@@ -530,8 +530,8 @@ from-two = three (
     ∷ [])
 
 -- 5: the limits of selected columns, question marks, comparisons and depth, and constants
-abbrev pub pair-limits : Group
-pair-limits = three (
+abbrev pub pair_limits : Group
+pair_limits = three (
     edge "SELECT t.a, t.b, u.a, u.c, t.a, t.b, u.a, u.c FROM t, u" 0
     ∷ edge "SELECT t.a, t.b, u.a, u.c, t.a, t.b, u.a, u.c, t.a FROM t, u" 5
     ∷ edge "SELECT t.a FROM t, u WHERE ? = ? AND ? = ? OR ? = ? AND ? = ?" 0
@@ -547,8 +547,8 @@ pair-limits = three (
     ∷ [])
 
 -- 5: a name of 13 bytes, before and behind a dot and as either table; 6 for one of 12 that is unknown
-abbrev pub pair-names : Group
-pair-names = three (
+abbrev pub pair_names : Group
+pair_names = three (
     edge "SELECT abcdefghijkl.a FROM t, u" 6
     ∷ edge "SELECT abcdefghijklm.a FROM t, u" 5
     ∷ edge "SELECT t.abcdefghijkl FROM t, u" 6
@@ -563,8 +563,8 @@ pair-names = three (
     ∷ edge "SELECT t.a FROM t, u WHERE u.abcdefghijklm = 1" 5
     ∷ [])
 
-abbrev pub long-names : Group
-long-names = record {
+abbrev pub long_names : Group
+long_names = record {
   cells = 2;
   before = "TABLE abcdefghijkl (mnopqrstuvwx) ROWS 1" ∷ "TABLE u (a) ROWS 1" ∷ [];
   edges = edge "SELECT abcdefghijkl.mnopqrstuvwx FROM u, abcdefghijkl WHERE abcdefghijkl.mnopqrstuvwx = u.a" 0 ∷ edge "SELECT abcdefghijkl.mnopqrstuvwx FROM u, u" 6 ∷ [];
@@ -589,8 +589,8 @@ third = three (
     ∷ [])
 
 -- 15: "Naming one table twice", after 4, 5 and 6
-abbrev pub same-table : Group
-same-table = three (
+abbrev pub same_table : Group
+same_table = three (
     edge "SELECT t.a FROM t, t" 15
     ∷ edge "SELECT t.a FROM t, t WHERE t.a = t.b" 15
     ∷ edge "SELECT a FROM t, t" 4
@@ -606,11 +606,11 @@ same-table = three (
 abbrev questions : ℕ → List String
 questions n = "TABLE t (a) ROWS 1" ∷ "TABLE u (a) ROWS 1" ∷ replicate n "SELECT a FROM t"
 
-abbrev pub sixteenth-pair : Group
-sixteenth-pair = record { cells = 2; before = questions 15; edges = edge "SELECT t.a FROM t, u" 0 ∷ edge "SELECT t.a FROM t, t" 15 ∷ [] }
+abbrev pub sixteenth_pair : Group
+sixteenth_pair = record { cells = 2; before = questions 15; edges = edge "SELECT t.a FROM t, u" 0 ∷ edge "SELECT t.a FROM t, t" 15 ∷ [] }
 
-abbrev pub seventeenth-pair : Group
-seventeenth-pair = record { cells = 2; before = questions 16; edges = edge "SELECT t.a FROM t, u" 9 ∷ edge "SELECT t.a FROM t, t" 15 ∷ [] }
+abbrev pub seventeenth_pair : Group
+seventeenth_pair = record { cells = 2; before = questions 16; edges = edge "SELECT t.a FROM t, u" 9 ∷ edge "SELECT t.a FROM t, t" 15 ∷ [] }
 
 -- ---- request A.2: names in either case
 
@@ -655,8 +655,8 @@ exact = first (
 abbrev typed : List Edge → Group
 typed es = record { cells = 4; before = "TABLE Stage (SITE, level) ROWS 1" ∷ "TABLE RATING (site, Flow) ROWS 1" ∷ []; edges = es }
 
-abbrev pub exact-forms : Group
-exact-forms = typed (
+abbrev pub exact_forms : Group
+exact_forms = typed (
     edge "select site FROM stage" 4
     ∷ edge "SELECT site From stage" 4
     ∷ edge "SELECT site FROM stage Where site = 1" 4
@@ -670,8 +670,8 @@ exact-forms = typed (
     ∷ [])
 
 -- "Everything that looks a name up .. follows": 6, and 8
-abbrev pub looked-up : Group
-looked-up = typed (
+abbrev pub looked_up : Group
+looked_up = typed (
     edge "SELECT site, LEVEL FROM stage" 0
     ∷ edge "SELECT SITE FROM STAGE WHERE Level = ? OR 1 < sITE" 0
     ∷ edge "INSERT INTO sTAGE VALUES (1, 2)" 0
@@ -718,8 +718,8 @@ paired = typed (
 -- ---- request A.4: tables that run round
 
 -- "RING takes 1 to 512", and like ROWS a constant
-abbrev pub ring-sizes : Group
-ring-sizes = first (
+abbrev pub ring_sizes : Group
+ring_sizes = first (
     edge "TABLE recent (minute, level) RING 96" 0
     ∷ edge "TABLE t (a) RING 0" 5
     ∷ edge "TABLE t (a) RING 1" 0
@@ -739,8 +739,8 @@ ring-sizes = first (
     ∷ [])
 
 -- one of ROWS and RING, at its place
-abbrev pub ring-or-rows : Group
-ring-or-rows = first (
+abbrev pub ring_or_rows : Group
+ring_or_rows = first (
     edge "TABLE t (a) ROWS 1 RING 1" 4
     ∷ edge "TABLE t (a) RING 1 ROWS 1" 4
     ∷ edge "TABLE t (a) ROWS RING 1" 4
@@ -759,8 +759,8 @@ ring-or-rows = first (
     ∷ [])
 
 -- RING is a keyword, and `ring` a name
-abbrev pub ring-words : Group
-ring-words = first (
+abbrev pub ring_words : Group
+ring_words = first (
     edge "TABLE t (a) ring 1" 4
     ∷ edge "TABLE t (a) Ring 1" 4
     ∷ edge "TABLE t (a) RINGS 1" 4
@@ -774,8 +774,8 @@ ring-words = first (
     ∷ [])
 
 -- the other forms speak of a ring as of any table, and know no RING
-abbrev pub ring-forms : Group
-ring-forms = record {
+abbrev pub ring_forms : Group
+ring_forms = record {
   cells = 8;
   before = "TABLE t (a, b) RING 1" ∷ "TABLE u (a, c) ROWS 1" ∷ [];
   edges =
@@ -801,11 +801,11 @@ ring-forms = record {
 }
 
 -- "counts as the table's ROWS": the cells that it takes, and those that are left beside it
-abbrev pub ring-cells : Group
-ring-cells = record { cells = 6; before = []; edges = edge "TABLE t (a, b) RING 3" 0 ∷ edge "TABLE t (a) RING 6" 0 ∷ edge "TABLE t (a) RING 7" 9 ∷ edge "TABLE t (a, b) RING 4" 9 ∷ [] }
+abbrev pub ring_cells : Group
+ring_cells = record { cells = 6; before = []; edges = edge "TABLE t (a, b) RING 3" 0 ∷ edge "TABLE t (a) RING 6" 0 ∷ edge "TABLE t (a) RING 7" 9 ∷ edge "TABLE t (a, b) RING 4" 9 ∷ [] }
 
-abbrev pub ring-left : Group
-ring-left = record {
+abbrev pub ring_left : Group
+ring_left = record {
   cells = 10;
   before = "TABLE t (a, b) RING 3" ∷ [];
   edges = edge "TABLE u (a, b) RING 2" 0 ∷ edge "TABLE u (a, b) ROWS 2" 0 ∷ edge "TABLE u (a) RING 5" 9 ∷ edge "TABLE u (a) ROWS 5" 9 ∷ edge "TABLE t (a) RING 5" 7 ∷ [];
@@ -814,8 +814,8 @@ ring-left = record {
 -- ---- request A.5: nulls
 
 -- IS and NULL are keywords, in capitals alone
-abbrev pub null-words : Group
-null-words = first (
+abbrev pub null_words : Group
+null_words = first (
     edge "TABLE NULL (a) ROWS 1" 4
     ∷ edge "TABLE IS (a) ROWS 1" 4
     ∷ edge "TABLE t (a, NULL) ROWS 1" 4
@@ -829,8 +829,8 @@ null-words = first (
     ∷ [])
 
 -- "`level IS NULL` and `level IS NOT NULL`, on columns, count as comparisons"
-abbrev pub null-tests : Group
-null-tests = two (
+abbrev pub null_tests : Group
+null_tests = two (
     edge "SELECT a FROM t WHERE a IS NULL" 0
     ∷ edge "SELECT a FROM t WHERE a IS NOT NULL" 0
     ∷ edge "SELECT a FROM t WHERE NOT a IS NULL" 0
@@ -849,8 +849,8 @@ null-tests = two (
     ∷ [])
 
 -- on columns, and of no other form; the null itself is written -2147483648
-abbrev pub no-null-tests : Group
-no-null-tests = two (
+abbrev pub no_null_tests : Group
+no_null_tests = two (
     edge "SELECT a FROM t WHERE ? IS NULL" 4
     ∷ edge "SELECT a FROM t WHERE 5 IS NULL" 4
     ∷ edge "SELECT a FROM t WHERE -2147483648 IS NOT NULL" 4
@@ -890,8 +890,8 @@ no-null-tests = two (
     ∷ [])
 
 -- each is one of the eight comparisons; the NOT of IS NOT NULL is none around it; it has no question mark
-abbrev pub null-limits : Group
-null-limits = eight (
+abbrev pub null_limits : Group
+null_limits = eight (
     edge "SELECT a FROM t WHERE a IS NULL AND b = 1 AND c = 1 AND d = 1 AND e = 1 AND f = 1 AND g = 1 AND h IS NOT NULL" 0
     ∷ edge "SELECT a FROM t WHERE a IS NULL AND b = 1 AND c = 1 AND d = 1 AND e = 1 AND f = 1 AND g = 1 AND h IS NOT NULL AND a = 1" 5
     ∷ edge "DELETE FROM t WHERE a IS NULL OR b IS NULL OR c IS NULL OR d IS NULL OR e IS NULL OR f IS NULL OR g IS NULL OR h IS NULL" 0
@@ -906,8 +906,8 @@ null-limits = eight (
     ∷ [])
 
 -- over two tables the column is dotted
-abbrev pub null-pairs : Group
-null-pairs = three (
+abbrev pub null_pairs : Group
+null_pairs = three (
     edge "SELECT t.a FROM t, u WHERE t.a IS NULL" 0
     ∷ edge "SELECT t.a FROM t, u WHERE NOT u . c IS NOT NULL AND t.a = u.a" 0
     ∷ edge "SELECT t.a FROM t, u WHERE a IS NULL" 4
@@ -950,281 +950,281 @@ table =
     ∷ unknown
     ∷ twice
     ∷ counted
-    ∷ cells-enough
-    ∷ cells-short
+    ∷ cells_enough
+    ∷ cells_short
     ∷ cells_left
-    ∷ eighth-table
-    ∷ ninth-table
-    ∷ sixteenth-question
-    ∷ seventeenth-question
-    ∷ sixteenth-update
-    ∷ seventeenth-update
+    ∷ eighth_table
+    ∷ ninth_table
+    ∷ sixteenth_question
+    ∷ seventeenth_question
+    ∷ sixteenth_update
+    ∷ seventeenth_update
     ∷ dots
     ∷ bare
     ∷ elsewhere
-    ∷ from-two
-    ∷ pair-limits
-    ∷ pair-names
-    ∷ long-names
+    ∷ from_two
+    ∷ pair_limits
+    ∷ pair_names
+    ∷ long_names
     ∷ third
-    ∷ same-table
-    ∷ sixteenth-pair
-    ∷ seventeenth-pair
+    ∷ same_table
+    ∷ sixteenth_pair
+    ∷ seventeenth_pair
     ∷ capitals
     ∷ exact
-    ∷ exact-forms
-    ∷ looked-up
+    ∷ exact_forms
+    ∷ looked_up
     ∷ repeated
     ∷ paired
-    ∷ ring-sizes
-    ∷ ring-or-rows
-    ∷ ring-words
-    ∷ ring-forms
-    ∷ ring-cells
-    ∷ ring-left
-    ∷ null-words
-    ∷ null-tests
-    ∷ no-null-tests
-    ∷ null-limits
-    ∷ null-pairs
+    ∷ ring_sizes
+    ∷ ring_or_rows
+    ∷ ring_words
+    ∷ ring_forms
+    ∷ ring_cells
+    ∷ ring_left
+    ∷ null_words
+    ∷ null_tests
+    ∷ no_null_tests
+    ∷ null_limits
+    ∷ null_pairs
     ∷ []
 
 pub columns-hold : Holds columns
 unfolding computing
-columns-hold = record { taken = refl; numbers-are = refl }
+columns-hold = record { taken = refl; numbers_are = refl }
 
 pub lists-hold : Holds lists
 unfolding computing
-lists-hold = record { taken = refl; numbers-are = refl }
+lists-hold = record { taken = refl; numbers_are = refl }
 
 pub rows-hold : Holds rows
 unfolding computing
-rows-hold = record { taken = refl; numbers-are = refl }
+rows-hold = record { taken = refl; numbers_are = refl }
 
 pub marks-hold : Holds marks
 unfolding computing
-marks-hold = record { taken = refl; numbers-are = refl }
+marks-hold = record { taken = refl; numbers_are = refl }
 
 pub comparisons-hold : Holds comparisons
 unfolding computing
-comparisons-hold = record { taken = refl; numbers-are = refl }
+comparisons-hold = record { taken = refl; numbers_are = refl }
 
 pub depths-hold : Holds depths
 unfolding computing
-depths-hold = record { taken = refl; numbers-are = refl }
+depths-hold = record { taken = refl; numbers_are = refl }
 
 pub beside-hold : Holds beside
 unfolding computing
-beside-hold = record { taken = refl; numbers-are = refl }
+beside-hold = record { taken = refl; numbers_are = refl }
 
 pub deepest-hold : Holds deepest
 unfolding computing
-deepest-hold = record { taken = refl; numbers-are = refl }
+deepest-hold = record { taken = refl; numbers_are = refl }
 
 pub names-hold : Holds names
 unfolding computing
-names-hold = record { taken = refl; numbers-are = refl }
+names-hold = record { taken = refl; numbers_are = refl }
 
 pub named-hold : Holds named
 unfolding computing
-named-hold = record { taken = refl; numbers-are = refl }
+named-hold = record { taken = refl; numbers_are = refl }
 
 pub constants-hold : Holds constants
 unfolding computing
-constants-hold = record { taken = refl; numbers-are = refl }
+constants-hold = record { taken = refl; numbers_are = refl }
 
 pub texts-hold : Holds texts
 unfolding computing
-texts-hold = record { taken = refl; numbers-are = refl }
+texts-hold = record { taken = refl; numbers_are = refl }
 
 pub words-hold : Holds words
 unfolding computing
-words-hold = record { taken = refl; numbers-are = refl }
+words-hold = record { taken = refl; numbers_are = refl }
 
 pub spaces-hold : Holds spaces
 unfolding computing
-spaces-hold = record { taken = refl; numbers-are = refl }
+spaces-hold = record { taken = refl; numbers_are = refl }
 
 pub others-hold : Holds others
 unfolding computing
-others-hold = record { taken = refl; numbers-are = refl }
+others-hold = record { taken = refl; numbers_are = refl }
 
 pub digits-hold : Holds digits
 unfolding computing
-digits-hold = record { taken = refl; numbers-are = refl }
+digits-hold = record { taken = refl; numbers_are = refl }
 
 pub signs-hold : Holds signs
 unfolding computing
-signs-hold = record { taken = refl; numbers-are = refl }
+signs-hold = record { taken = refl; numbers_are = refl }
 
 pub conditions-hold : Holds conditions
 unfolding computing
-conditions-hold = record { taken = refl; numbers-are = refl }
+conditions-hold = record { taken = refl; numbers_are = refl }
 
 pub forms-hold : Holds forms
 unfolding computing
-forms-hold = record { taken = refl; numbers-are = refl }
+forms-hold = record { taken = refl; numbers_are = refl }
 
 pub before-hold : Holds before
 unfolding computing
-before-hold = record { taken = refl; numbers-are = refl }
+before-hold = record { taken = refl; numbers_are = refl }
 
 pub unknown-hold : Holds unknown
 unfolding computing
-unknown-hold = record { taken = refl; numbers-are = refl }
+unknown-hold = record { taken = refl; numbers_are = refl }
 
 pub twice-hold : Holds twice
 unfolding computing
-twice-hold = record { taken = refl; numbers-are = refl }
+twice-hold = record { taken = refl; numbers_are = refl }
 
 pub counted-hold : Holds counted
 unfolding computing
-counted-hold = record { taken = refl; numbers-are = refl }
+counted-hold = record { taken = refl; numbers_are = refl }
 
-pub cells-enough-hold : Holds cells-enough
+pub cells-enough-hold : Holds cells_enough
 unfolding computing
-cells-enough-hold = record { taken = refl; numbers-are = refl }
+cells-enough-hold = record { taken = refl; numbers_are = refl }
 
-pub cells-short-hold : Holds cells-short
+pub cells-short-hold : Holds cells_short
 unfolding computing
-cells-short-hold = record { taken = refl; numbers-are = refl }
+cells-short-hold = record { taken = refl; numbers_are = refl }
 
 pub cells-left-hold : Holds cells_left
 unfolding computing
-cells-left-hold = record { taken = refl; numbers-are = refl }
+cells-left-hold = record { taken = refl; numbers_are = refl }
 
-pub eighth-table-hold : Holds eighth-table
+pub eighth-table-hold : Holds eighth_table
 unfolding computing
-eighth-table-hold = record { taken = refl; numbers-are = refl }
+eighth-table-hold = record { taken = refl; numbers_are = refl }
 
-pub ninth-table-hold : Holds ninth-table
+pub ninth-table-hold : Holds ninth_table
 unfolding computing
-ninth-table-hold = record { taken = refl; numbers-are = refl }
+ninth-table-hold = record { taken = refl; numbers_are = refl }
 
-pub sixteenth-question-hold : Holds sixteenth-question
+pub sixteenth-question-hold : Holds sixteenth_question
 unfolding computing
-sixteenth-question-hold = record { taken = refl; numbers-are = refl }
+sixteenth-question-hold = record { taken = refl; numbers_are = refl }
 
-pub seventeenth-question-hold : Holds seventeenth-question
+pub seventeenth-question-hold : Holds seventeenth_question
 unfolding computing
-seventeenth-question-hold = record { taken = refl; numbers-are = refl }
+seventeenth-question-hold = record { taken = refl; numbers_are = refl }
 
-pub sixteenth-update-hold : Holds sixteenth-update
+pub sixteenth-update-hold : Holds sixteenth_update
 unfolding computing
-sixteenth-update-hold = record { taken = refl; numbers-are = refl }
+sixteenth-update-hold = record { taken = refl; numbers_are = refl }
 
-pub seventeenth-update-hold : Holds seventeenth-update
+pub seventeenth-update-hold : Holds seventeenth_update
 unfolding computing
-seventeenth-update-hold = record { taken = refl; numbers-are = refl }
+seventeenth-update-hold = record { taken = refl; numbers_are = refl }
 
 pub dots-hold : Holds dots
 unfolding computing
-dots-hold = record { taken = refl; numbers-are = refl }
+dots-hold = record { taken = refl; numbers_are = refl }
 
 pub bare-hold : Holds bare
 unfolding computing
-bare-hold = record { taken = refl; numbers-are = refl }
+bare-hold = record { taken = refl; numbers_are = refl }
 
 pub elsewhere-hold : Holds elsewhere
 unfolding computing
-elsewhere-hold = record { taken = refl; numbers-are = refl }
+elsewhere-hold = record { taken = refl; numbers_are = refl }
 
-pub from-two-hold : Holds from-two
+pub from-two-hold : Holds from_two
 unfolding computing
-from-two-hold = record { taken = refl; numbers-are = refl }
+from-two-hold = record { taken = refl; numbers_are = refl }
 
-pub pair-limits-hold : Holds pair-limits
+pub pair-limits-hold : Holds pair_limits
 unfolding computing
-pair-limits-hold = record { taken = refl; numbers-are = refl }
+pair-limits-hold = record { taken = refl; numbers_are = refl }
 
-pub pair-names-hold : Holds pair-names
+pub pair-names-hold : Holds pair_names
 unfolding computing
-pair-names-hold = record { taken = refl; numbers-are = refl }
+pair-names-hold = record { taken = refl; numbers_are = refl }
 
-pub long-names-hold : Holds long-names
+pub long-names-hold : Holds long_names
 unfolding computing
-long-names-hold = record { taken = refl; numbers-are = refl }
+long-names-hold = record { taken = refl; numbers_are = refl }
 
 pub third-hold : Holds third
 unfolding computing
-third-hold = record { taken = refl; numbers-are = refl }
+third-hold = record { taken = refl; numbers_are = refl }
 
-pub same-table-hold : Holds same-table
+pub same-table-hold : Holds same_table
 unfolding computing
-same-table-hold = record { taken = refl; numbers-are = refl }
+same-table-hold = record { taken = refl; numbers_are = refl }
 
-pub sixteenth-pair-hold : Holds sixteenth-pair
+pub sixteenth-pair-hold : Holds sixteenth_pair
 unfolding computing
-sixteenth-pair-hold = record { taken = refl; numbers-are = refl }
+sixteenth-pair-hold = record { taken = refl; numbers_are = refl }
 
-pub seventeenth-pair-hold : Holds seventeenth-pair
+pub seventeenth-pair-hold : Holds seventeenth_pair
 unfolding computing
-seventeenth-pair-hold = record { taken = refl; numbers-are = refl }
+seventeenth-pair-hold = record { taken = refl; numbers_are = refl }
 
 pub capitals-hold : Holds capitals
 unfolding computing
-capitals-hold = record { taken = refl; numbers-are = refl }
+capitals-hold = record { taken = refl; numbers_are = refl }
 
 pub exact-hold : Holds exact
 unfolding computing
-exact-hold = record { taken = refl; numbers-are = refl }
+exact-hold = record { taken = refl; numbers_are = refl }
 
-pub exact-forms-hold : Holds exact-forms
+pub exact-forms-hold : Holds exact_forms
 unfolding computing
-exact-forms-hold = record { taken = refl; numbers-are = refl }
+exact-forms-hold = record { taken = refl; numbers_are = refl }
 
-pub looked-up-hold : Holds looked-up
+pub looked-up-hold : Holds looked_up
 unfolding computing
-looked-up-hold = record { taken = refl; numbers-are = refl }
+looked-up-hold = record { taken = refl; numbers_are = refl }
 
 pub repeated-hold : Holds repeated
 unfolding computing
-repeated-hold = record { taken = refl; numbers-are = refl }
+repeated-hold = record { taken = refl; numbers_are = refl }
 
 pub paired-hold : Holds paired
 unfolding computing
-paired-hold = record { taken = refl; numbers-are = refl }
+paired-hold = record { taken = refl; numbers_are = refl }
 
-pub ring-sizes-hold : Holds ring-sizes
+pub ring-sizes-hold : Holds ring_sizes
 unfolding computing
-ring-sizes-hold = record { taken = refl; numbers-are = refl }
+ring-sizes-hold = record { taken = refl; numbers_are = refl }
 
-pub ring-or-rows-hold : Holds ring-or-rows
+pub ring-or-rows-hold : Holds ring_or_rows
 unfolding computing
-ring-or-rows-hold = record { taken = refl; numbers-are = refl }
+ring-or-rows-hold = record { taken = refl; numbers_are = refl }
 
-pub ring-words-hold : Holds ring-words
+pub ring-words-hold : Holds ring_words
 unfolding computing
-ring-words-hold = record { taken = refl; numbers-are = refl }
+ring-words-hold = record { taken = refl; numbers_are = refl }
 
-pub ring-forms-hold : Holds ring-forms
+pub ring-forms-hold : Holds ring_forms
 unfolding computing
-ring-forms-hold = record { taken = refl; numbers-are = refl }
+ring-forms-hold = record { taken = refl; numbers_are = refl }
 
-pub ring-cells-hold : Holds ring-cells
+pub ring-cells-hold : Holds ring_cells
 unfolding computing
-ring-cells-hold = record { taken = refl; numbers-are = refl }
+ring-cells-hold = record { taken = refl; numbers_are = refl }
 
-pub ring-left-hold : Holds ring-left
+pub ring-left-hold : Holds ring_left
 unfolding computing
-ring-left-hold = record { taken = refl; numbers-are = refl }
+ring-left-hold = record { taken = refl; numbers_are = refl }
 
-pub null-words-hold : Holds null-words
+pub null-words-hold : Holds null_words
 unfolding computing
-null-words-hold = record { taken = refl; numbers-are = refl }
+null-words-hold = record { taken = refl; numbers_are = refl }
 
-pub null-tests-hold : Holds null-tests
+pub null-tests-hold : Holds null_tests
 unfolding computing
-null-tests-hold = record { taken = refl; numbers-are = refl }
+null-tests-hold = record { taken = refl; numbers_are = refl }
 
-pub no-null-tests-hold : Holds no-null-tests
+pub no-null-tests-hold : Holds no_null_tests
 unfolding computing
-no-null-tests-hold = record { taken = refl; numbers-are = refl }
+no-null-tests-hold = record { taken = refl; numbers_are = refl }
 
-pub null-limits-hold : Holds null-limits
+pub null-limits-hold : Holds null_limits
 unfolding computing
-null-limits-hold = record { taken = refl; numbers-are = refl }
+null-limits-hold = record { taken = refl; numbers_are = refl }
 
-pub null-pairs-hold : Holds null-pairs
+pub null-pairs-hold : Holds null_pairs
 unfolding computing
-null-pairs-hold = record { taken = refl; numbers-are = refl }
+null-pairs-hold = record { taken = refl; numbers_are = refl }

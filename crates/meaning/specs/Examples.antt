@@ -13,7 +13,7 @@ use Rattle.meaning.specs.Names.{Schema, unknown, taken, miscounted, twice}
 use Rattle.meaning.specs.Statement.{Change, insert, delete, update, statement_of}
 use Rattle.meaning.specs.Meaning.{Row, answer, changed, rows_changed}
 use Rattle.meaning.specs.Record.{body, encode}
-use Rattle.meaning.specs.Pattern.{Pattern, number, mark, anything, joint_clauses, joint_count, most-clauses, class, contradictory, entry, side_of, patterns, matches, matches_two}
+use Rattle.meaning.specs.Pattern.{Pattern, number, mark, anything, joint_clauses, joint_count, most_clauses, class, contradictory, entry, side_of, patterns, matches, matches_two}
 use Rattle.meaning.specs.Plain.{Lengths, Plain, schemas, table_at, query_at, update_at, record_of, matches_key, too_many, opening_refused, opened, Call, add, ask, change, other_lengths, no_place, full, refusal, a_table, a_query, an_update, Out, refused, added, answered, rows, flushed, added_text, changed_by, rows_by, step, after, outs}
 
 -- what the computations open
@@ -30,11 +30,11 @@ start = opened (record { lent = six; slots = 0; slot_bytes = 8 })
 
 -- what a row of the table says of a store that has the table S and the texts: of its first question and first update
 pub data Outcome : Type 0 where
-  patterns-are : List Pattern → Outcome
-  counts-are : ℕ → ℕ → List Pattern → Outcome
-  next-refused : Call → ℕ → Outcome
+  patterns_are : List Pattern → Outcome
+  counts_are : ℕ → ℕ → List Pattern → Outcome
+  next_refused : Call → ℕ → Outcome
   lists : List Row → Outcome
-  next-record : Call → List ℕ → Outcome
+  next_record : Call → List ℕ → Outcome
 
 -- the clause count of an update
 abbrev change_count : Change → ℕ
@@ -43,12 +43,12 @@ change_count (delete g) = count_of g
 change_count (update ss g) = count_of g
 
 abbrev Says : Plain → Outcome → Type 0
-Says p (patterns-are ps) = patterns (query_at p 0) (update_at p 0) ≡ ps
-Says p (counts-are m n ps) =
+Says p (patterns_are ps) = patterns (query_at p 0) (update_at p 0) ≡ ps
+Says p (counts_are m n ps) =
     (change_count (update_at p 0).change ≡ m) × (count_of (query_at p 0).condition ≡ n) × (patterns (query_at p 0) (update_at p 0) ≡ ps)
-Says p (next-refused c n) = (step six p c).1 ≡ refused n
+Says p (next_refused c n) = (step six p c).1 ≡ refused n
 Says p (lists rs) = answer (query_at p 0) [] (table_at p 0).rows ≡ rs
-Says p (next-record c r) = (step six p c).1 ≡ answered r
+Says p (next_record c r) = (step six p c).1 ≡ answered r
 
 pub record Example : Type 0 where
   pub texts : List String
@@ -76,11 +76,11 @@ abbrev pub Holds : Example → Type 0
 Holds e = (all is_taken (outs six start (adds e ++ e.calls)) ≡ true) × Says (after six start (adds e ++ e.calls)) e.outcome
 
 abbrev pair : String → String → List Pattern → Example
-pair q u ps = record { texts = q ∷ u ∷ []; calls = []; outcome = patterns-are ps }
+pair q u ps = record { texts = q ∷ u ∷ []; calls = []; outcome = patterns_are ps }
 
 -- a pair of which the update has 4 clauses and the question 16
-abbrev four-sixteen : String → String → List Pattern → Example
-four-sixteen q u ps = record { texts = q ∷ u ∷ []; calls = []; outcome = counts-are 4 16 ps }
+abbrev four_sixteen : String → String → List Pattern → Example
+four_sixteen q u ps = record { texts = q ∷ u ∷ []; calls = []; outcome = counts_are 4 16 ps }
 
 -- the values of a call
 abbrev pub numbers : List ℕ → List ℤ
@@ -91,11 +91,11 @@ abbrev sixteen : String
 sixteen =
     "SELECT level FROM stage WHERE (site = ? OR level = ?) AND (site > 0 OR level > 0) AND (site < 9 OR level < 9) AND (site <> 5 OR level <> 5)"
 
-abbrev delete-four : String
-delete-four = "DELETE FROM stage WHERE (site = ? OR site = ?) AND (level = ? OR level = ?)"
+abbrev delete_four : String
+delete_four = "DELETE FROM stage WHERE (site = ? OR site = ?) AND (level = ? OR level = ?)"
 
-abbrev update-four : String
-update-four = "UPDATE stage SET level = ? WHERE (site = ? OR site = ?) AND (level = ? OR level = ?)"
+abbrev update_four : String
+update_four = "UPDATE stage SET level = ? WHERE (site = ? OR site = ?) AND (level = ? OR level = ?)"
 
 -- the table
 abbrev pub examples : List Example
@@ -116,7 +116,7 @@ examples =
     ∷ record {
       texts = "INSERT INTO stage VALUES (?, ?)" ∷ [];
       calls = change 0 (numbers (7 ∷ 120 ∷ [])) ∷ change 0 (numbers (8 ∷ 95 ∷ [])) ∷ change 0 (numbers (7 ∷ 121 ∷ [])) ∷ [];
-      outcome = next-refused (change 0 (numbers (7 ∷ 122 ∷ []))) 12;
+      outcome = next_refused (change 0 (numbers (7 ∷ 122 ∷ []))) 12;
     }
     -- *site = 1 OR site = 2 AND level > 5, row (1, 0)
     ∷ record {
@@ -125,9 +125,9 @@ examples =
       outcome = lists (numbers (1 ∷ 0 ∷ []) ∷ []);
     }
     -- *DELETE, counts 4 and 16
-    ∷ four-sixteen sixteen delete-four ((mark 1 ∷ anything ∷ []) ∷ (anything ∷ mark 3 ∷ []) ∷ (anything ∷ mark 4 ∷ []) ∷ (mark 2 ∷ anything ∷ []) ∷ [])
+    ∷ four_sixteen sixteen delete_four ((mark 1 ∷ anything ∷ []) ∷ (anything ∷ mark 3 ∷ []) ∷ (anything ∷ mark 4 ∷ []) ∷ (mark 2 ∷ anything ∷ []) ∷ [])
     -- *UPDATE, counts 4 and 16
-    ∷ four-sixteen sixteen update-four ((anything ∷ anything ∷ []) ∷ [])
+    ∷ four_sixteen sixteen update_four ((anything ∷ anything ∷ []) ∷ [])
     ∷ []
 
 -- row k of a table, counted from 0
@@ -185,16 +185,16 @@ module _ (q u : String) where
   abbrev pair_matches : List ℕ → List ℕ → Bool
   pair_matches us qs = matches (query_at pair_store 0) (update_at pair_store 0) (numbers us) (numbers qs)
 
-pub counts : (pair_count sixteen delete-four ≡ 64) × (pair_count sixteen update-four ≡ 128)
+pub counts : (pair_count sixteen delete_four ≡ 64) × (pair_count sixteen update_four ≡ 128)
 unfolding computing
 counts = (refl, refl)
 
 -- rule 5: "passes 64"
-pub bound : (ltb most-clauses 64 ≡ false) × (ltb most-clauses 65 ≡ true)
+pub bound : (ltb most_clauses 64 ≡ false) × (ltb most_clauses 65 ≡ true)
 bound = (refl, refl)
 
-pub spares : (pair_matches sixteen delete-four (7 ∷ 8 ∷ 120 ∷ 121 ∷ []) (9 ∷ 95 ∷ []) ≡ false)
-    × (pair_matches sixteen delete-four (7 ∷ 8 ∷ 120 ∷ 121 ∷ []) (7 ∷ 95 ∷ []) ≡ true)
+pub spares : (pair_matches sixteen delete_four (7 ∷ 8 ∷ 120 ∷ 121 ∷ []) (9 ∷ 95 ∷ []) ≡ false)
+    × (pair_matches sixteen delete_four (7 ∷ 8 ∷ 120 ∷ 121 ∷ []) (7 ∷ 95 ∷ []) ≡ true)
 unfolding computing
 spares = (refl, refl)
 
@@ -232,7 +232,7 @@ slips =
     ∷ record {
       texts = "SELECT level FROM stage" ∷ "INSERT INTO stage VALUES (?, ?)" ∷ [];
       calls = change 0 (numbers (7 ∷ 120 ∷ [])) ∷ [];
-      outcome = next-record (ask (record { query = 0; values = [] }) 12) (0 ∷ 0 ∷ 0 ∷ 8 ∷ 1 ∷ 1 ∷ 0 ∷ 1 ∷ 0 ∷ 0 ∷ 0 ∷ 120 ∷ []);
+      outcome = next_record (ask (record { query = 0; values = [] }) 12) (0 ∷ 0 ∷ 0 ∷ 8 ∷ 1 ∷ 1 ∷ 0 ∷ 1 ∷ 0 ∷ 0 ∷ 0 ∷ 120 ∷ []);
     }
     ∷ []
 
@@ -326,8 +326,8 @@ unfolding computing
 words_are = refl
 
 -- texts, each added to the store that the last one left, and what each gets
-abbrev pub names-typed : List (String × Out)
-names-typed =
+abbrev pub names_typed : List (String × Out)
+names_typed =
     ("TABLE STAGE (SITE, Level_2) ROWS 1", added a_table 0)
     ∷ ("TABLE stage (a) ROWS 1", refused 7)
     ∷ ("TABLE Table (Select, b) ROWS 1", added a_table 1)
@@ -347,15 +347,15 @@ names-typed =
     ∷ ("SELECT STAGE.site FROM Stage, STAGE", refused 15)
     ∷ []
 
-abbrev typed-calls : List Call
-typed-calls = map (λ (x : String × Out). add (bytes x.0)) names-typed
+abbrev typed_calls : List Call
+typed_calls = map (λ (x : String × Out). add (bytes x.0)) names_typed
 
-pub names-get : outs six start typed-calls ≡ map (λ (x : String × Out). x.1) names-typed
+pub names-get : outs six start typed_calls ≡ map (λ (x : String × Out). x.1) names_typed
 unfolding computing
 names-get = refl
 
 -- and the names are kept in small letters
-pub names-kept : map (λ (s : Schema). s.name ∷ s.columns) (schemas (after six start typed-calls))
+pub names-kept : map (λ (s : Schema). s.name ∷ s.columns) (schemas (after six start typed_calls))
     ≡ (bytes "stage" ∷ bytes "site" ∷ bytes "level_2" ∷ []) ∷ (bytes "table" ∷ bytes "select" ∷ bytes "b" ∷ []) ∷ (bytes "t" ∷ bytes "rows3" ∷ []) ∷ []
 unfolding computing
 names-kept = refl

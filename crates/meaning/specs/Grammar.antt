@@ -143,8 +143,8 @@ module _ {A : Type 0} where
   passing t on off (u ∷ us) = elim (same_token u t) [ true ↦ on us | false ↦ off (u ∷ us) ]
 
   -- what r reads, else what q reads
-  abbrev pub either-of : Reader A → Reader A → Reader A
-  either-of r q ts = elim (r ts) [ none ↦ q ts | some x ↦ some x ]
+  abbrev pub either_of : Reader A → Reader A → Reader A
+  either_of r q ts = elim (r ts) [ none ↦ q ts | some x ↦ some x ]
 
   -- one token, and what f makes of it
   abbrev pub a_token : (Token → Option A) → Reader A
@@ -223,7 +223,7 @@ a_list item (suc n) = do
 module _ {C : Type 0} (a_column : Reader C) where
   -- a column, constant or question mark
   abbrev pub a_term : Reader (Term C)
-  a_term = either-of (a_column >>= λ n. done (column n)) (a_given >>= λ v. done (given v))
+  a_term = either_of (a_column >>= λ n. done (column n)) (a_given >>= λ v. done (given v))
 
   -- behind IS
   abbrev pub a_null : C → Reader (Test C)

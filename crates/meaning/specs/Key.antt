@@ -3,7 +3,7 @@ use Rattle.std.specs.Prelude.{◌≡◌, Bool, ◌&&◌, List, ℕ, T, eqb, ℤ}
 use Rattle.std.proofs.Common.{subst, eqb→eq}
 use mathlib.Core.HLevel.{Discrete}
 use Rattle.std.proofs.Math.Dec.{eqb_refl}
-use Rattle.lists.specs.Tests.{eq_z, eq_z→eq, eq_z-refl, eq_list, eq_list→eq, eq_list-refl, by-test, both-T, T-both}
+use Rattle.lists.specs.Tests.{eq_z, eq_z→eq, eq_z-refl, eq_list, eq_list→eq, eq_list-refl, by_test, both-T, T-both}
 
 pub record Key : Type 0 where
   pub query : ℕ
@@ -24,4 +24,4 @@ pub is_key-refl : (k : Key) → T (is_key k k)
 is_key-refl k = both-T (eqb k.query k.query) (eq_list eq_z k.values k.values) (eqb_refl k.query) (eq_list-refl eq_z eq_z-refl k.values)
 
 abbrev pub same_key : Discrete Key
-same_key j k = by-test (is_key j k) (is_key→eq j k) (λ e. subst (λ (l : Key). T (is_key j l)) e (is_key-refl j))
+same_key j k = by_test (is_key j k) (is_key→eq j k) (λ e. subst (λ (l : Key). T (is_key j l)) e (is_key-refl j))

@@ -8,61 +8,61 @@ use Rattle.meaning.specs.Grammar.{Given, constant, mark, Term, column, given, co
 
 -- ---- the table of limits
 
-abbrev pub most-cells : ℕ
-most-cells = 32768
+abbrev pub most_cells : ℕ
+most_cells = 32768
 
-abbrev pub most-memory : ℕ
-most-memory = 262144
+abbrev pub most_memory : ℕ
+most_memory = 262144
 
-abbrev pub most-slots : ℕ
-most-slots = 64
+abbrev pub most_slots : ℕ
+most_slots = 64
 
-abbrev pub least-slot-bytes : ℕ
-least-slot-bytes = 8
+abbrev pub least_slot_bytes : ℕ
+least_slot_bytes = 8
 
-abbrev pub most-slot-bytes : ℕ
-most-slot-bytes = 4096
+abbrev pub most_slot_bytes : ℕ
+most_slot_bytes = 4096
 
-abbrev pub most-tables : ℕ
-most-tables = 8
+abbrev pub most_tables : ℕ
+most_tables = 8
 
-abbrev pub most-queries : ℕ
-most-queries = 16
+abbrev pub most_queries : ℕ
+most_queries = 16
 
-abbrev pub most-updates : ℕ
-most-updates = 16
+abbrev pub most_updates : ℕ
+most_updates = 16
 
 -- columns a table, selected, or set; values inserted
-abbrev pub most-items : ℕ
-most-items = 8
+abbrev pub most_items : ℕ
+most_items = 8
 
-abbrev pub most-rows : ℕ
-most-rows = 512
+abbrev pub most_rows : ℕ
+most_rows = 512
 
 -- A.1: "Records may hold up to 65,535 rows"
-abbrev pub most-listed : ℕ
-most-listed = 65535
+abbrev pub most_listed : ℕ
+most_listed = 65535
 
-abbrev pub most-marks : ℕ
-most-marks = 8
+abbrev pub most_marks : ℕ
+most_marks = 8
 
-abbrev pub most-comparisons : ℕ
-most-comparisons = 8
+abbrev pub most_comparisons : ℕ
+most_comparisons = 8
 
 -- parentheses and NOTs around a comparison
-abbrev pub most-depth : ℕ
-most-depth = 8
+abbrev pub most_depth : ℕ
+most_depth = 8
 
-abbrev pub most-name : ℕ
-most-name = 12
+abbrev pub most_name : ℕ
+most_name = 12
 
-abbrev pub most-text : ℕ
-most-text = 256
+abbrev pub most_text : ℕ
+most_text = 256
 
 -- ---- refusal 3: "text over 256 bytes"
 
 abbrev pub too_long : List ℕ → Bool
-too_long text = ltb most-text (length text)
+too_long text = ltb most_text (length text)
 
 -- ---- what stands in a sentence, in the text's order
 
@@ -164,23 +164,23 @@ mark_count (v ∷ vs) = mark_in v + mark_count vs
 
 -- more than eight columns, selected or set; more than eight values inserted
 abbrev pub many_items : Sentence → Bool
-many_items s = ltb most-items (length (list_columns s)) || ltb most-items (length (list_givens s))
+many_items s = ltb most_items (length (list_columns s)) || ltb most_items (length (list_givens s))
 
 -- "ROWS of a table: 1 to 512"; A.4: "RING takes 1 to 512 and counts as the table's ROWS"
 abbrev pub rows_outside : Sentence → Bool
-rows_outside s = any (λ (z : ℤ). not (le_z (pos 1) z && le_z z (pos most-rows))) (rows_of s)
+rows_outside s = any (λ (z : ℤ). not (le_z (pos 1) z && le_z z (pos most_rows))) (rows_of s)
 
 abbrev pub many_marks : Sentence → Bool
-many_marks s = ltb most-marks (mark_count (givens s))
+many_marks s = ltb most_marks (mark_count (givens s))
 
 abbrev pub many_comparisons : Sentence → Bool
-many_comparisons s = ltb most-comparisons (length (comparisons_in (where_of s)))
+many_comparisons s = ltb most_comparisons (length (comparisons_in (where_of s)))
 
 abbrev pub deep : Sentence → Bool
-deep s = ltb most-depth (depth_in (where_of s))
+deep s = ltb most_depth (depth_in (where_of s))
 
 abbrev pub long_name : Sentence → Bool
-long_name s = any (λ (n : Name). ltb most-name (length n)) (all_names s)
+long_name s = any (λ (n : Name). ltb most_name (length n)) (all_names s)
 
 -- "The constant -2147483648 is taken and 2147483648 is not."
 abbrev pub is_within32 : ℤ → Bool

@@ -83,40 +83,40 @@ is_true = (true, false)
 abbrev is_false : Bool × Bool
 is_false = (false, true)
 
-abbrev is-unknown : Bool × Bool
-is-unknown = (false, false)
+abbrev is_unknown : Bool × Bool
+is_unknown = (false, false)
 
 abbrev pub truths : List (String × (Bool × Bool))
 truths =
     ("site = 1", is_true)
     ∷ ("site = 2", is_false)
-    ∷ ("level = 1", is-unknown)
+    ∷ ("level = 1", is_unknown)
     ∷ ("NOT site = 1", is_false)
     ∷ ("NOT site = 2", is_true)
-    ∷ ("NOT level = 1", is-unknown)
+    ∷ ("NOT level = 1", is_unknown)
     ∷ ("site = 1 AND site < 9", is_true)
     ∷ ("site = 1 AND site > 9", is_false)
-    ∷ ("site = 1 AND level <> 1", is-unknown)
+    ∷ ("site = 1 AND level <> 1", is_unknown)
     ∷ ("site = 2 AND site < 9", is_false)
     ∷ ("site = 2 AND site > 9", is_false)
     ∷ ("site = 2 AND level <> 1", is_false)
-    ∷ ("level = 1 AND site < 9", is-unknown)
+    ∷ ("level = 1 AND site < 9", is_unknown)
     ∷ ("level = 1 AND site > 9", is_false)
-    ∷ ("level = 1 AND level <> 1", is-unknown)
+    ∷ ("level = 1 AND level <> 1", is_unknown)
     ∷ ("site = 1 OR site < 9", is_true)
     ∷ ("site = 1 OR site > 9", is_true)
     ∷ ("site = 1 OR level <> 1", is_true)
     ∷ ("site = 2 OR site < 9", is_true)
     ∷ ("site = 2 OR site > 9", is_false)
-    ∷ ("site = 2 OR level <> 1", is-unknown)
+    ∷ ("site = 2 OR level <> 1", is_unknown)
     ∷ ("level = 1 OR site < 9", is_true)
-    ∷ ("level = 1 OR site > 9", is-unknown)
-    ∷ ("level = 1 OR level <> 1", is-unknown)
+    ∷ ("level = 1 OR site > 9", is_unknown)
+    ∷ ("level = 1 OR level <> 1", is_unknown)
     ∷ []
 
-pub three-values : map (λ (x : String × (Bool × Bool)). seen x.0) truths ≡ map (λ (x : String × (Bool × Bool)). x.1) truths
+pub three_values : map (λ (x : String × (Bool × Bool)). seen x.0) truths ≡ map (λ (x : String × (Bool × Bool)). x.1) truths
 unfolding computing
-three-values = refl
+three_values = refl
 
 -- ---- updates
 
@@ -154,12 +154,12 @@ unfolding computing
 asked-null = refl
 
 -- but a mark's value is no null constant of a text: it agrees with a key's value where the two are one number
-abbrev agrees-with : ℤ → ℤ → Bool
-agrees-with a b =
+abbrev agrees_with : ℤ → ℤ → Bool
+agrees_with a b =
     let p : Plain = staged ("SELECT level FROM stage WHERE site = ?" ∷ "INSERT INTO stage VALUES (?, 5)" ∷ []) [] [] in
     matches (query_at p 0) (update_at p 1) (a ∷ []) (b ∷ [])
 
-pub marks-agree : (agrees-with null null ≡ true) × (agrees-with null (pos 7) ≡ false) × (agrees-with (pos 7) null ≡ false)
+pub marks-agree : (agrees_with null null ≡ true) × (agrees_with null (pos 7) ≡ false) × (agrees_with (pos 7) null ≡ false)
 unfolding computing
 marks-agree = (refl, refl, refl)
 

@@ -36,10 +36,10 @@ filled = record {
 }
 
 -- these are the tables after the texts and the rows
-pub tables-are : (after lent (opened (record { lent = lent; slots = 0; slot_bytes = 8 })) (map (λ (t : String). add (bytes t)) texts ++ (map (change 0) stages ++ map (change 1) ratings))).tables
+pub tables_are : (after lent (opened (record { lent = lent; slots = 0; slot_bytes = 8 })) (map (λ (t : String). add (bytes t)) texts ++ (map (change 0) stages ++ map (change 1) ratings))).tables
     ≡ filled.tables
 unfolding computing
-tables-are = refl
+tables_are = refl
 
 -- the end of a question's text, the values that it is asked with, and the rows that it reads
 abbrev Counted : Type 0

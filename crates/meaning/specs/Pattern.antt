@@ -153,8 +153,8 @@ joint_count q (insert os) = count_of q.condition
 joint_count q (delete g) = count_of g * count_of q.condition
 joint_count q (update ss g) = 2 * (count_of g * count_of q.condition)
 
-abbrev pub most-clauses : ℕ
-most-clauses = 64
+abbrev pub most_clauses : ℕ
+most_clauses = 64
 
 -- ---- rule 6: "In a clause `=` joins operands into classes."
 
@@ -283,7 +283,7 @@ chosen true false n cs = clause_patterns n cs
 unfoldable pub patterns : Query → Update → List Pattern
 patterns q u =
     let k = start_of q (side_of q u) in
-    chosen (same_table q u && touches k q u.change) (ltb most-clauses (joint_count q u.change)) q.parameters (joint_clauses k q u.change)
+    chosen (same_table q u && touches k q u.change) (ltb most_clauses (joint_count q u.change)) q.parameters (joint_clauses k q u.change)
 
 -- ---- "A kept answer is dropped when a pattern, filled with the update's values, agrees with its key."
 

@@ -7,7 +7,7 @@ use Rattle.meaning.specs.Condition.{Comparison, always, outer_in, holds}
 use Rattle.meaning.specs.Key.{Key}
 use Rattle.meaning.specs.Grammar as G
 use Rattle.meaning.specs.Grammar.{items, Sentence, sentence}
-use Rattle.meaning.specs.Limits.{most-cells, most-memory, most-slots, least-slot-bytes, most-slot-bytes, most-tables, most-queries, most-updates, most-listed, too_long, past_limit}
+use Rattle.meaning.specs.Limits.{most_cells, most_memory, most_slots, least_slot_bytes, most_slot_bytes, most_tables, most_queries, most_updates, most_listed, too_long, past_limit}
 use Rattle.meaning.specs.Names.{Schema, no_schema, unknown, taken, miscounted, twice}
 use Rattle.meaning.specs.Resolve.{is_below}
 use Rattle.meaning.specs.Statement.{Operand, Second, Query, Change, insert, delete, update, Update, Statement, creates, asks, changes, statement_of}
@@ -132,11 +132,11 @@ pub record Opening : Type 0 where
 -- refusal 1: "opening outside the limits, or slots × bytes over the kept memory"
 unfoldable pub opening_refused : Opening → Bool
 opening_refused o =
-    ltb most-cells o.lent.cells
-    || (ltb most-memory o.lent.memory
-    || (ltb most-slots o.slots
-    || (ltb o.slot_bytes least-slot-bytes
-    || (ltb most-slot-bytes o.slot_bytes
+    ltb most_cells o.lent.cells
+    || (ltb most_memory o.lent.memory
+    || (ltb most_slots o.slots
+    || (ltb o.slot_bytes least_slot_bytes
+    || (ltb most_slot_bytes o.slot_bytes
     || ltb o.lent.memory (o.slots * o.slot_bytes)))))
 
 -- "the opening's lengths (0 if that was refused)"
@@ -173,12 +173,12 @@ its_sentence f (some s) = f s
 
 -- 9: "no table or statement place, or too few cells left"
 unfoldable pub no_place : Plain → Sentence → Bool
-no_place p (G.table t cs ring z) = leb most-tables (length p.tables) || ltb (cells_left p) (length (items cs) * nat_abs z)
-no_place p (G.select cs t w) = leb most-queries (length p.queries)
-no_place p (G.pair cs t u w) = leb most-queries (length p.queries)
-no_place p (G.insert t vs) = leb most-updates (length p.updates)
-no_place p (G.update t ss w) = leb most-updates (length p.updates)
-no_place p (G.delete t w) = leb most-updates (length p.updates)
+no_place p (G.table t cs ring z) = leb most_tables (length p.tables) || ltb (cells_left p) (length (items cs) * nat_abs z)
+no_place p (G.select cs t w) = leb most_queries (length p.queries)
+no_place p (G.pair cs t u w) = leb most_queries (length p.queries)
+no_place p (G.insert t vs) = leb most_updates (length p.updates)
+no_place p (G.update t ss w) = leb most_updates (length p.updates)
+no_place p (G.delete t w) = leb most_updates (length p.updates)
 
 -- 12: "INSERT, table full"; of a ring, A.4: "12 isn't given for it"
 unfoldable pub full : Plain → ℕ → Bool
@@ -221,7 +221,7 @@ change_conditions lent p n us =
 unfoldable pub too_many : Plain → Key → Bool
 too_many p k =
     let q : Query = query_at p k.query in
-    ltb most-listed (length (answer q k.values (rows_for p q)))
+    ltb most_listed (length (answer q k.values (rows_for p q)))
 
 -- 13: "answer buffer shorter than the record"
 abbrev pub is_short : ℕ → List ℕ → Bool

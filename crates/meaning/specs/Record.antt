@@ -1,7 +1,7 @@
 -- Answer records: document 01, "Meaning", second paragraph, and refusal 14. Assumes nothing: these are definitions.
 use Rattle.std.specs.Prelude.{Bool, ◌&&◌, cond, List, [], ◌∷◌, ◌++◌, ℕ, suc, ◌+◌, ◌*◌, ◌-◌, ◌/◌, ◌%◌, ◌^◌, leb, ltb, eqb, ℤ, pos, negsuc, length, take, drop, get_or}
 use Rattle.lists.specs.Lists.{flat}
-use Rattle.meaning.specs.Limits.{most-items, most-listed}
+use Rattle.meaning.specs.Limits.{most_items, most_listed}
 use Rattle.meaning.specs.Meaning.{Row}
 
 -- ---- writing
@@ -56,8 +56,8 @@ is_record bs =
     leb 8 (length bs)
     && (eqb (get_or bs 4 0) 1
     && (leb 1 (columns_in bs)
-    && (leb (columns_in bs) most-items
-    && (leb (row_count bs) most-listed
+    && (leb (columns_in bs) most_items
+    && (leb (row_count bs) most_listed
     && (eqb (four_at bs 0) (row_count bs * row_bytes bs + 4)
     && leb (four_at bs 0 + 4) (length bs))))))
 

@@ -202,13 +202,13 @@ single cs = after lent start (adds ("TABLE t (a) RING 1" ∷ "INSERT INTO t VALU
 abbrev one : ℕ → Call
 one a = change 0 (numbers (a ∷ []))
 
-abbrev drops-one : List Call → ℕ → Bool
-drops-one cs a = matches_key (single cs) 0 (numbers (a ∷ [])) (record { query = 0; values = [] })
+abbrev drops_one : List Call → ℕ → Bool
+drops_one cs a = matches_key (single cs) 0 (numbers (a ∷ [])) (record { query = 0; values = [] })
 
 pub ring-of-one :
     ((table_at (single (one 7 ∷ one 4 ∷ [])) 0).rows ≡ numbers (4 ∷ []) ∷ [])
     × (patterns_of_two (query_at (single (one 7 ∷ [])) 0) (update_at (single (one 7 ∷ [])) 0) (pushed_by (single (one 7 ∷ [])) 0) ≡ [] ∷ [] ∷ [])
     × (patterns_of_two (query_at (single (one 4 ∷ [])) 0) (update_at (single (one 4 ∷ [])) 0) (pushed_by (single (one 4 ∷ [])) 0) ≡ [] ∷ [])
-    × (drops-one (one 7 ∷ []) 4 ≡ true)
+    × (drops_one (one 7 ∷ []) 4 ≡ true)
 unfolding computing
 ring-of-one = (refl, refl, refl, refl)

@@ -89,8 +89,8 @@ module _ (g : M.Operand → Joint) where
 
     -- i comparisons are looked at, and `left` is the mask of the others
     pub record Adding (codes ops : List ℕ) (at left i : ℕ) : Type 0 where
-      pub codes-long : length codes ≡ 40
-      pub ops-long : length ops ≡ 16
+      pub codes_long : length codes ≡ 40
+      pub ops_long : length ops ≡ 16
       pub few : at ≤ n₀ + i
       pub sum : clause_at codes ops at ++ coded (map (renamed g) (select (drop i cs) left)) ≡ total
       pub narrow : All Sides (take i cs)
@@ -98,7 +98,7 @@ module _ (g : M.Operand → Joint) where
       pub marks_stay : drop 32 codes ≡ drop 32 codes₀
 
     pub add_start : length codes₀ ≡ 40 → length ops₀ ≡ 16 → All Readable codes₀ → Adding codes₀ ops₀ n₀ mask 0
-    add_start h l r = record { codes-long = h; ops-long = l; few = omega arith; sum = refl; narrow = nil; readable = r; marks_stay = refl }
+    add_start h l r = record { codes_long = h; ops_long = l; few = omega arith; sum = refl; narrow = nil; readable = r; marks_stay = refl }
 
     module _ (codes ops : List ℕ) (at left i : ℕ) (A : Adding codes ops at left i) (x : C.Comparison M.Operand) (h : i < length cs) (hx : get_or cs i x ≡ x) (n-few : n₀ ≤ 8) (i-few : i < 8)
         (a b o : ℕ) (ca : Coding (g x.left) a) (cb : Coding (g x.right) b) (eo : predicate_at o ≡ x.op) where
@@ -106,10 +106,10 @@ module _ (g : M.Operand → Joint) where
       next-is = drop-cons cs i x h ∙ ap₂ (λ (y : C.Comparison M.Operand) (k : ℕ). y ∷ drop k cs) hx (sym (add-one i))
 
       long : 2 * at + 1 < length codes
-      long = omega (arith, A.few, A.codes-long)
+      long = omega (arith, A.few, A.codes_long)
 
       room : at < length ops
-      room = omega (arith, A.few, A.ops-long)
+      room = omega (arith, A.few, A.ops_long)
 
       abbrev new : C.Comparison ℕ
       new = renamed code_of (renamed g x)
@@ -136,8 +136,8 @@ module _ (g : M.Operand → Joint) where
 
       pub add-more : Adding (set (set codes (2 * at) a) (2 * at + 1) b) (set ops at o) (at + left % 2) (left / 2) (i + 1)
       add-more = record {
-        codes-long = simp length-set A.codes-long;
-        ops-long = simp length-set A.ops-long;
+        codes_long = simp length-set A.codes_long;
+        ops_long = simp length-set A.ops_long;
         few = omega (arith, A.few);
         sum = grows (eqb (left % 2) 1) (left % 2) refl (omega arith)
             ∙ sym (ap (λ (l : List (C.Comparison M.Operand)). clause_at codes ops at ++ coded (map (renamed g) (select l left))) next-is) ∙ A.sum;
@@ -152,7 +152,7 @@ module _ (g : M.Operand → Joint) where
     add_done codes ops at left i h l A =
         let none : drop i cs ≡ [] = drop_of_length-le cs h in
         record {
-          clause-is = sym (append-nil (clause_at codes ops at))
+          clause_is = sym (append-nil (clause_at codes ops at))
               ∙ sym (ap (λ (y : List (C.Comparison M.Operand)). clause_at codes ops at ++ coded (map (renamed g) (select y left))) none) ∙ A.sum;
           narrow = sides-narrow (all-select mask (subst (All Sides) (take_all i cs h) A.narrow));
           few = omega (arith, A.few);

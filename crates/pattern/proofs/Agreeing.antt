@@ -19,7 +19,7 @@ use Rattle.pattern.specs.declared.Entry.TheVariants.{Constant, Parameter}
 use Rattle.pattern.specs.declared.Place.{Place}
 use Rattle.pattern.specs.declared.Pattern.{Pattern}
 use Rattle.pattern.specs.Stored.{relevant, joint, all_any, entry_count, clause_count, clause_total, pattern_struct, no_pattern, clause_pattern, pattern_at, filled_entry, entry_read, place_read, agrees_stored}
-use Rattle.pattern.proofs.Mapped.{get_or-map-in, get_d_any}
+use Rattle.pattern.proofs.Mapped.{get_or-map-in, get_or-any}
 use Rattle.pattern.proofs.Searching.{Pairwise, pair-more, pair-done}
 use Rattle.pattern.proofs.Relevant.{take-few}
 
@@ -74,7 +74,7 @@ module _ (entries : List Place) (values : List ℤ) (n : ℕ) where
     pub agree-more : (good b : Bool) (i : ℕ) (z : ℤ) (e d : Place) → i < n → z ≡ get_or values i (pos 0) → e ≡ get_or entries i d → b ≡ agrees_at [] (place_read e) z
         → Agreeing good i → Agreeing (good && b) (i + 1)
     agree-more good b i z e d h ez ee eb inv =
-        let q : get_or qs i z ≡ z = get_or-take n values i z h ∙ get_d_any values i z (pos 0) (omega arith) ∙ sym ez in
+        let q : get_or qs i z ≡ z = get_or-take n values i z h ∙ get_or-any values i z (pos 0) (omega arith) ∙ sym ez in
         let r : get_or es i (place_read e) ≡ place_read e =
         get_or-map-in place_read (take n entries) i d (place_read e) (omega (arith, length-take n entries)) ∙ ap place_read (get_or-take n entries i d h ∙ sym ee) in
         pair-more (agrees []) qs es (λ x y. agrees_at [] y x) (λ x y l m. refl) good b i z (place_read e) (omega (arith, qs-length)) (omega (arith, es-length)) q r eb inv

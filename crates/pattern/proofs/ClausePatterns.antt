@@ -17,7 +17,7 @@ use Rattle.pattern.specs.declared.Entry.TheVariants.{Any}
 use Rattle.pattern.specs.declared.Place.{Place}
 use Rattle.pattern.specs.declared.Pattern.{Pattern}
 use Rattle.pattern.specs.declared.joint.Joined.{Joined}
-use Rattle.pattern.specs.Least.{asked-from, code_of, Coded, coded}
+use Rattle.pattern.specs.Least.{asked_from, code_of, Coded, coded}
 use Rattle.pattern.specs.Stored.{placed, place_struct, pattern_struct, clause_pattern}
 use Rattle.pattern.specs.Flat.{clause_at, Narrow, Readable, Ready, coded_pattern, no_clause, Extended}
 use Rattle.pattern.proofs.OperandCodes.{Fits}
@@ -41,7 +41,7 @@ coded-pattern n few cs h = sym (least-pattern n (omega arith) cs (All-map narrow
 zero-readable : Readable 0
 zero-readable = record { some = λ e. omega arith; few = λ h. omega arith }
 
-asked-readable : (k : ℕ) → Readable (asked-from + k)
+asked-readable : (k : ℕ) → Readable (asked_from + k)
 asked-readable k = record { some = λ e. omega arith; few = λ h. omega arith }
 
 zeros : (n : ℕ) → All Readable (replicate n 0)
@@ -49,7 +49,7 @@ zeros zero = nil
 zeros (suc n) = cons zero-readable (zeros n)
 
 pub none-readable : All Readable no_clause.codes
-none-readable = All-append (zeros 32) (All-image (λ (k : ℕ). asked-from + k) (All-every asked-readable (from 1 8)))
+none-readable = All-append (zeros 32) (All-image (λ (k : ℕ). asked_from + k) (All-every asked-readable (from 1 8)))
 
 -- a clause added to none; and another to it
 module _ (a : Clause) (start r : Joined) (es : start ≡ no_clause) (E : Extended start.codes start.ops 0 a r) where
@@ -57,26 +57,26 @@ module _ (a : Clause) (start r : Joined) (es : start ≡ no_clause) (E : Extende
   from-none = subst (λ (s : Joined). Extended s.codes s.ops 0 a r) es E
 
   pub one-ready : Ready r.codes r.count
-  one-ready = record { few = omega (arith, E.few); readable = E.readable; marks-there = from-none.marks_stay }
+  one-ready = record { few = omega (arith, E.few); readable = E.readable; marks_there = from-none.marks_stay }
 
   one-clause : clause_at r.codes r.ops r.count ≡ coded a
-  one-clause = from-none.clause-is
+  one-clause = from-none.clause_is
 
   pub one-pattern : (m : ℕ) → m ≤ 8 → coded_pattern m (clause_at r.codes r.ops r.count) ≡ clause_pattern m a
   one-pattern m h = ap (coded_pattern m) one-clause ∙ coded-pattern m h a E.narrow
 
   module _ (b : Clause) (s : Joined) (F : Extended r.codes r.ops r.count b s) where
     pub two_ready : Ready s.codes s.count
-    two_ready = record { few = omega (arith, E.few, F.few); readable = F.readable; marks-there = F.marks_stay ∙ from-none.marks_stay }
+    two_ready = record { few = omega (arith, E.few, F.few); readable = F.readable; marks_there = F.marks_stay ∙ from-none.marks_stay }
 
     pub two-pattern : (m : ℕ) → m ≤ 8 → coded_pattern m (clause_at s.codes s.ops s.count) ≡ clause_pattern m (a ++ b)
     two-pattern m h =
-        ap (coded_pattern m) (F.clause-is ∙ ap (λ (l : Coded). l ++ coded b) one-clause ∙ sym (map-append (renamed code_of) a b))
+        ap (coded_pattern m) (F.clause_is ∙ ap (λ (l : Coded). l ++ coded b) one-clause ∙ sym (map-append (renamed code_of) a b))
         ∙ coded-pattern m h (a ++ b) (subst (All Narrow) (sym (sides-append a b)) (All-append E.narrow F.narrow))
 
 -- the settings in use
-pub settings-are : (u : Update) (n : ℕ) → length u.settings ≡ 8 → n ≡ min u.count 8 → map setting_read (take n u.settings) ≡ settings_read u
-settings-are u n l e = ap (map setting_read) (sym (take-few u.count n u.settings (omega arith)))
+pub settings_are : (u : Update) (n : ℕ) → length u.settings ≡ 8 → n ≡ min u.count 8 → map setting_read (take n u.settings) ≡ settings_read u
+settings_are u n l e = ap (map setting_read) (sym (take-few u.count n u.settings (omega arith)))
 
 -- ---- all any
 

@@ -67,7 +67,7 @@ module _ (c : Condition) (r : Clauses) (K : Masked c r) (role start : ℕ) (ss :
   chosen_at j h =
       let n : length (take r.count r.masks) ≡ r.count = length-take r.count r.masks ∙ omega (arith, K.few, K.long) in
       get_or-map-in (map (renamed (operand_of role start ss))) (clauses_read c) j [] [] (omega (arith, K.counted))
-      ∙ ap (λ (l : List _). map (renamed (operand_of role start ss)) (get_or l j [])) K.clauses-are
+      ∙ ap (λ (l : List _). map (renamed (operand_of role start ss)) (get_or l j [])) K.clauses_are
       ∙ ap (map (renamed (operand_of role start ss))) (get_or-map-in (select (comparisons_read c)) (take r.count r.masks) j 0 [] (omega arith))
       ∙ ap (chosen_of role start ss c) (get_or-take r.count r.masks j 0 h)
 
@@ -166,41 +166,41 @@ module _ (q : Query) (u : Update) (p : Pairing) (W : Worked q u p) (k : ℕ) (h 
   pair-chosen role start =
       let fs = role_clauses role start q u in
       let gs = update_clauses start u in
-      let nf : length fs ≡ p.query.count = length-map (clauses_read q.condition) (map (renamed (operand_of role start (settings_read u)))) ∙ W.query-masked.counted in
-      let ng : length gs ≡ p.update.count = length-map (clauses_read u.condition) (map (renamed (of_update start))) ∙ W.update-masked.counted in
+      let nf : length fs ≡ p.query.count = length-map (clauses_read q.condition) (map (renamed (operand_of role start (settings_read u)))) ∙ W.query_masked.counted in
+      let ng : length gs ≡ p.update.count = length-map (clauses_read u.condition) (map (renamed (of_update start))) ∙ W.update_masked.counted in
       let l : k < length gs * length fs = subst (λ (m : ℕ). k < m) (sym (ap₂ ◌*◌ ng nf)) h in
       sym (get_or-pairs gs fs k l
       ∙ ap (λ (n : ℕ). get_or gs (k / n) [] ++ get_or fs (k % n) []) nf
       ∙ ap₂ ◌++◌
-      (ap (λ (x : List Clause). get_or x (k / p.query.count) []) (sym (update-clauses q u start)) ∙ chosen_at u.condition p.update W.update-masked 0 start (settings_read u) (k / p.query.count) left_below)
-      (chosen_at q.condition p.query W.query-masked role start (settings_read u) (k % p.query.count) right-below))
+      (ap (λ (x : List Clause). get_or x (k / p.query.count) []) (sym (update-clauses q u start)) ∙ chosen_at u.condition p.update W.update_masked 0 start (settings_read u) (k / p.query.count) left_below)
+      (chosen_at q.condition p.query W.query_masked role start (settings_read u) (k % p.query.count) right-below))
 
 -- ---- clause i, by the form
 
 module _ (q : Query) (u : Update) (p : Pairing) (W : Worked q u p) (i : ℕ) (h : i < p.total) (start : ℕ) (es : start ≡ start_read q u) where
-  total-is : p.total ≡ total_of u.form p.query.count p.update.count
-  total-is = W.total-is ∙ sym (joint-total q u (start_read q u) p.query.count p.update.count W.query-masked.counted W.update-masked.counted u.form refl)
+  total_is : p.total ≡ total_of u.form p.query.count p.update.count
+  total_is = W.total_is ∙ sym (joint-total q u (start_read q u) p.query.count p.update.count W.query_masked.counted W.update_masked.counted u.form refl)
 
   at-start : get_or (clauses q u start) i [] ≡ get_or (joint q u) i []
   at-start = ap (λ (n : ℕ). get_or (joint_clauses n u.form q u) i []) es
 
   module _ (e : u.form ≡ 0) where
     pub insert-below : i < p.query.count
-    insert-below = subst (λ (n : ℕ). i < n) (total-is ∙ ap (λ (k : ℕ). total_of k p.query.count p.update.count) e) h
+    insert-below = subst (λ (n : ℕ). i < n) (total_is ∙ ap (λ (k : ℕ). total_of k p.query.count p.update.count) e) h
 
     pub insert-chosen : chosen_of 2 start (settings_read u) q.condition (get_or p.query.masks i 0) ≡ get_or (joint q u) i []
     insert-chosen =
-        sym (ap (λ (l : List Clause). get_or l i []) (insert-clauses q u start e) ∙ chosen_at q.condition p.query W.query-masked 2 start (settings_read u) i insert-below)
+        sym (ap (λ (l : List Clause). get_or l i []) (insert-clauses q u start e) ∙ chosen_at q.condition p.query W.query_masked 2 start (settings_read u) i insert-below)
         ∙ at-start
 
   module _ (ne : u.form ≡ 0 → ⊥) where
     pub first-chosen : i < p.update.count * p.query.count → pair_at 1 start q u i ≡ get_or (joint q u) i []
-    first-chosen l = sym (first-at q u start p.query.count p.update.count W.query-masked.counted W.update-masked.counted u.form refl ne i l) ∙ at-start
+    first-chosen l = sym (first-at q u start p.query.count p.update.count W.query_masked.counted W.update_masked.counted u.form refl ne i l) ∙ at-start
 
     pub second-chosen : p.update.count * p.query.count ≤ i
         → (get_or (joint q u) i [] ≡ pair_at 3 start q u (i - p.update.count * p.query.count)) × (i - p.update.count * p.query.count < p.update.count * p.query.count)
     second-chosen l =
-        let r = second_at q u start p.query.count p.update.count W.query-masked.counted W.update-masked.counted u.form refl ne i (subst (λ (n : ℕ). i < n) total-is h) l in
+        let r = second_at q u start p.query.count p.update.count W.query_masked.counted W.update_masked.counted u.form refl ne i (subst (λ (n : ℕ). i < n) total_is h) l in
         (sym at-start ∙ r.0, r.1)
 
 -- ---- rule 5
@@ -243,11 +243,11 @@ module _ (q : Query) (u : Update) where
       record {
         many_is = ap (ltb 64) n ∙ sym (both-formed ef eg);
         worked = λ m. record {
-          query-masked = K;
-          update-masked = L;
-          query-few = formed-few q.condition ef;
-          update-few = formed-few u.condition eg;
-          total-is = n;
+          query_masked = K;
+          update_masked = L;
+          query_few = formed-few q.condition ef;
+          update_few = formed-few u.condition eg;
+          total_is = n;
           few = ltb-false 64 total m;
         };
       }

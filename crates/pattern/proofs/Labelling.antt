@@ -24,7 +24,7 @@ use Rattle.pattern.specs.declared.Entry.TheVariants.{Constant, Parameter, Any}
 use Rattle.pattern.specs.declared.Place.{Place}
 use Rattle.pattern.specs.declared.Pattern.{Pattern}
 use Rattle.pattern.specs.declared.labels.Labels.{Labels}
-use Rattle.pattern.specs.Least.{marks-from, asked-from, code_constant, Coded, join_least, least_on, least, clashes, clashes_on, fails, contradicts, entry_of_code, least_entry}
+use Rattle.pattern.specs.Least.{marks_from, asked_from, code_constant, Coded, join_least, least_on, least, clashes, clashes_on, fails, contradicts, entry_of_code, least_entry}
 use Rattle.pattern.specs.Stored.{entry_struct, placed, place_struct, pattern_struct, no_pattern}
 use Rattle.pattern.specs.Flat.{comparison_at, clause_at, failing, Readable, Labelled, places_of, coded_pattern}
 use Rattle.pattern.proofs.Searching.{fill_more, fill_done}
@@ -82,9 +82,9 @@ module _ (codes ops : List ℕ) (n : ℕ) where
   -- the first i comparisons are done: f is what they make of an operand
   pub record Labelling (labels : List ℕ) (clash : Bool) (i : ℕ) : Type 0 where
     pub f : ℕ → ℕ
-    pub labels-are : labels ≡ map f codes
-    pub least-left : least_on f (drop i (clause_at codes ops n)) ≡ least (clause_at codes ops n)
-    pub clash-left : (clash || clashes_on f (drop i (clause_at codes ops n))) ≡ clashes_on (λ x. x) (clause_at codes ops n)
+    pub labels_are : labels ≡ map f codes
+    pub least_left : least_on f (drop i (clause_at codes ops n)) ≡ least (clause_at codes ops n)
+    pub clash_left : (clash || clashes_on f (drop i (clause_at codes ops n))) ≡ clashes_on (λ x. x) (clause_at codes ops n)
     pub readable : All Readable labels
 
   map-id : (l : List ℕ) → l ≡ map (λ (x : ℕ). x) l
@@ -92,7 +92,7 @@ module _ (codes ops : List ℕ) (n : ℕ) where
   map-id (x ∷ l) = ap (λ (r : List ℕ). x ∷ r) (map-id l)
 
   pub label-start : All Readable codes → Labelling codes false 0
-  label-start r = record { f = λ x. x; labels-are = map-id codes; least-left = refl; clash-left = refl; readable = r }
+  label-start r = record { f = λ x. x; labels_are = map-id codes; least_left = refl; clash_left = refl; readable = r }
 
   module _ (long : length codes ≡ 40) (few : n ≤ 16) (labels : List ℕ) (clash : Bool) (i : ℕ) (L : Labelling labels clash i) (h : i < n) where
     abbrev left : ℕ
@@ -105,10 +105,10 @@ module _ (codes ops : List ℕ) (n : ℕ) where
     op = predicate_at (get_or ops i 0)
 
     side : (k : ℕ) → k < 40 → get_or labels k 0 ≡ L.f (get_or codes k 0)
-    side k l = ap (λ (x : List ℕ). get_or x k 0) L.labels-are ∙ get_or-map-in L.f codes k 0 0 (omega arith)
+    side k l = ap (λ (x : List ℕ). get_or x k 0) L.labels_are ∙ get_or-map-in L.f codes k 0 0 (omega arith)
 
     labels-long : length labels ≡ 40
-    labels-long = ap length L.labels-are ∙ length-map codes L.f ∙ long
+    labels-long = ap length L.labels_are ∙ length-map codes L.f ∙ long
 
     pub label-more : (labels' : List ℕ) (clash' : Bool) → labels' ≡ map (join_least op left right) labels → clash' ≡ (clash || clashes op left right)
         → Labelling labels' clash' (i + 1)
@@ -122,24 +122,24 @@ module _ (codes ops : List ℕ) (n : ℕ) where
         let rr : Readable right = All-at (2 * i + 1) 0 (omega (arith, labels-long)) L.readable in
         record {
           f = g;
-          labels-are = el
+          labels_are = el
               ∙ ap₂ (λ (x : ℕ) (y : ℕ). map (join_least op x y) labels) sl sr
-              ∙ ap (map (join_least op (L.f c.left) (L.f c.right))) L.labels-are
+              ∙ ap (map (join_least op (L.f c.left) (L.f c.right))) L.labels_are
               ∙ map-map (join_least op (L.f c.left) (L.f c.right)) L.f codes;
-          least-left = sym (ap (least_on L.f) next) ∙ L.least-left;
-          clash-left = ap (λ (b : Bool). b || clashes_on g (drop (i + 1) (clause_at codes ops n))) (ec ∙ ap₂ (λ (x : ℕ) (y : ℕ). clash || clashes op x y) sl sr)
+          least_left = sym (ap (least_on L.f) next) ∙ L.least_left;
+          clash_left = ap (λ (b : Bool). b || clashes_on g (drop (i + 1) (clause_at codes ops n))) (ec ∙ ap₂ (λ (x : ℕ) (y : ℕ). clash || clashes op x y) sl sr)
               ∙ sym (or_assoc clash (clashes op (L.f c.left) (L.f c.right)) (clashes_on g (drop (i + 1) (clause_at codes ops n))))
-              ∙ sym (ap (λ (l : Coded). clash || clashes_on L.f l) next) ∙ L.clash-left;
+              ∙ sym (ap (λ (l : Coded). clash || clashes_on L.f l) next) ∙ L.clash_left;
           readable = subst (All Readable) (sym el) (All-image (join_least op left right) (All-map (λ x t. join-readable op left right x rl rr t) L.readable));
         }
 
   pub label-done : (labels : List ℕ) (clash : Bool) (i : ℕ) → n ≤ i → Labelling labels clash i → Labelled codes ops n (record { codes = labels; clash = clash })
   label-done labels clash i h L =
       let none = clause-none codes ops n i h in
-      let e : L.f ≡ least (clause_at codes ops n) = sym (ap (least_on L.f) none) ∙ L.least-left in
+      let e : L.f ≡ least (clause_at codes ops n) = sym (ap (least_on L.f) none) ∙ L.least_left in
       record {
-        labels-are = L.labels-are ∙ ap (λ (g : ℕ → ℕ). map g codes) e;
-        clash-is = sym (or-false clash) ∙ sym (ap (λ (l : Coded). clash || clashes_on L.f l) none) ∙ L.clash-left;
+        labels_are = L.labels_are ∙ ap (λ (g : ℕ → ℕ). map g codes) e;
+        clash_is = sym (or-false clash) ∙ sym (ap (λ (l : Coded). clash || clashes_on L.f l) none) ∙ L.clash_left;
         readable = L.readable;
       }
 
@@ -170,23 +170,23 @@ module _ (labels : List ℕ) (n : ℕ) (long : length labels ≡ 40) (few : n �
       ∙ ap (λ (x : List Place). placing labels n ++ x) (drop-replicate (length (take n (drop 32 labels))) 8 (placed Any) ∙ ap (λ (m : ℕ). replicate (8 - m) (placed Any)) z)
 
 -- what a number says of a question mark
-pub entry-constant : (n : ℕ) (z : ℤ) → n < marks-from → z ≡ code_constant n → Constant z ≡ entry_struct (entry_of_code n)
+pub entry-constant : (n : ℕ) (z : ℤ) → n < marks_from → z ≡ code_constant n → Constant z ≡ entry_struct (entry_of_code n)
 entry-constant n z h e =
     ap Constant e
-    ∙ sym (ap (λ (b : Bool). entry_struct (cond b (number (code_constant n)) (cond (ltb n asked-from) (mark (n - marks-from)) anything))) (lt-ltb n marks-from h))
+    ∙ sym (ap (λ (b : Bool). entry_struct (cond b (number (code_constant n)) (cond (ltb n asked_from) (mark (n - marks_from)) anything))) (lt-ltb n marks_from h))
 
 mark-place : (k : ℕ) → k - 1 ≡ mark_place k
 mark-place zero = omega arith
 mark-place (suc k) = omega arith
 
-pub entry-mark : (n : ℕ) → marks-from ≤ n → n < asked-from → Parameter (n - marks-from - 1) ≡ entry_struct (entry_of_code n)
+pub entry-mark : (n : ℕ) → marks_from ≤ n → n < asked_from → Parameter (n - marks_from - 1) ≡ entry_struct (entry_of_code n)
 entry-mark n h l =
-    ap Parameter (mark-place (n - marks-from))
-    ∙ sym (ap₂ (λ (b t : Bool). entry_struct (cond b (number (code_constant n)) (cond t (mark (n - marks-from)) anything))) (le-ltb n marks-from h) (lt-ltb n asked-from l))
+    ap Parameter (mark-place (n - marks_from))
+    ∙ sym (ap₂ (λ (b t : Bool). entry_struct (cond b (number (code_constant n)) (cond t (mark (n - marks_from)) anything))) (le-ltb n marks_from h) (lt-ltb n asked_from l))
 
-pub entry-any : (n : ℕ) → asked-from ≤ n → Any ≡ entry_struct (entry_of_code n)
+pub entry-any : (n : ℕ) → asked_from ≤ n → Any ≡ entry_struct (entry_of_code n)
 entry-any n h =
-    sym (ap₂ (λ (b t : Bool). entry_struct (cond b (number (code_constant n)) (cond t (mark (n - marks-from)) anything))) (le-ltb n marks-from (omega arith)) (le-ltb n asked-from h))
+    sym (ap₂ (λ (b t : Bool). entry_struct (cond b (number (code_constant n)) (cond t (mark (n - marks_from)) anything))) (le-ltb n marks_from (omega arith)) (le-ltb n asked_from h))
 
 -- ---- the pattern
 
@@ -211,37 +211,37 @@ module _ (codes ops : List ℕ) (n marks : ℕ) (long : length codes ≡ 40) (fe
 
   fails-are : any failing (clause_at l.codes ops n) ≡ any broken whole
   fails-are =
-      ap (λ (x : List ℕ). any failing (clause_at x ops n)) L.labels-are
+      ap (λ (x : List ℕ). any failing (clause_at x ops n)) L.labels_are
       ∙ ap (any failing) (renamed-clause (least whole) codes ops n (omega arith))
       ∙ any-map (renamed (least whole)) failing whole
 
-  entries-are : marks ≤ 8 → drop 32 codes ≡ map (λ (k : ℕ). asked-from + k) (from 1 8) → placing l.codes marks ≡ map place_struct (map (least_entry whole) (from 1 marks))
+  entries-are : marks ≤ 8 → drop 32 codes ≡ map (λ (k : ℕ). asked_from + k) (from 1 8) → placing l.codes marks ≡ map place_struct (map (least_entry whole) (from 1 marks))
   unfolding least_entry
   entries-are h e =
-      let m : take marks (drop 32 l.codes) ≡ map (least whole) (map (λ (k : ℕ). asked-from + k) (from 1 marks)) =
-      ap (λ (x : List ℕ). take marks (drop 32 x)) L.labels-are
+      let m : take marks (drop 32 l.codes) ≡ map (least whole) (map (λ (k : ℕ). asked_from + k) (from 1 marks)) =
+      ap (λ (x : List ℕ). take marks (drop 32 x)) L.labels_are
       ∙ ap (take marks) (map-drop (least whole) 32 codes ∙ ap (map (least whole)) e)
-      ∙ sym (map-take (least whole) marks (map (λ (k : ℕ). asked-from + k) (from 1 8)))
-      ∙ ap (map (least whole)) (sym (map-take (λ (k : ℕ). asked-from + k) marks (from 1 8)) ∙ ap (map (λ (k : ℕ). asked-from + k)) (take-from 1 marks 8 h)) in
-      ap (map (λ (x : ℕ). place_struct (entry_of_code x))) (m ∙ map-map (least whole) (λ (k : ℕ). asked-from + k) (from 1 marks))
-      ∙ map-map (λ (x : ℕ). place_struct (entry_of_code x)) (λ (k : ℕ). least whole (asked-from + k)) (from 1 marks)
+      ∙ sym (map-take (least whole) marks (map (λ (k : ℕ). asked_from + k) (from 1 8)))
+      ∙ ap (map (least whole)) (sym (map-take (λ (k : ℕ). asked_from + k) marks (from 1 8)) ∙ ap (map (λ (k : ℕ). asked_from + k)) (take-from 1 marks 8 h)) in
+      ap (map (λ (x : ℕ). place_struct (entry_of_code x))) (m ∙ map-map (least whole) (λ (k : ℕ). asked_from + k) (from 1 marks))
+      ∙ map-map (λ (x : ℕ). place_struct (entry_of_code x)) (λ (k : ℕ). least whole (asked_from + k)) (from 1 marks)
       ∙ sym (map-map place_struct (least_entry whole) (from 1 marks))
 
   pub pattern-clash : l.clash ≡ true → no_pattern ≡ coded_pattern marks whole
   unfolding coded_pattern contradicts
   pattern-clash e =
-      sym (ap (λ (b : Bool). cond (b || any broken whole) no_pattern (pattern_struct (map (least_entry whole) (from 1 marks)))) (sym L.clash-is ∙ e))
+      sym (ap (λ (b : Bool). cond (b || any broken whole) no_pattern (pattern_struct (map (least_entry whole) (from 1 marks)))) (sym L.clash_is ∙ e))
 
   pub pattern-fails : l.clash ≡ false → any failing (clause_at l.codes ops n) ≡ true → no_pattern ≡ coded_pattern marks whole
   unfolding coded_pattern contradicts
   pattern-fails e q =
-      sym (ap₂ (λ (b t : Bool). cond (b || t) no_pattern (pattern_struct (map (least_entry whole) (from 1 marks)))) (sym L.clash-is ∙ e) (sym fails-are ∙ q))
+      sym (ap₂ (λ (b t : Bool). cond (b || t) no_pattern (pattern_struct (map (least_entry whole) (from 1 marks)))) (sym L.clash_is ∙ e) (sym fails-are ∙ q))
 
   pub pattern-there : l.clash ≡ false → any failing (clause_at l.codes ops n) ≡ false → marks ≤ 8
-      → drop 32 codes ≡ map (λ (k : ℕ). asked-from + k) (from 1 8) → (places : List Place) → places ≡ places_of l.codes marks
+      → drop 32 codes ≡ map (λ (k : ℕ). asked_from + k) (from 1 8) → (places : List Place) → places ≡ places_of l.codes marks
       → ◌≡◌ {A = Pattern} (record { there = true; entries = places; count = marks }) (coded_pattern marks whole)
   unfolding coded_pattern contradicts places_of
   pattern-there e q h d places ep =
       let count : marks ≡ length (map (least_entry whole) (from 1 marks)) = sym (length-map (from 1 marks) (least_entry whole) ∙ from-count 1 marks) in
       ap₂ (λ (x : List Place) (k : ℕ). record { there = true; entries = x; count = k }) (ep ∙ ap (padded 8 (placed Any)) (entries-are h d)) count
-      ∙ sym (ap₂ (λ (b t : Bool). cond (b || t) no_pattern (pattern_struct (map (least_entry whole) (from 1 marks)))) (sym L.clash-is ∙ e) (sym fails-are ∙ q))
+      ∙ sym (ap₂ (λ (b t : Bool). cond (b || t) no_pattern (pattern_struct (map (least_entry whole) (from 1 marks)))) (sym L.clash_is ∙ e) (sym fails-are ∙ q))

@@ -20,18 +20,18 @@ use Rattle.lists.proofs.Changed.{any-places, All-distinct, length-distinct}
 use Rattle.meaning.specs.Condition.{Where, sides, renamed, clauses_of}
 use Rattle.meaning.specs.Postfix.{leaves, is_postfix}
 use Rattle.meaning.specs.Resolve.{parameter_count}
-use Rattle.meaning.specs.Limits.{most-marks, most-comparisons}
+use Rattle.meaning.specs.Limits.{most_marks, most_comparisons}
 use Rattle.meaning.specs.Names.{Schema}
 use Rattle.meaning.specs.Statement as M
 use Rattle.meaning.specs.Statement.{insert, delete, update}
 use Rattle.meaning.specs.Meaning.{Row, answer, changed}
 use Rattle.meaning.specs.Pattern as P
-use Rattle.meaning.specs.Pattern.{Side, neither, first, second, side_of, is_side, start_of, same_table, Joint, column, constant, asked, given, of_value, of_update, of_query, moved, placed_from, replacing, operand_columns, Clause, same, label, class, contradictory, constants, update_marks, number, mark, anything, class_entry, entry, pattern, same_entry, clause_patterns, chosen, joint_count, most-clauses, agrees_at, agrees, removal, matches_two}
+use Rattle.meaning.specs.Pattern.{Side, neither, first, second, side_of, is_side, start_of, same_table, Joint, column, constant, asked, given, of_value, of_update, of_query, moved, placed_from, replacing, operand_columns, Clause, same, label, class, contradictory, constants, update_marks, number, mark, anything, class_entry, entry, pattern, same_entry, clause_patterns, chosen, joint_count, most_clauses, agrees_at, agrees, removal, matches_two}
 use Rattle.meaning.specs.Demand.{ChangesWithin, StandsBeside, rows_beside}
 use Rattle.meaning.proofs.Classes.{marks-have}
 use Rattle.meaning.proofs.Clauses.{clauses_of-replaced, joint-length}
 use Rattle.meaning.proofs.Postfix.{sides-in, postfix-where}
-use Rattle.meaning.proofs.Weakening.{any-clause, matches-two, answer-stays}
+use Rattle.meaning.proofs.Weakening.{any-clause, matches-two, answer_stays}
 use Rattle.statement.specs.Compiled.{padded, left_side, right_side, new_value, form_of_change, settings_of_change, where_of_change, update_struct}
 use Rattle.statement.specs.Sound.{value_read, operand_read, used_comparisons, used_settings, second_read, settings_read, setting_operands, condition_nodes, columns_at, sound_query, sound_update, AgreesCondition, AgreesQuery, AgreesUpdate}
 use Rattle.statement.proofs.Assembled.{take-padded}
@@ -165,38 +165,38 @@ matches-one-by-one q u us zs = go (relevant q u) (all_any q u)
 
 -- no more parameters and comparisons than the limits allow
 pub record Few (q : Query) (u : Update) : Type 0 where
-  pub parameters : q.parameters ≤ most-marks
-  pub query-comparisons : q.condition.count ≤ most-comparisons
-  pub update-comparisons : u.condition.count ≤ most-comparisons
+  pub parameters : q.parameters ≤ most_marks
+  pub query_comparisons : q.condition.count ≤ most_comparisons
+  pub update_comparisons : u.condition.count ≤ most_comparisons
 
 pub sound-few : (ts : List Schema) (q : Query) (u : Update) → sound_query ts q ≡ true → sound_update ts u ≡ true → Few q u
 sound-few ts q u h k =
     let a = query-parts ts q h in
     let b = update-parts ts u k in
     record {
-      parameters = a.few-parameters;
-      query-comparisons = (condition-parts _ 0 q.condition a.condition-sound).few;
-      update-comparisons = (condition-parts (columns_at ts u.table) (parameter_count (setting_operands u)) u.condition b.condition-sound).few;
+      parameters = a.few_parameters;
+      query_comparisons = (condition-parts _ 0 q.condition a.condition_sound).few;
+      update_comparisons = (condition-parts (columns_at ts u.table) (parameter_count (setting_operands u)) u.condition b.condition_sound).few;
     }
 
 module _ (c : Condition) (w : Where M.Operand) (A : AgreesCondition c w) where
-  clauses-are : clauses_read c ≡ clauses_of w
+  clauses_are : clauses_read c ≡ clauses_of w
   unfolding clauses_read
-  clauses-are = agrees-clauses c w A
+  clauses_are = agrees-clauses c w A
 
-  formed : c.count ≤ most-comparisons → is_formed c ≡ true
+  formed : c.count ≤ most_comparisons → is_formed c ≡ true
   unfolding is_formed
-  formed h = and_both (leb c.count 8) (is_postfix (condition_nodes c)) (le-leb c.count 8 h) (ap is_postfix A.nodes-are ∙ postfix-where w)
+  formed h = and_both (leb c.count 8) (is_postfix (condition_nodes c)) (le-leb c.count 8 h) (ap is_postfix A.nodes_are ∙ postfix-where w)
 
 module _ (q : Query) (r : M.Query) (A : AgreesQuery q r) where
-  columns-are : columns_used q ≡ P.columns_used r
-  columns-are =
-      ap₂ (λ (is : List ℕ) (os : List M.Operand). is ++ operand_columns os) A.selected-are
-      (ap (λ ns. sides (leaves ns)) A.condition-is.nodes-are ∙ sides-in r.condition)
+  columns_are : columns_used q ≡ P.columns_used r
+  columns_are =
+      ap₂ (λ (is : List ℕ) (os : List M.Operand). is ++ operand_columns os) A.selected_are
+      (ap (λ ns. sides (leaves ns)) A.condition_is.nodes_are ∙ sides-in r.condition)
 
   query-clauses : (f : ℕ → Joint) → query_clauses f q ≡ P.query_clauses f r
   query-clauses f =
-      ap (map (map (renamed (of_query f)))) (clauses-are q.condition r.condition A.condition-is)
+      ap (map (map (renamed (of_query f)))) (clauses_are q.condition r.condition A.condition_is)
       ∙ sym (clauses_of-replaced (of_query f) r.condition)
 
   -- where k columns stand before those of the updated table
@@ -206,10 +206,10 @@ module _ (q : Query) (r : M.Query) (A : AgreesQuery q r) where
     touches-is (delete g) f s = ap (λ (n : ℕ). touches k n q u) f
     touches-is (update ss g) f s =
         ap (λ (n : ℕ). touches k n q u) f
-        ∙ ap₂ (λ (l : List (ℕ × M.Value)) (is : List ℕ). any (λ (s : ℕ × M.Value). any (eqb s.0) is) (moved k l)) s columns-are
+        ∙ ap₂ (λ (l : List (ℕ × M.Value)) (is : List ℕ). any (λ (s : ℕ × M.Value). any (eqb s.0) is) (moved k l)) s columns_are
 
     both-clauses : (g : Where M.Operand) → AgreesCondition u.condition g → (f : ℕ → Joint) → both_clauses k u f q ≡ P.both_clauses k g f r
-    both-clauses g B f = ap₂ pairs (ap (map (map (renamed (of_update k)))) (clauses-are u.condition g B) ∙ sym (clauses_of-replaced (of_update k) g)) (query-clauses f)
+    both-clauses g B f = ap₂ pairs (ap (map (map (renamed (of_update k)))) (clauses_are u.condition g B) ∙ sym (clauses_of-replaced (of_update k) g)) (query-clauses f)
 
     joint-clauses : (ch : M.Change) → u.form ≡ form_of_change ch → settings_read u ≡ settings_of_change ch → AgreesCondition u.condition (where_of_change ch)
         → joint_clauses k u.form q u ≡ P.joint_clauses k r ch
@@ -245,24 +245,24 @@ module _ (q : Query) (r : M.Query) (A : AgreesQuery q r) (u : Update) (s : M.Upd
   relevant-is : relevant q u ≡ (same_table r s && P.touches start r s.change)
   unfolding relevant
   relevant-is =
-      ap₂ ◌&&◌ (ap is_side side-is) (ap (λ (k : ℕ). touches k u.form q u) start_is ∙ touches-is q r A u start s.change B.form-is B.settings-are)
+      ap₂ ◌&&◌ (ap is_side side-is) (ap (λ (k : ℕ). touches k u.form q u) start_is ∙ touches-is q r A u start s.change B.form_is B.settings_are)
 
   joint-is : joint q u ≡ P.joint_clauses start r s.change
   joint-is =
-      ap (λ (k : ℕ). joint_clauses k u.form q u) start_is ∙ joint-clauses q r A u start s.change B.form-is B.settings-are B.condition-is
+      ap (λ (k : ℕ). joint_clauses k u.form q u) start_is ∙ joint-clauses q r A u start s.change B.form_is B.settings_are B.condition_is
 
-  any-is : all_any q u ≡ ltb most-clauses (joint_count r s.change)
+  any-is : all_any q u ≡ ltb most_clauses (joint_count r s.change)
   unfolding all_any
   any-is =
-      ap₂ (λ (b : Bool) (n : ℕ). not b || ltb most-clauses n)
-      (and_both (is_formed q.condition) (is_formed u.condition) (formed q.condition r.condition A.condition-is few.query-comparisons)
-      (formed u.condition (where_of_change s.change) B.condition-is few.update-comparisons))
+      ap₂ (λ (b : Bool) (n : ℕ). not b || ltb most_clauses n)
+      (and_both (is_formed q.condition) (is_formed u.condition) (formed q.condition r.condition A.condition_is few.query_comparisons)
+      (formed u.condition (where_of_change s.change) B.condition_is few.update_comparisons))
       (ap length joint-is ∙ joint-length r start s.change)
 
   -- the patterns of stored statements are those of their sentences
   pub patterns-mean : patterns_stored q u ≡ P.patterns r s
   unfolding patterns_stored P.patterns
-  patterns-mean = λ i. chosen (relevant-is i) (any-is i) ((min-eq_left few.parameters ∙ A.parameters-are) i) (joint-is i)
+  patterns-mean = λ i. chosen (relevant-is i) (any-is i) ((min-eq_left few.parameters ∙ A.parameters_are) i) (joint-is i)
 
   pub matches-mean : (us qs : List ℤ) → matches_stored q u us qs ≡ P.matches r s us qs
   unfolding matches_stored P.matches
@@ -277,7 +277,7 @@ module _ (q : Query) (r : M.Query) (A : AgreesQuery q r) (u : Update) (s : M.Upd
   removal-means : (us qs : List ℤ) (x : Row) → matches_stored q (update_struct (removal u.table x)) us qs ≡ P.matches r (removal s.table x) us qs
   removal-means us qs x =
       matches-mean q r A (update_struct (removal u.table x)) (removal u.table x) (removal-agrees u.table x)
-      (record { parameters = few.parameters; query-comparisons = few.query-comparisons; update-comparisons = omega arith }) us qs
+      (record { parameters = few.parameters; query_comparisons = few.query_comparisons; update_comparisons = omega arith }) us qs
       ∙ ap (λ (k : ℕ). P.matches r (removal k x) us qs) B.table_is
 
   -- they match as those of the sentences
@@ -293,7 +293,7 @@ module _ (q : Query) (r : M.Query) (A : AgreesQuery q r) (u : Update) (s : M.Upd
   pub unmatched-stays : (qs us : List ℤ) (out rows others : List Row) → length qs ≡ r.parameters → All (ChangesWithin s.change) rows
       → All (StandsBeside r (side_of r s)) others → same_table r s ≡ true → any (λ (v : Update). matches_stored q v us qs) (judged_stored u out) ≡ false
       → answer r qs (rows_beside r.second (side_of r s) (changed s.change us rows) others) ≡ answer r qs (rows_beside r.second (side_of r s) (out ++ rows) others)
-  unmatched-stays qs us out rows others n w b t h = answer-stays r qs s us out rows others n w b t (sym (judged-mean out us qs) ∙ h)
+  unmatched-stays qs us out rows others n w b t h = answer_stays r qs s us out rows others n w b t (sym (judged-mean out us qs) ∙ h)
 
   -- and so on stored statements
   pub stored-stays : (qs us : List ℤ) (out rows others : List Row) → length qs ≡ q.parameters → All (ChangesWithin s.change) rows
@@ -303,7 +303,7 @@ module _ (q : Query) (r : M.Query) (A : AgreesQuery q r) (u : Update) (s : M.Upd
       let side : side_read q u ≡ side_of r s = side-is q r A u s B few in
       answer-means q r A qs (rows_beside (second_read q) (side_read q u) (changed s.change us rows) others)
       ∙ (λ i. answer r qs (rows_beside (A.second_is i) (side i) (changed s.change us rows) others))
-      ∙ unmatched-stays qs us out rows others (n ∙ A.parameters-are) w b (sym (ap is_side side) ∙ t) h
+      ∙ unmatched-stays qs us out rows others (n ∙ A.parameters_are) w b (sym (ap is_side side) ∙ t) h
       ∙ sym ((λ i. answer r qs (rows_beside (A.second_is i) (side i) (out ++ rows) others)))
       ∙ sym (answer-means q r A qs (rows_beside (second_read q) (side_read q u) (out ++ rows) others))
 
@@ -331,15 +331,15 @@ patterns-long q u = go (relevant q u) (all_any q u)
     go true false = All-distinct (eq_list same_entry) (All-image (pattern n) (All-every (pattern-length n) (keep (λ (c : Clause). not (contradictory c)) (joint q u))))
 
 -- there are at most 64 clauses to look at, and no more patterns
-pub total-few : (q : Query) (u : Update) → clause_total q u ≤ most-clauses
+pub total-few : (q : Query) (u : Update) → clause_total q u ≤ most_clauses
 unfolding clause_total all_any
-total-few q u = go (relevant q u) (not (is_formed q.condition && is_formed u.condition)) (ltb most-clauses (length (joint q u))) refl
+total-few q u = go (relevant q u) (not (is_formed q.condition && is_formed u.condition)) (ltb most_clauses (length (joint q u))) refl
   where
-    go : (r a b : Bool) → ltb most-clauses (length (joint q u)) ≡ b → cond r (cond (a || b) 1 (length (joint q u))) 0 ≤ most-clauses
+    go : (r a b : Bool) → ltb most_clauses (length (joint q u)) ≡ b → cond r (cond (a || b) 1 (length (joint q u))) 0 ≤ most_clauses
     go false a b e = omega arith
     go true true b e = omega arith
     go true false true e = omega arith
-    go true false false e = ltb-false most-clauses (length (joint q u)) e
+    go true false false e = ltb-false most_clauses (length (joint q u)) e
 
 clause-patterns-few : (n : ℕ) (cs : List Clause) → length (clause_patterns n cs) ≤ length cs
 clause-patterns-few n cs =
@@ -357,5 +357,5 @@ patterns-total q u = go (relevant q u) (all_any q u)
     go true true = omega arith
     go true false = clause-patterns-few (entry_count q) (joint q u)
 
-pub patterns-few : (q : Query) (u : Update) → length (patterns_stored q u) ≤ most-clauses
+pub patterns-few : (q : Query) (u : Update) → length (patterns_stored q u) ≤ most_clauses
 patterns-few q u = le_trans (patterns-total q u) (total-few q u)

@@ -23,7 +23,7 @@ use Rattle.meaning.specs.Condition.{Comparison, sides, renamed}
 use Rattle.meaning.specs.Limits.{is_within32}
 use Rattle.meaning.specs.Pattern.{Joint, Joint-discrete, column, constant, asked, given, Clause, same, label, class, constants, update_marks, differ, strict, never_of, false_of, broken, contradictory, mark, lowest, mark_entry, class_entry, entry}
 use Rattle.meaning.proofs.Classes.{Linked, itself, joined, reversed, through, linked-back, Joins, clause-joins, labels-linked, constants-have, marks-have, differ-none}
-use Rattle.pattern.specs.Least.{marks-from, code_of, is_constant, constant_code, code_constant, Coded, coded, rename_code, join_least, least_on, least, clashes, clashes_on, never_code, fails, contradicts, entry_of_code, least_entry}
+use Rattle.pattern.specs.Least.{marks_from, code_of, is_constant, constant_code, code_constant, Coded, coded, rename_code, join_least, least_on, least, clashes, clashes_on, never_code, fails, contradicts, entry_of_code, least_entry}
 use Rattle.pattern.proofs.OperandCodes.{Fits, constant-below, code-constant, same_code, operand_entry, entry-of-code, below-constant}
 
 -- ---- labels only fall, and `=` joins them
@@ -134,17 +134,17 @@ module _ (cs : Clause) where
   -- a part of the clause whose comparisons join what is linked
   pub record Part (ds : Clause) : Type 0 where
     pub joins : All (Joins (Linked cs)) ds
-    pub sides-fit : All Fits (sides ds)
+    pub sides_fit : All Fits (sides ds)
 
   rest : {d : Comparison Joint} {ds : Clause} → Part (d ∷ ds) → Part ds
-  rest p = record { joins = All-tail p.joins; sides-fit = All-tail (All-tail p.sides-fit) }
+  rest p = record { joins = All-tail p.joins; sides_fit = All-tail (All-tail p.sides_fit) }
 
   module _ (f : ℕ → ℕ) (s : Standing f) {d : Comparison Joint} {ds : Clause} (p : Part (d ∷ ds)) where
     left-stands : Stands cs d.left (f (code_of d.left))
-    left-stands = s d.left (All-head p.sides-fit)
+    left-stands = s d.left (All-head p.sides_fit)
 
     right-stands : Stands cs d.right (f (code_of d.right))
-    right-stands = s d.right (All-head (All-tail p.sides-fit))
+    right-stands = s d.right (All-head (All-tail p.sides_fit))
 
     after-stands : Standing (λ n. join_least d.op (f (code_of d.left)) (f (code_of d.right)) (f n))
     after-stands x h = join_stands d.op (All-head p.joins) left-stands right-stands (s x h)
@@ -161,10 +161,10 @@ module _ (cs : Clause) where
   Single = (y z : ℤ) → is_within32 y ≡ true → is_within32 z ≡ true → Linked cs (constant y) (constant z) → y ≡ z
 
   module _ (single : Single) where
-    one-constant : {l r : Joint} {a b : ℕ} → Linked cs l r → Stands cs l a → Stands cs r b → a < marks-from → b < marks-from → a ≡ b
+    one-constant : {l r : Joint} {a b : ℕ} → Linked cs l r → Stands cs l a → Stands cs r b → a < marks_from → b < marks_from → a ≡ b
     one-constant link sa sb h k =
-        let y = below-constant sa.operand (subst (λ (n : ℕ). n < marks-from) sa.is_code h) in
-        let z = below-constant sb.operand (subst (λ (n : ℕ). n < marks-from) sb.is_code k) in
+        let y = below-constant sa.operand (subst (λ (n : ℕ). n < marks_from) sa.is_code h) in
+        let z = below-constant sb.operand (subst (λ (n : ℕ). n < marks_from) sb.is_code k) in
         let back = linked-back (subst (Linked cs _) y.1 sa.linked) in
         let forth = through link (subst (Linked cs _) z.1 sb.linked) in
         let same-z = single y.0 z.0 (subst Fits y.1 sa.fits) (subst Fits z.1 sb.fits) (through back forth) in
@@ -175,7 +175,7 @@ module _ (cs : Clause) where
       where
         go : (t : Bool) → is_constant (max a b) ≡ t → (t && not (eqb a b)) ≡ false
         go true e =
-            let h = ltb-true (max a b) marks-from e in
+            let h = ltb-true (max a b) marks_from e in
             ap not (eq-eqb a b (one-constant (link refl) sa sb (omega arith) (omega arith)))
         go false e = refl
     no-clash (by ne) link sa sb = refl
@@ -193,17 +193,17 @@ module _ (cs : Clause) where
         (no-clashes (λ n. join_least d.op (f (code_of d.left)) (f (code_of d.right)) (f n)) (after-stands f s p) ds (rest p))
 
 -- where no constants clash each keeps its own label
-rename-fixed : (a b n : ℕ) → clashes (by eq) a b ≡ false → n < marks-from → rename_code (max a b) (min a b) n ≡ n
+rename-fixed : (a b n : ℕ) → clashes (by eq) a b ≡ false → n < marks_from → rename_code (max a b) (min a b) n ≡ n
 rename-fixed a b n h k = go (eqb n (max a b)) refl
   where
     go : (t : Bool) → eqb n (max a b) ≡ t → cond t (min a b) n ≡ n
     go true e =
         let p = eqb-true n (max a b) e in
-        let q = not-false (eqb a b) (sym (ap (λ (t : Bool). t && not (eqb a b)) (lt-ltb (max a b) marks-from (omega arith))) ∙ h) in
+        let q = not-false (eqb a b) (sym (ap (λ (t : Bool). t && not (eqb a b)) (lt-ltb (max a b) marks_from (omega arith))) ∙ h) in
         omega (arith, eqb-true a b q)
     go false e = refl
 
-join-fixed : (p : Predicate) (a b n : ℕ) → clashes p a b ≡ false → n < marks-from → join_least p a b n ≡ n
+join-fixed : (p : Predicate) (a b n : ℕ) → clashes p a b ≡ false → n < marks_from → join_least p a b n ≡ n
 join-fixed (by eq) a b n h k = rename-fixed a b n h k
 join-fixed (by ne) a b n h k = refl
 join-fixed (by lt) a b n h k = refl
@@ -213,12 +213,12 @@ join-fixed (by ge) a b n h k = refl
 join-fixed is-null a b n h k = refl
 join-fixed is-not-null a b n h k = refl
 
-least-fixed : (f : ℕ → ℕ) → ((n : ℕ) → n < marks-from → f n ≡ n) → (cs : Coded) → clashes_on f cs ≡ false → (n : ℕ) → n < marks-from → least_on f cs n ≡ n
+least-fixed : (f : ℕ → ℕ) → ((n : ℕ) → n < marks_from → f n ≡ n) → (cs : Coded) → clashes_on f cs ≡ false → (n : ℕ) → n < marks_from → least_on f cs n ≡ n
 least-fixed f fixed [] h n k = fixed n k
 least-fixed f fixed (c ∷ cs) h n k =
     least-fixed (λ m. join_least c.op (f c.left) (f c.right) (f m)) step cs (or_right (clashes c.op (f c.left) (f c.right)) _ h) n k
   where
-    step : (m : ℕ) → m < marks-from → join_least c.op (f c.left) (f c.right) (f m) ≡ m
+    step : (m : ℕ) → m < marks_from → join_least c.op (f c.left) (f c.right) (f m) ≡ m
     step m j =
         ap (join_least c.op (f c.left) (f c.right)) (fixed m j)
         ∙ join-fixed c.op (f c.left) (f c.right) m (or_left (clashes c.op (f c.left) (f c.right)) _ h) j
@@ -297,7 +297,7 @@ differ_same f (cons {x = w} {xs = zs} p h) = differ-none w (w ∷ zs) (cons refl
 
 module _ (cs : Clause) (fit : All Fits (sides cs)) where
   whole : Part cs cs
-  whole = record { joins = clause-joins cs; sides-fit = fit }
+  whole = record { joins = clause-joins cs; sides_fit = fit }
 
   own : Standing cs (λ n. n)
   own x h = record { operand = x; fits = h; linked = itself; is_code = refl }
@@ -394,18 +394,18 @@ module _ (cs : Clause) (fit : All Fits (sides cs)) where
 
 -- a label, and the constants of its class
 abbrev Numbered : ℕ → List ℤ → Type 0
-Numbered n [] = marks-from ≤ n
+Numbered n [] = marks_from ≤ n
 Numbered n (z ∷ zs) = (n ≡ constant_code z) × (is_within32 z ≡ true)
 
 -- a comparison of labels that are constants is that of the classes' constants
 numbered-false : (p : Predicate) (a b : ℕ) (ys zs : List ℤ) → Numbered a ys → Numbered b zs
     → (is_constant (max a b) && not (truth p (code_constant a) (code_constant b))) ≡ false_of p ys zs
-numbered-false p a b [] zs h k = rw (le-ltb (max a b) marks-from (omega arith))
-numbered-false p a b (y ∷ ys) [] h k = rw (le-ltb (max a b) marks-from (omega arith))
+numbered-false p a b [] zs h k = rw (le-ltb (max a b) marks_from (omega arith))
+numbered-false p a b (y ∷ ys) [] h k = rw (le-ltb (max a b) marks_from (omega arith))
 numbered-false p a b (y ∷ ys) (z ∷ zs) h k =
     let below-y = constant-below y h.1 in
     let below-z = constant-below z k.1 in
-    rw (h.0, k.0, lt-ltb (max (constant_code y) (constant_code z)) marks-from (omega arith)) (ap not (ap₂ (truth p) (code-constant y h.1) (code-constant z k.1)))
+    rw (h.0, k.0, lt-ltb (max (constant_code y) (constant_code z)) marks_from (omega arith)) (ap not (ap₂ (truth p) (code-constant y h.1) (code-constant z k.1)))
 
 module _ (cs : Clause) (fit : All Fits (sides cs)) (single : Single cs) where
   -- of an operand that is no constant, or stands in the clause
@@ -413,14 +413,14 @@ module _ (cs : Clause) (fit : All Fits (sides cs)) (single : Single cs) where
   numbered x h m = go (constants (class cs x)) refl
     where
       go : (zs : List ℤ) → constants (class cs x) ≡ zs → Numbered (least_of cs x) zs
-      go [] e = no-constant (ltb (least_of cs x) marks-from) refl
+      go [] e = no_constant (ltb (least_of cs x) marks_from) refl
         where
-          no-constant : (t : Bool) → ltb (least_of cs x) marks-from ≡ t → marks-from ≤ least_of cs x
-          no-constant true k =
+          no_constant : (t : Bool) → ltb (least_of cs x) marks_from ≡ t → marks_from ≤ least_of cs x
+          no_constant true k =
               let s = stands cs fit x h in
-              let z = below-constant s.operand (subst (λ (n : ℕ). n < marks-from) s.is_code (ltb-true (least_of cs x) marks-from k)) in
+              let z = below-constant s.operand (subst (λ (n : ℕ). n < marks_from) s.is_code (ltb-true (least_of cs x) marks_from k)) in
               absurd (not-nil (subst (Member z.0) e (member-constants (class-has cs x (m z.0) (subst (Linked cs x) z.1 s.linked)))))
-          no-constant false k = ltb-false (least_of cs x) marks-from k
+          no_constant false k = ltb-false (least_of cs x) marks_from k
       go (z ∷ zs) e =
           let p = All-head (subst (All (λ (z : ℤ). Linked cs x (constant z) × Fits (constant z))) e (constants-have (class-linked cs x fit))) in
           (linked-least p.0 ∙ fixed-constant cs fit (unclashed cs fit single) z p.1, p.1)
@@ -472,18 +472,18 @@ asked-constant e = let z : ◌≡◌ {A = ℕ} 0 1 = cc in omega arith
 
 module _ (cs : Clause) (fit : All Fits (sides cs)) (single : Single cs) (k : ℕ) (room : k < 65536) where
   -- the label is at most the code of each update mark of the class
-  marks-after : All (λ (m : ℕ). (least_of cs (asked k) ≤ marks-from + m) × (m < 65536)) (update_marks (class cs (asked k)))
+  marks-after : All (λ (m : ℕ). (least_of cs (asked k) ≤ marks_from + m) × (m < 65536)) (update_marks (class cs (asked k)))
   marks-after =
-      All-map (λ m p. (let e = linked-least p.0 in let h = least-falls (λ n. n) (λ n. omega arith) (coded cs) (marks-from + m) in omega arith, p.1))
+      All-map (λ m p. (let e = linked-least p.0 in let h = least-falls (λ n. n) (λ n. omega arith) (coded cs) (marks_from + m) in omega arith, p.1))
       (marks-have (class-linked cs (asked k) fit))
 
   -- by the operand that the label stands for, where the class has no constant
-  marked : (y : Joint) → Fits y → Linked cs (asked k) y → least_of cs (asked k) ≡ code_of y → marks-from ≤ least_of cs (asked k)
+  marked : (y : Joint) → Fits y → Linked cs (asked k) y → least_of cs (asked k) ≡ code_of y → marks_from ≤ least_of cs (asked k)
       → operand_entry y ≡ mark_entry (update_marks (class cs (asked k)))
   marked y h link e above = go y h link e (update_marks (class cs (asked k))) refl marks-after
     where
       go : (y : Joint) → Fits y → Linked cs (asked k) y → least_of cs (asked k) ≡ code_of y
-          → (ms : List ℕ) → update_marks (class cs (asked k)) ≡ ms → All (λ (m : ℕ). (least_of cs (asked k) ≤ marks-from + m) × (m < 65536)) ms → operand_entry y ≡ mark_entry ms
+          → (ms : List ℕ) → update_marks (class cs (asked k)) ≡ ms → All (λ (m : ℕ). (least_of cs (asked k) ≤ marks_from + m) × (m < 65536)) ms → operand_entry y ≡ mark_entry ms
       go (column i) h link e [] p a = refl
       go (column i) h link e (m ∷ ms) p a = let b = All-head a in absurd (omega arith)
       go (constant z) h link e ms p a = let b = constant-below z h in absurd (omega arith)
@@ -491,9 +491,9 @@ module _ (cs : Clause) (fit : All Fits (sides cs)) (single : Single cs) (k : ℕ
       go (asked j) h link e (m ∷ ms) p a = let b = All-head a in absurd (omega arith)
       go (given j) h link e ms p a = least-mark ms (subst (Member j) p (member-marks (class-has cs (asked k) (λ q. absurd (asked-given q)) link))) a
         where
-          least-mark : (ms : List ℕ) → Member j ms → All (λ (m : ℕ). (least_of cs (asked k) ≤ marks-from + m) × (m < 65536)) ms → mark j ≡ mark_entry ms
+          least-mark : (ms : List ℕ) → Member j ms → All (λ (m : ℕ). (least_of cs (asked k) ≤ marks_from + m) × (m < 65536)) ms → mark j ≡ mark_entry ms
           least-mark [] n a = elim n [ ]
-          least-mark (m ∷ ms) n a = ap mark (sym (lowest-is m ms n (All-map (λ i b. let c : marks-from + j ≤ marks-from + i = subst (λ (n : ℕ). n ≤ marks-from + i) e b.0 in omega arith) a)))
+          least-mark (m ∷ ms) n a = ap mark (sym (lowest-is m ms n (All-map (λ i b. let c : marks_from + j ≤ marks_from + i = subst (λ (n : ℕ). n ≤ marks_from + i) e b.0 in omega arith) a)))
 
   entry-least : entry_of_code (least_of cs (asked k)) ≡ class_entry (constants (class cs (asked k))) (update_marks (class cs (asked k)))
   entry-least = go (constants (class cs (asked k))) (numbered cs fit single (asked k) room (λ z e. absurd (asked-constant e)))

@@ -230,13 +230,13 @@ module _ (q : Query) (u : Update) where
   -- ---- the array
 
   pub record Listing (items : List Pattern) (count i : ℕ) : Type 0 where
-    pub items-are : items ≡ padded 64 no_pattern (map pattern_struct (listed i))
-    pub count-is : count ≡ length (listed i)
+    pub items_are : items ≡ padded 64 no_pattern (map pattern_struct (listed i))
+    pub count_is : count ≡ length (listed i)
     pub regular : All (Regular n) (listed i)
     pub few : count ≤ i
 
   pub list-start : Listing (replicate 64 no_pattern) 0 0
-  list-start = record { items-are = refl; count-is = refl; regular = nil; few = omega arith }
+  list-start = record { items_are = refl; count_is = refl; regular = nil; few = omega arith }
 
   pub listing-is : {items items' : List Pattern} {count count' i : ℕ} → items ≡ items' → count ≡ count' → Listing items' count' i → Listing items count i
   listing-is {items} {items'} {count} {count'} {i} e q L = subst (λ (l : List Pattern). Listing l count i) (sym e) (subst (λ (k : ℕ). Listing items' k i) (sym q) L)
@@ -244,17 +244,17 @@ module _ (q : Query) (u : Update) where
   pub list-long : (items : List Pattern) (count i : ℕ) → i ≤ 64 → Listing items count i → length items ≡ 64
   list-long items count i h L =
       let m : length (map pattern_struct (listed i)) ≡ length (listed i) = length-map (listed i) pattern_struct in
-      ap length L.items-are
+      ap length L.items_are
       ∙ length-append (map pattern_struct (listed i)) (replicate (64 - length (map pattern_struct (listed i))) no_pattern)
       ∙ ap (λ (k : ℕ). length (map pattern_struct (listed i)) + k) (length-replicate (64 - length (map pattern_struct (listed i))) no_pattern)
-      ∙ omega (arith, L.count-is, L.few)
+      ∙ omega (arith, L.count_is, L.few)
 
   module _ (items : List Pattern) (count i : ℕ) (L : Listing items count i) where
     abbrev before : List P.Pattern
     before = flat (map offered (from 0 i))
 
     found-are : take count items ≡ map pattern_struct (listed i)
-    found-are = ap (take count) L.items-are ∙ take-padded 64 no_pattern (map pattern_struct (listed i)) count (length-map (listed i) pattern_struct ∙ sym L.count-is)
+    found-are = ap (take count) L.items_are ∙ take-padded 64 no_pattern (map pattern_struct (listed i)) count (length-map (listed i) pattern_struct ∙ sym L.count_is)
 
     next-listed : listed (i + 1) ≡ distinct same_pattern (before ++ offered i)
     next-listed =
@@ -269,8 +269,8 @@ module _ (q : Query) (u : Update) where
     -- the list stays
     stays : listed (i + 1) ≡ listed i → Listing items count (i + 1)
     stays e = record {
-      items-are = L.items-are ∙ ap (λ (l : List P.Pattern). padded 64 no_pattern (map pattern_struct l)) (sym e);
-      count-is = L.count-is ∙ ap length (sym e);
+      items_are = L.items_are ∙ ap (λ (l : List P.Pattern). padded 64 no_pattern (map pattern_struct l)) (sym e);
+      count_is = L.count_is ∙ ap length (sym e);
       regular = subst (All (Regular n)) (sym e) L.regular;
       few = omega (arith, L.few);
     }
@@ -279,19 +279,19 @@ module _ (q : Query) (u : Update) where
     grows : (p : Pattern) (es : P.Pattern) → i < 64 → p ≡ pattern_struct es → Regular n es → listed (i + 1) ≡ listed i ++ (es ∷ []) → Listing (set items count p) (count + 1) (i + 1)
     grows p es h ep R e =
         let xs : List Pattern = map pattern_struct (listed i) in
-        let m : length xs ≡ count = length-map (listed i) pattern_struct ∙ sym L.count-is in
+        let m : length xs ≡ count = length-map (listed i) pattern_struct ∙ sym L.count_is in
         let k : 64 - length xs ≡ suc (63 - count) = omega (arith, L.few) in
         let ys : List Pattern = map pattern_struct (listed i ++ (es ∷ [])) in
         let en : ys ≡ xs ++ (pattern_struct es ∷ []) = map-append pattern_struct (listed i) (es ∷ []) in
         let l : length ys ≡ suc count = ap length en ∙ length-append xs (pattern_struct es ∷ []) ∙ omega arith in
         let r : 63 - count ≡ 64 - length ys = omega arith in
         record {
-          items-are = ap₂ (λ (x : List Pattern) (y : Pattern). set x count y) (L.items-are ∙ ap (λ (j : ℕ). xs ++ replicate j no_pattern) k) ep
+          items_are = ap₂ (λ (x : List Pattern) (y : Pattern). set x count y) (L.items_are ∙ ap (λ (j : ℕ). xs ++ replicate j no_pattern) k) ep
               ∙ set_at xs no_pattern (replicate (63 - count) no_pattern) (pattern_struct es) count m
               ∙ sym (append_snoc xs (pattern_struct es) (replicate (63 - count) no_pattern))
               ∙ ap₂ (λ (x : List Pattern) (j : ℕ). x ++ replicate j no_pattern) (sym en) r
               ∙ ap (λ (x : List P.Pattern). padded 64 no_pattern (map pattern_struct x)) (sym e);
-          count-is = omega (arith, L.count-is, length-append (listed i) (es ∷ []), ap length e);
+          count_is = omega (arith, L.count_is, length-append (listed i) (es ∷ []), ap length e);
           regular = subst (All (Regular n)) (sym e) (All-append L.regular (cons R nil));
           few = omega (arith, L.few);
         }
@@ -325,4 +325,4 @@ module _ (q : Query) (u : Update) where
   list_done items count i e L =
       let a : listed i ≡ patterns_stored q u = ap listed e ∙ listed-all in
       ap₂ (λ (x : List Pattern) (k : ℕ). record { items = x; count = k })
-      (L.items-are ∙ ap (λ (l : List P.Pattern). padded 64 no_pattern (map pattern_struct l)) a) (L.count-is ∙ ap length a)
+      (L.items_are ∙ ap (λ (l : List P.Pattern). padded 64 no_pattern (map pattern_struct l)) a) (L.count_is ∙ ap length a)

@@ -22,20 +22,20 @@ use Rattle.statement.specs.Compiled.{new_value}
 use Rattle.statement.specs.Sound.{value_read, operand_read, setting_read}
 use Rattle.statement.proofs.ByKind.{is-constant, is-column, is-mark, value-constant, value-mark}
 use Rattle.table.proofs.Copied.{pasted}
-use Rattle.pattern.specs.Least.{marks-from, asked-from, columns-from, constant_code}
+use Rattle.pattern.specs.Least.{marks_from, asked_from, columns_from, constant_code}
 use Rattle.pattern.specs.Flat.{values_of, column_of, mark_of, operand_of, Coding, SetOnce, Readable, no_clause}
 use Rattle.pattern.proofs.OperandCodes.{constant-below}
 use Rattle.pattern.proofs.Mapped.{get_or-map-in, from_at}
 
 -- ---- numbers that are computed
 
-pub column-coding : (i n : ℕ) → i < 512 → n ≡ columns-from + i → Coding (column i) n
+pub column-coding : (i n : ℕ) → i < 512 → n ≡ columns_from + i → Coding (column i) n
 column-coding i n h e = record { is = e; narrow = h }
 
-pub given-coding : (k n : ℕ) → k < 256 → n ≡ marks-from + k + 1 → Coding (given (suc k)) n
+pub given-coding : (k n : ℕ) → k < 256 → n ≡ marks_from + k + 1 → Coding (given (suc k)) n
 given-coding k n h e = record { is = omega arith; narrow = (omega arith, omega arith) }
 
-pub asked-coding : (k n : ℕ) → k < 256 → n ≡ asked-from + k + 1 → Coding (asked (suc k)) n
+pub asked-coding : (k n : ℕ) → k < 256 → n ≡ asked_from + k + 1 → Coding (asked (suc k)) n
 asked-coding k n h e = record { is = omega arith; narrow = omega arith }
 
 pub constant-coding : (z : ℤ) (n : ℕ) → (n ≡ constant_code z) × (is_within32 z ≡ true) → Coding (constant z) n
@@ -46,9 +46,9 @@ constant-coding z n (e, w) = record { is = e; narrow = w }
 pub coding-constant : (v : Value) (z : ℤ) (n : ℕ) → v.mark ≡ 0 → z ≡ v.number → Coding (constant z) n → Coding (of_value (value_read v)) n
 coding-constant v z n h e k = subst (λ (w : M.Value). Coding (of_value w) n) (ap M.constant e ∙ sym (value-constant v h)) k
 
-pub coding-parameter : (v : Value) (n : ℕ) → v.mark ≢ 0 → v.mark < 256 → n ≡ marks-from + v.mark → Coding (of_value (value_read v)) n
+pub coding-parameter : (v : Value) (n : ℕ) → v.mark ≢ 0 → v.mark < 256 → n ≡ marks_from + v.mark → Coding (of_value (value_read v)) n
 coding-parameter v n h k e =
-    let q : n ≡ marks-from + (v.mark - 1) + 1 = omega arith in
+    let q : n ≡ marks_from + (v.mark - 1) + 1 = omega arith in
     subst (λ (w : M.Value). Coding (of_value w) n) (sym (value-mark v h)) (given-coding (v.mark - 1) n (omega arith) q)
 
 module _ (r k : ℕ) (ss : List (ℕ × M.Value)) (o : Operand) (n : ℕ) where
@@ -66,10 +66,10 @@ module _ (r k : ℕ) (ss : List (ℕ × M.Value)) (o : Operand) (n : ℕ) where
 
 -- ---- by the role
 
-pub mark-update : (r k n : ℕ) → r ≡ 0 → k < 256 → n ≡ marks-from + k + 1 → Coding (mark_of r (suc k)) n
+pub mark-update : (r k n : ℕ) → r ≡ 0 → k < 256 → n ≡ marks_from + k + 1 → Coding (mark_of r (suc k)) n
 mark-update r k n e h q = subst (λ (x : ℕ). Coding (mark_of x (suc k)) n) (sym e) (given-coding k n h q)
 
-pub mark-query : (r k n : ℕ) → (r ≡ 0 → ⊥) → k < 256 → n ≡ asked-from + k + 1 → Coding (mark_of r (suc k)) n
+pub mark-query : (r k n : ℕ) → (r ≡ 0 → ⊥) → k < 256 → n ≡ asked_from + k + 1 → Coding (mark_of r (suc k)) n
 mark-query zero k n ne h q = absurd (ne refl)
 mark-query (suc r) k n ne h q = asked-coding k n h q
 
@@ -78,10 +78,10 @@ module _ (r k : ℕ) (ss : List (ℕ × M.Value)) (i n : ℕ) where
   in-role : (s : ℕ) → r ≡ s → Coding (column_of s k ss i) n → Coding (column_of r k ss i) n
   in-role s e c = subst (λ (x : ℕ). Coding (column_of x k ss i) n) (sym e) c
 
-  pub column-update : r ≡ 0 → k < 256 → i < 256 → n ≡ columns-from + k + i → Coding (column_of r k ss i) n
-  column-update e h l q = let p : n ≡ columns-from + (k + i) = omega arith in in-role 0 e (column-coding (k + i) n (omega arith) p)
+  pub column-update : r ≡ 0 → k < 256 → i < 256 → n ≡ columns_from + k + i → Coding (column_of r k ss i) n
+  column-update e h l q = let p : n ≡ columns_from + (k + i) = omega arith in in-role 0 e (column-coding (k + i) n (omega arith) p)
 
-  pub column-query : r ≡ 1 → i < 256 → n ≡ columns-from + i → Coding (column_of r k ss i) n
+  pub column-query : r ≡ 1 → i < 256 → n ≡ columns_from + i → Coding (column_of r k ss i) n
   column-query e h q = in-role 1 e (column-coding i n (omega arith) q)
 
   pub column-inserted : r ≡ 2 → Coding (replacing (placed_from k (values_of ss)) i) n → Coding (column_of r k ss i) n
@@ -118,14 +118,14 @@ module _ (settings : List Setting) (n : ℕ) where
 
   -- what the first i settings make of a column
   pub record Setting-on (k j code i : ℕ) : Type 0 where
-    pub now-is : Joint
-    pub coding : Coding now-is code
-    pub left : set_column (moved k (drop i ss)) j now-is ≡ replacing (moved k ss) j
+    pub now_is : Joint
+    pub coding : Coding now_is code
+    pub left : set_column (moved k (drop i ss)) j now_is ≡ replacing (moved k ss) j
 
-  pub set-start : (k j code : ℕ) → j < 256 → code ≡ columns-from + j → Setting-on k j code 0
-  set-start k j code h e = record { now-is = column j; coding = column-coding j code (omega arith) e; left = refl }
+  pub set-start : (k j code : ℕ) → j < 256 → code ≡ columns_from + j → Setting-on k j code 0
+  set-start k j code h e = record { now_is = column j; coding = column-coding j code (omega arith) e; left = refl }
 
-  pub inserted_below : (k i r : ℕ) → i < k → i < 256 → r ≡ columns-from + i → Coding (replacing (placed_from k (values_of ss)) i) r
+  pub inserted_below : (k i r : ℕ) → i < k → i < 256 → r ≡ columns_from + i → Coding (replacing (placed_from k (values_of ss)) i) r
   inserted_below k i r h l e = subst (λ (x : Joint). Coding x r) (sym (placed_below (values_of ss) k i (column i) h)) (column-coding i r (omega arith) e)
 
   module _ (long : n ≤ length settings) where
@@ -146,7 +146,7 @@ module _ (settings : List Setting) (n : ℕ) where
         subst (λ (x : Joint). Coding x r)
         (sym (placed-there (values_of ss) k (j - k) j (column j) (omega arith) (omega (arith, values_length)) ∙ ap of_value e)) c
 
-    pub inserted-past : (k j r : ℕ) → k ≤ j → n ≤ j - k → j < 256 → r ≡ columns-from + j → Coding (replacing (placed_from k (values_of ss)) j) r
+    pub inserted-past : (k j r : ℕ) → k ≤ j → n ≤ j - k → j < 256 → r ≡ columns_from + j → Coding (replacing (placed_from k (values_of ss)) j) r
     inserted-past k j r l h f e =
         subst (λ (x : Joint). Coding x r) (sym (placed_past (values_of ss) k j (column j) (omega (arith, values_length)))) (column-coding j r (omega arith) e)
 
@@ -158,15 +158,15 @@ module _ (settings : List Setting) (n : ℕ) where
 
     pub set_more : (k j code code' i : ℕ) (d : Setting) → i < n → SetOnce (get_or settings i d) k j code code' → Setting-on k j code i → Setting-on k j code' (i + 1)
     set_more k j code code' i d h S T = record {
-      now-is = cond (eqb j (k + (get_or settings i d).column)) (of_value (value_read (new_value (get_or settings i d)))) T.now-is;
-      coding = S.follows T.now-is T.coding;
-      left = sym (ap (λ (l : List (ℕ × M.Value)). set_column (moved k l) j T.now-is) (ss-next i d h)) ∙ T.left;
+      now_is = cond (eqb j (k + (get_or settings i d).column)) (of_value (value_read (new_value (get_or settings i d)))) T.now_is;
+      coding = S.follows T.now_is T.coding;
+      left = sym (ap (λ (l : List (ℕ × M.Value)). set_column (moved k l) j T.now_is) (ss-next i d h)) ∙ T.left;
     }
 
     pub set-done : (k j code i : ℕ) → n ≤ i → Setting-on k j code i → Coding (replacing (moved k ss) j) code
     set-done k j code i h T =
         let none : drop i ss ≡ [] = let l : length ss ≤ i = omega (arith, length-map (take n settings) setting_read, taken) in drop_of_length-le ss l in
-        subst (λ (x : Joint). Coding x code) (sym (ap (λ (l : List (ℕ × M.Value)). set_column (moved k l) j T.now-is) none) ∙ T.left) T.coding
+        subst (λ (x : Joint). Coding x code) (sym (ap (λ (l : List (ℕ × M.Value)). set_column (moved k l) j T.now_is) none) ∙ T.left) T.coding
 
 -- one setting
 pub once-set : (item : Setting) (k j code r : ℕ) → k + item.column ≡ j → Coding (of_value (value_read (new_value item))) r → SetOnce item k j code r
@@ -187,14 +187,14 @@ coding-readable (given k) n c = record { some = λ e. omega (arith, c.is, c.narr
 
 -- ---- the query's question marks, one after another behind the sides
 
-abbrev pub asked-codes : List ℕ
-asked-codes = map (λ (k : ℕ). asked-from + k) (from 1 8)
+abbrev pub asked_codes : List ℕ
+asked_codes = map (λ (k : ℕ). asked_from + k) (from 1 8)
 
-pub mark-more : (k n : ℕ) (codes : List ℕ) → k < 8 → n ≡ asked-from + k + 1 → codes ≡ paste (replicate 40 0) 32 asked-codes k → set codes (32 + k) n ≡ paste (replicate 40 0) 32 asked-codes (k + 1)
+pub mark-more : (k n : ℕ) (codes : List ℕ) → k < 8 → n ≡ asked_from + k + 1 → codes ≡ paste (replicate 40 0) 32 asked_codes k → set codes (32 + k) n ≡ paste (replicate 40 0) 32 asked_codes (k + 1)
 mark-more k n codes h e inv =
-    let q : n ≡ asked-from + (1 + k) = omega arith in
-    pasted (replicate 40 0) 32 asked-codes k 0 codes (32 + k) n (omega arith) h inv refl
-    (q ∙ sym (get_or-map-in (λ (j : ℕ). asked-from + j) (from 1 8) k 0 0 h ∙ ap (λ (j : ℕ). asked-from + j) (from_at 1 8 k 0 h)))
+    let q : n ≡ asked_from + (1 + k) = omega arith in
+    pasted (replicate 40 0) 32 asked_codes k 0 codes (32 + k) n (omega arith) h inv refl
+    (q ∙ sym (get_or-map-in (λ (j : ℕ). asked_from + j) (from 1 8) k 0 0 h ∙ ap (λ (j : ℕ). asked_from + j) (from_at 1 8 k 0 h)))
 
-pub mark-done : (k : ℕ) (codes : List ℕ) → k ≡ 8 → codes ≡ paste (replicate 40 0) 32 asked-codes k → codes ≡ no_clause.codes
-mark-done k codes e inv = inv ∙ ap (paste (replicate 40 0) 32 asked-codes) e
+pub mark-done : (k : ℕ) (codes : List ℕ) → k ≡ 8 → codes ≡ paste (replicate 40 0) 32 asked_codes k → codes ≡ no_clause.codes
+mark-done k codes e inv = inv ∙ ap (paste (replicate 40 0) 32 asked_codes) e

@@ -14,7 +14,7 @@ use Rattle.statement.proofs.SentenceLimits.{same_test}
 use Rattle.meaning.specs.Operator.{is_null}
 use Rattle.meaning.specs.Limits.{is_within32}
 use Rattle.meaning.specs.Pattern.{Joint, column, constant, asked, given, Entry, number, mark, anything}
-use Rattle.pattern.specs.Least.{marks-from, asked-from, columns-from, constant_code, code_of, code_constant, entry_of_code}
+use Rattle.pattern.specs.Least.{marks_from, asked_from, columns_from, constant_code, code_of, code_constant, entry_of_code}
 
 -- an operand of a stored statement: constants have 32 bits, and there is room for marks and columns
 abbrev pub Fits : Joint → Type 0
@@ -31,7 +31,7 @@ pos-below n h = leb-true n 2147483647 h
 negsuc-below : (n : ℕ) → is_within32 (negsuc n) ≡ true → n ≤ 2147483647
 negsuc-below n h = leb-true n 2147483647 (and_left (leb n 2147483647) true h)
 
-pub constant-below : (z : ℤ) → is_within32 z ≡ true → constant_code z < marks-from
+pub constant-below : (z : ℤ) → is_within32 z ≡ true → constant_code z < marks_from
 constant-below (pos n) h = let k = pos-below n h in omega arith
 constant-below (negsuc n) h = omega arith
 
@@ -88,20 +88,20 @@ null-code n = eq-codes n 0
 -- the operand of a code
 abbrev operand_of : ℕ → Joint
 operand_of n =
-    cond (ltb n marks-from) (constant (code_constant n))
-    (cond (ltb n asked-from) (given (n - marks-from)) (cond (ltb n columns-from) (asked (n - asked-from)) (column (n - columns-from))))
+    cond (ltb n marks_from) (constant (code_constant n))
+    (cond (ltb n asked_from) (given (n - marks_from)) (cond (ltb n columns_from) (asked (n - asked_from)) (column (n - columns_from))))
 
 operand-of : (x : Joint) → Fits x → operand_of (code_of x) ≡ x
 operand-of (column i) h =
-    let e : columns-from + i - columns-from ≡ i = omega arith in
-    rw (le-ltb (columns-from + i) marks-from (omega arith), le-ltb (columns-from + i) asked-from (omega arith), le-ltb (columns-from + i) columns-from (omega arith)) (ap column e)
-operand-of (constant z) h = rw (lt-ltb (constant_code z) marks-from (constant-below z h)) (ap constant (code-constant z h))
+    let e : columns_from + i - columns_from ≡ i = omega arith in
+    rw (le-ltb (columns_from + i) marks_from (omega arith), le-ltb (columns_from + i) asked_from (omega arith), le-ltb (columns_from + i) columns_from (omega arith)) (ap column e)
+operand-of (constant z) h = rw (lt-ltb (constant_code z) marks_from (constant-below z h)) (ap constant (code-constant z h))
 operand-of (asked k) h =
-    let e : asked-from + k - asked-from ≡ k = omega arith in
-    rw (le-ltb (asked-from + k) marks-from (omega arith), le-ltb (asked-from + k) asked-from (omega arith), lt-ltb (asked-from + k) columns-from (omega arith)) (ap asked e)
+    let e : asked_from + k - asked_from ≡ k = omega arith in
+    rw (le-ltb (asked_from + k) marks_from (omega arith), le-ltb (asked_from + k) asked_from (omega arith), lt-ltb (asked_from + k) columns_from (omega arith)) (ap asked e)
 operand-of (given k) h =
-    let e : marks-from + k - marks-from ≡ k = omega arith in
-    rw (le-ltb (marks-from + k) marks-from (omega arith), lt-ltb (marks-from + k) asked-from (omega arith)) (ap given e)
+    let e : marks_from + k - marks_from ≡ k = omega arith in
+    rw (le-ltb (marks_from + k) marks_from (omega arith), lt-ltb (marks_from + k) asked_from (omega arith)) (ap given e)
 
 -- operands that fit have different codes
 pub same_code : (x y : Joint) → Fits x → Fits y → code_of x ≡ code_of y → x ≡ y
@@ -115,15 +115,15 @@ operand_entry (asked k) = anything
 operand_entry (given k) = mark k
 
 pub entry-of-code : (x : Joint) → Fits x → entry_of_code (code_of x) ≡ operand_entry x
-entry-of-code (column i) h = rw (le-ltb (columns-from + i) marks-from (omega arith), le-ltb (columns-from + i) asked-from (omega arith))
-entry-of-code (constant z) h = rw (lt-ltb (constant_code z) marks-from (constant-below z h)) (ap number (code-constant z h))
-entry-of-code (asked k) h = rw (le-ltb (asked-from + k) marks-from (omega arith), le-ltb (asked-from + k) asked-from (omega arith))
+entry-of-code (column i) h = rw (le-ltb (columns_from + i) marks_from (omega arith), le-ltb (columns_from + i) asked_from (omega arith))
+entry-of-code (constant z) h = rw (lt-ltb (constant_code z) marks_from (constant-below z h)) (ap number (code-constant z h))
+entry-of-code (asked k) h = rw (le-ltb (asked_from + k) marks_from (omega arith), le-ltb (asked_from + k) asked_from (omega arith))
 entry-of-code (given k) h =
-    let e : marks-from + k - marks-from ≡ k = omega arith in
-    rw (le-ltb (marks-from + k) marks-from (omega arith), lt-ltb (marks-from + k) asked-from (omega arith)) (ap mark e)
+    let e : marks_from + k - marks_from ≡ k = omega arith in
+    rw (le-ltb (marks_from + k) marks_from (omega arith), lt-ltb (marks_from + k) asked_from (omega arith)) (ap mark e)
 
 -- only constants have the lowest codes
-pub below-constant : (x : Joint) → code_of x < marks-from → (z : ℤ) × (x ≡ constant z)
+pub below-constant : (x : Joint) → code_of x < marks_from → (z : ℤ) × (x ≡ constant z)
 below-constant (column i) h = absurd (omega arith)
 below-constant (constant z) h = (z, refl)
 below-constant (asked k) h = absurd (omega arith)

@@ -78,15 +78,15 @@ never-is p a b = go (is_null_test p)
     go true = and-false (eqb (min a b) 0)
     go false = and-true (eqb (min a b) 0) ∙ none-least a b
 
-pub clash-is : (p : Predicate) (a b : ℕ) → ((is_join p && ltb (max a b) 4294967296) && not (eqb a b)) ≡ clashes p a b
-clash-is (by eq) a b = refl
-clash-is (by ne) a b = refl
-clash-is (by lt) a b = refl
-clash-is (by le) a b = refl
-clash-is (by gt) a b = refl
-clash-is (by ge) a b = refl
-clash-is is-null a b = refl
-clash-is is-not-null a b = refl
+pub clash_is : (p : Predicate) (a b : ℕ) → ((is_join p && ltb (max a b) 4294967296) && not (eqb a b)) ≡ clashes p a b
+clash_is (by eq) a b = refl
+clash_is (by ne) a b = refl
+clash_is (by lt) a b = refl
+clash_is (by le) a b = refl
+clash_is (by gt) a b = refl
+clash_is (by ge) a b = refl
+clash_is is-null a b = refl
+clash_is is-not-null a b = refl
 
 -- ---- what a comparison does to labels
 

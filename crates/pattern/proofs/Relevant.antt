@@ -229,16 +229,16 @@ module _ (q : Query) (u : Update) where
   other-table e = ap (λ (b : Bool). b && touches (start_read q u) u.form q u) (read_is q u ∙ e)
 
   module _ (e : is_read q.table q.second u.table ≡ true) where
-    same-table : relevant q u ≡ touches (start_read q u) u.form q u
+    same_table : relevant q u ≡ touches (start_read q u) u.form q u
     unfolding relevant
-    same-table = ap (λ (b : Bool). b && touches (start_read q u) u.form q u) (read_is q u ∙ e)
+    same_table = ap (λ (b : Bool). b && touches (start_read q u) u.form q u) (read_is q u ∙ e)
 
     pub update-relevant : u.form ≡ 1 → relevant q u ≡ sets_used (start_read q u) q u
     unfolding sets_used
-    update-relevant f = same-table ∙ ap (λ (k : ℕ). touches (start_read q u) k q u) f
+    update-relevant f = same_table ∙ ap (λ (k : ℕ). touches (start_read q u) k q u) f
 
     pub other-relevant : (u.form ≡ 1 → ⊥) → relevant q u ≡ true
-    other-relevant ne = same-table ∙ go u.form ne
+    other-relevant ne = same_table ∙ go u.form ne
       where
         go : (k : ℕ) → (k ≡ 1 → ⊥) → touches (start_read q u) k q u ≡ true
         go zero n = refl

@@ -32,10 +32,10 @@ module _ (t : ℕ) (r : Row) where
   pub removal-agrees : AgreesUpdate u (removal t r)
   unfolding condition_nodes
   removal-agrees = record {
-    form-is = refl;
+    form_is = refl;
     table_is = refl;
-    count-is = refl;
-    settings-are = settings-back;
-    parameters-are = refl;
-    condition-is = record { count-is = refl; steps-are = refl; operators-are = refl; nodes-are = refl };
+    count_is = refl;
+    settings_are = settings-back;
+    parameters_are = refl;
+    condition_is = record { count_is = refl; steps_are = refl; operators_are = refl; nodes_are = refl };
   }

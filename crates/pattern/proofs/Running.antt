@@ -53,19 +53,19 @@ module _ (c : Condition) where
     pub stacked : Stacked next stack
     pub counted : i + length stack ≡ 2 * next
     pub some : next ≤ i
-    pub left-balanced : balanced (length stack) (drop i steps) ≡ true
-    pub left-clauses : run (drop i steps) (drop next used) (clauses_in stack) ≡ run steps used []
+    pub left_balanced : balanced (length stack) (drop i steps) ≡ true
+    pub left_clauses : run (drop i steps) (drop next used) (clauses_in stack) ≡ run steps used []
 
   pub run-start : balanced 0 steps ≡ true → Running no_stack 0
   run-start h = record {
     stack = [];
     next = 0;
-    holds = record { masks-long = refl; lengths-long = refl; masks-are = refl; total-is = refl; lengths-are = refl; depth_is = refl; bit_is = refl };
+    holds = record { masks_long = refl; lengths_long = refl; masks_are = refl; total_is = refl; lengths_are = refl; depth_is = refl; bit_is = refl };
     stacked = refl;
     counted = refl;
     some = omega arith;
-    left-balanced = h;
-    left-clauses = refl;
+    left_balanced = h;
+    left_clauses = refl;
   }
 
   module _ (sl : length c.steps ≡ 15) (cl : length c.comparisons ≡ 8) (few : c.count ≤ 8) (s : Stack) (i : ℕ) (R : Running s i) (h : i + 1 < 2 * c.count) where
@@ -86,10 +86,10 @@ module _ (c : Condition) where
     left-steps k e = steps_next c sl few i h ∙ ap (λ (x : ℕ). x ∷ rest) e
 
     left_is : (k : ℕ) → get_or c.steps i 0 ≡ k → balanced (length st) (k ∷ rest) ≡ true
-    left_is k e = ap (balanced (length st)) (sym (left-steps k e)) ∙ R.left-balanced
+    left_is k e = ap (balanced (length st)) (sym (left-steps k e)) ∙ R.left_balanced
 
     run_is : (k : ℕ) → get_or c.steps i 0 ≡ k → run (k ∷ rest) (drop q used) (clauses_in st) ≡ run steps used []
-    run_is k e = ap (λ (l : List ℕ). run l (drop q used) (clauses_in st)) (sym (left-steps k e)) ∙ R.left-clauses
+    run_is k e = ap (λ (l : List ℕ). run l (drop q used) (clauses_in st)) (sym (left-steps k e)) ∙ R.left_clauses
 
     shallow : s.depth ≤ q
     shallow = omega (arith, R.holds.depth_is, R.counted, R.some)
@@ -127,8 +127,8 @@ module _ (c : Condition) where
           stacked = stacked-push q st R.stacked;
           counted = omega (arith, R.counted);
           some = omega (arith, R.some);
-          left-balanced = left_is 0 e;
-          left-clauses = ap (λ (y : Clause). run rest (drop (q + 1) used) ((y ∷ []) ∷ clauses_in st)) one
+          left_balanced = left_is 0 e;
+          left_clauses = ap (λ (y : Clause). run rest (drop (q + 1) used) ((y ∷ []) ∷ clauses_in st)) one
               ∙ sym (ap (λ (l : List Comparison). run (0 ∷ rest) l (clauses_in st)) (next-is e)) ∙ run_is 0 e;
         }
 
@@ -138,7 +138,7 @@ module _ (c : Condition) where
     -- ---- a join
 
     next-few : q ≤ 8
-    next-few = omega (arith, balanced-few (length st) (drop i steps) R.left-balanced, length-drop i steps, steps-length c sl few, R.counted)
+    next-few = omega (arith, balanced-few (length st) (drop i steps) R.left_balanced, length-drop i steps, steps-length c sl few, R.counted)
 
     join-steps : (j : ℕ) (stk : List (List ℕ)) → Holds s q stk → Stacked q stk → balanced (length stk) (suc j ∷ rest) ≡ true → Steps (suc j) s
     join-steps j [] H S b = absurd (false≢true b)
@@ -160,8 +160,8 @@ module _ (c : Condition) where
           stacked = stacked-both q rs ls stk next-few S;
           counted = omega arith;
           some = omega (arith, R.some);
-          left-balanced = b;
-          left-clauses = ap (λ (y : List Clause). run rest (drop q used) (y ∷ clauses_in stk)) both ∙ e;
+          left_balanced = b;
+          left_clauses = ap (λ (y : List Clause). run rest (drop q used) (y ∷ clauses_in stk)) both ∙ e;
         }
     join_more (suc j) (rs ∷ ls ∷ stk) H S n b e = record {
       stack = (ls ++ rs) ∷ stk;
@@ -170,8 +170,8 @@ module _ (c : Condition) where
       stacked = stacked-either q rs ls stk next-few S;
       counted = omega arith;
       some = omega (arith, R.some);
-      left-balanced = b;
-      left-clauses = ap (λ (y : List Clause). run rest (drop q used) (y ∷ clauses_in stk)) (map-append (select (comparisons_read c)) ls rs) ∙ e;
+      left_balanced = b;
+      left_clauses = ap (λ (y : List Clause). run rest (drop q used) (y ∷ clauses_in stk)) (map-append (select (comparisons_read c)) ls rs) ∙ e;
     }
 
     -- ---- any step
@@ -195,23 +195,23 @@ module _ (c : Condition) where
       none_left = let l : length steps ≤ i = omega (arith, steps-length c sl few) in drop_of_length-le steps l
 
       left-none : balanced (length R.stack) [] ≡ true
-      left-none = ap (balanced (length R.stack)) (sym none_left) ∙ R.left-balanced
+      left-none = ap (balanced (length R.stack)) (sym none_left) ∙ R.left_balanced
 
       run-none' : clauses_in R.stack ≡ run steps used []
-      run-none' = sym (ap (λ (l : List ℕ). run l (drop R.next used) (clauses_in R.stack)) none_left) ∙ R.left-clauses
+      run-none' = sym (ap (λ (l : List ℕ). run l (drop R.next used) (clauses_in R.stack)) none_left) ∙ R.left_clauses
 
       go : (stk : List (List ℕ)) → Holds s R.next stk → Stacked R.next stk → i + length stk ≡ 2 * R.next → balanced (length stk) [] ≡ true → clauses_in stk ≡ run steps used []
           → Masked c (record { masks = s.masks; count = s.total })
       go [] H S k b e = absurd (false≢true b)
       go (ms ∷ []) H S k b e =
           let next-few : R.next ≤ 8 = omega arith in
-          let n : s.total ≡ length ms = H.total-is in
+          let n : s.total ≡ length ms = H.total_is in
           let all : clauses_read c ≡ map (select (comparisons_read c)) ms = sym (ap (top ([] ∷ [])) e) in
           record {
             few = omega (arith, stacked-few R.next (ms ∷ []) next-few S, most-18 R.next next-few);
-            long = H.masks-long;
+            long = H.masks_long;
             counted = ap length all ∙ length-map ms (select (comparisons_read c)) ∙ sym n;
-            clauses-are = all ∙ ap (map (select (comparisons_read c))) (sym H.masks-are);
+            clauses_are = all ∙ ap (map (select (comparisons_read c))) (sym H.masks_are);
           }
       go (ms ∷ ns ∷ stk) H S k b e = absurd (false≢true b)
 
@@ -224,5 +224,5 @@ module _ (c : Condition) where
         few = omega arith;
         long = el;
         counted = ap length all ∙ sym ec;
-        clauses-are = all ∙ sym (ap₂ (λ (l : Clause) (m : List ℕ). map (select l) m) none (ap (λ (n : ℕ). take n r.masks) ec ∙ em));
+        clauses_are = all ∙ sym (ap₂ (λ (l : Clause) (m : List ℕ). map (select l) m) none (ap (λ (n : ℕ). take n r.masks) ec ∙ em));
       }

@@ -102,9 +102,9 @@ module _ (p n k : ℕ) where
   all_both (a ∷ as₁) bs (cons v h) l = All-append (row_within a bs v l) (all_both as₁ bs h l)
 
 -- the sums fit the width of a mask
-pub sums-fit : (p n k : ℕ) (as₁ bs : List ℕ) → p + (n + k) ≤ 8 → All (Within p n) as₁ → All (Within (p + n) k) bs
+pub sums_fit : (p n k : ℕ) (as₁ bs : List ℕ) → p + (n + k) ≤ 8 → All (Within p n) as₁ → All (Within (p + n) k) bs
     → All (λ (a : ℕ). All (λ (b : ℕ). a + b < 256) bs) as₁
-sums-fit p n k as₁ bs e h l =
+sums_fit p n k as₁ bs e h l =
     All-map (λ a v. All-map (λ b w. omega (arith, within-below p (n + k) (a + b) (within-sum p n k a b v w), pow_mono e)) l) h
 
 -- ---- OR and AND of masks are OR and AND of clauses

@@ -13,7 +13,7 @@ use Rattle.lists.proofs.Written.{length-written}
 use Rattle.pattern.specs.declared.masks.Stack.{Stack}
 use Rattle.pattern.specs.Masks.{sums, pushed_of, either_of, both_of, right_of, left_of, start_of, lefts, rights, stepped_of, Pushes, Joins, Steps}
 use Rattle.pattern.proofs.Sums.{sums-length}
-use Rattle.pattern.proofs.Selecting.{Within, all_either, all_both, sums-fit, most, most-18, most-both}
+use Rattle.pattern.proofs.Selecting.{Within, all_either, all_both, sums_fit, most, most-18, most-both}
 
 -- the masks of a stack, the top last; and the lengths of its lists
 abbrev pub masks_in : List (List ℕ) → List ℕ
@@ -96,16 +96,16 @@ module _ (q : ℕ) (rs ls : List ℕ) (st : List (List ℕ)) (h : q ≤ 8) (S : 
   )
 
   pub stacked-fit : All (λ (a : ℕ). All (λ (b : ℕ). a + b < 256) rs) ls
-  stacked-fit = sums-fit left.base left.size right.size ls rs (omega (arith, whole)) left.bits upper
+  stacked-fit = sums_fit left.base left.size right.size ls rs (omega (arith, whole)) left.bits upper
 
 -- ---- the arrays
 
 pub record Holds (s : Stack) (q : ℕ) (st : List (List ℕ)) : Type 0 where
-  pub masks-long : length s.masks ≡ 18
-  pub lengths-long : length s.lengths ≡ 8
-  pub masks-are : take s.total s.masks ≡ masks_in st
-  pub total-is : s.total ≡ length (masks_in st)
-  pub lengths-are : take s.depth s.lengths ≡ lengths_in st
+  pub masks_long : length s.masks ≡ 18
+  pub lengths_long : length s.lengths ≡ 8
+  pub masks_are : take s.total s.masks ≡ masks_in st
+  pub total_is : s.total ≡ length (masks_in st)
+  pub lengths_are : take s.depth s.lengths ≡ lengths_in st
   pub depth_is : s.depth ≡ length st
   pub bit_is : s.bit ≡ 2 ^ q
 
@@ -113,27 +113,27 @@ module _ (s : Stack) (q : ℕ) (st : List (List ℕ)) (H : Holds s q st) (S : St
   total-room : s.total < 18
   total-room =
       let k : q + 1 ≤ 8 = omega arith in
-      omega (arith, H.total-is, length-append (masks_in st) (2 ^ q ∷ []), stacked-few (q + 1) ((2 ^ q ∷ []) ∷ st) k (stacked-push q st S), most-18 (q + 1) k)
+      omega (arith, H.total_is, length-append (masks_in st) (2 ^ q ∷ []), stacked-few (q + 1) ((2 ^ q ∷ []) ∷ st) k (stacked-push q st S), most-18 (q + 1) k)
 
   pub pushes : Pushes s
   pushes =
       let k : q ≤ 7 = omega arith in
-      record { masks-room = total-room; depth-room = d; bit-fits = omega (arith, H.bit_is, pow_mono k) }
+      record { masks_room = total-room; depth_room = d; bit_fits = omega (arith, H.bit_is, pow_mono k) }
 
   pub push-holds : Holds (pushed_of s) (q + 1) ((2 ^ q ∷ []) ∷ st)
   push-holds =
-      let t : s.total < length s.masks = omega (arith, total-room, H.masks-long) in
-      let e : s.depth < length s.lengths = omega (arith, H.lengths-long) in
+      let t : s.total < length s.masks = omega (arith, total-room, H.masks_long) in
+      let e : s.depth < length s.lengths = omega (arith, H.lengths_long) in
       record {
-        masks-long = length-set s.masks s.total s.bit ∙ H.masks-long;
-        lengths-long = length-set s.lengths s.depth 1 ∙ H.lengths-long;
-        masks-are = ap (λ (n : ℕ). take n (set s.masks s.total s.bit)) (add-one s.total)
+        masks_long = length-set s.masks s.total s.bit ∙ H.masks_long;
+        lengths_long = length-set s.lengths s.depth 1 ∙ H.lengths_long;
+        masks_are = ap (λ (n : ℕ). take n (set s.masks s.total s.bit)) (add-one s.total)
             ∙ take-suc-set s.masks s.total s.bit t
-            ∙ ap₂ (λ (l : List ℕ) (m : ℕ). l ++ (m ∷ [])) H.masks-are H.bit_is;
-        total-is = omega (arith, H.total-is, length-append (masks_in st) (2 ^ q ∷ []));
-        lengths-are = ap (λ (n : ℕ). take n (set s.lengths s.depth 1)) (add-one s.depth)
+            ∙ ap₂ (λ (l : List ℕ) (m : ℕ). l ++ (m ∷ [])) H.masks_are H.bit_is;
+        total_is = omega (arith, H.total_is, length-append (masks_in st) (2 ^ q ∷ []));
+        lengths_are = ap (λ (n : ℕ). take n (set s.lengths s.depth 1)) (add-one s.depth)
             ∙ take-suc-set s.lengths s.depth 1 e
-            ∙ ap (λ (l : List ℕ). l ++ (1 ∷ [])) H.lengths-are;
+            ∙ ap (λ (l : List ℕ). l ++ (1 ∷ [])) H.lengths_are;
         depth_is = omega (arith, H.depth_is);
         bit_is = let p : 2 ^ suc q ≡ 2 * 2 ^ q = pow-succ' 2 q in let a : 2 ^ (q + 1) ≡ 2 ^ suc q = ap (λ (n : ℕ). 2 ^ n) (add-one q) in omega (arith, H.bit_is);
       }
@@ -147,21 +147,21 @@ module _ (s : Stack) (q : ℕ) (rs ls : List ℕ) (st : List (List ℕ)) (H : Ho
   right_is =
       let n : length (lengths_in st ++ (length ls ∷ [])) ≡ s.depth - 1 = omega (arith, deep, length-append (lengths_in st) (length ls ∷ [])) in
       sym (get_or-take s.depth s.lengths (s.depth - 1) 0 (omega (arith, deep)))
-      ∙ ap (λ (l : List ℕ). get_or l (s.depth - 1) 0) H.lengths-are
+      ∙ ap (λ (l : List ℕ). get_or l (s.depth - 1) 0) H.lengths_are
       ∙ get_or_at (lengths_in st ++ (length ls ∷ [])) (length rs) [] 0 (s.depth - 1) n
 
   left_is : left_of s ≡ length ls
   left_is =
       let n : length (lengths_in st) ≡ s.depth - 2 = omega (arith, deep) in
       sym (get_or-take s.depth s.lengths (s.depth - 2) 0 (omega (arith, deep)))
-      ∙ ap (λ (l : List ℕ). get_or l (s.depth - 2) 0) (H.lengths-are ∙ append_snoc (lengths_in st) (length ls) (length rs ∷ []))
+      ∙ ap (λ (l : List ℕ). get_or l (s.depth - 2) 0) (H.lengths_are ∙ append_snoc (lengths_in st) (length ls) (length rs ∷ []))
       ∙ get_or_at (lengths_in st) (length ls) (length rs ∷ []) 0 (s.depth - 2) n
 
   below-is : take (s.depth - 2) s.lengths ≡ lengths_in st
   below-is =
       let n : length (lengths_in st) ≡ s.depth - 2 = omega (arith, deep) in
       sym (take-take (s.depth - 2) s.depth s.lengths (omega arith))
-      ∙ ap (take (s.depth - 2)) (H.lengths-are ∙ append_snoc (lengths_in st) (length ls) (length rs ∷ []))
+      ∙ ap (take (s.depth - 2)) (H.lengths_are ∙ append_snoc (lengths_in st) (length ls) (length rs ∷ []))
       ∙ take_at (lengths_in st) (length ls ∷ length rs ∷ []) (s.depth - 2) n
 
   -- the lengths with the two on top joined
@@ -169,7 +169,7 @@ module _ (s : Stack) (q : ℕ) (rs ls : List ℕ) (st : List (List ℕ)) (H : Ho
   joined-lengths n =
       let k : s.depth - 1 ≡ suc (s.depth - 2) = omega (arith, deep) in
       ap (λ (j : ℕ). take j (set s.lengths (s.depth - 2) n)) k
-      ∙ take-suc-set s.lengths (s.depth - 2) n (omega (arith, deep, H.lengths-long))
+      ∙ take-suc-set s.lengths (s.depth - 2) n (omega (arith, deep, H.lengths_long))
       ∙ ap (λ (l : List ℕ). l ++ (n ∷ [])) below-is
 
   -- the masks
@@ -177,7 +177,7 @@ module _ (s : Stack) (q : ℕ) (rs ls : List ℕ) (st : List (List ℕ)) (H : Ho
   in_all = omega (arith, length-append (masks_in st ++ ls) rs, length-append (masks_in st) ls)
 
   start_is : start_of s ≡ length (masks_in st)
-  start_is = omega (arith, in_all, H.total-is, left_is, right_is)
+  start_is = omega (arith, in_all, H.total_is, left_is, right_is)
 
   abbrev rest : List ℕ
   rest = drop s.total s.masks
@@ -185,7 +185,7 @@ module _ (s : Stack) (q : ℕ) (rs ls : List ℕ) (st : List (List ℕ)) (H : Ho
   parts : s.masks ≡ masks_in st ++ (ls ++ (rs ++ rest))
   parts =
       sym (take-append-drop s.total s.masks)
-      ∙ ap (λ (l : List ℕ). l ++ rest) H.masks-are
+      ∙ ap (λ (l : List ℕ). l ++ rest) H.masks_are
       ∙ append_assoc (masks_in st ++ ls) rs rest
       ∙ append_assoc (masks_in st) ls (rs ++ rest)
 
@@ -215,20 +215,20 @@ module _ (s : Stack) (q : ℕ) (rs ls : List ℕ) (st : List (List ℕ)) (H : Ho
   joins = record {
     two = omega (arith, deep);
     few = d;
-    inside = omega (arith, in_all, H.total-is, left_is, right_is);
-    within = omega (arith, H.total-is, stacked-few q (rs ∷ ls ∷ st) h S, most-18 q h);
-    sums-room = omega (arith, product_is, start_is, both-few, length-append (masks_in st) (sums ls rs));
-    sums-fit = subst (λ (x : List ℕ). All (λ (a : ℕ). All (λ (b : ℕ). a + b < 256) (rights s)) x) (sym lefts-are)
+    inside = omega (arith, in_all, H.total_is, left_is, right_is);
+    within = omega (arith, H.total_is, stacked-few q (rs ∷ ls ∷ st) h S, most-18 q h);
+    sums_room = omega (arith, product_is, start_is, both-few, length-append (masks_in st) (sums ls rs));
+    sums_fit = subst (λ (x : List ℕ). All (λ (a : ℕ). All (λ (b : ℕ). a + b < 256) (rights s)) x) (sym lefts-are)
         (subst (λ (y : List ℕ). All (λ (a : ℕ). All (λ (b : ℕ). a + b < 256) y) ls) (sym rights-are) (stacked-fit q rs ls st h S));
   }
 
   pub either-holds : Holds (either_of s) q ((ls ++ rs) ∷ st)
   either-holds = record {
-    masks-long = H.masks-long;
-    lengths-long = length-set s.lengths (s.depth - 2) (left_of s + right_of s) ∙ H.lengths-long;
-    masks-are = H.masks-are ∙ append_assoc (masks_in st) ls rs;
-    total-is = H.total-is ∙ ap length (append_assoc (masks_in st) ls rs);
-    lengths-are = joined-lengths (left_of s + right_of s) ∙ ap (λ (n : ℕ). lengths_in st ++ (n ∷ [])) (ap₂ ◌+◌ left_is right_is ∙ sym (length-append ls rs));
+    masks_long = H.masks_long;
+    lengths_long = length-set s.lengths (s.depth - 2) (left_of s + right_of s) ∙ H.lengths_long;
+    masks_are = H.masks_are ∙ append_assoc (masks_in st) ls rs;
+    total_is = H.total_is ∙ ap length (append_assoc (masks_in st) ls rs);
+    lengths_are = joined-lengths (left_of s + right_of s) ∙ ap (λ (n : ℕ). lengths_in st ++ (n ∷ [])) (ap₂ ◌+◌ left_is right_is ∙ sym (length-append ls rs));
     depth_is = omega (arith, H.depth_is);
     bit_is = H.bit_is;
   }
@@ -238,16 +238,16 @@ module _ (s : Stack) (q : ℕ) (rs ls : List ℕ) (st : List (List ℕ)) (H : Ho
       let xs : List ℕ = sums (lefts s) (rights s) in
       let same : xs ≡ sums ls rs = ap₂ sums lefts-are rights-are in
       let n : length xs ≡ left_of s * right_of s = ap length same ∙ sym product_is in
-      let room : start_of s + length xs ≤ length s.masks = omega (arith, joins.sums-room, H.masks-long) in
+      let room : start_of s + length xs ≤ length s.masks = omega (arith, joins.sums_room, H.masks_long) in
       let front : length (take (start_of s) s.masks ++ xs) ≡ start_of s + left_of s * right_of s =
       length-append (take (start_of s) s.masks) xs ∙ ap₂ ◌+◌ (length-take-le (start_of s) s.masks (omega arith)) n in
       record {
-        masks-long = length-written s.masks (start_of s) xs room ∙ H.masks-long;
-        lengths-long = length-set s.lengths (s.depth - 2) (left_of s * right_of s) ∙ H.lengths-long;
-        masks-are = take_at (take (start_of s) s.masks ++ xs) (drop (start_of s + length xs) s.masks) (start_of s + left_of s * right_of s) front
+        masks_long = length-written s.masks (start_of s) xs room ∙ H.masks_long;
+        lengths_long = length-set s.lengths (s.depth - 2) (left_of s * right_of s) ∙ H.lengths_long;
+        masks_are = take_at (take (start_of s) s.masks ++ xs) (drop (start_of s + length xs) s.masks) (start_of s + left_of s * right_of s) front
             ∙ ap₂ ◌++◌ below-masks same;
-        total-is = omega (arith, start_is, product_is, length-append (masks_in st) (sums ls rs));
-        lengths-are = joined-lengths (left_of s * right_of s) ∙ ap (λ (n : ℕ). lengths_in st ++ (n ∷ [])) product_is;
+        total_is = omega (arith, start_is, product_is, length-append (masks_in st) (sums ls rs));
+        lengths_are = joined-lengths (left_of s * right_of s) ∙ ap (λ (n : ℕ). lengths_in st ++ (n ∷ [])) product_is;
         depth_is = omega (arith, H.depth_is);
         bit_is = H.bit_is;
       }

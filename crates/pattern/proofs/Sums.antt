@@ -75,7 +75,7 @@ module _ (masks : List ℕ) (start left right : ℕ) where
   pub rows_start : Rows masks start 0
   rows_start = record { some = omega arith; place = omega (arith, zero-mul right); long = refl; rows_are = sym (written-nil masks start) }
 
-  module _ (room : start + left + right ≤ length masks) (sums-room : start + left * right ≤ length masks) where
+  module _ (room : start + left + right ≤ length masks) (sums_room : start + left * right ≤ length masks) where
     ls-length : length ls ≡ left
     ls-length = part_length masks start left (omega arith)
 

@@ -38,11 +38,11 @@ Q = "SELECT level FROM stage WHERE site = ?"
 abbrev Holds : String → String → List Pattern → Type 0
 Holds q u ps = ((compiled q).kind ≡ 2) × ((compiled u).kind ≡ 3) × (patterns_stored (compiled q).query (compiled u).update ≡ ps)
 
-abbrev update-level : String
-update-level = "UPDATE stage SET level = ? WHERE site = ?"
+abbrev update_level : String
+update_level = "UPDATE stage SET level = ? WHERE site = ?"
 
 -- *SET level = ? WHERE site = ?
-pub set-level : Holds Q update-level ((mark 2 ∷ []) ∷ [])
+pub set-level : Holds Q update_level ((mark 2 ∷ []) ∷ [])
 unfolding computing
 set-level = (refl, refl, refl)
 
@@ -50,16 +50,16 @@ set-level = (refl, refl, refl)
 abbrev second : S.Pattern
 second = record { there = true; entries = padded 8 (placed Any) (placed (Parameter 1) ∷ []); count = 1 }
 
-pub set-level-list : pattern_list (compiled Q).query (compiled update-level).update ≡ record { items = padded 64 no_pattern (second ∷ []); count = 1 }
+pub set-level-list : pattern_list (compiled Q).query (compiled update_level).update ≡ record { items = padded 64 no_pattern (second ∷ []); count = 1 }
 unfolding computing
 set-level-list = refl
 
 -- two joint clauses, (G and F) and (G and F'), have this pattern
 pub set-level-clauses :
-    (clause_total (compiled Q).query (compiled update-level).update ≡ 2)
-    × (pattern_at (compiled Q).query (compiled update-level).update 0 ≡ second)
-    × (pattern_at (compiled Q).query (compiled update-level).update 1 ≡ second)
-    × (pattern_at (compiled Q).query (compiled update-level).update 2 ≡ no_pattern)
+    (clause_total (compiled Q).query (compiled update_level).update ≡ 2)
+    × (pattern_at (compiled Q).query (compiled update_level).update 0 ≡ second)
+    × (pattern_at (compiled Q).query (compiled update_level).update 1 ≡ second)
+    × (pattern_at (compiled Q).query (compiled update_level).update 2 ≡ no_pattern)
 unfolding computing
 set-level-clauses = (refl, refl, refl, refl)
 
@@ -102,22 +102,22 @@ sixteen =
 abbrev four : String
 four = "DELETE FROM stage WHERE (site = ? OR site = ?) AND (level = ? OR level = ?)"
 
-pub four-sixteen : clause_total (compiled sixteen).query (compiled four).update ≡ 64
+pub four_sixteen : clause_total (compiled sixteen).query (compiled four).update ≡ 64
 unfolding computing
-four-sixteen = refl
+four_sixteen = refl
 
 -- *DELETE, counts 4 and 16: 64 joint clauses are worked out
-pub delete-four :
+pub delete_four :
     Holds sixteen four
     ((mark 1 ∷ anything ∷ []) ∷ (anything ∷ mark 3 ∷ []) ∷ (anything ∷ mark 4 ∷ []) ∷ (mark 2 ∷ anything ∷ []) ∷ [])
 unfolding computing
-delete-four = (refl, refl, refl)
+delete_four = (refl, refl, refl)
 
 -- *UPDATE, counts 4 and 16: twice as many are not
-pub update-four :
+pub update_four :
     Holds sixteen "UPDATE stage SET level = ? WHERE (site = ? OR site = ?) AND (level = ? OR level = ?)" ((anything ∷ anything ∷ []) ∷ [])
 unfolding computing
-update-four = (refl, refl, refl)
+update_four = (refl, refl, refl)
 
 -- ---- A.1: a question over two tables, stage (site, level) at the positions 0 and 1, rating (site, flow) at 2 and 3
 

@@ -12,7 +12,7 @@ use Rattle.statement.specs.declared.Setting.{Setting}
 use Rattle.statement.specs.Sound.{value_read}
 use Rattle.statement.specs.Compiled.{padded, new_value}
 use Rattle.statement.specs.Operators.{predicate_at}
-use Rattle.pattern.specs.Least.{marks-from, asked-from, code_of, Coded, coded, least, clashes_on, fails, contradicts, entry_of_code, least_entry}
+use Rattle.pattern.specs.Least.{marks_from, asked_from, code_of, Coded, coded, least, clashes_on, fails, contradicts, entry_of_code, least_entry}
 use Rattle.pattern.specs.Stored.{place_struct, placed, pattern_struct, no_pattern}
 use Rattle.pattern.specs.declared.Entry.TheVariants.{Any}
 use Rattle.pattern.specs.declared.Place.{Place}
@@ -54,19 +54,19 @@ Narrow (given k) = (1 ≤ k) × (k ≤ 256)
 
 -- a number whose entry can be read: it is no question mark of the update, or one that a struct holds
 pub record Readable (code : ℕ) : Type 0 where
-  pub some : code ≡ marks-from → ⊥
-  pub few : code < asked-from → code ≤ marks-from + 256
+  pub some : code ≡ marks_from → ⊥
+  pub few : code < asked_from → code ≤ marks_from + 256
 
 -- the arrays of a clause of n comparisons
 pub record Ready (codes : List ℕ) (n : ℕ) : Type 0 where
   pub few : n ≤ 16
   pub readable : All Readable codes
-  pub marks-there : drop 32 codes ≡ map (λ (k : ℕ). asked-from + k) (from 1 8)
+  pub marks_there : drop 32 codes ≡ map (λ (k : ℕ). asked_from + k) (from 1 8)
 
 -- the labels of all numbers, and whether an `=` joins two different constants
 pub record Labelled (codes ops : List ℕ) (n : ℕ) (r : Labels) : Type 0 where
-  pub labels-are : r.codes ≡ map (least (clause_at codes ops n)) codes
-  pub clash-is : r.clash ≡ clashes_on (λ x. x) (clause_at codes ops n)
+  pub labels_are : r.codes ≡ map (least (clause_at codes ops n)) codes
+  pub clash_is : r.clash ≡ clashes_on (λ x. x) (clause_at codes ops n)
   pub readable : All Readable r.codes
 
 -- the places of a pattern, by the labels of the first n question marks
@@ -112,11 +112,11 @@ abbrev pub chosen_of : ℕ → ℕ → List (ℕ × M.Value) → Condition → �
 chosen_of r k ss c mask = map (renamed (operand_of r k ss)) (select (comparisons_read c) mask)
 
 abbrev pub no_clause : Joined
-no_clause = record { codes = replicate 32 0 ++ map (λ (k : ℕ). asked-from + k) (from 1 8); ops = replicate 16 0; count = 0 }
+no_clause = record { codes = replicate 32 0 ++ map (λ (k : ℕ). asked_from + k) (from 1 8); ops = replicate 16 0; count = 0 }
 
 -- the arrays with a clause added behind the first n comparisons
 pub record Extended (codes ops : List ℕ) (n : ℕ) (added : Clause) (r : Joined) : Type 0 where
-  pub clause-is : clause_at r.codes r.ops r.count ≡ clause_at codes ops n ++ coded added
+  pub clause_is : clause_at r.codes r.ops r.count ≡ clause_at codes ops n ++ coded added
   pub narrow : All Narrow (sides added)
   pub few : r.count ≤ n + 8
   pub readable : All Readable r.codes

@@ -9,14 +9,14 @@ use Rattle.statement.specs.Operators.{is_null_test}
 use Rattle.meaning.specs.Pattern.{Joint, column, constant, asked, given, Clause, strict, Entry, number, mark, anything}
 
 -- the first code that is no constant; of the query's question marks; of columns
-abbrev pub marks-from : ℕ
-marks-from = 4294967296
+abbrev pub marks_from : ℕ
+marks_from = 4294967296
 
-abbrev pub asked-from : ℕ
-asked-from = 4295032832
+abbrev pub asked_from : ℕ
+asked_from = 4295032832
 
-abbrev pub columns-from : ℕ
-columns-from = 4295098368
+abbrev pub columns_from : ℕ
+columns_from = 4295098368
 
 abbrev pub constant_code : ℤ → ℕ
 constant_code (pos n) = 2147483648 + n
@@ -24,15 +24,15 @@ constant_code (negsuc n) = 2147483647 - n
 
 abbrev pub code_of : Joint → ℕ
 code_of (constant z) = constant_code z
-code_of (given k) = marks-from + k
-code_of (asked k) = asked-from + k
-code_of (column i) = columns-from + i
+code_of (given k) = marks_from + k
+code_of (asked k) = asked_from + k
+code_of (column i) = columns_from + i
 
 abbrev pub code_constant : ℕ → ℤ
 code_constant n = pos n -ℤ pos 2147483648
 
 abbrev pub is_constant : ℕ → Bool
-is_constant n = ltb n marks-from
+is_constant n = ltb n marks_from
 
 abbrev pub Coded : Type 0
 Coded = List (Comparison ℕ)
@@ -93,7 +93,7 @@ contradicts cs = clashes_on (λ x. x) cs || any (λ (c : Comparison ℕ). fails 
 -- ---- rule 7: what a label says of a question mark
 
 abbrev pub entry_of_code : ℕ → Entry
-entry_of_code n = cond (ltb n marks-from) (number (code_constant n)) (cond (ltb n asked-from) (mark (n - marks-from)) anything)
+entry_of_code n = cond (ltb n marks_from) (number (code_constant n)) (cond (ltb n asked_from) (mark (n - marks_from)) anything)
 
 unfoldable pub least_entry : Coded → ℕ → Entry
-least_entry cs k = entry_of_code (least cs (asked-from + k))
+least_entry cs k = entry_of_code (least cs (asked_from + k))

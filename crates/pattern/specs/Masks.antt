@@ -88,17 +88,17 @@ stepped_of (suc (suc k)) s = either_of s
 
 -- what each needs of the stack
 pub record Pushes (s : Stack) : Type 0 where
-  pub masks-room : s.total < 18
-  pub depth-room : s.depth < 8
-  pub bit-fits : s.bit < 256
+  pub masks_room : s.total < 18
+  pub depth_room : s.depth < 8
+  pub bit_fits : s.bit < 256
 
 pub record Joins (s : Stack) : Type 0 where
   pub two : 2 ≤ s.depth
   pub few : s.depth ≤ 8
   pub inside : left_of s + right_of s ≤ s.total
   pub within : s.total ≤ 18
-  pub sums-room : start_of s + left_of s * right_of s ≤ 18
-  pub sums-fit : All (λ (a : ℕ). All (λ (b : ℕ). a + b < 256) (rights s)) (lefts s)
+  pub sums_room : start_of s + left_of s * right_of s ≤ 18
+  pub sums_fit : All (λ (a : ℕ). All (λ (b : ℕ). a + b < 256) (rights s)) (lefts s)
 
 abbrev pub Steps : ℕ → Stack → Type 0
 Steps zero s = Pushes s
@@ -114,4 +114,4 @@ pub record Masked (c : Condition) (r : Clauses) : Type 0 where
   pub few : r.count ≤ 18
   pub long : length r.masks ≡ 18
   pub counted : length (clauses_read c) ≡ r.count
-  pub clauses-are : clauses_read c ≡ map (select (comparisons_read c)) (take r.count r.masks)
+  pub clauses_are : clauses_read c ≡ map (select (comparisons_read c)) (take r.count r.masks)

@@ -27,11 +27,11 @@ pair_at role k q u i = get_or (pairs (update_clauses k u) (role_clauses role k q
 
 -- what is known where the clauses are worked out
 pub record Worked (q : Query) (u : Update) (p : Pairing) : Type 0 where
-  pub query-masked : Masked q.condition p.query
-  pub update-masked : Masked u.condition p.update
-  pub query-few : q.condition.count ≤ 8
-  pub update-few : u.condition.count ≤ 8
-  pub total-is : p.total ≡ length (joint q u)
+  pub query_masked : Masked q.condition p.query
+  pub update_masked : Masked u.condition p.update
+  pub query_few : q.condition.count ≤ 8
+  pub update_few : u.condition.count ≤ 8
+  pub total_is : p.total ≡ length (joint q u)
   pub few : p.total ≤ 64
 
 pub record Paired (q : Query) (u : Update) (p : Pairing) : Type 0 where

@@ -9,7 +9,7 @@ use Rattle.meaning.specs.Condition.{sides, renamed}
 use Rattle.meaning.specs.Postfix.{clauses_of_nodes, leaves, is_postfix}
 use Rattle.meaning.specs.Statement as M
 use Rattle.meaning.specs.Pattern as P
-use Rattle.meaning.specs.Pattern.{Side, neither, first, second, second_side, is_side, second_start, moved, column, of_update, of_query, placed_from, replacing, operand_columns, Clause, contradictory, pattern, chosen, most-clauses, number, mark, anything, agrees}
+use Rattle.meaning.specs.Pattern.{Side, neither, first, second, second_side, is_side, second_start, moved, column, of_update, of_query, placed_from, replacing, operand_columns, Clause, contradictory, pattern, chosen, most_clauses, number, mark, anything, agrees}
 use Rattle.statement.specs.declared.Condition.{Condition}
 use Rattle.statement.specs.declared.Query.{Query}
 use Rattle.statement.specs.declared.Update.{Update}
@@ -80,7 +80,7 @@ unfoldable pub is_formed : Condition → Bool
 is_formed c = leb c.count 8 && is_postfix (condition_nodes c)
 
 unfoldable pub all_any : Query → Update → Bool
-all_any q u = not (is_formed q.condition && is_formed u.condition) || ltb most-clauses (length (joint q u))
+all_any q u = not (is_formed q.condition && is_formed u.condition) || ltb most_clauses (length (joint q u))
 
 -- ---- rules 6 and 7, and the list
 

@@ -11,12 +11,12 @@ use lib.ListN.{length, take}
 use lib.Seq.{take_all, take-take, length-take-le}
 use Rattle.lists.specs.Lists.{flat}
 use Rattle.cache.specs.Run.{Store, opened}
-use Rattle.console.specs.Lines.{is_newline, bad, line_says, most-line, command_of}
+use Rattle.console.specs.Lines.{is_newline, bad, line_says, most_line, command_of}
 use Rattle.console.specs.Desk.{Answered, commanded, answered_of, printed_for}
 use Rattle.console.specs.Demand.{store_after}
 use Rattle.console.proofs.Demand.{demands}
 use Rattle.console.proofs.Rooms.{take-both}
-use Rattle.serve.specs.Input.{ended_in, held_after, last_line, Session, most-held, holding, answering, behind, fed_byte, text_at, fed, printed_in, printed_last, finished, PiecesJoin, lines_of, PrintsTheLines, EndsAsTheLines, PrintsAsPlain}
+use Rattle.serve.specs.Input.{ended_in, held_after, last_line, Session, most_held, holding, answering, behind, fed_byte, text_at, fed, printed_in, printed_last, finished, PiecesJoin, lines_of, PrintsTheLines, EndsAsTheLines, PrintsAsPlain}
 
 -- ---- one piece after another
 
@@ -44,27 +44,27 @@ module _ {A : Type 0} where
           ∙ sym (take-both n xs ys)
 
 -- a line that is cut says what the line says: one of more than 512 bytes is a bad line
-long-bad : (line : List ℕ) → most-line < length line → command_of line ≡ bad
+long-bad : (line : List ℕ) → most_line < length line → command_of line ≡ bad
 unfolding command_of
-long-bad line h = ap (λ (b : Bool). elim b [ true ↦ line_says line | false ↦ bad ]) (lt-leb (length line) most-line h)
+long-bad line h = ap (λ (b : Bool). elim b [ true ↦ line_says line | false ↦ bad ]) (lt-leb (length line) most_line h)
 
-command-held : (line : List ℕ) → command_of (take most-held line) ≡ command_of line
-command-held line = go (dec_le (length line) most-held)
+command-held : (line : List ℕ) → command_of (take most_held line) ≡ command_of line
+command-held line = go (dec_le (length line) most_held)
   where
-    go : Dec (length line ≤ most-held) → command_of (take most-held line) ≡ command_of line
-    go (yes h) = ap command_of (take_all most-held line h)
+    go : Dec (length line ≤ most_held) → command_of (take most_held line) ≡ command_of line
+    go (yes h) = ap command_of (take_all most_held line h)
     go (no h) =
-        let l : length (take most-held line) ≡ most-held = length-take-le most-held line (omega arith) in
-        long-bad (take most-held line) (omega (arith, l)) ∙ sym (long-bad line (omega arith))
+        let l : length (take most_held line) ≡ most_held = length-take-le most_held line (omega arith) in
+        long-bad (take most_held line) (omega (arith, l)) ∙ sym (long-bad line (omega arith))
 
-answered-held : (s : Store) (buffer line : List ℕ) → answered_of s buffer (take most-held line) ≡ answered_of s buffer line
+answered-held : (s : Store) (buffer line : List ℕ) → answered_of s buffer (take most_held line) ≡ answered_of s buffer line
 unfolding answered_of
 answered-held s buffer line = ap (commanded s buffer) (command-held line)
 
 -- ---- the lines of the whole input
 
 abbrev session_with : Store → List ℕ → List ℕ → Session
-session_with s buffer held = record { store = s; buffer = buffer; held = take most-held held }
+session_with s buffer held = record { store = s; buffer = buffer; held = take most_held held }
 
 -- what is printed from a session on
 abbrev printed_from : Session → List ℕ → List ℕ
@@ -105,7 +105,7 @@ from-printed (b ∷ bs) s buffer held = go (is_newline b) (from-printed bs)
         ∙ ap (λ (t : List ℕ). a.text ++ t) (h a.store a.buffer [])
         ∙ ap (λ (x : Answered). x.text ++ flat (printed_for x.store x.buffer (lines_from [] bs))) (answered-held s buffer held)
     go false h =
-        ap (λ (t : List ℕ). printed_from (record { store = s; buffer = buffer; held = t }) bs) (take-held most-held held (b ∷ []))
+        ap (λ (t : List ℕ). printed_from (record { store = s; buffer = buffer; held = t }) bs) (take-held most_held held (b ∷ []))
         ∙ h s buffer (held ++ (b ∷ []))
 
 pub prints-the-lines : PrintsTheLines
@@ -129,7 +129,7 @@ from-stored (b ∷ bs) s buffer held = go (is_newline b) (from-stored bs)
         h a.store a.buffer []
         ∙ ap (λ (x : Answered). store_after x.store x.buffer (lines_from [] bs)) (answered-held s buffer held)
     go false h =
-        ap (λ (t : List ℕ). (finished (fed (record { store = s; buffer = buffer; held = t }) bs)).store) (take-held most-held held (b ∷ []))
+        ap (λ (t : List ℕ). (finished (fed (record { store = s; buffer = buffer; held = t }) bs)).store) (take-held most_held held (b ∷ []))
         ∙ h s buffer (held ++ (b ∷ []))
 
 pub ends-as-the-lines : EndsAsTheLines
@@ -137,5 +137,5 @@ ends-as-the-lines s buffer input = from-stored input s buffer []
 
 -- ---- the plain store
 
-pub prints-as-plain : PrintsAsPlain
-prints-as-plain o buffer input = prints-the-lines (opened o) buffer input ∙ ap flat (demands.prints-its-calls o buffer (lines_of input))
+pub prints_as_plain : PrintsAsPlain
+prints_as_plain o buffer input = prints-the-lines (opened o) buffer input ∙ ap flat (demands.prints_its_calls o buffer (lines_of input))

@@ -21,8 +21,8 @@ use Rattle.console.specs.Desk.{Replies, replies, reply_of}
 use Rattle.console.proofs.Rooms.{take-both}
 use Rattle.console.proofs.Prints.{text-short, all-printed}
 use Rattle.console.proofs.Bounds.{gather-moves, gather-within, reply-within}
-use Rattle.serve.specs.Input.{Session, most-held, holding, answering, behind, fed, printed_in, finished, beginning}
-use Rattle.serve.specs.Turns.{most-lent, most-printed, store_of, session_of, between, ending, Gathers, Answers, Feeds, Finishes, Whole, Reads, Ends, Runs}
+use Rattle.serve.specs.Input.{Session, most_held, holding, answering, behind, fed, printed_in, finished, beginning}
+use Rattle.serve.specs.Turns.{most_lent, most_printed, store_of, session_of, between, ending, Gathers, Answers, Feeds, Finishes, Whole, Reads, Ends, Runs}
 use Rattle.serve.proofs.Feeding.{pieces-join, take-held, fed_by, text_by}
 
 abbrev within : ℕ → Bool
@@ -64,19 +64,19 @@ module _ (piece : List ℕ) (from : ℕ) (line : List ℕ) (held : ℕ) where
 
   -- ---- the bytes that are held
 
-  held-are : held ≤ length line → length line ≡ most-held
-      → take (filled_to line held (line_from piece from)) (filled line held (line_from piece from)) ≡ take most-held (take held line ++ line_from piece from)
+  held-are : held ≤ length line → length line ≡ most_held
+      → take (filled_to line held (line_from piece from)) (filled line held (line_from piece from)) ≡ take most_held (take held line ++ line_from piece from)
   held-are h long =
       let w = line_from piece from in
       let front = take held line ++ fitting line held w in
       let a : length (take held line) ≡ held = length-take-le held line h in
       let n : length front ≡ filled_to line held w = length-append (take held line) (fitting line held w) ∙ ap (λ (k : ℕ). k + length (fitting line held w)) a in
-      let z : length line - held ≡ most-held - length (take held line) = omega (arith, a, long) in
+      let z : length line - held ≡ most_held - length (take held line) = omega (arith, a, long) in
       take_at front (drop (held + length (fitting line held w)) line) (filled_to line held w) n
-      ∙ ap₂ (λ (x : List ℕ) (k : ℕ). x ++ take k w) (sym (take_all most-held (take held line) (omega (arith, a, long, h)))) z
-      ∙ sym (take-both most-held (take held line) w)
+      ∙ ap₂ (λ (x : List ℕ) (k : ℕ). x ++ take k w) (sym (take_all most_held (take held line) (omega (arith, a, long, h)))) z
+      ∙ sym (take-both most_held (take held line) w)
 
-  module _ (g : Gathered) (new : List ℕ) (e : g ≡ gathered_of piece from line held) (f : new ≡ filled line held (line_from piece from)) (h : held ≤ length line) (long : length line ≡ most-held) where
+  module _ (g : Gathered) (new : List ℕ) (e : g ≡ gathered_of piece from line held) (f : new ≡ filled line held (line_from piece from)) (h : held ≤ length line) (long : length line ≡ most_held) where
     pub gathers-line : Gathers piece from (take held line) g.next (take g.held new) g.ended
     unfolding gathered_of
     gathers-line = record {
@@ -95,23 +95,23 @@ module _ (piece : List ℕ) (from : ℕ) (line : List ℕ) (held : ℕ) where
 -- ---- what they do
 
 -- bytes of one line are held, and nothing is printed
-run-fed : (w : List ℕ) (s : Session) → length s.held ≤ most-held → all within w ≡ true → (fed s w ≡ holding s w) × (printed_in s w ≡ [])
+run-fed : (w : List ℕ) (s : Session) → length s.held ≤ most_held → all within w ≡ true → (fed s w ≡ holding s w) × (printed_in s w ≡ [])
 unfolding fed printed_in
 run-fed [] s h a =
-    let e : s.held ≡ take most-held (s.held ++ []) = sym (ap (take most-held) (append-nil s.held) ∙ take_all most-held s.held h) in
+    let e : s.held ≡ take most_held (s.held ++ []) = sym (ap (take most_held) (append-nil s.held) ∙ take_all most_held s.held h) in
     (ap (λ (x : List ℕ). record { store = s.store; buffer = s.buffer; held = x }) e, refl)
 run-fed (b ∷ w) s h a = go (is_newline b) (and_left (within b) (all within w) a) (λ t k. run-fed w t k (and_right (within b) (all within w) a))
   where
-    go : (n : Bool) → not n ≡ true → ((t : Session) → length t.held ≤ most-held → (fed t w ≡ holding t w) × (printed_in t w ≡ []))
+    go : (n : Bool) → not n ≡ true → ((t : Session) → length t.held ≤ most_held → (fed t w ≡ holding t w) × (printed_in t w ≡ []))
         → (fed (fed_by s b n) w ≡ holding s (b ∷ w)) × (text_by s n ++ printed_in (fed_by s b n) w ≡ [])
     go true e f = absurd (true≢false (sym e))
     go false e f =
-        let r = f (holding s (b ∷ [])) (omega (arith, length-take most-held (s.held ++ (b ∷ [])))) in
-        let j : take most-held (take most-held (s.held ++ (b ∷ [])) ++ w) ≡ take most-held (s.held ++ (b ∷ w)) =
-        take-held most-held (s.held ++ (b ∷ [])) w ∙ ap (take most-held) (append_assoc s.held (b ∷ []) w) in
+        let r = f (holding s (b ∷ [])) (omega (arith, length-take most_held (s.held ++ (b ∷ [])))) in
+        let j : take most_held (take most_held (s.held ++ (b ∷ [])) ++ w) ≡ take most_held (s.held ++ (b ∷ w)) =
+        take-held most_held (s.held ++ (b ∷ [])) w ∙ ap (take most_held) (append_assoc s.held (b ∷ []) w) in
         (r.0 ∙ ap (λ (x : List ℕ). record { store = s.store; buffer = s.buffer; held = x }) j, r.1)
 
-module _ (s : Session) (piece : List ℕ) (from next : ℕ) (after : List ℕ) (ended : Bool) (k : length s.held ≤ most-held) (G : Gathers piece from s.held next after ended) where
+module _ (s : Session) (piece : List ℕ) (from next : ℕ) (after : List ℕ) (ended : Bool) (k : length s.held ≤ most_held) (G : Gathers piece from s.held next after ended) where
   abbrev gathered : Session
   gathered = record { store = s.store; buffer = s.buffer; held = after }
 
@@ -153,12 +153,12 @@ module _ (state : State) (cells : List ℤ) (memory answer : List ℕ) where
       let z : n - 0 ≡ n = omega arith in
       subst (λ (k : ℕ). Answers (session_of state cells memory answer (take k line)) t text) z A
 
-  module _ (piece : List ℕ) (from : ℕ) (line : List ℕ) (held next : ℕ) (new : List ℕ) (n : ℕ) (ended : Bool) (long : length line ≡ most-held)
+  module _ (piece : List ℕ) (from : ℕ) (line : List ℕ) (held next : ℕ) (new : List ℕ) (n : ℕ) (ended : Bool) (long : length line ≡ most_held)
       (G : Gathers piece from (take held line) next (take n new) ended) where
     abbrev before : Session
     before = session_of state cells memory answer (take held line)
 
-    short : length (take held line) ≤ most-held
+    short : length (take held line) ≤ most_held
     short = omega (arith, length-take held line, long)
 
     pub feeds-ended : ended ≡ true → (state' : State) (cells' : List ℤ) (memory' answer' : List ℕ) (left to : ℕ) (text : List ℕ) → left ≡ 0 → to ≡ next
@@ -241,7 +241,7 @@ module _ (r : Reply) (cells' : List ℤ) (memory' answer' out' : List ℕ) (stat
   pub reply-inside : r.length ≤ length out
   reply-inside = omega (arith, ap (λ (x : Replies). x.result.length) e, reply-within state cells memory answer line out)
 
-  pub reply-answers : length answer ≤ most-lent → most-printed ≤ length out → Answers (session_of state cells memory answer line) (session_of r.state cells' memory' answer' []) (take r.length out')
+  pub reply-answers : length answer ≤ most_lent → most_printed ≤ length out → Answers (session_of state cells memory answer line) (session_of r.state cells' memory' answer' []) (take r.length out')
   unfolding reply_of
   reply-answers l h =
       let a = answering (session_of state cells memory answer line) in

@@ -46,11 +46,11 @@ pub record Session : Type 0 where
   pub held : List ℕ
 
 -- one byte more than a line may have, so that a longer one is seen to be too long
-abbrev pub most-held : ℕ
-most-held = 513
+abbrev pub most_held : ℕ
+most_held = 513
 
 abbrev pub holding : Session → List ℕ → Session
-holding s bs = record { store = s.store; buffer = s.buffer; held = take most-held (s.held ++ bs) }
+holding s bs = record { store = s.store; buffer = s.buffer; held = take most_held (s.held ++ bs) }
 
 -- the line that is held, answered; and the session then
 abbrev pub answering : Session → Answered

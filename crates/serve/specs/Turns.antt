@@ -3,14 +3,14 @@ use Rattle.std.specs.Prelude.{◌≡◌, Bool, true, ◌&&◌, cond, List, [], �
 use Rattle.cache.specs.declared.State.{State}
 use Rattle.cache.specs.Run.{Store, Start, opened}
 use Rattle.console.specs.Lines.{line_from}
-use Rattle.serve.specs.Input.{Opening, Session, most-held, answering, behind, fed, printed_in, finished, printed_last, beginning}
+use Rattle.serve.specs.Input.{Opening, Session, most_held, answering, behind, fed, printed_in, finished, printed_last, beginning}
 
 -- the bytes that are lent for answers; and no line prints more bytes, with an answer in those
-abbrev pub most-lent : ℕ
-most-lent = 65536
+abbrev pub most_lent : ℕ
+most_lent = 65536
 
-abbrev pub most-printed : ℕ
-most-printed = 262144
+abbrev pub most_printed : ℕ
+most_printed = 262144
 
 -- the store and the session as the program has them; the held bytes are the first of a buffer
 abbrev pub store_of : State → List ℤ → List ℕ → Store
@@ -33,7 +33,7 @@ ending ended = cond ended (10 ∷ []) []
 
 pub record Gathers (piece : List ℕ) (from : ℕ) (held : List ℕ) (next : ℕ) (after : List ℕ) (ended : Bool) : Type 0 where
   pub used : between from next piece ≡ line_from piece from ++ ending ended
-  pub bytes : after ≡ take most-held (held ++ line_from piece from)
+  pub bytes : after ≡ take most_held (held ++ line_from piece from)
 
 -- the line that is held was answered: the session then, and its text
 pub record Answers (s t : Session) (text : List ℕ) : Type 0 where

@@ -3,8 +3,8 @@
 
 ghost use Rattle.std.specs.Prelude.{◌≡◌, true, [], ◌≤◌, ◌<◌, length, take};
 ghost use Rattle.cache.specs.Run.{opened};
-ghost use Rattle.serve.specs.Input.{most-held, fed};
-ghost use Rattle.serve.specs.Turns.{most-lent, most-printed, store_of, session_of, start_of, between, Gathers, Answers, Feeds, Finishes, Whole, reads_left, Reads, Ends, Runs, Serves};
+ghost use Rattle.serve.specs.Input.{most_held, fed};
+ghost use Rattle.serve.specs.Turns.{most_lent, most_printed, store_of, session_of, start_of, between, Gathers, Answers, Feeds, Finishes, Whole, reads_left, Reads, Ends, Runs, Serves};
 
 use cache::State;
 use console::{Gathered, Line};
@@ -60,7 +60,7 @@ fn answer_line(
     line: &[u8],
     out: &mut [u8],
 ) -> Served
-    requires { (length answer.old ≤ most-lent) × (most-printed ≤ length out.old) }
+    requires { (length answer.old ≤ most_lent) × (most_printed ≤ length out.old) }
     ensures numbers { (result.held ≡ 0) × (result.next ≡ served.next) × (result.printed ≤ length out.old) }
     ensures answers { Answers (session_of served.state cells.old memory.old answer.old line.now) (session_of result.state cells.new memory.new answer.new []) (take result.printed out.new) }
 {
@@ -80,7 +80,7 @@ fn answer_line(
 
 // Gathers a line on: at least a byte of the piece is used up, and what is held stays within the line's place.
 fn gather_on(piece: &[u8], at: usize, line: &mut [u8], held: usize) -> Gathered
-    requires { (at < length piece.now) × (held ≤ length line.old) × (length line.old ≡ most-held) }
+    requires { (at < length piece.now) × (held ≤ length line.old) × (length line.old ≡ most_held) }
     ensures numbers { (at < result.next) × (result.next ≤ length piece.now) × (result.held ≤ length line.old) }
     ensures bytes { Gathers piece.now at (take held line.old) result.next (take result.held line.new) result.ended }
 {
@@ -97,7 +97,7 @@ fn answer_on(
     line: &mut [u8],
     out: &mut [u8],
 ) -> Served
-    requires { (served.next < length piece.now) × (served.held ≤ length line.old) × (length line.old ≡ most-held) × (length answer.old ≤ most-lent) × (most-printed ≤ length out.old) }
+    requires { (served.next < length piece.now) × (served.held ≤ length line.old) × (length line.old ≡ most_held) × (length answer.old ≤ most_lent) × (most_printed ≤ length out.old) }
     ensures numbers { (served.next < result.next) × (result.next ≤ length piece.now) × (result.held ≤ length line.old) × (result.printed ≤ length out.old) }
     ensures feeds { Feeds (session_of served.state cells.old memory.old answer.old (take served.held line.old)) (between served.next result.next piece.now) (session_of result.state cells.new memory.new answer.new (take result.held line.new)) (take result.printed out.new) }
 {
@@ -122,7 +122,7 @@ fn finish(
     line: &[u8],
     out: &mut [u8],
 ) -> Served
-    requires { (served.held ≤ length line.now) × (length answer.old ≤ most-lent) × (most-printed ≤ length out.old) }
+    requires { (served.held ≤ length line.now) × (length answer.old ≤ most_lent) × (most_printed ≤ length out.old) }
     ensures numbers { result.printed ≤ length out.old }
     ensures finishes { Finishes (session_of served.state cells.old memory.old answer.old (take served.held line.now)) (session_of result.state cells.new memory.new answer.new []) (take result.printed out.new) }
 {
@@ -165,7 +165,7 @@ fn answer_next<W: Write>(
     out: &mut [u8],
     output: &mut W,
 ) -> Served
-    requires { (served.next < length piece.now) × (served.held ≤ length line.old) × (length line.old ≡ most-held) × (length answer.old ≤ most-lent) × (most-printed ≤ length out.old) }
+    requires { (served.next < length piece.now) × (served.held ≤ length line.old) × (length line.old ≡ most_held) × (length answer.old ≤ most_lent) × (most_printed ≤ length out.old) }
     ensures numbers { (served.next < result.next) × (result.next ≤ length piece.now) × (result.held ≤ length line.old) }
     ensures feeds { Feeds (session_of served.state cells.old memory.old answer.old (take served.held line.old)) (between served.next result.next piece.now) (session_of result.state cells.new memory.new answer.new (take result.held line.new)) (take result.printed out.new) }
 {
@@ -188,7 +188,7 @@ fn answer_piece<W: Write>(
     out: &mut [u8],
     output: &mut W,
 ) -> Served
-    requires { (served.held ≤ length line.old) × (length line.old ≡ most-held) × (length answer.old ≤ most-lent) × (most-printed ≤ length out.old) }
+    requires { (served.held ≤ length line.old) × (length line.old ≡ most_held) × (length answer.old ≤ most_lent) × (most_printed ≤ length out.old) }
     ensures numbers { (result.held ≤ length line.old) × (result.next ≤ length piece.now) × Whole result.written result.next (length piece.now) }
     ensures session { session_of result.state cells.new memory.new answer.new (take result.held line.new) ≡ fed (session_of served.state cells.old memory.old answer.old (take served.held line.old)) (take result.next piece.now) }
 {
@@ -234,7 +234,7 @@ fn answer_read<R: Read, W: Write>(
     input: &mut R,
     output: &mut W,
 ) -> Served
-    requires { (served.held ≤ length line.old) × (length line.old ≡ most-held) × (length answer.old ≤ most-lent) × (most-printed ≤ length out.old) × (0 < served.left) }
+    requires { (served.held ≤ length line.old) × (length line.old ≡ most_held) × (length answer.old ≤ most_lent) × (most_printed ≤ length out.old) × (0 < served.left) }
     ensures numbers { (result.held ≤ length line.old) × (result.left < served.left) × (result.left ≡ reads_left served.left result.got result.written) × Whole result.written result.next result.got }
     ensures session { session_of result.state cells.new memory.new answer.new (take result.held line.new) ≡ fed (session_of served.state cells.old memory.old answer.old (take served.held line.old)) (take result.next piece.new) }
 {
@@ -259,7 +259,7 @@ fn answer_all<R: Read, W: Write>(
     input: &mut R,
     output: &mut W,
 ) -> Served
-    requires { (served.held ≤ length line.old) × (length line.old ≡ most-held) × (length answer.old ≤ most-lent) × (most-printed ≤ length out.old) }
+    requires { (served.held ≤ length line.old) × (length line.old ≡ most_held) × (length answer.old ≤ most_lent) × (most_printed ≤ length out.old) }
     ensures numbers { result.held ≤ length line.old }
     ensures reads { Reads (session_of served.state cells.old memory.old answer.old (take served.held line.old)) (session_of result.state cells.new memory.new answer.new (take result.held line.new)) }
 {
@@ -281,7 +281,7 @@ fn answer_last<W: Write>(
     out: &mut [u8],
     output: &mut W,
 ) -> Served
-    requires { (served.held ≤ length line.now) × (length answer.old ≤ most-lent) × (most-printed ≤ length out.old) }
+    requires { (served.held ≤ length line.now) × (length answer.old ≤ most_lent) × (most_printed ≤ length out.old) }
     ensures { Finishes (session_of served.state cells.old memory.old answer.old (take served.held line.now)) (session_of result.state cells.new memory.new answer.new []) (take result.printed out.new) }
 {
     let mut s = finish(served, cells, memory, answer, line, out);
@@ -302,7 +302,7 @@ fn answer_end<W: Write>(
     out: &mut [u8],
     output: &mut W,
 ) -> Served
-    requires { (served.held ≤ length line.now) × (length answer.old ≤ most-lent) × (most-printed ≤ length out.old) }
+    requires { (served.held ≤ length line.now) × (length answer.old ≤ most_lent) × (most_printed ≤ length out.old) }
     ensures { Ends served.written (session_of served.state cells.old memory.old answer.old (take served.held line.now)) result.written (session_of result.state cells.new memory.new answer.new []) }
 {
     if served.written {
@@ -323,7 +323,7 @@ fn answer_input<R: Read, W: Write>(
     input: &mut R,
     output: &mut W,
 ) -> Served
-    requires { (served.held ≤ length line.old) × (length line.old ≡ most-held) × (length answer.old ≤ most-lent) × (most-printed ≤ length out.old) }
+    requires { (served.held ≤ length line.old) × (length line.old ≡ most_held) × (length answer.old ≤ most_lent) × (most_printed ≤ length out.old) }
     ensures { Runs (session_of served.state cells.old memory.old answer.old (take served.held line.old)) result.written (session_of result.state cells.new memory.new answer.new []) }
 {
     let last = answer_all(
@@ -362,7 +362,7 @@ fn run<R: Read, W: Write>(
     input: &mut R,
     output: &mut W,
 ) -> Served
-    requires { (length cells.old ≡ 4096) × (length memory.old ≡ 256) × (length answer.old ≡ most-lent) × (length line.old ≡ most-held) × (most-printed ≤ length out.old) }
+    requires { (length cells.old ≡ 4096) × (length memory.old ≡ 256) × (length answer.old ≡ most_lent) × (length line.old ≡ most_held) × (most_printed ≤ length out.old) }
     ensures { Serves (start_of cells.old memory.old) answer.old result.written (session_of result.state cells.new memory.new answer.new []) }
 {
     let s = open(cells, memory);

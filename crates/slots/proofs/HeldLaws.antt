@@ -13,7 +13,7 @@ use Rattle.lists.proofs.Lists.{All-map, All-left, All-image, any_none, distinct-
 use Rattle.lists.proofs.Moved.{moved-distinct_by}
 use Rattle.lists.proofs.Places.{set_apart}
 use Rattle.lists.proofs.Repeats.{distinct-repeats, distinct-map}
-use Rattle.meaning.specs.Limits.{most-slots}
+use Rattle.meaning.specs.Limits.{most_slots}
 use Rattle.slots.specs.declared.Key.{Key}
 use Rattle.slots.specs.declared.SlotList.{SlotList}
 use Rattle.slots.specs.Order.{held_slots, open_of, front_of, taken_of, drop_by}
@@ -36,7 +36,7 @@ drop-once keys s p t =
     (distinct-keep (λ (x : ℕ). key_read (slot_key keys x)) _ (held_slots s) (not-twice keys s t)))
 
 -- a key put at the slot that was taken
-module _ (keys : List Key) (s : SlotList) (k : Key) (S : Sound s) (long : length s.order ≡ most-slots) (some : 1 ≤ s.count) (sized : length keys ≡ most-slots) where
+module _ (keys : List Key) (s : SlotList) (k : Key) (S : Sound s) (long : length s.order ≡ most_slots) (some : 1 ≤ s.count) (sized : length keys ≡ most_slots) where
   -- the keys that are held then, where these are the other held slots
   put-keys : (rest : List ℕ) → held_slots (taken_of s).slots ≡ (taken_of s).slot ∷ rest → All (λ x. x ≢ (taken_of s).slot) rest
       → held_keys (set keys (taken_of s).slot k) (taken_of s).slots ≡ k ∷ map (slot_key keys) rest

@@ -15,7 +15,7 @@ use Rattle.lists.proofs.Bools.{T→true, true→T, and_left, and_right, clash}
 use Rattle.lists.proofs.Lists.{distinct-source}
 use Rattle.lists.proofs.Repeats.{repeats-distinct, distinct-repeats, distinct-map}
 use Rattle.meaning.specs.Key as M
-use Rattle.meaning.specs.Limits.{most-slots, most-marks}
+use Rattle.meaning.specs.Limits.{most_slots, most_marks}
 use Rattle.slots.specs.declared.Key.{Key}
 use Rattle.slots.specs.declared.SlotList.{SlotList}
 use Rattle.slots.specs.declared.Found.TheVariants.{At, Nothing}
@@ -44,23 +44,23 @@ read-other a b h = go (same_key a b) refl
 
 -- ---- the key of a question
 
-pub key-read : (q : ℕ) (vs : List ℤ) → key_read (key_of q vs) ≡ record { query = q; values = take most-marks vs }
+pub key-read : (q : ℕ) (vs : List ℤ) → key_read (key_of q vs) ≡ record { query = q; values = take most_marks vs }
 unfolding key_of
 key-read q vs =
     let n : length (take 8 vs) ≡ min (length vs) 8 = omega (arith, length-take 8 vs) in
     let e : values_of (key_of q vs) ≡ take 8 vs = take_at (take 8 vs) _ (min (length vs) 8) n in
     λ j. record { query = q; values = e j }
 
-pub key-few : (q : ℕ) (vs : List ℤ) → length vs ≤ most-marks → key_read (key_of q vs) ≡ record { query = q; values = vs }
+pub key-few : (q : ℕ) (vs : List ℤ) → length vs ≤ most_marks → key_read (key_of q vs) ≡ record { query = q; values = vs }
 key-few q vs h = key-read q vs ∙ (λ j. record { query = q; values = take_all 8 vs h j })
 
 -- ---- the first held place whose slot has a key
 
-pub has_key : (keys : List Key) (k : Key) (x : ℕ) → slot_has keys k x ≡ true → (x < most-slots) × (key_read (slot_key keys x) ≡ key_read k)
+pub has_key : (keys : List Key) (k : Key) (x : ℕ) → slot_has keys k x ≡ true → (x < most_slots) × (key_read (slot_key keys x) ≡ key_read k)
 unfolding slot_has
 has_key keys k x h = (ltb-true x 64 (and_left (ltb x 64) _ h), same_read (slot_key keys x) k (and_right (ltb x 64) _ h))
 
-pub has_other : (keys : List Key) (k : Key) (x : ℕ) → x < most-slots → slot_has keys k x ≡ false → key_read (slot_key keys x) ≢ key_read k
+pub has_other : (keys : List Key) (k : Key) (x : ℕ) → x < most_slots → slot_has keys k x ≡ false → key_read (slot_key keys x) ≢ key_read k
 unfolding slot_has
 has_other keys k x b h = other-read (slot_key keys x) k (sym (ap (λ (t : Bool). t && same_key (slot_key keys x) k) (lt-ltb x 64 b)) ∙ h)
 

@@ -15,7 +15,7 @@ use Rattle.lists.proofs.Bools.{and_left, and_right, and_both, not-true}
 use Rattle.lists.proofs.Lists.{All-head, All-map, All-take, All-every, all_true, all-of, keep_all}
 use Rattle.lists.proofs.Moved.{Moved, moved-last, moved-parted, parted-length, moved-All, moved-distinct, from-once, from-below, take-from}
 use Rattle.lists.proofs.Repeats.{repeats-distinct, distinct-repeats}
-use Rattle.meaning.specs.Limits.{most-slots}
+use Rattle.meaning.specs.Limits.{most_slots}
 use Rattle.slots.specs.declared.SlotList.{SlotList}
 use Rattle.slots.specs.Order.{slots_of, held_slots, free_slots, sound_slots, open_of, front, front_of, last_taken, taken_of, drop_by, clear_of}
 use Rattle.slots.proofs.Fronts.{front_at, take-front, drop-front, front-moved, front_length}
@@ -25,7 +25,7 @@ use Rattle.slots.proofs.Moves.{taken-some}
 -- ---- what the test of a slot list says
 
 pub record Sound (s : SlotList) : Type 0 where
-  pub few : s.count ≤ most-slots
+  pub few : s.count ≤ most_slots
   pub within : s.held ≤ s.count
   pub below : All (λ x. x < s.count) (slots_of s)
   pub once : Distinct (slots_of s)
@@ -70,7 +70,7 @@ held_first s h = take-take s.held s.count s.order h
 pub held-free : (s : SlotList) → s.held ≤ s.count → slots_of s ≡ held_slots s ++ free_slots s
 held-free s h = sym (take-append-drop s.held (slots_of s)) ∙ ap (λ (l : List ℕ). l ++ free_slots s) (held_first s h)
 
-module _ (s : SlotList) (S : Sound s) (long : length s.order ≡ most-slots) where
+module _ (s : SlotList) (S : Sound s) (long : length s.order ≡ most_slots) where
   pub slots_length : length (slots_of s) ≡ s.count
   slots_length = length-take-le s.count s.order (omega (arith, S.few))
 
@@ -86,7 +86,7 @@ held_below s S = subst (All (λ x. x < s.count)) (held_first s S.within) (All-ta
 
 -- ---- opening
 
-pub open-slots : (n : ℕ) → n ≤ most-slots → slots_of (open_of n) ≡ from 0 n
+pub open-slots : (n : ℕ) → n ≤ most_slots → slots_of (open_of n) ≡ from 0 n
 unfolding open_of
 open-slots n h = take-from 0 n 64 h
 
@@ -94,15 +94,15 @@ pub open-held : (n : ℕ) → held_slots (open_of n) ≡ []
 unfolding open_of
 open-held n = refl
 
-pub open_free : (n : ℕ) → n ≤ most-slots → free_slots (open_of n) ≡ from 0 n
+pub open_free : (n : ℕ) → n ≤ most_slots → free_slots (open_of n) ≡ from 0 n
 unfolding open_of
 open_free n h = open-slots n h
 
-pub open-size : (n : ℕ) → length (open_of n).order ≡ most-slots
+pub open-size : (n : ℕ) → length (open_of n).order ≡ most_slots
 unfolding open_of
 open-size n = refl
 
-pub open-sound : (n : ℕ) → n ≤ most-slots → Sound (open_of n)
+pub open-sound : (n : ℕ) → n ≤ most_slots → Sound (open_of n)
 unfolding open_of
 open-sound n h = record {
   few = h;
@@ -160,7 +160,7 @@ pub record TakenHeld (s : SlotList) : Type 0 where
   pub free : free_slots (taken_of s).slots ≡ []
   pub apart : All (λ x. x ≢ (taken_of s).slot) others
 
-module _ (s : SlotList) (S : Sound s) (long : length s.order ≡ most-slots) (some : 1 ≤ s.count) where
+module _ (s : SlotList) (S : Sound s) (long : length s.order ≡ most_slots) (some : 1 ≤ s.count) where
   -- all but the last
   abbrev others : List ℕ
   others = take (s.count - 1) s.order
@@ -204,7 +204,7 @@ module _ (s : SlotList) (S : Sound s) (long : length s.order ≡ most-slots) (so
   pub taken-there : (taken_of s).there ≡ true
   taken-there = ap (λ t. t.there) taken_is
 
-  pub taken-size : length (taken_of s).slots.order ≡ most-slots
+  pub taken-size : length (taken_of s).slots.order ≡ most_slots
   unfolding front_of
   taken-size = ap (λ t. length t.slots.order) taken_is ∙ front_length (s.count - 1) s.order ∙ long
 
@@ -277,7 +277,7 @@ module _ (s : SlotList) (p : ℕ → Bool) where
       let a : length ((stay ++ leave) ++ rest) ≡ length (stay ++ leave) + length rest = length-append (stay ++ leave) rest in
       omega (arith, length-append stay leave, parted-length p (held_slots s), length-take s.held s.order, length-drop s.held s.order)
 
-  module _ (S : Sound s) (long : length s.order ≡ most-slots) where
+  module _ (S : Sound s) (long : length s.order ≡ most_slots) where
     -- those that stay held and those that are dropped, by their number
     pub drop-count : (drop_by p s).held + count p (held_slots s) ≡ s.held
     unfolding drop_by

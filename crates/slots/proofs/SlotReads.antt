@@ -12,7 +12,7 @@ use lib.ListN.{length, take, get_or, length-take, length-map, get_or-eq_default,
 use lib.Seq.{get_or-take}
 use Rattle.lists.proofs.Places.{get_or-inside}
 use Rattle.lists.proofs.Walks.{take_min, rest, rest-cons, rest-none}
-use Rattle.meaning.specs.Limits.{most-slots}
+use Rattle.meaning.specs.Limits.{most_slots}
 use Rattle.slots.specs.declared.Key.{Key}
 use Rattle.slots.specs.declared.Found.TheVariants.{At, Nothing}
 use Rattle.slots.specs.Order.{if_slot, is_marked, has_mark}
@@ -43,10 +43,10 @@ module _ (h₀ n : ℕ) (l : List ℤ) where
 
 -- ---- what is read of a slot
 
-pub is-index : (x : ℕ) → ltb x most-slots ≡ true → x ≡ if_slot x
+pub is-index : (x : ℕ) → ltb x most_slots ≡ true → x ≡ if_slot x
 is-index x e = ap (λ (b : Bool). cond b x 0) (sym e)
 
-pub no_index : (x : ℕ) → ltb x most-slots ≡ false → 0 ≡ if_slot x
+pub no_index : (x : ℕ) → ltb x most_slots ≡ false → 0 ≡ if_slot x
 no_index x e = ap (λ (b : Bool). cond b x 0) (sym e)
 
 -- an entry read at its index, and what stands in where the number is no slot

@@ -3,7 +3,7 @@
 use Rattle.std.specs.Prelude.{Bool, ◌&&◌, cond, List, [], ◌∷◌, map, ℕ, suc, ◌+◌, ◌-◌, ◌*◌, ◌%◌, ◌^◌, min, ltb, ℤ, pos, negsuc, length, take, get_or, replicate}
 use Rattle.lists.specs.Lists.{repeats, written}
 use Rattle.meaning.specs.Key as M
-use Rattle.meaning.specs.Limits.{most-slots, most-marks}
+use Rattle.meaning.specs.Limits.{most_slots, most_marks}
 use Rattle.slots.specs.declared.Key.{Key}
 use Rattle.slots.specs.declared.SlotList.{SlotList}
 use Rattle.slots.specs.declared.Found.{Found}
@@ -25,13 +25,13 @@ same_key a b = M.is_key (key_read a) (key_read b)
 
 -- the key of a question and its first eight values
 unfoldable pub key_of : ℕ → List ℤ → Key
-key_of q vs = record { query = q; count = min (length vs) most-marks; values = written (replicate most-marks (pos 0)) 0 (take most-marks vs) }
+key_of q vs = record { query = q; count = min (length vs) most_marks; values = written (replicate most_marks (pos 0)) 0 (take most_marks vs) }
 
 -- ---- the keys of the held slots
 
 -- what stands for the key of a number that is no slot
 abbrev pub no_key : Key
-no_key = record { query = 0; count = 0; values = replicate most-marks (pos 0) }
+no_key = record { query = 0; count = 0; values = replicate most_marks (pos 0) }
 
 abbrev pub slot_key : List Key → ℕ → Key
 slot_key keys x = get_or keys x no_key
@@ -41,7 +41,7 @@ held_keys keys s = map (slot_key keys) (held_slots s)
 
 -- whether a slot has the key; a number that is no slot has none
 unfoldable pub slot_has : List Key → Key → ℕ → Bool
-slot_has keys k x = ltb x most-slots && same_key (slot_key keys x) k
+slot_has keys k x = ltb x most_slots && same_key (slot_key keys x) k
 
 -- the first place from i on whose slot passes the test
 abbrev pub find_from : (ℕ → Bool) → ℕ → List ℕ → Found

@@ -2,7 +2,7 @@
 -- stands behind is no slot and stays. The definitions are given for every struct, also one that is not sound. Assumes nothing: these are definitions.
 use Rattle.std.specs.Prelude.{Bool, true, false, not, ◌&&◌, cond, List, ◌++◌, ℕ, ◌+◌, ◌-◌, min, leb, ltb, eqb, length, take, drop, get_or}
 use Rattle.lists.specs.Lists.{all, keep, repeats, from, written}
-use Rattle.meaning.specs.Limits.{most-slots}
+use Rattle.meaning.specs.Limits.{most_slots}
 use Rattle.slots.specs.declared.SlotList.{SlotList}
 use Rattle.slots.specs.declared.Taken.{Taken}
 use Rattle.slots.specs.declared.order.Run.{Run}
@@ -20,12 +20,12 @@ free_slots s = drop s.held (slots_of s)
 -- "its slot list names each slot once, held ones first"
 unfoldable pub sound_slots : SlotList → Bool
 sound_slots s =
-    leb s.count most-slots
+    leb s.count most_slots
     && (leb s.held s.count && (all (λ (x : ℕ). ltb x s.count) (slots_of s) && not (repeats eqb (slots_of s))))
 
 -- "at first 0, 1, 2 and on"; none is held
 unfoldable pub open_of : ℕ → SlotList
-open_of n = record { order = from 0 most-slots; held = 0; count = n }
+open_of n = record { order = from 0 most_slots; held = 0; count = n }
 
 -- a list with the member at place p moved to the front; with no such place, as it was
 abbrev pub front : {A : Type 0} → ℕ → List A → List A
@@ -50,7 +50,7 @@ abbrev pub none_taken : SlotList → Taken
 none_taken s = record { there = false; slot = 0; slots = s }
 
 abbrev pub is_open : SlotList → Bool
-is_open s = leb 1 s.count && leb s.count most-slots
+is_open s = leb 1 s.count && leb s.count most_slots
 
 unfoldable pub taken_of : SlotList → Taken
 taken_of s = cond (is_open s) (last_taken s) (none_taken s)
@@ -78,7 +78,7 @@ clear_of s = drop_by (λ x. true) s
 
 -- a number as an index: 0 if it is no slot
 abbrev pub if_slot : ℕ → ℕ
-if_slot x = cond (ltb x most-slots) x 0
+if_slot x = cond (ltb x most_slots) x 0
 
 -- whether a slot is marked, or is not
 abbrev pub has_mark : List Bool → Bool → ℕ → Bool

@@ -14,7 +14,7 @@ use Rattle.meaning.specs.Condition.{sides}
 use Rattle.meaning.specs.Postfix.{Node, leaves, is_postfix}
 use Rattle.meaning.specs.Statement as M
 use Rattle.meaning.specs.Resolve.{mark_in_operand, parameter_count, is_numbered, numbered_on, numbered_from, is_below, columns_below}
-use Rattle.meaning.specs.Limits.{most-comparisons, most-marks}
+use Rattle.meaning.specs.Limits.{most_comparisons, most_marks}
 use Rattle.statement.specs.Compiled.{left_side, right_side}
 use Rattle.statement.specs.Sound.{operand_read, comparison_read, used_steps, used_comparisons, condition_nodes, condition_marks, sound_predicate, sound_condition, sound_condition_on}
 use Rattle.statement.specs.declared.Comparison.{Comparison}
@@ -114,15 +114,15 @@ module _ (columns m p : ℕ) (c : Condition) where
   pub condition-long : 8 < c.count → false ≡ sound_condition_on columns m p c
   unfolding sound_condition_on sound_condition
   condition-long h =
-      sym (ap (λ (b : Bool). (b && others) && (eqb p (m + condition_marks c) && leb p most-marks)) (lt-leb c.count most-comparisons h))
+      sym (ap (λ (b : Bool). (b && others) && (eqb p (m + condition_marks c) && leb p most_marks)) (lt-leb c.count most_comparisons h))
 
   pub condition-ordered : sound_condition_on columns m p c ≡ true → Ordered c
   unfolding sound_condition_on sound_condition
   condition-ordered h =
-      let all_but = and_left (leb c.count most-comparisons && others) _ h in
-      let steps = and_right (leb c.count most-comparisons) _ all_but in
+      let all_but = and_left (leb c.count most_comparisons && others) _ h in
+      let steps = and_right (leb c.count most_comparisons) _ all_but in
       record {
-        few = leb-true c.count most-comparisons (and_left (leb c.count most-comparisons) _ all_but);
+        few = leb-true c.count most_comparisons (and_left (leb c.count most_comparisons) _ all_but);
         known = and_left (all (λ (s : ℕ). ltb s 3) ss) _ steps;
         postfix = and_left (is_postfix nodes) _ (and_right (operators cs) _ (and_right (all (λ (s : ℕ). ltb s 3) ss) _ steps));
       }
@@ -136,21 +136,21 @@ module _ (columns m p : ℕ) (c : Condition) where
     unfolding condition_nodes
     steps-tell = steps-postfix ss cs
 
-    pub condition-short : ((leb p most-marks && steps_on 0 ss) && comparisons_on columns m p cs) ≡ sound_condition_on columns m p c
+    pub condition-short : ((leb p most_marks && steps_on 0 ss) && comparisons_on columns m p cs) ≡ sound_condition_on columns m p c
     unfolding sound_condition_on sound_condition
     condition-short =
-        ap₂ (λ (x y : Bool). (leb p most-marks && x) && y) steps-tell (comparisons-asked columns m p cs)
-        ∙ told (leb p most-marks) (all (λ (s : ℕ). ltb s 3) ss) (is_postfix nodes) (operators cs)
+        ap₂ (λ (x y : Bool). (leb p most_marks && x) && y) steps-tell (comparisons-asked columns m p cs)
+        ∙ told (leb p most_marks) (all (λ (s : ℕ). ltb s 3) ss) (is_postfix nodes) (operators cs)
         (columns_below columns nodes) (numbered_from m nodes) (eqb p (m + condition_marks c))
         (all (is_below columns) (operands cs)) (numbered_on m (operands cs)) (eqb p (m + parameter_count (operands cs)))
         (λ h.
         let e : sides (leaves nodes) ≡ operands cs = ap sides (leaves-are h) in
         (ap (all (is_below columns)) (sym e), ap (numbered_on m) (sym e), ap (λ (os : List M.Operand). eqb p (m + parameter_count os)) (sym e)))
-        ∙ ap (λ (b : Bool). (b && others) && (eqb p (m + condition_marks c) && leb p most-marks)) (sym (le-leb c.count most-comparisons few))
+        ∙ ap (λ (b : Bool). (b && others) && (eqb p (m + condition_marks c) && leb p most_marks)) (sym (le-leb c.count most_comparisons few))
 
     -- none of them
-    pub condition-none : c.count ≡ 0 → (leb p most-marks && eqb p m) ≡ sound_condition_on columns m p c
+    pub condition-none : c.count ≡ 0 → (leb p most_marks && eqb p m) ≡ sound_condition_on columns m p c
     condition-none e =
-        ap (λ (b : Bool). b && eqb p m) (sym (and-true (leb p most-marks)))
-        ∙ ap (λ (n : ℕ). (leb p most-marks && steps_on 0 (take (2 * n - 1) c.steps)) && comparisons_on columns m p (take n c.comparisons)) (sym e)
+        ap (λ (b : Bool). b && eqb p m) (sym (and-true (leb p most_marks)))
+        ∙ ap (λ (n : ℕ). (leb p most_marks && steps_on 0 (take (2 * n - 1) c.steps)) && comparisons_on columns m p (take n c.comparisons)) (sym e)
         ∙ condition-short

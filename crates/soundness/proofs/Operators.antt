@@ -63,16 +63,16 @@ one-column l r y z = go (ℕ_discrete l 0) (ℕ_discrete (l % 2) 1)
 
 -- ---- operators
 
-null-tests : (k : ℕ) (a b : M.Operand) → 6 ≤ k → k < 8 → is_test_by (predicate_at k) a b ≡ same_column a b
-null-tests zero a b h l = absurd (omega arith)
-null-tests (suc zero) a b h l = absurd (omega arith)
-null-tests (suc (suc zero)) a b h l = absurd (omega arith)
-null-tests (suc (suc (suc zero))) a b h l = absurd (omega arith)
-null-tests (suc (suc (suc (suc zero)))) a b h l = absurd (omega arith)
-null-tests (suc (suc (suc (suc (suc zero))))) a b h l = absurd (omega arith)
-null-tests (suc (suc (suc (suc (suc (suc zero)))))) a b h l = refl
-null-tests (suc (suc (suc (suc (suc (suc (suc zero))))))) a b h l = refl
-null-tests (suc (suc (suc (suc (suc (suc (suc (suc k)))))))) a b h l = absurd (omega arith)
+null_tests : (k : ℕ) (a b : M.Operand) → 6 ≤ k → k < 8 → is_test_by (predicate_at k) a b ≡ same_column a b
+null_tests zero a b h l = absurd (omega arith)
+null_tests (suc zero) a b h l = absurd (omega arith)
+null_tests (suc (suc zero)) a b h l = absurd (omega arith)
+null_tests (suc (suc (suc zero))) a b h l = absurd (omega arith)
+null_tests (suc (suc (suc (suc zero)))) a b h l = absurd (omega arith)
+null_tests (suc (suc (suc (suc (suc zero))))) a b h l = absurd (omega arith)
+null_tests (suc (suc (suc (suc (suc (suc zero)))))) a b h l = refl
+null_tests (suc (suc (suc (suc (suc (suc (suc zero))))))) a b h l = refl
+null_tests (suc (suc (suc (suc (suc (suc (suc (suc k)))))))) a b h l = absurd (omega arith)
 
 module _ (c : Comparison) where
   abbrev left : M.Operand
@@ -96,5 +96,5 @@ module _ (c : Comparison) where
 
       go : (b : Bool) → ltb c.op 8 ≡ b
           → (((b && eqb c.left c.right) && not (eqb c.left 0)) && eqb (c.left % 2) 0) ≡ (b && is_test_by (predicate_at c.op) left right)
-      go true e = one ∙ sym (null-tests c.op left right h (ltb-true c.op 8 e))
+      go true e = one ∙ sym (null_tests c.op left right h (ltb-true c.op 8 e))
       go false e = refl

@@ -12,7 +12,7 @@ use Rattle.lists.specs.Lists.{all, from}
 use Rattle.lists.proofs.Bools.{and_left, and_right, clash}
 use Rattle.lists.proofs.Lists.{all_append}
 use Rattle.meaning.specs.Tokens.{is_digit, is_small, is_name_byte, is_name}
-use Rattle.meaning.specs.Limits.{most-name}
+use Rattle.meaning.specs.Limits.{most_name}
 use Rattle.meaning.specs.Names.{same_name}
 use Rattle.meaning.proofs.Names.{same-is}
 use Rattle.meaning.proofs.Resolve.{same-name}
@@ -243,7 +243,7 @@ module _ (n : Name) where
   code-zero e = go (sound_name n) refl e
     where
       go : (t : Bool) → sound_name n ≡ t → cond t (packed (name_of_struct n)) 0 ≡ 0 → t ≡ false
-      go true f e = absurd (omega (arith, name-some (name_of_struct n) (and_right (leb n.len most-name) _ f)))
+      go true f e = absurd (omega (arith, name-some (name_of_struct n) (and_right (leb n.len most_name) _ f)))
       go false f e = refl
 
   pub code-some : (code_of n ≡ 0 → ⊥) → sound_name n ≡ true
@@ -259,7 +259,7 @@ pub code_same : (m n : Name) → sound_name m ≡ true → sound_name n ≡ true
 code_same m n h k = go (same_name (name_of_struct m) (name_of_struct n)) refl
   where
     named : (p : Name) → sound_name p ≡ true → all is_name_byte (name_of_struct p) ≡ true
-    named p e = name-bytes (name_of_struct p) (and_right (leb p.len most-name) _ e)
+    named p e = name-bytes (name_of_struct p) (and_right (leb p.len most_name) _ e)
 
     go : (t : Bool) → same_name (name_of_struct m) (name_of_struct n) ≡ t → eqb (code_of m) (code_of n) ≡ t
     go true e = eq-eqb (code_of m) (code_of n) (code_is m h ∙ ap packed (same-is (name_of_struct m) (name_of_struct n) e) ∙ sym (code_is n k))

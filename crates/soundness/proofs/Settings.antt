@@ -83,16 +83,16 @@ columns_read ss = map (λ (s : ℕ × M.Value). s.0) (map setting_read ss)
 abbrev operands_read : List Setting → List M.Operand
 operands_read ss = map value (map (λ (s : ℕ × M.Value). s.1) (map setting_read ss))
 
-marks-are : (ss : List Setting) → setting_marks ss ≡ parameter_count (operands_read ss)
-marks-are [] = refl
-marks-are (s ∷ ss) = ap (λ (n : ℕ). mark_in_value (new_value s) + n) (marks-are ss)
+marks_are : (ss : List Setting) → setting_marks ss ≡ parameter_count (operands_read ss)
+marks_are [] = refl
+marks_are (s ∷ ss) = ap (λ (n : ℕ). mark_in_value (new_value s) + n) (marks_are ss)
 
-marks-few : (ss : List Setting) → setting_marks ss ≤ length ss
-marks-few [] = omega arith
-marks-few (s ∷ ss) = omega (arith, mark-value-few (new_value s), marks-few ss)
+marks_few : (ss : List Setting) → setting_marks ss ≤ length ss
+marks_few [] = omega arith
+marks_few (s ∷ ss) = omega (arith, mark-value-few (new_value s), marks_few ss)
 
 pub next-few : (n : ℕ) (ss : List Setting) → n ≤ 8 → setting_marks (take n ss) ≤ 8
-next-few n ss h = omega (arith, marks-few (take n ss), length-take n ss)
+next-few n ss h = omega (arith, marks_few (take n ss), length-take n ss)
 
 pub if-few : (b : Bool) (n : ℕ) → n ≤ 8 → if_so b n ≤ 8
 if-few true n h = h
@@ -185,7 +185,7 @@ module _ (columns : ℕ) (u : Update) where
         let f : Bool = columns_fit u.form columns 0 ss in
         let n : Bool = numbered_on 0 (setting_operands u) in
         let d : Bool = distinct u.form in
-        ap₂ (λ (t : Bool) (k : ℕ). (t && d) && c k) (fit_is u.form columns 0 0 ss) (marks-are ss)
+        ap₂ (λ (t : Bool) (k : ℕ). (t && d) && c k) (fit_is u.form columns 0 0 ss) (marks_are ss)
         ∙ sym (and_assoc (f && n) d (c (parameter_count (setting_operands u))))
         ∙ interchange f n d (c (parameter_count (setting_operands u)))
         ∙ ap (λ (t : Bool). t && (n && c (parameter_count (setting_operands u)))) (form-yes u.form h)

@@ -10,7 +10,7 @@ use lib.ListN.{length, get_or, take, set, replicate}
 use Rattle.lists.specs.Lists.{All, nil, cons, any, all, repeats}
 use Rattle.lists.proofs.Bools.{and_left, not-and, not-or, not-true, not-false}
 use Rattle.lists.proofs.Lists.{all_true, any_append, map-append}
-use Rattle.meaning.specs.Limits.{most-items, most-rows}
+use Rattle.meaning.specs.Limits.{most_items, most_rows}
 use Rattle.meaning.specs.Names.{Schema, same_name, has, table_names}
 use Rattle.statement.specs.Catalog.{name_of_struct, schema_of}
 use Rattle.statement.specs.Compiled.{padded}
@@ -106,7 +106,7 @@ pub table-no : (t : Table) → (leb 1 t.count && leb t.count 8) ≡ false → fa
 unfolding table_on
 table-no t h = counted t.count false _ h
 
-pub table-yes : (t : Table) → (leb 1 t.count && leb t.count 8) ≡ true → (columns_on (used_columns t) && (leb 1 t.capacity && leb t.capacity most-rows)) ≡ table_on t
+pub table-yes : (t : Table) → (leb 1 t.count && leb t.count 8) ≡ true → (columns_on (used_columns t) && (leb 1 t.capacity && leb t.capacity most_rows)) ≡ table_on t
 unfolding table_on
 table-yes t h = counted t.count true _ h
 
@@ -124,9 +124,9 @@ module _ (before : List Schema) where
   table-apart : (t : Table) → sound_table before t ≡ (single t && not (has (table_names before) (table_name t)))
   unfolding sound_table table_on columns_on
   table-apart t =
-      apart (leb 1 t.count) (leb t.count most-items) (sound_name t.name) (all sound_name (used_columns t))
+      apart (leb 1 t.count) (leb t.count most_items) (sound_name t.name) (all sound_name (used_columns t))
       (not (repeats same_name (map name_of_struct (used_columns t)))) (not (has (table_names before) (table_name t)))
-      (leb 1 t.capacity && leb t.capacity most-rows)
+      (leb 1 t.capacity && leb t.capacity most_rows)
 
 -- one of the tables has a name that stands before
 abbrev met : List Schema → List Table → Bool

@@ -4,7 +4,7 @@
 use Rattle.std.specs.Prelude.{◌≡◌, Bool, true, not, ◌&&◌, ◌||◌, cond, List, [], ◌∷◌, map, reverse, ℕ, ◌+◌, ◌-◌, ◌*◌, ◌/◌, ◌%◌, ◌≤◌, eqb, leb, ltb, length, get_or, take}
 use Rattle.lists.specs.Lists.{All, all, repeats, from}
 use Rattle.meaning.specs.Tokens.{is_digit, is_small, is_name_byte}
-use Rattle.meaning.specs.Limits.{most-items, most-rows}
+use Rattle.meaning.specs.Limits.{most_items, most_rows}
 use Rattle.meaning.specs.Names.{same_name}
 use Rattle.meaning.specs.Postfix.{is_postfix, within, chained}
 use Rattle.meaning.specs.Resolve.{is_numbered, is_below}
@@ -49,7 +49,7 @@ unfoldable pub columns_on : List Name → Bool
 columns_on ns = all sound_name ns && not (repeats same_name (map name_of_struct ns))
 
 unfoldable pub table_on : Table → Bool
-table_on t = leb 1 t.count && (leb t.count most-items && (columns_on (used_columns t) && (leb 1 t.capacity && leb t.capacity most-rows)))
+table_on t = leb 1 t.count && (leb t.count most_items && (columns_on (used_columns t) && (leb 1 t.capacity && leb t.capacity most_rows)))
 
 -- how many columns a table has; those of eight tables, in an array
 abbrev pub width_of : Table → ℕ
@@ -151,7 +151,7 @@ same_column s t = eqb s.column t.column
 -- so many settings and comparisons: 0 INSERT, 1 UPDATE, 2 DELETE
 abbrev pub form_fits : ℕ → ℕ → ℕ → ℕ → Bool
 form_fits form count columns comparisons =
-    cond (eqb form 0) (eqb count columns && eqb comparisons 0) (cond (eqb form 1) (leb 1 count && leb count most-items) (eqb form 2 && eqb count 0))
+    cond (eqb form 0) (eqb count columns && eqb comparisons 0) (cond (eqb form 1) (leb 1 count && leb count most_items) (eqb form 2 && eqb count 0))
 
 -- the column of the i-th setting: in an INSERT its own place
 abbrev pub column_fits : ℕ → ℕ → ℕ → ℕ → Bool

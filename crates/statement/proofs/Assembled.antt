@@ -48,9 +48,9 @@ names-of : (xs : List (List ℕ)) (n : ℕ) → length xs ≡ n → names_of (pa
 names-of xs n e = ap (map name_of_struct) (take-padded 8 no_name (map name_struct xs) n (length-map xs name_struct ∙ e)) ∙ names-back xs
 
 -- no more marks than values
-pub marks-few : (vs : List Given) → mark_count vs ≤ length vs
-marks-few [] = omega arith
-marks-few (v ∷ vs) = omega (arith, mark-one v, marks-few vs)
+pub marks_few : (vs : List Given) → mark_count vs ≤ length vs
+marks_few [] = omega arith
+marks_few (v ∷ vs) = omega (arith, mark-one v, marks_few vs)
 
 -- ---- the list of a sentence
 
@@ -65,7 +65,7 @@ places-first d place s ls e at h =
 
 module _ (s ls : List ℕ) (e : Entry) where
   pub sets-few : e.listed ≤ 8 → (cs : List ℕ) → (settings_on cs (givens_on s e.listed ls)).marks ≤ 8
-  sets-few h cs = omega (arith, marks-few (givens_on s e.listed ls), length-items (λ a b. given_on s b) e.listed ls)
+  sets-few h cs = omega (arith, marks_few (givens_on s e.listed ls), length-items (λ a b. given_on s b) e.listed ls)
 
   module _ (columns : List (List ℕ)) (names : List Name) (en : names ≡ padded 8 no_name (map name_struct (listed_on false s ls e))) where
     pub names-are : names_of names e.listed ≡ listed_on false s ls e
@@ -225,11 +225,11 @@ schema-at tables used i d h =
 -- the table that the text names at p is of number i, of n tables
 module _ (s : List ℕ) (p : ℕ) (tables : List Table) (used : ℕ) (name : Name) (i n : ℕ)
     (en : name ≡ name_struct (short_name (name_on s p))) (ei : i ≡ position (table_names (schemas_of tables used)) (name_of_struct name)) (el : n ≡ length (schemas_of tables used)) where
-  name-is : name_of_struct name ≡ short_name (name_on s p)
-  name-is = ap name_of_struct en ∙ name_back (short_name (name_on s p))
+  name_is : name_of_struct name ≡ short_name (name_on s p)
+  name_is = ap name_of_struct en ∙ name_back (short_name (name_on s p))
 
   number_is : i ≡ number_on s p (schemas_of tables used)
-  number_is = ei ∙ ap (position (table_names (schemas_of tables used))) name-is
+  number_is = ei ∙ ap (position (table_names (schemas_of tables used))) name_is
 
   number_past : n ≤ i → ltb (number_on s p (schemas_of tables used)) (length (schemas_of tables used)) ≡ false
   number_past h = le-ltb (number_on s p (schemas_of tables used)) (length (schemas_of tables used)) (omega (arith, number_is))
@@ -237,8 +237,8 @@ module _ (s : List ℕ) (p : ℕ) (tables : List Table) (used : ℕ) (name : Nam
   number-there : i < n → ltb (number_on s p (schemas_of tables used)) (length (schemas_of tables used)) ≡ true
   number-there h = lt-ltb (number_on s p (schemas_of tables used)) (length (schemas_of tables used)) (omega (arith, number_is))
 
-  columns-are : (d : Table) → i < n → names_of (get_or tables i d).columns (get_or tables i d).count ≡ columns_at (schemas_of tables used) (number_on s p (schemas_of tables used))
-  columns-are d h =
+  columns_are : (d : Table) → i < n → names_of (get_or tables i d).columns (get_or tables i d).count ≡ columns_at (schemas_of tables used) (number_on s p (schemas_of tables used))
+  columns_are d h =
       let j : ℕ = number_on s p (schemas_of tables used) in
       let k : j < length (schemas_of tables used) = omega (arith, number_is) in
       ap (λ (m : ℕ). (schema_of (get_or tables m d)).columns) number_is ∙ ap (λ (t : Schema). t.columns) (sym (schema-at tables used j d k))
@@ -257,7 +257,7 @@ module _ (s ls ps : List ℕ) (e : Entry) (tables : List Table) (used queries up
   pub beside-some : (r : Statement) (d : Table) (scope : Scope) → i < n → (e.form ≡ 5 → ⊥) → scope ≡ scope_of (get_or tables i d) → r ≡ form_on s ls ps e (scope_names scope) i queries updates
       → r ≡ beside_on s ls ps e S queries updates
   beside-some r d scope h x f q =
-      let c : scope_names scope ≡ columns_at S j = ap scope_names f ∙ columns-are s e.table tables used name i n en ei el d h in
+      let c : scope_names scope ≡ columns_at S j = ap scope_names f ∙ columns_are s e.table tables used name i n en ei el d h in
       rw (number-there s e.table tables used name i n en ei el h, ne_eqb e.form 5 x)
       (q ∙ ap₂ (λ (y : List (List ℕ)) (m : ℕ). form_on s ls ps e y m queries updates) c (number_is s e.table tables used name i n en ei el))
 
@@ -265,8 +265,8 @@ module _ (s ls ps : List ℕ) (e : Entry) (tables : List Table) (used queries up
       → r ≡ pair_on (name_of_struct name) (names_of (get_or tables i d).columns (get_or tables i d).count) s ls ps e S i queries
       → r ≡ beside_on s ls ps e S queries updates
   beside-pair r d h x q =
-      let a : name_of_struct name ≡ short_name (name_on s e.table) = name-is s e.table tables used name i n en ei el in
-      let c : names_of (get_or tables i d).columns (get_or tables i d).count ≡ columns_at S j = columns-are s e.table tables used name i n en ei el d h in
+      let a : name_of_struct name ≡ short_name (name_on s e.table) = name_is s e.table tables used name i n en ei el in
+      let c : names_of (get_or tables i d).columns (get_or tables i d).count ≡ columns_at S j = columns_are s e.table tables used name i n en ei el d h in
       let k : i ≡ j = number_is s e.table tables used name i n en ei el in
       rw (number-there s e.table tables used name i n en ei el h, eq-eqb e.form 5 x) (q ∙ (λ y. pair_on (a y) (c y) s ls ps e S (k y) queries))
 
@@ -283,9 +283,9 @@ module _ (s ls ps : List ℕ) (e : Entry) (tables : List Table) (used queries : 
       → r ≡ select_on scope.dotted (place_in scope.dotted scope) (width_in scope.dotted scope) s ls ps e i k (start_in scope.dotted scope) (twice_in scope.dotted scope) queries
       → r ≡ goal
   pair-some r d scope k h f g q =
-      let a : name_of_struct name ≡ short_name (name_on s e.second) = name-is s e.second tables used name j n en ej el in
+      let a : name_of_struct name ≡ short_name (name_on s e.second) = name_is s e.second tables used name j n en ej el in
       let c : names_of (get_or tables j d).columns (get_or tables j d).count ≡ columns_at (schemas_of tables used) (number_on s e.second (schemas_of tables used)) =
-      columns-are s e.second tables used name j n en ej el d h in
+      columns_are s e.second tables used name j n en ej el d h in
       let m : j ≡ number_on s e.second (schemas_of tables used) = number_is s e.second tables used name j n en ej el in
       let z : k ≡ suc j = g ∙ add-one j in
       rw (number-there s e.second tables used name j n en ej el h)

@@ -12,7 +12,7 @@ use Rattle.lists.proofs.Bools.{clash}
 use Rattle.meaning.specs.Tokens as T
 use Rattle.meaning.specs.Tokens.{Name, name, dot, first_token, tokens}
 use Rattle.meaning.specs.Grammar.{Term, column, given, Dotted, Reader, ◌>>=◌, done, fails, expect, a_name, a_dotted, a_given, a_term, name_of}
-use Rattle.meaning.specs.Limits.{most-name}
+use Rattle.meaning.specs.Limits.{most_name}
 use Rattle.meaning.proofs.Readers.{a_token-some, a_token-none, passing-stops, expect-here, either_first, either_second, then_some, then-none}
 use Rattle.meaning.proofs.Stream.{tokens_none, tokens-some}
 use Rattle.token.specs.declared.Token.{Token}
@@ -26,7 +26,7 @@ use Rattle.statement.specs.Places.{first, token_on, or_empty, name_on, given_on,
 use Rattle.statement.specs.Reading.{token_past, past, is_operand, marks_at, a_column, Stands, IsDotted, IsOperand, Sides}
 use Rattle.statement.specs.Sentences.{Columns}
 use Rattle.statement.proofs.Operands.{term_of, Single, term-reader, no-term, term-none, is-term}
-use Rattle.statement.proofs.Steps.{Look, ended, seen, look, stands-there, name-length, goes, stops}
+use Rattle.statement.proofs.Steps.{Look, ended, seen, look, stands-there, name_length, goes, stops}
 use Rattle.statement.proofs.Comparisons.{Reached, side-none, side}
 use Rattle.statement.proofs.SentenceReaders.{failed-before, finds-none, finds}
 use Rattle.statement.proofs.SentenceTokens.{no_name_lem, token-none, token-found}
@@ -38,11 +38,11 @@ pub record NameHere (s : List ℕ) (at : ℕ) (u : Token) (n : Name) : Type 0 wh
   pub on : at < u.next
   pub within : u.next ≤ length s
   pub begun : u.start < u.next
-  pub begins-so : tokens (drop at s) ≡ name n ∷ tokens (drop u.next s)
+  pub begins_so : tokens (drop at s) ≡ name n ∷ tokens (drop u.next s)
   pub reads : a_name (tokens (drop at s)) ≡ some (n, tokens (drop u.next s))
   pub there : name_of (token_on s at) ≡ some n
   pub here : name_of (token_on s u.start) ≡ some n
-  pub long : past u ≡ ltb most-name (length n)
+  pub long : past u ≡ ltb most_name (length n)
 
 never : {t : T.Token} {ts : List T.Token} → [] ≡ t ∷ ts → ⊥
 never q = let r : ◌≡◌ {A = ℕ} 0 1 = cc in omega arith
@@ -63,7 +63,7 @@ module _ (s : List ℕ) (at : ℕ) (u : Token) (e : u ≡ token_at s at) where
   pub name-not : (u.kind ≡ 2 → ⊥) → a_name (tokens (drop at s)) ≡ none
   name-not h = token-none name_of s at u (look s at u e) (λ t q. no_name_lem t (λ z. h (sym q ∙ z)))
 
-  long-is : (n : Name) → u.kind ≡ 2 → u.next - u.start ≡ length n → past u ≡ ltb most-name (length n)
+  long-is : (n : Name) → u.kind ≡ 2 → u.next - u.start ≡ length n → past u ≡ ltb most_name (length n)
   unfolding token_past
   long-is n h l = rw (h, l)
 
@@ -80,11 +80,11 @@ module _ (s : List ℕ) (at : ℕ) (u : Token) (e : u ≡ token_at s at) where
               on = omega (arith, v.from, v.moves);
               within = v.inside;
               begun = v.moves;
-              begins-so = v.left ∙ ap (λ t. t ∷ tokens (drop u.next s)) i.1;
+              begins_so = v.left ∙ ap (λ t. t ∷ tokens (drop u.next s)) i.1;
               reads = token-found name_of s at u v n (ap name_of i.1);
               there = ap name_of (there-too s at u v ∙ i.1);
               here = ap name_of (stands-there v ∙ i.1);
-              long = long-is n h (name-length v n i.1);
+              long = long-is n h (name_length v n i.1);
             },
           )
 
@@ -105,8 +105,8 @@ module _ (s : List ℕ) (at : ℕ) (u : Token) (e : u ≡ token_at s at) where
           misses (then_some _ n.1.reads ∙ then-none _ (passing-stops dot (done tt) fails (tokens (drop u.next s)) (stops s u.next v e₂ dot h)))
 
       module _ (h₂ : v.kind ≡ 29) (w : Token) (e₃ : w ≡ token_at s v.next) where
-        pub no-column : (w.kind ≡ 2 → ⊥) → Sides s at r (IsDotted s r) (a_dotted (tokens (drop at s)))
-        no-column h =
+        pub no_column : (w.kind ≡ 2 → ⊥) → Sides s at r (IsDotted s r) (a_dotted (tokens (drop at s)))
+        no_column h =
             let n = name-at s at u e h₁ in
             let g = goes s u.next v e₂ dot refl h₂ in
             misses (then_some _ n.1.reads ∙ then_some _ (ap (expect dot) g.after ∙ expect-here dot (tokens (drop v.next s))) ∙ then-none _ (name-not s v.next w e₃ h))
@@ -158,7 +158,7 @@ module _ (s : List ℕ) (at : ℕ) (u : Token) (e : u ≡ token_at s at) where
 
       go : (o : Option (Dotted × List T.Token)) → a_dotted (tokens (drop at s)) ≡ o → Sides s at r (IsDotted s r) o → Sides s at r (IsOperand true s r) (a_term a_dotted (tokens (drop at s)))
       go none q z =
-          let y : values (tokens (drop at s)) ≡ none = then-none (λ v. done (given v)) (ap a_given n.1.begins-so) in
+          let y : values (tokens (drop at s)) ≡ none = then-none (λ v. done (given v)) (ap a_given n.1.begins_so) in
           subst (Sides s at r (IsOperand true s r)) (sym (either_second columns values (tokens (drop at s)) (then-none (λ c. done (column c)) q) ∙ y)) z
       go (some x) q z =
           subst (Sides s at r (IsOperand true s r)) (sym (either_first columns values (tokens (drop at s)) (column x.0, x.1) (then_some (λ c. done (column c)) q))) (
@@ -190,7 +190,7 @@ module _ (s : List ℕ) (at : ℕ) (u : Token) (e : u ≡ token_at s at) where
       go (seen v) true q =
           let t = v.token in
           let i = alone-is b t (λ x y. h x (sym v.kind ∙ y)) in
-          let m = is-term b t u.start u.next (name-length v) i (ap is_operand v.kind ∙ q) in
+          let m = is-term b t u.start u.next (name_length v) i (ap is_operand v.kind ∙ q) in
           let k = m.1 in
           subst (Sides s at r (IsOperand b s r))
           (sym (ap (a_term (a_column b)) v.left ∙ term-reader b t _ i ∙ a_token-some (term_of b) t _ _ k.term)) (
@@ -236,15 +236,15 @@ module _ (s : List ℕ) (c : Cursor) where
           finds s a_dotted _ c behind m.value (tokens (drop d.next s)) i m.found
           (record {
             ok = i;
-            stands = record { short = st.short; inside = w.within; few-nodes = omega (arith, st.few-nodes, w.on); few-marks = omega (arith, st.few-marks, w.on) };
+            stands = record { short = st.short; inside = w.within; few_nodes = omega (arith, st.few_nodes, w.on); few_marks = omega (arith, st.few_marks, w.on) };
             left = refl;
           }) (
             record {
               dotted = refl;
               moved = w.on;
               over = ap (λ b. c.over || b) m.is.over;
-              marks-are = sym (add-zero c.marks);
-              nodes-are = refl;
+              marks_are = sym (add-zero c.marks);
+              nodes_are = refl;
             },
             m.is.here,
           )

@@ -18,7 +18,7 @@ use Rattle.meaning.specs.Postfix.{leaf, signed}
 use Rattle.meaning.specs.Tokens as T
 use Rattle.meaning.specs.Tokens.{tokens, keyword, NOT, IS, NULL}
 use Rattle.meaning.specs.Grammar.{constant, mark, Term, column, given, Test, compares, tests_null, tests-not-null, comparison, Reader, then, ◌>>◌, done, fails, expect, a_token, a_term, operator_of, a_null, a_rest, behind, a_comparison}
-use Rattle.meaning.specs.Limits.{most-depth, mark_count, term_givens}
+use Rattle.meaning.specs.Limits.{most_depth, mark_count, term_givens}
 use Rattle.meaning.proofs.Readers.{begins, passing-yes, passing-stops, expect-here, a_token-some, a_token-none, then_some, then-none}
 use Rattle.token.specs.declared.Token.{Token}
 use Rattle.token.specs.Tokens.{kind_of, operator_number, token_at}
@@ -104,10 +104,10 @@ module _ (depth : ℕ) where
       → node_on d s (comparison_code depth k) a b ≡ leaf (record { left = x; op = o; right = y })
   code_at d s k a b o x y h p = leaf-at d s (comparison_code depth k) a b o x y (code-few depth k h) (ap predicate_at (code-back depth k h) ∙ p)
 
-  node-is : (d : Bool) (s : List ℕ) (positive : Bool) (a b : ℕ) (o : Predicate) (x y : Operand d) → term_on d s a ≡ x → term_on d s b ≡ y
+  node_is : (d : Bool) (s : List ℕ) (positive : Bool) (a b : ℕ) (o : Predicate) (x y : Operand d) → term_on d s a ≡ x → term_on d s b ≡ y
       → node_on d s (comparison_code depth (cond positive (predicate_number o) (opposite_of (predicate_number o)))) a b ≡ leaf (signed positive (record { left = x; op = o; right = y }))
-  node-is d s true a b o x y q r = code_at d s (predicate_number o) a b o x y (predicate-few o) (predicate-back o) q r
-  node-is d s false a b o x y q r =
+  node_is d s true a b o x y q r = code_at d s (predicate_number o) a b o x y (predicate-few o) (predicate-back o) q r
+  node_is d s false a b o x y q r =
       code_at d s (opposite_of (predicate_number o)) a b (opposite o) x y (opposite-few (predicate_number o) (predicate-few o))
       (opposite-is (predicate_number o) (predicate-few o) ∙ ap opposite (predicate-back o)) q r
 
@@ -115,10 +115,10 @@ module _ (depth : ℕ) where
   node-bare true k h = code-bare depth k h
   node-bare false k h = code-bare depth (opposite_of k) (opposite-few k h)
 
-few-marks : {C : Type 0} (x : Term C) → mark_count (term_givens (x ∷ [])) ≤ 1
-few-marks (column n) = omega arith
-few-marks (given (constant z)) = omega arith
-few-marks (given mark) = omega arith
+few_marks : {C : Type 0} (x : Term C) → mark_count (term_givens (x ∷ [])) ≤ 1
+few_marks (column n) = omega arith
+few_marks (given (constant z)) = omega arith
+few_marks (given mark) = omega arith
 
 -- the sides u and w of the test t were read, up to w's end, and its node was put, with the number k
 module _ (d : Bool) (s : List ℕ) (positive : Bool) (depth : ℕ) (c : Cursor) (eq : c.dotted ≡ d) (xs ys : List ℕ) (u w : Side) (t : Test (Column d))
@@ -137,7 +137,7 @@ module _ (d : Bool) (s : List ℕ) (positive : Bool) (depth : ℕ) (c : Cursor) 
       node : node_on d s (comparison_code depth (cond positive k (opposite_of k))) u.start w.start ≡ leaf (signed positive (comparison t))
       node =
           ap (λ j. node_on d s (comparison_code depth (cond positive j (opposite_of j))) u.start w.start) number
-          ∙ node-is depth d s positive u.start w.start (comparison t).op x y p.here q.here
+          ∙ node_is depth d s positive u.start w.start (comparison t).op x y p.here q.here
 
       here : Found d s positive depth c xs (with_node (with_sides depth u w c)) ys (compare t) (tokens (drop w.next s))
       here =
@@ -148,13 +148,13 @@ module _ (d : Bool) (s : List ℕ) (positive : Bool) (depth : ℕ) (c : Cursor) 
             stands = record {
               short = st.short;
               inside = within;
-              few-nodes = omega (arith, st.few-nodes);
-              few-marks = omega (arith, st.few-marks, p.marks, q.marks, few-marks x, few-marks y);
+              few_nodes = omega (arith, st.few_nodes);
+              few_marks = omega (arith, st.few_marks, p.marks, q.marks, few_marks x, few_marks y);
             };
             left = refl;
-            over = ap₂ (λ (m n : Bool). c.over || (ltb most-depth depth || (m || n))) p.over q.over;
-            nodes-are = refl;
-            marks-are = omega (arith, p.marks, q.marks, append-marks (x ∷ []) (y ∷ []));
+            over = ap₂ (λ (m n : Bool). c.over || (ltb most_depth depth || (m || n))) p.over q.over;
+            nodes_are = refl;
+            marks_are = omega (arith, p.marks, q.marks, append-marks (x ∷ []) (y ∷ []));
             noted = λ h. put.noted d s (omega arith) ∙ ap (λ n. nodes_on d s c.nodes xs ++ (n ∷ [])) node;
             bare = λ h. ap code_marks (put.coded (omega arith))
                 ∙ marks-put (codes_on c.nodes xs) (comparison_code depth (cond positive k (opposite_of k))) (eqb depth 0 ∷ [])
@@ -168,7 +168,7 @@ module _ (d : Bool) (s : List ℕ) (positive : Bool) (depth : ℕ) (c : Cursor) 
 pub null-fits : (s : List ℕ) (c : Cursor) (a : Side) (at : ℕ) → Stands s c → Reaches s c a at → (from : ℕ) (u : Token) → u ≡ token_at s from
     → (c.nodes < 256) × (c.marks ≤ 256) × (a.marks ≤ 1) × (a.start ≤ 256) × (u.next ≤ 256)
 null-fits s c a at st R from u e =
-    omega (arith, st.short, st.few-nodes, st.few-marks, R.on, R.within, R.begun, R.unmarked, ap (λ (v : Token). v.next) e, next-inside s from)
+    omega (arith, st.short, st.few_nodes, st.few_marks, R.on, R.within, R.begun, R.unmarked, ap (λ (v : Token). v.next) e, next-inside s from)
 
 module _ (d : Bool) (s : List ℕ) (positive : Bool) (depth : ℕ) (c : Cursor) (eq : c.dotted ≡ d) (xs : List ℕ) (a : Side) (at : ℕ)
     (st : Stands s c) (R : Reaches s c a at) (x : Column d) (p : IsOperand d s a (column x)) (r : Cursor) (ys : List ℕ) where
@@ -303,16 +303,16 @@ module _ (d : Bool) (s : List ℕ) (positive : Bool) (depth : ℕ) (c : Cursor) 
                   m.spans.within,
                   m.spans.begun,
                   m.is.marks,
-                  few-marks m.value,
+                  few_marks m.value,
                   n.spans.on,
                   n.spans.within,
                   n.spans.begun,
                   n.is.marks,
-                  few-marks n.value,
+                  few_marks n.value,
                   st.short,
                   st.inside,
-                  st.few-nodes,
-                  st.few-marks,
+                  st.few_nodes,
+                  st.few_marks,
                 )
 
             pub compared : PutsNode xs (with_sides depth a w c) (comparison_code depth (cond positive (v.kind - 9) (opposite_of (v.kind - 9)))) a.start w.start ys r → Answer

@@ -22,7 +22,7 @@ use Rattle.meaning.specs.Statement.{settings, setting_marks, numbered_all, resol
 use Rattle.meaning.specs.Cells.{areas_size}
 use Rattle.meaning.specs.Plain.{Plain, no_query, no_update, schemas, no_place, add_conditions, or_else, lowest_of}
 use Rattle.meaning.specs.Resolve.{resolve_nodes}
-use Rattle.meaning.proofs.Postfix.{sides-in, leaves_in, nodes-count, few-nodes}
+use Rattle.meaning.proofs.Postfix.{sides-in, leaves_in, nodes-count, few_nodes}
 use Rattle.meaning.proofs.Outer.{marks-resolved}
 use Rattle.meaning.proofs.Resolve.{resolve-where}
 use Rattle.token.specs.Tokens.{value_of}
@@ -41,7 +41,7 @@ use Rattle.statement.proofs.Sets.{steps-codes, leaves-any}
 use Rattle.statement.proofs.Outer.{outer-in}
 use Rattle.statement.proofs.Assembled.{form-select, form-insert, form-update, form-delete}
 use Rattle.statement.proofs.Limited.{is_long, is_long_dotted, inside-rows, short-table, short-listed, short-tested, within-listed, within-tested, short-second, dotted-listed, dotted-tested, dotted-within, whole-name, whole-dotted, whole-columns, whole-givens, whole-nodes, whole-rows}
-use Rattle.statement.proofs.Known.{name_below, dotted-below, unknown-is, settings-are, settings-count, placed-are, placed-count}
+use Rattle.statement.proofs.Known.{name_below, dotted-below, unknown-is, settings_are, settings-count, placed-are, placed-count}
 
 -- ---- the catalog
 
@@ -73,7 +73,7 @@ module _ (s ps : List ℕ) (n : ℕ) (few : n ≤ 15) where
   few-noted : (d : Bool) (w : Where (Term (Column d))) → nodes_on d s n ps ≡ nodes_in w → (b : Bool) → length (leaves (nodes_on b s n ps)) ≤ 8
   few-noted d w q b =
       let k : length (nodes_in w) ≤ 15 = omega (arith, ap length q, length-threes (node_on d s) n ps) in
-      omega (arith, leaves-any b d s n ps, ap (λ (ns : List (Node (Term (Column d)))). length (leaves ns)) q, leaves_in w, (few-nodes w).0 k)
+      omega (arith, leaves-any b d s n ps, ap (λ (ns : List (Node (Term (Column d)))). length (leaves ns)) q, leaves_in w, (few_nodes w).0 k)
 
 module _ (s ls ps : List ℕ) (e : Entry) (x : Sentence) (E : Entered s ls ps e x) where
   module _ (h : over_on e ≡ false) where
@@ -86,14 +86,14 @@ module _ (s ls ps : List ℕ) (e : Entry) (x : Sentence) (E : Entered s ls ps e 
     nodes-few : e.c.nodes ≤ 15
     nodes-few =
         let k : (e.c.nodes + 1) / 2 ≤ 8 = ltb-false 8 ((e.c.nodes + 1) / 2) (or_right (ltb 8 e.c.marks) _ marked) in
-        let l : length (comparisons_in (where_of x)) ≤ 8 = omega (arith, E.nodes-are, compared (where_of x)) in
-        omega (arith, E.nodes-are, (few-nodes (where_of x)).1 l)
+        let l : length (comparisons_in (where_of x)) ≤ 8 = omega (arith, E.nodes_are, compared (where_of x)) in
+        omega (arith, E.nodes_are, (few_nodes (where_of x)).1 l)
 
 noted-few : (s ls ps : List ℕ) (e : Entry) (x : Sentence) → Entered s ls ps e x → e.c.nodes ≤ 15 → (b : Bool) → length (leaves (nodes_on b s e.c.nodes ps)) ≤ 8
-noted-few s ls ps e (table t cs ring z) E h = none-noted s ps e.c.nodes h E.nodes-are
+noted-few s ls ps e (table t cs ring z) E h = none-noted s ps e.c.nodes h E.nodes_are
 noted-few s ls ps e (select cs t w) E h = few-noted s ps e.c.nodes h false (mapped_in comparison w) (E.noted h)
 noted-few s ls ps e (pair cs t u w) E h = few-noted s ps e.c.nodes h true (mapped_in comparison w) (E.noted h)
-noted-few s ls ps e (insert t vs) E h = none-noted s ps e.c.nodes h E.nodes-are
+noted-few s ls ps e (insert t vs) E h = none-noted s ps e.c.nodes h E.nodes_are
 noted-few s ls ps e (update t ss w) E h = few-noted s ps e.c.nodes h false (mapped_in comparison w) (E.noted h)
 noted-few s ls ps e (delete t w) E h = few-noted s ps e.c.nodes h false (mapped_in comparison w) (E.noted h)
 
@@ -178,7 +178,7 @@ module _ (s ls ps : List ℕ) (e : Entry) (tables : List Table) (used queries up
       let q : S ≡ schemas P = sym (schemas-are tables used queries updates cells) in
       let k : length S ≡ length P.tables = sym (length-map S rowless) in
       λ j. settled
-      (lowest_by false (has (table_names S) (n j) || repeats same_name (l j)) false false (leb 8 (k j) || ltb (cells - areas_size (q j)) (E.listed-are j * r j)))
+      (lowest_by false (has (table_names S) (n j) || repeats same_name (l j)) false false (leb 8 (k j) || ltb (cells - areas_size (q j)) (E.listed_are j * r j)))
       (created (table_struct (record { name = n j; columns = l j; capacity = r j; ring = E.ring j })))
 
   asks-few : leb 16 queries ≡ leb 16 (length P.queries)
@@ -214,23 +214,23 @@ module _ (s ls ps : List ℕ) (e : Entry) (tables : List Table) (used queries up
         unknown-kept false s ps e q k (position C) (length C) lacks (name_below C) (listed_on false s ls e) 0
         ∙ ap (λ (ns : List Name). any lacks (ns ++ term_columns (operands_in q))) l
         ∙ missing-is (items cs ++ term_columns (operands_in q)) in
-        let c : e.listed ≡ length (map (position C) (items cs)) = E.listed-are ∙ sym (length-map (items cs) (position C)) in
+        let c : e.listed ≡ length (map (position C) (items cs)) = E.listed_are ∙ sym (length-map (items cs) (position C)) in
         let d : condition_on false (position C) s ps e 0 ≡ condition_struct (nodes_in (resolved_where (position C) 0 q)) = condition-kept false s ps e q k (position C) 0 in
         λ j. settled (lowest_by (u j) false false false (asks-few j))
-        (asked (record { table = i; selected = padded 8 0 (places_of C (l j)); count = c j; parameters = E.marks-are j; second = 0; start = 0; outer = 0; condition = d j }))
+        (asked (record { table = i; selected = padded 8 0 (places_of C (l j)); count = c j; parameters = E.marks_are j; second = 0; start = 0; outer = 0; condition = d j }))
 
     insert-compiles : (vs : Listed Given) → Entered s ls ps e (insert t vs) → past_limit (insert t vs) ≡ false → insert_on s ls e C i updates ≡ decided P S (insert t vs)
     unfolding insert_on unknown taken miscounted twice no_place statement_of struct_of
     insert-compiles vs E w =
         let x = insert t vs in
         let g : map short_given (givens_on s e.listed ls) ≡ items vs = ap (map short_given) (E.givens few) ∙ whole-givens (items vs) (within-listed x w) in
-        let n : length (items vs) ≤ 8 = omega (arith, E.listed-are, few) in
+        let n : length (items vs) ≤ 8 = omega (arith, E.listed_are, few) in
         let a : settings_from 0 (take e.listed (from 0 8)) (map short_given (givens_on s e.listed ls)) ≡ map setting_struct (placed_from 0 (numbered_all 0 (items vs))) =
-        ap₂ (λ (k : ℕ) (v : List Given). settings_from 0 (take k (from 0 8)) v) E.listed-are g ∙ placed-are 0 0 8 (items vs) n in
+        ap₂ (λ (k : ℕ) (v : List Given). settings_from 0 (take k (from 0 8)) v) E.listed_are g ∙ placed-are 0 0 8 (items vs) n in
         let u : false ≡ missing S t [] = missing-is [] in
-        let c : e.listed ≡ length (placed_from 0 (numbered_all 0 (items vs))) = E.listed-are ∙ sym (placed-count 0 0 (items vs)) in
-        λ j. settled (lowest_by (u j) false (not (eqb (E.listed-are j) (length C))) false (changes-few j))
-        (changing (record { form = 0; table = i; settings = padded 8 no_setting (a j); count = c j; parameters = E.marks-are j; condition = condition_struct [] }))
+        let c : e.listed ≡ length (placed_from 0 (numbered_all 0 (items vs))) = E.listed_are ∙ sym (placed-count 0 0 (items vs)) in
+        λ j. settled (lowest_by (u j) false (not (eqb (E.listed_are j) (length C))) false (changes-few j))
+        (changing (record { form = 0; table = i; settings = padded 8 no_setting (a j); count = c j; parameters = E.marks_are j; condition = condition_struct [] }))
 
     update-compiles : (ss : Listed (Name × Given)) (v : Optional (Test Name)) → Entered s ls ps e (update t ss v) → past_limit (update t ss v) ≡ false
         → update_on s ls ps e C i updates ≡ decided P S (update t ss v)
@@ -245,16 +245,16 @@ module _ (s ls ps : List ℕ) (e : Entry) (tables : List Table) (used queries up
         let g : map short_given (givens_on s e.listed ls) ≡ values = ap (map short_given) (E.givens few) ∙ whole-givens values (within-listed x w) in
         let m : (sets_on s ls e C).marks ≡ setting_marks (items ss) = ap mark_count (E.givens few) in
         let a : settings_from 0 (places_of C (listed_on false s ls e)) (map short_given (givens_on s e.listed ls)) ≡ map setting_struct (settings C 0 (items ss)) =
-        ap₂ (λ (ns : List Name) (v : List Given). settings_from 0 (places_of C ns) v) l g ∙ settings-are C 0 (items ss) in
+        ap₂ (λ (ns : List Name) (v : List Given). settings_from 0 (places_of C ns) v) l g ∙ settings_are C 0 (items ss) in
         let u : unknown_on (length C) (places_of C (listed_on false s ls e)) (condition_on false (position C) s ps e (sets_on s ls e C).marks) ≡ missing S t (names ++ term_columns (operands_in q)) =
         unknown-kept false s ps e q k (position C) (length C) lacks (name_below C) (listed_on false s ls e) (sets_on s ls e C).marks
         ∙ ap (λ (ns : List Name). any lacks (ns ++ term_columns (operands_in q))) l
         ∙ missing-is (names ++ term_columns (operands_in q)) in
-        let c : e.listed ≡ length (settings C 0 (items ss)) = E.listed-are ∙ sym (settings-count C 0 (items ss)) in
+        let c : e.listed ≡ length (settings C 0 (items ss)) = E.listed_are ∙ sym (settings-count C 0 (items ss)) in
         let d : condition_on false (position C) s ps e (sets_on s ls e C).marks ≡ condition_struct (nodes_in (resolved_where (position C) (setting_marks (items ss)) q)) =
         condition-kept false s ps e q k (position C) (sets_on s ls e C).marks ∙ ap (λ (n : ℕ). condition_struct (nodes_in (resolved_where (position C) n q))) m in
         λ j. settled (lowest_by (u j) (repeats same_name (l j)) false false (changes-few j))
-        (changing (record { form = 1; table = i; settings = padded 8 no_setting (a j); count = c j; parameters = E.marks-are j; condition = d j }))
+        (changing (record { form = 1; table = i; settings = padded 8 no_setting (a j); count = c j; parameters = E.marks_are j; condition = d j }))
 
     delete-compiles : (v : Optional (Test Name)) → Entered s ls ps e (delete t v) → past_limit (delete t v) ≡ false → delete_on s ps e C i updates ≡ decided P S (delete t v)
     unfolding delete_on unknown taken miscounted twice no_place statement_of struct_of
@@ -266,7 +266,7 @@ module _ (s ls ps : List ℕ) (e : Entry) (tables : List Table) (used queries up
         unknown-kept false s ps e q k (position C) (length C) lacks (name_below C) [] 0 ∙ missing-is (term_columns (operands_in q)) in
         let d : condition_on false (position C) s ps e 0 ≡ condition_struct (nodes_in (resolved_where (position C) 0 q)) = condition-kept false s ps e q k (position C) 0 in
         λ j. settled (lowest_by (u j) false false false (changes-few j))
-        (changing (record { form = 2; table = i; settings = padded 8 no_setting []; count = 0; parameters = E.marks-are j; condition = d j }))
+        (changing (record { form = 2; table = i; settings = padded 8 no_setting []; count = 0; parameters = E.marks_are j; condition = d j }))
 
     -- ---- of two tables
 
@@ -293,7 +293,7 @@ module _ (s ls ps : List ℕ) (e : Entry) (tables : List Table) (used queries up
           unknown-kept true s ps e q k place (length C + length D) lacks_both (dotted-below t C u D) (listed_on true s ls e) 0
           ∙ ap (λ (xs : List Dotted). any lacks_both (xs ++ term_columns (operands_in q))) l
           ∙ both-missing-is h (items cs ++ term_columns (operands_in q)) in
-          let c : e.listed ≡ length (map place (items cs)) = E.listed-are ∙ sym (length-map (items cs) place) in
+          let c : e.listed ≡ length (map place (items cs)) = E.listed_are ∙ sym (length-map (items cs) place) in
           let d : condition_on true place s ps e 0 ≡ condition_struct (nodes_in (resolved_where place 0 q)) = condition-kept true s ps e q k place 0 in
           let o : outer_on e.c.nodes ps ≡ marks_number 0 (outer_marks_in (resolved_where place 0 q)) = outer-kept s ps e q (E.noted nodes) (E.bare nodes) place in
           λ j. settled (lowest_by (n j) false false (same_name t u) (asks-few j))
@@ -301,7 +301,7 @@ module _ (s ls ps : List ℕ) (e : Entry) (tables : List Table) (used queries up
             table = i;
             selected = padded 8 0 (map place (l j));
             count = c j;
-            parameters = E.marks-are j;
+            parameters = E.marks_are j;
             second = suc (position (table_names S) u);
             start = length C;
             outer = o j;

@@ -9,44 +9,44 @@ use Rattle.statement.specs.Operators.{predicate_at, opposite_of}
 use Rattle.statement.specs.Demand.{OppositeTwice, OppositeNegates, OppositeIsRule, NumbersStand, OthersStay, Demands}
 use Rattle.statement.proofs.OperatorLaws.{predicate-back, opposite-is}
 
-pub opposite-twice : OppositeTwice
+pub opposite_twice : OppositeTwice
 unfolding opposite_of
-opposite-twice zero h = refl
-opposite-twice (suc zero) h = refl
-opposite-twice (suc (suc zero)) h = refl
-opposite-twice (suc (suc (suc zero))) h = refl
-opposite-twice (suc (suc (suc (suc zero)))) h = refl
-opposite-twice (suc (suc (suc (suc (suc zero))))) h = refl
-opposite-twice (suc (suc (suc (suc (suc (suc zero)))))) h = refl
-opposite-twice (suc (suc (suc (suc (suc (suc (suc zero))))))) h = refl
-opposite-twice (suc (suc (suc (suc (suc (suc (suc (suc k)))))))) h = absurd (omega arith)
+opposite_twice zero h = refl
+opposite_twice (suc zero) h = refl
+opposite_twice (suc (suc zero)) h = refl
+opposite_twice (suc (suc (suc zero))) h = refl
+opposite_twice (suc (suc (suc (suc zero)))) h = refl
+opposite_twice (suc (suc (suc (suc (suc zero))))) h = refl
+opposite_twice (suc (suc (suc (suc (suc (suc zero)))))) h = refl
+opposite_twice (suc (suc (suc (suc (suc (suc (suc zero))))))) h = refl
+opposite_twice (suc (suc (suc (suc (suc (suc (suc (suc k)))))))) h = absurd (omega arith)
 
-pub opposite-negates : OppositeNegates
-opposite-negates k h a b = ap (λ (p : Predicate). compared p a b) (opposite-is k h) ∙ M.opposite-negates (predicate_at k) a b
+pub opposite_negates : OppositeNegates
+opposite_negates k h a b = ap (λ (p : Predicate). compared p a b) (opposite-is k h) ∙ M.opposite_negates (predicate_at k) a b
 
-pub opposite-is-rule : OppositeIsRule
+pub opposite_is_rule : OppositeIsRule
 unfolding opposite_of
-opposite-is-rule (by eq) = refl
-opposite-is-rule (by ne) = refl
-opposite-is-rule (by lt) = refl
-opposite-is-rule (by le) = refl
-opposite-is-rule (by gt) = refl
-opposite-is-rule (by ge) = refl
-opposite-is-rule is-null = refl
-opposite-is-rule is-not-null = refl
+opposite_is_rule (by eq) = refl
+opposite_is_rule (by ne) = refl
+opposite_is_rule (by lt) = refl
+opposite_is_rule (by le) = refl
+opposite_is_rule (by gt) = refl
+opposite_is_rule (by ge) = refl
+opposite_is_rule is-null = refl
+opposite_is_rule is-not-null = refl
 
-pub numbers-stand : NumbersStand
-numbers-stand = predicate-back
+pub numbers_stand : NumbersStand
+numbers_stand = predicate-back
 
-pub others-stay : OthersStay
+pub others_stay : OthersStay
 unfolding opposite_of
-others-stay k h = rw (le-ltb k 8 h)
+others_stay k h = rw (le-ltb k 8 h)
 
 pub demands : Demands
 demands = record {
-  opposite-twice = opposite-twice;
-  opposite-negates = opposite-negates;
-  opposite-is-rule = opposite-is-rule;
-  numbers-stand = numbers-stand;
-  others-stay = others-stay;
+  opposite_twice = opposite_twice;
+  opposite_negates = opposite_negates;
+  opposite_is_rule = opposite_is_rule;
+  numbers_stand = numbers_stand;
+  others_stay = others_stay;
 }

@@ -91,10 +91,10 @@ module _ {C : Type 0} (place : C → ℕ) (width : ℕ) (lacks : C → Bool) (in
 -- ---- settings
 
 module _ (columns : List Name) where
-  pub settings-are : (m : ℕ) (ss : List (Name × Given))
+  pub settings_are : (m : ℕ) (ss : List (Name × Given))
       → settings_from m (places_of columns (map (λ (s : Name × Given). s.0) ss)) (map (λ (s : Name × Given). s.1) ss) ≡ map setting_struct (settings columns m ss)
-  settings-are m [] = refl
-  settings-are m (s ∷ ss) = ap (λ (xs : List Setting). setting_struct (position columns s.0, numbered m s.1) ∷ xs) (settings-are (m + mark_in s.1) ss)
+  settings_are m [] = refl
+  settings_are m (s ∷ ss) = ap (λ (xs : List Setting). setting_struct (position columns s.0, numbered m s.1) ∷ xs) (settings_are (m + mark_in s.1) ss)
 
   pub settings-count : (m : ℕ) (ss : List (Name × Given)) → length (settings columns m ss) ≡ length ss
   settings-count m [] = refl

@@ -16,7 +16,7 @@ use Rattle.meaning.specs.Tokens.{Token, tokens, keyword, name, operator, comma, 
 use Rattle.meaning.specs.Grammar.{constant, mark, Term, column, given, spell_name, spell_dotted, spell_term, a_token, a_term, name_of, operator_of}
 use Rattle.meaning.specs.Limits.{is_within32, mark_count, term_givens}
 use Rattle.meaning.proofs.Readers.{some-none, sound-read}
-use Rattle.meaning.proofs.Decides.{Exact, name-sound, dotted-sound, term-sound}
+use Rattle.meaning.proofs.Decides.{Exact, name_sound, dotted-sound, term-sound}
 use Rattle.token.specs.declared.Token.{Token as Read}
 use Rattle.token.specs.Tokens.{kind_of, operator_number, token_at}
 use Rattle.statement.specs.Places.{token_on, Column, term_on}
@@ -155,7 +155,7 @@ spelling false = spell_name
 spelling true = spell_dotted
 
 spelled-so : (b : Bool) → Exact (spelling b) (a_column b)
-spelled-so false = name-sound
+spelled-so false = name_sound
 spelled-so true = dotted-sound
 
 begins-column : (b : Bool) (x : Operand b) (more : List Token) (t : Token) (ts : List Token) → t ∷ ts ≡ spell_term (spelling b) x more → is_column x ≡ eqb (kind_of t) 2

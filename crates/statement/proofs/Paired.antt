@@ -167,7 +167,7 @@ starts-dotted s c st =
     record {
       ok = st.ok;
       dotted = refl;
-      stands = record { short = a.short; inside = a.inside; few-nodes = a.few-nodes; few-marks = a.few-marks };
+      stands = record { short = a.short; inside = a.inside; few_nodes = a.few_nodes; few_marks = a.few_marks };
       over = st.over;
       nodes = st.nodes;
       marks = st.marks;

@@ -30,8 +30,8 @@ module _ (b : Bool) (s : List ℕ) (positive : Bool) (depth : ℕ) (c : Cursor) 
       (over-is : condition_past b depth (mapped comparison u) ≡ (condition_past b depth (mapped comparison t) || condition_past b depth (mapped comparison d)))
       (marks-is : marks_in (mapped comparison u) ≡ marks_in (mapped comparison t) + marks_in (mapped comparison d))
       (nodes-is : nodes positive (mapped comparison u) ≡ nodes positive (mapped comparison t) ++ (nodes positive (mapped comparison d) ++ (join ∷ [])))
-      (bare-is : bare_marks depth (mapped comparison u) ≡ bare_marks depth (mapped comparison t) ++ bare_marks depth (mapped comparison d))
-      (node-is : node_on b s node 0 0 ≡ join) (unmarked : bare_mark node ≡ []) where
+      (bare_is : bare_marks depth (mapped comparison u) ≡ bare_marks depth (mapped comparison t) ++ bare_marks depth (mapped comparison d))
+      (node_is : node_on b s node 0 0 ≡ join) (unmarked : bare_mark node ≡ []) where
     joined : (more left : List T.Token) → Found b s positive depth c xs p ys t more → p.at < next → Found b s positive depth (moved_to next p) ys q zs d left
         → (r : Cursor) (ws : List ℕ) → PutsNode zs q node 0 0 ws r → Found b s positive depth c xs r ws u left
     joined more left f on g r ws put = subst (λ z. Found b s positive depth c xs z ws u left) (sym put.counted) here
@@ -49,8 +49,8 @@ module _ (b : Bool) (s : List ℕ) (positive : Bool) (depth : ℕ) (c : Cursor) 
         notes : q.nodes + 1 ≤ 15 → nodes_on b s (q.nodes + 1) ws ≡ nodes_on b s c.nodes xs ++ nodes positive (mapped comparison u)
         notes h =
             put.noted b s (omega arith)
-            ∙ ap (λ ns. ns ++ (node_on b s node 0 0 ∷ [])) (g.noted (omega arith) ∙ ap (λ ns. ns ++ nodes positive (mapped comparison d)) (f.noted (omega (arith, g.nodes-are))))
-            ∙ ap (λ n. ((nodes_on b s c.nodes xs ++ nodes positive (mapped comparison t)) ++ nodes positive (mapped comparison d)) ++ (n ∷ [])) node-is
+            ∙ ap (λ ns. ns ++ (node_on b s node 0 0 ∷ [])) (g.noted (omega arith) ∙ ap (λ ns. ns ++ nodes positive (mapped comparison d)) (f.noted (omega (arith, g.nodes_are))))
+            ∙ ap (λ n. ((nodes_on b s c.nodes xs ++ nodes positive (mapped comparison t)) ++ nodes positive (mapped comparison d)) ++ (n ∷ [])) node_is
             ∙ regrouped
             ∙ ap (λ ns. nodes_on b s c.nodes xs ++ ns) (sym nodes-is)
 
@@ -60,9 +60,9 @@ module _ (b : Bool) (s : List ℕ) (positive : Bool) (depth : ℕ) (c : Cursor) 
             ∙ marks-put (codes_on q.nodes zs) node [] unmarked
             ∙ append-nil (bare_marks_on q.nodes zs)
             ∙ g.bare (omega arith)
-            ∙ ap (λ bs. bs ++ bare_marks depth (mapped comparison d)) (f.bare (omega (arith, g.nodes-are)))
+            ∙ ap (λ bs. bs ++ bare_marks depth (mapped comparison d)) (f.bare (omega (arith, g.nodes_are)))
             ∙ append_assoc (bare_marks_on c.nodes xs) (bare_marks depth (mapped comparison t)) (bare_marks depth (mapped comparison d))
-            ∙ ap (λ bs. bare_marks_on c.nodes xs ++ bs) (sym bare-is)
+            ∙ ap (λ bs. bare_marks_on c.nodes xs ++ bs) (sym bare_is)
 
         here : Found b s positive depth c xs (with_node q) ws u left
         here =
@@ -70,12 +70,12 @@ module _ (b : Bool) (s : List ℕ) (positive : Bool) (depth : ℕ) (c : Cursor) 
               ok = g.ok;
               dotted = g.dotted;
               moved = omega (arith, f.moved, g.moved);
-              stands = record { short = st.short; inside = st.inside; few-nodes = omega (arith, g.spread, f.stands.few-nodes); few-marks = st.few-marks };
+              stands = record { short = st.short; inside = st.inside; few_nodes = omega (arith, g.spread, f.stands.few_nodes); few_marks = st.few_marks };
               left = g.left;
               over = g.over ∙ ap (λ z. z || condition_past b depth (mapped comparison d)) f.over
                   ∙ sym (or_assoc c.over (condition_past b depth (mapped comparison t)) (condition_past b depth (mapped comparison d))) ∙ ap (λ z. c.over || z) (sym over-is);
-              nodes-are = omega (arith, g.nodes-are, f.nodes-are, many);
-              marks-are = omega (arith, g.marks-are, f.marks-are, marks-is);
+              nodes_are = omega (arith, g.nodes_are, f.nodes_are, many);
+              marks_are = omega (arith, g.marks_are, f.marks_are, marks-is);
               noted = notes;
               bare = marks;
               spread = omega (arith, f.spread, g.spread);
@@ -100,8 +100,8 @@ found_as b s p d q e c at xs r ys t u more same le f =
       stands = f.stands;
       left = f.left;
       over = f.over ∙ ap (λ z. c.over || z) same.0;
-      nodes-are = f.nodes-are ∙ ap (λ ns. c.nodes + length ns) same.2;
-      marks-are = f.marks-are ∙ ap (λ n. c.marks + n) same.1;
+      nodes_are = f.nodes_are ∙ ap (λ ns. c.nodes + length ns) same.2;
+      marks_are = f.marks_are ∙ ap (λ n. c.marks + n) same.1;
       noted = λ h. f.noted h ∙ ap (λ ns. nodes_on b s c.nodes xs ++ ns) same.2;
       bare = λ h. f.bare h ∙ ap (λ bs. bare_marks_on c.nodes xs ++ bs) same.3;
       spread = omega (arith, f.spread);
@@ -169,11 +169,11 @@ pub record Chain (lo hi : Level) (k : T.Token) (wrap : (b : Bool) → Written b 
   pub over : (b : Bool) (d : ℕ) (t : Written b lo) (u : Written b hi)
       → condition_past b d (mapped comparison (join b t u)) ≡ (condition_past b d (mapped comparison t) || condition_past b d (mapped comparison u))
   pub marks : (b : Bool) (t : Written b lo) (u : Written b hi) → marks_in (mapped comparison (join b t u)) ≡ marks_in (mapped comparison t) + marks_in (mapped comparison u)
-  pub nodes-are : (b : Bool) (p : Bool) (t : Written b lo) (u : Written b hi)
+  pub nodes_are : (b : Bool) (p : Bool) (t : Written b lo) (u : Written b hi)
       → nodes p (mapped comparison (join b t u)) ≡ nodes p (mapped comparison t) ++ (nodes p (mapped comparison u) ++ (node b p ∷ []))
-  pub bare-is : (b : Bool) (d : ℕ) (t : Written b lo) (u : Written b hi)
+  pub bare_is : (b : Bool) (d : ℕ) (t : Written b lo) (u : Written b hi)
       → bare_marks d (mapped comparison (join b t u)) ≡ bare_marks d (mapped comparison t) ++ bare_marks d (mapped comparison u)
-  pub node-is : (b : Bool) (s : List ℕ) (p : Bool) → node_on b s (number p) 0 0 ≡ node b p
+  pub node_is : (b : Bool) (s : List ℕ) (p : Bool) → node_on b s (number p) 0 0 ≡ node b p
   pub unmarked : (p : Bool) → bare_mark (number p) ≡ []
 
 abbrev pub and_number : Bool → ℕ
@@ -190,9 +190,9 @@ ands =
       same = λ b p d t. (refl, refl, refl, refl);
       over = λ b d t u. refl;
       marks = λ b t u. marks-of-both (comparisons (mapped comparison t)) (comparisons (mapped comparison u));
-      nodes-are = λ b p t u. refl;
-      bare-is = λ b d t u. refl;
-      node-is = go;
+      nodes_are = λ b p t u. refl;
+      bare_is = λ b d t u. refl;
+      node_is = go;
       unmarked = none;
     }
   where
@@ -212,9 +212,9 @@ ors =
       same = λ b p d t. (refl, refl, refl, refl);
       over = λ b d t u. refl;
       marks = λ b t u. marks-of-both (comparisons (mapped comparison t)) (comparisons (mapped comparison u));
-      nodes-are = λ b p t u. refl;
-      bare-is = λ b d t u. refl;
-      node-is = go;
+      nodes_are = λ b p t u. refl;
+      bare_is = λ b d t u. refl;
+      node_is = go;
       unmarked = none;
     }
   where
@@ -265,8 +265,8 @@ module _ {lo hi : Level} {k : T.Token} {wrap : (b : Bool) → Written b lo → W
       second-joins f r ws i ei put =
           second-goes r ws
           (λ b x more g d left h.
-          joined b s positive depth c xs x d (join b x d) p ys q zs next (number positive) (node b positive) (𝓒.over b depth x d) (𝓒.marks b x d) (𝓒.nodes-are b positive x d)
-          (𝓒.bare-is b depth x d) (𝓒.node-is b s positive) (𝓒.unmarked positive)
+          joined b s positive depth c xs x d (join b x d) p ys q zs next (number positive) (node b positive) (𝓒.over b depth x d) (𝓒.marks b x d) (𝓒.nodes_are b positive x d)
+          (𝓒.bare_is b depth x d) (𝓒.node_is b s positive) (𝓒.unmarked positive)
           more left g t.on h r ws (subst (λ z. PutsNode zs q z 0 0 ws r) ei put))
           (λ z. clash f z)
 
@@ -284,11 +284,11 @@ passed-found b s positive depth c xs p ys t more q left f k = subst (λ z. Found
           ok = f.ok;
           dotted = f.dotted;
           moved = omega (arith, f.moved, k.moved);
-          stands = record { short = f.stands.short; inside = k.inside; few-nodes = omega (arith, f.stands.few-nodes, k.moved); few-marks = omega (arith, f.stands.few-marks, k.moved) };
+          stands = record { short = f.stands.short; inside = k.inside; few_nodes = omega (arith, f.stands.few_nodes, k.moved); few_marks = omega (arith, f.stands.few_marks, k.moved) };
           left = k.left;
           over = f.over;
-          nodes-are = f.nodes-are;
-          marks-are = f.marks-are;
+          nodes_are = f.nodes_are;
+          marks_are = f.marks_are;
           noted = f.noted;
           bare = f.bare;
           spread = omega (arith, f.spread, k.moved);
@@ -353,8 +353,8 @@ one-compares s positive depth c xs p ys i j m b eb (suc n) h = subst (Meets b s 
 module _ {s : List ℕ} {at next : ℕ} {k : T.Token} (g : Goes s at next k) where
   -- past a token a reader may go on
   pub may : (c : Cursor) (depth : ℕ) → c.at ≡ at → Stands s c → depth ≤ at → Stands s (moved_to next c) × (depth < next) × (at < next) × (next ≤ length s)
-  may c depth e st d = omega (arith, g.on, g.within, st.short, st.few-nodes, st.few-marks)
+  may c depth e st d = omega (arith, g.on, g.within, st.short, st.few_nodes, st.few_marks)
 
 -- a node may be counted behind the second condition
 pub may-put : (s : List ℕ) (p : Cursor) (next : ℕ) (q : Cursor) → Stands s p → p.at < next → Stands s q × (next < q.at) × (q.nodes + next ≤ p.nodes + q.at) → q.nodes < 256
-may-put s p next q sp on f = omega (arith, sp.few-nodes, f.0.short, f.0.inside, f.2)
+may-put s p next q sp on f = omega (arith, sp.few_nodes, f.0.short, f.0.inside, f.2)

@@ -34,8 +34,8 @@ filters-nothing : (b : Bool) (s : List ℕ) (c : Cursor) (xs : List ℕ) → Fil
 filters-nothing b s c xs =
     record {
       over = sym (or-false c.over);
-      marks-are = sym (add-zero c.marks);
-      nodes-are = sym (add-zero c.nodes);
+      marks_are = sym (add-zero c.marks);
+      nodes_are = sym (add-zero c.nodes);
       noted = λ h. sym (append-nil (nodes_on b s c.nodes xs));
       bare = λ h. sym (append-nil (bare_marks_on c.nodes xs));
     }
@@ -68,7 +68,7 @@ module _ (s : List ℕ) (c : Cursor) (xs : List ℕ) where
       go none q = q
       go (some x) q = (
         record { ok = q.ok; stands = q.stands; left = q.left },
-        record { over = q.over; marks-are = q.marks-are; nodes-are = q.nodes-are; noted = q.noted; bare = q.bare },
+        record { over = q.over; marks_are = q.marks_are; nodes_are = q.nodes_are; noted = q.noted; bare = q.bare },
       )
 
 -- ---- a sentence from what was counted up to m, before its WHERE
@@ -84,7 +84,7 @@ module _ (s ls : List ℕ) (b : Bool) (c m : Cursor) (p : Bool) (a : ℕ) (ps : 
   over-is = w.over ∙ ap (λ q. q || where_past b y) (h.over ∙ ap (λ q. q || p) st.over)
 
   no-nodes : m.nodes ≡ 0
-  no-nodes = h.nodes-are ∙ st.nodes
+  no-nodes = h.nodes_are ∙ st.nodes
 
   entered : term_givens (operands_in y) ≡ term_givens (operands_in (where_of x)) → length (nodes_in y) ≡ length (nodes_in (where_of x))
       → ((n : ℕ) → (n ≤ 15 → nodes_on b s n ps' ≡ nodes_in y) → NodesAt s n ps' x)
@@ -93,8 +93,8 @@ module _ (s ls : List ℕ) (b : Bool) (c m : Cursor) (p : Bool) (a : ℕ) (ps : 
       → RowsAt s r.rows x → r.ring ≡ ring_of x → SecondAt s r.second x → r.listed ≡ list_length x → NamesAt s r.listed ls x → GivensAt s r.listed ls x → Entered s ls ps' r x
   entered asked same nodes-at bare-at ok form past marks named rows ring second listed columns-at values-at =
       let e : r.c.over ≡ own_past x = over-is ∙ past in
-      let f : r.c.marks ≡ mark_count (givens x) = omega (arith, w.marks-are, h.marks-are, st.marks, ap mark_count asked, marks-append (list_givens x) (term_givens (operands_in (where_of x)))) in
-      let g : r.c.nodes ≡ length (nodes_in (where_of x)) = omega (arith, w.nodes-are, no-nodes) in
+      let f : r.c.marks ≡ mark_count (givens x) = omega (arith, w.marks_are, h.marks_are, st.marks, ap mark_count asked, marks-append (list_givens x) (term_givens (operands_in (where_of x)))) in
+      let g : r.c.nodes ≡ length (nodes_in (where_of x)) = omega (arith, w.nodes_are, no-nodes) in
       record {
         ok = ok;
         form = form;
@@ -102,9 +102,9 @@ module _ (s ls : List ℕ) (b : Bool) (c m : Cursor) (p : Bool) (a : ℕ) (ps : 
         table = named;
         rows = rows;
         ring = ring;
-        listed-are = listed;
-        marks-are = f;
-        nodes-are = g;
+        listed_are = listed;
+        marks_are = f;
+        nodes_are = g;
         noted = nodes-at r.c.nodes (λ i. w.noted i ∙ ap (λ n. nodes_on b s n ps ++ nodes_in y) no-nodes);
         bare = bare-at r.c.nodes (λ i. w.bare i ∙ ap (λ n. bare_marks_on n ps ++ bare_marks_in y) no-nodes);
         second = second;
@@ -137,7 +137,7 @@ module _ (s : List ℕ) (c : Cursor) (st : Starts s false c) where
         b₆,
         entered s ys false c r.c _ _ ps E ps (table t cs ring z) always st
             (counts-then c d.c r.c _ _ _ _ (counts-then c c₂ d.c _ _ _ _ (counts-then c l.c c₂ _ _ _ _ (counts-then c c₁ l.c _ _ _ _ (counts-then c n.c c₁ _ _ _ _ q₁.0 q₂) q₃.counts) q₄) q₅.0) q₆.0)
-            (filters-nothing false s r.c ps) refl refl (λ n i. tt) (λ n i. tt) b₆.ok refl (order (is_long_name t) (list_past (items cs) []) (outside_rows z)) refl q₁.1 q₆.1 q₅.1 tt (q₃.listed-are ∙ zero-add (length (items cs))) q₃.noted tt,
+            (filters-nothing false s r.c ps) refl refl (λ n i. tt) (λ n i. tt) b₆.ok refl (order (is_long_name t) (list_past (items cs) []) (outside_rows z)) refl q₁.1 q₆.1 q₅.1 tt (q₃.listed_are ∙ zero-add (length (items cs))) q₃.noted tt,
       )))))))
     where
       E : Entry
@@ -164,7 +164,7 @@ module _ (s : List ℕ) (c : Cursor) (st : Starts s false c) where
         b₄,
         entered s ys false c n.c _ _ ps E ps' (select cs t w) (mapped_in comparison w) st m q₄ refl refl (λ n z. z) (λ n z. tt)
             b₄.ok refl (order (is_long_name t) (list_past (items cs) []) (where_past false (mapped_in comparison w))) refl
-            q₃.1 tt refl tt (q₁.listed-are ∙ zero-add (length (items cs))) q₁.noted tt,
+            q₃.1 tt refl tt (q₁.listed_are ∙ zero-add (length (items cs))) q₁.noted tt,
       )))))
     where
       E : Entry
@@ -194,7 +194,7 @@ module _ (s : List ℕ) (c : Cursor) (st : Starts s false c) where
         b₆,
         entered s ys false c r _ _ ps E ps (insert t vs) always st
             (counts-then c l.c r _ _ _ _ (counts-then c c₃ l.c _ _ _ _ (counts-then c c₂ c₃ _ _ _ _ (counts-then c n.c c₂ _ _ _ _ (counts-then c c₁ n.c _ _ _ _ q₁ q₂.0) q₃) q₄) q₅.counts) q₆)
-            (filters-nothing false s r ps) refl refl (λ n i. tt) (λ n i. tt) b₆.ok refl (order (is_long_name t) (list_past [] (items vs))) (omega arith) q₂.1 tt refl tt (q₅.listed-are ∙ zero-add (length (items vs))) tt q₅.noted,
+            (filters-nothing false s r ps) refl refl (λ n i. tt) (λ n i. tt) b₆.ok refl (order (is_long_name t) (list_past [] (items vs))) (omega arith) q₂.1 tt refl tt (q₅.listed_are ∙ zero-add (length (items vs))) tt q₅.noted,
       )))))))
     where
       E : Entry
@@ -222,7 +222,7 @@ module _ (s : List ℕ) (c : Cursor) (st : Starts s false c) where
         b₄,
         entered s ys false c l.c _ _ ps E ps' (update t ss w) (mapped_in comparison w) st m q₄ refl refl (λ n z. z) (λ n z. tt)
             b₄.ok refl (order (is_long_name t) (list_past (map (λ (x : Name × Given). x.0) (items ss)) (map (λ (x : Name × Given). x.1) (items ss)))
-            (where_past false (mapped_in comparison w))) (omega arith) q₁.1 tt refl tt (q₃.listed-are ∙ zero-add (length (items ss)))
+            (where_past false (mapped_in comparison w))) (omega arith) q₁.1 tt refl tt (q₃.listed_are ∙ zero-add (length (items ss)))
             (λ m. sym (map-items (λ (x : Name × Given). x.0) (item_on settings s) l.listed ys) ∙ ap (map (λ (x : Name × Given). x.0)) (q₃.noted m))
             (λ m. sym (map-items (λ (x : Name × Given). x.1) (item_on settings s) l.listed ys) ∙ ap (map (λ (x : Name × Given). x.1)) (q₃.noted m)),
       )))))
@@ -276,7 +276,7 @@ module _ (s : List ℕ) (c : Cursor) (st : Starts s true c) where
         entered s ys true c o.c _ _ ps E ps' (pair cs t u w) (mapped_in comparison w) st m q₆
             (sym (bare-givens (mapped_in comparison w))) (sym (nodes-replaced bare_term (mapped_in comparison w))) (λ n z. z) (λ n z. z)
             b₆.ok refl (order (is_long_name t) (is_long_name u) (list_past (parts_of (items cs)) []) (where_past true (mapped_in comparison w))) refl
-            q₃.1 tt refl q₅.1 (q₁.listed-are ∙ zero-add (length (items cs))) q₁.noted tt,
+            q₃.1 tt refl q₅.1 (q₁.listed_are ∙ zero-add (length (items cs))) q₁.noted tt,
       )))))))
     where
       E : Entry

@@ -14,7 +14,7 @@ use Rattle.meaning.specs.Condition.{Comparison, Level, Condition, compare, negat
 use Rattle.meaning.specs.Postfix.{nodes_in}
 use Rattle.meaning.specs.Tokens.{Name}
 use Rattle.meaning.specs.Grammar.{Term, column, given, Test, comparison, Listed, Dotted, items, Sentence, table, select, pair, insert, update, delete}
-use Rattle.meaning.specs.Limits.{most-items, most-marks, most-comparisons, most-depth, table_named, list_columns, list_givens, bare_term, where_of, columns_named, further_tables, deep, long_name, big_constant, term_givens, term_columns, givens, mark_count, outside32, rows_outside, many_items, many_marks, many_comparisons, past_limit}
+use Rattle.meaning.specs.Limits.{most_items, most_marks, most_comparisons, most_depth, table_named, list_columns, list_givens, bare_term, where_of, columns_named, further_tables, deep, long_name, big_constant, term_givens, term_columns, givens, mark_count, outside32, rows_outside, many_items, many_marks, many_comparisons, past_limit}
 use Rattle.meaning.proofs.Clauses.{comparisons-replaced, depth-replaced}
 use Rattle.meaning.proofs.Postfix.{nodes-count}
 use Rattle.meaning.proofs.Dotted.{bare-givens, bare-columns}
@@ -85,7 +85,7 @@ two-terms b (given v) (given w) = simp sorted
 
 -- a condition under d more parentheses and NOTs, by its depth and its operands
 abbrev many_or_past : (b : Bool) → ℕ → List (Comparison (Operand b)) → Bool
-many_or_past b n cs = ltb most-depth n || terms_past b (sides cs)
+many_or_past b n cs = ltb most_depth n || terms_past b (sides cs)
 
 joins : (q : Bool) (d a b : ℕ) (cs ds : List (Comparison (Operand q))) → (many_or_past q (d + a) cs || many_or_past q (d + b) ds) ≡ many_or_past q (d + max a b) (cs ++ ds)
 joins q d a b cs ds = simp (more-than-max, sides-append, terms-append, sorted)
@@ -102,7 +102,7 @@ condition-past b d (both t u) = rw (condition-past b d t, condition-past b d u) 
 condition-past b d (single t) = condition-past b d t
 condition-past b d (either t u) = rw (condition-past b d t, condition-past b d u) (joins b d (depth t) (depth u) (comparisons t) (comparisons u))
 
-where-past : (b : Bool) (w : Where (Operand b)) → where_past b w ≡ (ltb most-depth (depth_in w) || terms_past b (operands_in w))
+where-past : (b : Bool) (w : Where (Operand b)) → where_past b w ≡ (ltb most_depth (depth_in w) || terms_past b (operands_in w))
 where-past b always = refl
 where-past b (under t) = condition-past b 0 t ∙ rw (zero-add (depth t))
 
@@ -149,7 +149,7 @@ own_past (insert t vs) = plain_past (insert t vs)
 own_past (update t ss w) = plain_past (update t ss w)
 own_past (delete t w) = plain_past (delete t w)
 
-many-items : (x : Sentence) → many_items x ≡ ltb most-items (list_length x)
+many-items : (x : Sentence) → many_items x ≡ ltb most_items (list_length x)
 many-items (table t cs ring z) = or-false _
 many-items (select cs t w) = or-false _
 many-items (pair cs t u w) = simp (length-map, or-false)
@@ -169,10 +169,10 @@ module _ (items marks compared deep first second tables columns further tested a
 
 -- too many of something
 abbrev too_many : Sentence → Bool
-too_many x = ltb most-items (list_length x) || (ltb most-marks (mark_count (givens x)) || ltb most-comparisons ((length (nodes_in (where_of x)) + 1) / 2))
+too_many x = ltb most_items (list_length x) || (ltb most_marks (mark_count (givens x)) || ltb most_comparisons ((length (nodes_in (where_of x)) + 1) / 2))
 
-compared_is : (x : Sentence) → many_comparisons x ≡ ltb most-comparisons ((length (nodes_in (where_of x)) + 1) / 2)
-compared_is x = ap (ltb most-comparisons) (sym (nodes-compared (where_of x)))
+compared_is : (x : Sentence) → many_comparisons x ≡ ltb most_comparisons ((length (nodes_in (where_of x)) + 1) / 2)
+compared_is x = ap (ltb most_comparisons) (sym (nodes-compared (where_of x)))
 
 -- with one table
 past-plain : (x : Sentence) → further_tables x ≡ [] → past_limit x ≡ (plain_past x || too_many x)
@@ -184,7 +184,7 @@ past-plain x e =
     ∙ ap (λ b. is_long_name (table_named x) || b) (any_append is_long_name (list_columns x) (term_columns (operands_in w))) in
     let big : big_constant x ≡ (any outside32 (list_givens x) || any outside32 (term_givens (operands_in w))) = any_append outside32 (list_givens x) (term_givens (operands_in w)) in
     (λ i. many-items x i || (rows_outside x || (many_marks x || (compared_is x i || (deep x || (long i || big i))))))
-    ∙ in_order (ltb most-items (list_length x)) (rows_outside x) (many_marks x) (ltb most-comparisons ((length (nodes_in w) + 1) / 2)) (deep x) (is_long_name (table_named x))
+    ∙ in_order (ltb most_items (list_length x)) (rows_outside x) (many_marks x) (ltb most_comparisons ((length (nodes_in w) + 1) / 2)) (deep x) (is_long_name (table_named x))
     (any is_long_name (list_columns x)) (any outside32 (list_givens x)) (any is_long_name (term_columns (operands_in w))) (any outside32 (term_givens (operands_in w)))
     ∙ ap (λ b. (is_long_name (table_named x) || (list_past (list_columns x) (list_givens x) || (rows_outside x || b))) || too_many x) (sym (where-past false w))
 
@@ -213,25 +213,25 @@ module _ (cs : Listed Dotted) (t u : Name) (v : Optional (Test Dotted)) where
 
   own_is : own_past x
       ≡ (is_long_name t || (is_long_name u || (((any is_long_name (tables (items cs)) || any is_long_name (columns (items cs))) || false)
-      || (ltb most-depth (depth_in w) || ((any is_long_name (tables (term_columns (operands_in w))) || any is_long_name (columns (term_columns (operands_in w)))) || any outside32 (term_givens (operands_in w)))))))
+      || (ltb most_depth (depth_in w) || ((any is_long_name (tables (term_columns (operands_in w))) || any is_long_name (columns (term_columns (operands_in w)))) || any outside32 (term_givens (operands_in w)))))))
   own_is =
       ap₂ (λ a b. is_long_name t || (is_long_name u || ((a || false) || b))) (long-parts (items cs))
-      (where-past true w ∙ ap (λ b. ltb most-depth (depth_in w) || (b || any outside32 (term_givens (operands_in w)))) (long-columns (term_columns (operands_in w))))
+      (where-past true w ∙ ap (λ b. ltb most_depth (depth_in w) || (b || any outside32 (term_givens (operands_in w)))) (long-columns (term_columns (operands_in w))))
 
   past-pair : past_limit x ≡ (own_past x || too_many x)
   unfolding past_limit
   past-pair =
-      let deep_is : deep x ≡ ltb most-depth (depth_in w) = ap (ltb most-depth) (depth-where bare_term w) in
+      let deep_is : deep x ≡ ltb most_depth (depth_in w) = ap (ltb most_depth) (depth-where bare_term w) in
       let big : big_constant x ≡ any outside32 (term_givens (operands_in w)) = ap (any outside32) (bare-givens w) in
       (λ i. many-items x i || (many_marks x || (compared_is x i || (deep_is i || (all-long i || big i)))))
-      ∙ in-order-pair (ltb most-items (list_length x)) (many_marks x) (ltb most-comparisons ((length (nodes_in (where_of x)) + 1) / 2)) (ltb most-depth (depth_in w)) (is_long_name t) (is_long_name u)
+      ∙ in-order-pair (ltb most_items (list_length x)) (many_marks x) (ltb most_comparisons ((length (nodes_in (where_of x)) + 1) / 2)) (ltb most_depth (depth_in w)) (is_long_name t) (is_long_name u)
       (any is_long_name (tables (items cs))) (any is_long_name (columns (items cs))) (any is_long_name (tables (term_columns (operands_in w)))) (any is_long_name (columns (term_columns (operands_in w))))
       (any outside32 (term_givens (operands_in w)))
       ∙ ap (λ b. b || too_many x) (sym own_is)
 
 -- past a limit by itself, or too many of something
 pub past-limit : (x : Sentence)
-    → past_limit x ≡ (own_past x || (ltb most-items (list_length x) || (ltb most-marks (mark_count (givens x)) || ltb most-comparisons ((length (nodes_in (where_of x)) + 1) / 2))))
+    → past_limit x ≡ (own_past x || (ltb most_items (list_length x) || (ltb most_marks (mark_count (givens x)) || ltb most_comparisons ((length (nodes_in (where_of x)) + 1) / 2))))
 past-limit (table t cs ring z) = past-plain (table t cs ring z) refl
 past-limit (select cs t w) = past-plain (select cs t w) refl
 past-limit (pair cs t u w) = past-pair cs t u w

@@ -13,7 +13,7 @@ use Rattle.lists.proofs.Bools.{clash}
 use Rattle.meaning.specs.Operator.{Operator}
 use Rattle.meaning.specs.Tokens.{Name, operator, comma, tokens}
 use Rattle.meaning.specs.Grammar.{Given, Dotted, Listed, last, next, items, Reader, ◌>>=◌, done, passing, expect, a_name, a_dotted, a_given, a_list}
-use Rattle.meaning.specs.Limits.{most-items, outside32, mark_count}
+use Rattle.meaning.specs.Limits.{most_items, outside32, mark_count}
 use Rattle.meaning.proofs.Readers.{begins, passing-stops, passing-yes}
 use Rattle.statement.specs.declared.conditions.Cursor.{Cursor}
 use Rattle.statement.specs.declared.sentences.Placed.{Placed}
@@ -44,7 +44,7 @@ module _ {A : Type 0} (f : ℕ → ℕ → A) (a b : ℕ) where
   noted-two (suc n) (x ∷ y ∷ xs) h = ap (λ r. f x y ∷ r) (noted-two n xs (omega arith))
 
   -- an item noted behind n others
-  pub noted-item : (n : ℕ) (xs ys : List ℕ) → n < most-items → PutsItem xs n a b ys → items_on f (n + 1) ys ≡ items_on f n xs ++ (f a b ∷ [])
+  pub noted-item : (n : ℕ) (xs ys : List ℕ) → n < most_items → PutsItem xs n a b ys → items_on f (n + 1) ys ≡ items_on f n xs ++ (f a b ∷ [])
   noted-item n xs ys h p =
       let l = p.size in
       ap (items_on f (n + 1)) (p.noted h)
@@ -65,7 +65,7 @@ module _ (k : Kind) (s xs : List ℕ) (c : Cursor) (l a b : ℕ) (ys : List ℕ)
   holds-one x h q =
       record {
         counts = h;
-        listed-are = e;
+        listed_are = e;
         noted = λ i.
             ap (λ n. items_on (item_on k s) n ys) e
             ∙ noted-item (item_on k s) a b l xs ys (omega arith) p
@@ -162,14 +162,14 @@ module _ (k : Kind) (s xs : List ℕ) (c : Cursor) (l : ℕ) (ys : List ℕ) (on
   holds_more : one.c.at < at → (x : Content k) (us : List (Content k)) → Holds k s xs c l ys one (x ∷ []) → Holds k s ys (moved_to at one.c) one.listed zs r us
       → Holds k s xs c l zs r (x ∷ us)
   holds_more h x us p q =
-      let e = p.listed-are in
-      let f = q.listed-are in
-      let comma : Counts one.c (moved_to at one.c) false 0 = record { dotted = refl; moved = h; over = sym (or-false one.c.over); marks-are = sym (add-zero one.c.marks); nodes-are = refl } in
+      let e = p.listed_are in
+      let f = q.listed_are in
+      let comma : Counts one.c (moved_to at one.c) false 0 = record { dotted = refl; moved = h; over = sym (or-false one.c.over); marks_are = sym (add-zero one.c.marks); nodes_are = refl } in
       record {
         counts =
             recount c r.c _ _ _ _ (ap (λ b. b || list_past (columns_in k us) (values_in k us)) (or-false (list_past (columns_in k (x ∷ [])) (values_in k (x ∷ [])))) ∙ past_more k x us) (omega (arith, marks-more k x us))
             (counts-then c (moved_to at one.c) r.c _ _ _ _ (counts-then c one.c (moved_to at one.c) _ _ _ _ p.counts comma) q.counts);
-        listed-are = omega arith;
+        listed_are = omega arith;
         noted = λ m.
             q.noted m ∙ ap (λ ns. ns ++ us) (p.noted (omega arith)) ∙ append_assoc (items_on (item_on k s) l xs) (x ∷ []) us;
       }
@@ -225,7 +225,7 @@ module _ (k : Kind) (s xs : List ℕ) (c : Cursor) (l : ℕ) (ys : List ℕ) (on
       let f = found s (item_reader k) _ c one.c g e in
       let st = f.2.stands in
       let m = f.3.counts.moved in
-      let q = f.3.listed-are in
+      let q = f.3.listed_are in
       let i = w.few (was-ok s (item_reader k) _ c one.c g e) in
       let on = p.on in
       let h = p.within in

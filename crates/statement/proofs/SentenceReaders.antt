@@ -72,13 +72,13 @@ module _ {A B : Type 0} (s : List ℕ) (k : A → Reader B) (P : A → Type 0) (
 -- a cursor that is moved on inside the text still stands
 pub stands-moved : (s : List ℕ) (c : Cursor) (next : ℕ) → Stands s c → c.at ≤ next → next ≤ length s → Stands s (moved_to next c)
 stands-moved s c next h l i =
-    let a = h.few-nodes in
-    let b = h.few-marks in
-    record { short = h.short; inside = i; few-nodes = omega arith; few-marks = omega arith }
+    let a = h.few_nodes in
+    let b = h.few_marks in
+    record { short = h.short; inside = i; few_nodes = omega arith; few_marks = omega arith }
 
 -- the same count, said otherwise
 pub recount : (c r : Cursor) (p q : Bool) (a b : ℕ) → p ≡ q → a ≡ b → Counts c r p a → Counts c r q b
-recount c r p q a b e f h = record { dotted = h.dotted; moved = h.moved; over = h.over ∙ ap (λ z. c.over || z) e; marks-are = h.marks-are ∙ ap (λ n. c.marks + n) f; nodes-are = h.nodes-are }
+recount c r p q a b e f h = record { dotted = h.dotted; moved = h.moved; over = h.over ∙ ap (λ z. c.over || z) e; marks_are = h.marks_are ∙ ap (λ n. c.marks + n) f; nodes_are = h.nodes_are }
 
 module _ (c m r : Cursor) where
   -- one after the other
@@ -86,14 +86,14 @@ module _ (c m r : Cursor) where
   counts-then p q a b h k =
       let i = h.moved in
       let j = k.moved in
-      let x = h.marks-are in
-      let y = k.marks-are in
+      let x = h.marks_are in
+      let y = k.marks_are in
       record {
         dotted = k.dotted ∙ h.dotted;
         moved = omega arith;
         over = k.over ∙ ap (λ z. z || q) h.over ∙ regroup c.over;
-        marks-are = omega arith;
-        nodes-are = k.nodes-are ∙ h.nodes-are;
+        marks_are = omega arith;
+        nodes_are = k.nodes_are ∙ h.nodes_are;
       }
     where
       regroup : (z : Bool) → ((z || p) || q) ≡ (z || (p || q))

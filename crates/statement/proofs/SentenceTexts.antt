@@ -30,7 +30,7 @@ starts-here s next h l =
     record {
       ok = refl;
       dotted = refl;
-      stands = record { short = h; inside = l; few-nodes = omega arith; few-marks = omega arith };
+      stands = record { short = h; inside = l; few_nodes = omega arith; few_marks = omega arith };
       over = refl;
       nodes = refl;
       marks = refl;

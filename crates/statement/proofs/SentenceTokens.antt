@@ -27,7 +27,7 @@ use Rattle.statement.specs.declared.sentences.Sized.{Sized}
 use Rattle.statement.specs.Places.{token_on, given_on}
 use Rattle.statement.specs.Reading.{Stands, token_past, past, marks_at, moved_to}
 use Rattle.statement.specs.Sentences.{Ready, Before, Counts, Expects, ExpectsToken, is_long_name, Names, Gives, Sizes, is_size, is_between, outside_rows, is_rows_past, CountsRows}
-use Rattle.statement.proofs.Steps.{Look, ended, seen, look, stands-there, name-length, Goes, goes, stops}
+use Rattle.statement.proofs.Steps.{Look, ended, seen, look, stands-there, name_length, Goes, goes, stops}
 use Rattle.statement.proofs.SentenceReaders.{failed-before, finds-none, finds, ready-after, stands-moved}
 
 -- ---- what the token u says that was read at a place
@@ -89,17 +89,17 @@ between k low high h l = rw (le-leb low k h) (le-leb k high l)
 between_is : (k low high : ℕ) → is_between k low high ≡ true → (low ≤ k) × (k ≤ high)
 between_is k low high h = (leb-true low k (and_left (leb low k) (leb k high) h), leb-true k high (and_right (leb low k) (leb k high) h))
 
-no-constant : (t : T.Token) → is_between (kind_of t) 3 4 ≡ false → constant_of t ≡ none
-no-constant (keyword k) h = refl
-no-constant (name n) h = refl
-no-constant (T.constant z) h = clash (between (kind_of (T.constant z)) 3 4 (constant-kind z).0 (constant-kind z).1) h
-no-constant (operator o) h = refl
-no-constant T.mark h = refl
-no-constant comma h = refl
-no-constant lparen h = refl
-no-constant rparen h = refl
-no-constant dot h = refl
-no-constant other h = refl
+no_constant : (t : T.Token) → is_between (kind_of t) 3 4 ≡ false → constant_of t ≡ none
+no_constant (keyword k) h = refl
+no_constant (name n) h = refl
+no_constant (T.constant z) h = clash (between (kind_of (T.constant z)) 3 4 (constant-kind z).0 (constant-kind z).1) h
+no_constant (operator o) h = refl
+no_constant T.mark h = refl
+no_constant comma h = refl
+no_constant lparen h = refl
+no_constant rparen h = refl
+no_constant dot h = refl
+no_constant other h = refl
 
 is-constant : (t : T.Token) → 3 ≤ kind_of t → kind_of t ≤ 4 → (z : ℤ) × (t ≡ T.constant z)
 is-constant (keyword k) h l = absurd (omega arith)
@@ -181,8 +181,8 @@ is-given rparen h l = absurd (omega arith)
 is-given dot h l = absurd (omega arith)
 is-given other h l = absurd (omega arith)
 
-pub few-marks : (k : ℕ) → marks_at k ≤ 1
-few-marks k = by (eqb k 5)
+pub few_marks : (k : ℕ) → marks_at k ≤ 1
+few_marks k = by (eqb k 5)
   where
     by : (t : Bool) → cond t 1 0 ≤ 1
     by true = omega arith
@@ -225,7 +225,7 @@ module _ (s : List ℕ) (k : ℕ) (c : Cursor) where
         finds s (expect t) (λ v. Counts c (moved_to u.next c) false 0) c (moved_to u.next c) tt (tokens (drop u.next s)) i
         (ap (expect t) g.after ∙ expect-here t (tokens (drop u.next s)))
         (record { ok = i; stands = stands-moved s c u.next st (omega (arith, g.on)) g.within; left = refl })
-        (record { dotted = refl; moved = g.on; over = sym (or-false c.over); marks-are = sym (add-zero c.marks); nodes-are = refl })
+        (record { dotted = refl; moved = g.on; over = sym (or-false c.over); marks_are = sym (add-zero c.marks); nodes_are = refl })
 
 -- ---- ROWS or RING
 
@@ -258,7 +258,7 @@ module _ (s : List ℕ) (c : Cursor) where
       sized w b ring p g q =
           finds s a_size_word _ c (moved_to u.next c) b (tokens (drop u.next s)) k q
           (record { ok = k; stands = stands-moved s c u.next st (omega (arith, g.on)) g.within; left = refl })
-          (record { dotted = refl; moved = g.on; over = sym (or-false c.over); marks-are = sym (add-zero c.marks); nodes-are = refl }, p)
+          (record { dotted = refl; moved = g.on; over = sym (or-false c.over); marks_are = sym (add-zero c.marks); nodes_are = refl }, p)
 
       pub size-found : is_size u.kind ≡ true → Sizes s c (record { c = moved_to u.next c; ring = eqb u.kind 30 })
       unfolding ring_word
@@ -289,9 +289,9 @@ module _ (s : List ℕ) (c : Cursor) (u : Token) (k : c.ok ≡ true) (st : Stand
 
   stepped-before : (b : Bool) (m : ℕ) → m ≤ u.next → Before s (stepped c u b m) (tokens (drop u.next s))
   stepped-before b m l =
-      let a = st.few-nodes in
+      let a = st.few_nodes in
       let d = on in
-      record { ok = k; stands = record { short = st.short; inside = v.inside; few-nodes = omega arith; few-marks = l }; left = refl }
+      record { ok = k; stands = record { short = st.short; inside = v.inside; few_nodes = omega arith; few_marks = l }; left = refl }
 
 module _ (s : List ℕ) (c : Cursor) where
   pub name-failed : (r : Placed) → c.ok ≡ false → r.c.ok ≡ false → Names s c r
@@ -315,7 +315,7 @@ module _ (s : List ℕ) (c : Cursor) where
     pub rows_none : (r : Placed) → is_between u.kind 3 4 ≡ false → r.c.ok ≡ false → CountsRows s c r
     rows_none r h f =
         finds-none s (a_token constant_of) _ c r.c
-        (token-none constant_of s c.at u (look s c.at u e) (λ t q. no-constant t (ap (λ n. is_between n 3 4) q ∙ h))) f
+        (token-none constant_of s c.at u (look s c.at u e) (λ t q. no_constant t (ap (λ n. is_between n 3 4) q ∙ h))) f
 
     module _ (k : c.ok ≡ true) (st : Stands s c) where
       long : (n : Name) → u.kind ≡ 2 → u.next - u.start ≡ length n → past u ≡ is_long_name n
@@ -331,13 +331,13 @@ module _ (s : List ℕ) (c : Cursor) where
               let i = is_name v.token (v.kind ∙ h) in
               let n = i.0 in
               finds s a_name _ c (stepped c u (past u) c.marks) n (tokens (drop u.next s)) k (token-found name_of s c.at u v n (ap name_of i.1))
-              (stepped-before s c u k st v (past u) c.marks (omega (arith, st.few-marks, on s c u k st v))) (
+              (stepped-before s c u k st v (past u) c.marks (omega (arith, st.few_marks, on s c u k st v))) (
                 record {
                   dotted = refl;
                   moved = on s c u k st v;
-                  over = ap (λ b. c.over || b) (long n h (name-length v n i.1));
-                  marks-are = sym (add-zero c.marks);
-                  nodes-are = refl;
+                  over = ap (λ b. c.over || b) (long n h (name_length v n i.1));
+                  marks_are = sym (add-zero c.marks);
+                  nodes_are = refl;
                 },
                 rw (stands-there v ∙ i.1),
               )
@@ -356,13 +356,13 @@ module _ (s : List ℕ) (c : Cursor) where
               let w = i.1 in
               finds s a_given _ c (stepped c u (past u) (c.marks + marks_at u.kind)) g (tokens (drop u.next s)) k
               (given-reader (tokens (drop c.at s)) ∙ token-found given_of s c.at u v g w.is)
-              (stepped-before s c u k st v (past u) (c.marks + marks_at u.kind) (omega (arith, st.few-marks, on s c u k st v, few-marks u.kind))) (
+              (stepped-before s c u k st v (past u) (c.marks + marks_at u.kind) (omega (arith, st.few_marks, on s c u k st v, few_marks u.kind))) (
                 record {
                   dotted = refl;
                   moved = on s c u k st v;
                   over = ap (λ b. c.over || b) (ap (λ n. token_past n u.start u.next) (sym v.kind) ∙ w.over u.start u.next);
-                  marks-are = ap (λ m. c.marks + m) (ap marks_at (sym v.kind) ∙ w.marks);
-                  nodes-are = refl;
+                  marks_are = ap (λ m. c.marks + m) (ap marks_at (sym v.kind) ∙ w.marks);
+                  nodes_are = refl;
                 },
                 w.here s u.start (stands-there v),
               )
@@ -380,15 +380,15 @@ module _ (s : List ℕ) (c : Cursor) where
               let z = i.0 in
               finds s (a_token constant_of) _ c (stepped c u (is_rows_past u.kind u.value) c.marks) z (tokens (drop u.next s)) k
               (token-found constant_of s c.at u v z (ap constant_of i.1))
-              (stepped-before s c u k st v (is_rows_past u.kind u.value) c.marks (omega (arith, st.few-marks, on s c u k st v))) (
+              (stepped-before s c u k st v (is_rows_past u.kind u.value) c.marks (omega (arith, st.few_marks, on s c u k st v))) (
                 record {
                   dotted = refl;
                   moved = on s c u k st v;
                   over =
                       ap (λ b. c.over || b)
                       (ap₂ is_rows_past (sym v.kind ∙ ap kind_of i.1) (sym v.value ∙ ap value_of i.1) ∙ rows-past z);
-                  marks-are = sym (add-zero c.marks);
-                  nodes-are = refl;
+                  marks_are = sym (add-zero c.marks);
+                  nodes_are = refl;
                 },
                 stands-there v ∙ i.1,
               )

@@ -23,7 +23,7 @@ use Rattle.meaning.specs.Names.{Schema, position, columns_of, pair_place}
 use Rattle.meaning.specs.Statement as M
 use Rattle.meaning.specs.Statement.{column, value, constant, parameter, creates, asks, changes, numbered, numbered_all, settings, setting_marks, resolved_where, statement_of}
 use Rattle.meaning.specs.Plain.{Plain, schemas, add_conditions, lowest_of}
-use Rattle.meaning.proofs.Accepted.{clear, reads-exactly}
+use Rattle.meaning.proofs.Accepted.{clear, reads_exactly}
 use Rattle.meaning.proofs.Postfix.{leaves_in}
 use Rattle.meaning.proofs.Outer.{marks-length}
 use Rattle.meaning.proofs.Resolve.{resolve-where, resolve-numbered}
@@ -94,10 +94,10 @@ module _ (w : Where M.Operand) where
   pub condition-agrees : (m : ℕ) → numbered_from m (nodes_in w) ≡ true → AgreesCondition (condition_struct (nodes_in w)) w
   unfolding condition_nodes
   condition-agrees m h = record {
-    count-is = leaves_in w;
-    steps-are = steps_back;
-    operators-are = ap (map (λ (k : Comparison). k.op)) comparisons-back ∙ map-twice comparison_struct (λ (k : Comparison). k.op) (leaves kept);
-    nodes-are = ap₂ nodes_read steps_back comparisons-back ∙ nodes-back m kept h;
+    count_is = leaves_in w;
+    steps_are = steps_back;
+    operators_are = ap (map (λ (k : Comparison). k.op)) comparisons-back ∙ map-twice comparison_struct (λ (k : Comparison). k.op) (leaves kept);
+    nodes_are = ap₂ nodes_read steps_back comparisons-back ∙ nodes-back m kept h;
   }
 
 -- a resolved WHERE is numbered
@@ -141,13 +141,13 @@ table-agrees t =
     let e : used_columns (table_struct t) ≡ map name_struct t.columns =
     take-padded 8 no_name (map name_struct t.columns) (length t.columns) (length-map t.columns name_struct) in
     record {
-      name-length = refl;
-      name-is = name_back t.name;
-      count-is = refl;
-      column-lengths = ap (map (λ (n : Name). n.len)) e ∙ map-twice name_struct (λ (n : Name). n.len) t.columns;
-      columns-are = ap (map name_of_struct) e ∙ map-twice name_struct name_of_struct t.columns ∙ names t.columns;
-      capacity-is = refl;
-      ring-is = refl;
+      name_length = refl;
+      name_is = name_back t.name;
+      count_is = refl;
+      column_lengths = ap (map (λ (n : Name). n.len)) e ∙ map-twice name_struct (λ (n : Name). n.len) t.columns;
+      columns_are = ap (map name_of_struct) e ∙ map-twice name_struct name_of_struct t.columns ∙ names t.columns;
+      capacity_is = refl;
+      ring_is = refl;
     }
   where
     names : (ns : List T.Name) → map (λ (n : T.Name). name_of_struct (name_struct n)) ns ≡ ns
@@ -160,44 +160,44 @@ statement-agrees ts (G.table t cs ring z) = table-agrees _
 statement-agrees ts (G.select cs t w) = record {
   table_is = refl;
   second_is = refl;
-  count-is = refl;
-  selected-are = take-padded 8 0 _ _ refl;
-  parameters-are = refl;
-  condition-is = resolved-agrees (position (columns_of ts t)) 0 (mapped_in comparison w);
-  outer-are = tt;
+  count_is = refl;
+  selected_are = take-padded 8 0 _ _ refl;
+  parameters_are = refl;
+  condition_is = resolved-agrees (position (columns_of ts t)) 0 (mapped_in comparison w);
+  outer_are = tt;
 }
 statement-agrees ts (G.pair cs t u w) = record {
   table_is = refl;
   second_is = refl;
-  count-is = refl;
-  selected-are = take-padded 8 0 _ _ refl;
-  parameters-are = refl;
-  condition-is = resolved-agrees (pair_place t (columns_of ts t) u (columns_of ts u)) 0 (mapped_in comparison w);
-  outer-are = outer-back (resolved_where (pair_place t (columns_of ts t) u (columns_of ts u)) 0 (mapped_in comparison w));
+  count_is = refl;
+  selected_are = take-padded 8 0 _ _ refl;
+  parameters_are = refl;
+  condition_is = resolved-agrees (pair_place t (columns_of ts t) u (columns_of ts u)) 0 (mapped_in comparison w);
+  outer_are = outer-back (resolved_where (pair_place t (columns_of ts t) u (columns_of ts u)) 0 (mapped_in comparison w));
 }
 statement-agrees ts (G.insert t vs) = record {
-  form-is = refl;
+  form_is = refl;
   table_is = refl;
-  count-is = refl;
-  settings-are = settings-back (placed_from 0 (numbered_all 0 (items vs))) (inserted-back 0 0 (items vs));
-  parameters-are = refl;
-  condition-is = condition-agrees always 0 refl;
+  count_is = refl;
+  settings_are = settings-back (placed_from 0 (numbered_all 0 (items vs))) (inserted-back 0 0 (items vs));
+  parameters_are = refl;
+  condition_is = condition-agrees always 0 refl;
 }
 statement-agrees ts (G.update t ss w) = record {
-  form-is = refl;
+  form_is = refl;
   table_is = refl;
-  count-is = refl;
-  settings-are = settings-back (settings (columns_of ts t) 0 (items ss)) (set_back (columns_of ts t) 0 (items ss));
-  parameters-are = refl;
-  condition-is = resolved-agrees (position (columns_of ts t)) (setting_marks (items ss)) (mapped_in comparison w);
+  count_is = refl;
+  settings_are = settings-back (settings (columns_of ts t) 0 (items ss)) (set_back (columns_of ts t) 0 (items ss));
+  parameters_are = refl;
+  condition_is = resolved-agrees (position (columns_of ts t)) (setting_marks (items ss)) (mapped_in comparison w);
 }
 statement-agrees ts (G.delete t w) = record {
-  form-is = refl;
+  form_is = refl;
   table_is = refl;
-  count-is = refl;
-  settings-are = refl;
-  parameters-are = refl;
-  condition-is = resolved-agrees (position (columns_of ts t)) 0 (mapped_in comparison w);
+  count_is = refl;
+  settings_are = refl;
+  parameters_are = refl;
+  condition_is = resolved-agrees (position (columns_of ts t)) 0 (mapped_in comparison w);
 }
 
 module _ (ts : List Schema) (s : Sentence) where
@@ -213,10 +213,10 @@ module _ (ts : List Schema) (s : Sentence) where
 
 -- a statement passes the test of its kind beside the tables: 1 a table, 2 a question, 3 an update
 pub record SoundStatement (ts : List Schema) (r : Statement) : Type 0 where
-  pub kind-is : (r.kind ≡ 1) ⊎ ((r.kind ≡ 2) ⊎ (r.kind ≡ 3))
-  pub table-sound : r.kind ≡ 1 → sound_table ts r.table ≡ true
-  pub query-sound : r.kind ≡ 2 → sound_query ts r.query ≡ true
-  pub update-sound : r.kind ≡ 3 → sound_update ts r.update ≡ true
+  pub kind_is : (r.kind ≡ 1) ⊎ ((r.kind ≡ 2) ⊎ (r.kind ≡ 3))
+  pub table_sound : r.kind ≡ 1 → sound_table ts r.table ≡ true
+  pub query_sound : r.kind ≡ 2 → sound_query ts r.query ≡ true
+  pub update_sound : r.kind ≡ 3 → sound_update ts r.update ≡ true
 
 -- the struct of a sentence that refusals 4 to 8 let pass
 pub struct-sound : (ts : List Schema) (s : Sentence) → Passes ts s → SoundStatement ts (struct_of (statement_of ts s))
@@ -225,22 +225,22 @@ struct-sound ts s P = go (statement_of ts s) refl
   where
     go : (r : M.Statement) → statement_of ts s ≡ r → SoundStatement ts (struct_of r)
     go (creates t) e = record {
-      kind-is = inl refl;
-      table-sound = λ k. source-table ts (table_struct t) (record { sentence = s; passes = P; schema = t; says = e; agrees = table-agrees t });
-      query-sound = λ k. absurd (omega arith);
-      update-sound = λ k. absurd (omega arith);
+      kind_is = inl refl;
+      table_sound = λ k. source-table ts (table_struct t) (record { sentence = s; passes = P; schema = t; says = e; agrees = table-agrees t });
+      query_sound = λ k. absurd (omega arith);
+      update_sound = λ k. absurd (omega arith);
     }
     go (asks q) e = record {
-      kind-is = inr (inl refl);
-      table-sound = λ k. absurd (omega arith);
-      query-sound = λ k. source-query ts (query_struct q) (record { sentence = s; passes = P; statement = q; says = e; agrees = query-agrees ts s q e });
-      update-sound = λ k. absurd (omega arith);
+      kind_is = inr (inl refl);
+      table_sound = λ k. absurd (omega arith);
+      query_sound = λ k. source-query ts (query_struct q) (record { sentence = s; passes = P; statement = q; says = e; agrees = query-agrees ts s q e });
+      update_sound = λ k. absurd (omega arith);
     }
     go (changes u) e = record {
-      kind-is = inr (inr refl);
-      table-sound = λ k. absurd (omega arith);
-      query-sound = λ k. absurd (omega arith);
-      update-sound = λ k. source-update ts (update_struct u) (record { sentence = s; passes = P; statement = u; says = e; agrees = update_agrees ts s u e });
+      kind_is = inr (inr refl);
+      table_sound = λ k. absurd (omega arith);
+      query_sound = λ k. absurd (omega arith);
+      update_sound = λ k. source-update ts (update_struct u) (record { sentence = s; passes = P; statement = u; says = e; agrees = update_agrees ts s u e });
     }
 
 -- a text is not refused only where no condition holds
@@ -261,7 +261,7 @@ module _ (text : List ℕ) (tables : List Table) (used queries updates cells : �
       let a₇ = All-tail a₆ in
       let a₈ = All-tail a₇ in
       struct-sound (schemas store) s (record {
-        spelled = (text, (reads-exactly text s).0 e);
+        spelled = (text, (reads_exactly text s).0 e);
         within = All-head a₅;
         known = All-head a₆;
         fresh = All-head a₇;

@@ -13,7 +13,7 @@ use Rattle.lists.proofs.Lists.{All-head, All-tail, All-map, any_false, any_none,
 use Rattle.lists.proofs.Places.{All-at}
 use Rattle.meaning.specs.Tokens.{Name, is_name}
 use Rattle.meaning.specs.Grammar.{Listed, last, next, items, Sentence}
-use Rattle.meaning.specs.Limits.{most-name, many_items, rows_outside, many_marks, many_comparisons, deep, long_name, big_constant, past_limit}
+use Rattle.meaning.specs.Limits.{most_name, many_items, rows_outside, many_marks, many_comparisons, deep, long_name, big_constant, past_limit}
 use Rattle.meaning.specs.Names.{Schema, no_schema, same_name, has, position, table_names, columns_of, missing}
 use Rattle.meaning.proofs.Names.{has-position, position-is}
 use Rattle.meaning.proofs.Resolve.{Columns, has-at, position_at, one_table, name-inside}
@@ -36,22 +36,22 @@ listed (x ∷ y ∷ l) h =
 -- ---- the limits
 
 pub record Limits (s : Sentence) : Type 0 where
-  pub items-few : many_items s ≡ false
+  pub items_few : many_items s ≡ false
   pub rows_inside : rows_outside s ≡ false
-  pub marks-few : many_marks s ≡ false
-  pub comparisons-few : many_comparisons s ≡ false
+  pub marks_few : many_marks s ≡ false
+  pub comparisons_few : many_comparisons s ≡ false
   pub shallow : deep s ≡ false
-  pub names-short : long_name s ≡ false
-  pub constants-small : big_constant s ≡ false
+  pub names_short : long_name s ≡ false
+  pub constants_small : big_constant s ≡ false
 
 pub limits-kept : (s : Sentence) → Limits s → past_limit s ≡ false
 unfolding past_limit
 limits-kept s L =
-    or-none (many_items s) _ L.items-few
+    or-none (many_items s) _ L.items_few
     (or-none (rows_outside s) _ L.rows_inside
-    (or-none (many_marks s) _ L.marks-few
-    (or-none (many_comparisons s) _ L.comparisons-few
-    (or-none (deep s) _ L.shallow (or-none (long_name s) _ L.names-short L.constants-small)))))
+    (or-none (many_marks s) _ L.marks_few
+    (or-none (many_comparisons s) _ L.comparisons_few
+    (or-none (deep s) _ L.shallow (or-none (long_name s) _ L.names_short L.constants_small)))))
 
 pub limits_of : (s : Sentence) → past_limit s ≡ false → Limits s
 unfolding past_limit
@@ -62,13 +62,13 @@ limits_of s h₀ =
     let h₄ = or_right (many_comparisons s) _ h₃ in
     let h₅ = or_right (deep s) _ h₄ in
     record {
-      items-few = or_left (many_items s) _ h₀;
+      items_few = or_left (many_items s) _ h₀;
       rows_inside = or_left (rows_outside s) _ h₁;
-      marks-few = or_left (many_marks s) _ h₂;
-      comparisons-few = or_left (many_comparisons s) _ h₃;
+      marks_few = or_left (many_marks s) _ h₂;
+      comparisons_few = or_left (many_comparisons s) _ h₃;
       shallow = or_left (deep s) _ h₄;
-      names-short = or_left (long_name s) _ h₅;
-      constants-small = or_right (long_name s) _ h₅;
+      names_short = or_left (long_name s) _ h₅;
+      constants_small = or_right (long_name s) _ h₅;
     }
 
 -- ---- names by their places
@@ -154,11 +154,11 @@ module _ (ts : List Schema) (T : TablesFit ts) (i : ℕ) (h : i < length ts) whe
 
   -- of few bytes
   pub there-short : (cs : List Name) → any (λ (n : Name). not (has schema_at.columns n)) cs ≡ false
-      → any (λ (n : Name). ltb most-name (length n)) (schema_at.name ∷ cs) ≡ false
+      → any (λ (n : Name). ltb most_name (length n)) (schema_at.name ∷ cs) ≡ false
   there-short cs k =
-      let N : All (λ n. length n ≤ most-name) (schema_at.name ∷ schema_at.columns) = there-fits.short in
-      let A : All (λ n. length n ≤ most-name) (schema_at.name ∷ cs) = cons (All-head N) (known-have (All-tail N) cs k) in
-      any_none (λ (n : Name). ltb most-name (length n)) (All-map (λ n e. le-ltb most-name (length n) e) A)
+      let N : All (λ n. length n ≤ most_name) (schema_at.name ∷ schema_at.columns) = there-fits.short in
+      let A : All (λ n. length n ≤ most_name) (schema_at.name ∷ cs) = cons (All-head N) (known-have (All-tail N) cs k) in
+      any_none (λ (n : Name). ltb most_name (length n)) (All-map (λ n e. le-ltb most_name (length n) e) A)
 
 -- names known one list after another
 pub known-append : (columns cs ds : List Name) → any (λ (n : Name). not (has columns n)) cs ≡ false → any (λ (n : Name). not (has columns n)) ds ≡ false

@@ -35,9 +35,9 @@ module _ (t : Name) (cs : List Name) (u : Name) (ds : List Name) where
         go true f h = of-has t cs a c f
         go false f h = of-has u ds b c h
 
-    pub pair-names : (L : Listed Dotted) (v : Optional (Test Dotted))
+    pub pair_names : (L : Listed Dotted) (v : Optional (Test Dotted))
         → any (λ (c : Dotted). not (is_of t cs c || is_of u ds c)) (items L ++ term_columns (operands_in (mapped_in comparison v))) ≡ false → All P (all_names (G.pair L t u v))
-    pair-names L v h =
+    pair_names L v h =
         let w : Where (Term Dotted) = mapped_in comparison v in
         let xs : List Dotted = items L ++ term_columns (operands_in w) in
         let each : All (λ (c : Dotted). P c.0 × P c.1) xs = All-map both-has (any_false (λ (c : Dotted). not (is_of t cs c || is_of u ds c)) xs h) in

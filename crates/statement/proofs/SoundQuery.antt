@@ -18,7 +18,7 @@ use Rattle.meaning.specs.Postfix.{nodes_in, outer_marks_in, within, chained}
 use Rattle.meaning.specs.Tokens.{Name, is_name}
 use Rattle.meaning.specs.Grammar as G
 use Rattle.meaning.specs.Grammar.{Test, comparison, Listed, Dotted, items, Sentence}
-use Rattle.meaning.specs.Limits.{most-items, most-marks, most-comparisons, most-depth, most-name, term_givens, term_columns, columns_named, dotted_named, all_names, givens, mark_count, outside32}
+use Rattle.meaning.specs.Limits.{most_items, most_marks, most_comparisons, most_depth, most_name, term_givens, term_columns, columns_named, dotted_named, all_names, givens, mark_count, outside32}
 use Rattle.meaning.specs.Names.{Schema, no_schema, same_name, has, position, table_names, columns_of, is_of, pair_place, unknown, taken, miscounted, twice}
 use Rattle.meaning.specs.Statement as M
 use Rattle.meaning.specs.Statement.{Statement, creates, asks, changes, resolved_where, statement_of}
@@ -27,14 +27,14 @@ use Rattle.meaning.proofs.Dotted.{bare-givens}
 use Rattle.meaning.proofs.Outer.{marks-mapped, marks-resolved, outer-chained}
 use Rattle.meaning.proofs.Resolve.{Columns, same-name, one_table, name-inside, two-tables, dotted_at, dotted-inside}
 use Rattle.meaning.proofs.Resolved.{items-some}
-use Rattle.meaning.proofs.Spelling.{has-text}
+use Rattle.meaning.proofs.Spelling.{has_text}
 use Rattle.statement.specs.Sound.{used_comparisons, condition_nodes, outer_back, outer_read, sound_condition, condition_marks, columns_at, columns_with, second_read, sound_second, sound_query_on, sound_outer, sound_query, Passes, AgreesCondition, AgreesQuery, FromQuery, TableFits, TablesFit, QueryFits}
 use Rattle.statement.specs.declared.Query.{Query}
 use Rattle.statement.proofs.Stored.{all-of}
 use Rattle.statement.proofs.Outer.{length_digits}
 use Rattle.statement.proofs.SoundCondition.{on-parts, parts-on, Sourced, condition-source, unmarked, unmarked-source, source-marks, source-condition}
 use Rattle.statement.proofs.SoundNames.{or-none, listed, Limits, limits-kept, limits_of, places-below, at-known, at_back, names_at, names-known, names-back, positions-below, there-fits, there_has, there-place, there-columns, there-known, there-named, there-short, known-append}
-use Rattle.statement.proofs.SoundPairs.{pair-names, bare-count, bare-depth}
+use Rattle.statement.proofs.SoundPairs.{pair_names, bare-count, bare-depth}
 
 -- ---- the test and its parts
 
@@ -44,14 +44,14 @@ columns_for ts q = columns_with ts (columns_at ts q.table) (second_read q)
 
 pub record Parts (ts : List Schema) (q : Query) : Type 0 where
   pub there : q.table < length ts
-  pub second-sound : sound_second ts q.table (columns_at ts q.table) (second_read q) ≡ true
-  pub some-selected : 1 ≤ q.count
-  pub few-selected : q.count ≤ most-items
-  pub selected-below : all (λ (i : ℕ). ltb i (columns_for ts q)) (take q.count q.selected) ≡ true
-  pub condition-sound : sound_condition (columns_for ts q) 0 q.condition ≡ true
-  pub parameters-are : q.parameters ≡ condition_marks q.condition
-  pub few-parameters : q.parameters ≤ most-marks
-  pub outer-sound : sound_outer (second_read q) q ≡ true
+  pub second_sound : sound_second ts q.table (columns_at ts q.table) (second_read q) ≡ true
+  pub some_selected : 1 ≤ q.count
+  pub few_selected : q.count ≤ most_items
+  pub selected_below : all (λ (i : ℕ). ltb i (columns_for ts q)) (take q.count q.selected) ≡ true
+  pub condition_sound : sound_condition (columns_for ts q) 0 q.condition ≡ true
+  pub parameters_are : q.parameters ≡ condition_marks q.condition
+  pub few_parameters : q.parameters ≤ most_marks
+  pub outer_sound : sound_outer (second_read q) q ≡ true
 
 module _ (ts : List Schema) (q : Query) where
   pub query-parts : sound_query ts q ≡ true → Parts ts q
@@ -61,33 +61,33 @@ module _ (ts : List Schema) (q : Query) where
       let h₉ = and_right (sound_second ts q.table (columns_at ts q.table) (second_read q)) _ h₀ in
       let h₁ = and_left (sound_query_on (columns_for ts q) q) _ h₉ in
       let h₂ = and_right (leb 1 q.count) _ h₁ in
-      let h₃ = and_right (leb q.count most-items) _ h₂ in
+      let h₃ = and_right (leb q.count most_items) _ h₂ in
       let h₄ = and_right (all (λ (i : ℕ). ltb i (columns_for ts q)) (take q.count q.selected)) _ h₃ in
       let C = on-parts (columns_for ts q) 0 q.parameters q.condition h₄ in
       record {
         there = ltb-true q.table (length ts) (and_left (ltb q.table (length ts)) _ h);
-        second-sound = and_left (sound_second ts q.table (columns_at ts q.table) (second_read q)) _ h₀;
-        some-selected = leb-true 1 q.count (and_left (leb 1 q.count) _ h₁);
-        few-selected = leb-true q.count most-items (and_left (leb q.count most-items) _ h₂);
-        selected-below = and_left (all (λ (i : ℕ). ltb i (columns_for ts q)) (take q.count q.selected)) _ h₃;
-        condition-sound = C.sound;
-        parameters-are = omega (arith, C.parameters);
-        few-parameters = C.few;
-        outer-sound = and_right (sound_query_on (columns_for ts q) q) _ h₉;
+        second_sound = and_left (sound_second ts q.table (columns_at ts q.table) (second_read q)) _ h₀;
+        some_selected = leb-true 1 q.count (and_left (leb 1 q.count) _ h₁);
+        few_selected = leb-true q.count most_items (and_left (leb q.count most_items) _ h₂);
+        selected_below = and_left (all (λ (i : ℕ). ltb i (columns_for ts q)) (take q.count q.selected)) _ h₃;
+        condition_sound = C.sound;
+        parameters_are = omega (arith, C.parameters);
+        few_parameters = C.few;
+        outer_sound = and_right (sound_query_on (columns_for ts q) q) _ h₉;
       }
 
   pub parts-query : Parts ts q → sound_query ts q ≡ true
   unfolding sound_query
   parts-query P =
       and_both (ltb q.table (length ts)) _ (lt-ltb q.table (length ts) P.there)
-      (and_both _ _ P.second-sound
+      (and_both _ _ P.second_sound
       (and_both (sound_query_on (columns_for ts q) q) _
-      (and_both (leb 1 q.count) _ (le-leb 1 q.count P.some-selected)
-      (and_both (leb q.count most-items) _ (le-leb q.count most-items P.few-selected)
-      (and_both _ _ P.selected-below
+      (and_both (leb 1 q.count) _ (le-leb 1 q.count P.some_selected)
+      (and_both (leb q.count most_items) _ (le-leb q.count most_items P.few_selected)
+      (and_both _ _ P.selected_below
       (parts-on (columns_for ts q) 0 q.parameters q.condition
-      (record { sound = P.condition-sound; parameters = omega (arith, P.parameters-are); few = P.few-parameters })))))
-      P.outer-sound))
+      (record { sound = P.condition_sound; parameters = omega (arith, P.parameters_are); few = P.few_parameters })))))
+      P.outer_sound))
 
 -- A.1: its second table
 pub record SecondParts (ts : List Schema) (table columns : ℕ) (s : M.Second) : Type 0 where
@@ -125,11 +125,11 @@ module _ (ts : List Schema) (T : TablesFit ts) (q : Query) (F : QueryFits q) (P 
   fits : TableFits table
   fits = there-fits ts T q.table P.there
 
-  columns-are : columns ≡ table.columns
-  columns-are = there-columns ts T q.table P.there
+  columns_are : columns ≡ table.columns
+  columns_are = there-columns ts T q.table P.there
 
   chosen-length : length chosen ≡ q.count
-  chosen-length = length-take-le q.count q.selected (omega (arith, F.eight, P.few-selected))
+  chosen-length = length-take-le q.count q.selected (omega (arith, F.eight, P.few_selected))
 
   -- ---- over one table
 
@@ -138,13 +138,13 @@ module _ (ts : List Schema) (T : TablesFit ts) (q : Query) (F : QueryFits q) (P 
     width_is = ap (columns_with ts (columns_at ts q.table)) e
 
     below : all (λ (i : ℕ). ltb i (length table.columns)) chosen ≡ true
-    below = ap (λ (n : ℕ). all (λ (i : ℕ). ltb i n) chosen) (sym width_is) ∙ P.selected-below
+    below = ap (λ (n : ℕ). all (λ (i : ℕ). ltb i n) chosen) (sym width_is) ∙ P.selected_below
 
     source : Sourced (position table.columns) (λ (n : Name). not (has table.columns n)) 0 q.condition (unmarked q.condition)
     source =
         unmarked-source (position table.columns) (length table.columns) (λ (n : Name). not (has table.columns n)) (λ i. get_or table.columns i [])
-        (one_table table.columns fits.different) 0 q.condition F.condition-fits
-        (ap (λ (n : ℕ). sound_condition n 0 q.condition) (sym width_is) ∙ P.condition-sound)
+        (one_table table.columns fits.different) 0 q.condition F.condition_fits
+        (ap (λ (n : ℕ). sound_condition n 0 q.condition) (sym width_is) ∙ P.condition_sound)
 
     -- its comparisons have two sides
     abbrev wanted : Where (G.Term Name)
@@ -154,7 +154,7 @@ module _ (ts : List Schema) (T : TablesFit ts) (q : Query) (F : QueryFits q) (P 
     names-length = length-map chosen (λ (i : ℕ). get_or table.columns i []) ∙ chosen-length
 
     names : (L : Listed Name) × (items L ≡ names_at table.columns chosen)
-    names = listed (names_at table.columns chosen) (omega (arith, names-length, P.some-selected))
+    names = listed (names_at table.columns chosen) (omega (arith, names-length, P.some_selected))
 
     abbrev sentence : Sentence
     sentence = G.select names.0 table.name source.source
@@ -168,21 +168,21 @@ module _ (ts : List Schema) (T : TablesFit ts) (q : Query) (F : QueryFits q) (P 
     limits : Limits sentence
     limits =
         let few : length (items names.0) ≡ q.count = ap length names.1 ∙ names-length in
-        let marks : mark_count (term_givens (operands_in wanted)) ≤ most-marks = omega (arith, source.marks, P.parameters-are, P.few-parameters) in
+        let marks : mark_count (term_givens (operands_in wanted)) ≤ most_marks = omega (arith, source.marks, P.parameters_are, P.few_parameters) in
         record {
-          items-few = or-none (ltb most-items (length (items names.0))) _ (le-ltb most-items (length (items names.0)) (omega (arith, P.few-selected))) refl;
+          items_few = or-none (ltb most_items (length (items names.0))) _ (le-ltb most_items (length (items names.0)) (omega (arith, P.few_selected))) refl;
           rows_inside = refl;
-          marks-few = le-ltb most-marks (mark_count (givens sentence)) marks;
-          comparisons-few = le-ltb most-comparisons (length (comparisons_in wanted)) source.few;
-          shallow = le-ltb most-depth (depth_in wanted) source.shallow;
-          names-short = there-short ts T q.table P.there (columns_named sentence) named-known;
-          constants-small = source.small;
+          marks_few = le-ltb most_marks (mark_count (givens sentence)) marks;
+          comparisons_few = le-ltb most_comparisons (length (comparisons_in wanted)) source.few;
+          shallow = le-ltb most_depth (depth_in wanted) source.shallow;
+          names_short = there-short ts T q.table P.there (columns_named sentence) named-known;
+          constants_small = source.small;
         }
 
     sentence-passes : Passes ts sentence
     unfolding unknown taken miscounted twice
     sentence-passes = record {
-      spelled = (has-text sentence).0 (there-named ts T q.table P.there (columns_named sentence) named-known);
+      spelled = (has_text sentence).0 (there-named ts T q.table P.there (columns_named sentence) named-known);
       within = limits-kept sentence limits;
       known = there-known ts T q.table P.there (columns_named sentence) named-known;
       fresh = refl;
@@ -202,15 +202,15 @@ module _ (ts : List Schema) (T : TablesFit ts) (q : Query) (F : QueryFits q) (P 
     agrees : AgreesQuery q statement
     agrees =
         let back : map (position columns) (items names.0) ≡ chosen =
-        ap₂ (λ C l. map (position C) l) columns-are names.1 ∙ names-back table.columns fits.different chosen below in
+        ap₂ (λ C l. map (position C) l) columns_are names.1 ∙ names-back table.columns fits.different chosen below in
         record {
           table_is = sym (there-place ts T q.table P.there);
           second_is = e;
-          count-is = sym (ap length back ∙ chosen-length);
-          selected-are = sym back;
-          parameters-are = P.parameters-are ∙ sym source.marks;
-          condition-is = subst (λ C. AgreesCondition q.condition (resolved_where (position C) 0 wanted)) (sym columns-are) source.agrees;
-          outer-are = tt;
+          count_is = sym (ap length back ∙ chosen-length);
+          selected_are = sym back;
+          parameters_are = P.parameters_are ∙ sym source.marks;
+          condition_is = subst (λ C. AgreesCondition q.condition (resolved_where (position C) 0 wanted)) (sym columns_are) source.agrees;
+          outer_are = tt;
         }
 
     single-source : FromQuery ts q
@@ -261,7 +261,7 @@ module _ (ts : List Schema) (T : TablesFit ts) (q : Query) (F : QueryFits q) (P 
     both-width = ap (columns_with ts (columns_at ts q.table)) e
 
     both_below : all (λ (i : ℕ). ltb i width) chosen ≡ true
-    both_below = ap (λ (n : ℕ). all (λ (i : ℕ). ltb i n) chosen) (sym both-width) ∙ P.selected-below
+    both_below = ap (λ (n : ℕ). all (λ (i : ℕ). ltb i n) chosen) (sym both-width) ∙ P.selected_below
 
     -- its marks are such as the condition allows
     marks-many : length (outer_read q) ≡ length (used_comparisons q.condition)
@@ -270,100 +270,100 @@ module _ (ts : List Schema) (T : TablesFit ts) (q : Query) (F : QueryFits q) (P 
     marks-allowed : within (reverse (outer_read q)) (chained true 0 (reverse (condition_nodes q.condition))) ≡ true
     marks-allowed =
         ap (λ bs. within bs (chained true 0 (reverse (condition_nodes q.condition)))) (reverse-reverse (outer_back q))
-        ∙ ap (λ o. sound_outer o q) (sym e) ∙ P.outer-sound
+        ∙ ap (λ o. sound_outer o q) (sym e) ∙ P.outer_sound
 
     pair-where : Sourced place strange 0 q.condition (outer_read q)
     pair-where =
-        condition-source place width strange dotted both 0 q.condition (outer_read q) F.condition-fits
-        (ap (λ (n : ℕ). sound_condition n 0 q.condition) (sym both-width) ∙ P.condition-sound) marks-many marks-allowed
+        condition-source place width strange dotted both 0 q.condition (outer_read q) F.condition_fits
+        (ap (λ (n : ℕ). sound_condition n 0 q.condition) (sym both-width) ∙ P.condition_sound) marks-many marks-allowed
 
-    abbrev pair-wanted : Where (G.Term Dotted)
-    pair-wanted = mapped_in comparison pair-where.source
+    abbrev pair_wanted : Where (G.Term Dotted)
+    pair_wanted = mapped_in comparison pair-where.source
 
     listed-length : length (map dotted chosen) ≡ q.count
     listed-length = length-map chosen dotted ∙ chosen-length
 
     list : (L : Listed Dotted) × (items L ≡ map dotted chosen)
-    list = listed (map dotted chosen) (omega (arith, listed-length, P.some-selected))
+    list = listed (map dotted chosen) (omega (arith, listed-length, P.some_selected))
 
-    abbrev pair-sentence : Sentence
-    pair-sentence = G.pair list.0 table.name other.name pair-where.source
+    abbrev pair_sentence : Sentence
+    pair_sentence = G.pair list.0 table.name other.name pair-where.source
 
-    none-strange : any strange (dotted_named pair-sentence) ≡ false
+    none-strange : any strange (dotted_named pair_sentence) ≡ false
     none-strange =
-        any_append strange (items list.0) (term_columns (operands_in pair-wanted))
+        any_append strange (items list.0) (term_columns (operands_in pair_wanted))
         ∙ or-none _ _ (ap (any strange) list.1 ∙ at-known place width strange dotted both chosen both_below) pair-where.known
 
-    pair-givens : givens pair-sentence ≡ term_givens (operands_in pair-wanted)
-    pair-givens = bare-givens pair-wanted
+    pair-givens : givens pair_sentence ≡ term_givens (operands_in pair_wanted)
+    pair-givens = bare-givens pair_wanted
 
-    pair-marks : mark_count (givens pair-sentence) ≡ condition_marks q.condition
+    pair-marks : mark_count (givens pair_sentence) ≡ condition_marks q.condition
     pair-marks = ap mark_count pair-givens ∙ pair-where.marks
 
-    pair-limits : Limits pair-sentence
-    pair-limits =
+    pair_limits : Limits pair_sentence
+    pair_limits =
         let many : length (map (λ (c : Dotted). c.1) (items list.0)) ≡ q.count =
         length-map (items list.0) (λ (c : Dotted). c.1) ∙ ap length list.1 ∙ listed-length in
-        let short : All (λ n. length n ≤ most-name) (all_names pair-sentence) =
-        pair-names table.name table.columns other.name other.columns fits.short other_fits.short list.0 pair-where.source none-strange in
+        let short : All (λ n. length n ≤ most_name) (all_names pair_sentence) =
+        pair_names table.name table.columns other.name other.columns fits.short other_fits.short list.0 pair-where.source none-strange in
         record {
-          items-few = or-none (ltb most-items (length (map (λ (c : Dotted). c.1) (items list.0)))) _
-              (le-ltb most-items (length (map (λ (c : Dotted). c.1) (items list.0))) (omega (arith, P.few-selected))) refl;
+          items_few = or-none (ltb most_items (length (map (λ (c : Dotted). c.1) (items list.0)))) _
+              (le-ltb most_items (length (map (λ (c : Dotted). c.1) (items list.0))) (omega (arith, P.few_selected))) refl;
           rows_inside = refl;
-          marks-few = le-ltb most-marks (mark_count (givens pair-sentence)) (omega (arith, pair-marks, P.parameters-are, P.few-parameters));
-          comparisons-few = ap (ltb most-comparisons) (bare-count pair-wanted)
-              ∙ le-ltb most-comparisons (length (comparisons_in pair-wanted)) pair-where.few;
-          shallow = ap (ltb most-depth) (bare-depth pair-wanted) ∙ le-ltb most-depth (depth_in pair-wanted) pair-where.shallow;
-          names-short = any_none (λ (n : Name). ltb most-name (length n)) (All-map (λ n h. le-ltb most-name (length n) h) short);
-          constants-small = ap (any outside32) pair-givens ∙ pair-where.small;
+          marks_few = le-ltb most_marks (mark_count (givens pair_sentence)) (omega (arith, pair-marks, P.parameters_are, P.few_parameters));
+          comparisons_few = ap (ltb most_comparisons) (bare-count pair_wanted)
+              ∙ le-ltb most_comparisons (length (comparisons_in pair_wanted)) pair-where.few;
+          shallow = ap (ltb most_depth) (bare-depth pair_wanted) ∙ le-ltb most_depth (depth_in pair_wanted) pair-where.shallow;
+          names_short = any_none (λ (n : Name). ltb most_name (length n)) (All-map (λ n h. le-ltb most_name (length n) h) short);
+          constants_small = ap (any outside32) pair-givens ∙ pair-where.small;
         }
 
-    pair-passes : Passes ts pair-sentence
+    pair-passes : Passes ts pair_sentence
     unfolding unknown taken miscounted twice
     pair-passes = record {
-      spelled = (has-text pair-sentence).0
+      spelled = (has_text pair_sentence).0
           (all-of is_name
-          (pair-names table.name table.columns other.name other.columns fits.names other_fits.names list.0 pair-where.source none-strange));
-      within = limits-kept pair-sentence pair-limits;
+          (pair_names table.name table.columns other.name other.columns fits.names other_fits.names list.0 pair-where.source none-strange));
+      within = limits-kept pair_sentence pair_limits;
       known = or-none (not (has (table_names ts) table.name)) _ (ap not (there_has ts T q.table P.there))
           (or-none (not (has (table_names ts) other.name)) _ (ap not (there_has ts T s.table D.there))
-          (ap₂ (λ C E. any (λ (c : Dotted). not (is_of table.name C c || is_of other.name E c)) (dotted_named pair-sentence)) columns-are others-are
+          (ap₂ (λ C E. any (λ (c : Dotted). not (is_of table.name C c || is_of other.name E c)) (dotted_named pair_sentence)) columns_are others-are
           ∙ none-strange));
       fresh = refl;
       counted = refl;
       different = two-names;
     }
 
-    abbrev pair-statement : M.Query
-    pair-statement = record {
+    abbrev pair_statement : M.Query
+    pair_statement = record {
       table = position (table_names ts) table.name;
       second = some (record { table = position (table_names ts) other.name; start = length columns });
       selected = map (pair_place table.name columns other.name others) (items list.0);
-      condition = resolved_where (pair_place table.name columns other.name others) 0 pair-wanted;
-      parameters = mark_count (givens pair-sentence);
+      condition = resolved_where (pair_place table.name columns other.name others) 0 pair_wanted;
+      parameters = mark_count (givens pair_sentence);
     }
 
-    pair-agrees : AgreesQuery q pair-statement
+    pair-agrees : AgreesQuery q pair_statement
     pair-agrees =
         let places : place ≡ pair_place table.name columns other.name others =
-        ap₂ (λ C E. pair_place table.name C other.name E) (sym columns-are) (sym others-are) in
+        ap₂ (λ C E. pair_place table.name C other.name E) (sym columns_are) (sym others-are) in
         let back : map (pair_place table.name columns other.name others) (items list.0) ≡ chosen =
         ap₂ (λ f l. map f l) (sym places) list.1 ∙ at_back place width strange dotted both chosen both_below in
         let number : s.table ≡ position (table_names ts) other.name = sym (there-place ts T s.table D.there) in
-        let start : s.start ≡ length columns = D.start_is ∙ ap length (sym columns-are) in
+        let start : s.start ≡ length columns = D.start_is ∙ ap length (sym columns_are) in
         record {
           table_is = sym (there-place ts T q.table P.there);
           second_is = e ∙ (λ i. some (record { table = number i; start = start i }));
-          count-is = sym (ap length back ∙ chosen-length);
-          selected-are = sym back;
-          parameters-are = P.parameters-are ∙ sym pair-marks;
-          condition-is = subst (λ f. AgreesCondition q.condition (resolved_where f 0 pair-wanted)) places pair-where.agrees;
-          outer-are = sym (marks-resolved (pair_place table.name columns other.name others) 0 pair-wanted ∙ marks-mapped comparison pair-where.source ∙ pair-where.outer);
+          count_is = sym (ap length back ∙ chosen-length);
+          selected_are = sym back;
+          parameters_are = P.parameters_are ∙ sym pair-marks;
+          condition_is = subst (λ f. AgreesCondition q.condition (resolved_where f 0 pair_wanted)) places pair-where.agrees;
+          outer_are = sym (marks-resolved (pair_place table.name columns other.name others) 0 pair_wanted ∙ marks-mapped comparison pair-where.source ∙ pair-where.outer);
         }
 
     pair-source : FromQuery ts q
     unfolding statement_of
-    pair-source = record { sentence = pair-sentence; passes = pair-passes; statement = pair-statement; says = refl; agrees = pair-agrees }
+    pair-source = record { sentence = pair_sentence; passes = pair-passes; statement = pair_statement; says = refl; agrees = pair-agrees }
 
   pub query-source : FromQuery ts q
   query-source = go (second_read q) refl
@@ -372,7 +372,7 @@ module _ (ts : List Schema) (T : TablesFit ts) (q : Query) (F : QueryFits q) (P 
       go none e = single-source e
       go (some s) e =
           pair-source s e
-          (second_parts ts q.table (columns_at ts q.table) s (ap (sound_second ts q.table (columns_at ts q.table)) (sym e) ∙ P.second-sound))
+          (second_parts ts q.table (columns_at ts q.table) s (ap (sound_second ts q.table (columns_at ts q.table)) (sym e) ∙ P.second_sound))
 
 -- ---- and one that comes of such a sentence passes
 
@@ -417,21 +417,21 @@ module _ (ts : List Schema) (q : Query) where
       let e : columns_at ts q.table ≡ length columns = ap (columns_at ts) A.table_is in
       let n : columns_for ts q ≡ length columns = ap (columns_with ts (columns_at ts q.table)) A.second_is ∙ e in
       let many : length (map (position columns) (items cs)) ≡ length (items cs) = length-map (items cs) (position columns) in
-      let few : length (items cs) ≤ most-items = ltb-false most-items (length (items cs)) (or_left (ltb most-items (length (items cs))) _ L.items-few) in
-      let marks : condition_marks q.condition ≡ mark_count (term_givens (operands_in w)) = source-marks (position columns) 0 v q.condition A.condition-is in
+      let few : length (items cs) ≤ most_items = ltb-false most_items (length (items cs)) (or_left (ltb most_items (length (items cs))) _ L.items_few) in
+      let marks : condition_marks q.condition ≡ mark_count (term_givens (operands_in w)) = source-marks (position columns) 0 v q.condition A.condition_is in
       parts-query ts q (record {
         there = subst (λ n. n < length ts) (sym A.table_is) (place-below t (or_left (not (has (table_names ts) t)) _ P.known));
-        second-sound = ap (sound_second ts q.table (columns_at ts q.table)) A.second_is;
-        some-selected = omega (arith, items-some cs, A.count-is);
-        few-selected = omega (arith, A.count-is);
-        selected-below = ap₂ (λ n l. all (λ (i : ℕ). ltb i n) l) n A.selected-are ∙ positions-below columns (items cs) (or_left (any strange (items cs)) _ both);
-        condition-sound = ap (λ n. sound_condition n 0 q.condition) n
-            ∙ source-condition (position columns) 0 v q.condition A.condition-is (length columns) strange (name-inside columns)
+        second_sound = ap (sound_second ts q.table (columns_at ts q.table)) A.second_is;
+        some_selected = omega (arith, items-some cs, A.count_is);
+        few_selected = omega (arith, A.count_is);
+        selected_below = ap₂ (λ n l. all (λ (i : ℕ). ltb i n) l) n A.selected_are ∙ positions-below columns (items cs) (or_left (any strange (items cs)) _ both);
+        condition_sound = ap (λ n. sound_condition n 0 q.condition) n
+            ∙ source-condition (position columns) 0 v q.condition A.condition_is (length columns) strange (name-inside columns)
             (or_right (any strange (items cs)) _ both)
-            (ltb-false most-comparisons (length (comparisons_in w)) L.comparisons-few);
-        parameters-are = A.parameters-are ∙ sym marks;
-        few-parameters = subst (λ n. n ≤ most-marks) (sym A.parameters-are) (ltb-false most-marks (mark_count (givens s)) L.marks-few);
-        outer-sound = ap (λ o. sound_outer o q) A.second_is;
+            (ltb-false most_comparisons (length (comparisons_in w)) L.comparisons_few);
+        parameters_are = A.parameters_are ∙ sym marks;
+        few_parameters = subst (λ n. n ≤ most_marks) (sym A.parameters_are) (ltb-false most_marks (mark_count (givens s)) L.marks_few);
+        outer_sound = ap (λ o. sound_outer o q) A.second_is;
       })
 
   -- different names are those of different tables
@@ -468,28 +468,28 @@ module _ (ts : List Schema) (q : Query) where
       let n : columns_for ts q ≡ width = ap₂ (columns_with ts) e A.second_is in
       let many : length (map place (items cs)) ≡ length (items cs) = length-map (items cs) place in
       let listed : length (map (λ (c : Dotted). c.1) (items cs)) ≡ length (items cs) = length-map (items cs) (λ (c : Dotted). c.1) in
-      let few : length (map (λ (c : Dotted). c.1) (items cs)) ≤ most-items =
-      ltb-false most-items (length (map (λ (c : Dotted). c.1) (items cs))) (or_left (ltb most-items (length (map (λ (c : Dotted). c.1) (items cs)))) _ L.items-few) in
-      let marks : condition_marks q.condition ≡ mark_count (term_givens (operands_in w)) = source-marks place 0 v q.condition A.condition-is in
+      let few : length (map (λ (c : Dotted). c.1) (items cs)) ≤ most_items =
+      ltb-false most_items (length (map (λ (c : Dotted). c.1) (items cs))) (or_left (ltb most_items (length (map (λ (c : Dotted). c.1) (items cs)))) _ L.items_few) in
+      let marks : condition_marks q.condition ≡ mark_count (term_givens (operands_in w)) = source-marks place 0 v q.condition A.condition_is in
       parts-query ts q (record {
         there = subst (λ n. n < length ts) (sym A.table_is) (place-below t first-there);
-        second-sound = ap (sound_second ts q.table (columns_at ts q.table)) A.second_is
+        second_sound = ap (sound_second ts q.table (columns_at ts q.table)) A.second_is
             ∙ parts-second ts q.table (columns_at ts q.table) second (record {
               there = place-below u second-there;
               another = subst (λ i. position (table_names ts) u ≢ i) (sym A.table_is) (places-apart t u first-there second-there P.different);
               start_is = sym e;
             });
-        some-selected = omega (arith, items-some cs, A.count-is);
-        few-selected = omega (arith, A.count-is);
-        selected-below = ap₂ (λ n l. all (λ (i : ℕ). ltb i n) l) n A.selected-are
+        some_selected = omega (arith, items-some cs, A.count_is);
+        few_selected = omega (arith, A.count_is);
+        selected_below = ap₂ (λ n l. all (λ (i : ℕ). ltb i n) l) n A.selected_are
             ∙ places-below place width strange (dotted-inside t columns u others) (items cs) (or_left (any strange (items cs)) _ both);
-        condition-sound = ap (λ n. sound_condition n 0 q.condition) n
-            ∙ source-condition place 0 v q.condition A.condition-is width strange (dotted-inside t columns u others)
+        condition_sound = ap (λ n. sound_condition n 0 q.condition) n
+            ∙ source-condition place 0 v q.condition A.condition_is width strange (dotted-inside t columns u others)
             (or_right (any strange (items cs)) _ both)
-            (ltb-false most-comparisons (length (comparisons_in w)) (ap (ltb most-comparisons) (sym (bare-count w)) ∙ L.comparisons-few));
-        parameters-are = A.parameters-are ∙ ap mark_count (bare-givens w) ∙ sym marks;
-        few-parameters = subst (λ n. n ≤ most-marks) (sym A.parameters-are) (ltb-false most-marks (mark_count (givens s)) L.marks-few);
-        outer-sound = ap (λ o. sound_outer o q) A.second_is ∙ outer-allowed q (resolved_where place 0 w) A.outer-are A.condition-is.nodes-are;
+            (ltb-false most_comparisons (length (comparisons_in w)) (ap (ltb most_comparisons) (sym (bare-count w)) ∙ L.comparisons_few));
+        parameters_are = A.parameters_are ∙ ap mark_count (bare-givens w) ∙ sym marks;
+        few_parameters = subst (λ n. n ≤ most_marks) (sym A.parameters_are) (ltb-false most_marks (mark_count (givens s)) L.marks_few);
+        outer_sound = ap (λ o. sound_outer o q) A.second_is ∙ outer-allowed q (resolved_where place 0 w) A.outer_are A.condition_is.nodes_are;
       })
 
   sentence-query : (s : Sentence) → Passes ts s → is_ask (statement_of ts s) ≡ true → AgreesQuery q (asked (statement_of ts s)) → sound_query ts q ≡ true
@@ -506,5 +506,5 @@ module _ (ts : List Schema) (q : Query) where
       sentence-query S.sentence S.passes (ap is_ask S.says) (subst (λ r. AgreesQuery q (asked r)) (sym S.says) S.agrees)
 
 -- a question passes the test exactly if it is the compiled form of a sentence that passes
-pub query-sound : (ts : List Schema) → TablesFit ts → (q : Query) → QueryFits q → (sound_query ts q ≡ true) ↔ FromQuery ts q
-query-sound ts T q F = ((λ h. query-source ts T q F (query-parts ts q h)), source-query ts q)
+pub query_sound : (ts : List Schema) → TablesFit ts → (q : Query) → QueryFits q → (sound_query ts q ≡ true) ↔ FromQuery ts q
+query_sound ts T q F = ((λ h. query-source ts T q F (query-parts ts q h)), source-query ts q)

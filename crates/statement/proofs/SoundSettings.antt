@@ -50,10 +50,10 @@ values-marks [] = refl
 values-marks (constant z ∷ vs) = ap (λ k. 0 + k) (values-marks vs)
 values-marks (parameter k ∷ vs) = ap (λ i. 1 + i) (values-marks vs)
 
-pub values-numbered : (m : ℕ) (gs : List Given) → numbered_on m (map value (numbered_all m gs)) ≡ true
-values-numbered m [] = refl
-values-numbered m (G.constant z ∷ gs) = values-numbered (m + 0) gs
-values-numbered m (mark ∷ gs) = and_both (eqb (suc m) (suc m)) _ (eq-eqb (suc m) (suc m) refl) (values-numbered (m + 1) gs)
+pub values_numbered : (m : ℕ) (gs : List Given) → numbered_on m (map value (numbered_all m gs)) ≡ true
+values_numbered m [] = refl
+values_numbered m (G.constant z ∷ gs) = values_numbered (m + 0) gs
+values_numbered m (mark ∷ gs) = and_both (eqb (suc m) (suc m)) _ (eq-eqb (suc m) (suc m) refl) (values_numbered (m + 1) gs)
 
 pub numbered-marks : (m : ℕ) (gs : List Given) → parameter_count (map value (numbered_all m gs)) ≡ mark_count gs
 numbered-marks m [] = refl

@@ -53,8 +53,8 @@ more-fit before (t ∷ ts) F h B =
     (one-fits before t (All-head F) (and_left (sound_table before t) _ h) B))
 
 -- sound tables are such that statements can be compiled beside them
-pub tables-fit : (ts : List Table) → All TableStructFits ts → sound_tables [] ts ≡ true → TablesFit (map schema_of ts)
-tables-fit ts F h = more-fit [] ts F h (record { different = refl; each = nil })
+pub tables_fit : (ts : List Table) → All TableStructFits ts → sound_tables [] ts ≡ true → TablesFit (map schema_of ts)
+tables_fit ts F h = more-fit [] ts F h (record { different = refl; each = nil })
 
 -- ---- each beside all others
 
@@ -63,14 +63,14 @@ beside : (ts us : List Schema) (t : Table) → sound_table ts t ≡ true → has
 beside ts us t h k =
     let P : Parts ts t = table-parts ts t h in
     parts-table us t (record {
-      some-columns = P.some-columns;
-      few-columns = P.few-columns;
-      name-sound = P.name-sound;
-      columns-sound = P.columns-sound;
+      some_columns = P.some_columns;
+      few_columns = P.few_columns;
+      name_sound = P.name_sound;
+      columns_sound = P.columns_sound;
       different = P.different;
       fresh = k;
-      some-rows = P.some-rows;
-      few-rows = P.few-rows;
+      some_rows = P.some_rows;
+      few_rows = P.few_rows;
     })
 
 -- a name that is there before is none of the tables that follow

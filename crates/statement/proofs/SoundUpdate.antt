@@ -19,14 +19,14 @@ use Rattle.meaning.specs.Resolve.{parameter_count, numbered_on}
 use Rattle.meaning.specs.Tokens.{Name}
 use Rattle.meaning.specs.Grammar as G
 use Rattle.meaning.specs.Grammar.{Given, Test, comparison, Listed, items, Sentence}
-use Rattle.meaning.specs.Limits.{most-items, most-marks, most-comparisons, most-depth, term_givens, term_columns, columns_named, givens, mark_count, outside32}
+use Rattle.meaning.specs.Limits.{most_items, most_marks, most_comparisons, most_depth, term_givens, term_columns, columns_named, givens, mark_count, outside32}
 use Rattle.meaning.specs.Names.{Schema, no_schema, same_name, has, position, table_names, columns_of, missing, unknown, taken, miscounted, twice}
 use Rattle.meaning.specs.Statement as M
 use Rattle.meaning.specs.Statement.{Statement, creates, asks, changes, insert, delete, update, value, numbered_all, settings, setting_marks, resolved_where, statement_of}
 use Rattle.meaning.proofs.Names.{has-position}
 use Rattle.meaning.proofs.Resolve.{one_table, name-inside}
 use Rattle.meaning.proofs.Resolved.{items-some, numbered-length}
-use Rattle.meaning.proofs.Spelling.{has-text}
+use Rattle.meaning.proofs.Spelling.{has_text}
 use Rattle.meaning.specs.Pattern.{placed_from}
 use Rattle.statement.specs.Sound.{condition_nodes, used_settings, setting_read, settings_read, setting_columns, setting_values, setting_operands, sound_condition, condition_marks, columns_at, sound_form, sound_update, Passes, AgreesCondition, AgreesUpdate, FromUpdate, TableFits, TablesFit, UpdateFits}
 use Rattle.statement.specs.declared.Condition.{Condition}
@@ -34,17 +34,17 @@ use Rattle.statement.specs.declared.Update.{Update}
 use Rattle.statement.proofs.Stored.{map-twice}
 use Rattle.statement.proofs.SoundCondition.{on-parts, parts-on, Sourced, unmarked, unmarked-source, source-marks, source-condition}
 use Rattle.statement.proofs.SoundNames.{or-none, listed, Limits, limits-kept, limits_of, names_at, names-known, names-back, positions-below, there-fits, there-place, there-columns, there-known, there-named, there-short, known-append}
-use Rattle.statement.proofs.SoundSettings.{marks-append, given_at, values-back, values-marks, values-numbered, numbered-marks, values-small, same-pairs, placed-columns, placed-values, placed-length, settings-columns, settings-values, settings-length, set_at, names-different, places-different}
+use Rattle.statement.proofs.SoundSettings.{marks-append, given_at, values-back, values-marks, values_numbered, numbered-marks, values-small, same-pairs, placed-columns, placed-values, placed-length, settings-columns, settings-values, settings-length, set_at, names-different, places-different}
 
 -- ---- the test and its parts
 
 pub record Parts (ts : List Schema) (u : Update) : Type 0 where
   pub there : u.table < length ts
-  pub form-sound : sound_form u.form (columns_at ts u.table) u ≡ true
-  pub values-numbered : numbered_on 0 (setting_operands u) ≡ true
-  pub condition-sound : sound_condition (columns_at ts u.table) (parameter_count (setting_operands u)) u.condition ≡ true
-  pub parameters-are : u.parameters ≡ parameter_count (setting_operands u) + condition_marks u.condition
-  pub few-parameters : u.parameters ≤ most-marks
+  pub form_sound : sound_form u.form (columns_at ts u.table) u ≡ true
+  pub values_numbered : numbered_on 0 (setting_operands u) ≡ true
+  pub condition_sound : sound_condition (columns_at ts u.table) (parameter_count (setting_operands u)) u.condition ≡ true
+  pub parameters_are : u.parameters ≡ parameter_count (setting_operands u) + condition_marks u.condition
+  pub few_parameters : u.parameters ≤ most_marks
 
 module _ (ts : List Schema) (u : Update) where
   pub update-parts : sound_update ts u ≡ true → Parts ts u
@@ -56,30 +56,30 @@ module _ (ts : List Schema) (u : Update) where
       let C = on-parts (columns_at ts u.table) (parameter_count (setting_operands u)) u.parameters u.condition h₃ in
       record {
         there = ltb-true u.table (length ts) (and_left (ltb u.table (length ts)) _ h₀);
-        form-sound = and_left (sound_form u.form (columns_at ts u.table) u) _ h₁;
-        values-numbered = and_left (numbered_on 0 (setting_operands u)) _ h₂;
-        condition-sound = C.sound;
-        parameters-are = C.parameters;
-        few-parameters = C.few;
+        form_sound = and_left (sound_form u.form (columns_at ts u.table) u) _ h₁;
+        values_numbered = and_left (numbered_on 0 (setting_operands u)) _ h₂;
+        condition_sound = C.sound;
+        parameters_are = C.parameters;
+        few_parameters = C.few;
       }
 
   pub parts-update : Parts ts u → sound_update ts u ≡ true
   unfolding sound_update
   parts-update P =
       and_both (ltb u.table (length ts)) _ (lt-ltb u.table (length ts) P.there)
-      (and_both _ _ P.form-sound
-      (and_both _ _ P.values-numbered
+      (and_both _ _ P.form_sound
+      (and_both _ _ P.values_numbered
       (parts-on (columns_at ts u.table) (parameter_count (setting_operands u)) u.parameters u.condition
-      (record { sound = P.condition-sound; parameters = P.parameters-are; few = P.few-parameters }))))
+      (record { sound = P.condition_sound; parameters = P.parameters_are; few = P.few_parameters }))))
 
 -- a condition with no comparison is an absent WHERE
 none-agrees : (c : Condition) → c.count ≡ 0 → AgreesCondition c always
 unfolding condition_nodes
 none-agrees c e = record {
-  count-is = e;
-  steps-are = rw e;
-  operators-are = rw e;
-  nodes-are = rw e;
+  count_is = e;
+  steps_are = rw e;
+  operators_are = rw e;
+  nodes_are = rw e;
 }
 
 -- ---- an update that passes comes of a sentence
@@ -94,10 +94,10 @@ module _ (ts : List Schema) (T : TablesFit ts) (u : Update) (F : UpdateFits u) (
   fits : TableFits table
   fits = there-fits ts T u.table P.there
 
-  columns-are : columns ≡ table.columns
-  columns-are = there-columns ts T u.table P.there
+  columns_are : columns ≡ table.columns
+  columns_are = there-columns ts T u.table P.there
 
-  settings-many : u.count ≤ most-items → length (settings_read u) ≡ u.count
+  settings-many : u.count ≤ most_items → length (settings_read u) ≡ u.count
   settings-many h =
       length-map (used_settings u) setting_read ∙ length-take-le u.count u.settings (omega (arith, F.eight))
 
@@ -108,7 +108,7 @@ module _ (ts : List Schema) (T : TablesFit ts) (u : Update) (F : UpdateFits u) (
   source : Sourced (position table.columns) (λ (n : Name). not (has table.columns n)) (parameter_count (setting_operands u)) u.condition (unmarked u.condition)
   source =
       unmarked-source (position table.columns) (length table.columns) (λ (n : Name). not (has table.columns n)) (λ i. get_or table.columns i [])
-      (one_table table.columns fits.different) (parameter_count (setting_operands u)) u.condition F.condition-fits P.condition-sound
+      (one_table table.columns fits.different) (parameter_count (setting_operands u)) u.condition F.condition_fits P.condition_sound
 
   -- its comparisons have two sides
   abbrev wanted : Where (G.Term Name)
@@ -134,46 +134,46 @@ module _ (ts : List Schema) (T : TablesFit ts) (u : Update) (F : UpdateFits u) (
     insert-length : length (map given_at (setting_values u)) ≡ u.count
     insert-length =
         length-map (setting_values u) given_at ∙ length-map (settings_read u) (λ (s : ℕ × M.Value). s.1)
-        ∙ settings-many (omega (arith, insert-count, fits.few-columns))
+        ∙ settings-many (omega (arith, insert-count, fits.few_columns))
 
     inserted : (L : Listed Given) × (items L ≡ map given_at (setting_values u))
-    inserted = listed (map given_at (setting_values u)) (omega (arith, insert-length, insert-count, fits.some-columns))
+    inserted = listed (map given_at (setting_values u)) (omega (arith, insert-length, insert-count, fits.some_columns))
 
-    abbrev insert-sentence : Sentence
-    insert-sentence = G.insert table.name inserted.0
+    abbrev insert_sentence : Sentence
+    insert_sentence = G.insert table.name inserted.0
 
     none-marked : condition_marks u.condition ≡ 0
-    none-marked = ap (λ ns. parameter_count (sides (leaves ns))) (none-agrees u.condition insert-none).nodes-are
+    none-marked = ap (λ ns. parameter_count (sides (leaves ns))) (none-agrees u.condition insert-none).nodes_are
 
-    insert-marks : mark_count (givens insert-sentence) ≡ u.parameters
+    insert-marks : mark_count (givens insert_sentence) ≡ u.parameters
     insert-marks =
         ap mark_count (append-nil (items inserted.0) ∙ inserted.1) ∙ values-marks (setting_values u)
-        ∙ omega (arith, P.parameters-are, none-marked)
+        ∙ omega (arith, P.parameters_are, none-marked)
 
-    insert-limits : Limits insert-sentence
+    insert-limits : Limits insert_sentence
     insert-limits = record {
-      items-few = le-ltb most-items (length (items inserted.0)) (omega (arith, ap length inserted.1, insert-length, insert-count, fits.few-columns));
+      items_few = le-ltb most_items (length (items inserted.0)) (omega (arith, ap length inserted.1, insert-length, insert-count, fits.few_columns));
       rows_inside = refl;
-      marks-few = le-ltb most-marks (mark_count (givens insert-sentence)) (omega (arith, insert-marks, P.few-parameters));
-      comparisons-few = refl;
+      marks_few = le-ltb most_marks (mark_count (givens insert_sentence)) (omega (arith, insert-marks, P.few_parameters));
+      comparisons_few = refl;
       shallow = refl;
-      names-short = there-short ts T u.table P.there [] refl;
-      constants-small = ap (any outside32) (append-nil (items inserted.0) ∙ inserted.1) ∙ small;
+      names_short = there-short ts T u.table P.there [] refl;
+      constants_small = ap (any outside32) (append-nil (items inserted.0) ∙ inserted.1) ∙ small;
     }
 
-    insert-passes : Passes ts insert-sentence
+    insert-passes : Passes ts insert_sentence
     unfolding unknown taken miscounted twice
     insert-passes = record {
-      spelled = (has-text insert-sentence).0 (there-named ts T u.table P.there [] refl);
-      within = limits-kept insert-sentence insert-limits;
+      spelled = (has_text insert_sentence).0 (there-named ts T u.table P.there [] refl);
+      within = limits-kept insert_sentence insert-limits;
       known = there-known ts T u.table P.there [] refl;
       fresh = refl;
-      counted = ap not (eq-eqb (length (items inserted.0)) (length columns) (ap length inserted.1 ∙ insert-length ∙ insert-count ∙ sym (ap length columns-are)));
+      counted = ap not (eq-eqb (length (items inserted.0)) (length columns) (ap length inserted.1 ∙ insert-length ∙ insert-count ∙ sym (ap length columns_are)));
       different = refl;
     }
 
     insert-back : numbered_all 0 (items inserted.0) ≡ setting_values u
-    insert-back = ap (numbered_all 0) inserted.1 ∙ values-back 0 (setting_values u) P.values-numbered
+    insert-back = ap (numbered_all 0) inserted.1 ∙ values-back 0 (setting_values u) P.values_numbered
 
     insert-settings : settings_read u ≡ placed_from 0 (numbered_all 0 (items inserted.0))
     insert-settings =
@@ -183,22 +183,22 @@ module _ (ts : List Schema) (T : TablesFit ts) (u : Update) (F : UpdateFits u) (
         (sym (placed-values 0 (setting_values u)))
         ∙ ap (placed_from 0) (sym insert-back)
 
-    insert-agrees : AgreesUpdate u (record { table = position (table_names ts) table.name; change = insert (numbered_all 0 (items inserted.0)); parameters = mark_count (givens insert-sentence) })
+    insert-agrees : AgreesUpdate u (record { table = position (table_names ts) table.name; change = insert (numbered_all 0 (items inserted.0)); parameters = mark_count (givens insert_sentence) })
     insert-agrees = record {
-      form-is = e;
+      form_is = e;
       table_is = sym (there-place ts T u.table P.there);
-      count-is = sym (settings-many (omega (arith, insert-count, fits.few-columns))) ∙ ap length insert-settings;
-      settings-are = insert-settings;
-      parameters-are = sym insert-marks;
-      condition-is = none-agrees u.condition insert-none;
+      count_is = sym (settings-many (omega (arith, insert-count, fits.few_columns))) ∙ ap length insert-settings;
+      settings_are = insert-settings;
+      parameters_are = sym insert-marks;
+      condition_is = none-agrees u.condition insert-none;
     }
 
     insert-source : FromUpdate ts u
     unfolding statement_of
     insert-source = record {
-      sentence = insert-sentence;
+      sentence = insert_sentence;
       passes = insert-passes;
-      statement = record { table = position (table_names ts) table.name; change = insert (numbered_all 0 (items inserted.0)); parameters = mark_count (givens insert-sentence) };
+      statement = record { table = position (table_names ts) table.name; change = insert (numbered_all 0 (items inserted.0)); parameters = mark_count (givens insert_sentence) };
       says = refl;
       agrees = insert-agrees;
     }
@@ -209,11 +209,11 @@ module _ (ts : List Schema) (T : TablesFit ts) (u : Update) (F : UpdateFits u) (
     update-some : 1 ≤ u.count
     update-some = leb-true 1 u.count (and_left (leb 1 u.count) _ h)
 
-    update-few : u.count ≤ most-items
-    update-few = leb-true u.count most-items (and_left (leb u.count most-items) _ (and_right (leb 1 u.count) _ h))
+    update_few : u.count ≤ most_items
+    update_few = leb-true u.count most_items (and_left (leb u.count most_items) _ (and_right (leb 1 u.count) _ h))
 
     update-last : (all (λ (i : ℕ). ltb i (columns_at ts u.table)) (setting_columns u) && not (repeats eqb (setting_columns u))) ≡ true
-    update-last = and_right (leb u.count most-items) _ (and_right (leb 1 u.count) _ h)
+    update-last = and_right (leb u.count most_items) _ (and_right (leb 1 u.count) _ h)
 
     update-below : all (λ (i : ℕ). ltb i (length table.columns)) (setting_columns u) ≡ true
     update-below = and_left (all (λ (i : ℕ). ltb i (columns_at ts u.table)) (setting_columns u)) _ update-last
@@ -222,13 +222,13 @@ module _ (ts : List Schema) (T : TablesFit ts) (u : Update) (F : UpdateFits u) (
     update-once = not-true (repeats eqb (setting_columns u)) (and_right (all (λ (i : ℕ). ltb i (columns_at ts u.table)) (setting_columns u)) _ update-last)
 
     update-length : length (map (set_at table.columns) (settings_read u)) ≡ u.count
-    update-length = length-map (settings_read u) (set_at table.columns) ∙ settings-many update-few
+    update-length = length-map (settings_read u) (set_at table.columns) ∙ settings-many update_few
 
     updated : (L : Listed (Name × Given)) × (items L ≡ map (set_at table.columns) (settings_read u))
     updated = listed (map (set_at table.columns) (settings_read u)) (omega (arith, update-length, update-some))
 
-    abbrev update-sentence : Sentence
-    update-sentence = G.update table.name updated.0 source.source
+    abbrev update_sentence : Sentence
+    update_sentence = G.update table.name updated.0 source.source
 
     set-names : map (λ (s : Name × Given). s.0) (items updated.0) ≡ names_at table.columns (setting_columns u)
     set-names = ap (map (λ (s : Name × Given). s.0)) updated.1 ∙ map-twice (set_at table.columns) (λ (s : Name × Given). s.0) (settings_read u)
@@ -238,7 +238,7 @@ module _ (ts : List Schema) (T : TablesFit ts) (u : Update) (F : UpdateFits u) (
     set-givens = ap (map (λ (s : Name × Given). s.1)) updated.1 ∙ map-twice (set_at table.columns) (λ (s : Name × Given). s.1) (settings_read u)
         ∙ sym (map-twice (λ (s : ℕ × M.Value). s.1) given_at (settings_read u))
 
-    update-known : any (λ (n : Name). not (has table.columns n)) (columns_named update-sentence) ≡ false
+    update-known : any (λ (n : Name). not (has table.columns n)) (columns_named update_sentence) ≡ false
     update-known =
         known-append table.columns (map (λ (s : Name × Given). s.0) (items updated.0)) (term_columns (operands_in wanted))
         (ap (any (λ (n : Name). not (has table.columns n))) set-names ∙ names-known table.columns fits.different (setting_columns u) update-below)
@@ -247,36 +247,36 @@ module _ (ts : List Schema) (T : TablesFit ts) (u : Update) (F : UpdateFits u) (
     set-marks : setting_marks (items updated.0) ≡ parameter_count (setting_operands u)
     set-marks = ap mark_count set-givens ∙ values-marks (setting_values u)
 
-    update-marks : mark_count (givens update-sentence) ≡ u.parameters
+    update-marks : mark_count (givens update_sentence) ≡ u.parameters
     update-marks =
         marks-append (map (λ (s : Name × Given). s.1) (items updated.0)) (term_givens (operands_in wanted))
-        ∙ ap₂ ◌+◌ set-marks source.marks ∙ sym P.parameters-are
+        ∙ ap₂ ◌+◌ set-marks source.marks ∙ sym P.parameters_are
 
-    update-limits : Limits update-sentence
+    update-limits : Limits update_sentence
     update-limits =
         let many : length (items updated.0) ≡ u.count = ap length updated.1 ∙ update-length in
         let names : length (map (λ (s : Name × Given). s.0) (items updated.0)) ≡ length (items updated.0) = length-map (items updated.0) (λ (s : Name × Given). s.0) in
         let values : length (map (λ (s : Name × Given). s.1) (items updated.0)) ≡ length (items updated.0) = length-map (items updated.0) (λ (s : Name × Given). s.1) in
         record {
-          items-few =
-              or-none (ltb most-items (length (map (λ (s : Name × Given). s.0) (items updated.0)))) _
-              (le-ltb most-items (length (map (λ (s : Name × Given). s.0) (items updated.0))) (omega (arith, update-few)))
-              (le-ltb most-items (length (map (λ (s : Name × Given). s.1) (items updated.0))) (omega (arith, update-few)));
+          items_few =
+              or-none (ltb most_items (length (map (λ (s : Name × Given). s.0) (items updated.0)))) _
+              (le-ltb most_items (length (map (λ (s : Name × Given). s.0) (items updated.0))) (omega (arith, update_few)))
+              (le-ltb most_items (length (map (λ (s : Name × Given). s.1) (items updated.0))) (omega (arith, update_few)));
           rows_inside = refl;
-          marks-few = le-ltb most-marks (mark_count (givens update-sentence)) (omega (arith, update-marks, P.few-parameters));
-          comparisons-few = le-ltb most-comparisons (length (comparisons_in wanted)) source.few;
-          shallow = le-ltb most-depth (depth_in wanted) source.shallow;
-          names-short = there-short ts T u.table P.there (columns_named update-sentence) update-known;
-          constants-small = any_append outside32 (map (λ (s : Name × Given). s.1) (items updated.0)) (term_givens (operands_in wanted))
+          marks_few = le-ltb most_marks (mark_count (givens update_sentence)) (omega (arith, update-marks, P.few_parameters));
+          comparisons_few = le-ltb most_comparisons (length (comparisons_in wanted)) source.few;
+          shallow = le-ltb most_depth (depth_in wanted) source.shallow;
+          names_short = there-short ts T u.table P.there (columns_named update_sentence) update-known;
+          constants_small = any_append outside32 (map (λ (s : Name × Given). s.1) (items updated.0)) (term_givens (operands_in wanted))
               ∙ or-none _ _ (ap (any outside32) set-givens ∙ small) source.small;
         }
 
-    update-passes : Passes ts update-sentence
+    update-passes : Passes ts update_sentence
     unfolding unknown taken miscounted twice
     update-passes = record {
-      spelled = (has-text update-sentence).0 (there-named ts T u.table P.there (columns_named update-sentence) update-known);
-      within = limits-kept update-sentence update-limits;
-      known = there-known ts T u.table P.there (columns_named update-sentence) update-known;
+      spelled = (has_text update_sentence).0 (there-named ts T u.table P.there (columns_named update_sentence) update-known);
+      within = limits-kept update_sentence update-limits;
+      known = there-known ts T u.table P.there (columns_named update_sentence) update-known;
       fresh = ap (repeats same_name) set-names ∙ names-different table.columns fits.different (setting_columns u) update-below update-once;
       counted = refl;
       different = refl;
@@ -286,32 +286,32 @@ module _ (ts : List Schema) (T : TablesFit ts) (u : Update) (F : UpdateFits u) (
     update-settings =
         same-pairs (settings_read u) (settings columns 0 (items updated.0))
         (sym
-        (settings-columns columns 0 (items updated.0) ∙ ap₂ (λ C l. map (position C) l) columns-are set-names
+        (settings-columns columns 0 (items updated.0) ∙ ap₂ (λ C l. map (position C) l) columns_are set-names
         ∙ names-back table.columns fits.different (setting_columns u) update-below))
         (sym
         (settings-values columns 0 (items updated.0) ∙ ap (numbered_all 0) set-givens
-        ∙ values-back 0 (setting_values u) P.values-numbered))
+        ∙ values-back 0 (setting_values u) P.values_numbered))
 
-    abbrev update-statement : M.Update
-    update-statement = record {
+    abbrev update_statement : M.Update
+    update_statement = record {
       table = position (table_names ts) table.name;
       change = update (settings columns 0 (items updated.0)) (resolved_where (position columns) (setting_marks (items updated.0)) wanted);
-      parameters = mark_count (givens update-sentence);
+      parameters = mark_count (givens update_sentence);
     }
 
-    update_agrees : AgreesUpdate u update-statement
+    update_agrees : AgreesUpdate u update_statement
     update_agrees = record {
-      form-is = e;
+      form_is = e;
       table_is = sym (there-place ts T u.table P.there);
-      count-is = sym (settings-many update-few) ∙ ap length update-settings;
-      settings-are = update-settings;
-      parameters-are = sym update-marks;
-      condition-is = subst₂ (λ C m. AgreesCondition u.condition (resolved_where (position C) m wanted)) (sym columns-are) (sym set-marks) source.agrees;
+      count_is = sym (settings-many update_few) ∙ ap length update-settings;
+      settings_are = update-settings;
+      parameters_are = sym update-marks;
+      condition_is = subst₂ (λ C m. AgreesCondition u.condition (resolved_where (position C) m wanted)) (sym columns_are) (sym set-marks) source.agrees;
     }
 
     update-source : FromUpdate ts u
     unfolding statement_of
-    update-source = record { sentence = update-sentence; passes = update-passes; statement = update-statement; says = refl; agrees = update_agrees }
+    update-source = record { sentence = update_sentence; passes = update-passes; statement = update_statement; says = refl; agrees = update_agrees }
 
   -- ---- DELETE
 
@@ -325,56 +325,56 @@ module _ (ts : List Schema) (T : TablesFit ts) (u : Update) (F : UpdateFits u) (
     no-marks : parameter_count (setting_operands u) ≡ 0
     no-marks = ap (λ ss. parameter_count (map value (map (λ (s : ℕ × M.Value). s.1) ss))) no-settings
 
-    abbrev delete-sentence : Sentence
-    delete-sentence = G.delete table.name source.source
+    abbrev delete_sentence : Sentence
+    delete_sentence = G.delete table.name source.source
 
-    delete-marks : mark_count (givens delete-sentence) ≡ u.parameters
+    delete-marks : mark_count (givens delete_sentence) ≡ u.parameters
     delete-marks =
         let k : mark_count (term_givens (operands_in wanted)) ≡ condition_marks u.condition = source.marks in
-        k ∙ omega (arith, P.parameters-are, no-marks)
+        k ∙ omega (arith, P.parameters_are, no-marks)
 
-    delete-limits : Limits delete-sentence
+    delete-limits : Limits delete_sentence
     delete-limits = record {
-      items-few = refl;
+      items_few = refl;
       rows_inside = refl;
-      marks-few = le-ltb most-marks (mark_count (givens delete-sentence)) (omega (arith, delete-marks, P.few-parameters));
-      comparisons-few = le-ltb most-comparisons (length (comparisons_in wanted)) source.few;
-      shallow = le-ltb most-depth (depth_in wanted) source.shallow;
-      names-short = there-short ts T u.table P.there (columns_named delete-sentence) source.known;
-      constants-small = source.small;
+      marks_few = le-ltb most_marks (mark_count (givens delete_sentence)) (omega (arith, delete-marks, P.few_parameters));
+      comparisons_few = le-ltb most_comparisons (length (comparisons_in wanted)) source.few;
+      shallow = le-ltb most_depth (depth_in wanted) source.shallow;
+      names_short = there-short ts T u.table P.there (columns_named delete_sentence) source.known;
+      constants_small = source.small;
     }
 
-    delete-passes : Passes ts delete-sentence
+    delete-passes : Passes ts delete_sentence
     unfolding unknown taken miscounted twice
     delete-passes = record {
-      spelled = (has-text delete-sentence).0 (there-named ts T u.table P.there (columns_named delete-sentence) source.known);
-      within = limits-kept delete-sentence delete-limits;
-      known = there-known ts T u.table P.there (columns_named delete-sentence) source.known;
+      spelled = (has_text delete_sentence).0 (there-named ts T u.table P.there (columns_named delete_sentence) source.known);
+      within = limits-kept delete_sentence delete-limits;
+      known = there-known ts T u.table P.there (columns_named delete_sentence) source.known;
       fresh = refl;
       counted = refl;
       different = refl;
     }
 
-    abbrev delete-statement : M.Update
-    delete-statement = record {
+    abbrev delete_statement : M.Update
+    delete_statement = record {
       table = position (table_names ts) table.name;
       change = delete (resolved_where (position columns) 0 wanted);
-      parameters = mark_count (givens delete-sentence);
+      parameters = mark_count (givens delete_sentence);
     }
 
-    delete-agrees : AgreesUpdate u delete-statement
+    delete-agrees : AgreesUpdate u delete_statement
     delete-agrees = record {
-      form-is = e;
+      form_is = e;
       table_is = sym (there-place ts T u.table P.there);
-      count-is = delete-none;
-      settings-are = no-settings;
-      parameters-are = sym delete-marks;
-      condition-is = subst₂ (λ C m. AgreesCondition u.condition (resolved_where (position C) m wanted)) (sym columns-are) no-marks source.agrees;
+      count_is = delete-none;
+      settings_are = no-settings;
+      parameters_are = sym delete-marks;
+      condition_is = subst₂ (λ C m. AgreesCondition u.condition (resolved_where (position C) m wanted)) (sym columns_are) no-marks source.agrees;
     }
 
     delete-source : FromUpdate ts u
     unfolding statement_of
-    delete-source = record { sentence = delete-sentence; passes = delete-passes; statement = delete-statement; says = refl; agrees = delete-agrees }
+    delete-source = record { sentence = delete_sentence; passes = delete-passes; statement = delete_statement; says = refl; agrees = delete-agrees }
 
   form-source : (k : ℕ) → u.form ≡ k → sound_form k (columns_at ts u.table) u ≡ true → FromUpdate ts u
   form-source zero e h = insert-source e h
@@ -383,7 +383,7 @@ module _ (ts : List Schema) (T : TablesFit ts) (u : Update) (F : UpdateFits u) (
   form-source (suc (suc (suc k))) e h = clash h refl
 
   pub update-from : FromUpdate ts u
-  update-from = form-source u.form refl P.form-sound
+  update-from = form-source u.form refl P.form_sound
 
 -- ---- and one that comes of such a sentence passes
 
@@ -426,26 +426,26 @@ module _ (ts : List Schema) (u : Update) where
       let values : List M.Value = numbered_all 0 (items vs) in
       let n : columns_at ts u.table ≡ length columns = ap (columns_at ts) A.table_is in
       let one : length (items vs) ≡ length columns = eqb-true (length (items vs)) (length columns) (not-false (eqb (length (items vs)) (length columns)) P.counted) in
-      let count : u.count ≡ length values = A.count-is ∙ placed-length 0 values in
-      let given : setting_values u ≡ values = ap (map (λ (s : ℕ × M.Value). s.1)) A.settings-are ∙ placed-values 0 values in
-      let places : setting_columns u ≡ from 0 u.count = ap (map (λ (s : ℕ × M.Value). s.0)) A.settings-are ∙ placed-columns 0 values ∙ ap (from 0) (sym count) in
+      let count : u.count ≡ length values = A.count_is ∙ placed-length 0 values in
+      let given : setting_values u ≡ values = ap (map (λ (s : ℕ × M.Value). s.1)) A.settings_are ∙ placed-values 0 values in
+      let places : setting_columns u ≡ from 0 u.count = ap (map (λ (s : ℕ × M.Value). s.0)) A.settings_are ∙ placed-columns 0 values ∙ ap (from 0) (sym count) in
       let marks : parameter_count (setting_operands u) ≡ mark_count (items vs) = ap (λ os. parameter_count (map value os)) given ∙ numbered-marks 0 (items vs) in
-      let tested : condition_marks u.condition ≡ 0 = source-marks (position columns) 0 always u.condition A.condition-is in
+      let tested : condition_marks u.condition ≡ 0 = source-marks (position columns) 0 always u.condition A.condition_is in
       parts-update ts u (record {
         there = subst (λ i. i < length ts) (sym A.table_is) (place-below t [] [] P.known);
-        form-sound =
-            ap (λ k. sound_form k (columns_at ts u.table) u) A.form-is
+        form_sound =
+            ap (λ k. sound_form k (columns_at ts u.table) u) A.form_is
             ∙ and_both (eqb u.count (columns_at ts u.table)) _
             (eq-eqb u.count (columns_at ts u.table) (count ∙ numbered-length 0 (items vs) ∙ one ∙ sym n))
             (and_both (eq_list eqb (setting_columns u) (from 0 u.count)) _
             (ap (λ l. eq_list eqb l (from 0 u.count)) places ∙ T→true _ (eq_list-refl eqb eqb_refl (from 0 u.count)))
-            (eq-eqb u.condition.count 0 A.condition-is.count-is));
-        values-numbered = ap (λ os. numbered_on 0 (map value os)) given ∙ values-numbered 0 (items vs);
-        condition-sound = ap (λ k. sound_condition k (parameter_count (setting_operands u)) u.condition) n
-            ∙ source-condition (position columns) (parameter_count (setting_operands u)) always u.condition A.condition-is
+            (eq-eqb u.condition.count 0 A.condition_is.count_is));
+        values_numbered = ap (λ os. numbered_on 0 (map value os)) given ∙ values_numbered 0 (items vs);
+        condition_sound = ap (λ k. sound_condition k (parameter_count (setting_operands u)) u.condition) n
+            ∙ source-condition (position columns) (parameter_count (setting_operands u)) always u.condition A.condition_is
             (length columns) (λ (n : Name). not (has columns n)) (name-inside columns) refl (omega arith);
-        parameters-are = A.parameters-are ∙ ap mark_count (append-nil (items vs)) ∙ omega arith;
-        few-parameters = subst (λ k. k ≤ most-marks) (sym A.parameters-are) (ltb-false most-marks (mark_count (givens s)) L.marks-few);
+        parameters_are = A.parameters_are ∙ ap mark_count (append-nil (items vs)) ∙ omega arith;
+        few_parameters = subst (λ k. k ≤ most_marks) (sym A.parameters_are) (ltb-false most_marks (mark_count (givens s)) L.marks_few);
       })
 
   delete-update : (t : Name) (v : Optional (Test Name)) → Passes ts (G.delete t v) → AgreesUpdate u (changed (statement_of ts (G.delete t v))) → sound_update ts u ≡ true
@@ -456,19 +456,19 @@ module _ (ts : List Schema) (u : Update) where
       let L : Limits s = limits_of s P.within in
       let columns : List Name = columns_of ts t in
       let n : columns_at ts u.table ≡ length columns = ap (columns_at ts) A.table_is in
-      let given : setting_operands u ≡ [] = ap (λ ss. map value (map (λ (s : ℕ × M.Value). s.1) ss)) A.settings-are in
+      let given : setting_operands u ≡ [] = ap (λ ss. map value (map (λ (s : ℕ × M.Value). s.1) ss)) A.settings_are in
       let marks : parameter_count (setting_operands u) ≡ 0 = ap parameter_count given in
-      let tested : condition_marks u.condition ≡ mark_count (term_givens (operands_in w)) = source-marks (position columns) 0 v u.condition A.condition-is in
+      let tested : condition_marks u.condition ≡ mark_count (term_givens (operands_in w)) = source-marks (position columns) 0 v u.condition A.condition_is in
       parts-update ts u (record {
         there = subst (λ i. i < length ts) (sym A.table_is) (place-below t [] (term_columns (operands_in w)) P.known);
-        form-sound = ap (λ k. sound_form k (columns_at ts u.table) u) A.form-is ∙ eq-eqb u.count 0 A.count-is;
-        values-numbered = ap (numbered_on 0) given;
-        condition-sound = ap₂ (λ k m. sound_condition k m u.condition) n marks
-            ∙ source-condition (position columns) 0 v u.condition A.condition-is
+        form_sound = ap (λ k. sound_form k (columns_at ts u.table) u) A.form_is ∙ eq-eqb u.count 0 A.count_is;
+        values_numbered = ap (numbered_on 0) given;
+        condition_sound = ap₂ (λ k m. sound_condition k m u.condition) n marks
+            ∙ source-condition (position columns) 0 v u.condition A.condition_is
             (length columns) (λ (n : Name). not (has columns n)) (name-inside columns) (second-known t [] (term_columns (operands_in w)) P.known)
-            (ltb-false most-comparisons (length (comparisons_in w)) L.comparisons-few);
-        parameters-are = A.parameters-are ∙ sym tested ∙ omega arith;
-        few-parameters = subst (λ k. k ≤ most-marks) (sym A.parameters-are) (ltb-false most-marks (mark_count (givens s)) L.marks-few);
+            (ltb-false most_comparisons (length (comparisons_in w)) L.comparisons_few);
+        parameters_are = A.parameters_are ∙ sym tested ∙ omega arith;
+        few_parameters = subst (λ k. k ≤ most_marks) (sym A.parameters_are) (ltb-false most_marks (mark_count (givens s)) L.marks_few);
       })
 
   update-update : (t : Name) (ss : Listed (Name × Given)) (v : Optional (Test Name)) → Passes ts (G.update t ss v)
@@ -483,29 +483,29 @@ module _ (ts : List Schema) (u : Update) where
       let gs : List Given = map (λ (s : Name × Given). s.1) (items ss) in
       let n : columns_at ts u.table ≡ length columns = ap (columns_at ts) A.table_is in
       let known : any (λ (n : Name). not (has columns n)) names ≡ false = first-known t names (term_columns (operands_in w)) P.known in
-      let count : u.count ≡ length (items ss) = A.count-is ∙ settings-length columns 0 (items ss) in
-      let few : length names ≤ most-items = ltb-false most-items (length names) (or_left (ltb most-items (length names)) _ L.items-few) in
+      let count : u.count ≡ length (items ss) = A.count_is ∙ settings-length columns 0 (items ss) in
+      let few : length names ≤ most_items = ltb-false most_items (length names) (or_left (ltb most_items (length names)) _ L.items_few) in
       let many : length names ≡ length (items ss) = length-map (items ss) (λ (s : Name × Given). s.0) in
-      let places : setting_columns u ≡ map (position columns) names = ap (map (λ (s : ℕ × M.Value). s.0)) A.settings-are ∙ settings-columns columns 0 (items ss) in
-      let given : setting_values u ≡ numbered_all 0 gs = ap (map (λ (s : ℕ × M.Value). s.1)) A.settings-are ∙ settings-values columns 0 (items ss) in
+      let places : setting_columns u ≡ map (position columns) names = ap (map (λ (s : ℕ × M.Value). s.0)) A.settings_are ∙ settings-columns columns 0 (items ss) in
+      let given : setting_values u ≡ numbered_all 0 gs = ap (map (λ (s : ℕ × M.Value). s.1)) A.settings_are ∙ settings-values columns 0 (items ss) in
       let marks : parameter_count (setting_operands u) ≡ mark_count gs = ap (λ os. parameter_count (map value os)) given ∙ numbered-marks 0 gs in
-      let tested : condition_marks u.condition ≡ mark_count (term_givens (operands_in w)) = source-marks (position columns) (mark_count gs) v u.condition A.condition-is in
+      let tested : condition_marks u.condition ≡ mark_count (term_givens (operands_in w)) = source-marks (position columns) (mark_count gs) v u.condition A.condition_is in
       parts-update ts u (record {
         there = subst (λ i. i < length ts) (sym A.table_is) (place-below t names (term_columns (operands_in w)) P.known);
-        form-sound =
-            ap (λ k. sound_form k (columns_at ts u.table) u) A.form-is
+        form_sound =
+            ap (λ k. sound_form k (columns_at ts u.table) u) A.form_is
             ∙ and_both (leb 1 u.count) _ (le-leb 1 u.count (omega (arith, items-some ss)))
-            (and_both (leb u.count most-items) _ (le-leb u.count most-items (omega arith))
+            (and_both (leb u.count most_items) _ (le-leb u.count most_items (omega arith))
             (and_both (all (λ (i : ℕ). ltb i (columns_at ts u.table)) (setting_columns u)) _
             (ap₂ (λ k l. all (λ (i : ℕ). ltb i k) l) n places ∙ positions-below columns names known)
             (ap not (ap (repeats eqb) places ∙ places-different columns names known P.fresh))));
-        values-numbered = ap (λ os. numbered_on 0 (map value os)) given ∙ values-numbered 0 gs;
-        condition-sound = ap₂ (λ k m. sound_condition k m u.condition) n marks
-            ∙ source-condition (position columns) (mark_count gs) v u.condition A.condition-is
+        values_numbered = ap (λ os. numbered_on 0 (map value os)) given ∙ values_numbered 0 gs;
+        condition_sound = ap₂ (λ k m. sound_condition k m u.condition) n marks
+            ∙ source-condition (position columns) (mark_count gs) v u.condition A.condition_is
             (length columns) (λ (n : Name). not (has columns n)) (name-inside columns) (second-known t names (term_columns (operands_in w)) P.known)
-            (ltb-false most-comparisons (length (comparisons_in w)) L.comparisons-few);
-        parameters-are = A.parameters-are ∙ marks-append gs (term_givens (operands_in w)) ∙ ap₂ ◌+◌ (sym marks) (sym tested);
-        few-parameters = subst (λ k. k ≤ most-marks) (sym A.parameters-are) (ltb-false most-marks (mark_count (givens s)) L.marks-few);
+            (ltb-false most_comparisons (length (comparisons_in w)) L.comparisons_few);
+        parameters_are = A.parameters_are ∙ marks-append gs (term_givens (operands_in w)) ∙ ap₂ ◌+◌ (sym marks) (sym tested);
+        few_parameters = subst (λ k. k ≤ most_marks) (sym A.parameters_are) (ltb-false most_marks (mark_count (givens s)) L.marks_few);
       })
 
   sentence-update : (s : Sentence) → Passes ts s → is_change (statement_of ts s) ≡ true → AgreesUpdate u (changed (statement_of ts s)) → sound_update ts u ≡ true
@@ -522,10 +522,10 @@ module _ (ts : List Schema) (u : Update) where
       sentence-update S.sentence S.passes (ap is_change S.says) (subst (λ r. AgreesUpdate u (changed r)) (sym S.says) S.agrees)
 
 -- an update passes the test exactly if it is the compiled form of a sentence that passes
-pub update-sound : (ts : List Schema) → TablesFit ts → (u : Update) → UpdateFits u → (sound_update ts u ≡ true) ↔ FromUpdate ts u
-update-sound ts T u F = ((λ h. update-from ts T u F (update-parts ts u h)), source-update ts u)
+pub update_sound : (ts : List Schema) → TablesFit ts → (u : Update) → UpdateFits u → (sound_update ts u ≡ true) ↔ FromUpdate ts u
+update_sound ts T u F = ((λ h. update-from ts T u F (update-parts ts u h)), source-update ts u)
 
 -- ---- what an INSERT that agrees gives
 
 pub agrees-values : (u : Update) (t n : ℕ) (vs : List M.Value) → AgreesUpdate u (record { table = t; change = insert vs; parameters = n }) → setting_values u ≡ vs
-agrees-values u t n vs A = ap (map (λ (s : ℕ × M.Value). s.1)) A.settings-are ∙ placed-values 0 vs
+agrees-values u t n vs A = ap (map (λ (s : ℕ × M.Value). s.1)) A.settings_are ∙ placed-values 0 vs

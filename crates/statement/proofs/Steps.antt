@@ -24,12 +24,12 @@ pub data Look (s : List ℕ) (at : ℕ) (u : Token) : Type 0 where
 pub look : (s : List ℕ) (at : ℕ) (u : Token) → u ≡ token_at s at → Look s at u
 look s at u e = go (eqb u.kind 0) refl
   where
-    kind-is : u.kind ≡ (token_at s at).kind
-    kind-is = ap (λ (v : Token). v.kind) e
+    kind_is : u.kind ≡ (token_at s at).kind
+    kind_is = ap (λ (v : Token). v.kind) e
 
     go : (b : Bool) → eqb u.kind 0 ≡ b → Look s at u
-    go true q = ended (eqb-true u.kind 0 q) (token_end s at (sym kind-is ∙ eqb-true u.kind 0 q))
-    go false q = seen (subst (Reads s at) (sym e) (token-some s at (λ z. eqb-false u.kind 0 q (kind-is ∙ z))))
+    go true q = ended (eqb-true u.kind 0 q) (token_end s at (sym kind_is ∙ eqb-true u.kind 0 q))
+    go false q = seen (subst (Reads s at) (sym e) (token-some s at (λ z. eqb-false u.kind 0 q (kind_is ∙ z))))
 
 module _ {s : List ℕ} {at : ℕ} {u : Token} (v : Reads s at u) where
   pub stands-there : token_on s u.start ≡ v.token
@@ -37,8 +37,8 @@ module _ {s : List ℕ} {at : ℕ} {u : Token} (v : Reads s at u) where
   stands-there = ap first v.here
 
   -- a name has as many bytes as lie between its ends
-  pub name-length : (n : T.Name) → v.token ≡ name n → u.next - u.start ≡ length n
-  name-length n q =
+  pub name_length : (n : T.Name) → v.token ≡ name n → u.next - u.start ≡ length n
+  name_length n q =
       let m : List ℕ = take (u.next - u.start) (drop u.start s) in
       let e : name n ≡ name (folded m) = sym q ∙ v.named (sym v.kind ∙ ap kind_of q) in
       let f : n ≡ folded m = cc in

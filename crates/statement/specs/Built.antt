@@ -6,7 +6,7 @@ use Rattle.meaning.specs.Condition as C
 use Rattle.meaning.specs.Condition.{renamed}
 use Rattle.meaning.specs.Postfix.{Node, leaf, all_of, any_of, leaves}
 use Rattle.meaning.specs.Grammar.{Given, constant, mark, Term, column, given, Dotted}
-use Rattle.meaning.specs.Limits.{most-items, most-marks, most-comparisons, is_within32, mark_in, mark_count}
+use Rattle.meaning.specs.Limits.{most_items, most_marks, most_comparisons, is_within32, mark_in, mark_count}
 use Rattle.meaning.specs.Names.{Schema, no_schema, same_name, has, position, table_names, pair_place}
 use Rattle.meaning.specs.Statement.{numbered, value}
 use Rattle.meaning.specs.Resolve.{resolve_nodes, mark_in_operand, is_below}
@@ -180,10 +180,10 @@ places_below n at = all (λ (i : ℕ). ltb i n) at
 
 -- what was noted is within the limits
 pub record Fits (s ps : List ℕ) (e : Entry) : Type 0 where
-  pub listed : e.listed ≤ most-items
-  pub marks : e.c.marks ≤ most-marks
+  pub listed : e.listed ≤ most_items
+  pub marks : e.c.marks ≤ most_marks
   pub nodes : e.c.nodes ≤ 15
-  pub comparisons : (b : Bool) → length (leaves (nodes_on b s e.c.nodes ps)) ≤ most-comparisons
+  pub comparisons : (b : Bool) → length (leaves (nodes_on b s e.c.nodes ps)) ≤ most_comparisons
 
 -- the columns of its list, and its condition where m marks stand before it
 abbrev pub listed_on : (b : Bool) → List ℕ → List ℕ → Entry → List (Column b)

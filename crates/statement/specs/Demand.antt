@@ -34,8 +34,8 @@ OthersStay = (k : ℕ) → length predicates ≤ k → opposite_of k ≡ k
 -- ---- all of these
 
 pub record Demands : Type 0 where
-  pub opposite-twice : OppositeTwice
-  pub opposite-negates : OppositeNegates
-  pub opposite-is-rule : OppositeIsRule
-  pub numbers-stand : NumbersStand
-  pub others-stay : OthersStay
+  pub opposite_twice : OppositeTwice
+  pub opposite_negates : OppositeNegates
+  pub opposite_is_rule : OppositeIsRule
+  pub numbers_stand : NumbersStand
+  pub others_stay : OthersStay

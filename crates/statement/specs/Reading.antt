@@ -6,7 +6,7 @@ use Rattle.meaning.specs.Postfix.{nodes}
 use Rattle.meaning.specs.Tokens as T
 use Rattle.meaning.specs.Tokens.{tokens, rparen}
 use Rattle.meaning.specs.Grammar.{Term, column, given, Test, comparison, Dotted, Reader, then, done, expect, a_name, a_dotted, a_term, a_null, a_comparison, a_condition, name_of}
-use Rattle.meaning.specs.Limits.{most-name, most-depth, outside32, term_givens, mark_count}
+use Rattle.meaning.specs.Limits.{most_name, most_depth, outside32, term_givens, mark_count}
 use Rattle.token.specs.declared.Token.{Token}
 use Rattle.token.specs.Tokens.{token_at}
 use Rattle.statement.specs.Operators.{opposite_of}
@@ -18,7 +18,7 @@ use Rattle.statement.specs.declared.conditions.Side.{Side}
 
 -- a name of more than 12 bytes, or a constant outside 32 bits
 unfoldable pub token_past : ℕ → ℕ → ℕ → Bool
-token_past kind start next = eqb kind 4 || (eqb kind 2 && ltb most-name (next - start))
+token_past kind start next = eqb kind 4 || (eqb kind 2 && ltb most_name (next - start))
 
 abbrev pub past : Token → Bool
 past t = token_past t.kind t.start t.next
@@ -50,7 +50,7 @@ abbrev pub with_sides : ℕ → Side → Side → Cursor → Cursor
 with_sides depth a b c =
     record {
       ok = true;
-      over = c.over || (ltb most-depth depth || (a.over || b.over));
+      over = c.over || (ltb most_depth depth || (a.over || b.over));
       dotted = c.dotted;
       nodes = c.nodes;
       marks = c.marks + (a.marks + b.marks);
@@ -76,8 +76,8 @@ pub record PutsNull (xs : List ℕ) (c : Cursor) (positive : Bool) (depth : ℕ)
 pub record Stands (s : List ℕ) (c : Cursor) : Type 0 where
   pub short : length s ≤ 256
   pub inside : c.at ≤ length s
-  pub few-nodes : c.nodes ≤ c.at
-  pub few-marks : c.marks ≤ c.at
+  pub few_nodes : c.nodes ≤ c.at
+  pub few_marks : c.marks ≤ c.at
 
 -- ---- what is read
 
@@ -94,15 +94,15 @@ a_column true = a_dotted
 
 -- past a limit by itself: a name of more than 12 bytes, of a dotted column either; a constant outside 32 bits; a comparison under more than 8 parentheses and NOTs
 abbrev pub long_column : (b : Bool) → Column b → Bool
-long_column false n = ltb most-name (length n)
-long_column true c = ltb most-name (length c.0) || ltb most-name (length c.1)
+long_column false n = ltb most_name (length n)
+long_column true c = ltb most_name (length c.0) || ltb most_name (length c.1)
 
 abbrev pub term_past : (b : Bool) → Operand b → Bool
 term_past b (column c) = long_column b c
 term_past b (given v) = outside32 v
 
 abbrev pub condition_past : (b : Bool) {l : Level} → ℕ → Condition (Operand b) l → Bool
-condition_past b d (compare c) = ltb most-depth d || (term_past b c.left || term_past b c.right)
+condition_past b d (compare c) = ltb most_depth d || (term_past b c.left || term_past b c.right)
 condition_past b d (negate c) = condition_past b (d + 1) c
 condition_past b d (group c) = condition_past b (d + 1) c
 condition_past b d (alone c) = condition_past b d c
@@ -168,8 +168,8 @@ pub record Found (b : Bool) {l : Level} (s : List ℕ) (positive : Bool) (depth 
   pub stands : Stands s r
   pub left : tokens (drop r.at s) ≡ more
   pub over : r.over ≡ (c.over || condition_past b depth (mapped comparison t))
-  pub nodes-are : r.nodes ≡ c.nodes + length (nodes positive (mapped comparison t))
-  pub marks-are : r.marks ≡ c.marks + marks_in (mapped comparison t)
+  pub nodes_are : r.nodes ≡ c.nodes + length (nodes positive (mapped comparison t))
+  pub marks_are : r.marks ≡ c.marks + marks_in (mapped comparison t)
   pub noted : r.nodes ≤ 15 → nodes_on b s r.nodes ys ≡ nodes_on b s c.nodes xs ++ nodes positive (mapped comparison t)
   pub bare : r.nodes ≤ 15 → bare_marks_on r.nodes ys ≡ bare_marks_on c.nodes xs ++ bare_marks depth (mapped comparison t)
   pub spread : r.nodes + c.at ≤ c.nodes + r.at

@@ -9,7 +9,7 @@ use Rattle.meaning.specs.Postfix.{nodes_in}
 use Rattle.meaning.specs.Tokens as T
 use Rattle.meaning.specs.Tokens.{Name, Token, tokens}
 use Rattle.meaning.specs.Grammar.{Given, comparison, Dotted, items, Sentence, table, select, pair, insert, update, delete, Reader, expect, constant_of, a_token, a_name, a_dotted, a_given, a_setting, a_list, a_size_word, a_where, a_delete, a_sentence}
-use Rattle.meaning.specs.Limits.{most-name, most-rows, most-items, most-marks, most-comparisons, table_named, where_of, term_givens, mark_count, givens, outside32, past_limit}
+use Rattle.meaning.specs.Limits.{most_name, most_rows, most_items, most_marks, most_comparisons, table_named, where_of, term_givens, mark_count, givens, outside32, past_limit}
 use Rattle.token.specs.declared.Token.{Token as Read}
 use Rattle.token.specs.Tokens.{kind_of, token_at}
 use Rattle.statement.specs.Places.{token_on, name_on, given_on, column_on, nodes_on, bare_marks_on}
@@ -63,8 +63,8 @@ pub record Counts (c r : Cursor) (past : Bool) (marks : ℕ) : Type 0 where
   pub dotted : r.dotted ≡ c.dotted
   pub moved : c.at < r.at
   pub over : r.over ≡ (c.over || past)
-  pub marks-are : r.marks ≡ c.marks + marks
-  pub nodes-are : r.nodes ≡ c.nodes
+  pub marks_are : r.marks ≡ c.marks + marks
+  pub nodes_are : r.nodes ≡ c.nodes
 
 -- ---- tokens
 
@@ -77,7 +77,7 @@ abbrev pub Expects : List ℕ → ℕ → Cursor → Cursor → Type 0
 Expects s k c r = (t : Token) → kind_of t ≡ k → ExpectsToken s t c r
 
 abbrev pub is_long_name : Name → Bool
-is_long_name n = ltb most-name (length n)
+is_long_name n = ltb most_name (length n)
 
 abbrev pub Names : List ℕ → Cursor → Placed → Type 0
 Names s c r = After s a_name (λ n. Counts c r.c (is_long_name n) 0 × (name_on s r.place ≡ n)) c r.c
@@ -99,7 +99,7 @@ is_size k = eqb k 16 || eqb k 30
 
 -- ROWS or RING is 1 to 512
 abbrev pub outside_rows : ℤ → Bool
-outside_rows z = not (le_z (pos 1) z && le_z z (pos most-rows))
+outside_rows z = not (le_z (pos 1) z && le_z z (pos most_rows))
 
 abbrev pub CountsRows : List ℕ → Cursor → Placed → Type 0
 CountsRows s c r = After s (a_token constant_of) (λ z. Counts c r.c (outside_rows z) 0 × (token_on s r.place ≡ T.constant z)) c r.c
@@ -109,7 +109,7 @@ is_between k low high = leb low k && leb k high
 
 -- by the numbers of its token
 abbrev pub is_rows_past : ℕ → ℤ → Bool
-is_rows_past k z = eqb k 4 || (lt_z z (pos 1) || lt_z (pos most-rows) z)
+is_rows_past k z = eqb k 4 || (lt_z z (pos 1) || lt_z (pos most_rows) z)
 
 -- ---- lists: of names, of values, of settings, of dotted columns (A.1)
 
@@ -161,8 +161,8 @@ kind_at n = cond (eqb n 0) names (cond (eqb n 1) values (cond (eqb n 2) settings
 
 -- an item at the end, by the places of its name and its value: noted if it is one of the first eight, for which there is room
 pub record PutsItem (xs : List ℕ) (n a b : ℕ) (ys : List ℕ) : Type 0 where
-  pub size : length xs ≡ 2 * most-items
-  pub noted : n < most-items → ys ≡ set (set xs (2 * n) a) (2 * n + 1) b
+  pub size : length xs ≡ 2 * most_items
+  pub noted : n < most_items → ys ≡ set (set xs (2 * n) a) (2 * n + 1) b
 
 -- what a list asks that is read on after l items
 pub record Within (s : List ℕ) (c : Cursor) (l : ℕ) : Type 0 where
@@ -173,8 +173,8 @@ pub record Within (s : List ℕ) (c : Cursor) (l : ℕ) : Type 0 where
 -- the items `found` were read from c on, up to r, after l others: counted, and noted if there was room
 pub record Holds (k : Kind) (s xs : List ℕ) (c : Cursor) (l : ℕ) (ys : List ℕ) (r : Listing) (found : List (Content k)) : Type 0 where
   pub counts : Counts c r.c (list_past (columns_in k found) (values_in k found)) (mark_count (values_in k found))
-  pub listed-are : r.listed ≡ l + length found
-  pub noted : r.listed ≤ most-items → items_on (item_on k s) r.listed ys ≡ items_on (item_on k s) l xs ++ found
+  pub listed_are : r.listed ≡ l + length found
+  pub noted : r.listed ≤ most_items → items_on (item_on k s) r.listed ys ≡ items_on (item_on k s) l xs ++ found
 
 abbrev pub ReadsItem : Kind → List ℕ → List ℕ → Cursor → ℕ → List ℕ → Listing → Type 0
 ReadsItem k s xs c l ys r = After s (item_reader k) (λ x. Holds k s xs c l ys r (x ∷ [])) c r.c
@@ -194,8 +194,8 @@ bare_marks_in (under t) = bare_marks 0 t
 
 pub record Filters (b : Bool) (s : List ℕ) (c : Cursor) (xs : List ℕ) (r : Cursor) (ys : List ℕ) (w : Where (Operand b)) : Type 0 where
   pub over : r.over ≡ (c.over || where_past b w)
-  pub marks-are : r.marks ≡ c.marks + mark_count (term_givens (operands_in w))
-  pub nodes-are : r.nodes ≡ c.nodes + length (nodes_in w)
+  pub marks_are : r.marks ≡ c.marks + mark_count (term_givens (operands_in w))
+  pub nodes_are : r.nodes ≡ c.nodes + length (nodes_in w)
   pub noted : r.nodes ≤ 15 → nodes_on b s r.nodes ys ≡ nodes_on b s c.nodes xs ++ nodes_in w
   pub bare : r.nodes ≤ 15 → bare_marks_on r.nodes ys ≡ bare_marks_on c.nodes xs ++ bare_marks_in w
 
@@ -234,7 +234,7 @@ list_length (delete t w) = 0
 
 -- past a limit by a part of its own, or by too many items, question marks or comparisons; a condition of n nodes has (n + 1) / 2 comparisons
 abbrev pub over_on : Entry → Bool
-over_on r = r.c.over || (ltb most-items r.listed || (ltb most-marks r.c.marks || ltb most-comparisons ((r.c.nodes + 1) / 2)))
+over_on r = r.c.over || (ltb most_items r.listed || (ltb most_marks r.c.marks || ltb most_comparisons ((r.c.nodes + 1) / 2)))
 
 -- A.4: whether a TABLE has RING
 abbrev pub ring_of : Sentence → Bool
@@ -256,11 +256,11 @@ RowsAt s p (delete t w) = Unit {0}
 
 -- the first n items that are noted name the columns of the list, in the forms that name columns
 abbrev pub NamesAt : List ℕ → ℕ → List ℕ → Sentence → Type 0
-NamesAt s n ls (table t cs ring z) = n ≤ most-items → names_on s n ls ≡ items cs
-NamesAt s n ls (select cs t w) = n ≤ most-items → names_on s n ls ≡ items cs
-NamesAt s n ls (pair cs t u w) = n ≤ most-items → dotted_on s n ls ≡ items cs
+NamesAt s n ls (table t cs ring z) = n ≤ most_items → names_on s n ls ≡ items cs
+NamesAt s n ls (select cs t w) = n ≤ most_items → names_on s n ls ≡ items cs
+NamesAt s n ls (pair cs t u w) = n ≤ most_items → dotted_on s n ls ≡ items cs
 NamesAt s n ls (insert t vs) = Unit {0}
-NamesAt s n ls (update t ss w) = n ≤ most-items → names_on s n ls ≡ map (λ (x : Name × Given). x.0) (items ss)
+NamesAt s n ls (update t ss w) = n ≤ most_items → names_on s n ls ≡ map (λ (x : Name × Given). x.0) (items ss)
 NamesAt s n ls (delete t w) = Unit {0}
 
 -- they give the values of the list, in the forms that give values
@@ -268,8 +268,8 @@ abbrev pub GivensAt : List ℕ → ℕ → List ℕ → Sentence → Type 0
 GivensAt s n ls (table t cs ring z) = Unit {0}
 GivensAt s n ls (select cs t w) = Unit {0}
 GivensAt s n ls (pair cs t u w) = Unit {0}
-GivensAt s n ls (insert t vs) = n ≤ most-items → givens_on s n ls ≡ items vs
-GivensAt s n ls (update t ss w) = n ≤ most-items → givens_on s n ls ≡ map (λ (x : Name × Given). x.1) (items ss)
+GivensAt s n ls (insert t vs) = n ≤ most_items → givens_on s n ls ≡ items vs
+GivensAt s n ls (update t ss w) = n ≤ most_items → givens_on s n ls ≡ map (λ (x : Name × Given). x.1) (items ss)
 GivensAt s n ls (delete t w) = Unit {0}
 
 -- A.1: its second table's name stands at p
@@ -307,9 +307,9 @@ pub record Entered (s ls ps : List ℕ) (r : Entry) (x : Sentence) : Type 0 wher
   pub table : name_on s r.table ≡ table_named x
   pub rows : RowsAt s r.rows x
   pub ring : r.ring ≡ ring_of x
-  pub listed-are : r.listed ≡ list_length x
-  pub marks-are : r.c.marks ≡ mark_count (givens x)
-  pub nodes-are : r.c.nodes ≡ length (nodes_in (where_of x))
+  pub listed_are : r.listed ≡ list_length x
+  pub marks_are : r.c.marks ≡ mark_count (givens x)
+  pub nodes_are : r.c.nodes ≡ length (nodes_in (where_of x))
   pub noted : NodesAt s r.c.nodes ps x
   pub bare : BareAt r.c.nodes ps x
   pub second : SecondAt s r.second x

@@ -12,7 +12,7 @@ use Rattle.meaning.specs.Postfix.{Node, leaf, all_of, any_of, nodes_in, leaves, 
 use Rattle.meaning.specs.Resolve.{parameter_count, numbered_on, numbered_from, columns_below, is_test}
 use Rattle.meaning.specs.Tokens.{is_name, tokens}
 use Rattle.meaning.specs.Grammar.{Sentence, spell}
-use Rattle.meaning.specs.Limits.{most-items, most-rows, most-marks, most-comparisons, most-name, is_within32, past_limit}
+use Rattle.meaning.specs.Limits.{most_items, most_rows, most_marks, most_comparisons, most_name, is_within32, past_limit}
 use Rattle.meaning.specs.Names.{Schema, no_schema, same_name, has, table_names, unknown, taken, miscounted, twice}
 use Rattle.meaning.specs.Statement as M
 use Rattle.meaning.specs.Statement.{column, value, constant, parameter, creates, asks, changes, statement_of}
@@ -125,10 +125,10 @@ pub record Passes (ts : List Schema) (s : Sentence) : Type 0 where
 
 -- the stored condition is that WHERE in every used entry
 pub record AgreesCondition (c : Condition) (w : Where M.Operand) : Type 0 where
-  pub count-is : c.count ≡ length (comparisons_in w)
-  pub steps-are : used_steps c ≡ map step_of (nodes_in w)
-  pub operators-are : map (λ (k : Comparison). k.op) (used_comparisons c) ≡ map (λ (k : C.Comparison M.Operand). predicate_number k.op) (leaves (nodes_in w))
-  pub nodes-are : condition_nodes c ≡ nodes_in w
+  pub count_is : c.count ≡ length (comparisons_in w)
+  pub steps_are : used_steps c ≡ map step_of (nodes_in w)
+  pub operators_are : map (λ (k : Comparison). k.op) (used_comparisons c) ≡ map (λ (k : C.Comparison M.Operand). predicate_number k.op) (leaves (nodes_in w))
+  pub nodes_are : condition_nodes c ≡ nodes_in w
 
 -- A.6: the marks of a question over two tables are those of the comparisons that are outer in its WHERE; over one table they are not read
 abbrev pub AgreesOuter : Option M.Second → Query → Where M.Operand → Type 0
@@ -138,28 +138,28 @@ AgreesOuter (some s) q w = outer_read q ≡ outer_marks_in w
 pub record AgreesQuery (q : Query) (r : M.Query) : Type 0 where
   pub table_is : q.table ≡ r.table
   pub second_is : second_read q ≡ r.second
-  pub count-is : q.count ≡ length r.selected
-  pub selected-are : take q.count q.selected ≡ r.selected
-  pub parameters-are : q.parameters ≡ r.parameters
-  pub condition-is : AgreesCondition q.condition r.condition
-  pub outer-are : AgreesOuter r.second q r.condition
+  pub count_is : q.count ≡ length r.selected
+  pub selected_are : take q.count q.selected ≡ r.selected
+  pub parameters_are : q.parameters ≡ r.parameters
+  pub condition_is : AgreesCondition q.condition r.condition
+  pub outer_are : AgreesOuter r.second q r.condition
 
 pub record AgreesUpdate (u : Update) (r : M.Update) : Type 0 where
-  pub form-is : u.form ≡ form_of_change r.change
+  pub form_is : u.form ≡ form_of_change r.change
   pub table_is : u.table ≡ r.table
-  pub count-is : u.count ≡ length (settings_of_change r.change)
-  pub settings-are : settings_read u ≡ settings_of_change r.change
-  pub parameters-are : u.parameters ≡ r.parameters
-  pub condition-is : AgreesCondition u.condition (where_of_change r.change)
+  pub count_is : u.count ≡ length (settings_of_change r.change)
+  pub settings_are : settings_read u ≡ settings_of_change r.change
+  pub parameters_are : u.parameters ≡ r.parameters
+  pub condition_is : AgreesCondition u.condition (where_of_change r.change)
 
 pub record AgreesTable (t : Table) (r : Schema) : Type 0 where
-  pub name-length : t.name.len ≡ length r.name
-  pub name-is : name_of_struct t.name ≡ r.name
-  pub count-is : t.count ≡ length r.columns
-  pub column-lengths : map (λ (n : Name). n.len) (used_columns t) ≡ map length r.columns
-  pub columns-are : map name_of_struct (used_columns t) ≡ r.columns
-  pub capacity-is : t.capacity ≡ r.capacity
-  pub ring-is : t.ring ≡ r.ring
+  pub name_length : t.name.len ≡ length r.name
+  pub name_is : name_of_struct t.name ≡ r.name
+  pub count_is : t.count ≡ length r.columns
+  pub column_lengths : map (λ (n : Name). n.len) (used_columns t) ≡ map length r.columns
+  pub columns_are : map name_of_struct (used_columns t) ≡ r.columns
+  pub capacity_is : t.capacity ≡ r.capacity
+  pub ring_is : t.ring ≡ r.ring
 
 -- a sentence that passes, and its statement, of which the struct is the compiled form
 pub record FromQuery (ts : List Schema) (q : Query) : Type 0 where
@@ -187,18 +187,18 @@ pub record FromTable (others : List Schema) (t : Table) : Type 0 where
 
 -- 1 to 12 bytes that are a name
 abbrev pub sound_name : Name → Bool
-sound_name n = leb n.len most-name && is_name (name_of_struct n)
+sound_name n = leb n.len most_name && is_name (name_of_struct n)
 
 -- a table beside others: refusals 5 and 7
 unfoldable pub sound_table : List Schema → Table → Bool
 sound_table others t =
     leb 1 t.count
-    && (leb t.count most-items
+    && (leb t.count most_items
     && (sound_name t.name
     && (all sound_name (used_columns t)
     && (not (repeats same_name (map name_of_struct (used_columns t)))
     && (not (has (table_names others) (name_of_struct t.name))
-    && (leb 1 t.capacity && leb t.capacity most-rows))))))
+    && (leb 1 t.capacity && leb t.capacity most_rows))))))
 
 -- tables, each beside those before it: then each is sound beside all others (proofs/SoundTables)
 abbrev pub sound_tables : List Schema → List Table → Bool
@@ -212,7 +212,7 @@ sound_predicate k = ltb k.op 8 && is_test (comparison_read k)
 -- a condition over a table of so many columns, where m question marks stand before
 unfoldable pub sound_condition : ℕ → ℕ → Condition → Bool
 sound_condition columns m c =
-    leb c.count most-comparisons
+    leb c.count most_comparisons
     && (all (λ (s : ℕ). ltb s 3) (used_steps c)
     && (all sound_predicate (used_comparisons c)
     && (is_postfix (condition_nodes c)
@@ -224,13 +224,13 @@ condition_marks c = parameter_count (sides (leaves (condition_nodes c)))
 
 -- a statement's condition, where with its own question marks there are p
 unfoldable pub sound_condition_on : ℕ → ℕ → ℕ → Condition → Bool
-sound_condition_on columns m p c = sound_condition columns m c && (eqb p (m + condition_marks c) && leb p most-marks)
+sound_condition_on columns m p c = sound_condition columns m c && (eqb p (m + condition_marks c) && leb p most_marks)
 
 -- a question of so many columns
 abbrev pub sound_query_on : ℕ → Query → Bool
 sound_query_on columns q =
     leb 1 q.count
-    && (leb q.count most-items
+    && (leb q.count most_items
     && (all (λ (i : ℕ). ltb i columns) (take q.count q.selected) && sound_condition_on columns 0 q.parameters q.condition))
 
 -- the settings of an INSERT, an UPDATE or a DELETE of a table of so many columns
@@ -239,7 +239,7 @@ sound_form zero columns u =
     eqb u.count columns && (eq_list eqb (setting_columns u) (from 0 u.count) && eqb u.condition.count 0)
 sound_form (suc zero) columns u =
     leb 1 u.count
-    && (leb u.count most-items && (all (λ (i : ℕ). ltb i columns) (setting_columns u) && not (repeats eqb (setting_columns u))))
+    && (leb u.count most_items && (all (λ (i : ℕ). ltb i columns) (setting_columns u) && not (repeats eqb (setting_columns u))))
 sound_form (suc (suc zero)) columns u = eqb u.count 0
 sound_form (suc (suc (suc k))) columns u = false
 
@@ -281,11 +281,11 @@ sound_update ts u = ltb u.table (length ts) && sound_update_on (columns_at ts u.
 
 -- the tables that there are: different names, and each within the limits
 pub record TableFits (t : Schema) : Type 0 where
-  pub some-columns : 1 ≤ length t.columns
-  pub few-columns : length t.columns ≤ most-items
+  pub some_columns : 1 ≤ length t.columns
+  pub few_columns : length t.columns ≤ most_items
   pub different : repeats same_name t.columns ≡ false
   pub names : All (λ n. is_name n ≡ true) (t.name ∷ t.columns)
-  pub short : All (λ n. length n ≤ most-name) (t.name ∷ t.columns)
+  pub short : All (λ n. length n ≤ most_name) (t.name ∷ t.columns)
 
 pub record TablesFit (ts : List Schema) : Type 0 where
   pub different : repeats same_name (table_names ts) ≡ false
@@ -308,17 +308,17 @@ pub record ConditionFits (c : Condition) : Type 0 where
 
 pub record QueryFits (q : Query) : Type 0 where
   pub eight : length q.selected ≡ 8
-  pub condition-fits : ConditionFits q.condition
+  pub condition_fits : ConditionFits q.condition
 
 pub record UpdateFits (u : Update) : Type 0 where
   pub eight : length u.settings ≡ 8
   pub constants : All (λ (s : Setting). ValueFits (new_value s)) u.settings
-  pub condition-fits : ConditionFits u.condition
+  pub condition_fits : ConditionFits u.condition
 
 abbrev pub NameFits : Name → Type 0
 NameFits n = length n.bytes ≡ 12
 
 pub record TableStructFits (t : Table) : Type 0 where
   pub eight : length t.columns ≡ 8
-  pub name-fits : NameFits t.name
-  pub columns-fit : All NameFits t.columns
+  pub name_fits : NameFits t.name
+  pub columns_fit : All NameFits t.columns

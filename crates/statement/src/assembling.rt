@@ -2,7 +2,7 @@
 ghost use Rattle.std.specs.Prelude.{◌≡◌, [], ◌+◌, ◌≤◌, ◌<◌, length, take, replicate};
 ghost use Rattle.meaning.specs.Condition.{renamed};
 ghost use Rattle.meaning.specs.Postfix.{leaves};
-ghost use Rattle.meaning.specs.Limits.{most-items, most-marks, most-comparisons};
+ghost use Rattle.meaning.specs.Limits.{most_items, most_marks, most_comparisons};
 ghost use Rattle.meaning.specs.Statement.{comparison_of};
 ghost use Rattle.meaning.specs.Resolve.{resolve_nodes};
 ghost use Rattle.statement.specs.Places.{nodes_on, bare_mark, bare_marks_on};
@@ -34,7 +34,7 @@ pub struct Settings {
 }
 
 pub fn no_settings() -> [Setting; Update::SETTINGS]
-    ensures { result ≡ replicate most-items no_setting }
+    ensures { result ≡ replicate most_items no_setting }
 {
     let none = Setting {
         column: 0,
@@ -51,7 +51,7 @@ pub fn settings_at(
     n: usize,
     columns: [u8; Update::SETTINGS],
 ) -> Settings
-    requires { n ≤ most-items }
+    requires { n ≤ most_items }
     ensures { result ≡ settings_on (take n columns) (givens_on text.now n list) }
 {
     let mut all = no_settings();
@@ -105,7 +105,7 @@ fn marks_of(c: Comparison) -> u8
 }
 
 fn no_comparisons() -> [Comparison; Condition::COMPARISONS]
-    ensures { result ≡ replicate most-comparisons no_comparison }
+    ensures { result ≡ replicate most_comparisons no_comparison }
 {
     let none = Comparison {
         op: Comparison::EQ,
@@ -152,7 +152,7 @@ pub fn condition_at(
     scope: Scope,
     marks: u8,
 ) -> Condition
-    requires { (nodes ≤ 15) × (marks ≤ most-marks) × (length (leaves (nodes_on scope.dotted text.now nodes places)) ≤ most-comparisons) }
+    requires { (nodes ≤ 15) × (marks ≤ most_marks) × (length (leaves (nodes_on scope.dotted text.now nodes places)) ≤ most_comparisons) }
     ensures { result ≡ condition_struct (resolve_nodes (place_in scope.dotted scope) marks (kept_on scope.dotted text.now nodes places)) }
 {
     let mut comparisons = no_comparisons();
@@ -202,7 +202,7 @@ fn with_mark(marks: u8, node: u16) -> u8
 
 // The marks of the outer comparisons among the nodes that are noted: the bare ones, but none under OR. Where OR is the last node, it joins them all, or none is bare.
 fn outer_marks(places: [u16; Cursor::PLACES], nodes: usize) -> u8
-    requires { (nodes ≤ 15) × (length (bare_marks_on nodes places) ≤ most-comparisons) }
+    requires { (nodes ≤ 15) × (length (bare_marks_on nodes places) ≤ most_comparisons) }
     ensures { result ≡ outer_on nodes places }
 {
     let mut marks: u8 = 0;
@@ -219,7 +219,7 @@ fn outer_marks(places: [u16; Cursor::PLACES], nodes: usize) -> u8
 
 // Those of a question over two tables; over one they are not needed.
 pub fn outer_of(dotted: bool, places: [u16; Cursor::PLACES], nodes: usize) -> u8
-    requires { (nodes ≤ 15) × (length (bare_marks_on nodes places) ≤ most-comparisons) }
+    requires { (nodes ≤ 15) × (length (bare_marks_on nodes places) ≤ most_comparisons) }
     ensures { result ≡ outer_in dotted nodes places }
 {
     if dotted {

@@ -1,6 +1,6 @@
 // The forms: statements from what was read, with names looked up in the tables that there are.
 ghost use Rattle.std.specs.Prelude.{◌≡◌, false, ◌≤◌};
-ghost use Rattle.meaning.specs.Limits.{most-items, most-marks};
+ghost use Rattle.meaning.specs.Limits.{most_items, most_marks};
 ghost use Rattle.statement.specs.Catalog.{name_of_struct, names_of, scope_names, schemas_of};
 ghost use Rattle.statement.specs.Built.{place_in, width_in, start_in, twice_in, Fits, table_on, select_on, insert_on, update_on, delete_on, form_on, pair_on, beside_on};
 
@@ -23,7 +23,7 @@ pub fn table(
     used: u8,
     cells: u32,
 ) -> Statement
-    requires { e.listed ≤ most-items }
+    requires { e.listed ≤ most_items }
     ensures { result ≡ table_on text.now list e (schemas_of tables used) cells }
 {
     let n = e.listed as usize;
@@ -91,7 +91,7 @@ fn insert(
     table: u8,
     updates: u8,
 ) -> Statement
-    requires { (e.listed ≤ most-items) × (e.c.marks ≤ most-marks) × (scope.dotted ≡ false) }
+    requires { (e.listed ≤ most_items) × (e.c.marks ≤ most_marks) × (scope.dotted ≡ false) }
     ensures { result ≡ insert_on text.now list e (scope_names scope) table updates }
 {
     let n = e.listed as usize;

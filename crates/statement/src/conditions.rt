@@ -2,7 +2,7 @@
 // each AND and OR in an array that is lent down the cycle, in postfix order with NOT pushed to the comparisons; what goes in and out by value is a cursor.
 ghost use Rattle.std.specs.Prelude.{◌≡◌, true, cond, ◌-◌, ◌≤◌, ◌<◌, length};
 ghost use Rattle.meaning.specs.Condition.{atom, conjunction, disjunction};
-ghost use Rattle.meaning.specs.Limits.{most-text};
+ghost use Rattle.meaning.specs.Limits.{most_text};
 ghost use Rattle.token.specs.Tokens.{token_at};
 ghost use Rattle.statement.specs.Operators.{opposite_of};
 ghost use Rattle.statement.specs.Places.{comparison_code};
@@ -88,7 +88,7 @@ fn room(places: [u16; Cursor::PLACES]) -> usize
 
 // A node at the end: a comparison by its operator with the places of its sides, or AND or OR. Past the last place none is noted, but it is counted.
 fn put(places: &mut [u16; Cursor::PLACES], c: Cursor, node: u16, left: u16, right: u16) -> Cursor
-    requires { c.nodes < most-text }
+    requires { c.nodes < most_text }
     ensures { PutsNode places.old c node left right places.new result }
 {
     let mut d = c;
@@ -119,7 +119,7 @@ fn put_comparison(
     op: u8,
     b: Side,
 ) -> Cursor
-    requires { (c.nodes < most-text) × (c.marks ≤ most-text) × (a.marks ≤ 1) × (b.marks ≤ 1) × (a.start ≤ most-text) × (b.start ≤ most-text) × (b.next ≤ most-text) }
+    requires { (c.nodes < most_text) × (c.marks ≤ most_text) × (a.marks ≤ 1) × (b.marks ≤ 1) × (a.start ≤ most_text) × (b.start ≤ most_text) × (b.next ≤ most_text) }
     ensures { PutsNode places.old (with_sides depth a b c) (comparison_code depth (cond positive op (opposite_of op))) a.start b.start places.new result }
 {
     let mut d = c;
@@ -142,7 +142,7 @@ fn put_null(
     op: u8,
     t: Token,
 ) -> Cursor
-    requires { (c.nodes < most-text) × (c.marks ≤ most-text) × (a.marks ≤ 1) × (a.start ≤ most-text) × (t.next ≤ most-text) }
+    requires { (c.nodes < most_text) × (c.marks ≤ most_text) × (a.marks ≤ 1) × (a.start ≤ most_text) × (t.next ≤ most_text) }
     ensures { PutsNull places.old c positive depth a op t places.new result }
 {
     if t.kind != Token::NULL {

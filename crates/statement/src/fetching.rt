@@ -1,7 +1,7 @@
 // What stands at a place of a text: names, values, sides of comparisons, a number of rows.
 ghost use Rattle.std.specs.Prelude.{◌≡◌, map, ◌-◌, ◌*◌, ◌≤◌, ◌<◌, length, take, drop, replicate};
 ghost use Rattle.meaning.specs.Tokens.{folded};
-ghost use Rattle.meaning.specs.Limits.{most-items};
+ghost use Rattle.meaning.specs.Limits.{most_items};
 ghost use Rattle.token.specs.Tokens.{token_at};
 ghost use Rattle.meaning.specs.Statement.{numbered, operand_of};
 ghost use Rattle.statement.specs.Places.{name_on, given_on, column_on};
@@ -78,7 +78,7 @@ pub fn value_at(text: &[u8], place: usize, marks: u8) -> Value
 
 // The place of a column by its first name, whose token ends at `next`: a dotted one has its own name behind the dot that follows.
 fn column_of(text: &[u8], name: Name, next: usize, scope: Scope) -> u8
-    ensures { (result ≡ place_named scope.dotted scope (name_of_struct name) (short_name (name_on text.now (token_at text.now next).next))) × (result ≤ 2 * most-items) }
+    ensures { (result ≡ place_named scope.dotted scope (name_of_struct name) (short_name (name_on text.now (token_at text.now next).next))) × (result ≤ 2 * most_items) }
 {
     if scope.dotted {
         let dot = token::next(text, next);
@@ -144,15 +144,15 @@ pub fn rows_at(text: &[u8], place: usize) -> u16
 }
 
 pub fn no_names() -> [Name; Entry::ITEMS]
-    ensures { result ≡ replicate most-items no_name }
+    ensures { result ≡ replicate most_items no_name }
 {
     [no_name(); Entry::ITEMS]
 }
 
 // The names of the first n items of a list.
 pub fn names_at(text: &[u8], list: [u16; Entry::LIST], n: usize) -> [Name; Entry::ITEMS]
-    requires { n ≤ most-items }
-    ensures { result ≡ padded most-items no_name (map name_struct (short_names (names_on text.now n list))) }
+    requires { n ≤ most_items }
+    ensures { result ≡ padded most_items no_name (map name_struct (short_names (names_on text.now n list))) }
 {
     let mut names = no_names();
     let mut i = 0;
@@ -171,8 +171,8 @@ pub fn columns_at(
     n: usize,
     scope: Scope,
 ) -> [u8; Entry::ITEMS]
-    requires { n ≤ most-items }
-    ensures { result ≡ padded most-items 0 (map (place_in scope.dotted scope) (columns_on scope.dotted text.now n list)) }
+    requires { n ≤ most_items }
+    ensures { result ≡ padded most_items 0 (map (place_in scope.dotted scope) (columns_on scope.dotted text.now n list)) }
 {
     let mut places = [0u8; Entry::ITEMS];
     let mut i = 0;

@@ -2,7 +2,7 @@
 ghost use Rattle.std.specs.Prelude.{◌≡◌, ℕ, ◌*◌, ◌≤◌, min, eqb, ltb, length, take};
 ghost use Rattle.lists.specs.Lists.{all, repeats};
 ghost use Rattle.lists.specs.Tests.{eq_list};
-ghost use Rattle.meaning.specs.Limits.{most-tables, most-items, most-name};
+ghost use Rattle.meaning.specs.Limits.{most_tables, most_items, most_name};
 ghost use Rattle.meaning.specs.Names.{same_name, position, table_names, pair_place};
 ghost use Rattle.meaning.specs.Cells.{area_size, areas_size};
 ghost use Rattle.statement.specs.Catalog.{name_of_struct, names_of, scope_names, other_names, scope_of, pair_scope, schema_of, schemas_of};
@@ -34,7 +34,7 @@ pub fn least(a: usize, b: usize) -> usize
 // ---- names
 
 fn same_bytes(x: [u8; Name::BYTES], y: [u8; Name::BYTES], n: usize) -> bool
-    requires { n ≤ most-name }
+    requires { n ≤ most_name }
     ensures { result ≡ eq_list eqb (take n x) (take n y) }
 {
     let mut i = 0;
@@ -94,7 +94,7 @@ pub fn find_table(name: Name, tables: [Table; Table::TABLES], used: u8) -> u8
 
 // The place of a column in a scope, or how many columns that has.
 pub fn find_column(name: Name, scope: Scope) -> u8
-    ensures { (result ≡ position (scope_names scope) (name_of_struct name)) × (result ≤ most-items) }
+    ensures { (result ≡ position (scope_names scope) (name_of_struct name)) × (result ≤ most_items) }
 {
     let columns = scope.columns;
     find(name, columns, scope.count)
@@ -102,7 +102,7 @@ pub fn find_column(name: Name, scope: Scope) -> u8
 
 // The place of a column if `table` is its table's name, which is `owner`, or how many columns there are.
 fn find_in(table: Name, owner: Name, name: Name, columns: [Name; Table::COLUMNS], count: u8) -> u8
-    ensures { (result ≡ place_of (name_of_struct owner) (names_of columns count) (name_of_struct table, name_of_struct name)) × (result ≤ most-items) }
+    ensures { (result ≡ place_of (name_of_struct owner) (names_of columns count) (name_of_struct table, name_of_struct name)) × (result ≤ most_items) }
 {
     if same_name(table, owner) {
         return find(name, columns, count);
@@ -112,7 +112,7 @@ fn find_in(table: Name, owner: Name, name: Name, columns: [Name; Table::COLUMNS]
 
 // The place of a dotted column in a pair of rows, or how many columns both tables have.
 pub fn find_dotted(table: Name, name: Name, scope: Scope) -> u8
-    ensures { (result ≡ pair_place (name_of_struct scope.name) (scope_names scope) (name_of_struct scope.other) (other_names scope) (name_of_struct table, name_of_struct name)) × (result ≤ 2 * most-items) }
+    ensures { (result ≡ pair_place (name_of_struct scope.name) (scope_names scope) (name_of_struct scope.other) (other_names scope) (name_of_struct table, name_of_struct name)) × (result ≤ 2 * most_items) }
 {
     let columns = scope.columns;
     let n = least(scope.count as usize, Table::COLUMNS) as u8;
@@ -126,8 +126,8 @@ pub fn find_dotted(table: Name, name: Name, scope: Scope) -> u8
 
 // The places of the first n names in a scope.
 pub fn positions(names: [Name; Entry::ITEMS], n: usize, scope: Scope) -> [u8; Entry::ITEMS]
-    requires { n ≤ most-items }
-    ensures { result ≡ padded most-items 0 (places_of (scope_names scope) (names_of names n)) }
+    requires { n ≤ most_items }
+    ensures { result ≡ padded most_items 0 (places_of (scope_names scope) (names_of names n)) }
 {
     let mut places = [0u8; Entry::ITEMS];
     let mut i = 0;
@@ -141,7 +141,7 @@ pub fn positions(names: [Name; Entry::ITEMS], n: usize, scope: Scope) -> [u8; En
 
 // Whether one of the first n names stands among them twice.
 pub fn is_repeated(names: [Name; Entry::ITEMS], n: usize) -> bool
-    requires { n ≤ most-items }
+    requires { n ≤ most_items }
     ensures { result ≡ repeats same_name (names_of names n) }
 {
     let mut found = false;
@@ -156,7 +156,7 @@ pub fn is_repeated(names: [Name; Entry::ITEMS], n: usize) -> bool
 
 // Whether the first n places are all below `limit`.
 pub fn are_below(places: [u8; Entry::ITEMS], n: usize, limit: usize) -> bool
-    requires { n ≤ most-items }
+    requires { n ≤ most_items }
     ensures { result ≡ all (λ (i : ℕ). ltb i limit) (take n places) }
 {
     let mut ok = true;
@@ -260,7 +260,7 @@ pub fn areas(tables: [Table; Table::TABLES], used: u8) -> u32
 
 // How many tables there are.
 pub fn table_count(tables: [Table; Table::TABLES], used: u8) -> usize
-    ensures { (result ≡ length (schemas_of tables used)) × (result ≤ most-tables) × (result ≡ min used most-tables) }
+    ensures { (result ≡ length (schemas_of tables used)) × (result ≤ most_tables) × (result ≡ min used most_tables) }
 {
     least(used as usize, Table::TABLES)
 }

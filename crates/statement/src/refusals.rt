@@ -1,7 +1,7 @@
 // Whether a sentence is past a limit, and which of the refusals that look at the tables it meets.
 ghost use Rattle.std.specs.Prelude.{◌≡◌, false, not, ◌&&◌, ◌||◌, ◌-◌, ◌≤◌, ltb, leb, length, take};
 ghost use Rattle.lists.specs.Lists.{all, repeats};
-ghost use Rattle.meaning.specs.Limits.{most-tables, most-items, most-comparisons};
+ghost use Rattle.meaning.specs.Limits.{most_tables, most_items, most_comparisons};
 ghost use Rattle.meaning.specs.Names.{same_name, has, table_names};
 ghost use Rattle.meaning.specs.Cells.{areas_size};
 ghost use Rattle.statement.specs.Sentences.{over_on};
@@ -17,7 +17,7 @@ use super::{
 
 // The most items that a list may have, by the form of its sentence.
 fn most_listed(form: u8) -> usize
-    ensures { result ≡ most-items }
+    ensures { result ≡ most_items }
 {
     match form {
         Entry::TABLE => Table::COLUMNS,
@@ -47,7 +47,7 @@ pub fn is_taken(
     tables: [Table; Table::TABLES],
     used: u8,
 ) -> bool
-    requires { n ≤ most-items }
+    requires { n ≤ most_items }
     ensures { result ≡ (has (table_names (schemas_of tables used)) (name_of_struct name) || repeats same_name (names_of columns n)) }
 {
     let there = (names::find_table(name, tables, used) as usize) < names::table_count(tables, used);
@@ -56,7 +56,7 @@ pub fn is_taken(
 
 // Whether there is no place for a table of that size.
 pub fn is_full(tables: [Table; Table::TABLES], used: u8, cells: u32, size: u32) -> bool
-    ensures { result ≡ (leb most-tables (length (schemas_of tables used)) || ltb (cells - areas_size (schemas_of tables used)) size) }
+    ensures { result ≡ (leb most_tables (length (schemas_of tables used)) || ltb (cells - areas_size (schemas_of tables used)) size) }
 {
     let taken = names::areas(tables, used);
     let left = if taken < cells { cells - taken } else { 0 };
@@ -88,7 +88,7 @@ fn sides_below(c: Comparison, limit: usize) -> bool
 
 // Whether all columns of a condition are below `limit`.
 fn columns_below(comparisons: [Comparison; Condition::COMPARISONS], count: u8, limit: usize) -> bool
-    requires { count ≤ most-comparisons }
+    requires { count ≤ most_comparisons }
     ensures { result ≡ all (sides_below limit) (take count comparisons) }
 {
     let n = count as usize;
@@ -133,7 +133,7 @@ pub fn refusal_of(
     twice: bool,
     full: bool,
 ) -> u8
-    requires { (n ≤ most-items) × (condition.count ≤ most-comparisons) }
+    requires { (n ≤ most_items) × (condition.count ≤ most_comparisons) }
     ensures { result ≡ lowest_by (not (places_below width (take n at) && condition_below width condition)) taken false twice full }
 {
     let comparisons = condition.comparisons;

@@ -1,7 +1,7 @@
 // Sentences: each of the forms is a row of calls. A reader takes a cursor that may have failed, and then fails too. What is read is noted as places of the
 // text: of the items of the list in one lent array, two numbers an item, and of the condition in another; names are not looked up here.
 ghost use Rattle.std.specs.Prelude.{◌≡◌, true, false, ◌+◌, ◌≤◌, ◌<◌, length, drop};
-ghost use Rattle.meaning.specs.Limits.{most-text};
+ghost use Rattle.meaning.specs.Limits.{most_text};
 ghost use Rattle.meaning.specs.Tokens.{tokens};
 ghost use Rattle.meaning.specs.Grammar.{sentence, is_paired, a_table, a_select, a_single, a_pair, an_insert, an_update};
 ghost use Rattle.statement.specs.Reading.{marks_at};
@@ -240,7 +240,7 @@ fn room(list: [u16; Entry::LIST]) -> usize
 
 // An item at the end of the list, by the places of its name and its value. Past the last place none is noted, but it is counted.
 fn put_item(list: &mut [u16; Entry::LIST], listed: u16, name: u16, value: u16) -> u16
-    requires { listed ≤ most-text }
+    requires { listed ≤ most_text }
     ensures { (result ≡ listed + 1) × PutsItem list.old listed name value list.new }
 {
     let more = listed + 1;
@@ -521,7 +521,7 @@ fn read_form(
     list: &mut [u16; Entry::LIST],
     places: &mut [u16; Cursor::PLACES],
 ) -> Entry
-    requires { length text.now ≤ most-text }
+    requires { length text.now ≤ most_text }
     ensures { ReadsAny text.now list.new places.new result }
 {
     let t = token::next(text, 0);
@@ -566,7 +566,7 @@ pub fn read_sentence(
     list: &mut [u16; Entry::LIST],
     places: &mut [u16; Cursor::PLACES],
 ) -> Entry
-    requires { length text.now ≤ most-text }
+    requires { length text.now ≤ most_text }
     ensures { Noted text.now list.new places.new result (sentence text.now) }
 {
     let mut e = read_form(text, list, places);

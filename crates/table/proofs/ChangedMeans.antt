@@ -20,7 +20,7 @@ use Rattle.meaning.specs.Statement as M
 use Rattle.meaning.specs.Statement.{insert, delete, update}
 use Rattle.meaning.specs.Meaning.{Row, meets_where, new_row, assigned, changed, rows_changed}
 use Rattle.meaning.specs.Cells.{rows_in, area_of, stored, with_area}
-use Rattle.meaning.proofs.Cells.{rows-length, rows-front, rows-wide, rows-stored, stored-length, area-length, put-length, put-there, put-before, put-after}
+use Rattle.meaning.proofs.Cells.{rows-length, rows-front, rows_wide, rows-stored, stored-length, area-length, put-length, put-there, put-before, put-after}
 use Rattle.meaning.specs.Pattern.{placed_from}
 use Rattle.meaning.specs.Plain.{is_insert}
 use Rattle.statement.specs.declared.Condition.{Condition}
@@ -54,7 +54,7 @@ rows_after (suc (suc k)) u vs rows = keep (λ (r : Row). not (meets_stored u.con
 
 -- the values of an INSERT's sentence
 pub values-are : (u : Update) (s : M.Update) → AgreesUpdate u s → (os : List M.Value) → s.change ≡ insert os → setting_values u ≡ os
-values-are u s A os e = ap (map (λ (p : ℕ × M.Value). p.1)) (A.settings-are ∙ ap settings_of_change e) ∙ placed-values 0 os
+values-are u s A os e = ap (map (λ (p : ℕ × M.Value). p.1)) (A.settings_are ∙ ap settings_of_change e) ∙ placed-values 0 os
 
 module _ (u : Update) (vs : List ℤ) (rows : List Row) where
   rows-by : (ch : M.Change) → u.form ≡ form_of_change ch → settings_read u ≡ settings_of_change ch → AgreesCondition u.condition (where_of_change ch)
@@ -79,10 +79,10 @@ module _ (u : Update) (vs : List ℤ) (rows : List Row) where
 
   -- the rows after an update are those after its sentence, and the count is
   pub rows-mean : (s : M.Update) → AgreesUpdate u s → rows_after u.form u vs rows ≡ changed s.change vs rows
-  rows-mean s A = rows-by s.change A.form-is A.settings-are A.condition-is
+  rows-mean s A = rows-by s.change A.form_is A.settings_are A.condition_is
 
   pub count-means : (s : M.Update) → AgreesUpdate u s → count_after u.form u vs rows ≡ rows_changed s.change vs rows
-  count-means s A = count_by s.change A.form-is A.condition-is
+  count-means s A = count_by s.change A.form_is A.condition_is
 
 -- ---- the rows as they lie, read from the oldest on
 
@@ -127,14 +127,14 @@ All-set (suc k) x p (cons q h) = cons q (All-set k x p h)
 module _ (u : Update) (vs : List ℤ) (c n : ℕ) (l : List ℤ) (eight : length u.settings ≡ 8) (few : u.count ≤ 8) (room : n * c ≤ length l) where
   wide_by : (full : Bool) (k form : ℕ) → (form ≡ 0 → u.count ≡ c) → All (λ (r : Row). length r ≡ c) (laid full k form u vs (rows_in c n l))
   unfolding laid
-  wide_by true k zero given = All-set k (new_row (setting_values u) vs) (row-long vs u.settings u.count eight few ∙ given refl) (rows-wide c n l room)
-  wide_by false k zero given = All-append (rows-wide c n l room) (cons (row-long vs u.settings u.count eight few ∙ given refl) nil)
+  wide_by true k zero given = All-set k (new_row (setting_values u) vs) (row-long vs u.settings u.count eight few ∙ given refl) (rows_wide c n l room)
+  wide_by false k zero given = All-append (rows_wide c n l room) (cons (row-long vs u.settings u.count eight few ∙ given refl) nil)
   wide_by full k (suc zero) given =
       let p : Row → Bool = meets_stored u.condition vs in
       let f : Row → Row = assigned (settings_read u) vs in
       All-image (settled p f)
-      (All-map (λ (r : Row) (e : length r ≡ c). settled-length p f (λ r. assigned-length (settings_read u) vs r) r ∙ e) (rows-wide c n l room))
-  wide_by full k (suc (suc j)) given = All-keep (λ (r : Row). not (meets_stored u.condition vs r)) (λ (r : Row) (e : length r ≡ c) h. e) (All-turned k (rows-wide c n l room))
+      (All-map (λ (r : Row) (e : length r ≡ c). settled-length p f (λ r. assigned-length (settings_read u) vs r) r ∙ e) (rows_wide c n l room))
+  wide_by full k (suc (suc j)) given = All-keep (λ (r : Row). not (meets_stored u.condition vs r)) (λ (r : Row) (e : length r ≡ c) h. e) (All-turned k (rows_wide c n l room))
 
 few-by : (u : Update) (vs : List ℤ) (c n : ℕ) (l : List ℤ) (most : ℕ) (full : Bool) (k form : ℕ) → n ≤ most → (form ≡ 0 → full ≡ false → n < most)
     → length (laid full k form u vs (rows_in c n l)) ≤ most
@@ -361,7 +361,7 @@ module _ (u : Update) (s : M.Update) (A : AgreesUpdate u s) (t : Table) (start :
         laid-means (is_full_ring t) t.oldest u.form u vs (rows_before t start cells)
         (record { inside = λ z e. omega (arith, oldest-there u t form-holds z e, rows-length t.count t.rows (drop start cells)); first = first })
         ∙ rows-mean u vs (drop (goes (is_full_ring t) u.form) rows_round) s A
-        ∙ ap (λ (n : ℕ). changed s.change vs (drop n rows_round)) (goes-is s.change A.form-is (oldest-there u t form-holds))
+        ∙ ap (λ (n : ℕ). changed s.change vs (drop n rows_round)) (goes-is s.change A.form_is (oldest-there u t form-holds))
         ∙ ap (λ (l : List Row). changed s.change vs (remaining_rows t s.change l)) (sym used-round)
 
     -- these are the rows that the cells hold, read from the oldest on

@@ -25,7 +25,7 @@ use Rattle.lists.proofs.Lists.{All-take, All-drop, All-every, All-get_or, All-ke
 use Rattle.lists.proofs.Places.{length-keep}
 use Rattle.lists.proofs.Turned.{All-turned, length-turned}
 use Rattle.meaning.specs.Demand.{Is32, IsRow, ReadsBack}
-use Rattle.meaning.specs.Limits.{most-items, most-rows, most-listed}
+use Rattle.meaning.specs.Limits.{most_items, most_rows, most_listed}
 use Rattle.meaning.specs.Meaning.{Row, cell, answer}
 use Rattle.meaning.specs.Cells.{rows_in}
 use Rattle.meaning.specs.Names.{Schema, same_name, has, table_names}
@@ -99,7 +99,7 @@ module _ (q : Query) (vs : List ℤ) (rows : List Row) where
   unfolding answer_stored
   listed-few = omega (arith, length-map (keep (meets_stored q.condition vs) rows) (selected_stored q), length-keep (meets_stored q.condition vs) rows)
 
-  pub put-reads-back : (out : List ℕ) → 1 ≤ length (take q.count q.selected) → length (take q.count q.selected) ≤ most-items → length rows ≤ most-rows → All Row32 rows
+  pub put-reads-back : (out : List ℕ) → 1 ≤ length (take q.count q.selected) → length (take q.count q.selected) ≤ most_items → length rows ≤ most_rows → All Row32 rows
       → length (record_stored q vs rows) ≤ length out
       → ReadsBack (put out 0 (record_stored q vs rows)) (length (take q.count q.selected)) (answer_stored q vs rows)
   put-reads-back out least few most h fits =
@@ -108,18 +108,18 @@ module _ (q : Query) (vs : List ℤ) (rows : List Row) where
 
 -- ---- the claims
 
-pub select-reads-back : SelectReadsBack
-select-reads-back q t start cells vs out A e =
+pub select_reads_back : SelectReadsBack
+select_reads_back q t start cells vs out A e =
     let rows : List Row = rows_used t start cells in
-    let n : length (take q.count q.selected) ≡ q.count = length-take-le q.count q.selected (omega (arith, A.array, A.few-selected)) in
+    let n : length (take q.count q.selected) ≡ q.count = length-take-le q.count q.selected (omega (arith, A.array, A.few_selected)) in
     subst (λ (k : ℕ). ReadsBack (leaves q t start cells vs out) k (answer_stored q vs rows)) n
-    (put-reads-back q vs rows out (omega (arith, A.some-selected)) (omega (arith, A.few-selected)) (omega (arith, used-few t start cells, A.few-rows)) (used-32 t start cells A.narrow)
+    (put-reads-back q vs rows out (omega (arith, A.some_selected)) (omega (arith, A.few_selected)) (omega (arith, used-few t start cells, A.few_rows)) (used-32 t start cells A.narrow)
     (taken out rows (record_stored q vs rows) e).0)
 
-pub select-means : SelectMeans
-select-means q q' M t start cells vs out A e =
-    subst (λ (k : ℕ). ReadsBack (leaves q t start cells vs out) k (answer q' vs (rows_used t start cells))) M.count-is
-    (subst (λ (rs : List Row). ReadsBack (leaves q t start cells vs out) q.count rs) (answer-means q q' M vs (rows_used t start cells)) (select-reads-back q t start cells vs out A e))
+pub select_means : SelectMeans
+select_means q q' M t start cells vs out A e =
+    subst (λ (k : ℕ). ReadsBack (leaves q t start cells vs out) k (answer q' vs (rows_used t start cells))) M.count_is
+    (subst (λ (rs : List Row). ReadsBack (leaves q t start cells vs out) q.count rs) (answer-means q q' M vs (rows_used t start cells)) (select_reads_back q t start cells vs out A e))
 
 -- a sound question on a sound table is askable
 pub sound-askable : (q : Query) (t : Table) (ts others : List Schema) (cells : List ℤ) → QueryFits q → sound_query ts q ≡ true → sound_table others t ≡ true → t.rows ≤ t.capacity
@@ -127,12 +127,12 @@ pub sound-askable : (q : Query) (t : Table) (ts others : List Schema) (cells : L
 unfolding sound_table
 sound-askable q t ts others cells Q s k h narrow =
     let a = query-parts ts q s in
-    let b = and_right (leb 1 t.capacity) (leb t.capacity most-rows) (and_right (not (has (table_names others) (name_of_struct t.name))) _ (and_right (not (repeats same_name (map name_of_struct (used_columns t)))) _ (and_right (all sound_name (used_columns t)) _ (and_right (sound_name t.name) _ (and_right (leb t.count most-items) _ (and_right (leb 1 t.count) _ k)))))) in
+    let b = and_right (leb 1 t.capacity) (leb t.capacity most_rows) (and_right (not (has (table_names others) (name_of_struct t.name))) _ (and_right (not (repeats same_name (map name_of_struct (used_columns t)))) _ (and_right (all sound_name (used_columns t)) _ (and_right (sound_name t.name) _ (and_right (leb t.count most_items) _ (and_right (leb 1 t.count) _ k)))))) in
     record {
       array = Q.eight;
-      some-selected = a.some-selected;
-      few-selected = a.few-selected;
-      few-rows = omega (arith, leb-true t.capacity most-rows b);
+      some_selected = a.some_selected;
+      few_selected = a.few_selected;
+      few_rows = omega (arith, leb-true t.capacity most_rows b);
       narrow = narrow;
     }
 
@@ -141,18 +141,18 @@ rows-read q t start cells vs out h e = (taken out (rows_used t start cells) (rec
 
 -- ---- request A.3
 
-pub row-test-means : RowTestMeans
-row-test-means c vs targets places numbers start P w A row short = P.says row short ∙ meets-where c w A vs row
+pub row_test_means : RowTestMeans
+row_test_means c vs targets places numbers start P w A row short = P.says row short ∙ meets-where c w A vs row
 
 -- ---- request A.1
 
 module _ (t : Table) (start : ℕ) (cells : List ℤ) where
   -- the rows of a table of a pair are those of the table
-  pub paired-rows : t.count ≤ most-items → rows_paired t start cells ≡ rows_used t start cells
-  paired-rows h = ap (λ (b : Bool). cond b (rows_used t start cells) []) (le-leb t.count most-items h)
+  pub paired-rows : t.count ≤ most_items → rows_paired t start cells ≡ rows_used t start cells
+  paired-rows h = ap (λ (b : Bool). cond b (rows_used t start cells) []) (le-leb t.count most_items h)
 
   paired-few : length (rows_paired t start cells) ≤ t.rows
-  paired-few = go (leb t.count most-items)
+  paired-few = go (leb t.count most_items)
     where
       go : (b : Bool) → length (cond b (rows_used t start cells) []) ≤ t.rows
       go true = used-few t start cells
@@ -161,29 +161,29 @@ module _ (t : Table) (start : ℕ) (cells : List ℤ) where
 -- what is said of a paired question, by whether it is refused
 module _ (out : List ℕ) (scanned n : ℕ) (rows : List Row) where
   pair-taken : (paired_in out scanned n rows).refusal ≡ 0
-      → (length rows ≤ most-listed) × (length (encode n rows) ≤ length out) × ((paired_in out scanned n rows).scanned ≡ scanned) × (paired_put out n rows ≡ put out 0 (encode n rows))
-  pair-taken e = go (ltb most-listed (length rows)) (leb (length (encode n rows)) (length out)) refl refl e
+      → (length rows ≤ most_listed) × (length (encode n rows) ≤ length out) × ((paired_in out scanned n rows).scanned ≡ scanned) × (paired_put out n rows ≡ put out 0 (encode n rows))
+  pair-taken e = go (ltb most_listed (length rows)) (leb (length (encode n rows)) (length out)) refl refl e
     where
-      go : (b f : Bool) → ltb most-listed (length rows) ≡ b → leb (length (encode n rows)) (length out) ≡ f → (said_by (paired_refusal b f) scanned (length (encode n rows))).refusal ≡ 0
-          → (length rows ≤ most-listed) × (length (encode n rows) ≤ length out) × ((said_by (paired_refusal b f) scanned (length (encode n rows))).scanned ≡ scanned)
+      go : (b f : Bool) → ltb most_listed (length rows) ≡ b → leb (length (encode n rows)) (length out) ≡ f → (said_by (paired_refusal b f) scanned (length (encode n rows))).refusal ≡ 0
+          → (length rows ≤ most_listed) × (length (encode n rows) ≤ length out) × ((said_by (paired_refusal b f) scanned (length (encode n rows))).scanned ≡ scanned)
           × (cond b out (put out 0 (encode n rows)) ≡ put out 0 (encode n rows))
       go true f eb ef z = absurd (omega arith)
-      go false true eb ef z = (ltb-false most-listed (length rows) eb, leb-true (length (encode n rows)) (length out) ef, refl, refl)
+      go false true eb ef z = (ltb-false most_listed (length rows) eb, leb-true (length (encode n rows)) (length out) ef, refl, refl)
       go false false eb ef z = absurd (omega arith)
 
-  pair-many : ((paired_in out scanned n rows).refusal ≡ 16) ↔ (most-listed < length rows)
-  pair-many = (go (ltb most-listed (length rows)) (leb (length (encode n rows)) (length out)) refl, back)
+  pair-many : ((paired_in out scanned n rows).refusal ≡ 16) ↔ (most_listed < length rows)
+  pair-many = (go (ltb most_listed (length rows)) (leb (length (encode n rows)) (length out)) refl, back)
     where
-      go : (b f : Bool) → ltb most-listed (length rows) ≡ b → (said_by (paired_refusal b f) scanned (length (encode n rows))).refusal ≡ 16 → most-listed < length rows
-      go true f eb z = ltb-true most-listed (length rows) eb
+      go : (b f : Bool) → ltb most_listed (length rows) ≡ b → (said_by (paired_refusal b f) scanned (length (encode n rows))).refusal ≡ 16 → most_listed < length rows
+      go true f eb z = ltb-true most_listed (length rows) eb
       go false true eb z = absurd (omega arith)
       go false false eb z = absurd (omega arith)
 
-      back : most-listed < length rows → (paired_in out scanned n rows).refusal ≡ 16
-      back h = ap (λ (b : Bool). (said_by (paired_refusal b (leb (length (encode n rows)) (length out))) scanned (length (encode n rows))).refusal) (lt-ltb most-listed (length rows) h)
+      back : most_listed < length rows → (paired_in out scanned n rows).refusal ≡ 16
+      back h = ap (λ (b : Bool). (said_by (paired_refusal b (leb (length (encode n rows)) (length out))) scanned (length (encode n rows))).refusal) (lt-ltb most_listed (length rows) h)
 
   pair-kept : (paired_in out scanned n rows).refusal ≢ 0 → paired_put out n rows ≡ out
-  pair-kept h = go (ltb most-listed (length rows)) (leb (length (encode n rows)) (length out)) refl h
+  pair-kept h = go (ltb most_listed (length rows)) (leb (length (encode n rows)) (length out)) refl h
     where
       go : (b f : Bool) → leb (length (encode n rows)) (length out) ≡ f → (said_by (paired_refusal b f) scanned (length (encode n rows))).refusal ≢ 0
           → cond b out (put out 0 (encode n rows)) ≡ out
@@ -192,7 +192,7 @@ module _ (out : List ℕ) (scanned n : ℕ) (rows : List Row) where
       go false false ef z = put-not out 0 (encode n rows) (omega (arith, leb-false (length (encode n rows)) (length out) ef))
 
   pair-scanned : (paired_in out scanned n rows).scanned ≤ scanned
-  pair-scanned = go (paired_refusal (ltb most-listed (length rows)) (leb (length (encode n rows)) (length out)))
+  pair-scanned = go (paired_refusal (ltb most_listed (length rows)) (leb (length (encode n rows)) (length out)))
     where
       go : (k : ℕ) → (said_by k scanned (length (encode n rows))).scanned ≤ scanned
       go zero = omega arith
@@ -202,21 +202,21 @@ module _ (out : List ℕ) (scanned n : ℕ) (rows : List Row) where
 abbrev read_by : Query → List ℤ → List Row → List Row → ℕ
 read_by q vs rows others = pairs_read (passes_stored q vs) rows others
 
-pub select-pair-reads-back : SelectPairReadsBack
-select-pair-reads-back q t start u beside cells vs out A e =
+pub select_pair_reads_back : SelectPairReadsBack
+select_pair_reads_back q t start u beside cells vs out A e =
     let k : ℕ = length (take q.count q.selected) in
     let rows : List Row = pairs_used q vs t start u beside cells in
-    let n : k ≡ q.count = length-take-le q.count q.selected (omega (arith, A.array, A.few-selected)) in
+    let n : k ≡ q.count = length-take-le q.count q.selected (omega (arith, A.array, A.few_selected)) in
     let h = pair-taken out (read_by q vs (rows_paired t start cells) (rows_paired u beside cells)) k (answer_stored q vs rows) e in
     let same : rows ≡ pairs (keep (passes_stored q vs) (rows_used t start cells)) (rows_used u beside cells) =
-    ap₂ (λ (rs os : List Row). pairs (keep (passes_stored q vs) rs) os) (paired-rows t start cells A.few-columns) (paired-rows u beside cells A.few-others) in
+    ap₂ (λ (rs os : List Row). pairs (keep (passes_stored q vs) rs) os) (paired-rows t start cells A.few_columns) (paired-rows u beside cells A.few_others) in
     let narrow : All Row32 rows =
     subst (All Row32) (sym same)
     (pairs-32 (keep (passes_stored q vs) (rows_used t start cells)) (rows_used u beside cells) (All-keep (passes_stored q vs) (λ r k m. k) (used-32 t start cells A.narrow)) (used-32 u beside cells A.narrow)) in
     subst (λ (rs : List Row). ReadsBack (pair_leaves q t start u beside cells vs out) q.count (answer_stored q vs rs)) same
     (subst (λ (j : ℕ). ReadsBack (pair_leaves q t start u beside cells vs out) j (answer_stored q vs rows)) n
     (subst (λ (bs : List ℕ). ReadsBack bs k (answer_stored q vs rows)) (sym (h.3 ∙ put-fits out 0 (record_stored q vs rows) (omega (arith, h.1))))
-    (buffer-reads-back out k (answer_stored q vs rows) (omega (arith, A.some-selected)) (omega (arith, A.few-selected)) h.0 (listed-rows q vs rows narrow))))
+    (buffer-reads-back out k (answer_stored q vs rows) (omega (arith, A.some_selected)) (omega (arith, A.few_selected)) h.0 (listed-rows q vs rows narrow))))
 
 -- the first-table rows that are paired, and what is listed of them, by Meaning (A.6): what is listed of all pairs
 module _ (q : Query) (q' : M.Query) (s : M.Second) (A : AgreesQuery q q') (e : q'.second ≡ some s) (vs : List ℤ) where
@@ -231,23 +231,23 @@ module _ (q : Query) (q' : M.Query) (s : M.Second) (A : AgreesQuery q q') (e : q
       ∙ ap (λ (rs : List Row). answer q' vs (pairs rs others)) (keep-means rows)
       ∙ skipped-pairs q' s vs rows others (subst (λ (n : ℕ). All (λ (r : Row). length r ≡ n) rows) (sym w) (used-wide t start cells))
 
-pub select-pair-means : SelectPairMeans
-select-pair-means q q' s M i t start u beside cells vs out A w e =
+pub select_pair_means : SelectPairMeans
+select_pair_means q q' s M i t start u beside cells vs out A w e =
     let rows : List Row = pairs (rows_used t start cells) (rows_used u beside cells) in
-    subst (λ (k : ℕ). ReadsBack (pair_leaves q t start u beside cells vs out) k (answer q' vs rows)) M.count-is
+    subst (λ (k : ℕ). ReadsBack (pair_leaves q t start u beside cells vs out) k (answer q' vs rows)) M.count_is
     (subst (λ (rs : List Row). ReadsBack (pair_leaves q t start u beside cells vs out) q.count rs) (paired-means q q' s M i vs t w start cells (rows_used u beside cells))
-    (select-pair-reads-back q t start u beside cells vs out A e))
+    (select_pair_reads_back q t start u beside cells vs out A e))
 
-pub too-many-exactly-if : TooManyExactlyIf
-too-many-exactly-if q t start u beside cells vs out =
+pub too_many_exactly_if : TooManyExactlyIf
+too_many_exactly_if q t start u beside cells vs out =
     pair-many out (read_by q vs (rows_paired t start cells) (rows_paired u beside cells)) (length (take q.count q.selected)) (answer_stored q vs (pairs_used q vs t start u beside cells))
 
-pub refused-leaves-buffer : RefusedLeavesBuffer
-refused-leaves-buffer q t start u beside cells vs out =
+pub refused_leaves_buffer : RefusedLeavesBuffer
+refused_leaves_buffer q t start u beside cells vs out =
     pair-kept out (read_by q vs (rows_paired t start cells) (rows_paired u beside cells)) (length (take q.count q.selected)) (answer_stored q vs (pairs_used q vs t start u beside cells))
 
-pub pair-rows-read : PairRowsRead
-pair-rows-read q q' s A i t start u beside cells vs out ht hu kt ku e =
+pub pair_rows_read : PairRowsRead
+pair_rows_read q q' s A i t start u beside cells vs out ht hu kt ku e =
     let first : rows_paired t start cells ≡ rows_used t start cells = paired-rows t start cells ht in
     let rows : length (rows_paired t start cells) ≡ t.rows = ap length first ∙ used_all t start cells kt in
     let others : length (rows_paired u beside cells) ≡ u.rows = ap length (paired-rows u beside cells hu) ∙ used_all u beside cells ku in
@@ -256,14 +256,14 @@ pair-rows-read q q' s A i t start u beside cells vs out ht hu kt ku e =
     (pair-taken out (read_by q vs (rows_paired t start cells) (rows_paired u beside cells)) (length (take q.count q.selected)) (answer_stored q vs (pairs_used q vs t start u beside cells)) e).2
     ∙ (λ j. rows j + length (kept j) * others j)
 
-pub pair-reads-at-most : PairReadsAtMost
-pair-reads-at-most q t start u beside cells vs out =
+pub pair_reads_at_most : PairReadsAtMost
+pair_reads_at_most q t start u beside cells vs out =
     let rows : List Row = rows_paired t start cells in
     let m : count (passes_stored q vs) rows ≤ t.rows = omega (arith, length-keep (passes_stored q vs) rows, paired-few t start cells) in
     omega (arith, pair-scanned out (read_by q vs rows (rows_paired u beside cells)) (length (take q.count q.selected)) (answer_stored q vs (pairs_used q vs t start u beside cells)), paired-few t start cells, mul-le-mul m (paired-few u beside cells))
 
-pub pair-test-means : PairTestMeans
-pair-test-means c vs targets places numbers start P w A row other h k = row-test-means c vs targets places numbers start P w A (row ++ other) (omega (arith, length-append row other))
+pub pair_test_means : PairTestMeans
+pair_test_means c vs targets places numbers start P w A row other h k = row_test_means c vs targets places numbers start P w A (row ++ other) (omega (arith, length-append row other))
 
 -- a sound question on two sound tables is askable
 pub sound-pair-askable : (q : Query) (t u : Table) (ts others more : List Schema) (cells : List ℤ) → QueryFits q → sound_query ts q ≡ true → sound_table others t ≡ true → sound_table more u ≡ true
@@ -273,27 +273,27 @@ sound-pair-askable q t u ts others more cells Q s k l narrow =
     let p = query-parts ts q s in
     record {
       array = Q.eight;
-      some-selected = p.some-selected;
-      few-selected = p.few-selected;
-      few-columns = sound-narrow t others k;
-      few-others = sound-narrow u more l;
+      some_selected = p.some_selected;
+      few_selected = p.few_selected;
+      few_columns = sound-narrow t others k;
+      few_others = sound-narrow u more l;
       narrow = narrow;
     }
   where
-    sound-narrow : (t : Table) (others : List Schema) → sound_table others t ≡ true → t.count ≤ most-items
-    sound-narrow t others k = leb-true t.count most-items (and_left (leb t.count most-items) _ (and_right (leb 1 t.count) _ k))
+    sound-narrow : (t : Table) (others : List Schema) → sound_table others t ≡ true → t.count ≤ most_items
+    sound-narrow t others k = leb-true t.count most_items (and_left (leb t.count most_items) _ (and_right (leb 1 t.count) _ k))
 
 -- what is said of a question over two tables of at most 8 columns, and what the buffer holds, by the rows that Meaning lists for its sentence
 module _ (q : Query) (q' : M.Query) (s : M.Second) (A : AgreesQuery q q') (e : q'.second ≡ some s) (t : Table) (start : ℕ) (u : Table) (beside : ℕ) (cells vs : List ℤ) (out : List ℕ)
-    (h : t.count ≤ most-items) (k : u.count ≤ most-items) (w : s.start ≡ t.count) where
+    (h : t.count ≤ most_items) (k : u.count ≤ most_items) (w : s.start ≡ t.count) where
   pub pair-says-means : pair_says q t start u beside cells vs out
       ≡ paired_in out (pairs_read (passes_first q' s vs) (rows_used t start cells) (rows_used u beside cells)) (length q'.selected) (answer q' vs (pairs (rows_used t start cells) (rows_used u beside cells)))
   pair-says-means =
       ap₂ (λ (rs os : List Row). paired_in out (read_by q vs rs os) (length (take q.count q.selected)) (answer_stored q vs (pairs (keep (passes_stored q vs) rs) os))) (paired-rows t start cells h) (paired-rows u beside cells k)
-      ∙ (λ i. paired_in out (length (rows_used t start cells) + length (keep-means q q' s A e vs (rows_used t start cells) i) * length (rows_used u beside cells)) (length (A.selected-are i)) (paired-means q q' s A e vs t w start cells (rows_used u beside cells) i))
+      ∙ (λ i. paired_in out (length (rows_used t start cells) + length (keep-means q q' s A e vs (rows_used t start cells) i) * length (rows_used u beside cells)) (length (A.selected_are i)) (paired-means q q' s A e vs t w start cells (rows_used u beside cells) i))
 
   pub pair-leaves-means : pair_leaves q t start u beside cells vs out
       ≡ paired_put out (length q'.selected) (answer q' vs (pairs (rows_used t start cells) (rows_used u beside cells)))
   pair-leaves-means =
       ap₂ (λ (rs os : List Row). paired_put out (length (take q.count q.selected)) (answer_stored q vs (pairs (keep (passes_stored q vs) rs) os))) (paired-rows t start cells h) (paired-rows u beside cells k)
-      ∙ ap₂ (paired_put out) (ap length A.selected-are) (paired-means q q' s A e vs t w start cells (rows_used u beside cells))
+      ∙ ap₂ (paired_put out) (ap length A.selected_are) (paired-means q q' s A e vs t w start cells (rows_used u beside cells))

@@ -79,8 +79,8 @@ module _ (t : Table) (start : ℕ) (cells : List ℤ) (h : start + row_cells t �
       ∙ row-round t.count t.oldest t.rows i (drop start cells) k m
       ∙ ap (take t.count) (drop-drop (place_round t.rows t.oldest i * t.count) start cells)
 
-pub reads-oldest-first : ReadsOldestFirst
-reads-oldest-first t start cells h k = (used_all t start cells h, row_in t start cells h k)
+pub reads_oldest_first : ReadsOldestFirst
+reads_oldest_first t start cells h k = (used_all t start cells h, row_in t start cells h k)
 
 -- ---- updates
 
@@ -124,10 +124,10 @@ module _ (u : Update) (s : M.Update) (t : Table) (start : ℕ) (cells vs : List 
       ∙ ap (oldest_after (is_full_ring t) (length (rows_before t start cells)) t.oldest) e
 
   form_of : (c : M.Change) → s.change ≡ c → u.form ≡ form_of_change c
-  form_of c e = m.agrees.form-is ∙ ap form_of_change e
+  form_of c e = m.agrees.form_is ∙ ap form_of_change e
 
   condition-of : (c : M.Change) → s.change ≡ c → AgreesCondition u.condition (where_of_change c)
-  condition-of c e = subst (λ (x : M.Change). AgreesCondition u.condition (where_of_change x)) e m.agrees.condition-is
+  condition-of c e = subst (λ (x : M.Change). AgreesCondition u.condition (where_of_change x)) e m.agrees.condition_is
 
   module _ (os : List M.Value) (e : s.change ≡ insert os) (f : is_full_ring t ≡ true) where
     there : t.oldest < t.rows
@@ -203,19 +203,19 @@ module _ (u : Update) (s : M.Update) (t : Table) (start : ℕ) (cells vs : List 
   updates ss w e = (
     starts 1 (form_of (update ss w) e),
     lie 1 (form_of (update ss w) e)
-        ∙ ap₂ (λ (p : Row → Bool) (l : List (ℕ × M.Value)). map (settled p (assigned l vs)) (rows_before t start cells)) (meets-means u.condition w (condition-of (update ss w) e) vs) (m.agrees.settings-are ∙ ap settings_of_change e),
+        ∙ ap₂ (λ (p : Row → Bool) (l : List (ℕ × M.Value)). map (settled p (assigned l vs)) (rows_before t start cells)) (meets-means u.condition w (condition-of (update ss w) e) vs) (m.agrees.settings_are ∙ ap settings_of_change e),
   )
 
 -- ---- the claims
 
-pub full-ring-pushes : FullRingPushes
-full-ring-pushes u s t start cells vs os m e f = pushes u s t start cells vs m os e f
+pub full_ring_pushes : FullRingPushes
+full_ring_pushes u s t start cells vs os m e f = pushes u s t start cells vs m os e f
 
-pub new-row-takes-cells : NewRowTakesCells
-new-row-takes-cells u s t start cells vs os m e f = (removed u s t start cells vs m os e f, new-long u s t start cells vs m os e f, takes u s t start cells vs m os e f)
+pub new_row_takes_cells : NewRowTakesCells
+new_row_takes_cells u s t start cells vs os m e f = (removed u s t start cells vs m os e f, new-long u s t start cells vs m os e f, takes u s t start cells vs m os e f)
 
-pub delete-lays-oldest-first : DeleteLaysOldestFirst
-delete-lays-oldest-first u s t start cells vs w m e = deletes u s t start cells vs m w e
+pub delete_lays_oldest_first : DeleteLaysOldestFirst
+delete_lays_oldest_first u s t start cells vs w m e = deletes u s t start cells vs m w e
 
-pub update-stays-in-place : UpdateStaysInPlace
-update-stays-in-place u s t start cells vs ss w m e = updates u s t start cells vs m ss w e
+pub update_stays_in_place : UpdateStaysInPlace
+update_stays_in_place u s t start cells vs ss w m e = updates u s t start cells vs m ss w e

@@ -14,19 +14,19 @@ use Rattle.statement.specs.Compiled.{struct_of, compiled_of}
 use Rattle.statement.specs.Sound.{AgreesCondition}
 use Rattle.statement.proofs.SoundCompiled.{query-agrees, update_agrees, compiled-is}
 use Rattle.table.specs.Demand.{PositionsFound, Demands}
-use Rattle.table.proofs.DemandRings.{reads-oldest-first, full-ring-pushes, new-row-takes-cells, delete-lays-oldest-first, update-stays-in-place}
-use Rattle.table.proofs.Demand.{select-reads-back, select-means, rows-read, row-test-means, select-pair-reads-back, select-pair-means, too-many-exactly-if, refused-leaves-buffer, pair-rows-read, pair-reads-at-most, pair-test-means}
+use Rattle.table.proofs.DemandRings.{reads_oldest_first, full_ring_pushes, new_row_takes_cells, delete_lays_oldest_first, update_stays_in_place}
+use Rattle.table.proofs.Demand.{select_reads_back, select_means, rows-read, row_test_means, select_pair_reads_back, select_pair_means, too_many_exactly_if, refused_leaves_buffer, pair_rows_read, pair_reads_at_most, pair_test_means}
 
-pub positions-found : PositionsFound
+pub positions_found : PositionsFound
 unfolding struct_of statement_of
-positions-found text tables used queries updates cells h =
+positions_found text tables used queries updates cells h =
     record {
-      selected = λ cs t w e. subst (λ (r : Statement). take r.query.count r.query.selected ≡ map (position (columns_of ts t)) (items cs)) (sym (is _ e)) (query-agrees ts (G.select cs t w) _ refl).selected-are;
-      asked = λ cs t w e. subst (λ (r : Statement). AgreesCondition r.query.condition (resolved_where (position (columns_of ts t)) 0 (mapped_in comparison w))) (sym (is _ e)) (query-agrees ts (G.select cs t w) _ refl).condition-is;
-      pair-selected = λ cs t u w e. subst (λ (r : Statement). take r.query.count r.query.selected ≡ map (pair_place t (columns_of ts t) u (columns_of ts u)) (items cs)) (sym (is _ e)) (query-agrees ts (G.pair cs t u w) _ refl).selected-are;
-      pair-asked = λ cs t u w e. subst (λ (r : Statement). AgreesCondition r.query.condition (resolved_where (pair_place t (columns_of ts t) u (columns_of ts u)) 0 (mapped_in comparison w))) (sym (is _ e)) (query-agrees ts (G.pair cs t u w) _ refl).condition-is;
-      updated = λ t ss w e. subst (λ (r : Statement). AgreesCondition r.update.condition (resolved_where (position (columns_of ts t)) (setting_marks (items ss)) (mapped_in comparison w))) (sym (is _ e)) (update_agrees ts (G.update t ss w) _ refl).condition-is;
-      deleted = λ t w e. subst (λ (r : Statement). AgreesCondition r.update.condition (resolved_where (position (columns_of ts t)) 0 (mapped_in comparison w))) (sym (is _ e)) (update_agrees ts (G.delete t w) _ refl).condition-is;
+      selected = λ cs t w e. subst (λ (r : Statement). take r.query.count r.query.selected ≡ map (position (columns_of ts t)) (items cs)) (sym (is _ e)) (query-agrees ts (G.select cs t w) _ refl).selected_are;
+      asked = λ cs t w e. subst (λ (r : Statement). AgreesCondition r.query.condition (resolved_where (position (columns_of ts t)) 0 (mapped_in comparison w))) (sym (is _ e)) (query-agrees ts (G.select cs t w) _ refl).condition_is;
+      pair_selected = λ cs t u w e. subst (λ (r : Statement). take r.query.count r.query.selected ≡ map (pair_place t (columns_of ts t) u (columns_of ts u)) (items cs)) (sym (is _ e)) (query-agrees ts (G.pair cs t u w) _ refl).selected_are;
+      pair_asked = λ cs t u w e. subst (λ (r : Statement). AgreesCondition r.query.condition (resolved_where (pair_place t (columns_of ts t) u (columns_of ts u)) 0 (mapped_in comparison w))) (sym (is _ e)) (query-agrees ts (G.pair cs t u w) _ refl).condition_is;
+      updated = λ t ss w e. subst (λ (r : Statement). AgreesCondition r.update.condition (resolved_where (position (columns_of ts t)) (setting_marks (items ss)) (mapped_in comparison w))) (sym (is _ e)) (update_agrees ts (G.update t ss w) _ refl).condition_is;
+      deleted = λ t w e. subst (λ (r : Statement). AgreesCondition r.update.condition (resolved_where (position (columns_of ts t)) 0 (mapped_in comparison w))) (sym (is _ e)) (update_agrees ts (G.delete t w) _ refl).condition_is;
     }
   where
     ts : List Schema
@@ -37,21 +37,21 @@ positions-found text tables used queries updates cells h =
 
 pub demands : Demands
 demands = record {
-  select-reads-back = select-reads-back;
-  select-means = select-means;
+  select_reads_back = select_reads_back;
+  select_means = select_means;
   rows-read = rows-read;
-  positions-found = positions-found;
-  row-test-means = row-test-means;
-  select-pair-reads-back = select-pair-reads-back;
-  select-pair-means = select-pair-means;
-  too-many-exactly-if = too-many-exactly-if;
-  refused-leaves-buffer = refused-leaves-buffer;
-  pair-rows-read = pair-rows-read;
-  pair-reads-at-most = pair-reads-at-most;
-  pair-test-means = pair-test-means;
-  reads-oldest-first = reads-oldest-first;
-  full-ring-pushes = full-ring-pushes;
-  new-row-takes-cells = new-row-takes-cells;
-  delete-lays-oldest-first = delete-lays-oldest-first;
-  update-stays-in-place = update-stays-in-place;
+  positions_found = positions_found;
+  row_test_means = row_test_means;
+  select_pair_reads_back = select_pair_reads_back;
+  select_pair_means = select_pair_means;
+  too_many_exactly_if = too_many_exactly_if;
+  refused_leaves_buffer = refused_leaves_buffer;
+  pair_rows_read = pair_rows_read;
+  pair_reads_at_most = pair_reads_at_most;
+  pair_test_means = pair_test_means;
+  reads_oldest_first = reads_oldest_first;
+  full_ring_pushes = full_ring_pushes;
+  new_row_takes_cells = new_row_takes_cells;
+  delete_lays_oldest_first = delete_lays_oldest_first;
+  update_stays_in_place = update_stays_in_place;
 }

@@ -18,7 +18,7 @@ use Rattle.lists.proofs.Places.{length-keep, flat_append, flat-length}
 use Rattle.lists.proofs.Turned.{count-turned, length-turned}
 use Rattle.meaning.specs.Meaning.{Row, assigned}
 use Rattle.meaning.specs.Cells.{rows_in, stored}
-use Rattle.meaning.proofs.Cells.{rows-length, rows-front, rows-wide, flat_rows, insert-stored}
+use Rattle.meaning.proofs.Cells.{rows-length, rows-front, rows_wide, flat_rows, insert-stored}
 use Rattle.statement.specs.declared.Table.{Table}
 use Rattle.statement.specs.declared.Update.{Update}
 use Rattle.statement.specs.Sound.{settings_read}
@@ -289,12 +289,12 @@ module _ (u : Update) (vs : List ℤ) (columns used : ℕ) (area : List ℤ) (fu
     deleted-at n area' j room m h =
         let kept : List Row = keep (λ (r : Row). not (p r)) (rows_in columns used area₁) in
         let wide : All (λ (r : Row). length r ≡ columns) kept =
-        All-keep (λ (r : Row). not (p r)) (λ (r : Row) (e : length r ≡ columns) f. e) (rows-wide columns used area₁ (omega (arith, T.same))) in
+        All-keep (λ (r : Row). not (p r)) (λ (r : Row) (e : length r ≡ columns) f. e) (rows_wide columns used area₁ (omega (arith, T.same))) in
         let few : length kept ≤ used = omega (arith, length-keep (λ (r : Row). not (p r)) (rows_in columns used area₁), rows-length columns used area₁) in
         let size : length (flat kept) ≡ length kept * columns = flat-length columns kept wide in
         let short : length (flat kept) ≤ used * columns = omega (arith, size, mul-le-mul_right columns few) in (
           ap₂ (λ (x y : ℕ). record { count = x; rows = y; oldest = 0 }) (counted n m) (left_is n m),
-          h ∙ stored-rest area₁ area (used * columns) kept short T.rest-is ∙ ap (λ (l : List Row). stored area (used * columns) (keep (λ (r : Row). not (p r)) l)) T.rows_are,
+          h ∙ stored-rest area₁ area (used * columns) kept short T.rest_is ∙ ap (λ (l : List Row). stored area (used * columns) (keep (λ (r : Row). not (p r)) l)) T.rows_are,
         )
 
     pub deleted : (k n : ℕ) (area' : List ℤ) → (k ≡ 0 → ⊥) → (k ≡ 1 → ⊥) → used * columns ≤ length area → n ≡ count p (rows_in columns used area₁)

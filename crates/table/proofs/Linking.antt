@@ -205,7 +205,7 @@ record Standing (steps : List ℕ) (n : ℕ) (ord : ℕ → ℕ) (h : ℕ → Bo
 pub record Linking (steps : List ℕ) (n : ℕ) (t starts targets : List ℕ) (depth next i : ℕ) : Type 0 where
   pub targets-32 : length targets ≡ 32
   pub starts-15 : length starts ≡ 15
-  pub starts-in : Starts starts
+  pub starts_in : Starts starts
   pub few : depth ≤ i
   pub read : next ≤ i
   pub within : i ≤ 15
@@ -281,7 +281,7 @@ module _ (steps : List ℕ) (n : ℕ) (t : List ℕ) (n8 : n ≤ 8) where
       record {
         targets-32 = U.0;
         starts-15 = l;
-        starts-in = s;
+        starts_in = s;
         few = omega arith;
         read = omega arith;
         within = omega arith;
@@ -306,7 +306,7 @@ module _ (steps : List ℕ) (n : ℕ) (t : List ℕ) (n8 : n ≤ 8) where
         (record {
           targets-32 = L.targets-32;
           starts-15 = simp length-set L.starts-15;
-          starts-in = starts-below;
+          starts_in = starts-below;
           few = omega (arith, L.few);
           read = omega (arith, L.read);
           within = omega arith;
@@ -329,7 +329,7 @@ module _ (steps : List ℕ) (n : ℕ) (t : List ℕ) (n8 : n ≤ 8) where
             go true e =
                 let q : j ≡ depth = eqb-true j depth e in
                 subst (λ (k : ℕ). get_or (set starts depth x) k 0 ≤ met) (sym q) (subst (λ (k : ℕ). k ≤ met) (sym (get_or-set_same starts depth x 0 room)) (entry_in n next n8))
-            go false e = subst (λ (k : ℕ). k ≤ met) (sym (get_or-set_other starts depth j x 0 (λ q. eqb-false j depth e q))) (L.starts-in j)
+            go false e = subst (λ (k : ℕ). k ≤ met) (sym (get_or-set_other starts depth j x 0 (λ q. eqb-false j depth e q))) (L.starts_in j)
 
         now : entries (set starts depth x) (suc depth) ≡ x ∷ entries starts depth
         now = ap₂ (λ (a : ℕ) (l : List ℕ). a ∷ l) (get_or-set_same starts depth x 0 room) (entries-set starts depth x depth (omega arith))
@@ -360,7 +360,7 @@ module _ (steps : List ℕ) (n : ℕ) (t : List ℕ) (n8 : n ≤ 8) where
         record {
           targets-32 = L.targets-32;
           starts-15 = L.starts-15;
-          starts-in = L.starts-in;
+          starts_in = L.starts_in;
           few = omega arith;
           read = omega (arith, L.read);
           within = omega arith;
@@ -395,7 +395,7 @@ module _ (steps : List ℕ) (n : ℕ) (t : List ℕ) (n8 : n ≤ 8) where
             (record {
               targets-32 = R.0 ∙ L.targets-32;
               starts-15 = L.starts-15;
-              starts-in = L.starts-in;
+              starts_in = L.starts_in;
               few = omega (arith, L.few);
               read = omega (arith, L.read);
               within = omega arith;
@@ -544,14 +544,14 @@ no-starts s e = subst (λ (l : List ℕ). (length l ≡ 15) × Starts l) (sym e)
 pub record Redirecting (a b from : ℕ) (t r : List ℕ) (j : ℕ) : Type 0 where
   pub size : length r ≡ 32
   pub size₀ : length t ≡ 32
-  pub from-a : 4 * a ≤ j
+  pub from_a : 4 * a ≤ j
   pub within : j ≤ 32
   done : (k : ℕ) → k < j → k < 32 → get_or r k 0 ≡ redirected_at a b from k (get_or t k 0)
   left : (k : ℕ) → j ≤ k → get_or r k 0 ≡ get_or t k 0
 
 module _ (a b from : ℕ) (t : List ℕ) (len : length t ≡ 32) (a8 : a ≤ 8) (b8 : b ≤ 8) where
   pub redirect-start : Redirecting a b from t t (4 * a)
-  redirect-start = record { size = len; size₀ = len; from-a = omega arith; within = omega arith; done = before; left = λ k h. refl }
+  redirect-start = record { size = len; size₀ = len; from_a = omega arith; within = omega arith; done = before; left = λ k h. refl }
     where
       before : (k : ℕ) → k < 4 * a → k < 32 → get_or t k 0 ≡ redirected_at a b from k (get_or t k 0)
       before k h m = sym (ap (λ (x : Bool). cond (x && (ltb k (4 * b) && eqb (get_or t k 0) from)) b (get_or t k 0)) (lt-leb (4 * a) k h))
@@ -562,7 +562,7 @@ module _ (a b from : ℕ) (t : List ℕ) (len : length t ≡ 32) (a8 : a ≤ 8) 
         record {
           size = simp length-set R.size;
           size₀ = len;
-          from-a = omega (arith, R.from-a);
+          from_a = omega (arith, R.from_a);
           within = omega arith;
           done = λ k l m. go k l m (eqb k j) refl;
           left = λ k l. get_or-set_other r j k x 0 (λ q. omega arith) ∙ R.left k (omega arith);
@@ -571,7 +571,7 @@ module _ (a b from : ℕ) (t : List ℕ) (len : length t ≡ 32) (a8 : a ≤ 8) 
         here : x ≡ redirected_at a b from j (get_or t j 0)
         here =
             e ∙ ap (λ (y : ℕ). cond (eqb y from) b y) (R.left j (omega arith))
-            ∙ sym (ap₂ (λ (p q : Bool). cond (p && (q && eqb (get_or t j 0) from)) b (get_or t j 0)) (le-leb (4 * a) j R.from-a) (lt-ltb j (4 * b) h))
+            ∙ sym (ap₂ (λ (p q : Bool). cond (p && (q && eqb (get_or t j 0) from)) b (get_or t j 0)) (le-leb (4 * a) j R.from_a) (lt-ltb j (4 * b) h))
 
         go : (k : ℕ) → k < j + 1 → k < 32 → (y : Bool) → eqb k j ≡ y → get_or (set r j x) k 0 ≡ redirected_at a b from k (get_or t k 0)
         go k l m true f =

@@ -27,8 +27,8 @@ module _ (q : Query) (q' : M.Query) (A : AgreesQuery q q') (vs : List ℤ) (rows
   unfolding answer_stored answer
   answer-means =
       ap₂ (λ (p : Row → Bool) (cs : List ℕ). map (λ (r : Row). map (cell r) cs) (keep p rows))
-      (λ i r. meets-where q.condition q'.condition A.condition-is vs r i) A.selected-are
+      (λ i r. meets-where q.condition q'.condition A.condition_is vs r i) A.selected_are
 
   -- and its record is that of the sentence's answer
   pub record-means : record_stored q vs rows ≡ encode (length q'.selected) (answer q' vs rows)
-  record-means = ap₂ (λ (cs : List ℕ) (rs : List Row). encode (length cs) rs) A.selected-are answer-means
+  record-means = ap₂ (λ (cs : List ℕ) (rs : List Row). encode (length cs) rs) A.selected_are answer-means

@@ -175,7 +175,7 @@ module _ (c : Condition) (vs : List ℤ) (targets places : List ℕ) (numbers : 
         ns = set (set numbers (2 * i) x) (2 * i + 1) y
 
         few : i < 8
-        few = omega (arith, F.shaped.count-is)
+        few = omega (arith, F.shaped.count_is)
 
         -- comparisons before are as they were
         kept : (k : ℕ) → k < i → (row : Row) → next_at ts ps ns row k ≡ next_at targets places numbers row k

@@ -154,10 +154,10 @@ rows-turn c k n l h e =
 module _ (c used k : ℕ) (area : List ℤ) where
   -- where the oldest lies first, or no row there is the oldest, nothing is to be done
   pub turns-none : k ≡ 0 → TurnsRows c used k area area
-  turns-none e = record { same = refl; rows_are = sym (turned_zero (rows_in c used area)) ∙ ap (λ (i : ℕ). turned i (rows_in c used area)) (sym e); rest-is = refl }
+  turns-none e = record { same = refl; rows_are = sym (turned_zero (rows_in c used area)) ∙ ap (λ (i : ℕ). turned i (rows_in c used area)) (sym e); rest_is = refl }
 
   pub turns-past : used ≤ k → TurnsRows c used k area area
-  turns-past h = record { same = refl; rows_are = sym (turned-past k (rows_in c used area) (omega (arith, rows-length c used area))); rest-is = refl }
+  turns-past h = record { same = refl; rows_are = sym (turned-past k (rows_in c used area) (omega (arith, rows-length c used area))); rest_is = refl }
 
   -- the cells of the rows in use, turned in their place
   pub turns-rows : k ≤ used → used * c ≤ length area → (z : List ℤ) → z ≡ turned (k * c) (take (used * c - 0) (drop 0 area))
@@ -178,5 +178,5 @@ module _ (c used k : ℕ) (area : List ℤ) where
             ∙ ap (rows_in c used) (take_at z rest (used * c) long ∙ is)
             ∙ rows-turn c k used front h size
             ∙ ap (turned k) (rows-front c used (used * c) area le);
-        rest-is = ap (drop (used * c)) all ∙ drop_at z rest (used * c) long;
+        rest_is = ap (drop (used * c)) all ∙ drop_at z rest (used * c) long;
       }

@@ -67,7 +67,7 @@ steps-used k n xs e l = go (leb k 8) refl
 pub record Shaped (c : Condition) (n : ℕ) : Type 0 where
   pub fifteen : length c.steps ≡ 15
   pub eight : length c.comparisons ≡ 8
-  pub count-is : n ≡ min c.count 8
+  pub count_is : n ≡ min c.count 8
 
 -- the truth of comparison i
 abbrev held_in : Condition → List ℤ → Row → ℕ → Bool
@@ -81,13 +81,13 @@ module _ (c : Condition) (vs : List ℤ) (n : ℕ) (S : Shaped c n) (row : Row) 
       cs = used_comparisons c
 
       size : length cs ≡ n
-      size = let l : length (take c.count c.comparisons) ≡ min c.count (length c.comparisons) = length-take c.count c.comparisons in omega (arith, S.count-is, S.eight)
+      size = let l : length (take c.count c.comparisons) ≡ min c.count (length c.comparisons) = length-take c.count c.comparisons in omega (arith, S.count_is, S.eight)
 
       go : (b : Bool) → ltb i n ≡ b → Next row vs (drop i cs) (cond b (held_in c vs row i) true) (drop (suc i) cs)
       go true e =
           let h : i < n = ltb-true i n e in
           let l : i < length cs = omega (arith, size) in
-          let g : get_or cs i no_comparison ≡ get_or c.comparisons i no_comparison = get_or-take c.count c.comparisons i no_comparison (omega (arith, S.count-is)) in
+          let g : get_or cs i no_comparison ≡ get_or c.comparisons i no_comparison = get_or-take c.count c.comparisons i no_comparison (omega (arith, S.count_is)) in
           subst (λ (l : List Comparison). Next row vs l (held_in c vs row i) (drop (suc i) cs))
           (sym (drop-cons cs i no_comparison l ∙ ap (λ (d : Comparison). d ∷ drop (suc i) cs) g)) more
       go false e =
@@ -102,7 +102,7 @@ module _ (c : Condition) (vs : List ℤ) (n : ℕ) (S : Shaped c n) (row : Row) 
   unfolding meets_stored condition_nodes
   runs-meets =
       ap (top true)
-      (ap (λ (ss : List ℕ). run_at (held_of n (held_in c vs row)) 0 ss []) (steps-used c.count n c.steps S.count-is S.fifteen)
+      (ap (λ (ss : List ℕ). run_at (held_of n (held_in c vs row)) 0 ss []) (steps-used c.count n c.steps S.count_is S.fifteen)
       ∙ run_is row vs (held_of n (held_in c vs row)) (used_comparisons c) each-is 0 (used_steps c) [])
 
 exit-met : (b : Bool) → eqb (exit b) met ≡ b

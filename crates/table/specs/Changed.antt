@@ -5,7 +5,7 @@ use Rattle.lists.specs.Lists.{keep, count, turned}
 use Rattle.meaning.specs.Statement as M
 use Rattle.meaning.specs.Meaning.{Row, new_row, assigned}
 use Rattle.meaning.specs.Cells.{area_of, stored, with_area}
-use Rattle.meaning.specs.Limits.{most-items}
+use Rattle.meaning.specs.Limits.{most_items}
 use Rattle.meaning.specs.Pattern.{placed_from, removal}
 use Rattle.statement.specs.declared.Setting.{Setting}
 use Rattle.statement.specs.declared.Table.{Table}
@@ -62,7 +62,7 @@ form_fits zero u t = (ltb t.rows t.capacity || (t.ring && ltb t.oldest t.rows)) 
 form_fits (suc k) u t = true
 
 unfoldable pub fits : Update → Table → ℕ → List ℤ → Bool
-fits u t start cells = area_fits t start (length cells) && (leb u.count most-items && form_fits u.form u t)
+fits u t start cells = area_fits t start (length cells) && (leb u.count most_items && form_fits u.form u t)
 
 -- an INSERT into a full ring finds an oldest row, and any other can be counted
 pub record Insertable (full : Bool) (used oldest : ℕ) : Type 0 where
@@ -71,7 +71,7 @@ pub record Insertable (full : Bool) (used oldest : ℕ) : Type 0 where
 
 -- the same of an area of so many cells by itself
 pub record ChangeFits (full : Bool) (oldest form settings columns used size : ℕ) : Type 0 where
-  pub few : settings ≤ most-items
+  pub few : settings ≤ most_items
   pub inside : used * columns ≤ size
   pub place : form ≡ 0 → Insertable full used oldest
   pub given : form ≡ 0 → settings ≡ columns
@@ -112,7 +112,7 @@ swapped i j l = set (set l i (get_or l j (pos 0))) j (get_or l i (pos 0))
 pub record TurnsRows (columns used k : ℕ) (area area' : List ℤ) : Type 0 where
   pub same : length area' ≡ length area
   pub rows_are : area_rows columns used area' ≡ turned k (area_rows columns used area)
-  pub rest-is : drop (used * columns) area' ≡ drop (used * columns) area
+  pub rest_is : drop (used * columns) area' ≡ drop (used * columns) area
 
 -- ---- A.4: the row that an INSERT into a full ring pushes out, "judged as well"
 
@@ -122,7 +122,7 @@ oldest_row t start cells = get_or (rows_paired t start cells) 0 []
 
 -- a row's values as the settings of an INSERT of constants
 abbrev pub constants_of : Row → List Setting
-constants_of r = padded most-items no_setting (map setting_struct (placed_from 0 (map M.constant r)))
+constants_of r = padded most_items no_setting (map setting_struct (placed_from 0 (map M.constant r)))
 
 -- its removal from table n as a stored update: an INSERT of its values as constants
 unfoldable pub removal_of : ℕ → Table → ℕ → List ℤ → Update

@@ -4,7 +4,7 @@ use Rattle.std.specs.Prelude.{◌≡◌, ◌≢◌, ◌↔◌, true, not, cond, 
 use Rattle.std.proofs.Math.Option.{some}
 use Rattle.lists.specs.Lists.{All, keep, count, pairs, written}
 use Rattle.meaning.specs.Demand.{Is32, ReadsBack}
-use Rattle.meaning.specs.Limits.{most-items, most-rows, most-listed}
+use Rattle.meaning.specs.Limits.{most_items, most_rows, most_listed}
 use Rattle.meaning.specs.Condition.{Optional, Where, mapped_in}
 use Rattle.meaning.specs.Grammar as G
 use Rattle.meaning.specs.Grammar.{Given, Test, comparison, Listed, Dotted, items, sentence}
@@ -39,10 +39,10 @@ leaves q t start cells vs out = put out 0 (record_stored q vs (rows_used t start
 
 -- a question of 1 to 8 columns of a table of at most 512 rows, in cells of 32 bits
 pub record Askable (q : Query) (t : Table) (cells : List ℤ) : Type 0 where
-  pub array : length q.selected ≡ most-items
-  pub some-selected : 1 ≤ q.count
-  pub few-selected : q.count ≤ most-items
-  pub few-rows : t.rows ≤ most-rows
+  pub array : length q.selected ≡ most_items
+  pub some_selected : 1 ≤ q.count
+  pub few_selected : q.count ≤ most_items
+  pub few_rows : t.rows ≤ most_rows
   pub narrow : All Is32 cells
 
 -- ---- Demand 2: "A new answer .. holds exactly the rows, in order, that the SQL meaning set down there gives, and its record reads back as those rows"
@@ -73,9 +73,9 @@ pub record Positions (ts : List Schema) (text : List ℕ) (r : Statement) : Type
   pub asked : (cs : Listed Name) (t : Name) (w : Optional (Test Name)) → sentence text ≡ some (G.select cs t w)
       → AgreesCondition r.query.condition (resolved_where (position (columns_of ts t)) 0 (mapped_in comparison w))
   -- A.1: of a question over two tables they are places in a pair of rows, counted through the columns of both
-  pub pair-selected : (cs : Listed Dotted) (t u : Name) (w : Optional (Test Dotted)) → sentence text ≡ some (G.pair cs t u w)
+  pub pair_selected : (cs : Listed Dotted) (t u : Name) (w : Optional (Test Dotted)) → sentence text ≡ some (G.pair cs t u w)
       → take r.query.count r.query.selected ≡ map (pair_place t (columns_of ts t) u (columns_of ts u)) (items cs)
-  pub pair-asked : (cs : Listed Dotted) (t u : Name) (w : Optional (Test Dotted)) → sentence text ≡ some (G.pair cs t u w)
+  pub pair_asked : (cs : Listed Dotted) (t u : Name) (w : Optional (Test Dotted)) → sentence text ≡ some (G.pair cs t u w)
       → AgreesCondition r.query.condition (resolved_where (pair_place t (columns_of ts t) u (columns_of ts u)) 0 (mapped_in comparison w))
   pub updated : (t : Name) (ss : Listed (Name × Given)) (w : Optional (Test Name)) → sentence text ≡ some (G.update t ss w)
       → AgreesCondition r.update.condition (resolved_where (position (columns_of ts t)) (setting_marks (items ss)) (mapped_in comparison w))
@@ -96,11 +96,11 @@ RowTestMeans = (c : Condition) (vs : List ℤ) (targets places : List ℕ) (numb
 
 -- a question of 1 to 8 columns of two tables of at most 8 columns each, in cells of 32 bits
 pub record PairAskable (q : Query) (t u : Table) (cells : List ℤ) : Type 0 where
-  pub array : length q.selected ≡ most-items
-  pub some-selected : 1 ≤ q.count
-  pub few-selected : q.count ≤ most-items
-  pub few-columns : t.count ≤ most-items
-  pub few-others : u.count ≤ most-items
+  pub array : length q.selected ≡ most_items
+  pub some_selected : 1 ≤ q.count
+  pub few_selected : q.count ≤ most_items
+  pub few_columns : t.count ≤ most_items
+  pub few_others : u.count ≤ most_items
   pub narrow : All Is32 cells
 
 -- the whole buffer shows what the stored question lists of the pairs of rows, "in the first table's order, and for each in the second's", but for first-table rows that do
@@ -119,7 +119,7 @@ SelectPairMeans = (q : Query) (q' : M.Query) (s : M.Second) → AgreesQuery q q'
 -- 16 exactly if more than 65,535 rows are listed, whatever the buffer; then the buffer stays as it was
 abbrev pub TooManyExactlyIf : Type 0
 TooManyExactlyIf = (q : Query) (t : Table) (start : ℕ) (u : Table) (beside : ℕ) (cells vs : List ℤ) (out : List ℕ)
-    → ((pair_says q t start u beside cells vs out).refusal ≡ 16) ↔ (most-listed < length (answer_stored q vs (pairs_used q vs t start u beside cells)))
+    → ((pair_says q t start u beside cells vs out).refusal ≡ 16) ↔ (most_listed < length (answer_stored q vs (pairs_used q vs t start u beside cells)))
 
 abbrev pub RefusedLeavesBuffer : Type 0
 RefusedLeavesBuffer = (q : Query) (t : Table) (start : ℕ) (u : Table) (beside : ℕ) (cells vs : List ℤ) (out : List ℕ)
@@ -128,7 +128,7 @@ RefusedLeavesBuffer = (q : Query) (t : Table) (start : ℕ) (u : Table) (beside 
 -- Request A.6: "For a question over two tables that is worked out anew the count becomes exactly r1 + m × r2", of tables whose rows lie inside the cells
 abbrev pub PairRowsRead : Type 0
 PairRowsRead = (q : Query) (q' : M.Query) (s : M.Second) → AgreesQuery q q' → q'.second ≡ some s → (t : Table) (start : ℕ) (u : Table) (beside : ℕ) (cells vs : List ℤ) (out : List ℕ)
-    → t.count ≤ most-items → u.count ≤ most-items → start + row_cells t ≤ length cells → beside + row_cells u ≤ length cells
+    → t.count ≤ most_items → u.count ≤ most_items → start + row_cells t ≤ length cells → beside + row_cells u ≤ length cells
     → (pair_says q t start u beside cells vs out).refusal ≡ 0
     → (pair_says q t start u beside cells vs out).scanned ≡ t.rows + count (passes_first q' s vs) (rows_used t start cells) * u.rows
 
@@ -140,7 +140,7 @@ PairReadsAtMost = (q : Query) (t : Table) (start : ℕ) (u : Table) (beside : �
 -- A.3, "or a pair of rows": what tests a row gives, of the one row behind the other, what Meaning says of the pair
 abbrev pub PairTestMeans : Type 0
 PairTestMeans = (c : Condition) (vs : List ℤ) (targets places : List ℕ) (numbers : List ℤ) (start : ℕ) → Prepared c vs targets places numbers start
-    → (w : Where M.Operand) → AgreesCondition c w → (row other : Row) → length row ≤ most-items → length other ≤ most-items
+    → (w : Where M.Operand) → AgreesCondition c w → (row other : Row) → length row ≤ most_items → length other ≤ most_items
     → passes targets places numbers start (row ++ other) ≡ meets_where w vs (row ++ other)
 
 -- ---- Request A.4: "Rows still read oldest first, wherever the first row lies in the area"
@@ -157,7 +157,7 @@ ReadsOldestFirst = (t : Table) (start : ℕ) (cells : List ℤ) → start + row_
 
 -- a stored update of the sentence s, which fits the table
 pub record Makes (u : Update) (s : M.Update) (t : Table) (start : ℕ) (cells : List ℤ) : Type 0 where
-  pub array : length u.settings ≡ most-items
+  pub array : length u.settings ≡ most_items
   pub agrees : AgreesUpdate u s
   pub fits_in : fits u t start cells ≡ true
 
@@ -194,20 +194,20 @@ UpdateStaysInPlace = (u : Update) (s : M.Update) (t : Table) (start : ℕ) (cell
 -- ---- all of these
 
 pub record Demands : Type 0 where
-  pub select-reads-back : SelectReadsBack
-  pub select-means : SelectMeans
+  pub select_reads_back : SelectReadsBack
+  pub select_means : SelectMeans
   pub rows-read : RowsRead
-  pub positions-found : PositionsFound
-  pub row-test-means : RowTestMeans
-  pub select-pair-reads-back : SelectPairReadsBack
-  pub select-pair-means : SelectPairMeans
-  pub too-many-exactly-if : TooManyExactlyIf
-  pub refused-leaves-buffer : RefusedLeavesBuffer
-  pub pair-rows-read : PairRowsRead
-  pub pair-reads-at-most : PairReadsAtMost
-  pub pair-test-means : PairTestMeans
-  pub reads-oldest-first : ReadsOldestFirst
-  pub full-ring-pushes : FullRingPushes
-  pub new-row-takes-cells : NewRowTakesCells
-  pub delete-lays-oldest-first : DeleteLaysOldestFirst
-  pub update-stays-in-place : UpdateStaysInPlace
+  pub positions_found : PositionsFound
+  pub row_test_means : RowTestMeans
+  pub select_pair_reads_back : SelectPairReadsBack
+  pub select_pair_means : SelectPairMeans
+  pub too_many_exactly_if : TooManyExactlyIf
+  pub refused_leaves_buffer : RefusedLeavesBuffer
+  pub pair_rows_read : PairRowsRead
+  pub pair_reads_at_most : PairReadsAtMost
+  pub pair_test_means : PairTestMeans
+  pub reads_oldest_first : ReadsOldestFirst
+  pub full_ring_pushes : FullRingPushes
+  pub new_row_takes_cells : NewRowTakesCells
+  pub delete_lays_oldest_first : DeleteLaysOldestFirst
+  pub update_stays_in_place : UpdateStaysInPlace

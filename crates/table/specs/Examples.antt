@@ -147,54 +147,54 @@ u = record { name = name_struct (bytes "u"); columns = map name_struct (bytes "a
 abbrev none_of : Table → Table
 none_of s = record { name = s.name; columns = s.columns; count = s.count; capacity = s.capacity; rows = 0; oldest = 0; ring = false }
 
-abbrev both-cells : List ℤ
-both-cells = pos 7 ∷ pos 120 ∷ pos 8 ∷ null ∷ pos 5 ∷ pos 6 ∷ pos 7 ∷ pos 31 ∷ pos 8 ∷ pos 20 ∷ pos 7 ∷ pos 32 ∷ []
+abbrev both_cells : List ℤ
+both_cells = pos 7 ∷ pos 120 ∷ pos 8 ∷ null ∷ pos 5 ∷ pos 6 ∷ pos 7 ∷ pos 31 ∷ pos 8 ∷ pos 20 ∷ pos 7 ∷ pos 32 ∷ []
 
 abbrev paired : String → Query
 paired text = (compiled_of (bytes text) (t ∷ u ∷ []) 2 0 0 12).query
 
 -- the rows that a question over t and u lists
-abbrev pair-listed : Table → Table → String → List Row
-pair-listed s v text = answer_stored (paired text) [] (pairs_used (paired text) [] s 0 v 6 both-cells)
+abbrev pair_listed : Table → Table → String → List Row
+pair_listed s v text = answer_stored (paired text) [] (pairs_used (paired text) [] s 0 v 6 both_cells)
 
 -- what `select_pair` says where the buffer has so many bytes, and what it leaves
-abbrev pair-said : Table → Table → String → ℕ → Selected
-pair-said s v text n = pair_says (paired text) s 0 v 6 both-cells [] (replicate n 9)
+abbrev pair_said : Table → Table → String → ℕ → Selected
+pair_said s v text n = pair_says (paired text) s 0 v 6 both_cells [] (replicate n 9)
 
 -- "Rows come in the first table's order, and for each in the second's."
-pub in_order : pair-listed t u "SELECT t.b, u.c FROM t, u"
+pub in_order : pair_listed t u "SELECT t.b, u.c FROM t, u"
     ≡ (pos 120 ∷ pos 31 ∷ []) ∷ (pos 120 ∷ pos 20 ∷ []) ∷ (pos 120 ∷ pos 32 ∷ []) ∷ (null ∷ pos 31 ∷ []) ∷ (null ∷ pos 20 ∷ []) ∷ (null ∷ pos 32 ∷ []) ∷ []
 unfolding computing
 in_order = refl
 
 -- a column of each table in one comparison
-pub joined : pair-listed t u "SELECT u.c, t.a FROM t, u WHERE t.a = u.a" ≡ (pos 31 ∷ pos 7 ∷ []) ∷ (pos 32 ∷ pos 7 ∷ []) ∷ (pos 20 ∷ pos 8 ∷ []) ∷ []
+pub joined : pair_listed t u "SELECT u.c, t.a FROM t, u WHERE t.a = u.a" ≡ (pos 31 ∷ pos 7 ∷ []) ∷ (pos 32 ∷ pos 7 ∷ []) ∷ (pos 20 ∷ pos 8 ∷ []) ∷ []
 unfolding computing
 joined = refl
 
 -- a table without rows has no pair, first or second
-pub no_pairs : (pair-listed (none_of t) u "SELECT t.b FROM t, u" ≡ []) × (pair-listed t (none_of u) "SELECT t.b FROM t, u" ≡ [])
+pub no_pairs : (pair_listed (none_of t) u "SELECT t.b FROM t, u" ≡ []) × (pair_listed t (none_of u) "SELECT t.b FROM t, u" ≡ [])
 unfolding computing
 no_pairs = (refl, refl)
 
 -- rows read: 2 + 2 × 3; with no second row 2, with no first row 0. 20 bytes hold the three rows, 19 do not
-pub pair_fits : pair-said t u "SELECT u.c FROM t, u WHERE t.a = u.a" 20 ≡ record { refusal = 0; scanned = 8; length = 20 }
+pub pair_fits : pair_said t u "SELECT u.c FROM t, u WHERE t.a = u.a" 20 ≡ record { refusal = 0; scanned = 8; length = 20 }
 unfolding computing
 pair_fits = refl
 
-pub pair-short : pair-said t u "SELECT u.c FROM t, u WHERE t.a = u.a" 19 ≡ record { refusal = 13; scanned = 0; length = 0 }
+pub pair-short : pair_said t u "SELECT u.c FROM t, u WHERE t.a = u.a" 19 ≡ record { refusal = 13; scanned = 0; length = 0 }
 unfolding computing
 pair-short = refl
 
-pub pair-empty : (pair-said t (none_of u) "SELECT u.c FROM t, u" 8 ≡ record { refusal = 0; scanned = 2; length = 8 })
-    × (pair-said (none_of t) u "SELECT u.c FROM t, u" 8 ≡ record { refusal = 0; scanned = 0; length = 8 })
+pub pair-empty : (pair_said t (none_of u) "SELECT u.c FROM t, u" 8 ≡ record { refusal = 0; scanned = 2; length = 8 })
+    × (pair_said (none_of t) u "SELECT u.c FROM t, u" 8 ≡ record { refusal = 0; scanned = 0; length = 8 })
 unfolding computing
 pair-empty = (refl, refl)
 
 -- ---- A.6: rows read are 2 + m × 3, where m rows of t pass; the marks are given here, a binary digit a comparison
 
-abbrev marked-as : ℕ → Query → Query
-marked-as n q = record {
+abbrev marked_as : ℕ → Query → Query
+marked_as n q = record {
   table = q.table;
   selected = q.selected;
   count = q.count;
@@ -206,7 +206,7 @@ marked-as n q = record {
 }
 
 abbrev pair_read : ℕ → String → ℕ
-pair_read n text = (pair_says (marked-as n (paired text)) t 0 u 6 both-cells [] (replicate 44 9)).scanned
+pair_read n text = (pair_says (marked_as n (paired text)) t 0 u 6 both_cells [] (replicate 44 9)).scanned
 
 -- a comparison of the first table's columns, where it is marked; one that names a column of the second is no test of the first table's rows, whatever its marks
 pub first-tested : (pair_read 3 "SELECT u.c FROM t, u WHERE t.a = 7 AND t.a = u.a" ≡ 5) × (pair_read 1 "SELECT u.c FROM t, u WHERE t.a = 7 AND t.a = u.a" ≡ 8)
@@ -221,13 +221,13 @@ unfolding computing
 first-true = (refl, refl, refl)
 
 -- the record, and a byte behind it that stays
-pub pair-written : pair_leaves (paired "SELECT u.c FROM t, u WHERE t.a = u.a AND t.b IS NULL") t 0 u 6 both-cells [] (replicate 13 9)
+pub pair-written : pair_leaves (paired "SELECT u.c FROM t, u WHERE t.a = u.a AND t.b IS NULL") t 0 u 6 both_cells [] (replicate 13 9)
     ≡ 0 ∷ 0 ∷ 0 ∷ 8 ∷ 1 ∷ 1 ∷ 0 ∷ 1 ∷ 0 ∷ 0 ∷ 0 ∷ 20 ∷ 9 ∷ []
 unfolding computing
 pair-written = refl
 
 -- a table of more than 8 columns, which no text makes, has no row in a pair
-pub too_wide : pairs_used (paired "SELECT t.b FROM t, u") [] (record { name = t.name; columns = t.columns; count = 9; capacity = 1; rows = 1; oldest = 0; ring = false }) 0 u 6 both-cells ≡ []
+pub too_wide : pairs_used (paired "SELECT t.b FROM t, u") [] (record { name = t.name; columns = t.columns; count = 9; capacity = 1; rows = 1; oldest = 0; ring = false }) 0 u 6 both_cells ≡ []
 too_wide = refl
 
 -- "an answer of more than 65,535 rows gives 16", whatever the buffer; 65,535 rows in a short buffer give 13
@@ -257,48 +257,48 @@ filled = pos 1 ∷ pos 10 ∷ pos 2 ∷ pos 20 ∷ pos 3 ∷ pos 30 ∷ []
 abbrev wrapped : List ℤ
 wrapped = pos 4 ∷ pos 40 ∷ pos 2 ∷ pos 20 ∷ pos 3 ∷ pos 30 ∷ []
 
-abbrev of-ring : String → Statement
-of-ring text = compiled_of (bytes text) (recent 3 0 ∷ []) 1 0 0 6
+abbrev of_ring : String → Statement
+of_ring text = compiled_of (bytes text) (recent 3 0 ∷ []) 1 0 0 6
 
 -- the cells after an update of a full ring whose oldest row lies there, what it counts, and where the oldest lies then
-abbrev ring-changed : ℕ → List ℤ → String → List ℤ × Changed
-ring-changed k cells text = (cells_after (of-ring text).update (recent 3 k) 0 cells [], change_of (of-ring text).update (recent 3 k) 0 cells [])
+abbrev ring_changed : ℕ → List ℤ → String → List ℤ × Changed
+ring_changed k cells text = (cells_after (of_ring text).update (recent 3 k) 0 cells [], change_of (of_ring text).update (recent 3 k) 0 cells [])
 
-abbrev now-at : ℕ → ℕ → ℕ → Changed
-now-at count rows oldest = record { count = count; rows = rows; oldest = oldest }
+abbrev now_at : ℕ → ℕ → ℕ → Changed
+now_at count rows oldest = record { count = count; rows = rows; oldest = oldest }
 
 -- "The new row takes the cells of the one removed"
-pub pushed-out : ring-changed 0 filled "INSERT INTO recent VALUES (4, 40)" ≡ (wrapped, now-at 1 3 1)
+pub pushed-out : ring_changed 0 filled "INSERT INTO recent VALUES (4, 40)" ≡ (wrapped, now_at 1 3 1)
 unfolding computing
 pushed-out = refl
 
 -- behind the last place comes the first
-pub place-wraps : ring-changed 2 wrapped "INSERT INTO recent VALUES (5, 50)" ≡ (pos 4 ∷ pos 40 ∷ pos 2 ∷ pos 20 ∷ pos 5 ∷ pos 50 ∷ [], now-at 1 3 0)
+pub place-wraps : ring_changed 2 wrapped "INSERT INTO recent VALUES (5, 50)" ≡ (pos 4 ∷ pos 40 ∷ pos 2 ∷ pos 20 ∷ pos 5 ∷ pos 50 ∷ [], now_at 1 3 0)
 unfolding computing
 place-wraps = refl
 
 -- "after any DELETE the oldest row lies first in the area again": of no row, and of one
-pub turned-again : ring-changed 1 wrapped "DELETE FROM recent WHERE minute = 9" ≡ (pos 2 ∷ pos 20 ∷ pos 3 ∷ pos 30 ∷ pos 4 ∷ pos 40 ∷ [], now-at 0 3 0)
+pub turned-again : ring_changed 1 wrapped "DELETE FROM recent WHERE minute = 9" ≡ (pos 2 ∷ pos 20 ∷ pos 3 ∷ pos 30 ∷ pos 4 ∷ pos 40 ∷ [], now_at 0 3 0)
 unfolding computing
 turned-again = refl
 
-pub deleted-round : ring-changed 1 wrapped "DELETE FROM recent WHERE minute = 3" ≡ (pos 2 ∷ pos 20 ∷ pos 4 ∷ pos 40 ∷ pos 0 ∷ pos 0 ∷ [], now-at 1 2 0)
+pub deleted-round : ring_changed 1 wrapped "DELETE FROM recent WHERE minute = 3" ≡ (pos 2 ∷ pos 20 ∷ pos 4 ∷ pos 40 ∷ pos 0 ∷ pos 0 ∷ [], now_at 1 2 0)
 unfolding computing
 deleted-round = refl
 
 -- an UPDATE moves no row
-pub set-in-place : ring-changed 1 wrapped "UPDATE recent SET level = 21 WHERE minute = 2" ≡ (pos 4 ∷ pos 40 ∷ pos 2 ∷ pos 21 ∷ pos 3 ∷ pos 30 ∷ [], now-at 1 3 1)
+pub set-in-place : ring_changed 1 wrapped "UPDATE recent SET level = 21 WHERE minute = 2" ≡ (pos 4 ∷ pos 40 ∷ pos 2 ∷ pos 21 ∷ pos 3 ∷ pos 30 ∷ [], now_at 1 3 1)
 unfolding computing
 set-in-place = refl
 
 -- a ring that is not full takes the row behind the others
-pub not-yet-full : (cells_after (of-ring "INSERT INTO recent VALUES (3, 30)").update (recent 2 0) 0 (pos 1 ∷ pos 10 ∷ pos 2 ∷ pos 20 ∷ pos 0 ∷ pos 0 ∷ []) [] ≡ filled)
-    × (change_of (of-ring "INSERT INTO recent VALUES (3, 30)").update (recent 2 0) 0 (pos 1 ∷ pos 10 ∷ pos 2 ∷ pos 20 ∷ pos 0 ∷ pos 0 ∷ []) [] ≡ now-at 1 3 0)
+pub not-yet-full : (cells_after (of_ring "INSERT INTO recent VALUES (3, 30)").update (recent 2 0) 0 (pos 1 ∷ pos 10 ∷ pos 2 ∷ pos 20 ∷ pos 0 ∷ pos 0 ∷ []) [] ≡ filled)
+    × (change_of (of_ring "INSERT INTO recent VALUES (3, 30)").update (recent 2 0) 0 (pos 1 ∷ pos 10 ∷ pos 2 ∷ pos 20 ∷ pos 0 ∷ pos 0 ∷ []) [] ≡ now_at 1 3 0)
 unfolding computing
 not-yet-full = (refl, refl)
 
 -- "Rows still read oldest first, wherever the first row lies in the area": the record of all rows, and a byte behind it that stays
-pub read-round : put (replicate 33 9) 0 (record_stored (of-ring "SELECT minute, level FROM recent").query [] (rows_used (recent 3 1) 0 wrapped))
+pub read-round : put (replicate 33 9) 0 (record_stored (of_ring "SELECT minute, level FROM recent").query [] (rows_used (recent 3 1) 0 wrapped))
     ≡ 0 ∷ 0 ∷ 0 ∷ 28 ∷ 1 ∷ 2 ∷ 0 ∷ 3
     ∷ 0 ∷ 0 ∷ 0 ∷ 2 ∷ 0 ∷ 0 ∷ 0 ∷ 20
     ∷ 0 ∷ 0 ∷ 0 ∷ 3 ∷ 0 ∷ 0 ∷ 0 ∷ 30
@@ -307,13 +307,13 @@ pub read-round : put (replicate 33 9) 0 (record_stored (of-ring "SELECT minute, 
 unfolding computing
 read-round = refl
 
-pub said-round : selected_in (replicate 32 0) (rows_used (recent 3 1) 0 wrapped) (record_stored (of-ring "SELECT minute, level FROM recent").query [] (rows_used (recent 3 1) 0 wrapped))
+pub said-round : selected_in (replicate 32 0) (rows_used (recent 3 1) 0 wrapped) (record_stored (of_ring "SELECT minute, level FROM recent").query [] (rows_used (recent 3 1) 0 wrapped))
     ≡ record { refusal = 0; scanned = 3; length = 32 }
 unfolding computing
 said-round = refl
 
 -- in both places of a pair
-pub paired-round : pairs_used (of-ring "SELECT minute FROM recent").query [] (recent 3 1) 0 (recent 3 2) 0 wrapped
+pub paired-round : pairs_used (of_ring "SELECT minute FROM recent").query [] (recent 3 1) 0 (recent 3 2) 0 wrapped
     ≡ (pos 2 ∷ pos 20 ∷ pos 3 ∷ pos 30 ∷ []) ∷ (pos 2 ∷ pos 20 ∷ pos 4 ∷ pos 40 ∷ []) ∷ (pos 2 ∷ pos 20 ∷ pos 2 ∷ pos 20 ∷ [])
     ∷ (pos 3 ∷ pos 30 ∷ pos 3 ∷ pos 30 ∷ []) ∷ (pos 3 ∷ pos 30 ∷ pos 4 ∷ pos 40 ∷ []) ∷ (pos 3 ∷ pos 30 ∷ pos 2 ∷ pos 20 ∷ [])
     ∷ (pos 4 ∷ pos 40 ∷ pos 3 ∷ pos 30 ∷ []) ∷ (pos 4 ∷ pos 40 ∷ pos 4 ∷ pos 40 ∷ []) ∷ (pos 4 ∷ pos 40 ∷ pos 2 ∷ pos 20 ∷ [])

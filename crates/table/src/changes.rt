@@ -3,7 +3,7 @@
 ghost use Rattle.std.specs.Prelude.{◌≡◌, cond, not, false, true, ◌&&◌, [], ◌∷◌, ◌++◌, map, reverse as reversed, ◌+◌, ◌*◌, ◌≤◌, ◌<◌, leb, pos, length, take, drop, replicate};
 ghost use Rattle.lists.specs.Lists.{keep, count, turned};
 ghost use Rattle.meaning.specs.Cells.{stored};
-ghost use Rattle.meaning.specs.Limits.{most-items};
+ghost use Rattle.meaning.specs.Limits.{most_items};
 ghost use Rattle.meaning.specs.Meaning.{value_of, assigned};
 ghost use Rattle.statement.specs.Sound.{value_read, setting_read};
 ghost use Rattle.statement.specs.Compiled.{no_setting};
@@ -42,7 +42,7 @@ fn insert_row(
     settings: [Setting; Update::SETTINGS],
     values: &[i32],
 )
-    requires { (columns ≤ most-items) × (n * columns + columns ≤ length area.old) }
+    requires { (columns ≤ most_items) × (n * columns + columns ≤ length area.old) }
     ensures { area.new ≡ stored area.old (n * columns) (area_rows columns n area.old ++ (row_of (take columns settings) values.now ∷ [])) }
 {
     let start = (n as usize) * columns;
@@ -60,7 +60,7 @@ fn insert_row(
 
 // Sets columns of a row, in order; a column that the row does not have is passed over.
 fn assign(row: &mut [i32], settings: [Setting; Update::SETTINGS], n: usize, values: &[i32])
-    requires { n ≤ most-items }
+    requires { n ≤ most_items }
     ensures { row.new ≡ assigned (map setting_read (take n settings)) values.now row.old }
 {
     let mut i = 0;
@@ -86,7 +86,7 @@ fn update_rows(
     n: usize,
     values: &[i32],
 ) -> u16
-    requires { (columns ≤ longest) × (used * columns ≤ length area.old) × (n ≤ most-items) }
+    requires { (columns ≤ longest) × (used * columns ≤ length area.old) × (n ≤ most_items) }
     ensures count { result ≡ count (meets_stored condition values.now) (area_rows columns used area.old) }
     ensures cells { area.new ≡ stored area.old (used * columns) (map (settled (meets_stored condition values.now) (assigned (map setting_read (take n settings)) values.now)) (area_rows columns used area.old)) }
 {
@@ -250,7 +250,7 @@ fn is_full(table: Table) -> bool
 
 // Whether the settings are few enough, and an INSERT has a row free, or a ring's oldest row to take the place of, and a value for each column.
 fn form_fits(update: Update, table: Table) -> bool
-    ensures { result ≡ (leb update.count most-items && form_fits update.form update table) }
+    ensures { result ≡ (leb update.count most_items && form_fits update.form update table) }
 {
     if Update::SETTINGS < (update.count as usize) {
         return false;
@@ -379,7 +379,7 @@ pub fn change(
 
 // A row's values as the first settings of an INSERT, as constants.
 fn constants(settings: [Setting; Update::SETTINGS], row: &[i32]) -> [Setting; Update::SETTINGS]
-    requires { (settings ≡ replicate most-items no_setting) × (length row.now ≤ most-items) }
+    requires { (settings ≡ replicate most_items no_setting) × (length row.now ≤ most_items) }
     ensures { result ≡ constants_of row.now }
 {
     let mut list = settings;

@@ -61,10 +61,10 @@ module _ (s : List ℕ) (at end : ℕ) (h : at < length s) (wb : is_word_byte (g
   abbrev byte : ℕ
   byte = get_or s at 0
 
-  abbrev behind-byte : List ℕ
-  behind-byte = take_while is_word_byte (drop (at + 1) s)
+  abbrev behind_byte : List ℕ
+  behind_byte = take_while is_word_byte (drop (at + 1) s)
 
-  here-is : here ≡ byte ∷ behind-byte
+  here-is : here ≡ byte ∷ behind_byte
   here-is = part-run is_word_byte s at end e ∙ ap (take_while is_word_byte) (drop_here s at h) ∙ take-yes is_word_byte byte (drop (at + 1) s) wb
 
   from-here : token_from byte (drop (at + 1) s) ≡ (word here, drop_while is_word_byte (drop at s))
@@ -85,7 +85,7 @@ module _ (s : List ℕ) (at end : ℕ) (h : at < length s) (wb : is_word_byte (g
 
   -- a word of these bytes is a name if it begins with a letter
   named-is : is_name (folded here) ≡ (is_small byte || is_capital byte)
-  named-is = ap (λ (w : List ℕ). is_name (folded w)) here-is ∙ name-begins byte behind-byte (run-all is_word_byte (drop (at + 1) s))
+  named-is = ap (λ (w : List ℕ). is_name (folded w)) here-is ∙ name-begins byte behind_byte (run-all is_word_byte (drop (at + 1) s))
 
   -- what it is if it is no keyword, and the keyword's kind
   abbrev named : M.Token
@@ -101,7 +101,7 @@ module _ (s : List ℕ) (at end : ℕ) (h : at < length s) (wb : is_word_byte (g
   by-small : is_small byte ≡ true → keyword_or keywords named here ≡ name (folded here)
   by-small f =
       keyword-or keywords named here
-      ∙ ap (λ (x : Bool). cond x (keyword_or keywords other here) named) (ap is_keyword here-is ∙ small-keyword byte behind-byte f)
+      ∙ ap (λ (x : Bool). cond x (keyword_or keywords other here) named) (ap is_keyword here-is ∙ small-keyword byte behind_byte f)
       ∙ named-yes (named-is ∙ ap (λ (x : Bool). x || is_capital byte) f)
 
   by_key : is_small byte ≡ false → keyword_or keywords named here ≡ cond (eqb key 1 && is_capital byte) (name (folded here)) (keyword_or keywords other here)

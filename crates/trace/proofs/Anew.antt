@@ -13,15 +13,15 @@ use Rattle.lists.specs.Lists.{All, nil, cons, DistinctBy, keep, any}
 use Rattle.lists.proofs.Lists.{All-head, All-right, All-map, All-take, All-keep, All-image, keep_append, keep-yes, distinct-left, distinct-take, distinct-keep, distinct-image, take-mid}
 use Rattle.meaning.specs.Key.{Key, same_key}
 use Rattle.meaning.specs.Plain.{Lengths, Plain, record_of}
-use Rattle.trace.specs.History.{Event, answer-of, drop_of, fits, Answered, hits, Crowded, Fitted, Filled, unless, since, Ground, never, unfit, dropped, crowded}
+use Rattle.trace.specs.History.{Event, answer_of, drop_of, fits, Answered, hits, Crowded, Fitted, Filled, unless, since, Ground, never, unfit, dropped, crowded}
 use Rattle.trace.specs.Recent.{Entry, spared, other, front, recent}
 use Rattle.trace.proofs.Past.{Past, start, asks, adds, drops, valid, other-yes, all_others, apart}
 
 module _ {K : Type 0} (size : ℕ) where
   fitted-answered : (k : K) (h : List (Event K)) → Fitted size k h → Answered k h
   fitted-answered k [] a = a
-  fitted-answered k (answer-of j r ∷ h) (inl e) = inl e.0
-  fitted-answered k (answer-of j r ∷ h) (inr a) = inr (fitted-answered k h a)
+  fitted-answered k (answer_of j r ∷ h) (inl e) = inl e.0
+  fitted-answered k (answer_of j r ∷ h) (inr a) = inr (fitted-answered k h a)
   fitted-answered k (drop_of d ∷ h) a = fitted-answered k h a
 
   filled-crowded : (n : ℕ) (k : K) (h : List (Event K)) → Filled size n k h → Crowded n k h
@@ -43,7 +43,7 @@ module _ {K : Type 0} (same : Discrete K) (n size : ℕ) where
   Still k h l = Filled size n k h ⊎ Stands k h l
 
   -- one more answer since, of another key
-  later-filled : (k j : K) (r : List ℕ) (h : List (Event K)) → Filled size n k h → Filled size n k (answer-of j r ∷ h)
+  later-filled : (k j : K) (r : List ℕ) (h : List (Event K)) → Filled size n k h → Filled size n k (answer_of j r ∷ h)
   later-filled k j r h c = (c.0, c.1, c.2, All-map (λ x q. (q.0, inr q.1)) c.3)
 
   module _ (k j : K) (r : List ℕ) (ne : j ≢ k) (h : List (Event K)) (l : List (Entry K)) (dis : DistinctBy key l) where
@@ -58,7 +58,7 @@ module _ {K : Type 0} (same : Discrete K) (n size : ℕ) where
         (keep_append (other same j) p.pre ((k, p.rec) ∷ p.post)
         ∙ ap (λ x. keep (other same j) p.pre ++ x) (keep-yes (other same j) (k, p.rec) p.post (other-yes same j (k, p.rec) (λ e. ne (sym e)))))
 
-    others-fitted : (p : Stands k h l) → fits size r ≡ true → All (λ x. (x.0 ≢ k) × Fitted size x.0 (answer-of j r ∷ h)) (others p)
+    others-fitted : (p : Stands k h l) → fits size r ≡ true → All (λ x. (x.0 ≢ k) × Fitted size x.0 (answer_of j r ∷ h)) (others p)
     unfolding others
     others-fitted p f = cons (ne, inl (refl, f)) (All-keep (other same j) (λ x q _. (q.0, inr q.1)) p.before)
 
@@ -69,13 +69,13 @@ module _ {K : Type 0} (same : Discrete K) (n size : ℕ) where
       distinct-keep key (other same j) p.pre (distinct-left key p.pre ((k, p.rec) ∷ p.post) (rw p.is at dis)),
     )
 
-    later : (b : Bool) → fits size r ≡ b → Stands k h l → Still k (answer-of j r ∷ h) (front same b n j r l)
+    later : (b : Bool) → fits size r ≡ b → Stands k h l → Still k (answer_of j r ∷ h) (front same b n j r l)
     later false f p =
         inr (record { pre = p.pre; rec = p.rec; post = p.post; is = p.is; before = All-map (λ x q. (q.0, inr q.1)) p.before })
     later true f p = go (take-mid n (others p) (k, p.rec) (keep (other same j) p.post))
       where
         go : (n ≤ length (others p)) ⊎ ((c : List (Entry K)) × (take n (others p ++ (k, p.rec) ∷ keep (other same j) p.post) ≡ others p ++ (k, p.rec) ∷ c))
-            → Still k (answer-of j r ∷ h) (front same true n j r l)
+            → Still k (answer_of j r ∷ h) (front same true n j r l)
         go (inl le) =
             inl (
               map key (take n (others p)),
@@ -118,7 +118,7 @@ module _ {K : Type 0} (same : Discrete K) where
 
   dec_answered : (k : K) (h : List (Event K)) → Dec (Answered k h)
   dec_answered k [] = no (λ a. a)
-  dec_answered k (answer-of j r ∷ h) = either j k h (same j k) (dec_answered k h)
+  dec_answered k (answer_of j r ∷ h) = either j k h (same j k) (dec_answered k h)
   dec_answered k (drop_of d ∷ h) = dec_answered k h
 
 module _ (lent : Lengths) (n size : ℕ) where
@@ -128,16 +128,16 @@ module _ (lent : Lengths) (n size : ℕ) where
   still (asks {p = p} {h = h} j e m s) k f a c = go (same_key j k) a c (λ a' c'. still s k f a' c')
     where
       step : j ≢ k → Still same_key n size k (since same_key k h) (recent same_key n size h)
-          → Still same_key n size k (answer-of j (record_of p j) ∷ since same_key k h)
+          → Still same_key n size k (answer_of j (record_of p j) ∷ since same_key k h)
           (front same_key (fits size (record_of p j)) n j (record_of p j) (recent same_key n size h))
       step ne (inl w) = inl (later-filled same_key n size k j (record_of p j) (since same_key k h) w)
       step ne (inr w) =
           later same_key n size k j (record_of p j) ne (since same_key k h) (recent same_key n size h) (apart same_key n size h)
           (fits size (record_of p j)) refl w
 
-      go : (q : Dec (j ≡ k)) → (j ≡ k) ⊎ Answered k h → any (hits k) (unless q (answer-of j (record_of p j) ∷ since same_key k h)) ≡ false
+      go : (q : Dec (j ≡ k)) → (j ≡ k) ⊎ Answered k h → any (hits k) (unless q (answer_of j (record_of p j) ∷ since same_key k h)) ≡ false
           → (Answered k h → any (hits k) (since same_key k h) ≡ false → Still same_key n size k (since same_key k h) (recent same_key n size h))
-          → Still same_key n size k (unless q (answer-of j (record_of p j) ∷ since same_key k h))
+          → Still same_key n size k (unless q (answer_of j (record_of p j) ∷ since same_key k h))
           (front same_key (fits size (record_of p j)) n j (record_of p j) (recent same_key n size h))
       go (yes i) b d ih = now same_key n size k j (record_of p j) (recent same_key n size h) i (fits size (record_of p j)) (rw i f)
       go (no ne) (inl i) d ih = absurd (ne i)

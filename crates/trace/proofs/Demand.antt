@@ -14,9 +14,9 @@ use borrow.Author.Tests.{ltb-false}
 use Rattle.lists.specs.Lists.{All, nil, keep, count}
 use Rattle.lists.proofs.Bools.{or_right}
 use Rattle.lists.proofs.Lists.{All-map, All-both, All-image, All-source, distinct-source, keep-map}
-use Rattle.meaning.proofs.Within32.{answer-reads-back}
+use Rattle.meaning.proofs.Within32.{answer_reads_back}
 use Rattle.meaning.specs.Key.{Key, same_key}
-use Rattle.meaning.specs.Limits.{most-cells, most-memory, most-slots, least-slot-bytes, most-slot-bytes}
+use Rattle.meaning.specs.Limits.{most_cells, most_memory, most_slots, least_slot_bytes, most_slot_bytes}
 use Rattle.meaning.specs.Plain as P
 use Rattle.meaning.specs.Plain.{Lengths, Plain, Opening, opening_refused, Call, ask, change, refusal, record_of, matches_key, answered, guard}
 use Rattle.trace.specs.History.{Event, note, history_on, history, Ground}
@@ -39,11 +39,11 @@ room-opened : (o : Opening) (memory : List ℕ) → length memory ≡ o.lent.mem
 unfolding opening_refused
 room-opened o memory e true h = zero-le
 room-opened o memory e false h =
-    let r₁ = or_right (ltb most-cells o.lent.cells) _ h in
-    let r₂ = or_right (ltb most-memory o.lent.memory) _ r₁ in
-    let r₃ = or_right (ltb most-slots o.slots) _ r₂ in
-    let r₄ = or_right (ltb o.slot_bytes least-slot-bytes) _ r₃ in
-    let r₅ = or_right (ltb most-slot-bytes o.slot_bytes) _ r₄ in
+    let r₁ = or_right (ltb most_cells o.lent.cells) _ h in
+    let r₂ = or_right (ltb most_memory o.lent.memory) _ r₁ in
+    let r₃ = or_right (ltb most_slots o.slots) _ r₂ in
+    let r₄ = or_right (ltb o.slot_bytes least_slot_bytes) _ r₃ in
+    let r₅ = or_right (ltb most_slot_bytes o.slot_bytes) _ r₄ in
     let le : o.slots * o.slot_bytes ≤ o.lent.memory = ltb-false o.lent.memory (o.slots * o.slot_bytes) r₅ in
     rw (length-replicate {A = ℕ} (length memory) 0, e) le
 
@@ -114,7 +114,7 @@ module _ (𝓛 : TableLaws) (lent : Lengths) (n size : ℕ) where
       → Agree (step lent size s c).0 (P.step lent p c).0 (note (refusal lent p c) p c h)
   agree-step {s} {p} {h} a c = record {
     stored = (agrees a c).stored;
-    fine = 𝓛.good-step lent p a.fine c;
+    fine = 𝓛.good_step lent p a.fine c;
     past = past-step 𝓛 lent a.fine a.past c;
     sound = (agrees a c).sound;
   }
@@ -140,8 +140,8 @@ module _ (𝓛 : TableLaws) (lent : Lengths) (n size : ℕ) where
   tidy-at {s} {p} {h} a =
       let all : All (Current lent size p) (map (entry size s.cache.memory) s.cache.held) = rw a.sound.view (current lent n size a.past) in
       record {
-        slots-once = a.sound.names;
-        keys-once =
+        slots_once = a.sound.names;
+        keys_once =
             distinct-source (entry size s.cache.memory) (λ (x : Entry Key). x.0) s.cache.held (rw a.sound.view (apart same_key n size h));
         right =
             All-map (λ e q. (q.0.asked, q.0.right, q.1))
@@ -155,7 +155,7 @@ module _ (𝓛 : TableLaws) where
       → Agree 𝓛 s.opening.lent (slot_count s.opening) (slot_size s.opening) (opened s.opening s.memory) (P.opened s.opening) []
   agree-opened s = record {
     stored = refl;
-    fine = 𝓛.good-opened s.opening;
+    fine = 𝓛.good_opened s.opening;
     past = start;
     sound = record {
       names = names-from (slot_count s.opening);
@@ -172,8 +172,8 @@ module _ (𝓛 : TableLaws) where
   agree-calls s cs = agree_after 𝓛 s.opening.lent (slot_count s.opening) (slot_size s.opening) (agree-opened s) cs
 
   -- demand 3, first part
-  pub same-as-plain : SameAsPlain
-  same-as-plain s cs = (
+  pub same_as_plain : SameAsPlain
+  same_as_plain s cs = (
     agree-outs 𝓛 s.opening.lent (slot_count s.opening) (slot_size s.opening) (agree-opened s) cs,
     (agree-calls s cs).stored,
   )
@@ -184,8 +184,8 @@ module _ (𝓛 : TableLaws) where
   gone s cs k m = missing-recent 𝓛 s.opening.lent (slot_count s.opening) (slot_size s.opening) (agree-calls s cs) k m
 
   -- demand 3, second part
-  pub anew-only-if : AnewOnlyIf
-  anew-only-if s cs k buffer r e z = go (kept-or-missing s.opening.lent (slot_size s.opening) (after_calls s cs) k buffer r e)
+  pub anew_only_if : AnewOnlyIf
+  anew_only_if s cs k buffer r e z = go (kept-or-missing s.opening.lent (slot_size s.opening) (after_calls s cs) k buffer r e)
     where
       go : ((next_call s cs (ask k buffer)).kept ≡ 1) ⊎ Missing (after_calls s cs) k
           → Ground same_key (slot_count s.opening) (slot_size s.opening) (record_of (plain_after s cs) k) k
@@ -194,8 +194,8 @@ module _ (𝓛 : TableLaws) where
       go (inr m) = anew s.opening.lent (slot_count s.opening) (slot_size s.opening) (agree-calls s cs).past k (gone s cs k m)
 
   -- its converse
-  pub kept-otherwise : KeptOtherwise
-  kept-otherwise s cs k buffer r e a f d few = go (kept-or-missing s.opening.lent (slot_size s.opening) (after_calls s cs) k buffer r e)
+  pub kept_otherwise : KeptOtherwise
+  kept_otherwise s cs k buffer r e a f d few = go (kept-or-missing s.opening.lent (slot_size s.opening) (after_calls s cs) k buffer r e)
     where
       go : ((next_call s cs (ask k buffer)).kept ≡ 1) ⊎ Missing (after_calls s cs) k → (next_call s cs (ask k buffer)).kept ≡ 1
       go (inl y) = y
@@ -203,30 +203,30 @@ module _ (𝓛 : TableLaws) where
           absurd (few (filled s.opening.lent (slot_count s.opening) (slot_size s.opening) (agree-calls s cs).past k (gone s cs k m) f a d))
 
   -- demand 2, of the kept answers
-  pub drops-exactly-matched : DropsExactlyMatched
-  drops-exactly-matched s cs n us e =
+  pub drops_exactly_matched : DropsExactlyMatched
+  drops_exactly_matched s cs n us e =
       drops-at s.opening.lent (slot_size s.opening) (after_calls s cs) n us (plain_after s cs) (agree-calls s cs).stored e
 
   -- the kept answers after every list
-  pub tidy-after : TidyAfter
-  tidy-after s cs = tidy-at 𝓛 s.opening.lent (slot_count s.opening) (slot_size s.opening) (agree-calls s cs)
+  pub tidy_after : TidyAfter
+  tidy_after s cs = tidy-at 𝓛 s.opening.lent (slot_count s.opening) (slot_size s.opening) (agree-calls s cs)
 
   -- the next call gets what it gets from the plain store
   pub next-same : (s : Start) (cs : List Call) (c : Call) → (next_call s cs c).out ≡ (P.step s.opening.lent (plain_after s cs) c).1
   next-same s cs c = (agrees 𝓛 s.opening.lent (slot_count s.opening) (slot_size s.opening) (agree-calls s cs) c).got
 
   -- so its record reads back
-  pub kept-reads-back : KeptReadsBack
-  kept-reads-back s cs v k buffer r e later = answer-reads-back s.opening cs v k buffer r (sym (next-same s cs (ask k buffer)) ∙ e) later
+  pub kept_reads_back : KeptReadsBack
+  kept_reads_back s cs v k buffer r e later = answer_reads_back s.opening cs v k buffer r (sym (next-same s cs (ask k buffer)) ∙ e) later
 
 -- ---- outright
 
 pub demands : Demands
 demands = record {
-  same-as-plain = same-as-plain plain-laws;
-  anew-only-if = anew-only-if plain-laws;
-  kept-otherwise = kept-otherwise plain-laws;
-  drops-exactly-matched = drops-exactly-matched plain-laws;
-  kept-reads-back = kept-reads-back plain-laws;
-  tidy-after = tidy-after plain-laws;
+  same_as_plain = same_as_plain plain-laws;
+  anew_only_if = anew_only_if plain-laws;
+  kept_otherwise = kept_otherwise plain-laws;
+  drops_exactly_matched = drops_exactly_matched plain-laws;
+  kept_reads_back = kept_reads_back plain-laws;
+  tidy_after = tidy_after plain-laws;
 }

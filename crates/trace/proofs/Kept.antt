@@ -14,7 +14,7 @@ use Rattle.lists.specs.Lists.{All, nil, cons, DistinctBy, keep, unsnoc, written}
 use Rattle.lists.proofs.Lists.{All-head, All-left, All-right, All-mid, All-map, All-both, All-take, All-keep, All-image, All-source, Unsnoc, unsnoc-is, map-append, map-take, map_same, keep-map, keep_all, keep-yes, keep-no}
 use Rattle.lists.proofs.Moved.{moved_front, moved-last, moved-drop}
 use Rattle.lists.proofs.Written.{slot_same, slot-written, slot-other}
-use Rattle.trace.specs.History.{Event, answer-of, drop_of, fits}
+use Rattle.trace.specs.History.{Event, answer_of, drop_of, fits}
 use Rattle.trace.specs.Recent.{Entry, spared, other, front, recent}
 use Rattle.trace.specs.Slots.{Names, Held, Cache, slots_of, slot_bytes, found, find, last_held, last_free, take_last, put_in, put, drop_by}
 use Rattle.trace.proofs.Past.{other-yes, other-no, apart}
@@ -77,22 +77,22 @@ module _ {K : Type 0} (same : Discrete K) (n size : ℕ) where
 
     -- ---- a kept answer found
 
-    others-stay : (k : K) (a : List (Held K)) (e : Held K) (b : List (Held K)) → e.key ≡ k
+    others_stay : (k : K) (a : List (Held K)) (e : Held K) (b : List (Held K)) → e.key ≡ k
         → DistinctBy (λ (x : Entry K). x.0) (map (entry size memory) (a ++ e ∷ b))
         → keep (other same k) (map (entry size memory) (a ++ e ∷ b)) ≡ map (entry size memory) (a ++ b)
-    others-stay k [] e b i d =
+    others_stay k [] e b i d =
         keep-no (other same k) (entry size memory e) (map (entry size memory) b) (other-no same k (entry size memory e) i)
         ∙ keep_all (other same k) (All-map (λ x ne. other-yes same k x (λ q. ne (q ∙ sym i))) d.0)
-    others-stay k (y ∷ a) e b i d =
+    others_stay k (y ∷ a) e b i d =
         keep-yes (other same k) (entry size memory y) (map (entry size memory) (a ++ e ∷ b))
         (other-yes same k (entry size memory y) (λ q. All-head (All-right a (All-source (entry size memory) (a ++ e ∷ b) d.0)) (i ∙ sym q)))
-        ∙ ap (λ r. entry size memory y ∷ r) (others-stay k a e b i d.1)
+        ∙ ap (λ r. entry size memory y ∷ r) (others_stay k a e b i d.1)
 
     fewer : (i : ℕ) (l : List (Held K)) → Names n (i ∷ (slots_of l ++ free)) → suc (length (map (entry size memory) l)) ≤ n
     fewer i l s = simp length-map (omega (arith, simp (length-append, length-map) at s.count))
 
     pub hit : (k : K) (r : List ℕ) (a : List (Held K)) (e : Held K) (b : List (Held K)) → e.key ≡ k
-        → slot_bytes size memory e ≡ r → fits size r ≡ true → Sound (cache (a ++ e ∷ b)) h → Sound (cache (e ∷ a ++ b)) (answer-of k r ∷ h)
+        → slot_bytes size memory e ≡ r → fits size r ≡ true → Sound (cache (a ++ e ∷ b)) h → Sound (cache (e ∷ a ++ b)) (answer_of k r ∷ h)
     hit k r a e b i j f s =
         let names' : Names n (slots_of (e ∷ a ++ b) ++ free) = names-moved (moved_front (λ (x : Held K). x.slot) free a e b) s.names in
         record {
@@ -103,7 +103,7 @@ module _ {K : Type 0} (same : Discrete K) (n size : ℕ) where
               sym
               (ap (λ x. front same x n k r (recent same n size h)) f
               ∙ ap (λ x. take n ((k, r) ∷ keep (other same k) x)) (sym s.view)
-              ∙ ap (λ x. take n ((k, r) ∷ x)) (others-stay k a e b i (rw s.view (apart same n size h)))
+              ∙ ap (λ x. take n ((k, r) ∷ x)) (others_stay k a e b i (rw s.view (apart same n size h)))
               ∙ take_all n ((k, r) ∷ map (entry size memory) (a ++ b)) (fewer e.slot (a ++ b) names')
               ∙ ap₂ (λ x y. (x, y) ∷ map (entry size memory) (a ++ b)) (sym i) (sym j));
         }
@@ -111,7 +111,7 @@ module _ {K : Type 0} (same : Discrete K) (n size : ℕ) where
     -- ---- a new record put into the last slot
 
     put-none : (k : K) (r : List ℕ) (held : List (Held K)) → Last held free none → fits size r ≡ true
-        → Sound (cache held) h → Sound (cache held) (answer-of k r ∷ h)
+        → Sound (cache held) h → Sound (cache held) (answer_of k r ∷ h)
     put-none k r held l f s =
         let z : 0 ≡ n = rw (l.0, l.1) at s.names.count in
         record {
@@ -146,7 +146,7 @@ module _ {K : Type 0} (same : Discrete K) (n size : ℕ) where
           (All-both (All-source (λ (x : Held K). x.slot) hs (All-left (slots_of hs) fs put-names.once.0)) put-lens)))
 
       -- what `recent` has: all but the last of the order
-      put-recent : All (λ e. e.key ≢ k) held → recent same n size (answer-of k r ∷ h) ≡ (k, r) ∷ map (entry size memory) hs
+      put-recent : All (λ e. e.key ≢ k) held → recent same n size (answer_of k r ∷ h) ≡ (k, r) ∷ map (entry size memory) hs
       put-recent miss =
           ap (λ x. front same x n k r (recent same n size h)) f
           ∙ ap (λ x. take n ((k, r) ∷ keep (other same k) x)) (sym s.view)
@@ -155,7 +155,7 @@ module _ {K : Type 0} (same : Discrete K) (n size : ℕ) where
           ∙ ap (λ x. (k, r) ∷ x) (sym (map-take (entry size memory) (length (slots_of hs ++ fs)) held) ∙ ap (map (entry size memory)) l.1)
 
       put_some : All (λ e. e.key ≢ k) held
-          → Sound (record { held = record { slot = i; key = k; len = length r } ∷ hs; free = fs; memory = written memory (i * size) r }) (answer-of k r ∷ h)
+          → Sound (record { held = record { slot = i; key = k; len = length r } ∷ hs; free = fs; memory = written memory (i * size) r }) (answer_of k r ∷ h)
       put_some miss = record {
         names = put-names;
         lens = cons put_small put-lens;
@@ -164,7 +164,7 @@ module _ {K : Type 0} (same : Discrete K) (n size : ℕ) where
       }
 
   pub put-sound : (c : Cache K) (h : List (Event K)) (k : K) (r : List ℕ) → All (λ e. e.key ≢ k) c.held → Sound c h
-      → (b : Bool) → fits size r ≡ b → Sound (put size b c k r) (answer-of k r ∷ h)
+      → (b : Bool) → fits size r ≡ b → Sound (put size b c k r) (answer_of k r ∷ h)
   put-sound c h k r miss ok false f = record {
     names = ok.names;
     lens = ok.lens;
@@ -173,7 +173,7 @@ module _ {K : Type 0} (same : Discrete K) (n size : ℕ) where
   }
   put-sound c h k r miss ok true f = go (take_last c) (last-is c.held c.free)
     where
-      go : (o : Option (ℕ × List (Held K) × List ℕ)) → Last c.held c.free o → Sound (put_in size c k r o) (answer-of k r ∷ h)
+      go : (o : Option (ℕ × List (Held K) × List ℕ)) → Last c.held c.free o → Sound (put_in size c k r o) (answer_of k r ∷ h)
       go none l = put-none c.memory c.free h k r c.held l f ok
       go (some w) l = put_some c.memory c.free h k r c.held w.0 w.1 w.2 l f ok miss
 

@@ -16,12 +16,12 @@ use Rattle.meaning.proofs.Keeps.{SameAnswer}
 pub record TableLaws : Type 1 where
   -- what holds of every plain store reached from an opening
   pub Good : Plain → Type 0
-  pub good-opened : (o : Opening) → Good (P.opened o)
-  pub good-step : (lent : Lengths) (p : Plain) → Good p → (c : Call) → Good (P.step lent p c).0
+  pub good_opened : (o : Opening) → Good (P.opened o)
+  pub good_step : (lent : Lengths) (p : Plain) → Good p → (c : Call) → Good (P.step lent p c).0
   -- a text that is not refused, and an update that is not refused, leave the questions that there are and the records of those not matched
-  pub add-keeps : (lent : Lengths) (p : Plain) (text : List ℕ) (k : Key) → ask_refusal lent p k ≡ 0 → refusal lent p (add text) ≡ 0
+  pub add_keeps : (lent : Lengths) (p : Plain) (text : List ℕ) (k : Key) → ask_refusal lent p k ≡ 0 → refusal lent p (add text) ≡ 0
       → (ask_refusal lent (does p (add text)).0 k ≡ 0) × SameAnswer (does p (add text)).0 p k
-  pub change-keeps : (lent : Lengths) (p : Plain) (n : ℕ) (us : List ℤ) (k : Key) → Good p → ask_refusal lent p k ≡ 0 → refusal lent p (change n us) ≡ 0
+  pub change_keeps : (lent : Lengths) (p : Plain) (n : ℕ) (us : List ℤ) (k : Key) → Good p → ask_refusal lent p k ≡ 0 → refusal lent p (change n us) ≡ 0
       → (ask_refusal lent (changed_by p n us) k ≡ 0) × (matches_key p n us k ≡ false → SameAnswer (changed_by p n us) p k)
 
 -- the first refusal of two

@@ -12,7 +12,7 @@ use Rattle.lists.proofs.Lists.{All-map, All-take, All-keep, All-kept, distinct-t
 use Rattle.meaning.specs.Key.{Key, same_key}
 use Rattle.meaning.specs.Plain as P
 use Rattle.meaning.specs.Plain.{Lengths, Plain, Call, add, ask, change, flush, refusal, is_short, or_else, record_of, too_many, matches_key, refused, does, guard}
-use Rattle.trace.specs.History.{Event, answer-of, drop_of, note, fits, Answered}
+use Rattle.trace.specs.History.{Event, answer_of, drop_of, note, fits, Answered}
 use Rattle.trace.specs.Recent.{Entry, spared, other, front, recent}
 use Rattle.trace.specs.Model.{ask_refusal}
 use Rattle.meaning.proofs.Keeps.{SameAnswer}
@@ -32,7 +32,7 @@ module _ {K : Type 0} (same : Discrete K) where
   -- no key is kept twice
   pub apart : (n size : ℕ) (h : List (Event K)) → DistinctBy (λ (x : Entry K). x.0) (recent same n size h)
   apart n size [] = tt
-  apart n size (answer-of k r ∷ h) = go (fits size r) (apart n size h)
+  apart n size (answer_of k r ∷ h) = go (fits size r) (apart n size h)
     where
       go : (b : Bool) → DistinctBy (λ (x : Entry K). x.0) (recent same n size h) → DistinctBy (λ (x : Entry K). x.0) (front same b n k r (recent same n size h))
       go true g =
@@ -49,7 +49,7 @@ module _ (lent : Lengths) where
   -- the history h leads to the plain store p
   pub data Past : Plain → List (Event Key) → Type 0 where
     start : {p : Plain} → Past p []
-    asks : {p : Plain} {h : List (Event Key)} (k : Key) → ask_refusal lent p k ≡ 0 → too_many p k ≡ false → Past p h → Past p (answer-of k (record_of p k) ∷ h)
+    asks : {p : Plain} {h : List (Event Key)} (k : Key) → ask_refusal lent p k ≡ 0 → too_many p k ≡ false → Past p h → Past p (answer_of k (record_of p k) ∷ h)
     adds : {p q : Plain} {h : List (Event Key)} → Keeps p q (λ k. false) → Past p h → Past q h
     drops : {p q : Plain} {h : List (Event Key)} (d : Key → Bool) → Keeps p q d → Past p h → Past q (drop_of d ∷ h)
 
@@ -97,7 +97,7 @@ module _ (𝓛 : TableLaws) (lent : Lengths) where
   past-step {p} {h} g s (add text) = go (refusal lent p (add text)) refl
     where
       go : (m : ℕ) → refusal lent p (add text) ≡ m → Past lent (guard m p refused (does p (add text))).0 (note m p (add text) h)
-      go zero e = adds (λ k a. ((𝓛.add-keeps lent p text k a e).0, λ _. (𝓛.add-keeps lent p text k a e).1)) s
+      go zero e = adds (λ k a. ((𝓛.add_keeps lent p text k a e).0, λ _. (𝓛.add_keeps lent p text k a e).1)) s
       go (suc m) e = s
   past-step {p} {h} g s (ask k b) = rw (ask-refusal lent p k b) (go (ask_refusal lent p k) refl (too_many p k) refl (is_short b (record_of p k)))
     where
@@ -110,7 +110,7 @@ module _ (𝓛 : TableLaws) (lent : Lengths) where
   past-step {p} {h} g s (change n us) = go (refusal lent p (change n us)) refl
     where
       go : (m : ℕ) → refusal lent p (change n us) ≡ m → Past lent (guard m p refused (does p (change n us))).0 (note m p (change n us) h)
-      go zero e = drops (matches_key p n us) (λ k a. 𝓛.change-keeps lent p n us k g a e) s
+      go zero e = drops (matches_key p n us) (λ k a. 𝓛.change_keeps lent p n us k g a e) s
       go (suc m) e = s
   past-step {p} {h} g s flush = go (refusal lent p flush)
     where

@@ -9,7 +9,7 @@ use Rattle.lists.proofs.Lists.{All-head, All-right, All-source}
 use Rattle.meaning.specs.Key.{Key, same_key}
 use Rattle.meaning.specs.Plain as P
 use Rattle.meaning.specs.Plain.{Lengths, Plain, Call, add, ask, change, flush, refusal, record_of, too_many, matches_key, Out, refused, does, guard}
-use Rattle.trace.specs.History.{Event, answer-of, noted, note, fits}
+use Rattle.trace.specs.History.{Event, answer_of, noted, note, fits}
 use Rattle.trace.specs.Slots.{Held, slot_bytes, find, move_to_front}
 use Rattle.trace.specs.Model.{Seen, turned, Model, ask_refusal, short_refusal, new_refusal, asked, step}
 use Rattle.trace.proofs.Laws.{first_of, ask-refusal}
@@ -48,13 +48,13 @@ module _ (lent : Lengths) (n size : ℕ) where
           got = refl;
           sound = put-sound same_key n size s.cache h k (record_of s.store k) miss ok (fits size (record_of s.store k)) refl;
         })
-    asked-agrees k b (some w) (x, y, held-is, rest-is, key-is) =
+    asked-agrees k b (some w) (x, y, held-is, rest_is, key_is) =
         let g = found-current x w.0 y held-is in
-        let e : slot_bytes size s.cache.memory w.0 ≡ record_of s.store k = g.right ∙ ap (record_of s.store) key-is in
-        let moved : Sound same_key n size (move_to_front s.cache w) (answer-of k (record_of s.store k) ∷ h) =
-        rw rest-is
-        (hit same_key n size s.cache.memory s.cache.free h k (record_of s.store k) x w.0 y key-is e (rw e at g.small) (rw held-is at ok)) in
-        let few : too_many s.store k ≡ false = ap (too_many s.store) (sym key-is) ∙ g.few in
+        let e : slot_bytes size s.cache.memory w.0 ≡ record_of s.store k = g.right ∙ ap (record_of s.store) key_is in
+        let moved : Sound same_key n size (move_to_front s.cache w) (answer_of k (record_of s.store k) ∷ h) =
+        rw rest_is
+        (hit same_key n size s.cache.memory s.cache.free h k (record_of s.store k) x w.0 y key_is e (rw e at g.small) (rw held-is at ok)) in
+        let few : too_many s.store k ≡ false = ap (too_many s.store) (sym key_is) ∙ g.few in
         rw (e, few) (guarded (short_refusal b (record_of s.store k)) (ask k b) s h _ _ ok (record { stored = refl; got = refl; sound = moved }))
 
     pub step-agrees : (c : Call) → Agrees (note (refusal lent s.store c) s.store c h) (P.step lent s.store c) (step lent size s c)

@@ -66,8 +66,8 @@ DropsExactlyMatched = (s : Start) (cs : List Call) (n : ℕ) (us : List ℤ)
 
 -- The kept answers after a list: each slot is named once, no key is held twice, and each record is the plain store's of now and fits its slot.
 pub record Tidy (n size : ℕ) (lent : Lengths) (p : Plain) (c : Cache Key) : Type 0 where
-  pub slots-once : Names n (order c)
-  pub keys-once : DistinctBy (λ (e : Held Key). e.key) c.held
+  pub slots_once : Names n (order c)
+  pub keys_once : DistinctBy (λ (e : Held Key). e.key) c.held
   pub right : All (λ e. (ask_refusal lent p e.key ≡ 0) × (slot_bytes size c.memory e ≡ record_of p e.key) × (e.len ≤ size)) c.held
 
 abbrev pub TidyAfter : Type 0
@@ -83,9 +83,9 @@ KeptReadsBack = (s : Start) (cs : List Call) → All Call32 cs → (k : Key) (bu
 -- ---- all of these
 
 pub record Demands : Type 0 where
-  pub same-as-plain : SameAsPlain
-  pub anew-only-if : AnewOnlyIf
-  pub kept-otherwise : KeptOtherwise
-  pub drops-exactly-matched : DropsExactlyMatched
-  pub kept-reads-back : KeptReadsBack
-  pub tidy-after : TidyAfter
+  pub same_as_plain : SameAsPlain
+  pub anew_only_if : AnewOnlyIf
+  pub kept_otherwise : KeptOtherwise
+  pub drops_exactly_matched : DropsExactlyMatched
+  pub kept_reads_back : KeptReadsBack
+  pub tidy_after : TidyAfter

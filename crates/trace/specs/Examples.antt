@@ -13,7 +13,7 @@ use Rattle.meaning.specs.Record.{body, encode}
 use Rattle.meaning.specs.Pattern.{side_of, joint_clauses, class, contradictory, entry, patterns, matches_two}
 use Rattle.meaning.specs.Plain.{Opening, opening_refused, Call, add, ask, change, flush, other_lengths, no_place, full, refusal, record_of, too_many, matches_key, Out, refused, added, answered, rows, flushed, a_table, a_query, an_update, added_text, changed_by, rows_by}
 use Rattle.meaning.specs.Key.{Key}
-use Rattle.meaning.specs.Paired.{long, first-question}
+use Rattle.meaning.specs.Paired.{long, first_question}
 use Rattle.trace.specs.Slots.{Held}
 use Rattle.trace.specs.Model.{Seen, Model, step, outs, slot_size, opened}
 
@@ -166,12 +166,12 @@ paired_is = refl
 abbrev asking : List (Held Key) → Seen
 asking held =
     let s : Model = record { store = long 256 256; cache = record { held = held; free = []; memory = 0 ∷ 0 ∷ 0 ∷ 4 ∷ 1 ∷ 1 ∷ 0 ∷ 0 ∷ [] } } in
-    (step s.store.lengths 8 s (ask (first-question []) 8)).1
+    (step s.store.lengths 8 s (ask (first_question []) 8)).1
 
 pub sixteen-is : line_of (asking []) ≡ plain (refused 16)
 unfolding computing
 sixteen-is = refl
 
-pub kept-is : line_of (asking (record { slot = 0; key = first-question []; len = 8 } ∷ [])) ≡ (answered (0 ∷ 0 ∷ 0 ∷ 4 ∷ 1 ∷ 1 ∷ 0 ∷ 0 ∷ []), 1, 0, 0)
+pub kept-is : line_of (asking (record { slot = 0; key = first_question []; len = 8 } ∷ [])) ≡ (answered (0 ∷ 0 ∷ 0 ∷ 4 ∷ 1 ∷ 1 ∷ 0 ∷ 0 ∷ []), 1, 0, 0)
 unfolding computing
 kept-is = refl

@@ -8,13 +8,13 @@ use Rattle.meaning.specs.Plain.{Lengths, Plain, Call, add, ask, change, flush, r
 
 -- a key answered, with its record; an update or a flush, with the keys that it matches
 pub data Event (K : Type 0) : Type 0 where
-  answer-of : K → List ℕ → Event K
+  answer_of : K → List ℕ → Event K
   drop_of : (K → Bool) → Event K
 
 -- "A key is answered when it is asked and not refused. .. Its record is the plain store's at that call."
 abbrev pub noted : Plain → Call → List (Event Key) → List (Event Key)
 noted p (add text) h = h
-noted p (ask k buffer) h = answer-of k (record_of p k) ∷ h
+noted p (ask k buffer) h = answer_of k (record_of p k) ∷ h
 noted p (change n us) h = drop_of (matches_key p n us) ∷ h
 noted p flush h = drop_of (λ k. true) ∷ h
 
@@ -39,12 +39,12 @@ module _ {K : Type 0} where
   -- the key was answered
   abbrev pub Answered : K → List (Event K) → Type 0
   Answered k [] = ⊥
-  Answered k (answer-of j r ∷ h) = (j ≡ k) ⊎ Answered k h
+  Answered k (answer_of j r ∷ h) = (j ≡ k) ⊎ Answered k h
   Answered k (drop_of d ∷ h) = Answered k h
 
   -- a matching update, or a flush
   abbrev pub hits : K → Event K → Bool
-  hits k (answer-of j r) = false
+  hits k (answer_of j r) = false
   hits k (drop_of d) = d k
 
   -- at least n different others were answered; "Others are other keys."
@@ -54,7 +54,7 @@ module _ {K : Type 0} where
   -- the key was answered with a record that fits; at least n different others were
   abbrev pub Fitted : ℕ → K → List (Event K) → Type 0
   Fitted size k [] = ⊥
-  Fitted size k (answer-of j r ∷ h) = ((j ≡ k) × (fits size r ≡ true)) ⊎ Fitted size k h
+  Fitted size k (answer_of j r ∷ h) = ((j ≡ k) × (fits size r ≡ true)) ⊎ Fitted size k h
   Fitted size k (drop_of d ∷ h) = Fitted size k h
 
   abbrev pub Filled : ℕ → ℕ → K → List (Event K) → Type 0
@@ -68,7 +68,7 @@ module _ {K : Type 0} (same : Discrete K) where
   -- what came since the last answer of k
   abbrev pub since : K → List (Event K) → List (Event K)
   since k [] = []
-  since k (answer-of j r ∷ h) = unless (same j k) (answer-of j r ∷ since k h)
+  since k (answer_of j r ∷ h) = unless (same j k) (answer_of j r ∷ since k h)
   since k (drop_of d ∷ h) = drop_of d ∷ since k h
 
   -- "a question with its values is worked out anew only if it was never answered since opening, its record doesn't fit a slot, a matching update or a

@@ -4,7 +4,7 @@ use mathlib.Core.HLevel.{Discrete}
 use Rattle.std.specs.Prelude.{Bool, true, false, not, List, [], ◌∷◌, ℕ, take}
 use Rattle.lists.specs.Lists.{keep}
 use Rattle.lists.specs.Tests.{is_yes}
-use Rattle.trace.specs.History.{Event, answer-of, drop_of, fits}
+use Rattle.trace.specs.History.{Event, answer_of, drop_of, fits}
 
 -- a key with its record
 abbrev pub Entry : Type 0 → Type 0
@@ -25,5 +25,5 @@ module _ {K : Type 0} (same : Discrete K) where
   -- the entries kept, the latest used first
   abbrev pub recent : ℕ → ℕ → List (Event K) → List (Entry K)
   recent n size [] = []
-  recent n size (answer-of k r ∷ h) = front (fits size r) n k r (recent n size h)
+  recent n size (answer_of k r ∷ h) = front (fits size r) n k r (recent n size h)
   recent n size (drop_of d ∷ h) = keep (spared d) (recent n size h)

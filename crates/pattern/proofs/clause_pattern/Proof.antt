@@ -37,7 +37,7 @@ returns-3 : tie.Need-returns-then-p-i
 returns-3 c =
     let a = c.args in
     let m = sym c.paired-p.ensures.many_is ∙ c.if-p.false in
-    let t = (c.paired-p.ensures.worked c.if-p.false).total-is ∙ count-worked a.query a.update m in
+    let t = (c.paired-p.ensures.worked c.if-p.false).total_is ∙ count-worked a.query a.update m in
     c.no_pattern-then-p-i.ensures ∙ at-past a.query a.update a.i (omega arith)
 
 clause-at-requires : tie.Need-clause_at-requires
@@ -47,7 +47,7 @@ returns-4 : tie.Need-returns
 returns-4 c =
     let a = c.args in
     let m = sym c.paired-p.ensures.many_is ∙ c.if-p.false in
-    let t = (c.paired-p.ensures.worked c.if-p.false).total-is ∙ count-worked a.query a.update m in
+    let t = (c.paired-p.ensures.worked c.if-p.false).total_is ∙ count-worked a.query a.update m in
     c.clause_at.ensures ∙ at-worked a.query a.update a.i (omega arith) m
 
 pub clause_pattern_spec : {M : Type 1} → statement M

@@ -23,7 +23,7 @@ cast-result : tie.Need-overflow_cast-result
 cast-result c = let w = (c.paired-p.ensures.worked c.if-p.false).few in omega arith
 
 returns-3 : tie.Need-returns
-returns-3 c = let a = c.args in (c.paired-p.ensures.worked c.if-p.false).total-is ∙ total-worked a.query a.update (sym c.relevant.ensures ∙ not-false _ c.if-not-relevant.false-raw) (sym c.paired-p.ensures.many_is ∙ c.if-p.false)
+returns-3 c = let a = c.args in (c.paired-p.ensures.worked c.if-p.false).total_is ∙ total-worked a.query a.update (sym c.relevant.ensures ∙ not-false _ c.if-not-relevant.false-raw) (sym c.paired-p.ensures.many_is ∙ c.if-p.false)
 
 pub clause_total_spec : {M : Type 1} → statement M
 clause_total_spec =

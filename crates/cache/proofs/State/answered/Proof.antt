@@ -22,10 +22,10 @@ known c =
     accepted a.self a.cells.now a.memory.now a.query a.values.now a.answer.now a.refusal s.requires.0 c.if-refusal-ne0.false
 
 few : (c : tie.Else-refusal-ne0) → c.args.query < 16
-few c = omega (arith, (sound-is c.args.self (known c).0.sound).few-queries, (known c).1)
+few c = omega (arith, (sound-is c.args.self (known c).0.sound).few_queries, (known c).1)
 
-key-is : (c : tie.Else-refusal-ne0) → let a = c.args in a.key ≡ key_of a.query a.values.now
-key-is c = let s = c in s.requires.1 ∙ ap (λ (i : ℕ). key_of i s.args.values.now) (mod-eq_of_lt (few c))
+key_is : (c : tie.Else-refusal-ne0) → let a = c.args in a.key ≡ key_of a.query a.values.now
+key_is c = let s = c in s.requires.1 ∙ ap (λ (i : ℕ). key_of i s.args.values.now) (mod-eq_of_lt (few c))
 
 -- the key was looked for
 held : (c : tie.After-find-found) (p : ℕ) → c.find-found.result ≡ At p → p < c.args.self.slots.held
@@ -33,7 +33,7 @@ held c p m =
     let s = c in
     let a = s.args in
     found-held a.self a.cells.now a.memory.now a.query a.values.now a.answer.now a.refusal s.requires.0 c.if-refusal-ne0.false
-    a.key (key-is c.before.before) c.find-found.result c.find-found.ensures p m
+    a.key (key_is c.before.before) c.find-found.result c.find-found.ensures p m
 
 found : (c : tie.After-find-found) (p : ℕ) (o : Asks) → c.find-found.result ≡ At p →
     let a = c.args in o ≡ ask_cached a.self a.memory.now a.answer.now p → o ≡ ask_of a.self a.cells.now a.memory.now a.query a.values.now a.answer.now
@@ -41,7 +41,7 @@ found c p o m h =
     let s = c in
     let a = s.args in
     ask-found a.self a.cells.now a.memory.now a.query a.values.now a.answer.now a.refusal s.requires.0 c.if-refusal-ne0.false
-    a.key (key-is c.before.before) c.find-found.result c.find-found.ensures p o m h
+    a.key (key_is c.before.before) c.find-found.result c.find-found.ensures p o m h
 
 missed : (c : tie.After-find-found) (o : Asks) → c.find-found.result ≡ Nothing →
     let a = c.args in
@@ -50,7 +50,7 @@ missed c o m h =
     let s = c in
     let a = s.args in
     ask-missed a.self a.cells.now a.memory.now a.query a.values.now a.answer.now a.refusal s.requires.0 c.if-refusal-ne0.false
-    a.key (key-is c.before.before) c.find-found.result c.find-found.ensures o m h
+    a.key (key_is c.before.before) c.find-found.result c.find-found.ensures o m h
 
 not-answered-requires : tie.Need-not_answered-requires
 not-answered-requires c κs = search rules
@@ -69,13 +69,13 @@ enum-known-found : tie.Need-enum_known-found
 enum-known-found c = search rules
 
 ask-cached-requires : tie.Need-ask_cached-requires
-ask-cached-requires c κs = let k = (known c.before.before.before.before).0 in (k.sound, held c.before.before _ c.in-At.is, k.memory-is)
+ask-cached-requires c κs = let k = (known c.before.before.before.before).0 in (k.sound, held c.before.before _ c.in-At.is, k.memory_is)
 
 enum_told : tie.Need-enum_told-1
 enum_told c = search rules
 
 ask-new-requires : tie.Need-ask_new-requires
-ask-new-requires c κs = let k = known c.before.before.before.before.before in (k.0.sound, k.1, k.0.memory-is, key-is c.before.before.before.before.before)
+ask-new-requires c κs = let k = known c.before.before.before.before.before in (k.0.sound, k.1, k.0.memory_is, key_is c.before.before.before.before.before)
 
 same_length : tie.Need-shape_of-memory-in-At
 same_length c = search rules

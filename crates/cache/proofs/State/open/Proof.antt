@@ -33,13 +33,13 @@ clear-bytes-requires : tie.Need-clear_bytes-requires
 clear-bytes-requires c κs = search rules
 
 cast-empty-2 : tie.Need-overflow_cast-length
-cast-empty-2 c = record { fits = omega (arith, (sizes c.before.before.before.before.before.before.before).few-cells) }
+cast-empty-2 c = record { fits = omega (arith, (sizes c.before.before.before.before.before.before.before).few_cells) }
 
 cast-empty-3 : tie.Need-overflow_cast-size
-cast-empty-3 c = record { fits = omega (arith, (sizes c.before.before.before.before.before.before.before).few-memory) }
+cast-empty-3 c = record { fits = omega (arith, (sizes c.before.before.before.before.before.before.before).few_memory) }
 
 cast-empty-4 : tie.Need-overflow_cast-slots
-cast-empty-4 c = record { fits = omega (arith, (sizes c.before.before.before.before.before.before.before).few-slots) }
+cast-empty-4 c = record { fits = omega (arith, (sizes c.before.before.before.before.before.before.before).few_slots) }
 
 cast-empty-5 : tie.Need-overflow_cast-slot_bytes
 cast-empty-5 c = record { fits = omega (arith, (sizes c.before.before.before.before.before.before.before).most_bytes) }

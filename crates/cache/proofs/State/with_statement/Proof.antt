@@ -1,11 +1,11 @@
 -- `with_statement` meets its contract: by the statement's kind. Assumes nothing.
 use mathlib.Core.Path.{◌≡◌}
-use Rattle.cache.proofs.Placing.{table-place, query-place, update-place, is-update, added-by}
+use Rattle.cache.proofs.Placing.{table_place, query_place, update_place, is-update, added-by}
 use Rattle.cache.proofs.State.with_statement.Statement.{statement}
 use Rattle.cache.proofs.State.with_statement.Tie as tie
 
 with-table-requires : tie.Need-with_table-requires
-with-table-requires c κs = let start = c in table-place start.args.self start.args.c.kind start.requires c.if-c-eq-TABLE.true
+with-table-requires c κs = let start = c in table_place start.args.self start.args.c.kind start.requires c.if-c-eq-TABLE.true
 
 returns : tie.Need-returns-then-c-eq-TABLE
 returns c = let a = c.args in added-by a.self a.c _ 1 c.if-c-eq-TABLE.true c.with_table.ensures
@@ -13,7 +13,7 @@ returns c = let a = c.args in added-by a.self a.c _ 1 c.if-c-eq-TABLE.true c.wit
 with-query-requires : tie.Need-with_query-requires
 with-query-requires c κs =
     let start = c in
-    query-place start.args.self start.args.c.kind start.requires c.if-c-eq-QUERY.true
+    query_place start.args.self start.args.c.kind start.requires c.if-c-eq-QUERY.true
 
 returns-2 : tie.Need-returns-then-c-eq-QUERY
 returns-2 c = let a = c.args in added-by a.self a.c _ 2 c.if-c-eq-QUERY.true c.with_query.ensures
@@ -26,7 +26,7 @@ kind c =
 with-update-requires : tie.Need-with_update-requires
 with-update-requires c κs =
     let start = c in
-    update-place start.args.self start.args.c.kind start.requires (kind c.before)
+    update_place start.args.self start.args.c.kind start.requires (kind c.before)
 
 returns-3 : tie.Need-returns
 returns-3 c = let a = c.args in added-by a.self a.c _ 3 (kind c.before.before) c.with_update.ensures

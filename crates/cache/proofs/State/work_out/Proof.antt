@@ -23,7 +23,7 @@ queries : (c : tie.Start) → length c.args.self.queries ≡ 16
 queries c = c.well_formed.0.1.1.1.0.1.0.1
 
 few : (c : tie.Start) → c.args.query < 16
-few c = omega (arith, (sound c).few-queries, c.requires.1)
+few c = omega (arith, (sound c).few_queries, c.requires.1)
 
 inside : (c : tie.Start) → c.args.query < length c.args.self.queries
 inside c = omega (arith, few c, queries c)
@@ -37,10 +37,10 @@ used-second : (c : tie.Start) (d : Query) → ((get_or c.args.self.queries c.arg
 used-second c d h = second-used c.args.self (sound c) (tables c) (queries c) c.args.query d c.requires.1 h
 
 there : (c : tie.Start) → (query_at c.args.self c.args.query).table < length c.args.self.tables
-there c = omega (arith, used c no_query, (sound c).few-tables, tables c)
+there c = omega (arith, used c no_query, (sound c).few_tables, tables c)
 
 long : (c : tie.Start) → c.args.self.table_count ≤ length c.args.self.tables
-long c = omega (arith, (sound c).few-tables, tables c)
+long c = omega (arith, (sound c).few_tables, tables c)
 
 mul-q : tie.Need-offset_bounds-queries-query
 mul-q c = omega (arith, few c.before.before.before)

@@ -8,7 +8,7 @@ use Rattle.meaning.specs.Record.{numbers_of, row_refusal}
 use Rattle.console.specs.Printed.{row_text, further_text, rows_there}
 use Rattle.console.specs.Pieces.{rows_from}
 use Rattle.console.proofs.Puttings.{puts-as, puts-both, Left, left-start, left-more, left_end}
-use Rattle.console.proofs.Shown.{few-rows, there, further-more, further-end}
+use Rattle.console.proofs.Shown.{few_rows, there, further-more, further-end}
 use Rattle.console.proofs.text.put_further.Statement.{statement}
 use Rattle.console.proofs.text.put_further.Tie as tie
 
@@ -41,7 +41,7 @@ put-row-requires : tie.Need-put_row-place-requires invariant-loop decreases-loop
 put-row-requires c κs = search rules
 
 add-i : tie.Need-overflow_add-i invariant-loop decreases-loop
-add-i c = omega (arith, here c.before.before.before.before.before.before.before.before.before.before.before, few-rows c.args.bytes.now)
+add-i c = omega (arith, here c.before.before.before.before.before.before.before.before.before.before.before, few_rows c.args.bytes.now)
 
 loop-less : tie.Need-loop-out-smaller invariant-loop decreases-loop
 loop-less c = omega (arith, here c.before.before.before.before.before.before.before.before.before.before.before)

@@ -47,7 +47,7 @@ returns-3 c =
     let a = s.args in
     let l = c.label_all-l in
     pattern-there a.codes a.ops a.n a.marks (forty s) s.requires.0.few l.result l.ensures c.if-l.false (sym c.some_fails.ensures ∙ c.if-some_fails.false)
-    s.requires.1 s.requires.0.marks-there c.places-entries.result c.places-entries.ensures
+    s.requires.1 s.requires.0.marks_there c.places-entries.result c.places-entries.ensures
 
 pub clause_pattern_spec : {M : Type 1} → statement M
 clause_pattern_spec =

@@ -39,10 +39,10 @@ put-sums-requires c κs =
     let l = c.loop-i in
     let p = c.requires in
     let room : a.start + a.left + a.right ≤ length a.masks = omega arith in
-    let sums-room : a.start + a.left * a.right ≤ length a.masks = omega (arith, p.1) in (
-      omega (arith, rows-room a.masks a.start a.left a.right room sums-room l.next l.at l.i c.loop-i-test.true l.invariant.1),
+    let sums_room : a.start + a.left * a.right ≤ length a.masks = omega (arith, p.1) in (
+      omega (arith, rows-room a.masks a.start a.left a.right room sums_room l.next l.at l.i c.loop-i-test.true l.invariant.1),
       omega arith,
-      rows_fit a.masks a.start a.left a.right room sums-room l.i (get_or a.masks (a.start + l.i) 0) c.loop-i-test.true refl p.2,
+      rows_fit a.masks a.start a.left a.right room sums_room l.i (get_or a.masks (a.start + l.i) 0) c.loop-i-test.true refl p.2,
     )
 
 add_at : tie.Need-overflow_add-at invariant-loop decreases-loop
@@ -50,8 +50,8 @@ add_at c =
     let a = c.args in
     let l = c.loop-i in
     let room : a.start + a.left + a.right ≤ length a.masks = omega arith in
-    let sums-room : a.start + a.left * a.right ≤ length a.masks = omega (arith, c.requires.1) in
-    omega (arith, rows-room a.masks a.start a.left a.right room sums-room l.next l.at l.i c.loop-i-test.true l.invariant.1)
+    let sums_room : a.start + a.left * a.right ≤ length a.masks = omega (arith, c.requires.1) in
+    omega (arith, rows-room a.masks a.start a.left a.right room sums_room l.next l.at l.i c.loop-i-test.true l.invariant.1)
 
 add-i : tie.Need-overflow_add-i invariant-loop decreases-loop
 add-i c = omega arith

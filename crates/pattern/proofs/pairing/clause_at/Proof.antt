@@ -15,7 +15,7 @@ array-read-inserted c =
     let b = c.start_of-from in
     let s = c in
     let a = s.args in
-    let w = s.requires.0.query-masked.few in
+    let w = s.requires.0.query_masked.few in
     let h = insert-below a.query a.update a.p s.requires.0 a.i s.requires.1 b.result b.ensures c.if-update-eq-INSERT.true in
     omega arith
 
@@ -40,7 +40,7 @@ mul-size c =
     let s = c in
     let a = s.args in
     let w = s.requires.0 in
-    omega (arith, product-few a.p.query.count a.p.update.count w.query-masked.few w.update-masked.few)
+    omega (arith, product-few a.p.query.count a.p.update.count w.query_masked.few w.update_masked.few)
 
 pair-at-requires : tie.Need-pair_at-requires
 pair-at-requires c κs = search rules

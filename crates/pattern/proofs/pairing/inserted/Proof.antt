@@ -10,7 +10,7 @@ use Rattle.statement.specs.Sound.{setting_read}
 use Rattle.pattern.specs.declared.joint.Joined.{Joined}
 use Rattle.pattern.specs.Stored.{clause_pattern}
 use Rattle.pattern.specs.Flat.{Readable, chosen_of}
-use Rattle.pattern.proofs.ClausePatterns.{none-readable, one-ready, one-pattern, settings-are}
+use Rattle.pattern.proofs.ClausePatterns.{none-readable, one-ready, one-pattern, settings_are}
 use borrow.Author.Rules.{rules}
 use Rattle.pattern.proofs.pairing.inserted.Statement.{statement}
 use Rattle.pattern.proofs.pairing.inserted.Tie as tie
@@ -42,7 +42,7 @@ returns c =
     c.clause_pattern.ensures
     ∙ one-pattern (chosen_of 2 a.from ss a.query.condition a.mask) e.result c.add-all.result e.ensures c.add-all.ensures.0 c.used.result (omega (arith, c.used.ensures))
     ∙ ap₂ (λ (m : ℕ) (l : List (ℕ × M.Value)). clause_pattern m (chosen_of 2 a.from l a.query.condition a.mask)) c.used.ensures
-    (settings-are a.update c.used-n.result c.add-all.ensures.1 c.used-n.ensures)
+    (settings_are a.update c.used-n.result c.add-all.ensures.1 c.used-n.ensures)
 
 pub inserted_spec : {M : Type 1} → statement M
 inserted_spec =

@@ -10,7 +10,7 @@ use Rattle.statement.specs.Sound.{setting_read}
 use Rattle.pattern.specs.declared.joint.Joined.{Joined}
 use Rattle.pattern.specs.Stored.{clause_pattern}
 use Rattle.pattern.specs.Flat.{Readable, chosen_of}
-use Rattle.pattern.proofs.ClausePatterns.{none-readable, two_ready, two-pattern, settings-are}
+use Rattle.pattern.proofs.ClausePatterns.{none-readable, two_ready, two-pattern, settings_are}
 use borrow.Author.Rules.{rules}
 use Rattle.pattern.proofs.pairing.joined.Statement.{statement}
 use Rattle.pattern.proofs.pairing.joined.Tie as tie
@@ -53,7 +53,7 @@ returns c =
     ∙ two-pattern (chosen_of 0 a.from ss a.update.condition a.given) e.result first.result e.ensures first.ensures.0
     (chosen_of a.role a.from ss a.query.condition a.asked) all.result all.ensures.0 c.used.result (omega (arith, c.used.ensures))
     ∙ ap₂ (λ (m : ℕ) (l : List (ℕ × M.Value)). clause_pattern m (chosen_of 0 a.from l a.update.condition a.given ++ chosen_of a.role a.from l a.query.condition a.asked)) c.used.ensures
-    (settings-are a.update c.used-n.result first.ensures.1 c.used-n.ensures)
+    (settings_are a.update c.used-n.result first.ensures.1 c.used-n.ensures)
 
 pub joined_spec : {M : Type 1} → statement M
 joined_spec =

@@ -20,7 +20,7 @@ cast-left : tie.Need-overflow_cast-left
 cast-left c =
     let s = c in
     let a = s.args in
-    let w = s.requires.0.update-masked.few in
+    let w = s.requires.0.update_masked.few in
     let h = left_below a.query a.update a.p s.requires.0 a.k s.requires.1 in
     omega arith
 
@@ -34,7 +34,7 @@ cast-right : tie.Need-overflow_cast-right
 cast-right c =
     let s = c in
     let a = s.args in
-    let w = s.requires.0.query-masked.few in
+    let w = s.requires.0.query_masked.few in
     let h = right-below a.query a.update a.p s.requires.0 a.k s.requires.1 in
     omega arith
 
@@ -42,7 +42,7 @@ array-read-given : tie.Need-bounds-masks-left
 array-read-given c =
     let s = c in
     let a = s.args in
-    let w = s.requires.0.update-masked.few in
+    let w = s.requires.0.update_masked.few in
     let h = left_below a.query a.update a.p s.requires.0 a.k s.requires.1 in
     omega arith
 
@@ -50,7 +50,7 @@ array-read-asked : tie.Need-bounds-others-right
 array-read-asked c =
     let s = c in
     let a = s.args in
-    let w = s.requires.0.query-masked.few in
+    let w = s.requires.0.query_masked.few in
     let h = right-below a.query a.update a.p s.requires.0 a.k s.requires.1 in
     omega arith
 

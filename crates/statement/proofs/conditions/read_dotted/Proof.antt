@@ -1,7 +1,7 @@
 -- `conditions::read_dotted` meets its contract. Assumes nothing.
 use mathlib.Core.Path.{refl}
 use borrow.Author.Rules.{rules}
-use Rattle.statement.proofs.Columns.{no_table_lem, no-dot, no-column, dotted-found}
+use Rattle.statement.proofs.Columns.{no_table_lem, no-dot, no_column, dotted-found}
 use Rattle.statement.proofs.conditions.read_dotted.Statement.{statement}
 use Rattle.statement.proofs.conditions.read_dotted.Tie as tie
 
@@ -20,7 +20,7 @@ next-requires-2 c κs = search rules
 returns-3 : tie.Need-returns-then-t-ne-NAME
 returns-3 c =
     let a = c.before.before.before.before.before.before.before.before.before.args in
-    λ at e. no-column a.text.now at a.first e _ refl c.before.before.before.before.before.before.if-first-ne-NAME.false _ c.before.before.before.before.before.next-t.ensures c.before.before.before.if-t-ne-DOT.false _ c.before.before.next-t-2.ensures c.if-t-ne-NAME.true
+    λ at e. no_column a.text.now at a.first e _ refl c.before.before.before.before.before.before.if-first-ne-NAME.false _ c.before.before.before.before.before.next-t.ensures c.before.before.before.if-t-ne-DOT.false _ c.before.before.next-t-2.ensures c.if-t-ne-NAME.true
 
 is-past-requires : tie.Need-is_past-requires
 is-past-requires c κs = search rules

@@ -21,18 +21,18 @@ use Rattle.statement.proofs.sentences.read_item.Reads as read-item-reads
 use Rattle.statement.proofs.sentences.+read_list.{statement}
 use Rattle.statement.proofs.sentences.+read_list.Tie.{close}
 
-abbrev μ-list : Measures 2 read-list-kinds.ps ℕ
-μ-list κs a = length a.0.now - a.1.1.0.at
+abbrev μ_list : Measures 2 read-list-kinds.ps ℕ
+μ_list κs a = length a.0.now - a.1.1.0.at
 
 -- what `read_list` is given at the measure t, and what a call of it asks below t
 abbrev list_at : ℕ → In 2 read-list-kinds.ps
-list_at t = and 2 read-list-kinds.ps (is 2 read-list-kinds.ps μ-list t) read-list.Pre
+list_at t = and 2 read-list-kinds.ps (is 2 read-list-kinds.ps μ_list t) read-list.Pre
 
-abbrev list-below : ℕ → In 2 read-list-kinds.ps
-list-below t = and 2 read-list-kinds.ps (falls 2 read-list-kinds.ps ◌<◌ μ-list t) read-list.Pre
+abbrev list_below : ℕ → In 2 read-list-kinds.ps
+list_below t = and 2 read-list-kinds.ps (falls 2 read-list-kinds.ps ◌<◌ μ_list t) read-list.Pre
 
 abbrev calls : ℕ → read-list-lts.Claims
-calls t = (read-item-reads.Asked, read-item-reads.Learnt, next-reads.Asked, next-reads.Learnt, list-below t, read-list.Post)
+calls t = (read-item-reads.Asked, read-item-reads.Learnt, next-reads.Asked, next-reads.Learnt, list_below t, read-list.Post)
 
 read-item-requires : (t : ℕ) → read-list-lts.Need-read_item-one-requires (calls t) (list_at t) read-list.Post
 read-item-requires t c κs = c.before.before.requires.1
@@ -83,5 +83,5 @@ returns-3 t c =
 
 pub +read_list_spec : {M : Type 1} → statement M
 +read_list_spec =
-    close μ-list
+    close μ_list
     (λ t. read-list-lts.spec (calls t) (list_at t) read-list.Post (read-item-requires t) (returns t) (cast-next t) (next-requires t) (returns-2 t) (cast-p t) (read-list-requires t) (returns-3 t))

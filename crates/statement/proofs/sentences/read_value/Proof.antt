@@ -4,7 +4,7 @@ use mathlib.Core.Path.{refl, sym, ◌∙◌}
 use native.Mathlib.Omega.{arith}
 use borrow.Author.Tests.{not-true, not-false}
 use borrow.Author.Rules.{rules}
-use Rattle.statement.proofs.SentenceTokens.{stays, starts, few-marks, value-failed, value_none, value_found}
+use Rattle.statement.proofs.SentenceTokens.{stays, starts, few_marks, value-failed, value_none, value_found}
 use Rattle.statement.proofs.sentences.read_value.Statement.{statement}
 use Rattle.statement.proofs.sentences.read_value.Tie as tie
 
@@ -39,7 +39,7 @@ add-p : tie.Need-overflow_add-p
 add-p c =
     let z = c.before.before.before.before.before.before.before.before.before.before.before.before in
     let st = z.requires.stands (not-false _ c.before.before.before.before.before.before.before.before.before.if-not-p.false) in
-    omega (arith, c.before.marks_of.ensures, few-marks c.before.before.before.before.before.before.before.next-t.result.kind, st.few-marks, st.inside, st.short)
+    omega (arith, c.before.marks_of.ensures, few_marks c.before.before.before.before.before.before.before.next-t.result.kind, st.few_marks, st.inside, st.short)
 
 cast-t8 : tie.Need-overflow_cast-result
 cast-t8 c =

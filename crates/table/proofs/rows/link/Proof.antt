@@ -47,7 +47,7 @@ link-step-requires : tie.Need-link_step-depth-requires invariant-loop decreases-
 link-step-requires c κs =
     let l = c.loop-i in
     let s = c in
-    (omega (arith, s.requires.0, l.invariant.few, c.loop-i-test.true), s.requires.0, l.invariant.targets-32, l.invariant.starts-in)
+    (omega (arith, s.requires.0, l.invariant.few, c.loop-i-test.true), s.requires.0, l.invariant.targets-32, l.invariant.starts_in)
 
 if-so-requires : tie.Need-if_so-next-requires invariant-loop decreases-loop
 if-so-requires c κs = search rules

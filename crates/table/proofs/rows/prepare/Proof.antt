@@ -23,7 +23,7 @@ eight : (c : tie.Start invariant-loop decreases-loop) → length c.args.conditio
 eight c = c.well_formed.0.1.1.0.1.0.1
 
 inside : (c : tie.In-loop-i invariant-loop decreases-loop) → c.loop-i.i < 8
-inside c = omega (arith, c.loop-i.invariant.1.shaped.count-is, c.loop-i-test.true)
+inside c = omega (arith, c.loop-i.invariant.1.shaped.count_is, c.loop-i-test.true)
 
 used-requires : tie.Need-used-count-requires invariant-loop decreases-loop
 used-requires c κs = search rules
@@ -41,7 +41,7 @@ loop-holds : tie.Need-loop-i-init invariant-loop decreases-loop
 loop-holds c = (
   refl,
   fill_start _ _ _ _ _ _
-      (record { fifteen = fifteen c.before.before.before.before.before; eight = eight c.before.before.before.before.before; count-is = c.used-count.ensures })
+      (record { fifteen = fifteen c.before.before.before.before.before; eight = eight c.before.before.before.before.before; count_is = c.used-count.ensures })
       (none-linked _ c.no_targets-targets.ensures) c.no_places-places.ensures c.no_numbers-numbers.ensures,
 )
 
@@ -91,7 +91,7 @@ loop-again c =
     )
 
 link-requires : tie.Need-link-start-requires invariant-loop decreases-loop
-link-requires c κs = (omega (arith, c.loop-i.invariant.1.shaped.count-is), c.loop-i.invariant.1.unlinked)
+link-requires c κs = (omega (arith, c.loop-i.invariant.1.shaped.count_is), c.loop-i.invariant.1.unlinked)
 
 returns : tie.Need-returns invariant-loop decreases-loop
 returns c = let l = c.loop-i in fill_done _ _ _ _ _ _ l.i l.invariant.1 c.loop-i-test.false _ _ c.link-start.ensures

@@ -6,12 +6,12 @@ use native.Mathlib.Omega.{arith}
 use lib.ListN.{length, length-set, replicate}
 use lib.Seq.{paste}
 use Rattle.pattern.specs.Flat.{no_clause}
-use Rattle.pattern.proofs.Numbering.{asked-codes, mark-more, mark-done}
+use Rattle.pattern.proofs.Numbering.{asked_codes, mark-more, mark-done}
 use Rattle.pattern.proofs.joint.Joined.empty.Statement.{statement}
 use Rattle.pattern.proofs.joint.Joined.empty.Tie as tie
 
 abbrev invariant-loop : tie.invariant-loop-k
-invariant-loop ops codes₀ k₀ codes k = (k ≤ 8) × (length codes ≡ 40) × (codes ≡ paste (replicate 40 0) 32 asked-codes k)
+invariant-loop ops codes₀ k₀ codes k = (k ≤ 8) × (length codes ≡ 40) × (codes ≡ paste (replicate 40 0) 32 asked_codes k)
 
 abbrev decreases-loop : tie.decreases-loop-k
 decreases-loop ops codes₀ k₀ codes k = 8 - k
