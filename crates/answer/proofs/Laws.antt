@@ -1,6 +1,6 @@
 -- Laws for callers: a record is its head and the numbers of its rows, written one after another, and a buffer that holds a record shows its rows.
 -- Assumes nothing.
-use mathlib.Core.Path.{◌≡◌, sym, ap, ◌∙◌}
+use mathlib.Core.Path.{◌≡◌, ap, ◌∙◌}
 use mathlib.Core.List.{List, ◌∷◌, ◌++◌}
 use Prim.Native.Nat.{ℕ, ◌+◌, ◌*◌, ◌≤◌}
 use native.Mathlib.Nat.{mul_comm}
@@ -36,13 +36,6 @@ module _ (columns : ℕ) (rows : List Row) (wide : All (λ r. length r ≡ colum
   record_is =
       let size : length (body columns rows) ≡ 4 + 4 * (columns * length rows) = omega (arith, numbers-length (flat rows), values-are) in
       ap (λ (n : ℕ). bytes4 n ++ ((1 ∷ columns ∷ bytes2 (length rows)) ++ number_bytes (flat rows))) size
-
-  -- the head written, and then the numbers
-  pub record-written : (out : List ℕ) → record_length columns (length rows) ≤ length out
-      → written (written out 0 (header columns (length rows))) 8 (number_bytes (flat rows)) ≡ written out 0 (encode columns rows)
-  record-written out h =
-      written-append out 0 (header columns (length rows)) (omega arith) (number_bytes (flat rows))
-      ∙ sym (ap (written out 0) record_is)
 
 -- a buffer at whose start a record was written shows each row as the numbers of that row, and no other row
 pub buffer-reads-back : (out : List ℕ) (columns : ℕ) (rows : List Row) → 1 ≤ columns → columns ≤ most_items → length rows ≤ most_listed

@@ -1,18 +1,16 @@
--- Records as they are read: a row that is there lies within the bytes, and what is shown of one that is there, and of one that is not. Assumes nothing.
-use mathlib.Core.Path.{◌≡◌, sym, ap, ◌∙◌, subst}
-use mathlib.Core.Bool.{Bool, true, false, cond}
+-- Records as they are read: when a row is there, that it lies within the bytes then, and what is shown. Assumes nothing.
+use mathlib.Core.Path.{◌≡◌, sym, ap, ap₂, ◌∙◌, subst}
+use mathlib.Core.Bool.{Bool, true, false, cond, ◌&&◌}
 use mathlib.Core.List.{List, []}
 use Prim.Native.Nat.{ℕ, suc, ◌+◌, ◌*◌, ◌-◌, ◌≤◌, ◌<◌}
 use native.Mathlib.Nat.{mul-le-mul_right, suc-mul}
 use native.Mathlib.Omega.{arith}
-use borrow.Author.Tests.{ltb-true, leb-true, eqb-true}
-use denote.Ref.{Bor}
+use borrow.Author.Tests.{ltb-true, leb-true, eqb-true, le-leb, lt-leb}
 use lib.Dec.{leb, ltb, eqb}
 use lib.ListN.{length, take, drop, get_or}
 use Rattle.lists.proofs.Bools.{and_left, and_right}
 use Rattle.meaning.specs.Limits.{most_items, most_listed}
-use Rattle.meaning.specs.Record.{columns_in, row_count, row_bytes, four_at, is_record, has_row, row_start, row_part}
-use Rattle.answer.specs.Answer.{past}
+use Rattle.meaning.specs.Record.{columns_in, row_count, row_bytes, four_at, is_record, has_row, row_part}
 
 module _ (bs : List ℕ) where
   -- the length that a record says, and that it is there
@@ -35,30 +33,26 @@ module _ (bs : List ℕ) where
         let m : suc i * row_bytes bs ≤ row_count bs * row_bytes bs = mul-le-mul_right (row_bytes bs) k in
         omega (arith, sized (and_left (is_record bs) (ltb i (row_count bs)) h), suc-mul i (row_bytes bs))
 
-    -- what is shown, by whether the row is there, with w bytes a row
-    pub row-there : (w : ℕ) → has_row bs i ≡ true → w ≡ row_bytes bs → take (8 + i * w + w - (8 + i * w)) (drop (8 + i * w) bs) ≡ row_part bs i
+    pub row-short : length bs < 8 → has_row bs i ≡ false
+    unfolding has_row is_record
+    row-short h = rw (lt-leb 8 (length bs) h)
+
+    -- the row is there if the numbers of the head agree and it is below the rows
+    pub row-by : (size version columns rows : ℕ) → 8 ≤ length bs → size ≡ four_at bs 0 → version ≡ get_or bs 4 0 → columns ≡ columns_in bs → rows ≡ row_count bs → rows < 65536
+        → has_row bs i ≡ ((eqb version 1 && (leb 1 columns && (leb columns 8 && (eqb size (rows * (4 * columns) + 4) && leb (size + 4) (length bs))))) && ltb i rows)
+    unfolding has_row is_record
+    row-by size version columns rows l e f g k r =
+        let m : leb (row_count bs) 65535 ≡ true = le-leb (row_count bs) 65535 (omega arith) in
+        rw (e, f, g, k, le-leb 8 (length bs) l, m)
+
+    -- what is shown, by whether the row is there, from `start` up to `end`
+    pub row-there : (start end : ℕ) → has_row bs i ≡ true → start ≡ 8 + i * row_bytes bs → end ≡ start + row_bytes bs → take (end - start) (drop start bs) ≡ row_part bs i
     unfolding row_part
-    row-there w h e =
-        let d : 8 + i * w + w - (8 + i * w) ≡ w = omega arith in
-        ap (λ (k : ℕ). take k (drop (8 + i * w) bs)) d
-        ∙ ap (λ (k : ℕ). take k (drop (8 + i * k) bs)) e
+    row-there start end h e f =
+        let d : end - start ≡ row_bytes bs = omega arith in
+        ap₂ (λ k n. take k (drop n bs)) d e
         ∙ sym (ap (λ (b : Bool). take (cond b (row_bytes bs) 0) (drop (cond b (8 + i * row_bytes bs) 0) bs)) h)
 
     pub row-missing : has_row bs i ≡ false → [] ≡ row_part bs i
     unfolding row_part
     row-missing h = sym (ap (λ (b : Bool). take (cond b (row_bytes bs) 0) (drop (cond b (8 + i * row_bytes bs) 0) bs)) h)
-
--- where it starts: the offset is so many bytes past that of the record
-module _ (s : Bor (List ℕ)) (i : ℕ) where
-  from_start : (n m : ℕ) → n ≡ m → (s.ref_ptr.0, n + s.ref_ptr.1) ≡ past s m
-  from_start n m e =
-      let k : n + s.ref_ptr.1 ≡ s.ref_ptr.1 + m = omega arith in
-      λ j. (s.ref_ptr.0, k j)
-
-  pub place-there : (w : ℕ) → has_row s.now i ≡ true → w ≡ row_bytes s.now → (s.ref_ptr.0, (8 + i * w) + s.ref_ptr.1) ≡ past s (row_start s.now i)
-  place-there w h e =
-      from_start (8 + i * w) (row_start s.now i)
-      (ap (λ (k : ℕ). 8 + i * k) e ∙ sym (ap (λ (b : Bool). cond b (8 + i * row_bytes s.now) 0) h))
-
-  pub place-missing : has_row s.now i ≡ false → (s.ref_ptr.0, 0 + s.ref_ptr.1) ≡ past s (row_start s.now i)
-  place-missing h = from_start 0 (row_start s.now i) (sym (ap (λ (b : Bool). cond b (8 + i * row_bytes s.now) 0) h))

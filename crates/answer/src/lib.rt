@@ -2,9 +2,11 @@
 // A record is four bytes, the length of what follows; a version byte; a byte, columns; two bytes, rows; then four bytes a value. All big-endian.
 #![tactic(auto)]
 
-ghost use Rattle.std.specs.Prelude.{◌≡◌, [], ◌∷◌, ◌+◌, ◌≤◌, leb, get_or};
-ghost use Rattle.meaning.specs.Record.{bits_of, bytes4, four_at, row_count, row_bytes, is_record, has_row, row_refusal, row_start, row_part};
+ghost use Rattle.std.specs.Prelude.{◌≡◌, true, false, ◌&&◌, ◌+◌, ◌*◌, ◌≤◌, ◌<◌, leb, eqb, length, get_or, MatchOption};
+ghost use Rattle.meaning.specs.Record.{bits_of, bytes4, four_at, columns_in, row_count, row_bytes, is_record, has_row, row_refusal, row_start, row_part};
 ghost use Rattle.answer.specs.Answer.{record_length, header, put, past};
+
+use std::ops::Range;
 
 // The form of a record, and its limits.
 #[derive(Clone, Copy)]
@@ -27,64 +29,62 @@ impl Answer {
     pub const NO_ROW: u8 = 14;
 }
 
-// A byte as a number; 0 past the end.
-fn byte_at(bytes: &[u8], i: usize) -> usize
-    ensures { (result ≡ get_or bytes.now i 0) × (result ≤ 255) }
-{
-    if i < bytes.len() {
-        bytes[i] as usize
-    } else {
-        0
+// What the first bytes say: the length of what follows the first four, the version, the columns and the rows.
+#[derive(Clone, Copy)]
+struct Head {
+    size: u32,
+    version: u8,
+    columns: u8,
+    rows: u16,
+}
+
+impl Head {
+    // The head, if the bytes are as many.
+    fn read(bytes: &[u8]) -> Option<Head>
+        ensures { MatchOption result (length bytes.now < 8) (λ h. (8 ≤ length bytes.now) × (h.size ≡ four_at bytes.now 0) × (h.version ≡ get_or bytes.now 4 0) × (h.columns ≡ columns_in bytes.now) × (h.rows ≡ row_count bytes.now)) }
+    {
+        match bytes {
+            [a, b, c, d, version, columns, high, low, ..] => Some(Head {
+                size: u32::from_be_bytes([*a, *b, *c, *d]),
+                version: *version,
+                columns: *columns,
+                rows: u16::from_be_bytes([*high, *low]),
+            }),
+            _ => None,
+        }
+    }
+
+    // The bytes of a row.
+    fn width(self) -> usize
+        ensures { result ≡ 4 * self.columns }
+    {
+        Answer::VALUE * usize::from(self.columns)
+    }
+
+    // Whether its numbers agree, and the whole length is among so many bytes.
+    fn agrees(self, len: usize) -> bool
+        ensures { result ≡ (eqb self.version 1 && (leb 1 self.columns && (leb self.columns 8 && (eqb self.size (self.rows * (4 * self.columns) + 4) && leb (self.size + 4) len)))) }
+    {
+        let columns = usize::from(self.columns);
+        let size = self.size as usize;
+        self.version == Answer::VERSION
+            && (1..=Answer::COLUMNS).contains(&columns)
+            && size == usize::from(self.rows) * self.width() + 4
+            && size + 4 <= len
     }
 }
 
-// The length that a record says it has: of what follows its first four bytes.
-fn length_in(bytes: &[u8]) -> usize
-    ensures { (result ≡ four_at bytes.now 0) × (result ≤ 4294967295) }
+// Where row i of a record stands, if the bytes are a record, with any bytes behind it, and the row is there.
+fn row_range(bytes: &[u8], i: usize) -> Option<Range<usize>>
+    ensures { MatchOption result (has_row bytes.now i ≡ false) (λ r. (has_row bytes.now i ≡ true) × (r.start ≡ 8 + i * row_bytes bytes.now) × (r.end ≡ r.start + row_bytes bytes.now) × (r.end ≤ length bytes.now)) }
 {
-    let a = byte_at(bytes, 0);
-    let b = byte_at(bytes, 1);
-    let c = byte_at(bytes, 2);
-    let d = byte_at(bytes, 3);
-    a * 16777216 + b * 65536 + c * 256 + d
-}
-
-fn rows_in(bytes: &[u8]) -> usize
-    ensures { (result ≡ row_count bytes.now) × (result ≤ 65535) }
-{
-    let a = byte_at(bytes, 6);
-    let b = byte_at(bytes, 7);
-    a * 256 + b
-}
-
-// The bytes of a row.
-fn row_bytes(bytes: &[u8]) -> usize
-    ensures { (result ≡ row_bytes bytes.now) × (result ≤ 1020) }
-{
-    Answer::VALUE * byte_at(bytes, 5)
-}
-
-// Whether the bytes are a record, with any bytes behind it.
-fn is_record(bytes: &[u8]) -> bool
-    ensures { result ≡ is_record bytes.now }
-{
-    let version = byte_at(bytes, 4);
-    let columns = byte_at(bytes, 5);
-    let rows = rows_in(bytes);
-    let size = length_in(bytes);
-    let wanted = rows * row_bytes(bytes) + 4;
-    (Answer::HEAD <= bytes.len())
-        & ((version == Answer::VERSION as usize)
-            & ((1 <= columns)
-                & ((columns <= Answer::COLUMNS)
-                    & ((rows <= Answer::ROWS) & ((size == wanted) & (size + 4 <= bytes.len()))))))
-}
-
-// Whether row i is there.
-fn has_row(bytes: &[u8], i: usize) -> bool
-    ensures { result ≡ has_row bytes.now i }
-{
-    is_record(bytes) & (i < rows_in(bytes))
+    let head = Head::read(bytes)?;
+    if head.agrees(bytes.len()) && i < usize::from(head.rows) {
+        let width = head.width();
+        let start = Answer::HEAD + i * width;
+        return Some(start..start + width);
+    }
+    None
 }
 
 // Row i of a record: the part of the caller's bytes that holds it, or the empty part at their beginning.
@@ -92,86 +92,52 @@ pub fn row(bytes: &[u8], i: usize) -> &[u8]
     ensures part { result.now ≡ row_part bytes.now i }
     ensures place { result.ref_ptr ≡ past bytes.entry (row_start bytes.now i) }
 {
-    if has_row(bytes, i) {
-        let width = row_bytes(bytes);
-        let start = Answer::HEAD + i * width;
-        let end = start + width;
-        return &bytes[start..end];
+    match row_range(bytes, i) {
+        Some(range) => &bytes[range],
+        None => &bytes[..0],
     }
-    &bytes[0..0]
 }
 
 // 0, or the refusal of a row.
 pub fn row_refusal(bytes: &[u8], i: usize) -> u8
     ensures { result ≡ row_refusal bytes.now i }
 {
-    if has_row(bytes, i) { 0 } else { Answer::NO_ROW }
-}
-
-// Whether n bytes fit at a place of a buffer of so many bytes.
-fn has_room(size: usize, at: usize, n: usize) -> bool
-    ensures { result ≡ leb (at + n) size }
-{
-    if size < n {
-        return false;
-    }
-    at <= size - n
-}
-
-// Puts four bytes at a place, if they fit.
-fn put_bytes(out: &mut [u8], at: usize, a: u8, b: u8, c: u8, d: u8)
-    ensures { out.new ≡ put out.old at (a ∷ b ∷ c ∷ d ∷ []) }
-{
-    if has_room(out.len(), at, 4) {
-        out[at] = a;
-        out[at + 1] = b;
-        out[at + 2] = c;
-        out[at + 3] = d;
+    match row_range(bytes, i) {
+        Some(_) => 0,
+        None => Answer::NO_ROW,
     }
 }
 
-// Puts a number at a place, big-endian, if its four bytes fit.
-fn put_four(out: &mut [u8], at: usize, n: u64)
-    ensures { out.new ≡ put out.old at (bytes4 n) }
+// Puts bytes at a place, if they fit.
+fn put(out: &mut [u8], at: usize, bytes: &[u8])
+    ensures { out.new ≡ put out.old at bytes.now }
 {
-    let a = (n / 16777216 % 256) as u8;
-    let b = (n / 65536 % 256) as u8;
-    let c = (n / 256 % 256) as u8;
-    let d = (n % 256) as u8;
-    put_bytes(out, at, a, b, c, d);
-}
-
-// The bits of a signed number, as a number below 2 to the 32.
-fn bits(v: i32) -> u64
-    ensures { result ≡ bits_of v }
-{
-    let w = (v as i64) + 4294967296;
-    (w as u64) % 4294967296
+    let size = bytes.len();
+    if size <= out.len() && at <= out.len() - size {
+        out[at..at + size].copy_from_slice(bytes);
+    }
 }
 
 // Puts a value at a place, if its four bytes fit.
 pub fn put_value(out: &mut [u8], at: usize, v: i32)
     ensures { out.new ≡ put out.old at (bytes4 (bits_of v)) }
 {
-    put_four(out, at, bits(v));
+    put(out, at, &v.to_be_bytes());
 }
 
 // The length of the record of so many columns and rows.
 pub fn record_length(columns: u8, rows: u16) -> usize
     ensures { result ≡ record_length columns rows }
 {
-    Answer::HEAD + Answer::VALUE * (columns as usize * rows as usize)
+    Answer::HEAD + Answer::VALUE * (usize::from(columns) * usize::from(rows))
 }
 
 // Puts the head of that record at the start of the buffer, if its eight bytes fit.
 pub fn put_header(out: &mut [u8], columns: u8, rows: u16)
     ensures { out.new ≡ put out.old 0 (header columns rows) }
 {
-    if Answer::HEAD <= out.len() {
-        let size = record_length(columns, rows) - 4;
-        put_four(out, 0, size as u64);
-        let high = (rows / 256 % 256) as u8;
-        let low = (rows % 256) as u8;
-        put_bytes(out, 4, Answer::VERSION, columns, high, low);
-    }
+    let size = 4 + 4 * (u32::from(columns) * u32::from(rows));
+    let [a, b, c, d] = size.to_be_bytes();
+    let [high, low] = rows.to_be_bytes();
+    put(out, 0, &[a, b, c, d, Answer::VERSION, columns, high, low]);
 }

@@ -23,7 +23,7 @@ use Rattle.meaning.specs.Plain as P
 use Rattle.meaning.specs.Plain.{Plain, schemas, no_place, is_none, its_sentence, other_lengths, add, or_else, lowest_of, refusal, adding, placed, added_text}
 use Rattle.meaning.specs.Demand.{Acceptable}
 use Rattle.meaning.proofs.Accepted.{text-taken}
-use Rattle.statement.specs.declared.Statement.{Statement as Struct}
+use Rattle.statement.specs.Compiled.{Compiled as Struct}
 use Rattle.statement.specs.Catalog.{schema_of, catalog}
 use Rattle.statement.specs.Compiled.{table_struct, query_struct, update_struct, struct_of, text_conditions, struct_of_text, compiled_of}
 use Rattle.statement.specs.Compiled as C

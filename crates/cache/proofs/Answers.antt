@@ -31,8 +31,8 @@ use Rattle.statement.proofs.SoundQuery.{query-parts}
 use Rattle.statement.specs.declared.Query.{Query}
 use Rattle.table.specs.Evaluated.{row_cells, area_rows, passes_stored}
 use Rattle.table.proofs.Means.{answer-means}
-use Rattle.slots.specs.declared.Found.{Found}
-use Rattle.slots.specs.declared.Found.TheVariants.{At, Nothing}
+use Rattle.slots.specs.Keys.{Found}
+use Rattle.std.specs.Prelude.{Some, None}
 use Rattle.slots.specs.Keys.{key_of, slot_has}
 use Rattle.slots.specs.Order.{front_of}
 use Rattle.slots.proofs.KeyLaws.{key-few, has_key, found_at, found_inside}
@@ -65,7 +65,7 @@ module _ (s : Store) (n : ℕ) (vs : List ℤ) (buffer : List ℕ) where
       (written buffer 0 (bytes_at st s.memory (get_or st.slots.order i 0)))
 
   abbrev Answered : Store × Seen → Type 0
-  Answered r = (number ≡ 0) × (((i : ℕ) × (found_in st n vs ≡ At i) × (r ≡ step_ask s (kept_at i))) ⊎ ((found_in st n vs ≡ Nothing) × (new_refusal st s.cells (length buffer) n vs ≡ 0) × (r ≡ step_ask s (newly st s.cells s.memory buffer n vs))))
+  Answered r = (number ≡ 0) × (((i : ℕ) × (found_in st n vs ≡ Some i) × (r ≡ step_ask s (kept_at i))) ⊎ ((found_in st n vs ≡ None) × (new_refusal st s.cells (length buffer) n vs ≡ 0) × (r ≡ step_ask s (newly st s.cells s.memory buffer n vs))))
 
   -- 13, or done
   not_short : (b : Bool) (r : Asks) → (step_ask s (cond b (asks (ask_refused st 13) s.memory buffer) r)).1.got.refusal ≡ 0
@@ -88,8 +88,8 @@ module _ (s : Store) (n : ℕ) (vs : List ℤ) (buffer : List ℕ) where
       by k f = step_ask s (settled k (ask_found f st s.cells s.memory buffer n vs) (asks (ask_refused st k) s.memory buffer))
 
       go : (k : ℕ) → number ≡ k → (f : Found) → found_in st n vs ≡ f → (by k f).1.got.refusal ≡ 0 → Answered (by k f)
-      go zero e (At i) g z = (e, inl (i, g, not_short (ltb (length buffer) (cached_length st i)) (kept_at i) z))
-      go zero e Nothing g z =
+      go zero e (Some i) g z = (e, inl (i, g, not_short (ltb (length buffer) (cached_length st i)) (kept_at i) z))
+      go zero e None g z =
           let d = not-refused (new_refusal st s.cells (length buffer) n vs) (newly st s.cells s.memory buffer n vs) z in
           (e, inr (g, d.0, d.1))
       go (suc k) e f g z = absurd (omega arith)

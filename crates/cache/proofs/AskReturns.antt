@@ -1,39 +1,42 @@
 -- What each return of a question owes: refused, cached, or worked out; and of a record that is kept. Assumes nothing.
-use mathlib.Core.Path.{◌≡◌, refl, sym, ap, ap₂, ◌∙◌}
-use mathlib.Core.Bool.{Bool, true, false, ◌&&◌}
+use mathlib.Core.Path.{◌≡◌, refl, sym, ap, ap₂, subst, ◌∙◌}
+use mathlib.Core.Bool.{Bool, true, false, ◌&&◌, and-false}
 use mathlib.Core.List.{List}
 use Prim.Native.Nat.{ℕ, ◌*◌, ◌%◌, ◌≤◌, ◌<◌}
 use native.Mathlib.Nat.{mod-eq_of_lt}
 use native.Mathlib.Omega.{arith}
-use borrow.Author.Tests.{leb-false, lt-ltb, ltb-false, le-ltb}
+use borrow.Author.Tests.{leb-false, le-leb, lt-ltb, ltb-false, le-ltb}
+use Rattle.std.proofs.lemmas.Bool.{lt-leb}
+use Rattle.std.proofs.lemmas.List.{set_past}
 use lib.Dec.{leb, ltb, lit<}
 use lib.IntN.{ℤ}
-use lib.ListN.{length, take, get_or}
+use lib.ListN.{length, take, get_or, set}
 use lib.Seq.{length-take-le}
 use Rattle.lists.specs.Lists.{written}
-use Rattle.lists.proofs.Bools.{and_right}
+use Rattle.lists.proofs.Bools.{and_both}
 use Rattle.lists.proofs.Places.{get_or-inside}
 use Rattle.lists.proofs.Written.{length-written, written-there}
-use Rattle.meaning.specs.Limits.{most_queries, most_slots}
+use Rattle.meaning.specs.Limits.{most_queries}
 use Rattle.meaning.specs.Plain.{or_else}
 use Rattle.statement.specs.declared.Query.{Query}
 use Rattle.statement.specs.Compiled.{no_query}
-use Rattle.table.specs.declared.listing.Selected.{Selected}
+use Rattle.table.specs.Evaluated.{Said}
 use Rattle.slots.specs.declared.Key.{Key}
-use Rattle.slots.specs.declared.Found.{Found}
-use Rattle.slots.specs.declared.Found.TheVariants.{At, Nothing}
+use Rattle.slots.specs.Keys.{Found}
+use Rattle.std.specs.Prelude.{Option, Some, None}
 use Rattle.slots.specs.declared.SlotList.{SlotList}
 use Rattle.slots.specs.declared.Taken.{Taken}
 use Rattle.slots.specs.Keys.{key_of, find_of}
-use Rattle.slots.specs.Order.{front_of, taken_of}
+use Rattle.slots.specs.Order.{front_of, is_open, taken_of}
+use Rattle.slots.proofs.Moves.{taken_open, not_open}
 use Rattle.slots.proofs.KeyLaws.{found_below}
 use Rattle.cache.specs.declared.State.{State}
-use Rattle.cache.specs.declared.Asked.{Asked}
+use Rattle.cache.specs.Calls.{Asked}
 use Rattle.cache.specs.Sound.{query_at}
 use Rattle.cache.specs.Calls.{unfit, Asks, asks, ask_refused, ask_refusal, with_cache, bytes_at, cached_length, ask_cached, kept, kept_memory, settled, record_at, too_many, new_refusal, newly, ask_new, ask_found, ask_of}
 use Rattle.cache.specs.declared.Place.{Place}
-use Rattle.cache.specs.declared.Outcome.{Outcome}
-use Rattle.cache.specs.Outcomes.{ask_number, no_place, no_answer, placed, outcome_of, WorksOut, takes, taking, place_of, place_bytes}
+use Rattle.cache.specs.Outcomes.{Outcome}
+use Rattle.cache.specs.Outcomes.{ask_number, no_place, no_answer, placed_in, placed, outcome_of, Last, Room, WorksOut, takes, taking, place_of, place_bytes}
 use Rattle.cache.proofs.Sounds.{sound-is}
 use Rattle.cache.proofs.Settled.{settled-refused, settled-done, Fit, fit_is, or-else-zero}
 
@@ -92,32 +95,60 @@ module _ (s : State) (memory answer : List ℕ) (p : ℕ) where
 
 -- ---- a record kept
 
-module _ (slots : SlotList) (bytes size : ℕ) (from memory : List ℕ) (long : size ≤ length from) (t : Taken) (e : t ≡ taken_of slots) where
+module _ (slots : SlotList) (bytes size : ℕ) (from memory : List ℕ) (long : size ≤ length from) where
   abbrev first : List ℕ
   first = take size from
 
   size_is : length first ≡ size
   size_is = length-take-le size from long
 
-  test-is : takes slots bytes first ≡ (leb size bytes && t.there)
-  test-is = ap₂ (λ (n : ℕ) (u : Taken). leb n bytes && u.there) size_is (sym e)
+  test-is : takes slots bytes first ≡ (leb size bytes && is_open slots)
+  test-is = ap (λ (n : ℕ). leb n bytes && is_open slots) size_is
 
-  pub keep-not : (p : Place) → p ≡ no_place slots → (leb size bytes && t.there) ≡ false → (p ≡ place_of slots bytes first) × (memory ≡ place_bytes slots bytes first memory)
+  keep-not : (p : Place) → p ≡ no_place slots → (leb size bytes && is_open slots) ≡ false → (p ≡ place_of slots bytes first) × (memory ≡ place_bytes slots bytes first memory)
   unfolding place_of place_bytes
   keep-not p f h = let z = test-is ∙ h in (rw z f, rw z)
 
-  pub keep-done : (new : List ℕ) → (leb size bytes && t.there) ≡ true → new ≡ written memory (t.slot * bytes) first
+  -- it does not fit, or there is no slot
+  pub keep-long : (p : Place) → p ≡ no_place slots → bytes < size → (p ≡ place_of slots bytes first) × (memory ≡ place_bytes slots bytes first memory)
+  keep-long p f h = keep-not p f (ap (λ (b : Bool). b && is_open slots) (lt-leb size bytes h))
+
+  pub keep-none : (p : Place) → p ≡ no_place slots → taken_of slots ≡ None → (p ≡ place_of slots bytes first) × (memory ≡ place_bytes slots bytes first memory)
+  keep-none p f h = keep-not p f (ap (λ (b : Bool). leb size bytes && b) (not_open slots h) ∙ and-false (leb size bytes))
+
+  pub keep-done : (t : Taken) (new : List ℕ) → taken_of slots ≡ Some t → size ≤ bytes → new ≡ written memory (t.slot * bytes) first
       → (taking t size ≡ place_of slots bytes first) × (new ≡ place_bytes slots bytes first memory)
   unfolding place_of place_bytes
-  keep-done new h f = let z = test-is ∙ h in (rw z (ap₂ taking e (sym size_is)), rw z (f ∙ ap (λ (u : Taken). written memory (u.slot * bytes) first) e))
+  keep-done t new h k f =
+      let o = taken_open slots t h in
+      let z = test-is ∙ and_both (leb size bytes) (is_open slots) (le-leb size bytes k) o.0 in
+      (rw z (ap₂ taking o.1 (sym size_is)), rw z (f ∙ ap (λ (u : Taken). written memory (u.slot * bytes) first) o.1))
+
+  -- where a slot is taken the record has room in it
+  pub last-room : (t : Taken) (n : ℕ) → Room slots bytes n size → taken_of slots ≡ Some t → size ≤ bytes → Last bytes n t size
+  last-room t n room h k =
+      let o = taken_open slots t h in
+      subst (λ (u : Taken). Last bytes n u size) (sym o.1) (room o.0 k)
+
+-- the key and the length in the slot, if there is one
+module _ (s : State) (key : Key) (p : Place) where
+  pub placed-slot : (x y : ℕ) → p.slot ≡ Some x → y ≡ x → with_cache s p.slots (set s.keys y key) (set s.lengths y p.size) ≡ placed s key p
+  placed-slot x y e q = ap (λ (k : ℕ). with_cache s p.slots (set s.keys k key) (set s.lengths k p.size)) q ∙ ap (λ (o : Option ℕ). placed_in o s key p.size p.slots) (sym e)
+
+  pub placed-past : (x y : ℕ) → p.slot ≡ Some x → y ≡ x → length s.keys ≤ y → length s.lengths ≤ y → with_cache s p.slots s.keys s.lengths ≡ placed s key p
+  placed-past x y e q h k =
+      ap₂ (with_cache s p.slots) (sym (set_past s.keys y key h)) (sym (set_past s.lengths y p.size k)) ∙ placed-slot x y e q
+
+  pub placed-nowhere : p.slot ≡ None → with_cache s p.slots s.keys s.lengths ≡ placed s key p
+  placed-nowhere e = ap (λ (o : Option ℕ). placed_in o s key p.size p.slots) (sym e)
 
 module _ (s : State) (r : List ℕ) (p : Place) (e : p ≡ place_of s.slots s.slot_bytes r) where
-  pub place_kept : ((taken_of s.slots).there ≡ true → (taken_of s.slots).slot < most_slots) → (key : Key) → placed s key p ≡ kept s key r
+  pub place_kept : (key : Key) → placed s key p ≡ kept s key r
   unfolding place_of kept with_cache
-  place_kept below key = ap (placed s key) e ∙ go (takes s.slots s.slot_bytes r) refl
+  place_kept key = ap (placed s key) e ∙ go (takes s.slots s.slot_bytes r) refl
     where
       go : (b : Bool) → takes s.slots s.slot_bytes r ≡ b → placed s key (place_of s.slots s.slot_bytes r) ≡ kept s key r
-      go true z = rw (z, lt-ltb (taken_of s.slots).slot most_slots (below (and_right (leb (length r) s.slot_bytes) _ z)))
+      go true z = rw z
       go false z = rw z
 
   pub bytes-kept : (after memory : List ℕ) → after ≡ place_bytes s.slots s.slot_bytes r memory → after ≡ kept_memory s r memory
@@ -135,7 +166,7 @@ short-of false n m e = go (ltb n m) refl e
     go true h z = absurd (omega arith)
     go false h z = ltb-false n m h
 
-module _ (s : State) (cells : List ℤ) (memory : List ℕ) (query : ℕ) (values : List ℤ) (answer : List ℕ) (w : Selected) (new : List ℕ)
+module _ (s : State) (cells : List ℤ) (memory : List ℕ) (query : ℕ) (values : List ℤ) (answer : List ℕ) (w : Said) (new : List ℕ)
     (W : WorksOut s cells query values answer w new) where
   abbrev rec : List ℕ
   rec = record_at s cells query values
@@ -189,11 +220,11 @@ module _ (s : State) (cells : List ℤ) (memory : List ℕ) (query : ℕ) (value
       unfolding ask_of
       ask-done o h = h ∙ rw (← e, ← q, ← g) (settled-done n _ _ z)
 
-      pub ask-found : (p : ℕ) (o : Asks) → f ≡ At p → o ≡ ask_cached s memory answer p → o ≡ ask_of s cells memory query values answer
+      pub ask-found : (p : ℕ) (o : Asks) → f ≡ Some p → o ≡ ask_cached s memory answer p → o ≡ ask_of s cells memory query values answer
       ask-found p o m h = ask-done o (h ∙ ap (λ (x : Found). ask_found x s cells memory answer query values) (sym m))
 
-      pub ask-missed : (o : Asks) → f ≡ Nothing → o ≡ ask_new s cells memory answer query values → o ≡ ask_of s cells memory query values answer
+      pub ask-missed : (o : Asks) → f ≡ None → o ≡ ask_new s cells memory answer query values → o ≡ ask_of s cells memory query values answer
       ask-missed o m h = ask-done o (h ∙ ap (λ (x : Found). ask_found x s cells memory answer query values) (sym m))
 
-      pub found-held : (p : ℕ) → f ≡ At p → p < s.slots.held
+      pub found-held : (p : ℕ) → f ≡ Some p → p < s.slots.held
       found-held p m = found_below s.keys s.slots key p (sym g ∙ m)

@@ -25,11 +25,11 @@ use Rattle.statement.specs.Sound.{second_read, AgreesQuery}
 use Rattle.table.specs.Evaluated.{passes_stored}
 use Rattle.table.proofs.Means.{answer-means, record-means}
 use Rattle.table.proofs.Outer.{passes-means, used-wide}
-use Rattle.slots.specs.declared.Found.{Found}
-use Rattle.slots.specs.declared.Found.TheVariants.{At, Nothing}
+use Rattle.slots.specs.Keys.{Found}
+use Rattle.std.specs.Prelude.{Some, None}
 use Rattle.slots.specs.declared.SlotList.{SlotList}
 use Rattle.slots.specs.declared.Key.{Key as Stored}
-use Rattle.slots.specs.Order.{taken_of}
+use Rattle.slots.specs.Order.{is_open, last_taken}
 use Rattle.slots.specs.Keys.{key_of}
 use Rattle.cache.specs.declared.State.{State}
 use Rattle.cache.specs.Sound.{query_at, sound_state}
@@ -58,9 +58,9 @@ cache-means s cells p m slots keys lengths = record {
 
 kept-means : (s : State) (cells : List ℤ) (p : Plain) → Means s cells p → (k : Stored) (r : List ℕ) → Means (kept s k r) cells p
 unfolding kept
-kept-means s cells p m k r = go (fits_slot s r && (taken_of s.slots).there)
+kept-means s cells p m k r = go (fits_slot s r && is_open s.slots)
   where
-    go : (b : Bool) → Means (cond b (put_in s k r (taken_of s.slots)) s) cells p
+    go : (b : Bool) → Means (cond b (put_in s k r (last_taken s.slots)) s) cells p
     go true = cache-means s cells p m _ _ _
     go false = m
 
@@ -186,21 +186,21 @@ module _ (s : Store) (p : Plain) (T : Typed s.state) (h : sound_state s.state �
       (settled_same (step_ask s) (found (found_in s.state n vs)) (λ k. asks (ask_refused s.state k) s.memory buffer) buffer s p answered_plain m (λ k. refl) _ _ ask-number d)
 
   -- no slot holds it
-  pub ask-same : found_in s.state n vs ≡ Nothing → Same buffer (step s (R.ask n vs buffer)) (P.step (lengths_lent s) p (ask key (length buffer)))
+  pub ask-same : found_in s.state n vs ≡ None → Same buffer (step s (R.ask n vs buffer)) (P.step (lengths_lent s) p (ask key (length buffer)))
   ask-same anew =
       ask-by (λ z. subst (λ f. Same buffer (step_ask s (found f)) answered_plain) (sym anew)
       (new-same (subst (λ k. n < k) (query-count s.state T S s.cells p m) (key-asked (lengths_lent s) p key z).there)))
 
   -- a held answer is refused by 13 alone
-  held-short : (i : ℕ) → (found (At i)).result.refusal ≢ 0 → (found (At i)).result.refusal ≢ 13 → ⊥
-  held-short i = go (ltb (length buffer) (cached_length s.state i)) (found_number s n vs buffer (At i))
+  held-short : (i : ℕ) → (found (Some i)).result.refusal ≢ 0 → (found (Some i)).result.refusal ≢ 13 → ⊥
+  held-short i = go (ltb (length buffer) (cached_length s.state i)) (found_number s n vs buffer (Some i))
     where
-      go : (b : Bool) → (found (At i)).result.refusal ≡ or_else b 13 0 → (found (At i)).result.refusal ≢ 0 → (found (At i)).result.refusal ≢ 13 → ⊥
+      go : (b : Bool) → (found (Some i)).result.refusal ≡ or_else b 13 0 → (found (Some i)).result.refusal ≢ 0 → (found (Some i)).result.refusal ≢ 13 → ⊥
       go true e a c = c e
       go false e a c = a e
 
-  refused-by : (i : ℕ) → found_in s.state n vs ≡ At i → plain_refusal (lengths_lent s) p key ≡ 0
-      → (step s (R.ask n vs buffer)).1.got.refusal ≡ (found (At i)).result.refusal
+  refused-by : (i : ℕ) → found_in s.state n vs ≡ Some i → plain_refusal (lengths_lent s) p key ≡ 0
+      → (step s (R.ask n vs buffer)).1.got.refusal ≡ (found (Some i)).result.refusal
   unfolding step ask_of settled
   refused-by i e z =
       ap (λ k. (step_ask s (settled k (found (found_in s.state n vs)) (asks (ask_refused s.state k) s.memory buffer))).1.got.refusal) (ask-number ∙ z)
@@ -212,5 +212,5 @@ module _ (s : Store) (p : Plain) (T : Typed s.state) (h : sound_state s.state �
   ask-refused-same a b = go (found_in s.state n vs) refl
     where
       go : (f : Found) → found_in s.state n vs ≡ f → Same buffer (step s (R.ask n vs buffer)) (P.step (lengths_lent s) p (ask key (length buffer)))
-      go Nothing e = ask-same e
-      go (At i) e = ask-by (λ z. absurd (held-short i (λ k. a (refused-by i e z ∙ k)) (λ k. b (refused-by i e z ∙ k))))
+      go None e = ask-same e
+      go (Some i) e = ask-by (λ z. absurd (held-short i (λ k. a (refused-by i e z ∙ k)) (λ k. b (refused-by i e z ∙ k))))

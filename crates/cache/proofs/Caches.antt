@@ -22,10 +22,9 @@ use Rattle.slots.specs.declared.SlotList.{SlotList}
 use Rattle.slots.specs.declared.Taken.{Taken}
 use Rattle.slots.specs.Keys.{no_key, key_read}
 use Rattle.slots.specs.Order as order
-use Rattle.slots.specs.Order.{held_slots, free_slots, front_of, taken_of}
-use Rattle.slots.proofs.Moves.{taken_none}
+use Rattle.slots.specs.Order.{held_slots, free_slots, front_of, is_open, last_taken}
 use Rattle.slots.proofs.KeyLaws.{FoundAt, found_inside}
-use Rattle.slots.proofs.Laws.{front-found, front-free, taken-there, taken-below, drop-held, drop-free}
+use Rattle.slots.proofs.Laws.{front-found, front-free, slots-open, taken-below, drop-held, drop-free}
 use Rattle.cache.specs.declared.State.{State}
 use Rattle.cache.specs.Sound.{length_at}
 use Rattle.cache.specs.Means.{Typed}
@@ -78,11 +77,11 @@ module _ (s : State) (T : Typed s) (S : Sound s) (memory : List ℕ) where
   -- ---- "A new record that fits a slot takes the last slot and moves it to the front."
 
   abbrev taken : Taken
-  taken = taken_of s.slots
+  taken = last_taken s.slots
 
   -- no slot, none taken
-  none-there : s.slots.count ≡ 0 → taken.there ≡ false
-  none-there z = ap (λ (t : Taken). t.there) (sym (taken_none s.slots (ap (λ (n : ℕ). leb 1 n && leb n most_slots) z)))
+  none-there : s.slots.count ≡ 0 → is_open s.slots ≡ false
+  none-there z = ap (λ (n : ℕ). leb 1 n && leb n most_slots) z
 
   module _ (key : Key) (r : List ℕ) where
     abbrev keys' : List Key
@@ -114,13 +113,13 @@ module _ (s : State) (T : Typed s) (S : Sound s) (memory : List ℕ) where
         ∙ ap (put_in s.slot_bytes (cache_of s memory) (key_read key) r) (sym Z.takes)
 
     put-by : (b : Bool) → Dec (1 ≤ s.slots.count)
-        → cache_of (cond (b && taken.there) (calls.put_in s key r taken) s) (cond (b && taken.there) memory' memory)
+        → cache_of (cond (b && is_open s.slots) (calls.put_in s key r taken) s) (cond (b && is_open s.slots) memory' memory)
         ≡ put s.slot_bytes b (cache_of s memory) (key_read key) r
     unfolding with_cache
     put-by false d = refl
     put-by true (yes h) =
         let l = last-is s.keys s.lengths memory s.slots S.slots T.order-64 h in
-        rw (taken-there s.slots S.slots T.order-64 h) (put-taken (taken-below s.slots S.slots T.order-64 h) l.0 l.1 l.2)
+        rw (slots-open s.slots S.slots h) (put-taken (taken-below s.slots S.slots h) l.0 l.1 l.2)
     put-by true (no h) =
         let z : s.slots.count ≡ 0 = omega arith in
         rw (none-there z)
@@ -133,7 +132,7 @@ module _ (s : State) (T : Typed s) (S : Sound s) (memory : List ℕ) where
     -- it changes the kept answers alone
     pub kept-is : (l : SlotList) × (ks : List Key) × (ns : List ℕ) × (kept s key r ≡ with_cache s l ks ns)
     unfolding kept with_cache
-    kept-is = go (fits_slot s r && taken.there)
+    kept-is = go (fits_slot s r && is_open s.slots)
       where
         go : (b : Bool) → (l : SlotList) × (ks : List Key) × (ns : List ℕ) × (cond b (calls.put_in s key r taken) s ≡ with_cache s l ks ns)
         go true = (taken.slots, keys', lengths', refl)
@@ -155,9 +154,9 @@ module _ (s : State) (T : Typed s) (S : Sound s) (memory : List ℕ) where
     kept-long r = go (fits_slot s r) refl (dec_le 1 s.slots.count)
       where
         go : (b : Bool) → fits_slot s r ≡ b → Dec (1 ≤ s.slots.count)
-            → length (cond (b && taken.there) (written memory (taken.slot * s.slot_bytes) r) memory) ≡ length memory
+            → length (cond (b && is_open s.slots) (written memory (taken.slot * s.slot_bytes) r) memory) ≡ length memory
         go false e d = refl
         go true e (yes h) =
-            rw (taken-there s.slots S.slots T.order-64 h)
-            (slot-written s.slots.count s.slot_bytes taken.slot r memory (taken-below s.slots S.slots T.order-64 h) room (leb-true (length r) s.slot_bytes e))
+            rw (slots-open s.slots S.slots h)
+            (slot-written s.slots.count s.slot_bytes taken.slot r memory (taken-below s.slots S.slots h) room (leb-true (length r) s.slot_bytes e))
         go true e (no h) = let z : s.slots.count ≡ 0 = omega arith in rw (none-there z)

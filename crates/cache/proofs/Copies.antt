@@ -1,46 +1,27 @@
--- A copy of bytes, for the loop that makes it. Assumes nothing.
+-- Bytes copied over the front of a list, or from a place on. Assumes nothing.
 use mathlib.Core.Path.{◌≡◌, sym, ap, ap₂, ◌∙◌}
-use mathlib.Core.List.{List}
-use Prim.Native.Nat.{ℕ, suc, ◌+◌, ◌<◌, ◌≤◌}
-use native.Mathlib.Numerals.{add-one}
+use mathlib.Core.List.{List, ◌++◌, append_assoc}
+use Prim.Native.Nat.{ℕ, ◌+◌, ◌-◌, ◌≤◌}
 use native.Mathlib.Omega.{arith}
-use lib.ListN.{length, take, drop, get_or, set, length-drop}
-use lib.Seq.{paste, paste-zero, paste-suc, length-paste, get_or-drop, length-take-le}
+use lib.ListN.{length, take, drop, length-drop}
+use lib.Seq.{length-take-le}
+use borrow.Rule.Slice.PartMut.{put_mid}
+use Rattle.std.proofs.lemmas.List.{drop-drop}
 use Rattle.lists.specs.Lists.{written}
 
-module _ {A : Type 0} (to : List A) (at : ℕ) («from» : List A) (start n : ℕ) where
-  -- i elements are copied
-  pub record Copying (i : ℕ) (k : List A) : Type 0 where
-    pub within : i ≤ n
-    pub room : at + n ≤ length to
-    pub fits : start + n ≤ length «from»
-    is : k ≡ paste to at (drop start «from») i
+module _ {A : Type 0} (to : List A) where
+  -- n elements of another list, from `start` on
+  pub copied-first : («from» r : List A) (start n : ℕ) → start + n ≤ length «from» → r ≡ take ((start + n) - start) (drop start «from») → r ++ drop n to ≡ written to 0 (take n (drop start «from»))
+  copied-first «from» r start n h e =
+      let k : (start + n) - start ≡ n = omega arith in
+      let l : length (take n (drop start «from»)) ≡ n = length-take-le n (drop start «from») (rw length-drop (omega arith)) in
+      let z : n ≡ 0 + length (take n (drop start «from»)) = omega arith in
+      ap₂ (λ (a : List A) (i : ℕ). a ++ drop i to) (e ∙ ap (λ (i : ℕ). take i (drop start «from»)) k) z
 
-  pub copying-start : at + n ≤ length to → start + n ≤ length «from» → Copying 0 to
-  copying-start h k = record { within = omega arith; room = h; fits = k; is = paste-zero to at (drop start «from») }
-
-  rest : (i : ℕ) (k : List A) → Copying i k → n ≤ length (drop start «from»)
-  rest i k g = rw length-drop (omega (arith, g.fits))
-
-  pub copying-long : (i : ℕ) (k : List A) → Copying i k → length k ≡ length to
-  copying-long i k g =
-      ap length g.is ∙ length-paste to at (drop start «from») i (omega (arith, g.within, g.room)) (omega (arith, g.within, rest i k g))
-
-  pub copying-more : (i : ℕ) (k : List A) (d : A) → i < n → Copying i k → Copying (i + 1) (set k (at + i) (get_or «from» (start + i) d))
-  copying-more i k d h g =
-      let z : i + 1 ≡ suc i = add-one i in
-      record {
-        within = omega arith;
-        room = g.room;
-        fits = g.fits;
-        is =
-            ap₂ (λ (x : List A) (y : A). set x (at + i) y) g.is (sym (get_or-drop start «from» i d))
-            ∙ paste-suc to at (drop start «from») i d (omega (arith, g.room)) (omega (arith, rest i k g))
-            ∙ ap (paste to at (drop start «from»)) (sym z);
-      }
-
-  pub copying-end : (i : ℕ) (k : List A) → n ≤ i → Copying i k → k ≡ written to at (take n (drop start «from»))
-  copying-end i k h g =
-      let e : i ≡ n = omega (arith, g.within) in
-      let l : length (take n (drop start «from»)) ≡ n = length-take-le n (drop start «from») (rest i k g) in
-      g.is ∙ rw (e, l)
+  -- ys, from `at` on
+  pub copied-at : (r ys : List A) (at n : ℕ) → length ys ≡ n → r ≡ ys → put_mid at ((at + n) - at) to r ≡ written to at ys
+  copied-at r ys at n l e =
+      let k : (at + n) - at ≡ length ys = omega arith in
+      ap₂ (λ (a : List A) (i : ℕ). take at to ++ (a ++ drop i (drop at to))) e k
+      ∙ ap (λ (a : List A). take at to ++ (ys ++ a)) (drop-drop (length ys) at to)
+      ∙ sym (append_assoc (take at to) ys (drop (at + length ys) to))

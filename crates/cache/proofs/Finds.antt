@@ -13,7 +13,7 @@ use Rattle.meaning.specs.Key as M
 use Rattle.meaning.specs.Limits.{most_slots, most_marks}
 use Rattle.trace.specs.Slots.{Held, found, find}
 use Rattle.slots.specs.declared.Key.{Key}
-use Rattle.slots.specs.declared.Found.TheVariants.{Nothing}
+use Rattle.std.specs.Prelude.{None}
 use Rattle.slots.specs.declared.SlotList.{SlotList}
 use Rattle.slots.specs.Keys.{key_of, slot_has, find_of}
 use Rattle.slots.specs.Order.{held_slots}
@@ -66,5 +66,5 @@ module _ (keys : List Key) (lengths : List ℕ) (l : SlotList) (below : All (λ 
       (others (All-left F.before (F.slot ∷ F.after) (rw F.split at below)) F.passed)
       ((has_key keys (key_of n vs) F.slot F.has).1 ∙ key-few n vs few)
 
-  pub find-missed : find_of keys l (key_of n vs) ≡ Nothing → find M.same_key (as_key n vs) (map (held_in keys lengths) (held_slots l)) ≡ none
+  pub find-missed : find_of keys l (key_of n vs) ≡ None → find M.same_key (as_key n vs) (map (held_in keys lengths) (held_slots l)) ≡ none
   find-missed e = find_none (held_in keys lengths) (as_key n vs) (held_slots l) (others below (found_nothing keys l (key_of n vs) e))

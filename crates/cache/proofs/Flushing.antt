@@ -5,7 +5,7 @@ use Prim.Native.Nat.{ℕ}
 use Rattle.slots.specs.declared.SlotList.{SlotList}
 use Rattle.slots.specs.Order.{clear_of}
 use Rattle.cache.specs.declared.State.{State}
-use Rattle.cache.specs.declared.Flushed.{Flushed}
+use Rattle.cache.specs.Calls.{Flushed}
 use Rattle.cache.specs.Calls.{unfit, with_cache, flush_of}
 
 module _ (s : State) (cells memory : ℕ) (bad : Bool) (tested : bad ≡ unfit s cells memory) where

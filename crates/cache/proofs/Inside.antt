@@ -1,11 +1,11 @@
 -- What a sound state says of the places that a question reads and writes: its query and table, the slot at a held place, and the last slot. Assumes nothing.
 use mathlib.Core.Path.{◌≡◌, refl, sym, ap, ◌∙◌, subst}
-use mathlib.Core.Bool.{Bool, true, false, cond}
+use mathlib.Core.Bool.{true}
 use mathlib.Core.Option.{some}
 use Prim.Native.Nat.{ℕ, zero, suc, ◌+◌, ◌-◌, ◌*◌, ◌≤◌, ◌<◌}
 use native.Mathlib.Omega.{arith}
-use borrow.Author.Tests.{leb-true, ltb-true}
-use lib.Dec.{leb, ltb}
+use borrow.Author.Tests.{ltb-true}
+use lib.Dec.{ltb}
 use lib.ListN.{length, get_or, length-map}
 use lib.Seq.{length-take-le}
 use Rattle.lists.proofs.Bools.{and_left}
@@ -14,9 +14,9 @@ use Rattle.statement.specs.declared.Query.{Query}
 use Rattle.statement.specs.Catalog.{schema_of}
 use Rattle.statement.specs.Sound.{columns_at, second_by, sound_second, sound_query}
 use Rattle.statement.proofs.SoundQuery.{query-parts}
-use Rattle.slots.specs.declared.SlotList.{SlotList}
 use Rattle.slots.specs.declared.Taken.{Taken}
-use Rattle.slots.specs.Order.{last_taken, none_taken, is_open, taken_of}
+use Rattle.slots.specs.Order.{last_taken}
+use Rattle.slots.proofs.Moves.{open_is}
 use Rattle.slots.proofs.Laws.{taken-below}
 use Rattle.cache.specs.declared.State.{State}
 use Rattle.cache.specs.Sound.{used_tables, schemas_in}
@@ -70,17 +70,9 @@ pub record Held (s : State) (p : ℕ) : Type 0 where
   pub start : get_or s.slots.order p 0 * s.slot_bytes ≤ most_memory
   pub ends : get_or s.slots.order p 0 * s.slot_bytes + cached_length s p ≤ s.memory
 
-some-slot : (l : SlotList) → (taken_of l).there ≡ true → 1 ≤ l.count
-unfolding taken_of
-some-slot l h = leb-true 1 l.count (and_left (leb 1 l.count) (leb l.count most_slots) (go (is_open l) h))
-  where
-    go : (b : Bool) → (cond b (last_taken l) (none_taken l)).there ≡ true → b ≡ true
-    go true e = refl
-    go false e = e
-
-module _ (s : State) (S : Sound s) (long : length s.slots.order ≡ most_slots) where
-  pub held-known : (p : ℕ) → p < s.slots.held → Held s p
-  held-known p h =
+module _ (s : State) (S : Sound s) where
+  pub held-known : length s.slots.order ≡ most_slots → (p : ℕ) → p < s.slots.held → Held s p
+  held-known long p h =
       let H : HeldSound s (get_or s.slots.order p 0) =
       All-first {P = HeldSound s} s.slots.held s.slots.order p 0 (omega (arith, S.slots.within, S.slots.few)) h (held-sound s S) in
       record {
@@ -92,8 +84,8 @@ module _ (s : State) (S : Sound s) (long : length s.slots.order ≡ most_slots) 
 
   pub last-known : (n : ℕ) → Room s.slots s.slot_bytes s.memory n
   last-known n there fits =
-      let t : Taken = taken_of s.slots in
-      let below : t.slot < s.slots.count = taken-below s.slots S.slots long (some-slot s.slots there) in
+      let t : Taken = last_taken s.slots in
+      let below : t.slot < s.slots.count = taken-below s.slots S.slots (open_is s.slots there).0 in
       let ends : t.slot * s.slot_bytes + n ≤ s.memory = slot-room s S t.slot n below fits in
       record {
         slot = omega (arith, S.slots.few);
@@ -101,6 +93,3 @@ module _ (s : State) (S : Sound s) (long : length s.slots.order ≡ most_slots) 
         ends = ends;
         small = omega (arith, S.sizes.most_bytes);
       }
-
-  pub last-below : (taken_of s.slots).there ≡ true → (taken_of s.slots).slot < most_slots
-  last-below there = (last-known 0 there (omega arith)).slot

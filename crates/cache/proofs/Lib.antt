@@ -1,3 +1,4 @@
+pub mod Given
 pub mod Parts
 pub mod Sounds
 pub mod Starts

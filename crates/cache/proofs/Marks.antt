@@ -18,13 +18,13 @@ use Rattle.lists.proofs.Changed.{member-has}
 use Rattle.statement.specs.declared.Query.{Query}
 use Rattle.statement.specs.declared.Update.{Update}
 use Rattle.statement.specs.Compiled.{no_query}
-use Rattle.pattern.specs.Stored.{clause_total, pattern_at, filled_of, agrees_stored, matches_stored}
+use Rattle.pattern.specs.Stored.{clause_total, pattern_at, clause_agrees, matches_stored}
 use Rattle.pattern.proofs.Laws.{matches-one-by-one}
 use Rattle.slots.specs.declared.Key.{Key}
 use Rattle.slots.specs.declared.SlotList.{SlotList}
 use Rattle.slots.specs.Keys.{values_of, slot_key, held_keys}
 use Rattle.slots.specs.Order.{held_slots, is_marked}
-use Rattle.cache.specs.Marks.{marked, marked_each, agrees_at, clause_tests, query_marks, holds_answer, marks_over, marks_of}
+use Rattle.cache.specs.Marks.{marked, marked_each, clause_at, clause_tests, query_marks, holds_answer, marks_over, marks_of}
 
 -- ---- members that equal a number
 
@@ -123,8 +123,8 @@ module _ (keys : List Key) (s : SlotList) (queries : List Query) (u : Update) (u
 
   clauses-match : (q : ℕ) (query : Query) → any (λ (p : ℕ → Bool). p y) (clause_tests keys q query u us) ≡ (eqb key.query q && matches_stored query u us (values_of key))
   clauses-match q query =
-      any-map (λ (i : ℕ). agrees_at keys q (filled_of us (pattern_at query u i))) (λ (p : ℕ → Bool). p y) (from 0 (clause_total query u))
-      ∙ any-both (eqb key.query q) (λ (i : ℕ). agrees_stored (filled_of us (pattern_at query u i)) (values_of key)) (from 0 (clause_total query u))
+      any-map (λ (i : ℕ). clause_at keys q us (pattern_at query u i)) (λ (p : ℕ → Bool). p y) (from 0 (clause_total query u))
+      ∙ any-both (eqb key.query q) (λ (i : ℕ). clause_agrees us (values_of key) (pattern_at query u i)) (from 0 (clause_total query u))
       ∙ ap (λ (b : Bool). eqb key.query q && b) (matches-one-by-one query u us (values_of key))
 
   -- a query that holds no answer has no held key

@@ -22,18 +22,18 @@ use Rattle.trace.specs.History.{fits}
 use Rattle.trace.specs.Slots.{Held, find, put}
 use Rattle.trace.specs.Model as T
 use Rattle.trace.specs.Model.{Model, turned, plainly, short_refusal, asked, dropping}
-use Rattle.statement.specs.declared.Statement.{Statement}
+use Rattle.statement.specs.Compiled.{Compiled}
 use Rattle.statement.specs.Compiled.{no_update}
 use Rattle.statement.proofs.SoundQuery.{query-parts}
 use Rattle.table.proofs.ChangedMeans.{cells-length}
 use Rattle.pattern.proofs.Laws.{sound-few, judged-mean}
-use Rattle.slots.specs.declared.Found.{Found}
-use Rattle.slots.specs.declared.Found.TheVariants.{At, Nothing}
+use Rattle.slots.specs.Keys.{Found}
+use Rattle.std.specs.Prelude.{Some, None}
 use Rattle.slots.specs.Keys.{key_of, slot_has}
 use Rattle.slots.specs.Order.{held_slots, front_of}
 use Rattle.slots.proofs.KeyLaws.{key-few, FoundAt, found_inside, found_at}
 use Rattle.cache.specs.declared.State.{State}
-use Rattle.cache.specs.declared.Added.{Added}
+use Rattle.cache.specs.Calls.{Added}
 use Rattle.cache.specs.Sound.{sound_state, length_at, query_at}
 use Rattle.cache.specs.Means.{Means, Typed}
 use Rattle.cache.specs.Calls.{settled, added_of, added_by, add_refusal, add_of, compiled_beside, add_refused, Asks, asks, ask_refused, ask_refusal, with_cache, bytes_at, ask_cached, record_at, new_refusal, newly, ask_new, ask_found, found_in, ask_of, Updates, updates, update_at, update_refused, update_refusal, is_matched, with_change, update_done, update_of, unfit, emptied, flush_of}
@@ -220,12 +220,12 @@ module _ (s : Store) (p : Plain) (Ty : Typed s.state) (h : sound_state s.state �
 
     found-meets : (f : Found) → found_in s.state n vs ≡ f
         → Meets s buffer (step_ask s (ask_found f s.state s.cells s.memory buffer n vs)) (model_asked model_finds)
-    found-meets (At i) e =
+    found-meets (Some i) e =
         let F = found_at s.state.keys s.state.slots (key_of n vs) i e in
         subst (λ o. Meets s buffer (step_ask s (ask_cached s.state s.memory buffer i)) (model_asked o))
         (sym (find-held s.state.keys s.state.lengths s.state.slots below n vs few-values i F))
         (moved-meets i F)
-    found-meets Nothing e =
+    found-meets None e =
         subst (λ o. Meets s buffer (step_ask s (ask_new s.state s.cells s.memory buffer n vs)) (model_asked o))
         (sym (find-missed s.state.keys s.state.lengths s.state.slots below n vs few-values e))
         new_meets
@@ -263,7 +263,7 @@ module _ (s : Store) (p : Plain) (Ty : Typed s.state) (h : sound_state s.state �
   abbrev Leaves : Added → Type 0
   Leaves a = (cache_of a.state s.memory ≡ cache_of s.state s.memory) × (a.state.slot_bytes ≡ bytes)
 
-  added-leaves : (k : ℕ) (c : Statement) → Leaves (added_of k s.state c)
+  added-leaves : (k : ℕ) (c : Compiled) → Leaves (added_of k s.state c)
   added-leaves zero c = (refl, refl)
   added-leaves (suc zero) c = (refl, refl)
   added-leaves (suc (suc zero)) c = (refl, refl)

@@ -15,7 +15,7 @@ use Rattle.trace.specs.Slots.{Held, Cache, last_held, last_free, take_last}
 use Rattle.slots.specs.declared.Key.{Key}
 use Rattle.slots.specs.declared.SlotList.{SlotList}
 use Rattle.slots.specs.Keys.{key_read, slot_key}
-use Rattle.slots.specs.Order.{held_slots, free_slots, taken_of}
+use Rattle.slots.specs.Order.{held_slots, free_slots, last_taken}
 use Rattle.slots.proofs.Laws.{Sound, TakenFree, TakenHeld, taken_free, taken-held}
 use Rattle.cache.specs.declared.State.{State}
 
@@ -38,19 +38,19 @@ unsnoc-last (y ∷ a) x = ap (behind y) (unsnoc-last a x)
 
 module _ (keys : List Key) (lengths memory : List ℕ) (l : SlotList) where
   pub record Last (hs fs : List ℕ) : Type 0 where
-    pub held_now : held_slots (taken_of l).slots ≡ (taken_of l).slot ∷ hs
-    pub free_now : free_slots (taken_of l).slots ≡ fs
-    pub apart : All (λ x. x ≢ (taken_of l).slot) hs
-    pub takes : take_last (cache_in keys lengths l memory) ≡ some ((taken_of l).slot, map (held_in keys lengths) hs, fs)
+    pub held_now : held_slots (last_taken l).slots ≡ (last_taken l).slot ∷ hs
+    pub free_now : free_slots (last_taken l).slots ≡ fs
+    pub apart : All (λ x. x ≢ (last_taken l).slot) hs
+    pub takes : take_last (cache_in keys lengths l memory) ≡ some ((last_taken l).slot, map (held_in keys lengths) hs, fs)
 
-  last-free : TakenFree l → Last (held_slots l) (free_slots (taken_of l).slots)
+  last-free : TakenFree l → Last (held_slots l) (free_slots (last_taken l).slots)
   last-free F = record {
     held_now = F.held;
     free_now = refl;
     apart = F.apart;
     takes =
         ap (λ (f : List ℕ). last_free (map (held_in keys lengths) (held_slots l)) (unsnoc f)) F.free
-        ∙ ap (last_free (map (held_in keys lengths) (held_slots l))) (unsnoc-last (free_slots (taken_of l).slots) (taken_of l).slot);
+        ∙ ap (last_free (map (held_in keys lengths) (held_slots l))) (unsnoc-last (free_slots (last_taken l).slots) (last_taken l).slot);
   }
 
   last-held : (H : TakenHeld l) → Last H.others []
@@ -60,15 +60,15 @@ module _ (keys : List Key) (lengths memory : List ℕ) (l : SlotList) where
     apart = H.apart;
     takes =
         ap₂ (λ (h f : List ℕ). last_free (map (held_in keys lengths) h) (unsnoc f)) H.before H.none
-        ∙ ap (λ h. last_held (unsnoc h)) (map-append (held_in keys lengths) H.others ((taken_of l).slot ∷ []))
-        ∙ ap last_held (unsnoc-last (map (held_in keys lengths) H.others) (held_in keys lengths (taken_of l).slot));
+        ∙ ap (λ h. last_held (unsnoc h)) (map-append (held_in keys lengths) H.others ((last_taken l).slot ∷ []))
+        ∙ ap last_held (unsnoc-last (map (held_in keys lengths) H.others) (held_in keys lengths (last_taken l).slot));
   }
 
   pub last-is : Sound l → length l.order ≡ most_slots → 1 ≤ l.count → (hs fs : List ℕ) × Last hs fs
   last-is S long any = go (dec_lt l.held l.count)
     where
       go : Dec (l.held < l.count) → (hs fs : List ℕ) × Last hs fs
-      go (yes h) = (held_slots l, free_slots (taken_of l).slots, last-free (taken_free l S long any h))
+      go (yes h) = (held_slots l, free_slots (last_taken l).slots, last-free (taken_free l S long any h))
       go (no h) = let H = taken-held l S long any (omega (arith, S.within)) in (H.others, [], last-held H)
 
   -- no slot: nothing to take

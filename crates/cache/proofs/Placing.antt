@@ -18,12 +18,12 @@ use Rattle.meaning.specs.Limits.{most_tables, most_queries, most_updates}
 use Rattle.meaning.specs.Statement.{statement_of}
 use Rattle.meaning.specs.Plain.{Plain, schemas, no_place, add_conditions, lowest_of}
 use Rattle.meaning.proofs.Accepted.{clear}
-use Rattle.statement.specs.declared.Statement.{Statement}
+use Rattle.statement.specs.Compiled.{Compiled}
 use Rattle.statement.specs.Catalog.{schema_of, schemas_of, rowless, catalog}
 use Rattle.statement.specs.Compiled as T
 use Rattle.statement.specs.Compiled.{struct_of, text_conditions, struct_of_text, compiled_of}
 use Rattle.cache.specs.declared.State.{State}
-use Rattle.cache.specs.declared.Added.{Added}
+use Rattle.cache.specs.Calls.{Added}
 use Rattle.cache.specs.Sound.{sound_state}
 use Rattle.cache.specs.Calls.{unfit, compiled_beside, add_refused, added_of, has_place, added_by, add_refusal, add_of}
 use Rattle.cache.proofs.Tested.{counts-few, counts_of}
@@ -82,15 +82,7 @@ module _ (s : State) (k : ℕ) (h : has_place k s ≡ true) where
   pub update_place : k ≡ 3 → s.update_count < 16
   update_place e = ltb-true s.update_count 16 (ap (λ (i : ℕ). has_place i s) (sym e) ∙ h)
 
--- there is no fourth kind
-pub is-update : (s : State) (k : ℕ) → has_place k s ≡ true → (k ≡ 1 → ⊥) → (k ≡ 2 → ⊥) → k ≡ 3
-is-update s zero h a b = clash h refl
-is-update s (suc zero) h a b = absurd (a refl)
-is-update s (suc (suc zero)) h a b = absurd (b refl)
-is-update s (suc (suc (suc zero))) h a b = refl
-is-update s (suc (suc (suc (suc k)))) h a b = clash h refl
-
-module _ (s : State) (c : Statement) (r : Added) where
+module _ (s : State) (c : Compiled) (r : Added) where
   pub added-by : (k : ℕ) → c.kind ≡ k → r ≡ added_of k s c → r ≡ added_by s c
   unfolding added_by
   added-by k e h = h ∙ ap (λ (i : ℕ). added_of i s c) (sym e)
@@ -106,7 +98,7 @@ module _ (s : State) (cells memory : ℕ) (text : List ℕ) (bad : Bool) (tested
   unfolding add_of
   add-unfit h r e = rw (refusal_is true h) (e ∙ settled-refused 2 _ _ (λ z. omega arith))
 
-  module _ (h : bad ≡ false) (c : Statement) (said : c ≡ compiled_beside s text) where
+  module _ (h : bad ≡ false) (c : Compiled) (said : c ≡ compiled_beside s text) where
     pub add-refused : (c.refusal ≡ 0 → ⊥) → (r : Added) → r ≡ add_refused s c.refusal → r ≡ add_of s cells memory text
     unfolding add_of
     add-refused n r e = rw (refusal_is false h, ← said) (e ∙ settled-refused c.refusal _ _ n)
@@ -120,4 +112,4 @@ module _ (s : State) (cells memory : ℕ) (text : List ℕ) (bad : Bool) (tested
     is-sound = not-false (sound_state s) (or_left (not (sound_state s)) _ (sym tested ∙ h))
 
     pub add-place : length s.tables ≡ 8 → c.refusal ≡ 0 → has_place c.kind s ≡ true
-    add-place long z = rw said (has-place s text long is-sound (ap (λ (x : Statement). x.refusal) (sym said) ∙ z))
+    add-place long z = rw said (has-place s text long is-sound (ap (λ (x : Compiled). x.refusal) (sym said) ∙ z))

@@ -17,16 +17,16 @@ use Rattle.meaning.specs.Statement.{Statement, creates, asks, changes, statement
 use Rattle.meaning.specs.Plain.{or_else, lowest_of}
 use Rattle.meaning.specs.Demand.{rank}
 use Rattle.meaning.proofs.Accepted.{ascends, LowestIn, lowest-in}
-use Rattle.statement.specs.declared.Statement as D
+use Rattle.statement.specs.Compiled as D
 use Rattle.statement.specs.declared.Table.{Table}
 use Rattle.statement.specs.declared.Update.{Update}
 use Rattle.statement.specs.Catalog.{catalog}
 use Rattle.statement.specs.Compiled.{struct_of, text_conditions, struct_of_text, settled as compiled_by, compiled_of}
-use Rattle.slots.specs.declared.Found.{Found}
-use Rattle.slots.specs.declared.Found.TheVariants.{At, Nothing}
+use Rattle.slots.specs.Keys.{Found}
+use Rattle.std.specs.Prelude.{Some, None}
 use Rattle.cache.specs.declared.State.{State}
-use Rattle.cache.specs.declared.Added.{Added}
-use Rattle.cache.specs.declared.Flushed.{Flushed}
+use Rattle.cache.specs.Calls.{Added}
+use Rattle.cache.specs.Calls.{Flushed}
 use Rattle.cache.specs.Calls.{settled, unfit, compiled_beside, add_refused, added_of, added_by, add_refusal, add_of, Asks, asks as asked, ask_refused, ask_conditions, ask_refusal, cached_length, ask_cached, new_conditions, new_refusal, newly, ask_new, ask_found, found_in, ask_of, Updates, updates, update_refused, table_at, update_at, is_full, update_refusal, update_done, update_of, emptied, flush_of}
 use Rattle.cache.specs.Run.{Store, Call, add, ask, update, flush, step_add, step_ask, step_update, step_flush, step}
 use Rattle.cache.specs.Demand.{answer_conditions, conditions, Lowest, LowestNumber, RingsNeverFull, refused_with, RefusedChangesNothing}
@@ -94,11 +94,11 @@ struct-zero ts (some s) = go (statement_of ts s)
     go (asks q) = refl
     go (changes u) = refl
 
-pub compiled-number : (n : ℕ) (done : D.Statement) → done.refusal ≡ 0 → (compiled_by n done).refusal ≡ n
+pub compiled-number : (n : ℕ) (done : D.Compiled) → done.refusal ≡ 0 → (compiled_by n done).refusal ≡ n
 compiled-number zero done e = e
 compiled-number (suc n) done e = refl
 
-added-zero : (k : ℕ) (s : State) (c : D.Statement) → (added_of k s c).refusal ≡ 0
+added-zero : (k : ℕ) (s : State) (c : D.Compiled) → (added_of k s c).refusal ≡ 0
 added-zero zero s c = refl
 added-zero (suc zero) s c = refl
 added-zero (suc (suc zero)) s c = refl
@@ -109,7 +109,7 @@ module _ (s : Store) (text : List ℕ) where
   abbrev st : State
   st = s.state
 
-  abbrev compiled : D.Statement
+  abbrev compiled : D.Compiled
   compiled = compiled_beside st text
 
   -- the number of a text is the lowest of the text's conditions
@@ -163,15 +163,15 @@ module _ (s : Store) (query : ℕ) (values : List ℤ) (buffer : List ℕ) where
   -- 16, 13, or none
   pub found_number : (f : Found) → (answer_found f).result.refusal ≡ lowest_of (answer_conditions s query values (length buffer) f)
   unfolding ask_cached ask_new new_refusal
-  found_number (At p) = cond-number asked_number refuse_ask (λ n. refl) 13 (ltb (length buffer) (cached_length there p)) _ refl
-  found_number Nothing =
+  found_number (Some p) = cond-number asked_number refuse_ask (λ n. refl) 13 (ltb (length buffer) (cached_length there p)) _ refl
+  found_number None =
       settled-number asked_number refuse_ask (λ n. refl) (newly there s.cells s.memory buffer query values) (lowest_of (new_conditions there s.cells (length buffer) query values))
       ∙ settled-zero (lowest_of (new_conditions there s.cells (length buffer) query values))
 
   found-refused : (f : Found) → (answer_found f).result.refusal ≢ 0 → answer_found f ≡ refuse_ask (answer_found f).result.refusal
   unfolding ask_cached ask_new new_refusal
-  found-refused (At p) h = cond-refused asked_number refuse_ask (λ n. refl) 13 (ltb (length buffer) (cached_length there p)) _ refl h
-  found-refused Nothing h =
+  found-refused (Some p) h = cond-refused asked_number refuse_ask (λ n. refl) 13 (ltb (length buffer) (cached_length there p)) _ refl h
+  found-refused None h =
       settled-refused asked_number refuse_ask (λ n. refl) (newly there s.cells s.memory buffer query values) (never refl)
       (lowest_of (new_conditions there s.cells (length buffer) query values)) h
 
@@ -253,8 +253,8 @@ ascending s (add text) = refl
 ascending s (ask n vs buffer) = go (found_in s.state n vs)
   where
     go : (f : Found) → ascends 0 (ask_conditions s.state (length s.cells) (length s.memory) n (length vs) ++ answer_conditions s n vs (length buffer) f) ≡ true
-    go (At p) = refl
-    go Nothing = refl
+    go (Some p) = refl
+    go None = refl
 ascending s (update n vs) = refl
 ascending s flush = refl
 

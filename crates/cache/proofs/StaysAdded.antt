@@ -24,7 +24,7 @@ use Rattle.meaning.proofs.Accepted.{clear}
 use Rattle.statement.specs.declared.Table.{Table}
 use Rattle.statement.specs.declared.Query.{Query}
 use Rattle.statement.specs.declared.Update.{Update}
-use Rattle.statement.specs.declared.Statement.{Statement}
+use Rattle.statement.specs.Compiled.{Compiled}
 use Rattle.statement.specs.Catalog.{name_of_struct, schema_of, schemas_of, rowless, catalog}
 use Rattle.statement.specs.Compiled.{no_query, struct_of, text_conditions, struct_of_text, settled, compiled_of}
 use Rattle.statement.specs.Sound.{used_columns, sound_table, sound_tables, sound_query, sound_update, TableStructFits}
@@ -46,7 +46,7 @@ use Rattle.cache.proofs.Parts.{take_more}
 
 -- ---- refusal 9: a text that is not refused has a place
 
-pub record Placed (tables queries updates used cells : ℕ) (r : Statement) : Type 0 where
+pub record Placed (tables queries updates used cells : ℕ) (r : Compiled) : Type 0 where
   pub table_place : r.kind ≡ 1 → tables < most_tables
   pub table_room : r.kind ≡ 1 → r.table.count * r.table.capacity ≤ cells - used
   pub table_empty : r.kind ≡ 1 → r.table.rows ≡ 0
@@ -55,10 +55,10 @@ pub record Placed (tables queries updates used cells : ℕ) (r : Statement) : Ty
   pub update_place : r.kind ≡ 3 → updates < most_updates
 
 module _ (p : Plain) where
-  abbrev PlacedIn : Statement → Type 0
+  abbrev PlacedIn : Compiled → Type 0
   PlacedIn r = Placed (length p.tables) (length p.queries) (length p.updates) (areas_size (schemas p)) p.lengths.cells r
 
-  query-placed : (r : Statement) → r.kind ≡ 2 → leb most_queries (length p.queries) ≡ false → PlacedIn r
+  query-placed : (r : Compiled) → r.kind ≡ 2 → leb most_queries (length p.queries) ≡ false → PlacedIn r
   query-placed r k h = record {
     table_place = λ e. absurd (omega arith);
     table_room = λ e. absurd (omega arith);
@@ -68,7 +68,7 @@ module _ (p : Plain) where
     update_place = λ e. absurd (omega arith);
   }
 
-  update-placed : (r : Statement) → r.kind ≡ 3 → leb most_updates (length p.updates) ≡ false → PlacedIn r
+  update-placed : (r : Compiled) → r.kind ≡ 3 → leb most_updates (length p.updates) ≡ false → PlacedIn r
   update-placed r k h = record {
     table_place = λ e. absurd (omega arith);
     table_room = λ e. absurd (omega arith);
@@ -111,7 +111,7 @@ module _ (text : List ℕ) (tables : List Table) (used queries updates cells : �
       → Placed used queries updates (areas_size (schemas_of tables used)) cells (compiled_of text tables used queries updates cells)
   unfolding compiled_of
   compiled-placed l h =
-      let r : Statement = compiled_of text tables used queries updates cells in
+      let r : Compiled = compiled_of text tables used queries updates cells in
       let P : PlacedIn store r = catalog-placed (lowest_of (text_conditions store text)) refl h in
       let t : length store.tables ≡ used =
       length-map (schemas_of tables used) rowless ∙ length-map (take used tables) schema_of ∙ length-take-le used tables l in
@@ -257,7 +257,7 @@ module _ (s : Store) (text : List ℕ) (T : Typed s.state) (S : Sound s.state) w
   abbrev st : State
   st = s.state
 
-  abbrev compiled : Statement
+  abbrev compiled : Compiled
   compiled = compiled_beside st text
 
   sound : compiled.refusal ≡ 0 → SoundStatement (schemas_in st) compiled

@@ -1,6 +1,6 @@
 -- The kept answers of a sound state stay sound: where one is found and its slot moves to the front, where a new one takes the last slot, and where some are dropped.
 -- Assumes nothing.
-use mathlib.Core.Path.{◌≡◌, refl, sym, ap, subst}
+use mathlib.Core.Path.{◌≡◌, refl, sym, subst}
 use mathlib.Core.Logic.{◌≢◌}
 use mathlib.Core.Bool.{Bool, false, not}
 use mathlib.Core.List.{List, [], ◌∷◌, ◌++◌, append-nil}
@@ -16,9 +16,9 @@ use Rattle.meaning.specs.Limits.{least_slot_bytes}
 use Rattle.slots.specs.declared.Key.{Key}
 use Rattle.slots.specs.declared.SlotList.{SlotList}
 use Rattle.slots.specs.Keys.{no_key, key_read, slot_key, held_twice}
-use Rattle.slots.specs.Order.{held_slots, front_of, taken_of, drop_by}
+use Rattle.slots.specs.Order.{held_slots, front_of, last_taken, drop_by}
 use Rattle.slots.proofs.Laws as L
-use Rattle.slots.proofs.Laws.{held-front, front-sound, drop-held, drop-sound, TakenFree, TakenHeld, taken_is, taken-sound, taken-below, taken_free, taken-held}
+use Rattle.slots.proofs.Laws.{held-front, front-sound, drop-held, drop-sound, TakenFree, TakenHeld, taken-sound, taken-below, taken_free, taken-held}
 use Rattle.slots.proofs.HeldLaws.{front-once, drop-once, put-once}
 use Rattle.cache.specs.Sound.{KeyFits}
 use Rattle.cache.specs.declared.State.{State}
@@ -115,14 +115,14 @@ module _ (s : State) (S : Sound s) where
 
   module _ (T : Typed s) (some : 1 ≤ s.slots.count) where
     abbrev last : ℕ
-    last = (taken_of s.slots).slot
+    last = (last_taken s.slots).slot
 
     -- the other slots that are held then, and what else was held
     record Others : Type 0 where
       others : List ℕ
       rest : List ℕ
       before : held_slots s.slots ≡ others ++ rest
-      held : held_slots (taken_of s.slots).slots ≡ last ∷ others
+      held : held_slots (last_taken s.slots).slots ≡ last ∷ others
       apart : All (λ (x : ℕ). x ≢ last) others
 
     others-are : Others
@@ -138,7 +138,7 @@ module _ (s : State) (S : Sound s) where
             record { others = H.others; rest = last ∷ []; before = H.before; held = H.held; apart = H.apart }
 
     last-below : last < s.slots.count
-    last-below = taken-below s.slots S.slots T.order-64 some
+    last-below = taken-below s.slots S.slots some
 
     module _ (key : Key) (r : List ℕ) (ok : KeyFits s key) (least : least_slot_bytes ≤ length r) (most : length r ≤ s.slot_bytes)
         (new : All (λ (x : ℕ). key_read (slot_key s.keys x) ≢ key_read key) (held_slots s.slots)) where
@@ -168,9 +168,9 @@ module _ (s : State) (S : Sound s) where
       still-have O {P} f a =
           All-map (λ x h. f x h.0 h.1) (All-both O.apart (All-left O.others O.rest (subst (All P) O.before a)))
 
-      put-answers : (O : Others) → Answers s (taken_of s.slots).slots keys' lengths'
+      put-answers : (O : Others) → Answers s (last_taken s.slots).slots keys' lengths'
       put-answers O = record {
-        count_same = ap (λ t. t.slots.count) (taken_is s.slots S.slots T.order-64 some);
+        count_same = refl;
         slots_sound = taken-sound s.slots S.slots T.order-64 some;
         lengths_fit = rw O.held
             (cons (subst Fit (sym length-here) (least, most)) (still-have O (λ x h L. subst Fit (sym (length-there x h)) L) answers.lengths_fit));
@@ -179,5 +179,5 @@ module _ (s : State) (S : Sound s) where
         once = put-once s.keys s.slots key S.slots T.order-64 some T.keys-64 answers.once new;
       }
 
-      pub put-stays : Sound (put_in s key r (taken_of s.slots))
-      put-stays = answers-sound (taken_of s.slots).slots keys' lengths' (put-answers others-are)
+      pub put-stays : Sound (put_in s key r (last_taken s.slots))
+      put-stays = answers-sound (last_taken s.slots).slots keys' lengths' (put-answers others-are)

@@ -1,7 +1,7 @@
 -- A question leaves a sound state sound: its key is a sound one that no slot holds, and its record is at least 8 bytes long. Assumes nothing.
-use mathlib.Core.Path.{◌≡◌, refl, sym, ap, subst}
+use mathlib.Core.Path.{◌≡◌, refl, sym, subst}
 use mathlib.Core.Logic.{◌≢◌}
-use mathlib.Core.Bool.{Bool, true, false}
+use mathlib.Core.Bool.{false}
 use mathlib.Core.List.{List}
 use Prim.Native.Nat.{ℕ, ◌≤◌, ◌<◌}
 use native.Mathlib.Omega.{arith}
@@ -10,18 +10,16 @@ use lib.Dec.{eqb}
 use lib.IntN.{ℤ}
 use lib.ListN.{length}
 use Rattle.lists.specs.Lists.{All}
-use Rattle.lists.proofs.Bools.{and_left, and_right, not-false, clash}
+use Rattle.lists.proofs.Bools.{and_left, and_right, not-false}
 use Rattle.lists.proofs.Lists.{All-head, All-tail, All-map, All-both}
 use Rattle.meaning.proofs.Accepted.{clear}
 use Rattle.meaning.proofs.Record.{encode-length}
 use Rattle.statement.proofs.SoundQuery.{query-parts}
-use Rattle.slots.specs.declared.SlotList.{SlotList}
-use Rattle.slots.specs.declared.Taken.{Taken}
-use Rattle.slots.specs.declared.Found.TheVariants.{Nothing}
+use Rattle.std.specs.Prelude.{None}
 use Rattle.slots.specs.Keys.{key_read, key_of, slot_key}
-use Rattle.slots.specs.Order.{held_slots, is_open, taken_of}
+use Rattle.slots.specs.Order.{held_slots}
 use Rattle.slots.proofs.KeyLaws.{has_other, found_below, found_nothing}
-use Rattle.slots.proofs.Moves.{open_is, taken_none}
+use Rattle.slots.proofs.Moves.{open_is}
 use Rattle.cache.specs.declared.State.{State}
 use Rattle.cache.specs.Sound.{query_at, schemas_in, KeyFits}
 use Rattle.cache.specs.Calls.{ask_conditions, ask_refusal, fits_slot, record_at, found_in}
@@ -30,14 +28,6 @@ use Rattle.cache.specs.Run.{Store, ask, step}
 use Rattle.cache.proofs.Sounds.{Sound, held_below, query-at}
 use Rattle.cache.proofs.StaysCases.{by-ask}
 use Rattle.cache.proofs.StaysAnswers.{front-stays, put-stays}
-
--- where a slot is taken there is one
-taken-some : (l : SlotList) → (taken_of l).there ≡ true → 1 ≤ l.count
-taken-some l h = go (is_open l) refl
-  where
-    go : (b : Bool) → is_open l ≡ b → 1 ≤ l.count
-    go true e = (open_is l e).0
-    go false e = clash h (ap (λ (t : Taken). t.there) (sym (taken_none l e)))
 
 module _ (s : Store) (query : ℕ) (values : List ℤ) (buffer : List ℕ) (T : Typed s.state) (S : Sound s.state) where
   abbrev st : State
@@ -68,7 +58,7 @@ module _ (s : Store) (query : ℕ) (values : List ℤ) (buffer : List ℕ) (T : 
         let few : (query_at st query).parameters ≤ 8 = (query-parts (schemas_in st) (query_at st query) (query-at st T S query query-there)).few_parameters in
         record { there = query-there; values = omega (arith, values-many) }
 
-    new-key : found_in st query values ≡ Nothing → All (λ (x : ℕ). key_read (slot_key st.keys x) ≢ key_read (key_of query values)) (held_slots st.slots)
+    new-key : found_in st query values ≡ None → All (λ (x : ℕ). key_read (slot_key st.keys x) ≢ key_read (key_of query values)) (held_slots st.slots)
     new-key e =
         All-map (λ x h. has_other st.keys (key_of query values) x (omega (arith, h.0, S.slots.few)) h.1)
         (All-both (held_below st S) (found_nothing st.keys st.slots (key_of query values) e))
@@ -78,5 +68,5 @@ module _ (s : Store) (query : ℕ) (values : List ℤ) (buffer : List ℕ) (T : 
       by-ask Sound s S query values buffer
       (λ p asked e. front-stays st S p (found_below st.keys st.slots (key_of query values) p e))
       (λ asked e h.
-      put-stays st S T (taken-some st.slots (and_right (fits_slot st r) _ h)) (key_of query values) r (key-sound asked) record-long
+      put-stays st S T (open_is st.slots (and_right (fits_slot st r) _ h)).0 (key_of query values) r (key-sound asked) record-long
       (leb-true (length r) st.slot_bytes (and_left (fits_slot st r) _ h)) (new-key asked e))

@@ -9,14 +9,14 @@ use lib.Dec.{ltb}
 use lib.IntN.{ℤ}
 use lib.ListN.{length}
 use Rattle.meaning.specs.Plain.{opening_refused}
-use Rattle.statement.specs.declared.Statement.{Statement}
-use Rattle.slots.specs.declared.Found.{Found}
-use Rattle.slots.specs.declared.Found.TheVariants.{At, Nothing}
+use Rattle.statement.specs.Compiled.{Compiled}
+use Rattle.slots.specs.Keys.{Found}
+use Rattle.std.specs.Prelude.{Some, None}
 use Rattle.slots.specs.Keys.{key_of}
-use Rattle.slots.specs.Order.{front_of, taken_of}
+use Rattle.slots.specs.Order.{front_of, is_open, last_taken}
 use Rattle.cache.specs.declared.State.{State}
-use Rattle.cache.specs.declared.Added.{Added}
-use Rattle.cache.specs.declared.Flushed.{Flushed}
+use Rattle.cache.specs.Calls.{Added}
+use Rattle.cache.specs.Calls.{Flushed}
 use Rattle.cache.specs.Sound.{opening}
 use Rattle.cache.specs.Calls.{settled, unfit, empty_state, Opens, open_of, added_table, added_query, added_update, compiled_beside, added_of, added_by, add_refusal, add_of, Asks, ask_refusal, with_cache, cached_length, ask_cached, fits_slot, put_in, kept, record_at, new_refusal, ask_new, ask_found, found_in, ask_of, Updates, update_at, update_refusal, update_done, update_of, emptied, flush_of}
 use Rattle.cache.specs.Run.{Store, Start, opening_of, opened, add, ask, update, flush, step}
@@ -44,7 +44,7 @@ module _ (P : State → Type 0) (s : Store) (before : P s.state) where
   abbrev st : State
   st = s.state
 
-  added-by : (k : ℕ) (c : Statement) → (k ≡ 1 → P (added_table st c.table).state) → (k ≡ 2 → P (added_query st c.query).state)
+  added-by : (k : ℕ) (c : Compiled) → (k ≡ 1 → P (added_table st c.table).state) → (k ≡ 2 → P (added_query st c.query).state)
       → (k ≡ 3 → P (added_update st c.update).state) → P (added_of k st c).state
   added-by zero c t q u = before
   added-by (suc zero) c t q u = t refl
@@ -53,7 +53,7 @@ module _ (P : State → Type 0) (s : Store) (before : P s.state) where
   added-by (suc (suc (suc (suc k)))) c t q u = before
 
   module _ (text : List ℕ) where
-    abbrev compiled : Statement
+    abbrev compiled : Compiled
     compiled = compiled_beside st text
 
     -- the text is taken, and says a statement of the kind
@@ -85,8 +85,8 @@ module _ (P : State → Type 0) (s : Store) (before : P s.state) where
     abbrev Asked : Type 0
     Asked = ask_refusal st (length s.cells) (length s.memory) query (length values) ≡ 0
 
-    pub by-ask : ((p : ℕ) → Asked → found ≡ At p → P (with_cache st (front_of st.slots p) st.keys st.lengths))
-        → (Asked → found ≡ Nothing → (fits_slot st answer && (taken_of st.slots).there) ≡ true → P (put_in st (key_of query values) answer (taken_of st.slots)))
+    pub by-ask : ((p : ℕ) → Asked → found ≡ Some p → P (with_cache st (front_of st.slots p) st.keys st.lengths))
+        → (Asked → found ≡ None → (fits_slot st answer && is_open st.slots) ≡ true → P (put_in st (key_of query values) answer (last_taken st.slots)))
         → P (step s (ask query values buffer)).0.state
     unfolding step ask_of ask_cached ask_new kept
     by-ask f g =
@@ -94,11 +94,11 @@ module _ (P : State → Type 0) (s : Store) (before : P s.state) where
         (λ e. go found refl e) before
       where
         go : (x : Found) → found ≡ x → Asked → P (ask_found x st s.cells s.memory buffer query values).result.state
-        go (At p) e a =
+        go (Some p) e a =
             by_cond (λ (r : Asks). P r.result.state) (ltb (length buffer) (cached_length st p)) _ _ (λ h. before) (λ h. f p a e)
-        go Nothing e a =
+        go None e a =
             by-settled (λ (r : Asks). P r.result.state) (new_refusal st s.cells (length buffer) query values) _ _
-            (λ h. by_cond P (fits_slot st answer && (taken_of st.slots).there) _ _ (λ k. g a e k) (λ k. before)) before
+            (λ h. by_cond P (fits_slot st answer && is_open st.slots) _ _ (λ k. g a e k) (λ k. before)) before
 
   pub by-update : (number : ℕ) (values : List ℤ)
       → (update_refusal st (length s.cells) (length s.memory) number (length values) ≡ 0 → P (update_done st s.cells (update_at st number) values).result.state)

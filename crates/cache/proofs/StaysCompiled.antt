@@ -30,7 +30,7 @@ use Rattle.meaning.proofs.Resolved.{numbered-length}
 use Rattle.meaning.specs.Pattern.{placed_from}
 use Rattle.statement.specs.declared.Table.{Table}
 use Rattle.statement.specs.declared.Setting.{Setting}
-use Rattle.statement.specs.declared.Statement.{Statement}
+use Rattle.statement.specs.Compiled.{Compiled}
 use Rattle.statement.specs.Catalog.{catalog}
 use Rattle.statement.specs.Compiled.{padded, name_struct, no_name, no_table, value_struct, operand_struct, comparison_struct, no_comparison, step_of, condition_struct, no_query, new_value, setting_struct, no_setting, no_update, refused_by, struct_of, text_conditions, struct_of_text, settled, compiled_of}
 use Rattle.statement.specs.Sound.{ValueFits, OperandFits, ComparisonFits, ConditionFits, QueryFits, UpdateFits, NameFits, TableStructFits}
@@ -54,7 +54,7 @@ module _ {A : Type 0} where
 
 -- ---- what a refused text compiles to
 
-pub record Fitting (r : Statement) : Type 0 where
+pub record Fitting (r : Compiled) : Type 0 where
   pub table_fits : TableStructFits r.table
   pub query_fits : QueryFits r.query
   pub update_fits : UpdateFits r.update

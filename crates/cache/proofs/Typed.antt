@@ -18,9 +18,8 @@ use Rattle.statement.specs.Compiled.{no_table, no_query, no_update}
 use Rattle.statement.specs.Sound.{TableStructFits, QueryFits, UpdateFits}
 use Rattle.slots.specs.declared.Key.{Key}
 use Rattle.slots.specs.declared.SlotList.{SlotList}
-use Rattle.slots.specs.declared.Taken.{Taken}
 use Rattle.slots.specs.Keys.{no_key, key_of}
-use Rattle.slots.specs.Order.{front_of, is_open, taken_of, open_of as slots_open}
+use Rattle.slots.specs.Order.{front_of, last_taken, open_of as slots_open}
 use Rattle.slots.proofs.Fronts.{front_length}
 use Rattle.slots.proofs.Laws.{drop-length}
 use Rattle.cache.specs.declared.State.{State}
@@ -28,7 +27,7 @@ use Rattle.cache.specs.Sound.{opening}
 use Rattle.cache.specs.Calls.{empty_state, added_table, added_query, added_update, compiled_beside, record_at, is_matched, with_cache, put_in, table_at, update_at, with_rows, with_change, update_done}
 use Rattle.cache.specs.Means.{Typed}
 use Rattle.cache.specs.Run.{Store, Start, opening_of, opened, Call, add, ask, update, flush, step}
-use Rattle.cache.proofs.StaysCases.{by_cond, by-opened, by-add, by-ask, by-update, by-flush}
+use Rattle.cache.proofs.StaysCases.{by-opened, by-add, by-ask, by-update, by-flush}
 use Rattle.cache.proofs.StaysCompiled.{All-replicate, Fitting, no_table_lem, no-query, no-update, compiled-fits}
 
 -- ---- an opening
@@ -53,9 +52,9 @@ opened-typed o = by-opened Typed o (empty-typed (opening 0 0 0 8)) (λ e. empty-
 
 -- ---- the order of use has as many places as before
 
-taken-length : (l : SlotList) → length (taken_of l).slots.order ≡ length l.order
-unfolding taken_of front_of
-taken-length l = by_cond (λ (t : Taken). length t.slots.order ≡ length l.order) (is_open l) _ _ (λ e. front_length (l.count - 1) l.order) (λ e. refl)
+taken-length : (l : SlotList) → length (last_taken l).slots.order ≡ length l.order
+unfolding front_of
+taken-length l = front_length (l.count - 1) l.order
 
 key-long : (q : ℕ) (vs : List ℤ) → length (key_of q vs).values ≡ 8
 unfolding key_of
@@ -80,10 +79,10 @@ module _ (s : State) (T : Typed s) where
     keys_fit = f;
   }
 
-  put_typed : (q : ℕ) (vs : List ℤ) (r : List ℕ) → Typed (put_in s (key_of q vs) r (taken_of s.slots))
+  put_typed : (q : ℕ) (vs : List ℤ) (r : List ℕ) → Typed (put_in s (key_of q vs) r (last_taken s.slots))
   put_typed q vs r =
-      let x : ℕ = (taken_of s.slots).slot in
-      cache-typed (taken_of s.slots).slots _ _ (taken-length s.slots) (length-set s.keys x (key_of q vs)) (length-set s.lengths x (length r))
+      let x : ℕ = (last_taken s.slots).slot in
+      cache-typed (last_taken s.slots).slots _ _ (taken-length s.slots) (length-set s.keys x (key_of q vs)) (length-set s.lengths x (length r))
       (All-set x (key_of q vs) (key-long q vs) T.keys_fit)
 
   change-typed : (i : ℕ) (t : Table) (slots : SlotList) → TableStructFits t → length slots.order ≡ length s.slots.order → Typed (with_change s i t slots)

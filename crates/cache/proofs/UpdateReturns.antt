@@ -246,7 +246,7 @@ module _ (s : State) (L : Long s) (long : length s.slots.order ≡ most_slots) (
         none : (k : ℕ) → k - k ≡ 0
         none k = omega arith
 
-    pub update-is : result o after ≡ update_of s cells memory update values
+    update-is : result o after ≡ update_of s cells memory update values
     unfolding update_of
     update-is = go n refl
       where
@@ -262,3 +262,30 @@ module _ (s : State) (L : Long s) (long : length s.slots.order ≡ most_slots) (
             ap₂ result (eo ∙ sym (settled-refused n _ _ q)) (ea ∙ sym (settled-refused n _ _ q))
             ∙ same q
             ∙ rw (← r) (settled-refused n _ _ q)
+
+    -- so what is given where it is taken, and 0 where it is refused, is what the call gives
+    counts : (rows gone : ℕ) → (n ≡ 0 → (rows ≡ o.count) × (gone ≡ s.slots.held - o.slots.held)) → ((n ≡ 0 → ⊥) → (rows ≡ 0) × (gone ≡ 0))
+        → (rows ≡ o.count) × (gone ≡ s.slots.held - o.slots.held)
+    counts rows gone some none = go n refl
+      where
+        go : (k : ℕ) → n ≡ k → (rows ≡ o.count) × (gone ≡ s.slots.held - o.slots.held)
+        go zero z = some z
+        go (suc k) z =
+            let q : n ≡ 0 → ⊥ = λ y. omega (arith, y, z) in
+            let f : o ≡ no_effect w s.slots = eo ∙ sym (settled-refused n _ _ q) in (
+              (none q).0 ∙ sym (ap (λ (x : Effect). x.count) f),
+              omega (arith, (none q).1, ap (λ (x : Effect). x.slots.held) f),
+            )
+
+    pub update-given : (number rows gone : ℕ) → number ≡ n → (n ≡ 0 → (rows ≡ o.count) × (gone ≡ s.slots.held - o.slots.held)) → ((n ≡ 0 → ⊥) → (rows ≡ 0) × (gone ≡ 0))
+        → updates
+        (record {
+          refusal = number;
+          rows = rows;
+          invalidated = gone;
+          state = with_change s (v.table % most_tables) (with_rows w o.rows o.oldest) o.slots;
+        })
+        after ≡ update_of s cells memory update values
+    update-given number rows gone e some none =
+        let d = counts rows gone some none in
+        (λ j. updates (record { refusal = e j; rows = d.0 j; invalidated = d.1 j; state = with_change s (v.table % most_tables) (with_rows w o.rows o.oldest) o.slots }) after) ∙ update-is

@@ -26,7 +26,7 @@ use Rattle.statement.specs.Catalog.{schema_of}
 use Rattle.statement.specs.Compiled.{no_table, no_query}
 use Rattle.statement.specs.Sound.{second_by, second_read, sound_table, sound_tables}
 use Rattle.statement.proofs.SoundTable.{table-parts}
-use Rattle.table.specs.declared.listing.Selected.{Selected}
+use Rattle.table.specs.Evaluated.{Said}
 use Rattle.table.specs.Evaluated.{row_cells, area_rows, rows_used, meets_stored, selected_stored, answer_stored, record_stored, selected_by, selected_in, rows_paired, passes_stored, pairs_used, pairs_read, paired_refusal, said_by, pair_says, pair_leaves}
 use Rattle.cache.specs.declared.State.{State}
 use Rattle.cache.specs.Sound.{used_tables, areas_of, query_at}
@@ -148,10 +148,10 @@ module _ (s : State) (cells : List ℤ) (query : ℕ) (values : List ℤ) (answe
             bytes = λ k. absurd (omega arith);
           }
 
-      pub one-works : (w : Selected) (new : List ℕ) → w ≡ selected_in answer rows (record_stored asked values rows) → new ≡ put answer 0 (record_stored asked values rows)
+      pub one-works : (w : Said) (new : List ℕ) → w ≡ selected_in answer rows (record_stored asked values rows) → new ≡ put answer 0 (record_stored asked values rows)
           → WorksOut s cells query values answer w new
       one-works w new g h =
-          subst (λ (x : Selected). WorksOut s cells query values answer x new) (sym (g ∙ ap₂ (selected_in answer) rows_are rec-is))
+          subst (λ (x : Said). WorksOut s cells query values answer x new) (sym (g ∙ ap₂ (selected_in answer) rows_are rec-is))
           (subst (WorksOut s cells query values answer _) (sym (h ∙ ap (put answer 0) rec-is)) (works-by (leb (length rec) (length answer)) refl))
 
   -- ---- over two
@@ -240,11 +240,11 @@ module _ (s : State) (cells : List ℤ) (query : ℕ) (values : List ℤ) (answe
       abbrev columns : Query → ℕ
       columns q = length (take q.count q.selected)
 
-      two-works : (w : Selected) (new : List ℕ) → w ≡ pair_says asked t start u beside cells values answer → new ≡ pair_leaves asked t start u beside cells values answer
+      two-works : (w : Said) (new : List ℕ) → w ≡ pair_says asked t start u beside cells values answer → new ≡ pair_leaves asked t start u beside cells values answer
           → WorksOut s cells query values answer w new
       unfolding record_at too_many
       two-works w new g h =
-          subst (λ (x : Selected). WorksOut s cells query values answer x new) (sym (g ∙ said))
+          subst (λ (x : Said). WorksOut s cells query values answer x new) (sym (g ∙ said))
           (subst (WorksOut s cells query values answer _) (sym (h ∙ left)) (two-by many (leb (length rec) (length answer)) refl refl))
         where
           said : pair_says asked t start u beside cells values answer ≡ said_by (paired_refusal many (leb (length rec) (length answer))) scanned (length rec)
@@ -260,7 +260,7 @@ module _ (s : State) (cells : List ℤ) (query : ℕ) (values : List ℤ) (answe
   pub pair-works : (asked.second ≡ 0 → ⊥) → (query_at s query).table < length s.tables → other < length s.tables
       → rows_paired (table_at s (query_at s query).table) (start_of s (query_at s query).table) cells ≡ rows_at s cells (query_at s query).table
       → rows_paired (table_at s other) (start_of s other) cells ≡ rows_at s cells other
-      → (start beside : ℕ) → start ≡ areas_of (take asked.table s.tables) → beside ≡ areas_of (take other s.tables) → (w : Selected) (new : List ℕ)
+      → (start beside : ℕ) → start ≡ areas_of (take asked.table s.tables) → beside ≡ areas_of (take other s.tables) → (w : Said) (new : List ℕ)
       → w ≡ pair_says asked (get_or s.tables asked.table e) start (get_or s.tables other e) beside cells values answer
       → new ≡ pair_leaves asked (get_or s.tables asked.table e) start (get_or s.tables other e) beside cells values answer → WorksOut s cells query values answer w new
   pair-works h = two-works other (behind-zero asked.second h)

@@ -10,26 +10,53 @@ use Rattle.meaning.specs.Plain.{Opening, opening_refused, lowest_of}
 use Rattle.statement.specs.declared.Table.{Table}
 use Rattle.statement.specs.declared.Query.{Query}
 use Rattle.statement.specs.declared.Update.{Update}
-use Rattle.statement.specs.declared.Statement.{Statement}
+use Rattle.statement.specs.Compiled.{Compiled}
 use Rattle.statement.specs.Compiled.{no_table, no_query, no_update, update_struct, compiled_of}
 use Rattle.statement.specs.Sound.{second_read}
 use Rattle.table.specs.Evaluated.{rows_used, passes_stored, pairs_read, answer_stored, record_stored}
 use Rattle.table.specs.Changed.{change_of, cells_after}
 use Rattle.pattern.specs.Stored.{matches_stored}
 use Rattle.slots.specs.declared.Key.{Key}
-use Rattle.slots.specs.declared.Found.{Found}
-use Rattle.slots.specs.declared.Found.TheVariants.{At, Nothing}
+use Rattle.slots.specs.Keys.{Found}
+use Rattle.std.specs.Prelude.{Some, None}
 use Rattle.slots.specs.declared.SlotList.{SlotList}
 use Rattle.slots.specs.declared.Taken.{Taken}
 use Rattle.slots.specs.Keys.{no_key, values_of, key_of, slot_key, find_of}
-use Rattle.slots.specs.Order.{held_slots, open_of as slots_open, front_of, taken_of, drop_by, clear_of}
+use Rattle.slots.specs.Order.{held_slots, open_of as slots_open, front_of, is_open, last_taken, drop_by, clear_of}
 use Rattle.cache.specs.declared.State.{State}
-use Rattle.cache.specs.declared.Opened.{Opened}
-use Rattle.cache.specs.declared.Added.{Added}
-use Rattle.cache.specs.declared.Asked.{Asked}
-use Rattle.cache.specs.declared.Updated.{Updated}
-use Rattle.cache.specs.declared.Flushed.{Flushed}
 use Rattle.cache.specs.Sound.{opening, areas_of, length_at, query_at, sound_state}
+
+-- ---- what the calls give, as numbers: the refusal's number or 0; where refused everything else is 0 but the state
+
+pub record Opened : Type 0 where
+  pub refusal : ℕ
+  pub state : State
+
+-- the kind (1 a table, 2 a question, 3 an update) and number of what was added
+pub record Added : Type 0 where
+  pub refusal : ℕ
+  pub kind : ℕ
+  pub number : ℕ
+  pub state : State
+
+-- 1 for a cached answer; the rows scanned; the record's length
+pub record Asked : Type 0 where
+  pub refusal : ℕ
+  pub cached : ℕ
+  pub scanned : ℕ
+  pub length : ℕ
+  pub state : State
+
+-- the rows inserted, matched or deleted; the cached answers that it invalidated
+pub record Updated : Type 0 where
+  pub refusal : ℕ
+  pub rows : ℕ
+  pub invalidated : ℕ
+  pub state : State
+
+pub record Flushed : Type 0 where
+  pub refusal : ℕ
+  pub state : State
 
 -- `done` where the number is 0, else what a refused call leaves
 unfoldable pub settled : {X : Type 0} → ℕ → X → X → X
@@ -139,14 +166,14 @@ added_update s u = record {
 }
 
 -- what the text says beside the state's tables
-abbrev pub compiled_beside : State → List ℕ → Statement
+abbrev pub compiled_beside : State → List ℕ → Compiled
 compiled_beside s text = compiled_of text s.tables s.table_count s.query_count s.update_count s.cells
 
 abbrev pub add_refused : State → ℕ → Added
 add_refused s n = record { refusal = n; kind = 0; number = 0; state = s }
 
 -- by the kind of what the text says: 1 a table, 2 a question, 3 an update
-abbrev pub added_of : ℕ → State → Statement → Added
+abbrev pub added_of : ℕ → State → Compiled → Added
 added_of zero s c = add_refused s 0
 added_of (suc zero) s c = added_table s c.table
 added_of (suc (suc zero)) s c = added_query s c.query
@@ -161,7 +188,7 @@ has_place (suc (suc zero)) s = ltb s.query_count most_queries
 has_place (suc (suc (suc zero))) s = ltb s.update_count most_updates
 has_place (suc (suc (suc (suc k)))) s = false
 
-unfoldable pub added_by : State → Statement → Added
+unfoldable pub added_by : State → Compiled → Added
 added_by s c = added_of c.kind s c
 
 unfoldable pub add_refusal : State → ℕ → ℕ → List ℕ → ℕ
@@ -237,11 +264,11 @@ abbrev pub put_in : State → Key → List ℕ → Taken → State
 put_in s key r t = with_cache s t.slots (set s.keys t.slot key) (set s.lengths t.slot (length r))
 
 unfoldable pub kept : State → Key → List ℕ → State
-kept s key r = cond (fits_slot s r && (taken_of s.slots).there) (put_in s key r (taken_of s.slots)) s
+kept s key r = cond (fits_slot s r && is_open s.slots) (put_in s key r (last_taken s.slots)) s
 
 unfoldable pub kept_memory : State → List ℕ → List ℕ → List ℕ
 kept_memory s r memory =
-    cond (fits_slot s r && (taken_of s.slots).there) (written memory ((taken_of s.slots).slot * s.slot_bytes) r) memory
+    cond (fits_slot s r && is_open s.slots) (written memory ((last_taken s.slots).slot * s.slot_bytes) r) memory
 
 -- where the area of table i starts
 abbrev pub start_of : State → ℕ → ℕ
@@ -307,8 +334,8 @@ ask_new s cells memory answer query values =
     settled n (newly s cells memory answer query values) (asks (ask_refused s n) memory answer)
 
 abbrev pub ask_found : Found → State → List ℤ → List ℕ → List ℕ → ℕ → List ℤ → Asks
-ask_found (At p) s cells memory answer query values = ask_cached s memory answer p
-ask_found Nothing s cells memory answer query values = ask_new s cells memory answer query values
+ask_found (Some p) s cells memory answer query values = ask_cached s memory answer p
+ask_found None s cells memory answer query values = ask_new s cells memory answer query values
 
 abbrev pub found_in : State → ℕ → List ℤ → Found
 found_in s query values = find_of s.keys s.slots (key_of query values)

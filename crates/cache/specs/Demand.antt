@@ -15,8 +15,8 @@ use Rattle.trace.specs.History.{Event, history, fits, Answered, hits, since, Fil
 use Rattle.statement.specs.Catalog.{catalog}
 use Rattle.statement.specs.Compiled.{text_conditions}
 use Rattle.statement.specs.Sound.{Passes}
-use Rattle.slots.specs.declared.Found.{Found}
-use Rattle.slots.specs.declared.Found.TheVariants.{At, Nothing}
+use Rattle.slots.specs.Keys.{Found}
+use Rattle.std.specs.Prelude.{Some, None}
 use Rattle.slots.specs.Keys.{key_read, slot_key}
 use Rattle.slots.specs.Order.{slots_of}
 use Rattle.cache.specs.declared.State.{State}
@@ -31,8 +31,8 @@ use Rattle.cache.specs.Run.{Store, Start, opening_of, opened_by, opened, Call, a
 -- the numbers that a call can get, each with its condition, on any state, in the order in which they are looked for. An answer that is held is judged by its own length
 -- alone: 16 is none of its numbers
 abbrev pub answer_conditions : Store → ℕ → List ℤ → ℕ → Found → List (ℕ × Bool)
-answer_conditions s n vs buffer (At p) = (13, ltb buffer (cached_length s.state p)) ∷ []
-answer_conditions s n vs buffer Nothing = new_conditions s.state s.cells buffer n vs
+answer_conditions s n vs buffer (Some p) = (13, ltb buffer (cached_length s.state p)) ∷ []
+answer_conditions s n vs buffer None = new_conditions s.state s.cells buffer n vs
 
 abbrev pub conditions : Store → Call → List (ℕ × Bool)
 conditions s (add text) =
@@ -167,7 +167,7 @@ lengths_lent s = record { cells = length s.cells; memory = length s.memory }
 -- no slot holds the answer, or the call is refused before that is looked for (of a held one 13 goes by the kept length)
 abbrev pub Anew : Store → Call → Type 0
 Anew s (add text) = Unit {0}
-Anew s (ask n vs buffer) = (found_in s.state n vs ≡ Nothing) ⊎ (((step s (ask n vs buffer)).1.got.refusal ≢ 0) × ((step s (ask n vs buffer)).1.got.refusal ≢ 13))
+Anew s (ask n vs buffer) = (found_in s.state n vs ≡ None) ⊎ (((step s (ask n vs buffer)).1.got.refusal ≢ 0) × ((step s (ask n vs buffer)).1.got.refusal ≢ 13))
 Anew s (update n vs) = Unit {0}
 Anew s flush = Unit {0}
 

@@ -20,7 +20,7 @@ use Rattle.table.specs.Changed.{area_fits, cells_after, change_of, changed_of, c
 use Rattle.soundness.specs.Soundness.{tables_sound, queries_sound, updates_sound}
 use Rattle.pattern.specs.Stored.{all_any, clauses_read, is_formed, joint_clauses, matches_stored, patterns_stored, relevant, start_read}
 use Rattle.slots.specs.Keys.{same_key, key_of, slot_has, find_of, held_twice}
-use Rattle.slots.specs.Order.{slots_of, sound_slots, front_of, taken_of, drop_by, open_of as slots_open}
+use Rattle.slots.specs.Order.{slots_of, sound_slots, front_of, drop_by, open_of as slots_open}
 use Rattle.cache.specs.Sound.{opening, sound_tables, sound_answers, sound_state}
 use Rattle.cache.specs.declared.State.{State}
 use Rattle.cache.specs.Calls.{settled, unfit, empty_state, open_of, added_by, add_refusal, add_of, ask_refusal, with_cache, ask_cached, kept, kept_memory, record_at, too_many, new_refusal, ask_new, ask_of, update_refusal, is_matched, with_change, update_done, update_of, flush_of}
@@ -28,7 +28,7 @@ use Rattle.cache.specs.Run.{Start, opened, Call, add, ask, update, flush, Seen, 
 
 -- what the computations open
 unfoldable pub computing : Unit {0}
-unfolding is_name_byte is_word_byte decimal is_name word negative token_from first_token scan tokens a_condition a_sentence read past_limit unknown taken miscounted twice statement_of body encode stored opening_refused no_place compiled_of struct_of condition_nodes sound_condition sound_condition_on sound_query sound_table sound_update answer_stored meets_stored area_fits cells_after change_of changed_of count_after fits laid oldest_after tables_sound queries_sound updates_sound contradictory class entry all_any clauses_read is_formed joint_clauses matches_stored patterns_stored relevant start_read same_key key_of slot_has find_of held_twice sound_slots front_of taken_of slots_open sound_tables sound_answers sound_state settled unfit empty_state open_of added_by add_refusal add_of ask_refusal with_cache ask_cached kept kept_memory record_at too_many new_refusal ask_new ask_of update_refusal is_matched drop_by with_change update_done update_of flush_of step
+unfolding is_name_byte is_word_byte decimal is_name word negative token_from first_token scan tokens a_condition a_sentence read past_limit unknown taken miscounted twice statement_of body encode stored opening_refused no_place compiled_of struct_of condition_nodes sound_condition sound_condition_on sound_query sound_table sound_update answer_stored meets_stored area_fits cells_after change_of changed_of count_after fits laid oldest_after tables_sound queries_sound updates_sound contradictory class entry all_any clauses_read is_formed joint_clauses matches_stored patterns_stored relevant start_read same_key key_of slot_has find_of held_twice sound_slots front_of slots_open sound_tables sound_answers sound_state settled unfit empty_state open_of added_by add_refusal add_of ask_refusal with_cache ask_cached kept kept_memory record_at too_many new_refusal ask_new ask_of update_refusal is_matched drop_by with_change update_done update_of flush_of step
 computing = tt
 
 -- 4,096 cells, 256 bytes of kept memory, 4 slots of 64 bytes

@@ -1,6 +1,7 @@
 pub mod Sound
 pub mod Calls
 pub mod Outcomes
+pub mod Given
 pub mod Marks
 pub mod Means
 pub mod Run

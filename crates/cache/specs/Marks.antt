@@ -1,6 +1,6 @@
 -- Which held slots an update invalidates, as the code marks them beside those that are marked already: each joint clause of a query and the update once, and beside it every held key of that query.
 -- proofs/Marks shows that the slots marked are those whose key the update matches. Assumes nothing: these are definitions.
-use Rattle.std.specs.Prelude.{Bool, true, false, ◌&&◌, cond, List, [], ◌∷◌, map, ℕ, eqb, ℤ, get_or, set, replicate}
+use Rattle.std.specs.Prelude.{Option, Bool, true, false, ◌&&◌, cond, List, [], ◌∷◌, map, ℕ, eqb, ℤ, get_or, set, replicate}
 use Rattle.lists.specs.Lists.{any, from}
 use Rattle.statement.specs.declared.Table.{Table}
 use Rattle.statement.specs.declared.Query.{Query}
@@ -8,7 +8,7 @@ use Rattle.statement.specs.declared.Update.{Update}
 use Rattle.statement.specs.Compiled.{no_query}
 use Rattle.table.specs.Changed.{removal_of}
 use Rattle.pattern.specs.declared.Pattern.{Pattern}
-use Rattle.pattern.specs.Stored.{clause_total, pattern_at, filled_of, agrees_stored}
+use Rattle.pattern.specs.Stored.{clause_total, pattern_at, agrees_stored, clause_agrees}
 use Rattle.slots.specs.declared.Key.{Key}
 use Rattle.slots.specs.declared.SlotList.{SlotList}
 use Rattle.slots.specs.Keys.{values_of, slot_key, held_keys}
@@ -29,9 +29,13 @@ marked_each (p ∷ ps) xs marks = marked_each ps xs (marked p xs marks)
 abbrev pub agrees_at : List Key → ℕ → Pattern → ℕ → Bool
 agrees_at keys q p x = eqb (slot_key keys x).query q && agrees_stored p (values_of (slot_key keys x))
 
+-- the same of a clause: its pattern, if it has one, is filled with the update's values
+abbrev pub clause_at : List Key → ℕ → List ℤ → Option Pattern → ℕ → Bool
+clause_at keys q us o x = eqb (slot_key keys x).query q && clause_agrees us (values_of (slot_key keys x)) o
+
 -- the patterns of the clauses, with the update's values
 abbrev pub clause_tests : List Key → ℕ → Query → Update → List ℤ → List (ℕ → Bool)
-clause_tests keys q query u us = map (λ (i : ℕ). agrees_at keys q (filled_of us (pattern_at query u i))) (from 0 (clause_total query u))
+clause_tests keys q query u us = map (λ (i : ℕ). clause_at keys q us (pattern_at query u i)) (from 0 (clause_total query u))
 
 abbrev pub query_marks : List Key → SlotList → ℕ → Query → Update → List ℤ → List Bool → List Bool
 query_marks keys s q query u us marks = marked_each (clause_tests keys q query u us) (held_slots s) marks

@@ -1,25 +1,23 @@
 -- What a question gives, without the state, as the code hands it on; and the state with it. What an update leaves, in the same way. Assumes nothing: these are definitions.
-use Rattle.std.specs.Prelude.{◌≡◌, Bool, true, false, not, ◌&&◌, ◌||◌, cond, List, [], ◌∷◌, ℕ, ◌+◌, ◌*◌, ◌≤◌, ◌<◌, eqb, leb, ltb, ℤ, length, take, set}
+use Rattle.std.specs.Prelude.{◌≡◌, Bool, true, not, ◌&&◌, ◌||◌, cond, List, [], ◌∷◌, ℕ, ◌+◌, ◌*◌, ◌≤◌, ◌<◌, eqb, leb, ℤ, length, take, set, Option, Some, None}
 use Rattle.lists.specs.Lists.{written}
 use Rattle.meaning.specs.Limits.{most_tables, most_queries, most_memory, most_slots, most_slot_bytes}
 use Rattle.meaning.specs.Plain.{lowest_of}
 use Rattle.statement.specs.declared.Table.{Table}
 use Rattle.statement.specs.declared.Query.{Query}
 use Rattle.statement.specs.declared.Update.{Update}
-use Rattle.table.specs.declared.listing.Selected.{Selected}
+use Rattle.table.specs.Evaluated.{Said}
 use Rattle.table.specs.Changed.{change_of}
 use Rattle.slots.specs.declared.Key.{Key}
 use Rattle.slots.specs.declared.SlotList.{SlotList}
 use Rattle.slots.specs.declared.Taken.{Taken}
-use Rattle.slots.specs.Order.{sound_slots, taken_of, drop_of}
+use Rattle.slots.specs.Order.{sound_slots, is_open, last_taken, drop_of}
 use Rattle.cache.specs.declared.State.{State}
-use Rattle.cache.specs.declared.Asked.{Asked}
 use Rattle.cache.specs.declared.Place.{Place}
-use Rattle.cache.specs.declared.Outcome.{Outcome}
 use Rattle.cache.specs.declared.Effect.{Effect}
 use Rattle.cache.specs.Sound.{areas_of, query_at}
 use Rattle.cache.specs.Marks.{marks_both}
-use Rattle.cache.specs.Calls.{asks, with_cache, ask_cached, read_for, record_at, new_refusal}
+use Rattle.cache.specs.Calls.{Asked, asks, with_cache, ask_cached, read_for, record_at, new_refusal}
 
 -- 2, from what decides it: whether the state is sound, its opening's lengths, and the lengths lent
 abbrev pub unfit_if : Bool → ℕ → ℕ → ℕ → ℕ → Bool
@@ -29,20 +27,28 @@ unfit_if sound cells memory lent lent_memory = not sound || not (eqb lent cells 
 abbrev pub ask_number : Bool → ℕ → ℕ → ℕ → ℕ → ℕ
 ask_number unfit count query parameters values = lowest_of ((2, unfit) ∷ (10, leb count query) ∷ (11, not (eqb values parameters)) ∷ [])
 
+-- what a question gives: as `Asked`, without the state
+pub record Outcome : Type 0 where
+  pub refusal : ℕ
+  pub cached : ℕ
+  pub scanned : ℕ
+  pub length : ℕ
+  pub place : Place
+
 -- no slot is taken
 abbrev pub no_place : SlotList → Place
-no_place slots = record { slot = 64; size = 0; slots = slots }
+no_place slots = record { slot = None; size = 0; slots = slots }
 
 abbrev pub no_answer : ℕ → SlotList → Outcome
 no_answer n slots = record { refusal = n; cached = 0; scanned = 0; length = 0; place = no_place slots }
 
--- the state with the key and the length in the place's slot, if it is one
-abbrev pub placed_if : Bool → State → Key → Place → State
-placed_if true s key p = with_cache s p.slots (set s.keys p.slot key) (set s.lengths p.slot p.size)
-placed_if false s key p = with_cache s p.slots s.keys s.lengths
+-- the state with the key and the length in the slot, if there is one
+abbrev pub placed_in : Option ℕ → State → Key → ℕ → SlotList → State
+placed_in (Some x) s key n slots = with_cache s slots (set s.keys x key) (set s.lengths x n)
+placed_in None s key n slots = with_cache s slots s.keys s.lengths
 
 abbrev pub placed : State → Key → Place → State
-placed s key p = placed_if (ltb p.slot most_slots) s key p
+placed s key p = placed_in p.slot s key p.size p.slots
 
 abbrev pub outcome_of : State → Key → Outcome → Asked
 outcome_of s key o = record { refusal = o.refusal; cached = o.cached; scanned = o.scanned; length = o.length; state = placed s key o.place }
@@ -52,7 +58,7 @@ abbrev pub Caches : State → List ℕ → List ℕ → ℕ → Outcome → List
 Caches s memory answer p o new = (key : Key) → asks (outcome_of s key o) memory new ≡ ask_cached s memory answer p
 
 -- what working a question out says and leaves: 16, 13, or the record at the buffer's start
-pub record WorksOut (s : State) (cells : List ℤ) (query : ℕ) (values : List ℤ) (answer : List ℕ) (r : Selected) (new : List ℕ) : Type 0 where
+pub record WorksOut (s : State) (cells : List ℤ) (query : ℕ) (values : List ℤ) (answer : List ℕ) (r : Said) (new : List ℕ) : Type 0 where
   pub number : r.refusal ≡ new_refusal s cells (length answer) query values
   pub stays : (r.refusal ≡ 0 → ⊥) → new ≡ answer
   pub read : r.refusal ≡ 0 → r.scanned ≡ read_for s cells (query_at s query) values
@@ -70,21 +76,21 @@ pub record Last (bytes memory : ℕ) (t : Taken) (n : ℕ) : Type 0 where
 
 -- if n bytes take the last slot, there is room for them
 abbrev pub Room : SlotList → ℕ → ℕ → ℕ → Type 0
-Room slots bytes memory n = (taken_of slots).there ≡ true → n ≤ bytes → Last bytes memory (taken_of slots) n
+Room slots bytes memory n = is_open slots ≡ true → n ≤ bytes → Last bytes memory (last_taken slots) n
 
 -- whether a record takes the last slot
 abbrev pub takes : SlotList → ℕ → List ℕ → Bool
-takes slots bytes r = leb (length r) bytes && (taken_of slots).there
+takes slots bytes r = leb (length r) bytes && is_open slots
 
 abbrev pub taking : Taken → ℕ → Place
-taking t n = record { slot = t.slot; size = n; slots = t.slots }
+taking t n = record { slot = Some t.slot; size = n; slots = t.slots }
 
 -- where a record is kept, and the memory then
 unfoldable pub place_of : SlotList → ℕ → List ℕ → Place
-place_of slots bytes r = cond (takes slots bytes r) (taking (taken_of slots) (length r)) (no_place slots)
+place_of slots bytes r = cond (takes slots bytes r) (taking (last_taken slots) (length r)) (no_place slots)
 
 unfoldable pub place_bytes : SlotList → ℕ → List ℕ → List ℕ → List ℕ
-place_bytes slots bytes r memory = cond (takes slots bytes r) (written memory ((taken_of slots).slot * bytes) r) memory
+place_bytes slots bytes r memory = cond (takes slots bytes r) (written memory ((last_taken slots).slot * bytes) r) memory
 
 -- ---- an update
 

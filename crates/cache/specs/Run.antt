@@ -5,10 +5,8 @@ use Rattle.lists.specs.Lists.{written}
 use Rattle.meaning.specs.Plain as P
 use Rattle.meaning.specs.Plain.{Lengths, Plain, Opening, Kind, a_table, a_query, an_update, Out, refused, added, answered, rows, flushed}
 use Rattle.cache.specs.declared.State.{State}
-use Rattle.cache.specs.declared.Added.{Added}
-use Rattle.cache.specs.declared.Flushed.{Flushed}
 use Rattle.cache.specs.Sound.{opening}
-use Rattle.cache.specs.Calls.{Opens, open_of, add_of, Asks, ask_of, Updates, update_of, flush_of}
+use Rattle.cache.specs.Calls.{Added, Flushed, Opens, open_of, add_of, Asks, ask_of, Updates, update_of, flush_of}
 
 -- ---- the store: the state, and the memories that only it writes
 

@@ -12,7 +12,7 @@ use Rattle.statement.specs.declared.Table.{Table}
 use Rattle.statement.specs.declared.Query.{Query}
 use Rattle.statement.specs.declared.Update.{Update}
 use Rattle.statement.specs.Catalog.{schema_of, schemas_of}
-use Rattle.statement.specs.Compiled.{padded, no_query}
+use Rattle.statement.specs.Compiled.{no_query}
 use Rattle.statement.specs.Sound.{FromTable, FromQuery, FromUpdate}
 use Rattle.soundness.specs.Soundness.{tables_sound, queries_sound, updates_sound}
 use Rattle.slots.specs.declared.Key.{Key}
@@ -155,17 +155,9 @@ sound_key s k = ltb k.query s.query_count && eqb k.count (query_at s k.query).pa
 abbrev pub sound_keys : State → Bool
 sound_keys s = all (sound_key s) (held_keys s.keys s.slots) && not (held_twice s.keys s.slots)
 
--- how many parameters each of the first n queries has, 0 behind them, and both of a slot, for the code
-abbrev pub parameters_of : ℕ → List Query → List ℕ
-parameters_of n queries = padded 16 0 (map (λ (q : Query). q.parameters) (take n queries))
-
-abbrev pub key_fits : ℕ → ℕ → ℕ → ℕ → Bool
-key_fits query count n parameters = ltb query n && eqb count parameters
-
-abbrev pub slot_fits : List Key → List ℕ → List ℕ → ℕ → ℕ → ℕ → Bool
-slot_fits keys lengths parameters n bytes x =
-    let k = slot_key keys x in
-    key_fits k.query k.count n (get_or parameters k.query 0) && length_fits (get_or lengths x 0) bytes
+-- both of a slot, for the code
+abbrev pub slot_fits : State → ℕ → Bool
+slot_fits s x = length_fits (length_at s x) s.slot_bytes && sound_key s (slot_key s.keys x)
 
 -- ---- all of it; "its slot list names each slot once, held ones first" is `sound_slots`
 

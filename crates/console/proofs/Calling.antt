@@ -10,16 +10,16 @@ use lib.IntN.{ℤ}
 use lib.ListN.{length, take, drop, get_or, length-append, length-take, length-drop}
 use Rattle.lists.specs.Lists.{written}
 use Rattle.meaning.specs.Plain.{lowest_of}
-use Rattle.slots.specs.declared.Found.{Found}
-use Rattle.slots.specs.declared.Found.TheVariants.{At, Nothing}
+use Rattle.slots.specs.Keys.{Found}
+use Rattle.std.specs.Prelude.{Some, None}
 use Rattle.cache.specs.declared.State.{State}
-use Rattle.cache.specs.declared.Added.{Added}
-use Rattle.cache.specs.declared.Flushed.{Flushed}
+use Rattle.cache.specs.Calls.{Added}
+use Rattle.cache.specs.Calls.{Flushed}
 use Rattle.cache.specs.Calls.{settled, add_of, Asks, asks, ask_refused, ask_refusal, bytes_at, cached_length, ask_cached, record_at, too_many, new_refusal, ask_new, ask_found, found_in, ask_of, Updates, update_of, flush_of}
 use Rattle.cache.specs.Run.{Store, Call, add, ask, update, flush, Seen, step_add, step_ask, step_update, step_flush, step}
 use Rattle.cache.proofs.Settled.{settled-refused, settled-done, or-else-zero}
 use Rattle.console.specs.Room.{filled, filled_to}
-use Rattle.console.specs.Printed.{refused_text, answer_text}
+use Rattle.console.specs.Printed.{refused_text}
 use Rattle.console.specs.Desk.{done_text, text_of, buffer_after, Replies, replies}
 use Rattle.console.specs.Commands.{reply_to}
 
@@ -48,16 +48,6 @@ module _ (s : State) (cells : List ℤ) (memory answer out : List ℕ) (c : Call
 
   pub call-done : p.1.got.refusal ≡ 0 → Written out n new (done_text c p.1) → given answer c n new p ≡ reply_to s cells memory answer c out
   call-done h w = told _ (settled-done p.1.got.refusal _ _ h) w
-
--- of a question, the record is lent as the part of the answer buffer from 0 on
-pub answer-done : (s : State) (cells : List ℤ) (memory answer out : List ℕ) (number : ℕ) (values : List ℤ) (p : Store × Seen)
-    (e : p ≡ step (store_of s cells memory) (ask number values answer)) (n : ℕ) (new : List ℕ) → p.1.got.refusal ≡ 0
-    → Written out n new (answer_text p.1.kept p.1.scanned (take (p.1.got.length - 0) p.1.got.answer))
-    → given answer (ask number values answer) n new p ≡ reply_to s cells memory answer (ask number values answer) out
-answer-done s cells memory answer out number values p e n new h w =
-    let l : p.1.got.length - 0 ≡ p.1.got.length = omega arith in
-    call-done s cells memory answer out (ask number values answer) p e n new h
-    (subst (λ (k : ℕ). Written out n new (answer_text p.1.kept p.1.scanned (take k p.1.got.answer))) l w)
 
 -- ---- the steps, by what the store's functions promise
 
@@ -131,8 +121,8 @@ module _ (s : State) (cells : List ℤ) (memory : List ℕ) (number : ℕ) (valu
       (λ e. record { part = omega (arith, new-fits e, written-length answer r); long = omega (arith, new-fits e, written-length answer r) })
 
   found_inside : (f : Found) → Inside answer (ask_found f s cells memory answer number values)
-  found_inside (At p) = cached-inside p
-  found_inside Nothing = new-inside
+  found_inside (Some p) = cached-inside p
+  found_inside None = new-inside
 
   pub asked-inside : Inside answer (ask_of s cells memory number values answer)
   unfolding ask_of

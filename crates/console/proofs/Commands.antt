@@ -8,35 +8,34 @@ use native.Mathlib.Nat.{zero-add}
 use native.Mathlib.Omega.{arith}
 use borrow.Author.Tests.{le-leb, lt-leb}
 use lib.Dec.{eqb}
-use lib.IntN.{ℤ}
+use lib.IntN.{ℤ, pos}
 use lib.ListN.{length, take, drop, drop_of_length-le}
 use lib.Seq.{take_all}
 use Rattle.lists.specs.Lists.{bytes, take_while}
 use Rattle.lists.specs.Tests.{eq_list}
 use Rattle.meaning.specs.Tokens.{behind_prefix}
 use Rattle.console.specs.declared.Line.{Line}
-use Rattle.console.specs.declared.lines.Number.{Number}
-use Rattle.console.specs.declared.lines.Value.{Value}
+use Rattle.console.specs.declared.Line.TheVariants.{Ask, Do, Bad}
+use Rattle.std.specs.Prelude as P
+use Rattle.std.specs.Prelude.{unwrap_or}
 use Rattle.console.specs.Room.{filled, filled_to}
 use Rattle.console.specs.Lines.{is_word, number_in, value_in, and_value, values_in, Command, add, ask, change, flush, bad, numbered, words, words_say, line_says, command_of, line_of, values_of}
-use Rattle.console.specs.Parts.{not_space, words_behind, number_of, value_of, value_at, values_at, count_on, numbered_word}
+use Rattle.console.specs.Parts.{not_space, words_behind, given, value_at, values_at, count_on, numbered_line}
 use Rattle.console.proofs.Rooms.{length-filled, filled-nil, filled-append}
+use Rattle.console.proofs.Said.{is-bad}
 use Rattle.console.proofs.Words.{first_word, next_word, behind-prefix}
 
-abbrev number : Bool → ℕ → Number
-number good n = record { good = good; number = n }
-
 -- one value more
-count-good : (o : Option ℤ) (r : Option (List ℤ)) (n : ℕ) → (value_of o).good ≡ true → count_on (n + 1) r ≡ count_on n (and_value o r)
-count-good none r n h = absurd (false≢true h)
-count-good (some z) none n h = refl
-count-good (some z) (some zs) n h =
+count-good : (o : Option ℤ) (r : Option (List ℤ)) (n : ℕ) (z : ℤ) → P.Some z ≡ given o → count_on (n + 1) r ≡ count_on n (and_value o r)
+count-good none r n y h = absurd (let q : ⊥ = cc in q)
+count-good (some z) none n y h = refl
+count-good (some z) (some zs) n y h =
     let e : n + 1 + length zs ≡ n + suc (length zs) = omega arith in
-    ap (number true) e
+    ap P.Some e
 
-count-bad : (o : Option ℤ) (r : Option (List ℤ)) (n : ℕ) → (value_of o).good ≡ false → number false 0 ≡ count_on n (and_value o r)
+count-bad : (o : Option ℤ) (r : Option (List ℤ)) (n : ℕ) → P.None ≡ given o → P.None ≡ count_on n (and_value o r)
 count-bad none r n h = refl
-count-bad (some z) r n h = absurd (true≢false h)
+count-bad (some z) r n h = absurd (let q : ⊥ = cc in q)
 
 module _ (line : List ℕ) (end : ℕ) where
   -- the count so far and that of the values left make the whole count
@@ -48,15 +47,14 @@ module _ (line : List ℕ) (end : ℕ) where
   counting-start = record { few = omega arith; left = refl }
 
   module _ (count at : ℕ) (G : Counting count at) where
-    pub counting-end : length line ≤ at → number true count ≡ count_on 0 (values_in (words_behind (drop end line)))
+    pub counting-end : length line ≤ at → P.Some count ≡ count_on 0 (values_in (words_behind (drop end line)))
     unfolding values_in
     counting-end h =
         let d : drop at line ≡ [] = drop_of_length-le line h in
         let z : count + 0 ≡ count = omega arith in
-        sym (ap (number true) z) ∙ sym (ap (λ (s : List ℕ). count_on count (values_in (words_behind s))) d) ∙ G.left
+        sym (ap P.Some z) ∙ sym (ap (λ (s : List ℕ). count_on count (values_in (words_behind s))) d) ∙ G.left
 
-    module _ (to : ℕ) (v : Value) (h : at < length line) (e : to ≡ at + 1 + length (take_while not_space (drop (at + 1) line)))
-        (f : v ≡ value_of (value_in (take (to - (at + 1)) (drop (at + 1) line)))) where
+    module _ (to : ℕ) (h : at < length line) (e : to ≡ at + 1 + length (take_while not_space (drop (at + 1) line))) where
       abbrev here : Option ℤ
       here = value_in (take (to - (at + 1)) (drop (at + 1) line))
 
@@ -67,14 +65,14 @@ module _ (line : List ℕ) (end : ℕ) where
       unfolding values_in
       next = sym (ap (λ (ws : List (List ℕ)). count_on count (values_in ws)) (next_word line at to h e)) ∙ G.left
 
-      pub counting_more : v.good ≡ true → Counting (count + 1) to
-      counting_more k = record {
+      pub counting_more : (z : ℤ) → P.Some z ≡ given here → Counting (count + 1) to
+      counting_more z k = record {
         few = omega (arith, G.few);
-        left = count-good here rest count (sym (ap (λ (x : Value). x.good) f) ∙ k) ∙ next;
+        left = count-good here rest count z k ∙ next;
       }
 
-      pub counting-stop : v.good ≡ false → number false 0 ≡ count_on 0 (values_in (words_behind (drop end line)))
-      counting-stop k = count-bad here rest count (sym (ap (λ (x : Value). x.good) f) ∙ k) ∙ next
+      pub counting-stop : P.None ≡ given here → P.None ≡ count_on 0 (values_in (words_behind (drop end line)))
+      counting-stop k = count-bad here rest count k ∙ next
 
 -- ---- values put
 
@@ -112,7 +110,7 @@ unfolding values_in
 values-are [] zs h = let e : [] ≡ zs = cc in e
 values-are (w ∷ ws) zs h = go (value_in w) (values_in ws) (values-are ws) h
   where
-    go : (o : Option ℤ) (r : Option (List ℤ)) → ((ys : List ℤ) → r ≡ some ys → values_at ws ≡ ys) → and_value o r ≡ some zs → (value_of o).value ∷ values_at ws ≡ zs
+    go : (o : Option ℤ) (r : Option (List ℤ)) → ((ys : List ℤ) → r ≡ some ys → values_at ws ≡ ys) → and_value o r ≡ some zs → unwrap_or (given o) (pos 0) ∷ values_at ws ≡ zs
     go none r f k = absurd (let q : ◌≡◌ {A = ℕ} 0 1 = cc in omega arith)
     go (some z) none f k = absurd (let q : ◌≡◌ {A = ℕ} 0 1 = cc in omega arith)
     go (some z) (some ys) f k =
@@ -121,40 +119,25 @@ values-are (w ∷ ws) zs h = go (value_in w) (values_in ws) (values-are ws) h
 
 -- ---- what a command, a number and values say
 
-abbrev line : ℕ → ℕ → ℕ → Line
-line command number count = record { command = command; number = number; count = count }
+said-is : (w : List ℕ) (o : Option ℕ) (r : Option (List ℤ)) → numbered_line w (given o) (count_on 0 r) ≡ line_of (numbered w o r)
+said-is w none r = refl
+said-is w (some n) none = refl
+said-is w (some n) (some zs) = go (is_word "ASK" w) (is_word "DO" w)
+  where
+    go : (a b : Bool) → cond a (Ask n (0 + length zs)) (cond b (Do n (0 + length zs)) Bad) ≡ line_of (cond a (ask n zs) (cond b (change n zs) bad))
+    go true b = ap (Ask n) (zero-add (length zs))
+    go false true = ap (Do n) (zero-add (length zs))
+    go false false = refl
 
-abbrev says : Bool → Bool → Option ℕ → Option (List ℤ) → Command
-says a b (some n) (some zs) = cond a (ask n zs) (cond b (change n zs) bad)
-says a b (some n) none = bad
-says a b none r = bad
-
-numbered-says : (w : List ℕ) (o : Option ℕ) (r : Option (List ℤ)) → numbered w o r ≡ says (is_word "ASK" w) (is_word "DO" w) o r
-numbered-says w (some n) (some zs) = refl
-numbered-says w (some n) none = refl
-numbered-says w none r = refl
-
-abbrev word_by : Bool → Bool → ℕ
-word_by a b = cond a 2 (cond b 3 0)
-
-abbrev is_good : ℕ → Number → Number → Bool
-is_good command n m = n.good && (m.good && not (eqb command 0))
-
-says-good : (a b : Bool) (o : Option ℕ) (r : Option (List ℤ)) (ys : List ℤ) → ((zs : List ℤ) → r ≡ some zs → ys ≡ zs)
-    → is_good (word_by a b) (number_of o) (count_on 0 r) ≡ true
-    → (line (word_by a b) (number_of o).number (count_on 0 r).number ≡ line_of (says a b o r)) × (ys ≡ values_of (says a b o r))
-says-good true b (some n) (some zs) ys f h = (ap (line 2 n) (zero-add (length zs)), f zs refl)
-says-good false true (some n) (some zs) ys f h = (ap (line 3 n) (zero-add (length zs)), f zs refl)
-says-good false false (some n) (some zs) ys f h = absurd (false≢true h)
-says-good a b (some n) none ys f h = absurd (false≢true h)
-says-good a b none r ys f h = absurd (false≢true h)
-
-says-bad : (a b : Bool) (o : Option ℕ) (r : Option (List ℤ)) → is_good (word_by a b) (number_of o) (count_on 0 r) ≡ false → says a b o r ≡ bad
-says-bad true b (some n) (some zs) h = absurd (true≢false h)
-says-bad false true (some n) (some zs) h = absurd (true≢false h)
-says-bad false false (some n) (some zs) h = refl
-says-bad a b (some n) none h = refl
-says-bad a b none r h = refl
+values-said : (w : List ℕ) (o : Option ℕ) (r : Option (List ℤ)) (ys : List ℤ) → ((zs : List ℤ) → r ≡ some zs → ys ≡ zs) → (line_of (numbered w o r) ≡ Bad → ⊥) → ys ≡ values_of (numbered w o r)
+values-said w none r ys f h = absurd (h refl)
+values-said w (some n) none ys f h = absurd (h refl)
+values-said w (some n) (some zs) ys f h = go (is_word "ASK" w) (is_word "DO" w) h
+  where
+    go : (a b : Bool) → (line_of (cond a (ask n zs) (cond b (change n zs) bad)) ≡ Bad → ⊥) → ys ≡ values_of (cond a (ask n zs) (cond b (change n zs) bad))
+    go true b h = f zs refl
+    go false true h = f zs refl
+    go false false h = absurd (h refl)
 
 -- a command without values
 pub told : (k c : Command) (values : List ℤ) (r : Line) → k ≡ c → values_of c ≡ [] → r ≡ line_of c → (r ≡ line_of k) × (values ≡ filled values 0 (values_of k))
@@ -171,39 +154,23 @@ module _ (text : List ℕ) (end to : ℕ) (e : end ≡ length (take_while not_sp
   abbrev others : List (List ℕ)
   others = words_behind (drop to text)
 
-  abbrev saying : Command
-  saying = says (is_word "ASK" first) (is_word "DO" first) (number_in second) (values_in others)
+  saying-is : words_say (words text) ≡ numbered first (number_in second) (values_in others)
+  saying-is = ap words_say (first_word text end e ∙ ap (λ (ws : List (List ℕ)). first ∷ ws) (next_word text end to h f))
 
-  saying-is : words_say (words text) ≡ saying
-  saying-is =
-      ap words_say (first_word text end e ∙ ap (λ (ws : List (List ℕ)). first ∷ ws) (next_word text end to h f))
-      ∙ numbered-says first (number_in second) (values_in others)
+  module _ (n k : P.Option ℕ) (l : Line) (s : l ≡ numbered_line first n k) (q : n ≡ given (number_in second)) (r : k ≡ count_on 0 (values_in others)) where
+    line_is : l ≡ line_of (words_say (words text))
+    line_is =
+        s ∙ ap₂ (numbered_line first) q r ∙ said-is first (number_in second) (values_in others) ∙ sym (ap line_of saying-is)
 
-  module _ (command : ℕ) (n m : Number) (told-word : command ≡ numbered_word (take (end - 0) text)) (q : n ≡ number_of (number_in second)) (r : m ≡ count_on 0 (values_in others)) where
-    word-is : command ≡ numbered_word first
-    word-is = let z : end - 0 ≡ end = omega arith in told-word ∙ ap (λ (k : ℕ). numbered_word (take k text)) z
-
-    is_good-is : is_good command n m ≡ is_good (numbered_word first) (number_of (number_in second)) (count_on 0 (values_in others))
-    is_good-is = ap₂ (λ (x : ℕ) (y : Number). is_good x y m) word-is q ∙ ap (is_good (numbered_word first) (number_of (number_in second))) r
-
-    pub reading-good : is_good command n m ≡ true → (values values' : List ℤ) → values' ≡ filled values 0 (values_at others)
-        → (l : Line) → l ≡ line command n.number m.number
+    pub reading-good : (l ≡ Bad → ⊥) → (values values' : List ℤ) → values' ≡ filled values 0 (values_at others)
         → (l ≡ line_of (words_say (words text))) × (values' ≡ filled values 0 (values_of (words_say (words text))))
-    reading-good g values values' v l k =
-        let s =
-        says-good (is_word "ASK" first) (is_word "DO" first) (number_in second) (values_in others) (values_at others) (values-are others) (sym is_good-is ∙ g) in (
-          k
-              ∙ ap₂ (λ (x : ℕ) (y : Number). line x y.number m.number) word-is q
-              ∙ ap (λ (y : Number). line (numbered_word first) (number_of (number_in second)).number y.number) r
-              ∙ s.0 ∙ sym (ap line_of saying-is),
-          v ∙ ap (filled values 0) (s.1 ∙ sym (ap values_of saying-is)),
-        )
+    reading-good g values values' v = (
+      line_is,
+      v ∙ ap (filled values 0) (values-said first (number_in second) (values_in others) (values_at others) (values-are others) (λ b. g (line_is ∙ ap line_of saying-is ∙ b)) ∙ sym (ap values_of saying-is)),
+    )
 
-    pub reading-bad : is_good command n m ≡ false → (values : List ℤ) (l : Line) → l ≡ line 0 0 0
-        → (l ≡ line_of (words_say (words text))) × (values ≡ filled values 0 (values_of (words_say (words text))))
-    reading-bad g values l k =
-        told (words_say (words text)) bad values l
-        (saying-is ∙ says-bad (is_word "ASK" first) (is_word "DO" first) (number_in second) (values_in others) (sym is_good-is ∙ g)) refl k
+    pub reading-bad : l ≡ Bad → (values : List ℤ) → (Bad ≡ line_of (words_say (words text))) × (values ≡ filled values 0 (values_of (words_say (words text))))
+    reading-bad b values = told (words_say (words text)) bad values Bad (is-bad _ (sym line_is ∙ b)) refl refl
 
 -- a line of one word
 pub one_word : (text : List ℕ) (end : ℕ) → end ≡ length (take_while not_space text) → length text ≤ end

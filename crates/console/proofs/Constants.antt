@@ -18,30 +18,44 @@ use Rattle.lists.specs.Tests.{eq_list}
 use Rattle.lists.proofs.Bools.{and_left, and_right, clash}
 use Rattle.lists.proofs.Lists.{All-map, all_true, all-of}
 use Rattle.lists.proofs.Runs.{drop-yes, drop-no, drop-short, drop_all, run-split}
+use Rattle.meaning.specs.Operator.{Operator, eq}
 use Rattle.meaning.specs.Limits.{is_within32}
 use Rattle.meaning.specs.Tokens as M
-use Rattle.meaning.specs.Tokens.{Keyword, keyword, name, constant, operator, mark, comma, lparen, rparen, dot, other, is_digit, is_name_byte, is_word_byte, is_space, is_name, folded, decimal, word, keywords, keyword_or, signs, behind_prefix, sign_in, token_from, token_here, first_token}
+use Rattle.meaning.specs.Tokens.{Keyword, TABLE, keyword, name, constant, operator, mark, comma, lparen, rparen, dot, other, is_digit, is_name_byte, is_word_byte, is_space, is_name, folded, decimal, word, keywords, keyword_or, signs, behind_prefix, sign_in, token_from, token_here, first_token}
 use Rattle.meaning.proofs.Stream.{from-word, from-sign, from-short, sign-here, sign-later}
 use Rattle.token.specs.declared.Token.{Token}
-use Rattle.token.specs.Tokens as N
-use Rattle.token.specs.Tokens.{kind_of, token_of, token_at}
+use Rattle.token.specs.declared.Kind.{Kind}
+use Rattle.token.specs.declared.Kind.TheVariants.{End, Constant, Big}
+use Rattle.token.specs.Tokens.{operator_kind, keyword_kind, kind_of, token_of, token_at}
 use Rattle.token.proofs.Cases.{none_is, some_is}
 use Rattle.token.proofs.Words.{digit-word}
-use Rattle.console.specs.declared.lines.Value.{Value}
-use Rattle.console.specs.Parts.{number_of, value_of}
+use Rattle.std.specs.Prelude as P
+use Rattle.console.specs.Parts.{given}
 use Rattle.console.specs.Lines.{most_number, number_in, constant_in, whole_token, value_in}
 
 -- ---- a value, as the first token tells it
 
-constant-kind : (t : M.Token) → constant_in t ≡ cond (eqb (kind_of t) 3) (some (N.value_of t)) none
-constant-kind (keyword k) = ap (λ (b : Bool). cond b (some (pos 0)) none) (sym (ne_eqb (kind_of (keyword k)) 3 (λ e. omega arith)))
-constant-kind (name n) = refl
+abbrev as_constant : Kind → Option ℤ
+as_constant (Constant z) = some z
+as_constant _ = none
+
+constant-kind : (t : M.Token) → constant_in t ≡ as_constant (kind_of t)
 constant-kind (constant z) = go (is_within32 z)
   where
-    go : (b : Bool) → cond b (some z) none ≡ cond (eqb (cond b 3 4) 3) (some (cond b z (pos 0))) none
+    go : (b : Bool) → cond b (some z) none ≡ as_constant (cond b (Constant z) Big)
     go true = refl
     go false = refl
-constant-kind (operator o) = ap (λ (b : Bool). cond b (some (pos 0)) none) (sym (ne_eqb (kind_of (operator o)) 3 (λ e. omega arith)))
+constant-kind (keyword k) = go k
+  where
+    go : (k : Keyword) → none ≡ as_constant (keyword_kind k)
+    go TABLE = refl
+    go _ = refl
+constant-kind (operator o) = go o
+  where
+    go : (o : Operator) → none ≡ as_constant (operator_kind o)
+    go eq = refl
+    go _ = refl
+constant-kind (name n) = refl
 constant-kind mark = refl
 constant-kind comma = refl
 constant-kind lparen = refl
@@ -49,34 +63,34 @@ constant-kind rparen = refl
 constant-kind dot = refl
 constant-kind other = refl
 
--- the test of the token that is read from the start of a word on
-abbrev pub is_value : ℕ → Token → Bool
-is_value n t = eqb t.kind 3 && (eqb t.start 0 && eqb t.next n)
-
-abbrev value_by : ℕ → Token → Option ℤ
-value_by n t = cond (is_value n t) (some t.value) none
+-- the value that the token read from the start of a word on tells, if it is the whole word
+abbrev pub value_by : ℕ → Token → Option ℤ
+value_by n t = cond (eqb t.start 0 && eqb t.next n) (as_constant t.kind) none
 
 value-later : (n : ℕ) (t : Token) → (t.start ≡ 0 → ⊥) → value_by n t ≡ none
-value-later n t h =
-    ap (λ (b : Bool). cond (eqb t.kind 3 && (b && eqb t.next n)) (some t.value) none) (ne_eqb t.start 0 h)
-    ∙ ap (λ (b : Bool). cond b (some t.value) none) (and-false (eqb t.kind 3))
+value-later n t h = ap (λ (b : Bool). cond (b && eqb t.next n) (as_constant t.kind) none) (ne_eqb t.start 0 h)
 
 value-short : (n : ℕ) (t : Token) → (t.next ≡ n → ⊥) → value_by n t ≡ none
 value-short n t h =
-    ap (λ (b : Bool). cond (eqb t.kind 3 && (eqb t.start 0 && b)) (some t.value) none) (ne_eqb t.next n h)
-    ∙ ap (λ (b : Bool). cond (eqb t.kind 3 && b) (some t.value) none) (and-false (eqb t.start 0))
-    ∙ ap (λ (b : Bool). cond b (some t.value) none) (and-false (eqb t.kind 3))
+    ap (λ (b : Bool). cond (eqb t.start 0 && b) (as_constant t.kind) none) (ne_eqb t.next n h) ∙ ap (λ (b : Bool). cond b (as_constant t.kind) none) (and-false (eqb t.start 0))
+
+value-none : (n : ℕ) (t : Token) → ((z : ℤ) → t.kind ≡ Constant z → ⊥) → value_by n t ≡ none
+value-none n t h = ap (λ (o : Option ℤ). cond (eqb t.start 0 && eqb t.next n) o none) (go t.kind h) ∙ same (eqb t.start 0 && eqb t.next n)
+  where
+    go : (k : Kind) → ((z : ℤ) → k ≡ Constant z → ⊥) → as_constant k ≡ none
+    go (Constant z) h = absurd (h z refl)
+    go _ h = refl
+
+    same : (b : Bool) → cond {A = Option ℤ} b none none ≡ none
+    same true = refl
+    same false = refl
 
 whole_is : (x : M.Token × List ℕ) (n : ℕ) → 1 ≤ n → length x.1 ≤ n → whole_token x ≡ value_by n (token_of x.0 (n - n) (n - length x.1))
 unfolding token_of
 whole_is (t, []) n h k =
     let a : n - n ≡ 0 = omega arith in
     let b : n - 0 ≡ n = omega arith in
-    constant-kind t ∙ go (eqb (kind_of t) 3) (eq-eqb (n - n) 0 a) (eq-eqb (n - 0) n b)
-  where
-    go : (x : Bool) {y z : Bool} → y ≡ true → z ≡ true → cond x (some (N.value_of t)) none ≡ cond (x && (y && z)) (some (N.value_of t)) none
-    go true p q = rw (p, q)
-    go false p q = refl
+    constant-kind t ∙ sym (ap₂ (λ (y z : Bool). cond (y && z) (as_constant (kind_of t)) none) (eq-eqb (n - n) 0 a) (eq-eqb (n - 0) n b))
 whole_is (t, c ∷ u) n h k = sym (value-short n (token_of t (n - n) (n - suc (length u))) (λ e. omega arith))
 
 -- no value begins with a space
@@ -93,8 +107,11 @@ unfolding value_in token_at token_of first_token
 value-is [] = refl
 value-is (b ∷ s) = go (is_space b) refl
   where
+    no-constant : (z : ℤ) → End ≡ Constant z → ⊥
+    no-constant z q = cc
+
     behind : (o : Option (M.Token × List ℕ)) → is_space b ≡ true → first_token (b ∷ s) ≡ o → value_by (suc (length s)) (token_at (b ∷ s) 0) ≡ none
-    behind none e f = rw (none_is (b ∷ s) 0 f)
+    behind none e f = value-none (suc (length s)) (token_at (b ∷ s) 0) (λ z q. no-constant z (sym (ap (λ (t : Token). t.kind) (none_is (b ∷ s) 0 f)) ∙ q))
     behind (some x) e f =
         rw (some_is (b ∷ s) 0 x f)
         (value-later (suc (length s)) (token_of x.0 (suc (length s) - length (drop_while is_space (b ∷ s))) (suc (length s) - length x.1))
@@ -212,32 +229,34 @@ number-empty (b ∷ s) h = absurd (omega arith)
 
 -- ---- as the program has them
 
-pub found-value : (w : List ℕ) (t : Token) (z : ℤ) → t ≡ token_at w 0 → is_value (length w) t ≡ true → z ≡ t.value → record { good = true; value = z } ≡ value_of (value_in w)
-found-value w t z e h f =
-    ap (λ (x : ℤ). value_of (some x)) f
-    ∙ sym
-    (ap value_of (value-is w)
-    ∙ ap (λ (x : Token). value_of (value_by (length w) x)) (sym e)
-    ∙ ap (λ (b : Bool). value_of (cond b (some t.value) none)) h)
+module _ (w : List ℕ) (t : Token) (e : t ≡ token_at w 0) where
+  found_by : given (value_by (length w) t) ≡ given (value_in w)
+  found_by = ap (λ (x : Token). given (value_by (length w) x)) e ∙ sym (ap given (value-is w))
 
-pub found_none : (w : List ℕ) (t : Token) → t ≡ token_at w 0 → is_value (length w) t ≡ false → record { good = false; value = pos 0 } ≡ value_of (value_in w)
-found_none w t e h =
-    sym
-    (ap value_of (value-is w)
-    ∙ ap (λ (x : Token). value_of (value_by (length w) x)) (sym e)
-    ∙ ap (λ (b : Bool). value_of (cond b (some t.value) none)) h)
+  pub found-value : (z : ℤ) → t.kind ≡ Constant z → t.start ≡ 0 → t.next ≡ length w → P.Some z ≡ given (value_in w)
+  found-value z k a b =
+      ap (λ (o : Option ℤ). given o) (sym (ap₂ (λ (x y : Bool). cond (x && y) (as_constant t.kind) none) (eq-eqb t.start 0 a) (eq-eqb t.next (length w) b) ∙ ap as_constant k)) ∙ found_by
 
-pub found_number : (o : Option ℕ) (v : Value) (z : ℤ) → v ≡ value_of (positive o) → z ≡ v.value → record { good = v.good; number = nat_abs z } ≡ number_of o
-found_number o v z e f =
-    ap₂ (λ (x : Value) (y : ℤ). record { good = x.good; number = nat_abs y }) e (f ∙ ap (λ (x : Value). x.value) e) ∙ go o
-  where
-    go : (o : Option ℕ) → record { good = (value_of (positive o)).good; number = nat_abs (value_of (positive o)).value } ≡ number_of o
-    go none = refl
-    go (some n) = refl
+  found_none : value_by (length w) t ≡ none → P.None ≡ given (value_in w)
+  found_none h = ap given (sym h) ∙ found_by
 
-pub number-cast : (o : Option ℕ) (z : ℤ) → z ≡ (value_of (positive o)).value → SFits w32 z → T (non_neg z) × Fits w64 (nat_abs z)
-number-cast o z e h = subst (λ (y : ℤ). T (non_neg y) × Fits w64 (nat_abs y)) (sym e) (go o (subst (SFits w32) e h))
-  where
-    go : (o : Option ℕ) → SFits w32 (value_of (positive o)).value → T (non_neg (value_of (positive o)).value) × Fits w64 (nat_abs (value_of (positive o)).value)
-    go none k = (tt, record { fits = lit< tt })
-    go (some n) k = (tt, record { fits = let l : n < 2 ^ 31 = k.sfits in omega arith })
+  pub found-later : (t.start ≡ 0 → ⊥) → P.None ≡ given (value_in w)
+  found-later h = found_none (value-later (length w) t h)
+
+  pub found-short : (t.next ≡ length w → ⊥) → P.None ≡ given (value_in w)
+  found-short h = found_none (value-short (length w) t h)
+
+  pub found-other : ((z : ℤ) → t.kind ≡ Constant z → ⊥) → P.None ≡ given (value_in w)
+  found-other h = found_none (value-none (length w) t h)
+
+-- a value of digits is no negative number
+pub found_number : (o : Option ℕ) (z : ℤ) → P.Some z ≡ given (positive o) → SFits w32 z → (P.Some (nat_abs z) ≡ given o) × (T (non_neg z) × Fits w64 (nat_abs z))
+found_number none z e h = absurd (let q : ⊥ = cc in q)
+found_number (some n) z e h =
+    let q : pos n ≡ z = cc in
+    subst (λ (y : ℤ). (P.Some (nat_abs y) ≡ P.Some n) × (T (non_neg y) × Fits w64 (nat_abs y))) q
+    (refl, (tt, record { fits = let k : SFits w32 (pos n) = subst (SFits w32) (sym q) h in let l : n < 2 ^ 31 = k.sfits in omega arith }))
+
+pub found-no : (o : Option ℕ) → P.None ≡ given (positive o) → P.None ≡ given o
+found-no none e = refl
+found-no (some n) e = absurd (let q : ⊥ = cc in q)

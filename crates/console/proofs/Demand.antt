@@ -11,10 +11,10 @@ use lib.Seq.{take_at}
 use Rattle.lists.specs.Lists.{written}
 use Rattle.meaning.specs.Plain as P
 use Rattle.meaning.specs.Plain.{Lengths, Plain, Out, refused, added, answered, rows, flushed}
-use Rattle.slots.specs.declared.Found.{Found}
-use Rattle.slots.specs.declared.Found.TheVariants.{At, Nothing}
+use Rattle.slots.specs.Keys.{Found}
+use Rattle.std.specs.Prelude.{Some, None}
 use Rattle.cache.specs.declared.State.{State}
-use Rattle.cache.specs.declared.Asked.{Asked}
+use Rattle.cache.specs.Calls.{Asked}
 use Rattle.cache.specs.Calls.{settled, Asks, asks, ask_refusal, cached_length, ask_cached, new_refusal, ask_new, ask_found, found_in, ask_of}
 use Rattle.cache.specs.Run.{Store, opening_of, opened, Call, add, ask, update, flush, Got, Seen, step, after, gets, plain_call, buffer_of, got_of, plain_gets}
 use Rattle.cache.specs.Means.{tables_in}
@@ -197,8 +197,8 @@ module _ (s : State) (cells : List ℤ) (memory : List ℕ) (n : ℕ) (zs : List
 
   found_alike : (f : Found) → Alike (ask_found f s cells memory b n zs) (ask_found f s cells memory c n zs)
   unfolding ask_cached ask_new
-  found_alike (At p) = rw (← e) (cond-alike (ltb (length b) (cached_length s p)) _ _ _ _ _ _ _ _)
-  found_alike Nothing = rw (← e) (settled-alike (new_refusal s cells (length b) n zs) _ _ (record { results = refl; memories = refl }) _)
+  found_alike (Some p) = rw (← e) (cond-alike (ltb (length b) (cached_length s p)) _ _ _ _ _ _ _ _)
+  found_alike None = rw (← e) (settled-alike (new_refusal s cells (length b) n zs) _ _ (record { results = refl; memories = refl }) _)
 
   ask-alike : Alike (ask_of s cells memory n zs b) (ask_of s cells memory n zs c)
   unfolding ask_of

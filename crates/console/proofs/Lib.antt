@@ -13,3 +13,4 @@ pub mod Said
 pub mod Replying
 pub mod Demand
 pub mod Bounds
+pub mod Finding

@@ -14,6 +14,7 @@ use Rattle.lists.specs.Lists.{bytes}
 use Rattle.meaning.specs.Tokens.{is_space, behind_prefix}
 use Rattle.meaning.proofs.Readers.{some-none, some_same}
 use Rattle.meaning.proofs.Stream.{prefix-length}
+use Rattle.console.specs.declared.Line.TheVariants.{Add, Ask, Do, Flush, Bad}
 use Rattle.console.specs.Lines.{on_first, words, is_word, number_in, value_in, and_value, values_in, Command, add, ask, change, flush, bad, numbered, words_say, line_says, most_line, command_of, line_of, values_of}
 
 -- ---- no more values than bytes
@@ -45,23 +46,23 @@ values-size [] = omega arith
 values-size (w ∷ ws) = omega (arith, and-size (value_in w) (values_in ws), values-size ws)
 
 -- a word and a number say ASK, DO or nothing
-numbered-size : (w : List ℕ) (o : Option ℕ) (p : Option (List ℤ)) → (length (values_of (numbered w o p)) ≤ size p) × ((line_of (numbered w o p)).command ≢ 1)
-numbered-size w (some n) none = (omega arith, λ e. omega (arith, e))
-numbered-size w none p = (omega arith, λ e. omega (arith, e))
+numbered-size : (w : List ℕ) (o : Option ℕ) (p : Option (List ℤ)) → (length (values_of (numbered w o p)) ≤ size p) × (line_of (numbered w o p) ≢ Add)
+numbered-size w (some n) none = (omega arith, λ e. let q : ⊥ = cc in q)
+numbered-size w none p = (omega arith, λ e. let q : ⊥ = cc in q)
 numbered-size w (some n) (some zs) = go (is_word "ASK" w) (is_word "DO" w)
   where
-    go : (a b : Bool) → let c = cond a (ask n zs) (cond b (change n zs) bad) in (length (values_of c) ≤ length zs) × ((line_of c).command ≢ 1)
-    go true b = (omega arith, λ e. omega (arith, e))
-    go false true = (omega arith, λ e. omega (arith, e))
-    go false false = (omega arith, λ e. omega (arith, e))
+    go : (a b : Bool) → let c = cond a (ask n zs) (cond b (change n zs) bad) in (length (values_of c) ≤ length zs) × (line_of c ≢ Add)
+    go true b = (omega arith, λ e. let q : ⊥ = cc in q)
+    go false true = (omega arith, λ e. let q : ⊥ = cc in q)
+    go false false = (omega arith, λ e. let q : ⊥ = cc in q)
 
-words_size : (ws : List (List ℕ)) → (length (values_of (words_say ws)) ≤ length ws - 1) × ((line_of (words_say ws)).command ≢ 1)
-words_size [] = (omega arith, λ e. omega (arith, e))
+words_size : (ws : List (List ℕ)) → (length (values_of (words_say ws)) ≤ length ws - 1) × (line_of (words_say ws) ≢ Add)
+words_size [] = (omega arith, λ e. let q : ⊥ = cc in q)
 words_size (w ∷ []) = go (is_word "FLUSH" w)
   where
-    go : (t : Bool) → (length (values_of (cond t flush bad)) ≤ 0) × ((line_of (cond t flush bad)).command ≢ 1)
-    go true = (omega arith, λ e. omega (arith, e))
-    go false = (omega arith, λ e. omega (arith, e))
+    go : (t : Bool) → (length (values_of (cond t flush bad)) ≤ 0) × (line_of (cond t flush bad) ≢ Add)
+    go true = (omega arith, λ e. let q : ⊥ = cc in q)
+    go false = (omega arith, λ e. let q : ⊥ = cc in q)
 words_size (w ∷ n ∷ vs) = let h = numbered-size w (number_in n) (values_in vs) in (omega (arith, h.0, values-size vs), h.1)
 
 -- ---- the text of ADD
@@ -78,7 +79,7 @@ prefix-drop (b ∷ p) (c ∷ s) left e = go (eqb b c) e (prefix-drop p s left)
 -- what is known of what a line says
 pub record Says (line : List ℕ) (c : Command) : Type 0 where
   pub few : length (values_of c) ≤ most_line
-  pub text : (line_of c).command ≡ 1 → (4 ≤ length line) × (c ≡ add (drop 4 line))
+  pub text : line_of c ≡ Add → (4 ≤ length line) × (c ≡ add (drop 4 line))
 
 line-says : (line : List ℕ) → length line ≤ most_line → Says line (line_says line)
 line-says line h = go (behind_prefix (bytes "ADD ") line) refl
@@ -97,41 +98,34 @@ command-says line = go (leb (length line) most_line) refl
   where
     go : (t : Bool) → leb (length line) most_line ≡ t → Says line (elim t [ true ↦ line_says line | false ↦ bad ])
     go true e = line-says line (leb-true (length line) most_line e)
-    go false e = record { few = omega arith; text = λ f. absurd (omega (arith, f)) }
+    go false e = record { few = omega arith; text = λ f. absurd (let q : ⊥ = cc in q) }
 
 -- ---- the other commands
 
-pub count_is : (c : Command) → (line_of c).count ≡ length (values_of c)
-count_is (add text) = refl
-count_is (ask n zs) = refl
-count_is (change n zs) = refl
-count_is flush = refl
-count_is bad = refl
+pub is_ask : (c : Command) (n k : ℕ) → line_of c ≡ Ask n k → (c ≡ ask n (values_of c)) × (k ≡ length (values_of c))
+is_ask (add text) n k e = absurd (let q : ⊥ = cc in q)
+is_ask (ask m zs) n k e = let q : m ≡ n = cc in let r : k ≡ length zs = cc in (ap (λ (i : ℕ). ask i zs) q, r)
+is_ask (change m zs) n k e = absurd (let q : ⊥ = cc in q)
+is_ask flush n k e = absurd (let q : ⊥ = cc in q)
+is_ask bad n k e = absurd (let q : ⊥ = cc in q)
 
-pub is_ask : (c : Command) → (line_of c).command ≡ 2 → c ≡ ask (line_of c).number (values_of c)
-is_ask (add text) e = absurd (omega (arith, e))
-is_ask (ask n zs) e = refl
-is_ask (change n zs) e = absurd (omega (arith, e))
-is_ask flush e = absurd (omega (arith, e))
-is_ask bad e = absurd (omega (arith, e))
+pub is-change : (c : Command) (n k : ℕ) → line_of c ≡ Do n k → (c ≡ change n (values_of c)) × (k ≡ length (values_of c))
+is-change (add text) n k e = absurd (let q : ⊥ = cc in q)
+is-change (ask m zs) n k e = absurd (let q : ⊥ = cc in q)
+is-change (change m zs) n k e = let q : m ≡ n = cc in let r : k ≡ length zs = cc in (ap (λ (i : ℕ). change i zs) q, r)
+is-change flush n k e = absurd (let q : ⊥ = cc in q)
+is-change bad n k e = absurd (let q : ⊥ = cc in q)
 
-pub is-change : (c : Command) → (line_of c).command ≡ 3 → c ≡ change (line_of c).number (values_of c)
-is-change (add text) e = absurd (omega (arith, e))
-is-change (ask n zs) e = absurd (omega (arith, e))
-is-change (change n zs) e = refl
-is-change flush e = absurd (omega (arith, e))
-is-change bad e = absurd (omega (arith, e))
-
-pub is-flush : (c : Command) → (line_of c).command ≡ 4 → c ≡ flush
-is-flush (add text) e = absurd (omega (arith, e))
-is-flush (ask n zs) e = absurd (omega (arith, e))
-is-flush (change n zs) e = absurd (omega (arith, e))
+pub is-flush : (c : Command) → line_of c ≡ Flush → c ≡ flush
+is-flush (add text) e = absurd (let q : ⊥ = cc in q)
+is-flush (ask n zs) e = absurd (let q : ⊥ = cc in q)
+is-flush (change n zs) e = absurd (let q : ⊥ = cc in q)
 is-flush flush e = refl
-is-flush bad e = absurd (omega (arith, e))
+is-flush bad e = absurd (let q : ⊥ = cc in q)
 
-pub is-bad : (c : Command) → (line_of c).command ≢ 1 → (line_of c).command ≢ 2 → (line_of c).command ≢ 3 → (line_of c).command ≢ 4 → c ≡ bad
-is-bad (add text) h i j k = absurd (h refl)
-is-bad (ask n zs) h i j k = absurd (i refl)
-is-bad (change n zs) h i j k = absurd (j refl)
-is-bad flush h i j k = absurd (k refl)
-is-bad bad h i j k = refl
+pub is-bad : (c : Command) → line_of c ≡ Bad → c ≡ bad
+is-bad (add text) e = absurd (let q : ⊥ = cc in q)
+is-bad (ask n zs) e = absurd (let q : ⊥ = cc in q)
+is-bad (change n zs) e = absurd (let q : ⊥ = cc in q)
+is-bad flush e = absurd (let q : ⊥ = cc in q)
+is-bad bad e = refl

@@ -38,9 +38,9 @@ module _ (kind n : ℕ) where
   unfolding added_text
   added-query e = ap (λ (k : ℕ). added_text k n) e
 
-  pub added-update : (kind ≡ 1 → ⊥) → (kind ≡ 2 → ⊥) → added_text kind n ≡ line (item "update" n)
+  pub added-update : kind ≡ 3 → added_text kind n ≡ line (item "update" n)
   unfolding added_text
-  added-update e f = rw (ne_eqb kind 1 e, ne_eqb kind 2 f)
+  added-update e = ap (λ (k : ℕ). added_text k n) e
 
 -- ---- where an answer is from
 

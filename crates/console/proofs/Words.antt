@@ -9,10 +9,9 @@ use native.Mathlib.Omega.{arith}
 use borrow.Author.Tests.{eq-eqb, ne_eqb}
 use lib.Dec.{eqb}
 use lib.ListN.{length, take, drop}
-use lib.Seq.{take-length}
 use Rattle.lists.specs.Lists.{take_while, drop_while}
 use Rattle.lists.specs.Tests.{eq_list}
-use Rattle.lists.proofs.Walks.{eq_list-longer}
+use lib.Pointwise.{pointwise}
 use Rattle.lists.proofs.Runs.{take-run, drop-run}
 use Rattle.meaning.specs.Tokens.{is_space, behind_prefix}
 use Rattle.token.proofs.Runs.{drop_here}
@@ -50,16 +49,28 @@ module _ (s : List ℕ) where
 
 -- ---- texts compared
 
-pub whole_word : (w t : List ℕ) → (eqb (length w) (length t) && eq_list eqb (take (length t) w) t) ≡ eq_list eqb w t
-whole_word w t = go (ℕ_discrete (length w) (length t))
+-- as the library compares texts
+pub same_words : (w t : List ℕ) → pointwise eqb w t ≡ eq_list eqb w t
+same_words [] [] = refl
+same_words [] (y ∷ t) = refl
+same_words (x ∷ w) [] = refl
+same_words (x ∷ w) (y ∷ t) = ap (λ (b : Bool). eqb x y && b) (same_words w t)
+
+turned : (x y : ℕ) → eqb x y ≡ eqb y x
+turned x y = go (ℕ_discrete x y)
   where
-    go : Dec (length w ≡ length t) → (eqb (length w) (length t) && eq_list eqb (take (length t) w) t) ≡ eq_list eqb w t
-    go (yes e) =
-        ap₂ (λ (b : Bool) (k : ℕ). b && eq_list eqb (take k w) t) (eq-eqb (length w) (length t) e) (sym e)
-        ∙ ap (λ (u : List ℕ). eq_list eqb u t) (take-length w)
-    go (no n) =
-        ap (λ (b : Bool). b && eq_list eqb (take (length t) w) t) (ne_eqb (length w) (length t) n)
-        ∙ sym (eq_list-longer eqb w t n)
+    go : Dec (x ≡ y) → eqb x y ≡ eqb y x
+    go (yes e) = eq-eqb x y e ∙ sym (eq-eqb y x (sym e))
+    go (no n) = ne_eqb x y n ∙ sym (ne_eqb y x (λ e. n (sym e)))
+
+flipped : (w t : List ℕ) → pointwise eqb w t ≡ eq_list eqb t w
+flipped [] [] = refl
+flipped [] (y ∷ t) = refl
+flipped (x ∷ w) [] = refl
+flipped (x ∷ w) (y ∷ t) = ap₂ ◌&&◌ (turned x y) (flipped w t)
+
+pub begins : (p s : List ℕ) → pointwise eqb p (take (length p) s) ≡ eq_list eqb (take (length p) s) p
+begins p s = flipped p (take (length p) s)
 
 -- a line that begins with p, and what follows
 pub behind-prefix : (p s : List ℕ) → behind_prefix p s ≡ cond (eq_list eqb (take (length p) s) p) (some (drop (length p) s)) none

@@ -9,6 +9,7 @@ use Rattle.lists.specs.Tests.{eq_list}
 use Rattle.meaning.specs.Limits.{is_within32}
 use Rattle.meaning.specs.Tokens.{Token, keyword, name, constant, operator, mark, comma, lparen, rparen, dot, other, is_digit, is_space, decimal, behind_prefix, token_here}
 use Rattle.console.specs.declared.Line.{Line}
+use Rattle.console.specs.declared.Line.TheVariants.{Add, Ask, Do, Flush, Bad}
 use Rattle.console.specs.declared.Gathered.{Gathered}
 use Rattle.console.specs.Room.{filled_to}
 
@@ -123,14 +124,14 @@ most_line = 512
 unfoldable pub command_of : List ℕ → Command
 command_of line = elim (leb (length line) most_line) [ true ↦ line_says line | false ↦ bad ]
 
--- ---- a command as the program has it: 0 a bad line, 1 ADD, 2 ASK, 3 DO, 4 FLUSH; the statement's number; how many values
+-- ---- a command as the program has it: for ASK and DO the statement's number, and how many values
 
 abbrev pub line_of : Command → Line
-line_of (add text) = record { command = 1; number = 0; count = 0 }
-line_of (ask n zs) = record { command = 2; number = n; count = length zs }
-line_of (change n zs) = record { command = 3; number = n; count = length zs }
-line_of flush = record { command = 4; number = 0; count = 0 }
-line_of bad = record { command = 0; number = 0; count = 0 }
+line_of (add text) = Add
+line_of (ask n zs) = Ask n (length zs)
+line_of (change n zs) = Do n (length zs)
+line_of flush = Flush
+line_of bad = Bad
 
 abbrev pub values_of : Command → List ℤ
 values_of (add text) = []

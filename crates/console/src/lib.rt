@@ -13,34 +13,25 @@ use cache::State;
 pub use lines::{gather, read_line};
 pub use text::{write_added, write_answer, write_bad, write_flushed, write_refused, write_updated};
 
-// What a line says: a command, the statement's number, and how many values there are. The text of ADD is the line from byte Line::TEXT on.
+// What a line says: for ASK and DO the statement's number, and how many values there are. The text of ADD is the line from byte Line::TEXT on.
 #[derive(Clone, Copy)]
-pub struct Line {
-    pub command: u8,
-    pub number: usize,
-    pub count: usize,
+pub enum Line {
+    Add,
+    Ask { number: usize, count: usize },
+    Do { number: usize, count: usize },
+    Flush,
+    Bad,
 }
 
 impl Line {
     // The most bytes of a line.
     pub const BYTES: usize = 512;
 
-    // The commands.
-    pub const BAD: u8 = 0;
-
-    pub const ADD: u8 = 1;
-
-    pub const ASK: u8 = 2;
-
-    pub const DO: u8 = 3;
-
-    pub const FLUSH: u8 = 4;
-
     // Where the text of ADD starts.
     pub const TEXT: usize = 4;
 }
 
-// How far a line was gathered: where the input goes on, the bytes held, and whether the line has ended.
+// How far a line was gathered: where the input goes on, also where the line has not ended, the bytes held, and whether it has.
 #[derive(Clone, Copy)]
 pub struct Gathered {
     pub next: usize,
@@ -67,31 +58,20 @@ pub fn respond(
     ensures { replies result cells.new memory.new answer.new out.new ≡ reply_of state cells.old memory.old answer.old line.now out.old }
 {
     let mut values = [0i32; Line::BYTES];
-    let said = read_line(line, &mut values);
-    let n = said.count;
-    if said.command == Line::ADD {
-        let from = Line::TEXT;
-        return respond_add(state, cells, memory, &line[from..], out);
+    match read_line(line, &mut values) {
+        Line::Add => respond_add(state, cells, memory, &line[Line::TEXT..], out),
+        Line::Ask { number, count } => {
+            respond_ask(state, cells, memory, number, &values[..count], answer, out)
+        }
+        Line::Do { number, count } => {
+            respond_do(state, cells, memory, number, &values[..count], out)
+        }
+        Line::Flush => respond_flush(state, cells, memory, out),
+        Line::Bad => {
+            let length = write_bad(out);
+            Reply { length, state }
+        }
     }
-    if said.command == Line::ASK {
-        return respond_ask(
-            state,
-            cells,
-            memory,
-            said.number,
-            &values[0..n],
-            answer,
-            out,
-        );
-    }
-    if said.command == Line::DO {
-        return respond_do(state, cells, memory, said.number, &values[0..n], out);
-    }
-    if said.command == Line::FLUSH {
-        return respond_flush(state, cells, memory, out);
-    }
-    let length = write_bad(out);
-    Reply { length, state }
 }
 
 // ---- each command, with what is lent to it
@@ -99,14 +79,18 @@ pub fn respond(
 fn respond_add(state: State, cells: &[i32], memory: &[u8], text: &[u8], out: &mut [u8]) -> Reply
     ensures { replies result cells.now memory.now [] out.new ≡ reply_to state cells.now memory.now [] (add text.now) out.old }
 {
-    let added = state.add(cells, memory, text);
-    let state = added.state;
-    if added.refusal != 0 {
-        let length = write_refused(out, added.refusal);
-        return Reply { length, state };
+    let outcome = state.add(cells, memory, text);
+    let state = outcome.state;
+    match outcome.result {
+        Ok(added) => {
+            let length = write_added(out, added.kind, added.number);
+            Reply { length, state }
+        }
+        Err(refusal) => {
+            let length = write_refused(out, refusal);
+            Reply { length, state }
+        }
     }
-    let length = write_added(out, added.kind, added.number);
-    Reply { length, state }
 }
 
 fn respond_ask(
@@ -120,15 +104,19 @@ fn respond_ask(
 ) -> Reply
     ensures { replies result cells.now memory.new answer.new out.new ≡ reply_to state cells.now memory.old answer.old (ask number values.now answer.old) out.old }
 {
-    let asked = state.ask(cells, memory, number, values, answer);
-    let state = asked.state;
-    if asked.refusal != 0 {
-        let length = write_refused(out, asked.refusal);
-        return Reply { length, state };
+    let outcome = state.ask(cells, memory, number, values, answer);
+    let state = outcome.state;
+    match outcome.result {
+        Ok(asked) => {
+            let record = &answer[..asked.length];
+            let length = write_answer(out, asked.source, asked.scanned, record);
+            Reply { length, state }
+        }
+        Err(refusal) => {
+            let length = write_refused(out, refusal);
+            Reply { length, state }
+        }
     }
-    let n = asked.length;
-    let length = write_answer(out, asked.cached, asked.scanned, &answer[0..n]);
-    Reply { length, state }
 }
 
 fn respond_do(
@@ -141,25 +129,33 @@ fn respond_do(
 ) -> Reply
     ensures { replies result cells.new memory.now [] out.new ≡ reply_to state cells.old memory.now [] (update number values.now) out.old }
 {
-    let updated = state.update(cells, memory, number, values);
-    let state = updated.state;
-    if updated.refusal != 0 {
-        let length = write_refused(out, updated.refusal);
-        return Reply { length, state };
+    let outcome = state.update(cells, memory, number, values);
+    let state = outcome.state;
+    match outcome.result {
+        Ok(changed) => {
+            let length = write_updated(out, changed.rows, changed.invalidated);
+            Reply { length, state }
+        }
+        Err(refusal) => {
+            let length = write_refused(out, refusal);
+            Reply { length, state }
+        }
     }
-    let length = write_updated(out, updated.rows, updated.invalidated);
-    Reply { length, state }
 }
 
 fn respond_flush(state: State, cells: &[i32], memory: &[u8], out: &mut [u8]) -> Reply
     ensures { replies result cells.now memory.now [] out.new ≡ reply_to state cells.now memory.now [] flush out.old }
 {
-    let flushed = state.flush(cells, memory);
-    let state = flushed.state;
-    if flushed.refusal != 0 {
-        let length = write_refused(out, flushed.refusal);
-        return Reply { length, state };
+    let outcome = state.flush(cells, memory);
+    let state = outcome.state;
+    match outcome.result {
+        Ok(()) => {
+            let length = write_flushed(out);
+            Reply { length, state }
+        }
+        Err(refusal) => {
+            let length = write_refused(out, refusal);
+            Reply { length, state }
+        }
     }
-    let length = write_flushed(out);
-    Reply { length, state }
 }

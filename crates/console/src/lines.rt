@@ -1,29 +1,28 @@
 // A line gathered from pieces of the input, and what it says.
-ghost use Rattle.std.specs.Prelude.{◌≡◌, [], ◌∷◌, ◌+◌, ◌≤◌, ◌<◌, eqb, length, take, drop};
+ghost use Rattle.std.specs.Prelude.{◌≡◌, ◌==◌, [], ◌∷◌, ◌+◌, ◌≤◌, ◌<◌, length, drop, position};
 ghost use Rattle.lists.specs.Lists.{take_while};
-ghost use Rattle.lists.specs.Tests.{eq_list};
 ghost use Rattle.console.specs.Room.{filled, filled_to};
 ghost use Rattle.console.specs.Lines.{line_from, gathered_of, command_of, line_of, values_of, words, words_say, number_in, value_in, values_in};
-ghost use Rattle.console.specs.Parts.{not_space, words_behind, number_of, value_of, values_at, count_on, numbered_word};
+ghost use Rattle.console.specs.Parts.{not_space, words_behind, given, values_at, count_on, numbered_line};
 
-use super::text::put_byte;
+use super::text::put_bytes;
 use super::{Gathered, Line};
-use token::Token;
+use token::Kind;
 
 const NEWLINE: u8 = 10;
 
-// A statement's number, or a count of values, if the words for it are good.
-#[derive(Clone, Copy)]
-struct Number {
-    good: bool,
-    number: usize,
+// The bytes from `from` on.
+fn rest_of(bytes: &[u8], from: usize) -> &[u8]
+    ensures { result.now ≡ drop from bytes.now }
+{
+    &bytes[from.min(bytes.len())..]
 }
 
-// A value, if the word for it is good.
-#[derive(Clone, Copy)]
-struct Value {
-    good: bool,
-    value: i32,
+// The place of the first byte b.
+fn find(bytes: &[u8], b: u8) -> Option<usize>
+    ensures { result ≡ position (λ x. x == b) bytes.now }
+{
+    bytes.iter().position(|x| *x == b)
 }
 
 // ---- lines of the input
@@ -33,23 +32,18 @@ pub fn gather(input: &[u8], from: usize, line: &mut [u8], held: usize) -> Gather
     ensures result { result ≡ gathered_of input.now from line.old held }
     ensures bytes { line.new ≡ filled line.old held (line_from input.now from) }
 {
-    let mut at = from;
-    let mut to = held;
-    while at < input.len() {
-        if input[at] == NEWLINE {
-            return Gathered {
-                next: at + 1,
-                held: to,
-                ended: true,
-            };
-        }
-        to = put_byte(line, to, input[at]);
-        at += 1;
-    }
-    Gathered {
-        next: at,
-        held: to,
-        ended: false,
+    let rest = rest_of(input, from);
+    match find(rest, NEWLINE) {
+        Some(n) => Gathered {
+            next: from + n + 1,
+            held: put_bytes(line, held, &rest[..n]),
+            ended: true,
+        },
+        None => Gathered {
+            next: from + rest.len(),
+            held: put_bytes(line, held, rest),
+            ended: false,
+        },
     }
 }
 
@@ -60,113 +54,51 @@ fn word_end(line: &[u8], at: usize) -> usize
     requires { at ≤ length line.now }
     ensures { (result ≡ at + length (take_while not_space (drop at line.now))) × (result ≤ length line.now) }
 {
-    let mut i = at;
-    while i < line.len() {
-        if line[i] == b' ' {
-            return i;
-        }
-        i += 1;
-    }
-    i
-}
-
-// Whether the line begins with `text`.
-fn starts_with(line: &[u8], text: &[u8]) -> bool
-    ensures { result ≡ eq_list eqb (take (length text.now) line.now) text.now }
-{
-    if line.len() < text.len() {
-        return false;
-    }
-    let mut i = 0;
-    while i < text.len() {
-        if line[i] != text[i] {
-            return false;
-        }
-        i += 1;
-    }
-    true
-}
-
-fn is_word(word: &[u8], text: &[u8]) -> bool
-    ensures { result ≡ eq_list eqb word.now text.now }
-{
-    (word.len() == text.len()) & starts_with(word, text)
-}
-
-// The command that a number follows, or Line::BAD.
-fn numbered_word(word: &[u8]) -> u8
-    ensures { result ≡ numbered_word word.now }
-{
-    if is_word(word, b"ASK") {
-        return Line::ASK;
-    }
-    if is_word(word, b"DO") {
-        return Line::DO;
-    }
-    Line::BAD
+    let rest = rest_of(line, at);
+    at + find(rest, b' ').unwrap_or(rest.len())
 }
 
 // ---- numbers and values
 
 // The value that a word is: one constant within 32 bits.
-fn value_in(word: &[u8]) -> Value
-    ensures { result ≡ value_of (value_in word.now) }
+fn value_in(word: &[u8]) -> Option<i32>
+    ensures { result ≡ given (value_in word.now) }
 {
     let t = token::next(word, 0);
-    if (t.kind == Token::CONSTANT) & ((t.start == 0) & (t.next == word.len())) {
-        return Value {
-            good: true,
-            value: t.value,
-        };
-    }
-    Value {
-        good: false,
-        value: 0,
+    match t.kind {
+        Kind::Constant(value) if t.start == 0 && t.next == word.len() => Some(value),
+        _ => None,
     }
 }
 
 // A statement's number is a value of digits only.
-fn number_in(word: &[u8]) -> Number
-    ensures { result ≡ number_of (number_in word.now) }
+fn number_in(word: &[u8]) -> Option<usize>
+    ensures { result ≡ given (number_in word.now) }
 {
-    if 0 < word.len() {
-        if word[0] != b'-' {
-            let v = value_in(word);
-            return Number {
-                good: v.good,
-                number: v.value as usize,
-            };
-        }
+    if word.is_empty() {
+        return None;
     }
-    Number {
-        good: false,
-        number: 0,
+    if word[0] == b'-' {
+        return None;
     }
+    let v = value_in(word)?;
+    Some(v as usize)
 }
 
-// How many values stand behind a word that ends at `end`, if all are good.
-fn count_values(line: &[u8], end: usize) -> Number
+// How many values stand behind a word that ends at `end`, if all are good. Here and below a place walks from word to word, each found by word_end.
+fn count_values(line: &[u8], end: usize) -> Option<usize>
     ensures { result ≡ count_on 0 (values_in (words_behind (drop end line.now))) }
 {
-    let mut count: usize = 0;
+    let mut count = 0;
     let mut at = end;
     while at < line.len() {
         let from = at + 1;
         let to = word_end(line, from);
-        let v = value_in(&line[from..to]);
-        if !v.good {
-            return Number {
-                good: false,
-                number: 0,
-            };
-        }
+        let _good = value_in(&line[from..to])?;
         count += 1;
         at = to;
     }
-    Number {
-        good: true,
-        number: count,
-    }
+    Some(count)
 }
 
 // Puts a value, if there is room, and says where the next one goes.
@@ -190,21 +122,29 @@ fn put_values(line: &[u8], end: usize, values: &mut [i32])
     while at < line.len() {
         let from = at + 1;
         let to = word_end(line, from);
-        let v = value_in(&line[from..to]);
-        n = put_value(values, n, v.value);
+        let v = value_in(&line[from..to]).unwrap_or(0);
+        n = put_value(values, n, v);
         at = to;
     }
 }
 
 // ---- commands
 
-fn said(command: u8, number: usize, count: usize) -> Line
-    ensures { result ≡ record { command = command; number = number; count = count } }
+// ASK or DO, by their word, with a number and a count of values.
+fn numbered(word: &[u8], number: Option<usize>, count: Option<usize>) -> Line
+    ensures { result ≡ numbered_line word.now number count }
 {
-    Line {
-        command,
-        number,
-        count,
+    match (number, count) {
+        (Some(number), Some(count)) => {
+            if word == b"ASK".as_slice() {
+                Line::Ask { number, count }
+            } else if word == b"DO".as_slice() {
+                Line::Do { number, count }
+            } else {
+                Line::Bad
+            }
+        }
+        _ => Line::Bad,
     }
 }
 
@@ -214,16 +154,20 @@ fn read_numbered(line: &[u8], end: usize, values: &mut [i32]) -> Line
     ensures result { result ≡ line_of (words_say (words line.now)) }
     ensures values { values.new ≡ filled values.old 0 (values_of (words_say (words line.now))) }
 {
-    let command = numbered_word(&line[0..end]);
     let from = end + 1;
     let to = word_end(line, from);
-    let n = number_in(&line[from..to]);
-    let counted = count_values(line, to);
-    if n.good & (counted.good & (command != Line::BAD)) {
-        put_values(line, to, values);
-        return said(command, n.number, counted.number);
+    let said = numbered(
+        &line[..end],
+        number_in(&line[from..to]),
+        count_values(line, to),
+    );
+    match said {
+        Line::Bad => Line::Bad,
+        _ => {
+            put_values(line, to, values);
+            said
+        }
     }
-    said(Line::BAD, 0, 0)
 }
 
 // A line that is no ADD.
@@ -235,10 +179,10 @@ fn read_words(line: &[u8], values: &mut [i32]) -> Line
     if end < line.len() {
         return read_numbered(line, end, values);
     }
-    if is_word(line, b"FLUSH") {
-        return said(Line::FLUSH, 0, 0);
+    if line == b"FLUSH".as_slice() {
+        return Line::Flush;
     }
-    said(Line::BAD, 0, 0)
+    Line::Bad
 }
 
 // What a line says. Its values stand at the start of `values`, as far as there is room.
@@ -247,10 +191,10 @@ pub fn read_line(line: &[u8], values: &mut [i32]) -> Line
     ensures values { values.new ≡ filled values.old 0 (values_of (command_of line.now)) }
 {
     if Line::BYTES < line.len() {
-        return said(Line::BAD, 0, 0);
+        return Line::Bad;
     }
-    if starts_with(line, b"ADD ") {
-        return said(Line::ADD, 0, 0);
+    if line.starts_with(b"ADD ") {
+        return Line::Add;
     }
     read_words(line, values)
 }

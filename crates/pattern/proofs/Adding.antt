@@ -9,7 +9,7 @@ use native.Mathlib.Omega.{arith}
 use lib.Dec.{eqb}
 use borrow.Author.Tests.{eqb-true, eqb-false}
 use lib.ListN.{length, take, drop, get_or, set, length-set, length-map, length-take, drop_of_length-le}
-use lib.Seq.{drop-cons, take-suc, take_all, get_or-take, get_or-set_same, get_or-set_other, drop-set-lt}
+use lib.Seq.{drop-cons, take-suc, take_all, get_or-set_same, get_or-set_other, drop-set-lt}
 use Rattle.lists.specs.Lists.{All, nil, cons, cons_if, from}
 use Rattle.lists.proofs.Lists.{All-map, All-append, map-append, map_same}
 use Rattle.lists.proofs.Places.{All-set}
@@ -18,14 +18,13 @@ use Rattle.meaning.specs.Condition as C
 use Rattle.meaning.specs.Condition.{renamed, sides}
 use Rattle.meaning.specs.Statement as M
 use Rattle.meaning.specs.Pattern.{Joint}
-use Rattle.statement.specs.declared.Comparison.{Comparison}
 use Rattle.statement.specs.declared.Condition.{Condition}
 use Rattle.statement.specs.Operators.{predicate_at}
 use Rattle.statement.specs.Sound.{comparison_read, used_comparisons}
 use Rattle.pattern.specs.Least.{Coded, code_of, coded}
 use Rattle.pattern.specs.Masks.{select, comparisons_read}
 use Rattle.pattern.specs.Flat.{comparison_at, clause_at, Narrow, Readable, Coding, Extended}
-use Rattle.pattern.proofs.Mapped.{get_or-map-in, from_last}
+use Rattle.pattern.proofs.Mapped.{from_last}
 use Rattle.pattern.proofs.Numbering.{coding-readable}
 
 -- ---- one comparison behind the first n
@@ -165,8 +164,3 @@ module _ (g : M.Operand → Joint) where
 module _ (c : Condition) (long : length c.comparisons ≡ 8) (few : c.count ≤ 8) where
   pub read_length : length (comparisons_read c) ≡ c.count
   read_length = length-map (used_comparisons c) comparison_read ∙ length-take c.count c.comparisons ∙ omega arith
-
-  pub read_at : (i : ℕ) (d : Comparison) (e : C.Comparison M.Operand) → i < c.count → get_or (comparisons_read c) i e ≡ comparison_read (get_or c.comparisons i d)
-  read_at i d e h =
-      get_or-map-in comparison_read (used_comparisons c) i d e (omega (arith, length-take c.count c.comparisons))
-      ∙ ap comparison_read (get_or-take c.count c.comparisons i d h)

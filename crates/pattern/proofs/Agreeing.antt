@@ -1,44 +1,31 @@
 -- A pattern with values, and beside the values of a key: entry by entry. Assumes nothing.
+use Rattle.std.specs.Prelude.{Some, None}
 use mathlib.Core.Path.{◌≡◌, refl, sym, ap, ap₂, ◌∙◌}
 use mathlib.Core.Bool.{Bool, true, false, ◌&&◌, cond}
 use mathlib.Core.List.{List, [], ◌∷◌, map}
-use Prim.Native.Nat.{ℕ, suc, ◌+◌, ◌≤◌, ◌<◌, min}
+use Prim.Native.Nat.{ℕ, suc, ◌+◌, ◌≤◌, ◌<◌}
 use native.Mathlib.Omega.{arith}
 use lib.IntN.{ℤ, pos}
-use lib.ListN.{length, take, get_or, replicate, length-map, length-take, get_or-eq_default}
-use borrow.Author.Tests.{lt-ltb, le-ltb, ltb-false}
-use lib.Dec.{ltb}
-use lib.Seq.{get_or-take}
-use Rattle.lists.specs.Tests.{eq_z}
+use lib.ListN.{length, take, get_or, replicate, length-map, get_or-eq_default}
+use borrow.Author.Tests.{lt-ltb, le-ltb}
 use Rattle.meaning.specs.Pattern as P
 use Rattle.meaning.specs.Pattern.{agrees_at, agrees, anything}
 use Rattle.statement.specs.declared.Query.{Query}
 use Rattle.statement.specs.declared.Update.{Update}
 use Rattle.pattern.specs.declared.Entry.{Entry}
 use Rattle.pattern.specs.declared.Entry.TheVariants.{Constant, Parameter}
-use Rattle.pattern.specs.declared.Place.{Place}
 use Rattle.pattern.specs.declared.Pattern.{Pattern}
-use Rattle.pattern.specs.Stored.{relevant, joint, all_any, entry_count, clause_count, clause_total, pattern_struct, no_pattern, clause_pattern, pattern_at, filled_entry, entry_read, place_read, agrees_stored}
+use Rattle.pattern.specs.Stored.{relevant, joint, all_any, entry_count, clause_count, clause_total, pattern_struct, clause_pattern, pattern_at, filled_entry, entry_read, agrees_stored}
 use Rattle.pattern.proofs.Mapped.{get_or-map-in, get_or-any}
 use Rattle.pattern.proofs.Searching.{Pairwise, pair-more, pair-done}
-use Rattle.pattern.proofs.Relevant.{take-few}
 
 -- ---- entries
-
-pub filled-constant : (us : List ℤ) (e : Entry) (z : ℤ) → e ≡ Constant z → Constant z ≡ filled_entry us e
-filled-constant us e z q = sym (ap (filled_entry us) q)
 
 pub filled-there : (us : List ℤ) (e : Entry) (k : ℕ) (z : ℤ) → e ≡ Parameter k → z ≡ get_or us k (pos 0) → Constant z ≡ filled_entry us e
 filled-there us e k z q h = ap Constant h ∙ sym (ap (filled_entry us) q)
 
 pub filled-past : (us : List ℤ) (e : Entry) (k : ℕ) → e ≡ Parameter k → length us ≤ k → Constant (pos 0) ≡ filled_entry us e
 filled-past us e k q h = filled-there us e k (pos 0) q (sym (get_or-eq_default us (pos 0) h))
-
-pub agrees-constant : (e : Entry) (y z : ℤ) → e ≡ Constant y → eq_z y z ≡ agrees_at [] (entry_read e) z
-agrees-constant e y z q = sym (ap (λ (x : Entry). agrees_at [] (entry_read x) z) q)
-
-pub agrees-parameter : (e : Entry) (k : ℕ) (z : ℤ) → e ≡ Parameter k → eq_z (pos 0) z ≡ agrees_at [] (entry_read e) z
-agrees-parameter e k z q = sym (ap (λ (x : Entry). agrees_at [] (entry_read x) z) q)
 
 -- ---- patterns
 
@@ -53,59 +40,35 @@ agrees-short (z ∷ qs) (e ∷ es) ne = ap (λ (b : Bool). agrees_at [] e z && b
     go true = refl
     go false = refl
 
--- the first n entries and values
-module _ (entries : List Place) (values : List ℤ) (n : ℕ) where
-  abbrev qs : List ℤ
-  qs = take n values
-
+-- the entries in use, beside the values
+module _ (values : List ℤ) (entries : List Entry) where
   abbrev es : List P.Entry
-  es = map place_read (take n entries)
+  es = map entry_read entries
 
+  es-length : length es ≡ length entries
+  es-length = length-map entries entry_read
+
+  -- those before the i-th agree
   abbrev pub Agreeing : Bool → ℕ → Type 0
-  Agreeing good i = Pairwise (agrees []) qs es good i
+  Agreeing good i = Pairwise (agrees []) values es good i
 
-  module _ (pl : length entries ≡ 8) (vl : length values ≡ 8) (few : n ≤ 8) where
-    qs-length : length qs ≡ n
-    qs-length = length-take n values ∙ omega arith
+  pub other-count : (length values ≡ length entries → ⊥) → false ≡ agrees [] values es
+  other-count ne = sym (agrees-short values es (λ q. ne (q ∙ es-length)))
 
-    es-length : length es ≡ n
-    es-length = length-map (take n entries) place_read ∙ length-take n entries ∙ omega arith
+  module _ (vl : length values ≡ length entries) where
+    pub agree-more : (b : Bool) (i : ℕ) (z : ℤ) (e d : Entry) → i < length values → z ≡ get_or values i (pos 0) → e ≡ get_or entries i d → b ≡ agrees_at [] (entry_read e) z
+        → Agreeing true i → Agreeing b (i + 1)
+    agree-more b i z e d h ez ee eb inv =
+        let q : get_or values i z ≡ z = get_or-any values i z (pos 0) h ∙ sym ez in
+        let r : get_or es i (entry_read e) ≡ entry_read e = get_or-map-in entry_read entries i d (entry_read e) (omega arith) ∙ ap entry_read (sym ee) in
+        pair-more (agrees []) values es (λ x y. agrees_at [] y x) (λ x y l m. refl) true b i z (entry_read e) h (omega (arith, es-length)) q r eb inv
 
-    pub agree-more : (good b : Bool) (i : ℕ) (z : ℤ) (e d : Place) → i < n → z ≡ get_or values i (pos 0) → e ≡ get_or entries i d → b ≡ agrees_at [] (place_read e) z
-        → Agreeing good i → Agreeing (good && b) (i + 1)
-    agree-more good b i z e d h ez ee eb inv =
-        let q : get_or qs i z ≡ z = get_or-take n values i z h ∙ get_or-any values i z (pos 0) (omega arith) ∙ sym ez in
-        let r : get_or es i (place_read e) ≡ place_read e =
-        get_or-map-in place_read (take n entries) i d (place_read e) (omega (arith, length-take n entries)) ∙ ap place_read (get_or-take n entries i d h ∙ sym ee) in
-        pair-more (agrees []) qs es (λ x y. agrees_at [] y x) (λ x y l m. refl) good b i z (place_read e) (omega (arith, qs-length)) (omega (arith, es-length)) q r eb inv
+    pub agree-all : (i : ℕ) → length values ≤ i → Agreeing true i → true ≡ agrees [] values es
+    agree-all i h inv = pair-done (agrees []) values es refl true i h (omega (arith, es-length)) inv
 
-    -- at the end, or where one does not agree
-    agree-all : (good : Bool) (i : ℕ) → (good && ltb i n) ≡ false → Agreeing good i → good ≡ agrees [] qs es
-    agree-all true i h inv =
-        let past : n ≤ i = ltb-false i n h in
-        pair-done (agrees []) qs es refl true i (omega (arith, qs-length)) (omega (arith, es-length)) inv
-    agree-all false i h inv = inv
-
-module _ (p : Pattern) (values : List ℤ) (count : ℕ) (pl : length p.entries ≡ 8) (vl : length values ≡ 8) where
-  pub not_there : p.there ≡ false → false ≡ agrees_stored p (take count values)
-  unfolding agrees_stored
-  not_there e = sym (ap (λ (b : Bool). b && agrees [] (take count values) (map place_read (take p.count p.entries))) e)
-
-  pub other-count : p.there ≡ true → (min p.count 8 ≡ min count 8 → ⊥) → false ≡ agrees_stored p (take count values)
-  unfolding agrees_stored
-  other-count e ne =
-      let m : length (map place_read (take p.count p.entries)) ≡ min p.count 8 =
-      length-map (take p.count p.entries) place_read ∙ length-take p.count p.entries ∙ ap (min p.count) pl in
-      let k : length (take count values) ≡ min count 8 = length-take count values ∙ ap (min count) vl in
-      sym (ap₂ ◌&&◌ e (agrees-short (take count values) (map place_read (take p.count p.entries)) (λ q. ne (sym m ∙ sym q ∙ k))))
-
-  pub agree-done : (n : ℕ) → n ≡ min p.count 8 → n ≡ min count 8 → (good : Bool) (i : ℕ) → (good && ltb i n) ≡ false → p.there ≡ true → Agreeing p.entries values n good i
-      → good ≡ agrees_stored p (take count values)
-  unfolding agrees_stored
-  agree-done n en em good i h t inv =
-      agree-all p.entries values n pl vl (omega arith) good i h inv
-      ∙ sym (ap₂ (λ (x : List ℤ) (y : List Place). agrees [] x (map place_read y)) (take-few count n values (omega arith)) (take-few p.count n p.entries (omega arith)))
-      ∙ sym (ap (λ (b : Bool). b && agrees [] (take count values) (map place_read (take p.count p.entries))) t)
+pub stored_is : (p : Pattern) (values : List ℤ) (entries : List Entry) → entries ≡ take p.count p.entries → agrees [] values (map entry_read entries) ≡ agrees_stored p values
+unfolding agrees_stored
+stored_is p values entries e = ap (λ (l : List Entry). agrees [] values (map entry_read l)) e
 
 -- ---- by whether the update can matter, and how many clauses there are
 
@@ -137,20 +100,20 @@ module _ (q : Query) (u : Update) where
       go true h = h
       go false h = absurd (omega arith)
 
-  pub at-past : (i : ℕ) → clause_count q u ≤ i → no_pattern ≡ pattern_at q u i
+  pub at-past : (i : ℕ) → clause_count q u ≤ i → None ≡ pattern_at q u i
   unfolding pattern_at
   at-past i h =
-      sym (ap (λ (b : Bool). cond b (cond (all_any q u) (pattern_struct (replicate (entry_count q) anything)) (clause_pattern (entry_count q) (get_or (joint q u) i []))) no_pattern)
+      sym (ap (λ (b : Bool). cond b (cond (all_any q u) (Some (pattern_struct (replicate (entry_count q) anything))) (clause_pattern (entry_count q) (get_or (joint q u) i []))) None)
       (le-ltb i (clause_count q u) h))
 
-  pub at-many : (i : ℕ) → i < clause_count q u → all_any q u ≡ true → pattern_struct (replicate (entry_count q) anything) ≡ pattern_at q u i
+  pub at-many : (i : ℕ) → i < clause_count q u → all_any q u ≡ true → Some (pattern_struct (replicate (entry_count q) anything)) ≡ pattern_at q u i
   unfolding pattern_at
   at-many i h e =
-      sym (ap₂ (λ (b t : Bool). cond b (cond t (pattern_struct (replicate (entry_count q) anything)) (clause_pattern (entry_count q) (get_or (joint q u) i []))) no_pattern)
+      sym (ap₂ (λ (b t : Bool). cond b (cond t (Some (pattern_struct (replicate (entry_count q) anything))) (clause_pattern (entry_count q) (get_or (joint q u) i []))) None)
       (lt-ltb i (clause_count q u) h) e)
 
   pub at-worked : (i : ℕ) → i < clause_count q u → all_any q u ≡ false → clause_pattern (entry_count q) (get_or (joint q u) i []) ≡ pattern_at q u i
   unfolding pattern_at
   at-worked i h e =
-      sym (ap₂ (λ (b t : Bool). cond b (cond t (pattern_struct (replicate (entry_count q) anything)) (clause_pattern (entry_count q) (get_or (joint q u) i []))) no_pattern)
+      sym (ap₂ (λ (b t : Bool). cond b (cond t (Some (pattern_struct (replicate (entry_count q) anything))) (clause_pattern (entry_count q) (get_or (joint q u) i []))) None)
       (lt-ltb i (clause_count q u) h) e)

@@ -1,28 +1,24 @@
 -- The pattern of a clause in arrays is that of the joint clause: by its numbers (proofs/Least), and by the masks that select its comparisons. Assumes nothing.
 use mathlib.Core.Path.{◌≡◌, refl, sym, ap, ap₂, subst, ◌∙◌}
-use mathlib.Core.Bool.{true}
 use mathlib.Core.List.{List, ◌∷◌, ◌++◌, map}
-use Prim.Native.Nat.{ℕ, zero, suc, ◌+◌, ◌-◌, ◌≤◌, min}
+use Prim.Native.Nat.{ℕ, zero, suc, ◌+◌, ◌-◌, ◌≤◌}
 use native.Mathlib.Omega.{arith}
-use lib.ListN.{length, take, replicate, length-replicate, replicate-append-replicate}
+use lib.ListN.{length, replicate, length-replicate, replicate-append-replicate}
 use Rattle.lists.specs.Lists.{All, nil, cons, from}
 use Rattle.lists.proofs.Lists.{All-map, All-append, All-every, All-image, map-append}
 use Rattle.meaning.specs.Condition.{sides, renamed}
 use Rattle.meaning.specs.Pattern.{Joint, column, constant, asked, given, Clause, anything}
 use Rattle.meaning.proofs.Postfix.{sides-append}
-use Rattle.statement.specs.declared.Update.{Update}
 use Rattle.statement.specs.Compiled.{padded}
-use Rattle.statement.specs.Sound.{setting_read, settings_read}
 use Rattle.pattern.specs.declared.Entry.TheVariants.{Any}
-use Rattle.pattern.specs.declared.Place.{Place}
+use Rattle.pattern.specs.declared.Entry.{Entry}
 use Rattle.pattern.specs.declared.Pattern.{Pattern}
 use Rattle.pattern.specs.declared.joint.Joined.{Joined}
 use Rattle.pattern.specs.Least.{asked_from, code_of, Coded, coded}
-use Rattle.pattern.specs.Stored.{placed, place_struct, pattern_struct, clause_pattern}
-use Rattle.pattern.specs.Flat.{clause_at, Narrow, Readable, Ready, coded_pattern, no_clause, Extended}
+use Rattle.pattern.specs.Stored.{entry_struct, pattern_struct, clause_pattern}
+use Rattle.pattern.specs.Flat.{clause_at, Narrow, Readable, coded_pattern, no_clause, Extended}
 use Rattle.pattern.proofs.OperandCodes.{Fits}
 use Rattle.pattern.proofs.Clauses.{least-pattern}
-use Rattle.pattern.proofs.Relevant.{take-few}
 
 -- ---- by numbers
 
@@ -52,12 +48,9 @@ pub none-readable : All Readable no_clause.codes
 none-readable = All-append (zeros 32) (All-image (λ (k : ℕ). asked_from + k) (All-every asked-readable (from 1 8)))
 
 -- a clause added to none; and another to it
-module _ (a : Clause) (start r : Joined) (es : start ≡ no_clause) (E : Extended start.codes start.ops 0 a r) where
+module _ (a : Clause) (start r : Joined) (es : start ≡ no_clause) (E : Extended start.codes start.ops start.count a r) where
   from-none : Extended no_clause.codes no_clause.ops 0 a r
-  from-none = subst (λ (s : Joined). Extended s.codes s.ops 0 a r) es E
-
-  pub one-ready : Ready r.codes r.count
-  one-ready = record { few = omega (arith, E.few); readable = E.readable; marks_there = from-none.marks_stay }
+  from-none = subst (λ (s : Joined). Extended s.codes s.ops s.count a r) es E
 
   one-clause : clause_at r.codes r.ops r.count ≡ coded a
   one-clause = from-none.clause_is
@@ -66,28 +59,21 @@ module _ (a : Clause) (start r : Joined) (es : start ≡ no_clause) (E : Extende
   one-pattern m h = ap (coded_pattern m) one-clause ∙ coded-pattern m h a E.narrow
 
   module _ (b : Clause) (s : Joined) (F : Extended r.codes r.ops r.count b s) where
-    pub two_ready : Ready s.codes s.count
-    two_ready = record { few = omega (arith, E.few, F.few); readable = F.readable; marks_there = F.marks_stay ∙ from-none.marks_stay }
-
     pub two-pattern : (m : ℕ) → m ≤ 8 → coded_pattern m (clause_at s.codes s.ops s.count) ≡ clause_pattern m (a ++ b)
     two-pattern m h =
         ap (coded_pattern m) (F.clause_is ∙ ap (λ (l : Coded). l ++ coded b) one-clause ∙ sym (map-append (renamed code_of) a b))
         ∙ coded-pattern m h (a ++ b) (subst (All Narrow) (sym (sides-append a b)) (All-append E.narrow F.narrow))
 
--- the settings in use
-pub settings_are : (u : Update) (n : ℕ) → length u.settings ≡ 8 → n ≡ min u.count 8 → map setting_read (take n u.settings) ≡ settings_read u
-settings_are u n l e = ap (map setting_read) (sym (take-few u.count n u.settings (omega arith)))
-
 -- ---- all any
 
-anys : (n : ℕ) → map place_struct (replicate n anything) ≡ replicate n (placed Any)
+anys : (n : ℕ) → map entry_struct (replicate n anything) ≡ replicate n Any
 anys zero = refl
-anys (suc n) = ap (λ (l : List Place). placed Any ∷ l) (anys n)
+anys (suc n) = ap (λ (l : List Entry). Any ∷ l) (anys n)
 
-pub any-made : (n : ℕ) → n ≤ 8 → ◌≡◌ {A = Pattern} (record { there = true; entries = replicate 8 (placed Any); count = n }) (pattern_struct (replicate n anything))
+pub any-made : (n : ℕ) → n ≤ 8 → ◌≡◌ {A = Pattern} (record { entries = replicate 8 Any; count = n }) (pattern_struct (replicate n anything))
 any-made n h =
-    let d : Place = placed Any in
+    let d : Entry = Any in
     let m : n + (8 - length (replicate n d)) ≡ 8 = omega (arith, length-replicate n d) in
-    ap₂ (λ (x : List Place) (k : ℕ). record { there = true; entries = x; count = k })
+    ap₂ (λ (x : List Entry) (k : ℕ). record { entries = x; count = k })
     (sym (ap (padded 8 d) (anys n) ∙ replicate-append-replicate n (8 - length (replicate n d)) d ∙ ap (λ (k : ℕ). replicate k d) m))
     (sym (length-replicate n anything))

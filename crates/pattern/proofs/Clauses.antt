@@ -1,5 +1,6 @@
 -- What every operand of a stored query and a stored update has, every operand of their joint clauses has; and the pattern of a clause can be told by its least codes.
 -- Assumes nothing.
+use Rattle.std.specs.Prelude.{Some, None}
 use mathlib.Core.Bool.{Bool, true, false, cond}
 use mathlib.Core.List.{List, [], ◌∷◌, map}
 use mathlib.Core.Path.{◌≡◌, refl, sym, ap, ◌∙◌}
@@ -14,6 +15,7 @@ use Rattle.meaning.specs.Condition as C
 use Rattle.meaning.specs.Condition.{sides, renamed}
 use Rattle.meaning.specs.Postfix.{leaves}
 use Rattle.meaning.specs.Statement as M
+use Rattle.meaning.specs.Pattern as P
 use Rattle.meaning.specs.Pattern.{Joint, column, constant, of_value, of_update, of_query, set_column, moved, placed_from, replacing, Clause, contradictory, pattern}
 use Rattle.meaning.proofs.Postfix.{clauses-have, sides-have}
 use Rattle.statement.specs.declared.Operand.{Operand}
@@ -25,7 +27,7 @@ use Rattle.statement.specs.declared.Setting.{Setting}
 use Rattle.statement.specs.declared.Update.{Update}
 use Rattle.statement.specs.Compiled.{left_side, right_side, new_value}
 use Rattle.statement.specs.Sound.{value_read, operand_read, comparison_read, no_comparison, nodes_read, used_comparisons, used_steps, condition_nodes, used_settings, setting_read, settings_read, setting_values}
-use Rattle.pattern.specs.Stored.{clauses_read, query_clauses, both_clauses, joint_clauses, pattern_struct, no_pattern, clause_pattern}
+use Rattle.pattern.specs.Stored.{clauses_read, query_clauses, both_clauses, joint_clauses, pattern_struct, clause_pattern}
 use Rattle.pattern.specs.Least.{coded, contradicts, least_entry}
 use Rattle.pattern.proofs.OperandCodes.{Fits}
 use Rattle.pattern.proofs.Least.{least-contradicts, least-entry}
@@ -110,12 +112,12 @@ module _ (P : Joint → Type 0) (none : P (constant (pos 0))) where
 -- ---- the pattern of a clause, by the least codes
 
 pub least-pattern : (n : ℕ) → n < 65535 → (cs : Clause) → All Fits (sides cs)
-    → clause_pattern n cs ≡ cond (contradicts (coded cs)) no_pattern (pattern_struct (map (least_entry (coded cs)) (from 1 n)))
+    → clause_pattern n cs ≡ cond (contradicts (coded cs)) None (Some (pattern_struct (map (least_entry (coded cs)) (from 1 n))))
 least-pattern n small cs fit =
-    go (contradictory cs) refl ∙ ap (λ (b : Bool). cond b no_pattern (pattern_struct (map (least_entry (coded cs)) (from 1 n)))) (sym (least-contradicts cs fit))
+    go (contradictory cs) refl ∙ ap (λ (b : Bool). cond b None (Some (pattern_struct (map (least_entry (coded cs)) (from 1 n))))) (sym (least-contradicts cs fit))
   where
     go : (b : Bool) → contradictory cs ≡ b
-        → cond b no_pattern (pattern_struct (pattern n cs)) ≡ cond b no_pattern (pattern_struct (map (least_entry (coded cs)) (from 1 n)))
+        → cond b None (Some (pattern_struct (pattern n cs))) ≡ cond b None (Some (pattern_struct (map (least_entry (coded cs)) (from 1 n))))
     go true e = refl
     go false e =
-        ap pattern_struct (map_same (least_entry (coded cs)) (All-map (λ k h. sym (least-entry cs fit k (omega arith) e)) (from-below 1 n)))
+        ap (λ (es : P.Pattern). Some (pattern_struct es)) (map_same (least_entry (coded cs)) (All-map (λ k h. sym (least-entry cs fit k (omega arith) e)) (from-below 1 n)))

@@ -1,14 +1,15 @@
 -- The joint clauses by their places: clause k of two lists of clauses, the clauses that masks select, and how many they are. Assumes nothing.
+use Rattle.std.specs.Prelude.{Some}
 use mathlib.Core.Path.{◌≡◌, refl, sym, ap, ap₂, subst, ◌∙◌}
-use mathlib.Core.Bool.{Bool, true, false, not, ◌&&◌, ◌||◌, true≢false}
+use mathlib.Core.Bool.{Bool, true, false, not, ◌&&◌, ◌||◌}
 use mathlib.Core.List.{List, [], ◌∷◌, ◌++◌, map}
 use Prim.Native.Nat.{ℕ, zero, suc, ◌+◌, ◌-◌, ◌*◌, ◌/◌, ◌%◌, ◌≤◌, ◌<◌}
-use native.Mathlib.Nat.{zero-mul, suc-mul, mul-zero, div-eq_of_lt, mod-eq_of_lt, div-eq-sub-div, mod-eq-sub-mod, div-lt_iff_lt-mul, mod-lt, mul-le-mul}
+use native.Mathlib.Nat.{zero-mul, suc-mul, mul-zero, div-eq_of_lt, mod-eq_of_lt, div-eq-sub-div, mod-eq-sub-mod, div-lt_iff_lt-mul, mod-lt}
 use native.Mathlib.Numerals.{add-one}
 use native.Mathlib.Decide.{dec_lt}
 use native.Mathlib.Omega.{arith}
 use lib.Dec.{ltb}
-use borrow.Author.Tests.{ltb-false}
+use borrow.Author.Tests.{lt-ltb, le-ltb}
 use lib.ListN.{length, take, get_or, length-append, length-map, length-take, get_or-append}
 use lib.Seq.{get_or-append-add, get_or-take}
 use Rattle.lists.specs.Lists.{pairs}
@@ -25,6 +26,8 @@ use Rattle.pattern.specs.Stored.{start_read, clauses_read, query_clauses, update
 use Rattle.pattern.specs.Masks.{select, comparisons_read, Masked}
 use Rattle.pattern.specs.Flat.{column_of, operand_of, chosen_of}
 use Rattle.pattern.specs.Pairs.{total_of, role_clauses, pair_at, Worked, Paired}
+use Rattle.pattern.specs.declared.joint.Role.{Role}
+use Rattle.pattern.specs.declared.joint.Role.TheVariants.{Given, Asked, Inserted, Set}
 use Rattle.pattern.specs.declared.pairing.Pairing.{Pairing}
 use Rattle.pattern.proofs.Mapped.{get_or-map-in}
 use Rattle.pattern.proofs.Formed.{formed-few}
@@ -62,7 +65,7 @@ get_or-pairs (g ∷ gs) fs k h = go (dec_lt k (length fs)) (get_or-pairs gs fs (
 
 -- ---- the clauses that masks select
 
-module _ (c : Condition) (r : Clauses) (K : Masked c r) (role start : ℕ) (ss : List (ℕ × M.Value)) where
+module _ (c : Condition) (r : Clauses) (K : Masked c r) (role : Role) (start : ℕ) (ss : List (ℕ × M.Value)) where
   pub chosen_at : (j : ℕ) → j < r.count → get_or (map (map (renamed (operand_of role start ss))) (clauses_read c)) j [] ≡ chosen_of role start ss c (get_or r.masks j 0)
   chosen_at j h =
       let n : length (take r.count r.masks) ≡ r.count = length-take r.count r.masks ∙ omega (arith, K.few, K.long) in
@@ -73,79 +76,82 @@ module _ (c : Condition) (r : Clauses) (K : Masked c r) (role start : ℕ) (ss :
 
 -- ---- the operands in their roles
 
-update-role : (start : ℕ) (ss : List (ℕ × M.Value)) → operand_of 0 start ss ≡ of_update start
+update-role : (start : ℕ) (ss : List (ℕ × M.Value)) → operand_of Given start ss ≡ of_update start
 update-role start ss = λ i o. go o i
   where
-    go : (o : M.Operand) → operand_of 0 start ss o ≡ of_update start o
+    go : (o : M.Operand) → operand_of Given start ss o ≡ of_update start o
     go (M.column i) = refl
     go (M.value (M.constant z)) = refl
     go (M.value (M.parameter k)) = refl
 
-query-role : (r start : ℕ) (ss : List (ℕ × M.Value)) → operand_of (suc r) start ss ≡ of_query (column_of (suc r) start ss)
-query-role r start ss = λ i o. go o i
+query-role : (r : Role) → (r ≡ Given → ⊥) → (start : ℕ) (ss : List (ℕ × M.Value)) → operand_of r start ss ≡ of_query (column_of r start ss)
+query-role r ne start ss = λ i o. go r ne o i
   where
-    go : (o : M.Operand) → operand_of (suc r) start ss o ≡ of_query (column_of (suc r) start ss) o
-    go (M.column i) = refl
-    go (M.value (M.constant z)) = refl
-    go (M.value (M.parameter k)) = refl
+    go : (r : Role) → (r ≡ Given → ⊥) → (o : M.Operand) → operand_of r start ss o ≡ of_query (column_of r start ss) o
+    go r ne (M.column i) = refl
+    go r ne (M.value (M.constant z)) = refl
+    go Given ne (M.value (M.parameter k)) = absurd (ne refl)
+    go Asked ne (M.value (M.parameter k)) = refl
+    go Inserted ne (M.value (M.parameter k)) = refl
+    go Set ne (M.value (M.parameter k)) = refl
 
 -- `start` columns of the query stand before those of the updated table
 module _ (q : Query) (u : Update) (start : ℕ) where
   abbrev clauses : List Clause
   clauses = joint_clauses start u.form q u
 
-  pub update-clauses : map (map (renamed (operand_of 0 start (settings_read u)))) (clauses_read u.condition) ≡ update_clauses start u
+  pub update-clauses : map (map (renamed (operand_of Given start (settings_read u)))) (clauses_read u.condition) ≡ update_clauses start u
   update-clauses = ap (λ (g : M.Operand → Joint). map (map (renamed g)) (clauses_read u.condition)) (update-role start (settings_read u))
 
-  role-clauses : (r : ℕ) → role_clauses (suc r) start q u ≡ query_clauses (column_of (suc r) start (settings_read u)) q
-  role-clauses r = ap (λ (g : M.Operand → Joint). map (map (renamed g)) (clauses_read q.condition)) (query-role r start (settings_read u))
+  role-clauses : (r : Role) → (r ≡ Given → ⊥) → role_clauses r start q u ≡ query_clauses (column_of r start (settings_read u)) q
+  role-clauses r ne = ap (λ (g : M.Operand → Joint). map (map (renamed g)) (clauses_read q.condition)) (query-role r ne start (settings_read u))
 
-  role-pairs : (r : ℕ) → pairs (update_clauses start u) (role_clauses (suc r) start q u) ≡ both_clauses start u (column_of (suc r) start (settings_read u)) q
-  role-pairs r = ap (pairs (update_clauses start u)) (role-clauses r)
+  role-pairs : (r : Role) → (r ≡ Given → ⊥) → pairs (update_clauses start u) (role_clauses r start q u) ≡ both_clauses start u (column_of r start (settings_read u)) q
+  role-pairs r ne = ap (pairs (update_clauses start u)) (role-clauses r ne)
 
   -- ---- by the form of the update
 
   abbrev before : List Clause
-  before = pairs (update_clauses start u) (role_clauses 1 start q u)
+  before = pairs (update_clauses start u) (role_clauses Asked start q u)
 
   abbrev after : List Clause
-  after = pairs (update_clauses start u) (role_clauses 3 start q u)
+  after = pairs (update_clauses start u) (role_clauses Set start q u)
 
-  pub insert-clauses : u.form ≡ 0 → clauses ≡ role_clauses 2 start q u
+  pub insert-clauses : u.form ≡ 0 → clauses ≡ role_clauses Inserted start q u
   unfolding joint_clauses
-  insert-clauses e = ap (λ (k : ℕ). joint_clauses start k q u) e ∙ sym (role-clauses 1)
+  insert-clauses e = ap (λ (k : ℕ). joint_clauses start k q u) e ∙ sym (role-clauses Inserted (λ e. cc))
 
   update-both : u.form ≡ 1 → clauses ≡ before ++ after
   unfolding joint_clauses
-  update-both e = ap (λ (k : ℕ). joint_clauses start k q u) e ∙ sym (ap₂ ◌++◌ (role-pairs 0) (role-pairs 2))
+  update-both e = ap (λ (k : ℕ). joint_clauses start k q u) e ∙ sym (ap₂ ◌++◌ (role-pairs Asked (λ e. cc)) (role-pairs Set (λ e. cc)))
 
   delete-both : (k : ℕ) → u.form ≡ suc (suc k) → clauses ≡ before
   unfolding joint_clauses
-  delete-both k e = ap (λ (k : ℕ). joint_clauses start k q u) e ∙ sym (role-pairs 0)
+  delete-both k e = ap (λ (k : ℕ). joint_clauses start k q u) e ∙ sym (role-pairs Asked (λ e. cc))
 
   module _ (f g : ℕ) (ef : length (clauses_read q.condition) ≡ f) (eg : length (clauses_read u.condition) ≡ g) where
-    pairs-length : (r : ℕ) → length (pairs (update_clauses start u) (role_clauses r start q u)) ≡ g * f
+    pairs-length : (r : Role) → length (pairs (update_clauses start u) (role_clauses r start q u)) ≡ g * f
     pairs-length r =
         length_pairs (update_clauses start u) (role_clauses r start q u)
         ∙ ap₂ ◌*◌ (length-map (clauses_read u.condition) (map (renamed (of_update start))) ∙ eg) (length-map (clauses_read q.condition) (map (renamed (operand_of r start (settings_read u)))) ∙ ef)
 
     pub joint-total : (k : ℕ) → u.form ≡ k → total_of k f g ≡ length clauses
-    joint-total zero e = sym (ap length (insert-clauses e) ∙ length-map (clauses_read q.condition) (map (renamed (operand_of 2 start (settings_read u)))) ∙ ef)
-    joint-total (suc zero) e = sym (ap length (update-both e) ∙ length-append before after ∙ ap₂ ◌+◌ (pairs-length 1) (pairs-length 3))
-    joint-total (suc (suc k)) e = sym (ap length (delete-both k e) ∙ pairs-length 1)
+    joint-total zero e = sym (ap length (insert-clauses e) ∙ length-map (clauses_read q.condition) (map (renamed (operand_of Inserted start (settings_read u)))) ∙ ef)
+    joint-total (suc zero) e = sym (ap length (update-both e) ∙ length-append before after ∙ ap₂ ◌+◌ (pairs-length Asked) (pairs-length Set))
+    joint-total (suc (suc k)) e = sym (ap length (delete-both k e) ∙ pairs-length Asked)
 
     -- the first are pairs with the query's clauses as they are
-    pub first-at : (k : ℕ) → u.form ≡ k → (k ≡ 0 → ⊥) → (i : ℕ) → i < g * f → get_or clauses i [] ≡ pair_at 1 start q u i
+    pub first-at : (k : ℕ) → u.form ≡ k → (k ≡ 0 → ⊥) → (i : ℕ) → i < g * f → get_or clauses i [] ≡ pair_at Asked start q u i
     first-at zero e ne i h = absurd (ne refl)
-    first-at (suc zero) e ne i h = ap (λ (l : List Clause). get_or l i []) (update-both e) ∙ get_or-append before after [] i (omega (arith, pairs-length 1))
+    first-at (suc zero) e ne i h = ap (λ (l : List Clause). get_or l i []) (update-both e) ∙ get_or-append before after [] i (omega (arith, pairs-length Asked))
     first-at (suc (suc k)) e ne i h = ap (λ (l : List Clause). get_or l i []) (delete-both k e)
 
     -- those behind them with set columns replaced
     pub second_at : (k : ℕ) → u.form ≡ k → (k ≡ 0 → ⊥) → (i : ℕ) → i < total_of k f g → g * f ≤ i
-        → (get_or clauses i [] ≡ pair_at 3 start q u (i - g * f)) × (i - g * f < g * f)
+        → (get_or clauses i [] ≡ pair_at Set start q u (i - g * f)) × (i - g * f < g * f)
     second_at zero e ne i h l = absurd (ne refl)
     second_at (suc zero) e ne i h l =
-        let n : i ≡ length before + (i - g * f) = omega (arith, pairs-length 1) in
+        let n : i ≡ length before + (i - g * f) = omega (arith, pairs-length Asked) in
         (ap (λ (l : List Clause). get_or l i []) (update-both e) ∙ ap (λ (j : ℕ). get_or (before ++ after) j []) n ∙ get_or-append-add before after (i - g * f) [], omega arith)
     second_at (suc (suc k)) e ne i h l = absurd (omega arith)
 
@@ -161,7 +167,7 @@ module _ (q : Query) (u : Update) (p : Pairing) (W : Worked q u p) (k : ℕ) (h 
   pub right-below : k % p.query.count < p.query.count
   right-below = mod-lt k size-some
 
-  pub pair-chosen : (role start : ℕ) → chosen_of 0 start (settings_read u) u.condition (get_or p.update.masks (k / p.query.count) 0)
+  pub pair-chosen : (role : Role) (start : ℕ) → chosen_of Given start (settings_read u) u.condition (get_or p.update.masks (k / p.query.count) 0)
       ++ chosen_of role start (settings_read u) q.condition (get_or p.query.masks (k % p.query.count) 0) ≡ pair_at role start q u k
   pair-chosen role start =
       let fs = role_clauses role start q u in
@@ -172,7 +178,7 @@ module _ (q : Query) (u : Update) (p : Pairing) (W : Worked q u p) (k : ℕ) (h 
       sym (get_or-pairs gs fs k l
       ∙ ap (λ (n : ℕ). get_or gs (k / n) [] ++ get_or fs (k % n) []) nf
       ∙ ap₂ ◌++◌
-      (ap (λ (x : List Clause). get_or x (k / p.query.count) []) (sym (update-clauses q u start)) ∙ chosen_at u.condition p.update W.update_masked 0 start (settings_read u) (k / p.query.count) left_below)
+      (ap (λ (x : List Clause). get_or x (k / p.query.count) []) (sym (update-clauses q u start)) ∙ chosen_at u.condition p.update W.update_masked Given start (settings_read u) (k / p.query.count) left_below)
       (chosen_at q.condition p.query W.query_masked role start (settings_read u) (k % p.query.count) right-below))
 
 -- ---- clause i, by the form
@@ -188,37 +194,22 @@ module _ (q : Query) (u : Update) (p : Pairing) (W : Worked q u p) (i : ℕ) (h 
     pub insert-below : i < p.query.count
     insert-below = subst (λ (n : ℕ). i < n) (total_is ∙ ap (λ (k : ℕ). total_of k p.query.count p.update.count) e) h
 
-    pub insert-chosen : chosen_of 2 start (settings_read u) q.condition (get_or p.query.masks i 0) ≡ get_or (joint q u) i []
+    pub insert-chosen : chosen_of Inserted start (settings_read u) q.condition (get_or p.query.masks i 0) ≡ get_or (joint q u) i []
     insert-chosen =
-        sym (ap (λ (l : List Clause). get_or l i []) (insert-clauses q u start e) ∙ chosen_at q.condition p.query W.query_masked 2 start (settings_read u) i insert-below)
+        sym (ap (λ (l : List Clause). get_or l i []) (insert-clauses q u start e) ∙ chosen_at q.condition p.query W.query_masked Inserted start (settings_read u) i insert-below)
         ∙ at-start
 
   module _ (ne : u.form ≡ 0 → ⊥) where
-    pub first-chosen : i < p.update.count * p.query.count → pair_at 1 start q u i ≡ get_or (joint q u) i []
+    pub first-chosen : i < p.update.count * p.query.count → pair_at Asked start q u i ≡ get_or (joint q u) i []
     first-chosen l = sym (first-at q u start p.query.count p.update.count W.query_masked.counted W.update_masked.counted u.form refl ne i l) ∙ at-start
 
     pub second-chosen : p.update.count * p.query.count ≤ i
-        → (get_or (joint q u) i [] ≡ pair_at 3 start q u (i - p.update.count * p.query.count)) × (i - p.update.count * p.query.count < p.update.count * p.query.count)
+        → (get_or (joint q u) i [] ≡ pair_at Set start q u (i - p.update.count * p.query.count)) × (i - p.update.count * p.query.count < p.update.count * p.query.count)
     second-chosen l =
         let r = second_at q u start p.query.count p.update.count W.query_masked.counted W.update_masked.counted u.form refl ne i (subst (λ (n : ℕ). i < n) total_is h) l in
         (sym at-start ∙ r.0, r.1)
 
 -- ---- rule 5
-
--- the product fits
-pub product-few : (f g : ℕ) → f ≤ 18 → g ≤ 18 → g * f ≤ 324
-product-few f g h l = mul-le-mul l h
-
-pub total-insert : (k f g : ℕ) → k ≡ 0 → f ≡ total_of k f g
-total-insert k f g e = ap (λ (j : ℕ). total_of j f g) (sym e)
-
-pub total-update : (k f g : ℕ) → k ≡ 1 → g * f + g * f ≡ total_of k f g
-total-update k f g e = ap (λ (j : ℕ). total_of j f g) (sym e)
-
-pub total-delete : (k f g : ℕ) → (k ≡ 0 → ⊥) → (k ≡ 1 → ⊥) → g * f ≡ total_of k f g
-total-delete zero f g a b = absurd (a refl)
-total-delete (suc zero) f g a b = absurd (b refl)
-total-delete (suc (suc k)) f g a b = refl
 
 module _ (q : Query) (u : Update) where
   pub query-unformed : is_formed q.condition ≡ false → all_any q u ≡ true
@@ -233,21 +224,23 @@ module _ (q : Query) (u : Update) where
   unfolding all_any
   both-formed e f = ap₂ (λ (b t : Bool). not (b && t) || ltb 64 (length (joint q u))) e f
 
-  pub not-paired : (p : Pairing) → p.many ≡ true → all_any q u ≡ true → Paired q u p
-  not-paired p e f = record { many_is = e ∙ sym f; worked = λ n. absurd (true≢false (sym e ∙ n)) }
+  module _ (f g : Clauses) (total : ℕ) (ef : is_formed q.condition ≡ true) (eg : is_formed u.condition ≡ true) (K : Masked q.condition f) (L : Masked u.condition g)
+      (e : total ≡ total_of u.form f.count g.count) where
+    total_joint : total ≡ length (joint q u)
+    total_joint = e ∙ joint-total q u (start_read q u) f.count g.count K.counted L.counted u.form refl
 
-  pub now-paired : (f g : Clauses) (total : ℕ) → is_formed q.condition ≡ true → is_formed u.condition ≡ true → Masked q.condition f → Masked u.condition g
-      → total ≡ total_of u.form f.count g.count → Paired q u (record { many = ltb 64 total; query = f; update = g; total = total })
-  now-paired f g total ef eg K L e =
-      let n : total ≡ length (joint q u) = e ∙ joint-total q u (start_read q u) f.count g.count K.counted L.counted u.form refl in
+    pub too-many : 64 < total → all_any q u ≡ true
+    too-many h = both-formed ef eg ∙ sym (ap (ltb 64) total_joint) ∙ lt-ltb 64 total h
+
+    pub now-paired : total ≤ 64 → Paired q u (Some (record { query = f; update = g; total = total }))
+    now-paired h = (
+      both-formed ef eg ∙ sym (ap (ltb 64) total_joint) ∙ le-ltb 64 total h,
       record {
-        many_is = ap (ltb 64) n ∙ sym (both-formed ef eg);
-        worked = λ m. record {
-          query_masked = K;
-          update_masked = L;
-          query_few = formed-few q.condition ef;
-          update_few = formed-few u.condition eg;
-          total_is = n;
-          few = ltb-false 64 total m;
-        };
-      }
+        query_masked = K;
+        update_masked = L;
+        query_few = formed-few q.condition ef;
+        update_few = formed-few u.condition eg;
+        total_is = total_joint;
+        few = h;
+      },
+    )

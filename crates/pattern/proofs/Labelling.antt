@@ -1,15 +1,15 @@
 -- The labels of a clause in arrays, comparison by comparison, and what is read off them. Assumes nothing.
+use Rattle.std.specs.Prelude.{Option, Some, None}
 use mathlib.Core.Path.{◌≡◌, refl, sym, ap, ap₂, subst, ◌∙◌}
-use mathlib.Core.Bool.{Bool, true, false, cond, ◌||◌, or-false}
+use mathlib.Core.Bool.{Bool, true, false, cond, ◌||◌}
 use mathlib.Core.List.{List, [], ◌∷◌, ◌++◌, map, map-map}
-use Prim.Native.Nat.{ℕ, zero, suc, ◌+◌, ◌-◌, ◌*◌, ◌≤◌, ◌<◌, min, max}
+use Prim.Native.Nat.{ℕ, ◌+◌, ◌-◌, ◌*◌, ◌≤◌, ◌<◌, min, max}
 use native.Mathlib.Numerals.{add-one}
 use native.Mathlib.Omega.{arith}
-use lib.Dec.{eqb, leb, ltb}
-use lib.IntN.{ℤ}
-use borrow.Author.Tests.{leb-true, leb-false, lt-ltb, le-ltb}
-use lib.ListN.{length, get_or, take, drop, set, replicate, length-map, length-drop, drop_of_length-le}
-use lib.Seq.{drop-cons, get_or-take, get_or-drop, paste, length-take-le}
+use lib.Dec.{eqb, leb}
+use borrow.Author.Tests.{leb-true, leb-false}
+use lib.ListN.{length, get_or, take, drop, set, replicate, length-map, drop_of_length-le}
+use lib.Seq.{drop-cons, get_or-take, paste, length-take-le}
 use Rattle.lists.specs.Lists.{All, any, from}
 use Rattle.lists.proofs.Bools.{or_assoc}
 use Rattle.lists.proofs.Lists.{All-map, All-image, any-map, map-take, map_same}
@@ -17,16 +17,14 @@ use Rattle.lists.proofs.Places.{All-at}
 use Rattle.lists.proofs.Moved.{from-count, from-below}
 use Rattle.meaning.specs.Operator.{eq, ne, lt, le, gt, ge, Predicate, by, is-null, is-not-null}
 use Rattle.meaning.specs.Condition.{Comparison, renamed}
-use Rattle.meaning.specs.Pattern.{number, mark, anything}
-use Rattle.statement.specs.Compiled.{padded, mark_place}
+use Rattle.statement.specs.Compiled.{padded}
 use Rattle.statement.specs.Operators.{predicate_at}
-use Rattle.pattern.specs.declared.Entry.TheVariants.{Constant, Parameter, Any}
-use Rattle.pattern.specs.declared.Place.{Place}
+use Rattle.pattern.specs.declared.Entry.TheVariants.{Any}
+use Rattle.pattern.specs.declared.Entry.{Entry}
 use Rattle.pattern.specs.declared.Pattern.{Pattern}
-use Rattle.pattern.specs.declared.labels.Labels.{Labels}
-use Rattle.pattern.specs.Least.{marks_from, asked_from, code_constant, Coded, join_least, least_on, least, clashes, clashes_on, fails, contradicts, entry_of_code, least_entry}
-use Rattle.pattern.specs.Stored.{entry_struct, placed, place_struct, pattern_struct, no_pattern}
-use Rattle.pattern.specs.Flat.{comparison_at, clause_at, failing, Readable, Labelled, places_of, coded_pattern}
+use Rattle.pattern.specs.Least.{asked_from, Coded, join_least, least_on, least, clashes, clashes_on, fails, contradicts, entry_of_code, least_entry}
+use Rattle.pattern.specs.Stored.{entry_struct, pattern_struct}
+use Rattle.pattern.specs.Flat.{comparison_at, clause_at, failing, Readable, LabelsOf, entries_of, coded_pattern}
 use Rattle.pattern.proofs.Searching.{fill_more, fill_done}
 use Rattle.pattern.proofs.Mapped.{get_or-map-in, map-drop, drop-replicate, from_at, take-from}
 
@@ -52,6 +50,15 @@ module _ (codes ops : List ℕ) (n : ℕ) where
 
   pub clause-none : (i : ℕ) → n ≤ i → drop i cs ≡ []
   clause-none i h = let l : length cs ≤ i = omega (arith, clause-length) in drop_of_length-le cs l
+
+-- the operators in use
+pub cut-clause : (codes ops : List ℕ) (n : ℕ) → n ≤ length ops → clause_at codes (take n ops) (length (take n ops)) ≡ clause_at codes ops n
+cut-clause codes ops n h =
+    ap (clause_at codes (take n ops)) (length-take-le n ops h)
+    ∙ map_same (comparison_at codes ops) (All-map (λ k l. at k (omega arith)) (from-below 0 n))
+  where
+    at : (k : ℕ) → k < n → comparison_at codes (take n ops) k ≡ comparison_at codes ops k
+    at k l = ap (λ (o : ℕ). record { left = get_or codes (2 * k) 0; op = predicate_at o; right = get_or codes (2 * k + 1) 0 }) (get_or-take n ops k 0 l)
 
 -- ---- numbers that can be read stay so
 
@@ -133,60 +140,35 @@ module _ (codes ops : List ℕ) (n : ℕ) where
           readable = subst (All Readable) (sym el) (All-image (join_least op left right) (All-map (λ x t. join-readable op left right x rl rr t) L.readable));
         }
 
-  pub label-done : (labels : List ℕ) (clash : Bool) (i : ℕ) → n ≤ i → Labelling labels clash i → Labelled codes ops n (record { codes = labels; clash = clash })
-  label-done labels clash i h L =
+  pub label-clash : (labels : List ℕ) (i : ℕ) → Labelling labels true i → clashes_on (λ x. x) (clause_at codes ops n) ≡ true
+  label-clash labels i L = sym L.clash_left
+
+  pub label-done : (labels : List ℕ) (i : ℕ) → n ≤ i → Labelling labels false i → LabelsOf codes ops n labels
+  label-done labels i h L =
       let none = clause-none codes ops n i h in
       let e : L.f ≡ least (clause_at codes ops n) = sym (ap (least_on L.f) none) ∙ L.least_left in
       record {
         labels_are = L.labels_are ∙ ap (λ (g : ℕ → ℕ). map g codes) e;
-        clash_is = sym (or-false clash) ∙ sym (ap (λ (l : Coded). clash || clashes_on L.f l) none) ∙ L.clash_left;
+        no_clash = sym L.clash_left ∙ ap (clashes_on L.f) none;
         readable = L.readable;
       }
 
 -- ---- entries
 
--- the places of the first n question marks
-abbrev pub placing : List ℕ → ℕ → List Place
-placing labels n = map (λ (x : ℕ). place_struct (entry_of_code x)) (take n (drop 32 labels))
+abbrev pub entry_at : ℕ → Entry
+entry_at x = entry_struct (entry_of_code x)
 
-module _ (labels : List ℕ) (n : ℕ) (long : length labels ≡ 40) (few : n ≤ 8) where
-  marks-length : length (take n (drop 32 labels)) ≡ n
-  marks-length = length-take-le n (drop 32 labels) (simp length-drop (omega arith))
+module _ (labels : List ℕ) (few : length labels ≤ 8) where
+  pub entries-more : (k : ℕ) (out : List Entry) (e : Entry) → k < length labels → e ≡ entry_at (get_or labels k 0) → out ≡ paste (replicate 8 Any) 0 (map entry_at labels) k
+      → set out k e ≡ paste (replicate 8 Any) 0 (map entry_at labels) (k + 1)
+  entries-more k out e h q inv = fill_more entry_at labels (replicate 8 Any) few k out e 0 h q inv
 
-  placing-length : length (placing labels n) ≡ n
-  placing-length = length-map (take n (drop 32 labels)) (λ (x : ℕ). place_struct (entry_of_code x)) ∙ marks-length
-
-  pub place-more : (k : ℕ) (out : List Place) (e : Place) → k < n → e ≡ place_struct (entry_of_code (get_or labels (32 + k) 0)) → out ≡ paste (replicate 8 (placed Any)) 0 (placing labels n) k
-      → set out k e ≡ paste (replicate 8 (placed Any)) 0 (placing labels n) (k + 1)
-  place-more k out e h q inv =
-      fill_more (λ (x : ℕ). place_struct (entry_of_code x)) (take n (drop 32 labels)) (replicate 8 (placed Any)) (omega (arith, marks-length)) k out e 0 (omega (arith, marks-length))
-      (q ∙ ap (λ (x : ℕ). place_struct (entry_of_code x)) (sym (get_or-take n (drop 32 labels) k 0 h ∙ get_or-drop 32 labels k 0))) inv
-
-  pub place-done : (k : ℕ) (out : List Place) → k ≡ n → out ≡ paste (replicate 8 (placed Any)) 0 (placing labels n) k → out ≡ places_of labels n
-  unfolding places_of
-  place-done k out e inv =
-      let z : length (take n (drop 32 labels)) ≡ length (placing labels n) = omega (arith, marks-length, placing-length) in
-      fill_done (λ (x : ℕ). place_struct (entry_of_code x)) (take n (drop 32 labels)) (replicate 8 (placed Any)) (omega (arith, marks-length)) k out (omega (arith, marks-length)) inv
-      ∙ ap (λ (x : List Place). placing labels n ++ x) (drop-replicate (length (take n (drop 32 labels))) 8 (placed Any) ∙ ap (λ (m : ℕ). replicate (8 - m) (placed Any)) z)
-
--- what a number says of a question mark
-pub entry-constant : (n : ℕ) (z : ℤ) → n < marks_from → z ≡ code_constant n → Constant z ≡ entry_struct (entry_of_code n)
-entry-constant n z h e =
-    ap Constant e
-    ∙ sym (ap (λ (b : Bool). entry_struct (cond b (number (code_constant n)) (cond (ltb n asked_from) (mark (n - marks_from)) anything))) (lt-ltb n marks_from h))
-
-mark-place : (k : ℕ) → k - 1 ≡ mark_place k
-mark-place zero = omega arith
-mark-place (suc k) = omega arith
-
-pub entry-mark : (n : ℕ) → marks_from ≤ n → n < asked_from → Parameter (n - marks_from - 1) ≡ entry_struct (entry_of_code n)
-entry-mark n h l =
-    ap Parameter (mark-place (n - marks_from))
-    ∙ sym (ap₂ (λ (b t : Bool). entry_struct (cond b (number (code_constant n)) (cond t (mark (n - marks_from)) anything))) (le-ltb n marks_from h) (lt-ltb n asked_from l))
-
-pub entry-any : (n : ℕ) → asked_from ≤ n → Any ≡ entry_struct (entry_of_code n)
-entry-any n h =
-    sym (ap₂ (λ (b t : Bool). entry_struct (cond b (number (code_constant n)) (cond t (mark (n - marks_from)) anything))) (le-ltb n marks_from (omega arith)) (le-ltb n asked_from h))
+  pub entries-done : (k : ℕ) (out : List Entry) → k ≡ length labels → out ≡ paste (replicate 8 Any) 0 (map entry_at labels) k → out ≡ entries_of labels
+  unfolding entries_of
+  entries-done k out e inv =
+      let z : length labels ≡ length (map entry_at labels) = sym (length-map labels entry_at) in
+      fill_done entry_at labels (replicate 8 Any) few k out e inv
+      ∙ ap (λ (x : List Entry). map entry_at labels ++ x) (drop-replicate (length labels) 8 Any ∙ ap (λ (m : ℕ). replicate (8 - m) Any) z)
 
 -- ---- the pattern
 
@@ -202,46 +184,47 @@ module _ (f : ℕ → ℕ) (codes ops : List ℕ) where
       map_same (λ (k : ℕ). renamed f (comparison_at codes ops k)) (All-map (λ k l. renamed-at k (omega arith)) (from-below 0 n))
       ∙ sym (map-map (renamed f) (comparison_at codes ops) (from 0 n))
 
-module _ (codes ops : List ℕ) (n marks : ℕ) (long : length codes ≡ 40) (few : n ≤ 16) (l : Labels) (L : Labelled codes ops n l) where
+module _ (codes ops : List ℕ) (n marks : ℕ) where
   abbrev whole : Coded
   whole = clause_at codes ops n
 
   abbrev broken : Comparison ℕ → Bool
   broken c = fails c.op (least whole c.left) (least whole c.right)
 
-  fails-are : any failing (clause_at l.codes ops n) ≡ any broken whole
-  fails-are =
-      ap (λ (x : List ℕ). any failing (clause_at x ops n)) L.labels_are
-      ∙ ap (any failing) (renamed-clause (least whole) codes ops n (omega arith))
-      ∙ any-map (renamed (least whole)) failing whole
+  abbrev wanted : Option Pattern
+  wanted = Some (pattern_struct (map (least_entry whole) (from 1 marks)))
 
-  entries-are : marks ≤ 8 → drop 32 codes ≡ map (λ (k : ℕ). asked_from + k) (from 1 8) → placing l.codes marks ≡ map place_struct (map (least_entry whole) (from 1 marks))
-  unfolding least_entry
-  entries-are h e =
-      let m : take marks (drop 32 l.codes) ≡ map (least whole) (map (λ (k : ℕ). asked_from + k) (from 1 marks)) =
-      ap (λ (x : List ℕ). take marks (drop 32 x)) L.labels_are
-      ∙ ap (take marks) (map-drop (least whole) 32 codes ∙ ap (map (least whole)) e)
-      ∙ sym (map-take (least whole) marks (map (λ (k : ℕ). asked_from + k) (from 1 8)))
-      ∙ ap (map (least whole)) (sym (map-take (λ (k : ℕ). asked_from + k) marks (from 1 8)) ∙ ap (map (λ (k : ℕ). asked_from + k)) (take-from 1 marks 8 h)) in
-      ap (map (λ (x : ℕ). place_struct (entry_of_code x))) (m ∙ map-map (least whole) (λ (k : ℕ). asked_from + k) (from 1 marks))
-      ∙ map-map (λ (x : ℕ). place_struct (entry_of_code x)) (λ (k : ℕ). least whole (asked_from + k)) (from 1 marks)
-      ∙ sym (map-map place_struct (least_entry whole) (from 1 marks))
-
-  pub pattern-clash : l.clash ≡ true → no_pattern ≡ coded_pattern marks whole
+  pub pattern-clash : clashes_on (λ x. x) whole ≡ true → None ≡ coded_pattern marks whole
   unfolding coded_pattern contradicts
-  pattern-clash e =
-      sym (ap (λ (b : Bool). cond (b || any broken whole) no_pattern (pattern_struct (map (least_entry whole) (from 1 marks)))) (sym L.clash_is ∙ e))
+  pattern-clash e = sym (ap (λ (b : Bool). cond (b || any broken whole) None wanted) e)
 
-  pub pattern-fails : l.clash ≡ false → any failing (clause_at l.codes ops n) ≡ true → no_pattern ≡ coded_pattern marks whole
-  unfolding coded_pattern contradicts
-  pattern-fails e q =
-      sym (ap₂ (λ (b t : Bool). cond (b || t) no_pattern (pattern_struct (map (least_entry whole) (from 1 marks)))) (sym L.clash_is ∙ e) (sym fails-are ∙ q))
+  module _ (long : length codes ≡ 40) (few : n ≤ 16) (labels : List ℕ) (L : LabelsOf codes ops n labels) where
+    fails-are : any failing (clause_at labels ops n) ≡ any broken whole
+    fails-are =
+        ap (λ (x : List ℕ). any failing (clause_at x ops n)) L.labels_are
+        ∙ ap (any failing) (renamed-clause (least whole) codes ops n (omega arith))
+        ∙ any-map (renamed (least whole)) failing whole
 
-  pub pattern-there : l.clash ≡ false → any failing (clause_at l.codes ops n) ≡ false → marks ≤ 8
-      → drop 32 codes ≡ map (λ (k : ℕ). asked_from + k) (from 1 8) → (places : List Place) → places ≡ places_of l.codes marks
-      → ◌≡◌ {A = Pattern} (record { there = true; entries = places; count = marks }) (coded_pattern marks whole)
-  unfolding coded_pattern contradicts places_of
-  pattern-there e q h d places ep =
-      let count : marks ≡ length (map (least_entry whole) (from 1 marks)) = sym (length-map (from 1 marks) (least_entry whole) ∙ from-count 1 marks) in
-      ap₂ (λ (x : List Place) (k : ℕ). record { there = true; entries = x; count = k }) (ep ∙ ap (padded 8 (placed Any)) (entries-are h d)) count
-      ∙ sym (ap₂ (λ (b t : Bool). cond (b || t) no_pattern (pattern_struct (map (least_entry whole) (from 1 marks)))) (sym L.clash_is ∙ e) (sym fails-are ∙ q))
+    entries-are : marks ≤ 8 → drop 32 codes ≡ map (λ (k : ℕ). asked_from + k) (from 1 8) → map entry_at (take marks (drop 32 labels)) ≡ map entry_struct (map (least_entry whole) (from 1 marks))
+    unfolding least_entry
+    entries-are h e =
+        let m : take marks (drop 32 labels) ≡ map (least whole) (map (λ (k : ℕ). asked_from + k) (from 1 marks)) =
+        ap (λ (x : List ℕ). take marks (drop 32 x)) L.labels_are
+        ∙ ap (take marks) (map-drop (least whole) 32 codes ∙ ap (map (least whole)) e)
+        ∙ sym (map-take (least whole) marks (map (λ (k : ℕ). asked_from + k) (from 1 8)))
+        ∙ ap (map (least whole)) (sym (map-take (λ (k : ℕ). asked_from + k) marks (from 1 8)) ∙ ap (map (λ (k : ℕ). asked_from + k)) (take-from 1 marks 8 h)) in
+        ap (map entry_at) (m ∙ map-map (least whole) (λ (k : ℕ). asked_from + k) (from 1 marks))
+        ∙ map-map entry_at (λ (k : ℕ). least whole (asked_from + k)) (from 1 marks)
+        ∙ sym (map-map entry_struct (least_entry whole) (from 1 marks))
+
+    pub pattern-fails : any failing (clause_at labels ops n) ≡ true → None ≡ coded_pattern marks whole
+    unfolding coded_pattern contradicts
+    pattern-fails q = sym (ap₂ (λ (b t : Bool). cond (b || t) None wanted) L.no_clash (sym fails-are ∙ q))
+
+    pub pattern-there : any failing (clause_at labels ops n) ≡ false → marks ≤ 8 → drop 32 codes ≡ map (λ (k : ℕ). asked_from + k) (from 1 8)
+        → (entries : List Entry) → entries ≡ entries_of (take marks (drop 32 labels)) → ◌≡◌ {A = Option Pattern} (Some (record { entries = entries; count = marks })) (coded_pattern marks whole)
+    unfolding coded_pattern contradicts entries_of
+    pattern-there q h d entries ep =
+        let count : marks ≡ length (map (least_entry whole) (from 1 marks)) = sym (length-map (from 1 marks) (least_entry whole) ∙ from-count 1 marks) in
+        ap₂ (λ (x : List Entry) (k : ℕ). Some (record { entries = x; count = k })) (ep ∙ ap (padded 8 Any) (entries-are h d)) count
+        ∙ sym (ap₂ (λ (b t : Bool). cond (b || t) None wanted) L.no_clash (sym fails-are ∙ q))

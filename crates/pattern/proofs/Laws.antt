@@ -1,5 +1,6 @@
 -- Laws of the patterns of stored statements, for callers: they may be judged one clause at a time; of statements that sentences compile to they are the patterns of
 -- the sentences, with those of a row that a ring pushes out, so that where none agrees the answer stays; and there are few. Assumes nothing.
+use Rattle.std.specs.Prelude.{Option, Some, None}
 use mathlib.Core.Path.{◌≡◌, refl, sym, ap, ap₂, ◌∙◌}
 use mathlib.Core.Bool.{Bool, true, false, not, ◌&&◌, ◌||◌, cond}
 use mathlib.Core.List.{List, [], ◌∷◌, ◌++◌, map}
@@ -50,7 +51,7 @@ use Rattle.table.proofs.Means.{answer-means}
 use Rattle.pattern.specs.declared.Pattern.{Pattern}
 use Rattle.pattern.specs.declared.Entry.TheVariants.{Any}
 use Rattle.pattern.specs.Relevance.{is_read}
-use Rattle.pattern.specs.Stored.{side_by, side_read, start_by, start_read, columns_used, touches, relevant, clauses_read, query_clauses, both_clauses, joint_clauses, joint, is_formed, all_any, entry_count, patterns_stored, matches_stored, clause_total, entry_struct, placed, place_struct, pattern_struct, no_pattern, clause_pattern, pattern_at, filled_entry, filled_place, filled_of, entry_read, place_read, agrees_stored}
+use Rattle.pattern.specs.Stored.{side_by, side_read, start_by, start_read, columns_used, touches, relevant, clauses_read, query_clauses, both_clauses, joint_clauses, joint, is_formed, all_any, entry_count, patterns_stored, matches_stored, clause_total, entry_struct, pattern_struct, clause_pattern, pattern_at, filled_entry, filled_of, entry_read, agrees_stored, clause_agrees}
 use Rattle.pattern.proofs.Least.{lowest-within}
 use Rattle.pattern.proofs.Clauses.{joint-have}
 use Rattle.pattern.proofs.Removal.{removal-agrees}
@@ -114,7 +115,7 @@ module _ (us : List ℤ) where
   filled_at (mark (suc k)) h z = refl
   filled_at anything h z = refl
 
-  filled-agrees : (zs : List ℤ) {es : P.Pattern} → All CountedEntry es → agrees [] zs (map place_read (map (filled_place us) (map place_struct es))) ≡ agrees us zs es
+  filled-agrees : (zs : List ℤ) {es : P.Pattern} → All CountedEntry es → agrees [] zs (map entry_read (map (filled_entry us) (map entry_struct es))) ≡ agrees us zs es
   filled-agrees [] nil = refl
   filled-agrees [] (cons p h) = refl
   filled-agrees (z ∷ zs) nil = refl
@@ -123,23 +124,23 @@ module _ (us : List ℤ) where
   struct-agrees : (zs : List ℤ) (es : P.Pattern) → All CountedEntry es → agrees_stored (filled_of us (pattern_struct es)) zs ≡ agrees us zs es
   unfolding agrees_stored filled_of
   struct-agrees zs es h =
-      ap (λ l. agrees [] zs (map place_read l))
-      (sym (map-take (filled_place us) (length es) (padded 8 (placed Any) (map place_struct es)))
-      ∙ ap (map (filled_place us)) (take-padded 8 (placed Any) (map place_struct es) (length es) (length-map es place_struct)))
+      ap (λ l. agrees [] zs (map entry_read l))
+      (sym (map-take (filled_entry us) (length es) (padded 8 Any (map entry_struct es)))
+      ∙ ap (map (filled_entry us)) (take-padded 8 Any (map entry_struct es) (length es) (length-map es entry_struct)))
       ∙ filled-agrees zs h
 
   clause-agrees : (zs : List ℤ) (n : ℕ) (cs : Clause) → All Counted (sides cs)
-      → agrees_stored (filled_of us (clause_pattern n cs)) zs ≡ (not (contradictory cs) && agrees us zs (pattern n cs))
+      → clause_agrees us zs (clause_pattern n cs) ≡ (not (contradictory cs) && agrees us zs (pattern n cs))
   unfolding agrees_stored filled_of
   clause-agrees zs n cs h = go (contradictory cs)
     where
-      go : (b : Bool) → agrees_stored (filled_of us (cond b no_pattern (pattern_struct (pattern n cs)))) zs ≡ (not b && agrees us zs (pattern n cs))
+      go : (b : Bool) → clause_agrees us zs (cond b None (Some (pattern_struct (pattern n cs)))) ≡ (not b && agrees us zs (pattern n cs))
       go true = refl
       go false = struct-agrees zs (pattern n cs) (pattern-counted n cs h)
 
 -- a pattern agrees exactly where that of some clause does
 pub matches-one-by-one : (q : Query) (u : Update) (us zs : List ℤ)
-    → any (λ (i : ℕ). agrees_stored (filled_of us (pattern_at q u i)) zs) (from 0 (clause_total q u)) ≡ matches_stored q u us zs
+    → any (λ (i : ℕ). clause_agrees us zs (pattern_at q u i)) (from 0 (clause_total q u)) ≡ matches_stored q u us zs
 unfolding clause_total pattern_at matches_stored patterns_stored
 matches-one-by-one q u us zs = go (relevant q u) (all_any q u)
   where
@@ -149,15 +150,15 @@ matches-one-by-one q u us zs = go (relevant q u) (all_any q u)
     total : Bool → Bool → ℕ
     total r b = cond r (cond b 1 (length (joint q u))) 0
 
-    at : Bool → Bool → ℕ → Pattern
-    at r b i = cond (ltb i (cond b 1 (length (joint q u)))) (cond b (pattern_struct (replicate n anything)) (clause_pattern n (get_or (joint q u) i []))) no_pattern
+    at : Bool → Bool → ℕ → Option Pattern
+    at r b i = cond (ltb i (cond b 1 (length (joint q u)))) (cond b (Some (pattern_struct (replicate n anything))) (clause_pattern n (get_or (joint q u) i []))) None
 
-    go : (r b : Bool) → any (λ (i : ℕ). agrees_stored (filled_of us (at r b i)) zs) (from 0 (total r b)) ≡ any (agrees us zs) (chosen r b n (joint q u))
+    go : (r b : Bool) → any (λ (i : ℕ). clause_agrees us zs (at r b i)) (from 0 (total r b)) ≡ any (agrees us zs) (chosen r b n (joint q u))
     go false b = refl
     go true true = ap (λ (b : Bool). b || false) (struct-agrees us zs (replicate n anything) (any-counted n))
     go true false =
-        any-places (λ (i : ℕ). agrees_stored (filled_of us (at true false i)) zs) (λ (c : Clause). not (contradictory c) && agrees us zs (pattern n c)) (joint q u) []
-        (λ i h. ap (λ (b : Bool). agrees_stored (filled_of us (cond b (clause_pattern n (get_or (joint q u) i [])) no_pattern)) zs) (lt-ltb i (length (joint q u)) h)
+        any-places (λ (i : ℕ). clause_agrees us zs (at true false i)) (λ (c : Clause). not (contradictory c) && agrees us zs (pattern n c)) (joint q u) []
+        (λ i h. ap (λ (b : Bool). clause_agrees us zs (cond b (clause_pattern n (get_or (joint q u) i [])) None)) (lt-ltb i (length (joint q u)) h)
         ∙ clause-agrees us zs n (get_or (joint q u) i []) (All-at i [] h (joint-counted q u)))
         ∙ sym (any-clause us zs n (joint q u))
 

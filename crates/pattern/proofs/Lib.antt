@@ -11,8 +11,6 @@ pub mod Running
 pub mod Mapped
 pub mod Searching
 pub mod Relevant
-pub mod Constants
-pub mod Operators
 pub mod Labelling
 pub mod Numbering
 pub mod Adding

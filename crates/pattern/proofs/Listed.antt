@@ -1,18 +1,18 @@
 -- The list of patterns, clause by clause: a pattern that is not there yet goes behind the others. Assumes nothing.
+use Rattle.std.specs.Prelude.{Option, Some, None}
 use mathlib.Core.Path.{◌≡◌, refl, sym, ap, ap₂, subst, ◌∙◌}
 use mathlib.Core.Bool.{Bool, true, false, cond, not, ◌&&◌, ◌||◌}
 use mathlib.Core.List.{List, [], ◌∷◌, ◌++◌, map, append-nil}
 use Prim.Native.Nat.{ℕ, zero, suc, ◌+◌, ◌-◌, ◌≤◌, ◌<◌}
 use native.Mathlib.Numerals.{add-one}
 use native.Mathlib.Omega.{arith}
-use lib.Dec.{eqb}
-use lib.IntN.{ℤ}
 use lib.ListN.{length, take, get_or, set, replicate, length-map, length-append, length-replicate}
 use lib.Seq.{set_at, append_snoc}
-use borrow.Author.Tests.{eqb-true, eq-eqb}
+use Rattle.std.proofs.Common.{Decides}
+use Rattle.std.specs.Cmp.Lexicographic.{pointwise}
 use Rattle.lists.specs.Lists.{any, All, nil, cons, cons_if, keep, distinct, flat, from}
-use Rattle.lists.specs.Tests.{is_yes, dec_n, dec_z, eq_z, eq_list}
-use Rattle.lists.proofs.Bools.{is-yes, yes_of, eq_z-same, eq_z-true, clash}
+use Rattle.lists.specs.Tests.{is_yes, dec_n, dec_z, eq_list}
+use Rattle.lists.proofs.Bools.{is-yes, yes_of}
 use Rattle.lists.proofs.Lists.{keep_append, map-append, All-append, All-get_or}
 use Rattle.lists.proofs.Places.{flat_append}
 use Rattle.lists.proofs.Changed.{any-distinct, eq_list-true}
@@ -25,7 +25,7 @@ use Rattle.pattern.specs.declared.Entry.{Entry}
 use Rattle.pattern.specs.declared.Entry.TheVariants.{Constant, Parameter, Any}
 use Rattle.pattern.specs.declared.Pattern.{Pattern}
 use Rattle.pattern.specs.declared.Patterns.{Patterns}
-use Rattle.pattern.specs.Stored.{relevant, joint, all_any, entry_count, clause_total, placed, place_struct, pattern_struct, no_pattern, pattern_at, patterns_stored, pattern_list, entry_read, place_read}
+use Rattle.pattern.specs.Stored.{relevant, joint, all_any, entry_count, clause_total, entry_struct, pattern_struct, blank, pattern_at, patterns_stored, pattern_list, with_pattern, same_struct, entry_read}
 use Rattle.pattern.proofs.Laws.{CountedEntry, joint-counted, pattern-counted, any-counted, pattern-length}
 use Rattle.statement.proofs.Assembled.{take-padded}
 use Rattle.pattern.proofs.Agreeing.{total-few, at-many, at-worked}
@@ -42,40 +42,22 @@ by_equal e f t g h = go (Entry-discrete dec_z dec_n e f) t g h
     go (no n) true g h = absurd (n (g refl))
     go (no n) false g h = refl
 
-module _ (a b : Entry) where
-  through : (x y : Entry) (t : Bool) → a ≡ x → b ≡ y → t ≡ same_entry (entry_read x) (entry_read y) → t ≡ same_entry (entry_read a) (entry_read b)
-  through x y t p q e = e ∙ sym (ap₂ (λ (v w : Entry). same_entry (entry_read v) (entry_read w)) p q)
+-- what is read of an entry tells it
+entry-back : (a : Entry) → entry_struct (entry_read a) ≡ a
+entry-back (Constant z) = refl
+entry-back (Parameter k) = refl
+entry-back Any = refl
 
-  pub same-constants : (y z : ℤ) → a ≡ Constant y → b ≡ Constant z → eq_z y z ≡ same_entry (entry_read a) (entry_read b)
-  same-constants y z p q =
-      through (Constant y) (Constant z) (eq_z y z) p q
-      (by_equal (number y) (number z) (eq_z y z) (λ e. ap number (eq_z-true y z e)) (λ e. let f : y ≡ z = cc in ap (eq_z y) (sym f) ∙ eq_z-same y))
+same_read : (a b : Entry) (t : Bool) → Decides t (a ≡ b) → t ≡ same_entry (entry_read a) (entry_read b)
+same_read a b t d =
+    by_equal (entry_read a) (entry_read b) t (λ e. ap entry_read (d.0 e)) (λ e. d.1 (sym (entry-back a) ∙ ap entry_struct e ∙ entry-back b))
 
-  pub same-parameters : (j k : ℕ) → a ≡ Parameter j → b ≡ Parameter k → eqb j k ≡ same_entry (entry_read a) (entry_read b)
-  same-parameters j k p q =
-      through (Parameter j) (Parameter k) (eqb j k) p q
-      (by_equal (mark (suc j)) (mark (suc k)) (eqb j k) (λ e. ap (λ (n : ℕ). mark (suc n)) (eqb-true j k e)) (λ e. let f : suc j ≡ suc k = cc in eq-eqb j k (omega arith)))
-
-  pub both-any : a ≡ Any → b ≡ Any → true ≡ same_entry (entry_read a) (entry_read b)
-  both-any p q = through Any Any true p q refl
-
-  pub constant-parameter : (y : ℤ) (k : ℕ) → a ≡ Constant y → b ≡ Parameter k → false ≡ same_entry (entry_read a) (entry_read b)
-  constant-parameter y k p q = through (Constant y) (Parameter k) false p q refl
-
-  pub constant-any : (y : ℤ) → a ≡ Constant y → b ≡ Any → false ≡ same_entry (entry_read a) (entry_read b)
-  constant-any y p q = through (Constant y) Any false p q refl
-
-  pub parameter-constant : (j : ℕ) (z : ℤ) → a ≡ Parameter j → b ≡ Constant z → false ≡ same_entry (entry_read a) (entry_read b)
-  parameter-constant j z p q = through (Parameter j) (Constant z) false p q refl
-
-  pub parameter-any : (j : ℕ) → a ≡ Parameter j → b ≡ Any → false ≡ same_entry (entry_read a) (entry_read b)
-  parameter-any j p q = through (Parameter j) Any false p q refl
-
-  pub any-constant : (z : ℤ) → a ≡ Any → b ≡ Constant z → false ≡ same_entry (entry_read a) (entry_read b)
-  any-constant z p q = through Any (Constant z) false p q refl
-
-  pub any-parameter : (k : ℕ) → a ≡ Any → b ≡ Parameter k → false ≡ same_entry (entry_read a) (entry_read b)
-  any-parameter k p q = through Any (Parameter k) false p q refl
+pub same-read : (E : Entry → Entry → Bool) → ((a b : Entry) → Decides (E a b) (a ≡ b)) → (xs ys : List Entry)
+    → pointwise E xs ys ≡ eq_list same_entry (map entry_read xs) (map entry_read ys)
+same-read E d [] [] = refl
+same-read E d [] (y ∷ ys) = refl
+same-read E d (x ∷ xs) [] = refl
+same-read E d (x ∷ xs) (y ∷ ys) = ap₂ ◌&&◌ (same_read x y (E x y) (d x y)) (same-read E d xs ys)
 
 -- ---- equal patterns
 
@@ -102,15 +84,11 @@ same-behind [] (y ∷ ys) rest e = absurd (omega arith)
 same-behind (x ∷ xs) [] rest e = absurd (omega arith)
 same-behind (x ∷ xs) (y ∷ ys) rest e = ap (λ (b : Bool). same_entry x y && b) (same-behind xs ys rest (omega arith))
 
--- two structs
-abbrev pub same_struct : Pattern → Pattern → Bool
-same_struct a b = same_pattern (map place_read a.entries) (map place_read b.entries)
-
-read_back : {es : P.Pattern} → All CountedEntry es → map place_read (map place_struct es) ≡ es
+read_back : {es : P.Pattern} → All CountedEntry es → map entry_read (map entry_struct es) ≡ es
 read_back nil = refl
 read_back (cons {x = e} p h) = ap₂ ◌∷◌ (go e p) (read_back h)
   where
-    go : (e : P.Entry) → CountedEntry e → place_read (place_struct e) ≡ e
+    go : (e : P.Entry) → CountedEntry e → entry_read (entry_struct e) ≡ e
     go (number z) q = refl
     go (mark zero) q = absurd (omega arith)
     go (mark (suc k)) q = refl
@@ -121,15 +99,15 @@ pub record Regular (n : ℕ) (es : P.Pattern) : Type 0 where
   pub counted : All CountedEntry es
   pub long : length es ≡ n
 
-struct-read : (n : ℕ) (es : P.Pattern) → Regular n es → map place_read (pattern_struct es).entries ≡ es ++ map place_read (replicate (8 - n) (placed Any))
+struct-read : (n : ℕ) (es : P.Pattern) → Regular n es → map entry_read (pattern_struct es).entries ≡ es ++ map entry_read (replicate (8 - n) Any)
 struct-read n es R =
-    let m : 8 - length (map place_struct es) ≡ 8 - n = ap (λ (k : ℕ). 8 - k) (length-map es place_struct ∙ R.long) in
-    map-append place_read (map place_struct es) (replicate (8 - length (map place_struct es)) (placed Any))
-    ∙ ap₂ (λ (x : P.Pattern) (k : ℕ). x ++ map place_read (replicate k (placed Any))) (read_back R.counted) m
+    let m : 8 - length (map entry_struct es) ≡ 8 - n = ap (λ (k : ℕ). 8 - k) (length-map es entry_struct ∙ R.long) in
+    map-append entry_read (map entry_struct es) (replicate (8 - length (map entry_struct es)) Any)
+    ∙ ap₂ (λ (x : P.Pattern) (k : ℕ). x ++ map entry_read (replicate k Any)) (read_back R.counted) m
 
 struct-same : (n : ℕ) (x y : P.Pattern) → Regular n x → Regular n y → same_struct (pattern_struct x) (pattern_struct y) ≡ same_pattern x y
 struct-same n x y R S =
-    ap₂ same_pattern (struct-read n x R) (struct-read n y S) ∙ same-behind x y (map place_read (replicate (8 - n) (placed Any))) (R.long ∙ sym S.long)
+    ap₂ same_pattern (struct-read n x R) (struct-read n y S) ∙ same-behind x y (map entry_read (replicate (8 - n) Any)) (R.long ∙ sym S.long)
 
 any-struct : (n : ℕ) {l : List P.Pattern} (y : P.Pattern) → All (Regular n) l → Regular n y
     → any (λ (x : Pattern). same_struct x (pattern_struct y)) (map pattern_struct l) ≡ any (λ (x : P.Pattern). same_pattern x y) l
@@ -180,9 +158,9 @@ kept-patterns n (c ∷ cs) = go (contradictory c) (kept-patterns n cs)
     go false h = ap (λ (l : List P.Pattern). pattern n c ∷ l) h
 
 -- a struct and what it offers
-pub data Offers (n : ℕ) (p : Pattern) : List P.Pattern → Type 0 where
-  nothing : p ≡ no_pattern → Offers n p []
-  one : (es : P.Pattern) → p ≡ pattern_struct es → Regular n es → Offers n p (es ∷ [])
+pub data Offers (n : ℕ) (p : Option Pattern) : List P.Pattern → Type 0 where
+  nothing : p ≡ None → Offers n p []
+  one : (es : P.Pattern) → p ≡ Some (pattern_struct es) → Regular n es → Offers n p (es ∷ [])
 
 module _ (q : Query) (u : Update) where
   abbrev n : ℕ
@@ -219,7 +197,7 @@ module _ (q : Query) (u : Update) where
       regular : Regular n (pattern n c)
       regular = record { counted = pattern-counted n c (All-get_or i [] nil (joint-counted q u)); long = pattern-length n c }
 
-      by-clause : (b : Bool) → pattern_at q u i ≡ cond b no_pattern (pattern_struct (pattern n c)) → Offers n (pattern_at q u i) (if_not b (pattern n c))
+      by-clause : (b : Bool) → pattern_at q u i ≡ cond b None (Some (pattern_struct (pattern n c))) → Offers n (pattern_at q u i) (if_not b (pattern n c))
       by-clause true e = nothing e
       by-clause false e = one (pattern n c) e regular
 
@@ -230,31 +208,20 @@ module _ (q : Query) (u : Update) where
   -- ---- the array
 
   pub record Listing (items : List Pattern) (count i : ℕ) : Type 0 where
-    pub items_are : items ≡ padded 64 no_pattern (map pattern_struct (listed i))
+    pub items_are : items ≡ padded 64 blank (map pattern_struct (listed i))
     pub count_is : count ≡ length (listed i)
     pub regular : All (Regular n) (listed i)
     pub few : count ≤ i
 
-  pub list-start : Listing (replicate 64 no_pattern) 0 0
+  pub list-start : Listing (replicate 64 blank) 0 0
   list-start = record { items_are = refl; count_is = refl; regular = nil; few = omega arith }
-
-  pub listing-is : {items items' : List Pattern} {count count' i : ℕ} → items ≡ items' → count ≡ count' → Listing items' count' i → Listing items count i
-  listing-is {items} {items'} {count} {count'} {i} e q L = subst (λ (l : List Pattern). Listing l count i) (sym e) (subst (λ (k : ℕ). Listing items' k i) (sym q) L)
-
-  pub list-long : (items : List Pattern) (count i : ℕ) → i ≤ 64 → Listing items count i → length items ≡ 64
-  list-long items count i h L =
-      let m : length (map pattern_struct (listed i)) ≡ length (listed i) = length-map (listed i) pattern_struct in
-      ap length L.items_are
-      ∙ length-append (map pattern_struct (listed i)) (replicate (64 - length (map pattern_struct (listed i))) no_pattern)
-      ∙ ap (λ (k : ℕ). length (map pattern_struct (listed i)) + k) (length-replicate (64 - length (map pattern_struct (listed i))) no_pattern)
-      ∙ omega (arith, L.count_is, L.few)
 
   module _ (items : List Pattern) (count i : ℕ) (L : Listing items count i) where
     abbrev before : List P.Pattern
     before = flat (map offered (from 0 i))
 
     found-are : take count items ≡ map pattern_struct (listed i)
-    found-are = ap (take count) L.items_are ∙ take-padded 64 no_pattern (map pattern_struct (listed i)) count (length-map (listed i) pattern_struct ∙ sym L.count_is)
+    found-are = ap (take count) L.items_are ∙ take-padded 64 blank (map pattern_struct (listed i)) count (length-map (listed i) pattern_struct ∙ sym L.count_is)
 
     next-listed : listed (i + 1) ≡ distinct same_pattern (before ++ offered i)
     next-listed =
@@ -269,7 +236,7 @@ module _ (q : Query) (u : Update) where
     -- the list stays
     stays : listed (i + 1) ≡ listed i → Listing items count (i + 1)
     stays e = record {
-      items_are = L.items_are ∙ ap (λ (l : List P.Pattern). padded 64 no_pattern (map pattern_struct l)) (sym e);
+      items_are = L.items_are ∙ ap (λ (l : List P.Pattern). padded 64 blank (map pattern_struct l)) (sym e);
       count_is = L.count_is ∙ ap length (sym e);
       regular = subst (All (Regular n)) (sym e) L.regular;
       few = omega (arith, L.few);
@@ -286,11 +253,11 @@ module _ (q : Query) (u : Update) where
         let l : length ys ≡ suc count = ap length en ∙ length-append xs (pattern_struct es ∷ []) ∙ omega arith in
         let r : 63 - count ≡ 64 - length ys = omega arith in
         record {
-          items_are = ap₂ (λ (x : List Pattern) (y : Pattern). set x count y) (L.items_are ∙ ap (λ (j : ℕ). xs ++ replicate j no_pattern) k) ep
-              ∙ set_at xs no_pattern (replicate (63 - count) no_pattern) (pattern_struct es) count m
-              ∙ sym (append_snoc xs (pattern_struct es) (replicate (63 - count) no_pattern))
-              ∙ ap₂ (λ (x : List Pattern) (j : ℕ). x ++ replicate j no_pattern) (sym en) r
-              ∙ ap (λ (x : List P.Pattern). padded 64 no_pattern (map pattern_struct x)) (sym e);
+          items_are = ap₂ (λ (x : List Pattern) (y : Pattern). set x count y) (L.items_are ∙ ap (λ (j : ℕ). xs ++ replicate j blank) k) ep
+              ∙ set_at xs blank (replicate (63 - count) blank) (pattern_struct es) count m
+              ∙ sym (append_snoc xs (pattern_struct es) (replicate (63 - count) blank))
+              ∙ ap₂ (λ (x : List Pattern) (j : ℕ). x ++ replicate j blank) (sym en) r
+              ∙ ap (λ (x : List P.Pattern). padded 64 blank (map pattern_struct x)) (sym e);
           count_is = omega (arith, L.count_is, length-append (listed i) (es ∷ []), ap length e);
           regular = subst (All (Regular n)) (sym e) (All-append L.regular (cons R nil));
           few = omega (arith, L.few);
@@ -304,25 +271,41 @@ module _ (q : Query) (u : Update) where
         ∙ any-struct n es L.regular R
         ∙ any-distinct same_pattern pattern-is (λ (x : P.Pattern). same_pattern x es) before
 
-    -- by whether the pattern is there, and was seen
-    abbrev Next : Pattern → Bool → Type 0
-    Next p seen = ((p.there && not seen) ≡ true → Listing (set items count p) (count + 1) (i + 1)) × ((p.there && not seen) ≡ false → Listing items count (i + 1))
-
-    next_one : (p : Pattern) (es : P.Pattern) (seen : Bool) → i < 64 → p ≡ pattern_struct es → Regular n es → listed (i + 1) ≡ cond seen (listed i) (listed i ++ (es ∷ [])) → Next p seen
-    next_one p es true h e R d = ((λ t. clash t (ap (λ (y : Pattern). y.there && false) e)), (λ t. stays d))
-    next_one p es false h e R d = ((λ t. grows p es h e R d), (λ t. clash (ap (λ (y : Pattern). y.there && true) e) t))
-
-    pub list-more : (p : Pattern) (seen : Bool) → i < clause_total q u → i < 64 → p ≡ pattern_at q u i → seen ≡ any (λ (x : Pattern). same_struct x p) (take count items) → Next p seen
-    list-more p seen h few ep es = go (subst (λ (x : Pattern). Offers n x (offered i)) (sym ep) (offers i h)) next-listed
+    -- a clause with no pattern
+    pub list-stays : i < clause_total q u → pattern_at q u i ≡ None → Listing items count (i + 1)
+    list-stays h en = go (offers i h) next-listed
       where
-        go : {o : List P.Pattern} → Offers n p o → listed (i + 1) ≡ distinct same_pattern (before ++ o) → Next p seen
-        go (nothing e) k = ((λ t. clash t (ap (λ (x : Pattern). x.there && not seen) e)), (λ t. stays (k ∙ ap (distinct same_pattern) (append-nil before))))
+        go : {o : List P.Pattern} → Offers n (pattern_at q u i) o → listed (i + 1) ≡ distinct same_pattern (before ++ o) → Listing items count (i + 1)
+        go (nothing e) k = stays (k ∙ ap (distinct same_pattern) (append-nil before))
+        go (one x e R) k = let f : None ≡ Some (pattern_struct x) = sym en ∙ e in cc
+
+    -- one with a pattern, which was seen or not
+    abbrev seen : Pattern → Bool
+    seen p = any (λ (x : Pattern). same_struct x p) (take count items)
+
+    abbrev here : Patterns
+    here = record { items = items; count = count }
+
+    abbrev Next : Patterns → Type 0
+    Next l = Listing l.items l.count (i + 1)
+
+    next_one : (p : Pattern) (es : P.Pattern) (b : Bool) → i < 64 → p ≡ pattern_struct es → Regular n es → listed (i + 1) ≡ cond b (listed i) (listed i ++ (es ∷ []))
+        → Next (cond b here (with_pattern here p))
+    next_one p es true h e R d = stays d
+    next_one p es false h e R d = grows p es h e R d
+
+    pub list-more : (p : Pattern) → i < clause_total q u → i < 64 → pattern_at q u i ≡ Some p → Next (cond (seen p) here (with_pattern here p))
+    list-more p h few ep = go (offers i h) next-listed
+      where
+        go : {o : List P.Pattern} → Offers n (pattern_at q u i) o → listed (i + 1) ≡ distinct same_pattern (before ++ o) → Next (cond (seen p) here (with_pattern here p))
+        go (nothing e) k = let f : Some p ≡ None = sym ep ∙ e in cc
         go (one x e R) k =
-            next_one p x seen few e R (k ∙ distinct-last same_pattern before x ∙ ap (λ (b : Bool). cond b (listed i) (listed i ++ (x ∷ []))) (sym (seen-is p x seen e R es)))
+            let es : p ≡ pattern_struct x = let f : Some p ≡ Some (pattern_struct x) = sym ep ∙ e in cc in
+            next_one p x (seen p) few es R (k ∙ distinct-last same_pattern before x ∙ ap (λ (b : Bool). cond b (listed i) (listed i ++ (x ∷ []))) (sym (seen-is p x (seen p) es R refl)))
 
   pub list_done : (items : List Pattern) (count i : ℕ) → i ≡ clause_total q u → Listing items count i → ◌≡◌ {A = Patterns} (record { items = items; count = count }) (pattern_list q u)
   unfolding pattern_list
   list_done items count i e L =
       let a : listed i ≡ patterns_stored q u = ap listed e ∙ listed-all in
       ap₂ (λ (x : List Pattern) (k : ℕ). record { items = x; count = k })
-      (L.items_are ∙ ap (λ (l : List P.Pattern). padded 64 no_pattern (map pattern_struct l)) a) (L.count_is ∙ ap length a)
+      (L.items_are ∙ ap (λ (l : List P.Pattern). padded 64 blank (map pattern_struct l)) a) (L.count_is ∙ ap length a)

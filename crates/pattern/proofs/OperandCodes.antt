@@ -1,17 +1,13 @@
 -- The code of an operand: operands that fit have different codes, the order of the codes is that of the constants, null the least, and constants come before update
 -- marks and these before all others. Assumes nothing.
 use mathlib.Core.Path.{◌≡◌, refl, sym, ap, ◌∙◌}
-use mathlib.Core.Bool.{Bool, true, false, cond}
+use mathlib.Core.Bool.{true, cond}
 use Prim.Native.Nat.{ℕ, suc, ◌+◌, ◌-◌, ◌≤◌, ◌<◌}
 use native.Mathlib.Omega.{arith}
 use lib.IntN.{ℤ, pos, negsuc}
-use lib.Signed.{lt_z}
-use lib.Dec.{eqb, ltb, leb}
-use borrow.Author.Tests.{leb-true, ltb-true, ltb-false, eqb-true, lt-ltb, le-ltb, eq-eqb}
-use Rattle.lists.specs.Tests.{eq_z}
-use Rattle.lists.proofs.Bools.{and_left, iff, eq_z-same, eq_z-true}
-use Rattle.statement.proofs.SentenceLimits.{same_test}
-use Rattle.meaning.specs.Operator.{is_null}
+use lib.Dec.{ltb, leb}
+use borrow.Author.Tests.{leb-true, lt-ltb, le-ltb}
+use Rattle.lists.proofs.Bools.{and_left}
 use Rattle.meaning.specs.Limits.{is_within32}
 use Rattle.meaning.specs.Pattern.{Joint, column, constant, asked, given, Entry, number, mark, anything}
 use Rattle.pattern.specs.Least.{marks_from, asked_from, columns_from, constant_code, code_of, code_constant, entry_of_code}
@@ -44,44 +40,6 @@ code-constant (negsuc n) h =
     let k = negsuc-below n h in
     let e : 2147483648 - suc (2147483647 - n) ≡ n = omega arith in
     rw (lt-ltb (2147483647 - n) 2147483648 (omega arith)) (ap negsuc e)
-
--- the constant of a code, by whether it is below that of 0
-abbrev pub constant_by : Bool → ℕ → ℤ
-constant_by b n = cond b (negsuc (2147483648 - suc n)) (pos (n - 2147483648))
-
-code-back : (n : ℕ) → constant_code (code_constant n) ≡ n
-code-back n = go (ltb n 2147483648) refl
-  where
-    go : (b : Bool) → ltb n 2147483648 ≡ b → constant_code (constant_by b n) ≡ n
-    go true e = let h = ltb-true n 2147483648 e in omega arith
-    go false e = let h = ltb-false n 2147483648 e in omega arith
-
--- constants stand to each other as their codes do
-module _ (a b : ℕ) where
-  pub eq-codes : eq_z (code_constant a) (code_constant b) ≡ eqb a b
-  eq-codes =
-      iff (eq_z (code_constant a) (code_constant b)) (eqb a b)
-      (λ e. eq-eqb a b (sym (code-back a) ∙ ap constant_code (eq_z-true (code_constant a) (code_constant b) e) ∙ code-back b))
-      (λ e. ap (λ (n : ℕ). eq_z (code_constant n) (code_constant b)) (eqb-true a b e) ∙ eq_z-same (code_constant b))
-
-  pub lt-codes : lt_z (code_constant a) (code_constant b) ≡ ltb a b
-  lt-codes = go (ltb a 2147483648) (ltb b 2147483648) refl refl
-    where
-      go : (s t : Bool) → ltb a 2147483648 ≡ s → ltb b 2147483648 ≡ t → lt_z (constant_by s a) (constant_by t b) ≡ ltb a b
-      go true true e f =
-          let h = ltb-true a 2147483648 e in
-          let k = ltb-true b 2147483648 f in
-          same_test (2147483648 - suc b) (2147483648 - suc a) a b (λ l. omega arith) (λ l. omega arith)
-      go true false e f = let h = ltb-true a 2147483648 e in let k = ltb-false b 2147483648 f in sym (lt-ltb a b (omega arith))
-      go false true e f = let h = ltb-false a 2147483648 e in let k = ltb-true b 2147483648 f in sym (le-ltb a b (omega arith))
-      go false false e f =
-          let h = ltb-false a 2147483648 e in
-          let k = ltb-false b 2147483648 f in
-          same_test (a - 2147483648) (b - 2147483648) a b (λ l. omega arith) (λ l. omega arith)
-
--- A.5: the null constant has the least code
-pub null-code : (n : ℕ) → is_null (code_constant n) ≡ eqb n 0
-null-code n = eq-codes n 0
 
 -- ---- operands
 

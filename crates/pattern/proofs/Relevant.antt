@@ -2,12 +2,12 @@
 use mathlib.Core.Path.{◌≡◌, refl, sym, ap, ap₂, ◌∙◌}
 use mathlib.Core.Bool.{Bool, true, false, ◌&&◌, ◌||◌, cond, or-false}
 use mathlib.Core.List.{List, [], ◌∷◌, map}
-use Prim.Native.Nat.{ℕ, zero, suc, ◌+◌, ◌≤◌, min}
+use Prim.Native.Nat.{ℕ, zero, suc, ◌+◌}
 use native.Mathlib.Omega.{arith}
 use lib.Dec.{eqb}
 use borrow.Author.Tests.{eq-eqb, ne_eqb, eqb-true, eqb-false}
-use lib.ListN.{length, take, length-map, length-take}
-use lib.Seq.{take-take, take_all, take-nil}
+use lib.ListN.{length, take}
+use lib.Seq.{take-nil}
 use Rattle.lists.specs.Lists.{any, keep, cons_if}
 use Rattle.lists.proofs.Bools.{or_assoc}
 use Rattle.lists.proofs.Lists.{any_append, any-map, map-take}
@@ -24,11 +24,7 @@ use Rattle.statement.specs.declared.Update.{Update}
 use Rattle.statement.specs.Compiled.{new_value}
 use Rattle.statement.specs.Sound.{value_read, comparison_read, nodes_read, used_comparisons, used_steps, condition_nodes, second_by, second_read, setting_read, settings_read}
 use Rattle.pattern.specs.Stored.{side_read, start_by, start_read, columns_used, touches, relevant}
-use Rattle.pattern.specs.Relevance.{is_read, is_among, names_any, one_if, comparison_steps, sets_used}
-
-pub one-few : (b : Bool) → one_if b ≤ 1
-one-few true = omega arith
-one-few false = omega arith
+use Rattle.pattern.specs.Relevance.{is_read, is_among, names_any, tests_any, comparison_steps, sets_used}
 
 -- ---- the columns of sides
 
@@ -51,10 +47,6 @@ module _ (p : ℕ → Bool) where
 names-is : (columns : List ℕ) (o : M.Operand) → names_any columns o ≡ any (is_among columns) (operand_columns (o ∷ []))
 names-is columns (M.column i) = sym (or-false (is_among columns i))
 names-is columns (M.value v) = refl
-
--- whether a comparison has such a column
-abbrev pub tests_any : List ℕ → C.Comparison M.Operand → Bool
-tests_any columns c = names_any columns c.left || names_any columns c.right
 
 pub tests-are : (columns : List ℕ) (cs : List (C.Comparison M.Operand)) → any (tests_any columns) cs ≡ any (is_among columns) (operand_columns (sides cs))
 tests-are columns [] = refl
@@ -80,27 +72,11 @@ columns-tested (suc (suc k) ∷ ss) cs =
     columns-tested ss cs
     ∙ sym (ap (λ (b : Bool). operand_columns (sides (map comparison_read (take (length (cons_if b (suc (suc k)) (keep (λ (s : ℕ). eqb s 0) ss))) cs)))) (ne_eqb (suc (suc k)) 0 (λ e. omega arith)))
 
--- the first m of a list that is cut at n
-take-both : {A : Type 0} (m n : ℕ) (l : List A) → take m (take n l) ≡ take (min m n) l
-take-both zero n l = let e : 0 ≡ min 0 n = omega arith in ap (λ (k : ℕ). take k l) e
-take-both (suc m) zero l = let e : 0 ≡ min (suc m) 0 = omega arith in ap (λ (k : ℕ). take k l) e
-take-both (suc m) (suc n) [] = let e : min (suc m) (suc n) ≡ suc (min m n) = omega arith in sym (ap (λ (k : ℕ). take k []) e)
-take-both (suc m) (suc n) (x ∷ l) =
-    let e : min (suc m) (suc n) ≡ suc (min m n) = omega arith in
-    ap (λ (r : List _). x ∷ r) (take-both m n l) ∙ sym (ap (λ (k : ℕ). take k (x ∷ l)) e)
-
--- the entries in use of an array
-pub take-few : {A : Type 0} (m n : ℕ) (l : List A) → n ≡ min m (length l) → take m l ≡ take n l
-take-few m n l e = sym (take_all n (take m l) (omega (arith, length-take m l))) ∙ take-take n m l (omega arith)
-
 -- the columns that a condition tests
-pub condition-columns : (c : Condition) (m : ℕ) → length c.comparisons ≡ 8 → m ≡ min (comparison_steps (used_steps c)) (min c.count 8)
-    → operand_columns (sides (leaves (condition_nodes c))) ≡ operand_columns (sides (map comparison_read (take m c.comparisons)))
+pub condition-columns : (c : Condition)
+    → operand_columns (sides (leaves (condition_nodes c))) ≡ operand_columns (sides (map comparison_read (take (comparison_steps (used_steps c)) (used_comparisons c))))
 unfolding condition_nodes
-condition-columns c m l e =
-    columns-tested (used_steps c) (used_comparisons c)
-    ∙ ap (λ (x : List Comparison). operand_columns (sides (map comparison_read x)))
-    (take-both (comparison_steps (used_steps c)) c.count c.comparisons ∙ take-few (min (comparison_steps (used_steps c)) c.count) m c.comparisons (omega arith))
+condition-columns c = columns-tested (used_steps c) (used_comparisons c)
 
 -- ---- the columns set, in either order
 
@@ -133,48 +109,39 @@ moved-any : (p : ℕ × M.Value → Bool) (k : ℕ) (xs : List Setting) → any 
 moved-any p k [] = refl
 moved-any p k (x ∷ xs) = ap (λ (b : Bool). p (k + x.column, value_read (new_value x)) || b) (moved-any p k xs)
 
-module _ (q : Query) (u : Update) (start : ℕ) (long : length u.settings ≡ 8) (columns : List ℕ) (n : ℕ) (e : columns ≡ map (λ (s : Setting). start + s.column) u.settings) (en : n ≡ min u.count 8) where
+module _ (q : Query) (u : Update) (start : ℕ) (columns : List ℕ) (e : columns ≡ take u.count (map (λ (s : Setting). start + s.column) u.settings)) where
   abbrev moves : Setting → ℕ
   moves s = start + s.column
 
-  set_is : (i : ℕ) → any (λ (s : ℕ × M.Value). eqb s.0 i) (moved start (settings_read u)) ≡ is_among (take n columns) i
+  set_is : (i : ℕ) → any (λ (s : ℕ × M.Value). eqb s.0 i) (moved start (settings_read u)) ≡ is_among columns i
   set_is i =
       moved-any (λ (s : ℕ × M.Value). eqb s.0 i) start (take u.count u.settings)
       ∙ sym (any-map moves (λ (j : ℕ). eqb j i) (take u.count u.settings))
-      ∙ ap (is_among' i)
-      (map-take moves u.count u.settings ∙ ap (take u.count) (sym e)
-      ∙ take-few u.count n columns (omega (arith, ap length e, length-map u.settings moves)))
-    where
-      is_among' : ℕ → List ℕ → Bool
-      is_among' i l = is_among l i
+      ∙ ap (λ (l : List ℕ). is_among l i) (map-take moves u.count u.settings ∙ sym e)
 
-  pub sets-used : sets_used start q u ≡ any (is_among (take n columns)) (columns_used q)
+  sets-used : sets_used start q u ≡ any (is_among columns) (columns_used q)
   unfolding sets_used
   sets-used =
       any_swap (λ (s : ℕ × M.Value) (i : ℕ). eqb s.0 i) (moved start (settings_read u)) (columns_used q)
-      ∙ any_same (λ (i : ℕ). any (λ (s : ℕ × M.Value). eqb s.0 i) (moved start (settings_read u))) (is_among (take n columns)) set_is (columns_used q)
+      ∙ any_same (λ (i : ℕ). any (λ (s : ℕ × M.Value). eqb s.0 i) (moved start (settings_read u))) (is_among columns) set_is (columns_used q)
+
+  abbrev tested : List M.Operand
+  tested = sides (leaves (condition_nodes q.condition))
 
   -- by the columns selected, and by those tested
-  module _ (m : ℕ) (sl : length q.selected ≡ 8) (em : m ≡ min q.count 8) where
-    abbrev selected : Bool
-    selected = any (is_among (take n columns)) (take m q.selected)
+  parts : sets_used start q u ≡ (any (is_among columns) (take q.count q.selected) || any (is_among columns) (operand_columns tested))
+  parts = sets-used ∙ any_append (is_among columns) (take q.count q.selected) (operand_columns tested)
 
-    parts : sets_used start q u ≡ (selected || any (is_among (take n columns)) (operand_columns (sides (leaves (condition_nodes q.condition)))))
-    parts =
-        sets-used
-        ∙ any_append (is_among (take n columns)) (take q.count q.selected) (operand_columns (sides (leaves (condition_nodes q.condition))))
-        ∙ ap (λ (a : List ℕ). any (is_among (take n columns)) a || any (is_among (take n columns)) (operand_columns (sides (leaves (condition_nodes q.condition)))))
-        (take-few q.count m q.selected (omega arith))
+  pub by-selected : any (is_among columns) (take q.count q.selected) ≡ true → sets_used start q u ≡ true
+  by-selected h = parts ∙ ap (λ (b : Bool). b || any (is_among columns) (operand_columns tested)) h
 
-    pub by-selected : selected ≡ true → sets_used start q u ≡ true
-    by-selected h = parts ∙ ap (λ (b : Bool). b || any (is_among (take n columns)) (operand_columns (sides (leaves (condition_nodes q.condition))))) h
-
-    pub by-tested : selected ≡ false → (k : ℕ) → length q.condition.comparisons ≡ 8 → k ≡ min (comparison_steps (used_steps q.condition)) (min q.condition.count 8)
-        → sets_used start q u ≡ any (is_among (take n columns)) (operand_columns (sides (map comparison_read (take k q.condition.comparisons))))
-    by-tested h k cl ek =
-        parts
-        ∙ ap (λ (b : Bool). b || any (is_among (take n columns)) (operand_columns (sides (leaves (condition_nodes q.condition))))) h
-        ∙ ap (any (is_among (take n columns))) (condition-columns q.condition k cl ek)
+  pub by-tested : any (is_among columns) (take q.count q.selected) ≡ false
+      → sets_used start q u ≡ any (tests_any columns) (map comparison_read (take (comparison_steps (used_steps q.condition)) (used_comparisons q.condition)))
+  by-tested h =
+      parts
+      ∙ ap (λ (b : Bool). b || any (is_among columns) (operand_columns tested)) h
+      ∙ ap (any (is_among columns)) (condition-columns q.condition)
+      ∙ sym (tests-are columns (map comparison_read (take (comparison_steps (used_steps q.condition)) (used_comparisons q.condition))))
 
 -- ---- A.1: the updated table among the query's
 

@@ -1,5 +1,5 @@
 -- Loops that go up a list: whether some member passes a test, how many do, an array filled from another, and two lists compared. Assumes nothing.
-use mathlib.Core.Path.{◌≡◌, sym, ap, ap₂, ◌∙◌}
+use mathlib.Core.Path.{◌≡◌, refl, sym, ap, ap₂, ◌∙◌}
 use mathlib.Core.Bool.{Bool, true, false, cond, ◌&&◌, ◌||◌, or-false, and-true}
 use mathlib.Core.List.{List, [], ◌∷◌, ◌++◌, map}
 use Prim.Native.Nat.{ℕ, ◌+◌, ◌≤◌, ◌<◌}
@@ -7,10 +7,25 @@ use native.Mathlib.Numerals.{add-one}
 use native.Mathlib.Omega.{arith}
 use lib.ListN.{length, get_or, drop, set, length-map, drop_of_length-le}
 use lib.Seq.{drop-cons, take_all, paste}
+use Rattle.std.specs.List.{list_any, count_by}
+use Rattle.std.proofs.lemmas.List.Recursion.{is_count_by}
 use Rattle.lists.specs.Lists.{any, cons_if, keep, count}
 use Rattle.lists.proofs.Bools.{or_assoc, and_assoc}
 use Rattle.table.proofs.Copied.{pasted}
 use Rattle.pattern.proofs.Mapped.{get_or-map-in}
+
+module _ {A : Type 0} (p : A → Bool) where
+  -- what an iterator finds or counts
+  pub any_is : (l : List A) → list_any p l ≡ any p l
+  any_is [] = refl
+  any_is (x ∷ l) = ap (λ (b : Bool). p x || b) (any_is l)
+
+  pub count_is : (l : List A) → count_by p l ≡ count p l
+  count_is l = sym (is_count_by (count p) p refl (λ x xs. count-of (p x) x xs) l)
+    where
+      count-of : (b : Bool) (x : A) (xs : List A) → length (cons_if b x (keep p xs)) ≡ cond b (1 + count p xs) (count p xs)
+      count-of true x xs = omega arith
+      count-of false x xs = refl
 
 module _ {A : Type 0} where
   pub drop-next : (l : List A) (i : ℕ) (d : A) → i < length l → drop i l ≡ get_or l i d ∷ drop (i + 1) l
@@ -45,11 +60,6 @@ module _ {A : Type 0} where
     pub count-more : (i : ℕ) (d : A) (found b : ℕ) → i < length l → b ≡ cond (p (get_or l i d)) 1 0 → Counting found i → Counting (found + b) (i + 1)
     count-more i d found b h e inv =
         let n : count p (drop i l) ≡ cond (p (get_or l i d)) 1 0 + count p (drop (i + 1) l) = ap (count p) (drop-next l i d h) ∙ count-cons (get_or l i d) (drop (i + 1) l) in
-        omega (arith, inv)
-
-    pub count-done : (i found : ℕ) → length l ≤ i → Counting found i → found ≡ count p l
-    count-done i found h inv =
-        let n : count p (drop i l) ≡ 0 = ap (count p) (drop_of_length-le l h) in
         omega (arith, inv)
 
 -- the first k of an array are f of another's

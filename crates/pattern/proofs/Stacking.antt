@@ -1,17 +1,17 @@
 -- A stack of lists of masks in arrays: what the arrays hold, what a step makes of it, and that there is room for it. Assumes nothing.
 use mathlib.Core.Path.{◌≡◌, refl, sym, ap, ap₂, subst, ◌∙◌}
 use mathlib.Core.List.{List, [], ◌∷◌, ◌++◌, append_assoc}
-use Prim.Native.Nat.{ℕ, zero, suc, ◌+◌, ◌-◌, ◌*◌, ◌^◌, ◌≤◌, ◌<◌}
+use Prim.Native.Nat.{ℕ, suc, ◌+◌, ◌-◌, ◌*◌, ◌^◌, ◌≤◌, ◌<◌}
 use native.Mathlib.Nat.{pow-succ', mul-le-mul}
 use native.Mathlib.Numerals.{add-one}
 use native.Mathlib.Omega.{arith}
 use lib.Pow.{pow_mono}
-use lib.ListN.{length, take, drop, get_or, set, length-append, length-set, take-append-drop}
+use lib.ListN.{length-drop, length, take, drop, get_or, set, length-append, length-set, take-append-drop}
 use lib.Seq.{take_at, drop_at, take-suc-set, take-take, get_or-take, get_or_at, length-take-le, append_snoc}
 use Rattle.lists.specs.Lists.{All, nil, cons}
 use Rattle.lists.proofs.Written.{length-written}
 use Rattle.pattern.specs.declared.masks.Stack.{Stack}
-use Rattle.pattern.specs.Masks.{sums, pushed_of, either_of, both_of, right_of, left_of, start_of, lefts, rights, stepped_of, Pushes, Joins, Steps}
+use Rattle.pattern.specs.Masks.{sums, pushed_of, either_of, both_of, right_of, left_of, start_of, lefts, rights, Pushes, Joins}
 use Rattle.pattern.proofs.Sums.{sums-length}
 use Rattle.pattern.proofs.Selecting.{Within, all_either, all_both, sums_fit, most, most-18, most-both}
 
@@ -255,27 +255,28 @@ module _ (s : Stack) (q : ℕ) (rs ls : List ℕ) (st : List (List ℕ)) (H : Ho
 -- ---- a step, by its number
 
 -- the stack with other masks
-pub both-made : (s : Stack) (masks : List ℕ) → masks ≡ (both_of s).masks
-    → ◌≡◌ {A = Stack}
-    (record { masks = masks; lengths = set s.lengths (s.depth - 2) (left_of s * right_of s); depth = s.depth - 1; total = start_of s + left_of s * right_of s; bit = s.bit }) (both_of s)
-both-made s masks e =
-    ap (λ (m : List ℕ). record { masks = m; lengths = set s.lengths (s.depth - 2) (left_of s * right_of s); depth = s.depth - 1; total = start_of s + left_of s * right_of s; bit = s.bit }) e
+-- what AND asks for, as the code finds the two lists
+module _ (s : Stack) (long : length s.masks ≡ 18) (J : Joins s) (l r start : ℕ) (el : l ≡ left_of s) (er : r ≡ right_of s) (es : start ≡ s.total - (l + r)) where
+  lefts-there : take (start + l - start) (drop start s.masks) ≡ lefts s
+  lefts-there =
+      let n : start + l - start ≡ left_of s = omega arith in
+      let k : start ≡ start_of s = omega arith in
+      ap₂ (λ (m at : ℕ). take m (drop at s.masks)) n k
 
-pub push-steps : (k : ℕ) (s : Stack) → k ≡ 0 → Steps k s → Pushes s
-push-steps zero s e p = p
-push-steps (suc k) s e p = absurd (omega arith)
+  rights-there : take (start + l + r - (start + l)) (drop (start + l) s.masks) ≡ rights s
+  rights-there =
+      let n : start + l + r - (start + l) ≡ right_of s = omega arith in
+      let k : start + l ≡ start_of s + left_of s = omega arith in
+      ap₂ (λ (m at : ℕ). take m (drop at s.masks)) n k
 
-pub join-steps : (k : ℕ) (s : Stack) → (k ≡ 0 → ⊥) → Steps k s → Joins s
-join-steps zero s ne p = absurd (ne refl)
-join-steps (suc k) s ne p = p
+  abbrev Fitting : List ℕ → List ℕ → Type 0
+  Fitting ls rs = (start + length ls * length rs ≤ 18) × (length s.masks ≡ 18) × All (λ (a : ℕ). All (λ (b : ℕ). a + b < 256) rs) ls
 
-pub step_push : (k : ℕ) (s : Stack) → k ≡ 0 → pushed_of s ≡ stepped_of k s
-step_push k s e = ap (λ (j : ℕ). stepped_of j s) (sym e)
-
-pub step_both : (k : ℕ) (s : Stack) → k ≡ 1 → both_of s ≡ stepped_of k s
-step_both k s e = ap (λ (j : ℕ). stepped_of j s) (sym e)
-
-pub step-either : (k : ℕ) (s : Stack) → (k ≡ 0 → ⊥) → (k ≡ 1 → ⊥) → either_of s ≡ stepped_of k s
-step-either zero s a b = absurd (a refl)
-step-either (suc zero) s a b = absurd (b refl)
-step-either (suc (suc k)) s a b = refl
+  pub products-fit : Fitting (take (start + l - start) (drop start s.masks)) (take (start + l + r - (start + l)) (drop (start + l) s.masks))
+  products-fit =
+      let nl : length (lefts s) ≡ left_of s = length-take-le (left_of s) (drop (start_of s) s.masks) (simp length-drop (omega (arith, J.inside, J.within))) in
+      let nr : length (rights s) ≡ right_of s = length-take-le (right_of s) (drop (start_of s + left_of s) s.masks) (simp length-drop (omega (arith, J.inside, J.within))) in
+      let k : start ≡ start_of s = omega arith in
+      subst (λ (x : List ℕ). Fitting x (take (start + l + r - (start + l)) (drop (start + l) s.masks))) (sym lefts-there)
+      (subst (Fitting (lefts s)) (sym rights-there)
+      (subst (λ (n : ℕ). n ≤ 18) (ap₂ ◌+◌ (sym k) (sym (ap₂ ◌*◌ nl nr))) J.sums_room, long, J.sums_fit))

@@ -1,6 +1,6 @@
 -- Document 01, "Examples": the starred rows on patterns, from the texts of the statements, by computation on what the texts compile to; A.1, a question over two
 -- tables; and A.5, null. Assumes nothing: each holds by computing.
-use Rattle.std.specs.Prelude.{◌≡◌, refl, true, false, List, [], ◌∷◌, pos}
+use Rattle.std.specs.Prelude.{Some, None, ◌≡◌, refl, true, false, List, [], ◌∷◌, pos}
 use Prim.Native.String.{String}
 use Rattle.lists.specs.Lists.{bytes}
 use Rattle.meaning.specs.Tokens.{is_name_byte, is_word_byte, decimal, is_name, word, negative, token_from, first_token, scan, tokens}
@@ -14,10 +14,10 @@ use Rattle.meaning.specs.Pattern.{Pattern, number, mark, anything, class, contra
 use Rattle.statement.specs.Compiled.{padded, struct_of, compiled_of}
 use Rattle.statement.specs.Sound.{condition_nodes}
 use Rattle.statement.specs.declared.Table.{Table}
-use Rattle.statement.specs.declared.Statement.{Statement}
+use Rattle.statement.specs.Compiled.{Compiled}
 use Rattle.pattern.specs.declared.Entry.TheVariants.{Parameter, Any}
 use Rattle.pattern.specs.declared.Pattern as S
-use Rattle.pattern.specs.Stored.{start_read, relevant, clauses_read, joint_clauses, is_formed, all_any, patterns_stored, clause_total, placed, no_pattern, pattern_at, pattern_list, filled_of, agrees_stored}
+use Rattle.pattern.specs.Stored.{start_read, relevant, clauses_read, joint_clauses, is_formed, all_any, patterns_stored, clause_total, blank, pattern_at, pattern_list, filled_of, agrees_stored}
 
 -- what the computations open
 computing : Unit {0}
@@ -28,7 +28,7 @@ computing = tt
 abbrev stage : Table
 stage = (compiled_of (bytes "TABLE stage (site, level) ROWS 3") [] 0 0 0 6).table
 
-abbrev compiled : String → Statement
+abbrev compiled : String → Compiled
 compiled text = compiled_of (bytes text) (stage ∷ []) 1 0 0 6
 
 abbrev Q : String
@@ -48,18 +48,18 @@ set-level = (refl, refl, refl)
 
 -- in structs question marks are counted from 0
 abbrev second : S.Pattern
-second = record { there = true; entries = padded 8 (placed Any) (placed (Parameter 1) ∷ []); count = 1 }
+second = record { entries = padded 8 Any (Parameter 1 ∷ []); count = 1 }
 
-pub set-level-list : pattern_list (compiled Q).query (compiled update_level).update ≡ record { items = padded 64 no_pattern (second ∷ []); count = 1 }
+pub set-level-list : pattern_list (compiled Q).query (compiled update_level).update ≡ record { items = padded 64 blank (second ∷ []); count = 1 }
 unfolding computing
 set-level-list = refl
 
 -- two joint clauses, (G and F) and (G and F'), have this pattern
 pub set-level-clauses :
     (clause_total (compiled Q).query (compiled update_level).update ≡ 2)
-    × (pattern_at (compiled Q).query (compiled update_level).update 0 ≡ second)
-    × (pattern_at (compiled Q).query (compiled update_level).update 1 ≡ second)
-    × (pattern_at (compiled Q).query (compiled update_level).update 2 ≡ no_pattern)
+    × (pattern_at (compiled Q).query (compiled update_level).update 0 ≡ Some second)
+    × (pattern_at (compiled Q).query (compiled update_level).update 1 ≡ Some second)
+    × (pattern_at (compiled Q).query (compiled update_level).update 2 ≡ None)
 unfolding computing
 set-level-clauses = (refl, refl, refl, refl)
 
@@ -124,7 +124,7 @@ update_four = (refl, refl, refl)
 abbrev rating : Table
 rating = (compiled_of (bytes "TABLE rating (site, flow) ROWS 3") (stage ∷ []) 1 0 0 12).table
 
-abbrev compiled_both : String → Statement
+abbrev compiled_both : String → Compiled
 compiled_both text = compiled_of (bytes text) (stage ∷ rating ∷ []) 2 0 0 12
 
 abbrev R : String
@@ -178,7 +178,7 @@ wide = (compiled_of (bytes "TABLE v (a, b, c, d, e, f, g, h) ROWS 1") [] 0 0 0 1
 abbrev behind : Table
 behind = (compiled_of (bytes "TABLE w (a, b, c, d, e, f, g, h) ROWS 1") (wide ∷ []) 1 0 0 16).table
 
-abbrev compiled_wide : String → Statement
+abbrev compiled_wide : String → Compiled
 compiled_wide text = compiled_of (bytes text) (wide ∷ behind ∷ []) 2 0 0 16
 
 pub set_last :

@@ -1,6 +1,6 @@
 -- A joint clause in arrays: operands as the numbers of `Least`, the sides of comparison k at 2 k and 2 k + 1 of forty, and the query's question marks 1 to 8 behind
 -- them, from 32 on; operators by their numbers. What the code of module `labels` makes of it. Assumes nothing: these are definitions.
-use Rattle.std.specs.Prelude.{◌≡◌, Bool, true, false, cond, List, map, ◌++◌, ℕ, zero, suc, ◌+◌, ◌*◌, ◌≤◌, ◌<◌, eqb, get_or, take, drop, replicate}
+use Rattle.std.specs.Prelude.{Option, Some, None, ◌≡◌, Bool, true, false, cond, List, map, ◌++◌, ℕ, ◌+◌, ◌*◌, ◌≤◌, ◌<◌, eqb, get_or, drop, replicate}
 use Rattle.lists.specs.Lists.{All, from}
 use Rattle.meaning.specs.Condition.{Comparison, sides, renamed}
 use Rattle.meaning.specs.Limits.{is_within32}
@@ -13,12 +13,13 @@ use Rattle.statement.specs.Sound.{value_read}
 use Rattle.statement.specs.Compiled.{padded, new_value}
 use Rattle.statement.specs.Operators.{predicate_at}
 use Rattle.pattern.specs.Least.{marks_from, asked_from, code_of, Coded, coded, least, clashes_on, fails, contradicts, entry_of_code, least_entry}
-use Rattle.pattern.specs.Stored.{place_struct, placed, pattern_struct, no_pattern}
+use Rattle.pattern.specs.Stored.{entry_struct, pattern_struct}
 use Rattle.pattern.specs.declared.Entry.TheVariants.{Any}
-use Rattle.pattern.specs.declared.Place.{Place}
+use Rattle.pattern.specs.declared.Entry.{Entry}
 use Rattle.pattern.specs.declared.Pattern.{Pattern}
 use Rattle.pattern.specs.Masks.{select, comparisons_read}
-use Rattle.pattern.specs.declared.labels.Labels.{Labels}
+use Rattle.pattern.specs.declared.joint.Role.{Role}
+use Rattle.pattern.specs.declared.joint.Role.TheVariants.{Given, Asked, Inserted, Set}
 use Rattle.pattern.specs.declared.joint.Joined.{Joined}
 
 abbrev pub comparison_at : List ℕ → List ℕ → ℕ → Comparison ℕ
@@ -63,37 +64,44 @@ pub record Ready (codes : List ℕ) (n : ℕ) : Type 0 where
   pub readable : All Readable codes
   pub marks_there : drop 32 codes ≡ map (λ (k : ℕ). asked_from + k) (from 1 8)
 
--- the labels of all numbers, and whether an `=` joins two different constants
-pub record Labelled (codes ops : List ℕ) (n : ℕ) (r : Labels) : Type 0 where
-  pub labels_are : r.codes ≡ map (least (clause_at codes ops n)) codes
-  pub clash_is : r.clash ≡ clashes_on (λ x. x) (clause_at codes ops n)
-  pub readable : All Readable r.codes
+-- the labels of all numbers, where no `=` joins two different constants
+pub record LabelsOf (codes ops : List ℕ) (n : ℕ) (labels : List ℕ) : Type 0 where
+  pub labels_are : labels ≡ map (least (clause_at codes ops n)) codes
+  pub no_clash : clashes_on (λ x. x) (clause_at codes ops n) ≡ false
+  pub readable : All Readable labels
 
--- the places of a pattern, by the labels of the first n question marks
-unfoldable pub places_of : List ℕ → ℕ → List Place
-places_of labels n = padded 8 (placed Any) (map (λ (x : ℕ). place_struct (entry_of_code x)) (take n (drop 32 labels)))
+-- there are none, where one does
+abbrev pub Labelled : List ℕ → List ℕ → ℕ → Option (List ℕ) → Type 0
+Labelled codes ops n None = clashes_on (λ x. x) (clause_at codes ops n) ≡ true
+Labelled codes ops n (Some labels) = LabelsOf codes ops n labels
+
+-- the entries of a pattern, by the labels of its question marks
+unfoldable pub entries_of : List ℕ → List Entry
+entries_of labels = padded 8 Any (map (λ (x : ℕ). entry_struct (entry_of_code x)) labels)
 
 -- the pattern of a clause, by numbers, for n question marks
-unfoldable pub coded_pattern : ℕ → Coded → Pattern
-coded_pattern n cs = cond (contradicts cs) no_pattern (pattern_struct (map (least_entry cs) (from 1 n)))
+unfoldable pub coded_pattern : ℕ → Coded → Option Pattern
+coded_pattern n cs = cond (contradicts cs) None (Some (pattern_struct (map (least_entry cs) (from 1 n))))
 
--- ---- operands of the statements, as module `joint` writes them, by whose they are: 0 the update's, 1 the query's, 2 and 3 the query's with columns replaced as INSERT
+-- ---- operands of the statements, as module `joint` writes them, by whose they are: the update's, the query's, the query's with columns replaced as INSERT
 -- and UPDATE do; ss are the update's settings, and k columns of the query stand before those of the updated table (A.1)
 
 abbrev pub values_of : List (ℕ × M.Value) → List M.Value
 values_of ss = map (λ (s : ℕ × M.Value). s.1) ss
 
-abbrev pub column_of : ℕ → ℕ → List (ℕ × M.Value) → ℕ → Joint
-column_of zero k ss i = column (k + i)
-column_of (suc zero) k ss i = column i
-column_of (suc (suc zero)) k ss i = replacing (placed_from k (values_of ss)) i
-column_of (suc (suc (suc r))) k ss i = replacing (moved k ss) i
+abbrev pub column_of : Role → ℕ → List (ℕ × M.Value) → ℕ → Joint
+column_of Given k ss i = column (k + i)
+column_of Asked k ss i = column i
+column_of Inserted k ss i = replacing (placed_from k (values_of ss)) i
+column_of Set k ss i = replacing (moved k ss) i
 
-abbrev pub mark_of : ℕ → ℕ → Joint
-mark_of zero k = given k
-mark_of (suc r) k = asked k
+abbrev pub mark_of : Role → ℕ → Joint
+mark_of Given k = given k
+mark_of Asked k = asked k
+mark_of Inserted k = asked k
+mark_of Set k = asked k
 
-abbrev pub operand_of : ℕ → ℕ → List (ℕ × M.Value) → M.Operand → Joint
+abbrev pub operand_of : Role → ℕ → List (ℕ × M.Value) → M.Operand → Joint
 operand_of r k ss (M.column i) = column_of r k ss i
 operand_of r k ss (M.value (M.constant z)) = constant z
 operand_of r k ss (M.value (M.parameter m)) = mark_of r m
@@ -108,7 +116,7 @@ pub record SetOnce (item : Setting) (k i code r : ℕ) : Type 0 where
   pub follows : (x : Joint) → Coding x code → Coding (cond (eqb i (k + item.column)) (of_value (value_read (new_value item))) x) r
 
 -- the clause that a mask selects of a condition
-abbrev pub chosen_of : ℕ → ℕ → List (ℕ × M.Value) → Condition → ℕ → Clause
+abbrev pub chosen_of : Role → ℕ → List (ℕ × M.Value) → Condition → ℕ → Clause
 chosen_of r k ss c mask = map (renamed (operand_of r k ss)) (select (comparisons_read c) mask)
 
 abbrev pub no_clause : Joined

@@ -1,5 +1,5 @@
 -- The joint clauses of a query and an update one by one, as module `pairing` finds them. Assumes nothing: these are definitions.
-use Rattle.std.specs.Prelude.{◌≡◌, false, List, [], map, ℕ, zero, suc, ◌+◌, ◌*◌, ◌≤◌, length, get_or}
+use Rattle.std.specs.Prelude.{Option, Some, None, ◌≡◌, true, false, List, [], map, ℕ, zero, suc, ◌+◌, ◌*◌, ◌≤◌, length, get_or}
 use Rattle.lists.specs.Lists.{pairs}
 use Rattle.meaning.specs.Condition.{renamed}
 use Rattle.meaning.specs.Pattern.{Clause}
@@ -9,6 +9,7 @@ use Rattle.statement.specs.Sound.{settings_read}
 use Rattle.pattern.specs.Stored.{clauses_read, update_clauses, joint, all_any}
 use Rattle.pattern.specs.Masks.{Masked}
 use Rattle.pattern.specs.Flat.{operand_of}
+use Rattle.pattern.specs.declared.joint.Role.{Role}
 use Rattle.pattern.specs.declared.pairing.Pairing.{Pairing}
 
 -- how many joint clauses f clauses of the query and g of the update make, by the update's form
@@ -18,11 +19,11 @@ total_of (suc zero) f g = g * f + g * f
 total_of (suc (suc k)) f g = g * f
 
 -- the clauses of the query, its operands in a role
-abbrev pub role_clauses : ℕ → ℕ → Query → Update → List Clause
+abbrev pub role_clauses : Role → ℕ → Query → Update → List Clause
 role_clauses role k q u = map (map (renamed (operand_of role k (settings_read u)))) (clauses_read q.condition)
 
 -- clause i of the update's and the query's
-abbrev pub pair_at : ℕ → ℕ → Query → Update → ℕ → Clause
+abbrev pub pair_at : Role → ℕ → Query → Update → ℕ → Clause
 pair_at role k q u i = get_or (pairs (update_clauses k u) (role_clauses role k q u)) i []
 
 -- what is known where the clauses are worked out
@@ -34,6 +35,7 @@ pub record Worked (q : Query) (u : Update) (p : Pairing) : Type 0 where
   pub total_is : p.total ≡ length (joint q u)
   pub few : p.total ≤ 64
 
-pub record Paired (q : Query) (u : Update) (p : Pairing) : Type 0 where
-  pub many_is : p.many ≡ all_any q u
-  pub worked : p.many ≡ false → Worked q u p
+-- there are none, where they are not
+abbrev pub Paired : Query → Update → Option Pairing → Type 0
+Paired q u None = all_any q u ≡ true
+Paired q u (Some p) = (all_any q u ≡ false) × Worked q u p

@@ -1,7 +1,8 @@
 -- Rule 2 column by column, as module `relevance` looks for them: whether a column that the query selects or tests is among those that an UPDATE sets, k columns on (A.1).
 -- Assumes nothing: these are definitions.
-use Rattle.std.specs.Prelude.{Bool, false, ◌||◌, cond, List, ℕ, ◌+◌, eqb}
+use Rattle.std.specs.Prelude.{Bool, false, ◌||◌, List, ℕ, ◌+◌, eqb}
 use Rattle.lists.specs.Lists.{any, count}
+use Rattle.meaning.specs.Condition.{Comparison}
 use Rattle.meaning.specs.Statement as M
 use Rattle.statement.specs.declared.Query.{Query}
 use Rattle.statement.specs.declared.Update.{Update}
@@ -20,8 +21,9 @@ abbrev pub names_any : List ℕ → M.Operand → Bool
 names_any columns (M.column i) = is_among columns i
 names_any columns (M.value v) = false
 
-abbrev pub one_if : Bool → ℕ
-one_if b = cond b 1 0
+-- whether a comparison has such a column
+abbrev pub tests_any : List ℕ → Comparison M.Operand → Bool
+tests_any columns c = names_any columns c.left || names_any columns c.right
 
 -- how many steps take a comparison
 abbrev pub comparison_steps : List ℕ → ℕ

@@ -1,15 +1,16 @@
 -- The patterns of a stored query and a stored update: document 01, "Patterns", rules 1 to 7, on the structs of the code. They are given for every two structs; of a
 -- query and an update that texts compile to, they are the patterns of their sentences (proofs/Laws). A struct whose condition no text compiles to is treated
 -- as one with too many clauses. Assumes nothing: these are definitions.
-use Rattle.std.specs.Prelude.{Bool, true, false, not, ◌&&◌, ◌||◌, cond, List, [], ◌++◌, map, ℕ, zero, suc, min, eqb, leb, ltb, ℤ, pos, length, get_or, take, replicate}
-use Rattle.std.proofs.Math.Option.{Option}
+use Rattle.std.specs.Prelude.{Option, Some, None, Bool, true, false, not, ◌&&◌, ◌||◌, cond, List, [], ◌++◌, map, ℕ, zero, suc, min, eqb, leb, ltb, ℤ, pos, length, get_or, take, set, ◌+◌, replicate}
+use Rattle.std.proofs.Math.Option as Maybe
 use Rattle.lists.specs.Lists.{any, pairs}
+use Rattle.lists.specs.Tests.{eq_list}
 use Rattle.meaning.specs.Condition as C
 use Rattle.meaning.specs.Condition.{sides, renamed}
 use Rattle.meaning.specs.Postfix.{clauses_of_nodes, leaves, is_postfix}
 use Rattle.meaning.specs.Statement as M
 use Rattle.meaning.specs.Pattern as P
-use Rattle.meaning.specs.Pattern.{Side, neither, first, second, second_side, is_side, second_start, moved, column, of_update, of_query, placed_from, replacing, operand_columns, Clause, contradictory, pattern, chosen, most_clauses, number, mark, anything, agrees}
+use Rattle.meaning.specs.Pattern.{Side, neither, first, second, second_side, is_side, second_start, moved, column, of_update, of_query, placed_from, replacing, operand_columns, Clause, contradictory, pattern, chosen, most_clauses, number, mark, anything, same_entry, agrees}
 use Rattle.statement.specs.declared.Condition.{Condition}
 use Rattle.statement.specs.declared.Query.{Query}
 use Rattle.statement.specs.declared.Update.{Update}
@@ -17,20 +18,19 @@ use Rattle.statement.specs.Compiled.{padded, mark_place}
 use Rattle.statement.specs.Sound.{condition_nodes, second_read, settings_read, setting_values}
 use Rattle.pattern.specs.declared.Entry.{Entry}
 use Rattle.pattern.specs.declared.Entry.TheVariants.{Constant, Parameter, Any}
-use Rattle.pattern.specs.declared.Place.{Place}
 use Rattle.pattern.specs.declared.Pattern.{Pattern}
 use Rattle.pattern.specs.declared.Patterns.{Patterns}
 
 -- ---- A.1: which table of the query is updated, and how many columns of the query stand before that table's
 
 -- the first by its number, the second, and the updated table by its number
-abbrev pub side_by : ℕ → Option M.Second → ℕ → Side
+abbrev pub side_by : ℕ → Maybe.Option M.Second → ℕ → Side
 side_by table m t = cond (eqb table t) first (second_side m t)
 
 abbrev pub side_read : Query → Update → Side
 side_read q u = side_by q.table (second_read q) u.table
 
-abbrev pub start_by : Option M.Second → Side → ℕ
+abbrev pub start_by : Maybe.Option M.Second → Side → ℕ
 start_by m neither = 0
 start_by m first = 0
 start_by m second = second_start m
@@ -110,32 +110,33 @@ entry_struct (number z) = Constant z
 entry_struct (mark k) = Parameter (mark_place k)
 entry_struct anything = Any
 
-abbrev pub placed : Entry → Place
-placed e = record { entry = e }
-
-abbrev pub place_struct : P.Entry → Place
-place_struct e = placed (entry_struct e)
-
 abbrev pub pattern_struct : P.Pattern → Pattern
-pattern_struct es = record { there = true; entries = padded 8 (placed Any) (map place_struct es); count = length es }
-
-abbrev pub no_pattern : Pattern
-no_pattern = record { there = false; entries = replicate 8 (placed Any); count = 0 }
+pattern_struct es = record { entries = padded 8 Any (map entry_struct es); count = length es }
 
 -- of a clause that goes, none
-abbrev pub clause_pattern : ℕ → Clause → Pattern
-clause_pattern n cs = cond (contradictory cs) no_pattern (pattern_struct (pattern n cs))
+abbrev pub clause_pattern : ℕ → Clause → Option Pattern
+clause_pattern n cs = cond (contradictory cs) None (Some (pattern_struct (pattern n cs)))
 
 -- the pattern of clause i, whether rules 1 and 2 let the clauses be looked at or not
-unfoldable pub pattern_at : Query → Update → ℕ → Pattern
+unfoldable pub pattern_at : Query → Update → ℕ → Option Pattern
 pattern_at q u i =
     cond (ltb i (clause_count q u))
-    (cond (all_any q u) (pattern_struct (replicate (entry_count q) anything)) (clause_pattern (entry_count q) (get_or (joint q u) i [])))
-    no_pattern
+    (cond (all_any q u) (Some (pattern_struct (replicate (entry_count q) anything))) (clause_pattern (entry_count q) (get_or (joint q u) i [])))
+    None
 
--- the list without repeats
+-- the list without repeats, and what stands behind it
+abbrev pub blank : Pattern
+blank = record { entries = replicate 8 Any; count = 0 }
+
 unfoldable pub pattern_list : Query → Update → Patterns
-pattern_list q u = record { items = padded 64 no_pattern (map pattern_struct (patterns_stored q u)); count = length (patterns_stored q u) }
+pattern_list q u = record { items = padded 64 blank (map pattern_struct (patterns_stored q u)); count = length (patterns_stored q u) }
+
+-- a list in the making
+abbrev pub no_patterns : Patterns
+no_patterns = record { items = replicate 64 blank; count = 0 }
+
+abbrev pub with_pattern : Patterns → Pattern → Patterns
+with_pattern l p = record { items = set l.items l.count p; count = l.count + 1 }
 
 -- ---- a pattern with the update's values, and whether it agrees with those of a key
 
@@ -144,20 +145,23 @@ filled_entry us (Constant z) = Constant z
 filled_entry us (Parameter k) = Constant (get_or us k (pos 0))
 filled_entry us Any = Any
 
-abbrev pub filled_place : List ℤ → Place → Place
-filled_place us e = placed (filled_entry us e.entry)
-
 unfoldable pub filled_of : List ℤ → Pattern → Pattern
-filled_of us p = record { there = p.there; entries = map (filled_place us) p.entries; count = p.count }
+filled_of us p = record { entries = map (filled_entry us) p.entries; count = p.count }
 
 abbrev pub entry_read : Entry → P.Entry
 entry_read (Constant z) = number z
 entry_read (Parameter k) = mark (suc k)
 entry_read Any = anything
 
-abbrev pub place_read : Place → P.Entry
-place_read e = entry_read e.entry
+-- two patterns of the same entries
+abbrev pub same_struct : Pattern → Pattern → Bool
+same_struct a b = eq_list same_entry (map entry_read a.entries) (map entry_read b.entries)
 
 -- a question mark that is not filled in counts as 0
 unfoldable pub agrees_stored : Pattern → List ℤ → Bool
-agrees_stored p qs = p.there && agrees [] qs (map place_read (take p.count p.entries))
+agrees_stored p qs = agrees [] qs (map entry_read (take p.count p.entries))
+
+-- the pattern of a clause, if it has one, agrees with the values of a key, filled with those of the update
+abbrev pub clause_agrees : List ℤ → List ℤ → Option Pattern → Bool
+clause_agrees us qs None = false
+clause_agrees us qs (Some p) = agrees_stored (filled_of us p) qs

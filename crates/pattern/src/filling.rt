@@ -1,9 +1,9 @@
 // Patterns with the update's values, beside the values of a key.
-ghost use Rattle.std.specs.Prelude.{◌≡◌, []};
+ghost use Rattle.std.specs.Prelude.{◌≡◌, [], map};
 ghost use Rattle.meaning.specs.Pattern.{agrees_at};
 ghost use Rattle.pattern.specs.Stored.{filled_entry, entry_read};
 
-use super::Entry;
+use super::{Entry, Pattern};
 
 // An entry with the update's values: a parameter becomes its value, 0 past the values.
 pub fn filled(entry: Entry, values: &[i32]) -> Entry
@@ -12,13 +12,22 @@ pub fn filled(entry: Entry, values: &[i32]) -> Entry
     match entry {
         Entry::Constant(z) => Entry::Constant(z),
         Entry::Parameter(k) => {
-            let i = k as usize;
+            let i = usize::from(k);
             if i < values.len() {
                 return Entry::Constant(values[i]);
             }
             Entry::Constant(0)
         }
         Entry::Any => Entry::Any,
+    }
+}
+
+// Fills the entries of a pattern.
+pub fn fill(entries: &mut [Entry; Pattern::ENTRIES], values: &[i32])
+    ensures { entries.new ≡ map (filled_entry values.now) entries.old }
+{
+    for entry in entries.iter_mut() {
+        *entry = filled(*entry, values);
     }
 }
 

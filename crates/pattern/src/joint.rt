@@ -8,53 +8,86 @@ ghost use Rattle.statement.specs.Sound.{value_read, operand_read, setting_read};
 ghost use Rattle.pattern.specs.Least.{constant_code};
 ghost use Rattle.pattern.specs.Flat.{column_of, operand_of, values_of, Coding, Readable, chosen_of, no_clause, Extended, SetOnce, mark_of};
 
-use super::Pattern;
-use super::labels::Labels;
-use table::{Condition, Operand, Setting, Update, Value};
+use super::{Pattern, in_use};
+use table::{Condition, Operand, Setting, Value};
+
+// Whose an operand is: the update's, the query's, the query's with columns as INSERT or UPDATE gives them.
+#[derive(Clone, Copy, PartialEq, Eq)]
+pub enum Role {
+    Given,
+    Asked,
+    Inserted,
+    Set,
+}
+
+// How the operands of a condition are read: whose they are, how many columns of the query stand before those of the updated table, and the update's settings.
+#[derive(Clone, Copy)]
+pub struct Reading<'a> {
+    pub role: Role,
+    pub from: u8,
+    pub settings: &'a [Setting],
+}
 
 // A clause of `count` comparisons: their operators, and their sides as numbers, two a comparison; the query's question marks stand behind the sides.
+// (Arrays and a count: there is no heap. Sides and question marks are one array, so that a label is renamed in one pass.)
 #[derive(Clone, Copy)]
 pub struct Joined {
-    pub codes: [u64; Labels::OPERANDS],
-    pub ops: [u8; Labels::COMPARISONS],
+    pub codes: [u64; Joined::OPERANDS],
+    pub ops: [u8; Joined::COMPARISONS],
     pub count: usize,
 }
 
 impl Joined {
-    // Whose an operand is: the update's, the query's, the query's with columns as INSERT or UPDATE gives them.
-    pub const UPDATE: u8 = 0;
+    // Both sides of sixteen comparisons, and eight question marks of the query.
+    pub const OPERANDS: usize = Joined::ASKED + Pattern::ENTRIES;
 
-    pub const QUERY: u8 = 1;
+    pub const COMPARISONS: usize = 2 * Condition::COMPARISONS;
 
-    pub const INSERTED: u8 = 2;
+    // Where the question marks start.
+    pub const ASKED: usize = 2 * Joined::COMPARISONS;
 
-    pub const SET: u8 = 3;
+    // The first number that is no constant; the first of the query's question marks; of columns.
+    pub const FROM_MARKS: u64 = 4294967296;
+
+    pub const FROM_ASKED: u64 = 4295032832;
+
+    pub const FROM_COLUMNS: u64 = 4295098368;
+
+    // The number of the constant 0; of the null constant, the least of all.
+    pub const ZERO: u64 = 2147483648;
+
+    pub const NULL: u64 = 0;
 
     // No comparison yet.
     pub fn empty() -> Joined
         ensures { result ≡ no_clause }
     {
-        let ops = [0u8; Labels::COMPARISONS];
-        let mut codes = [0u64; Labels::OPERANDS];
-        let mut k: usize = 0;
-        while k < Pattern::ENTRIES {
-            codes[Labels::ASKED + k] = Labels::FROM_ASKED + (k as u64) + 1;
-            k += 1;
+        let mut codes = [0u64; Joined::OPERANDS];
+        for k in 0..Pattern::ENTRIES {
+            codes[Joined::ASKED + k] = Joined::FROM_ASKED + (k as u64) + 1;
         }
         Joined {
             codes,
-            ops,
+            ops: [0; Joined::COMPARISONS],
             count: 0,
         }
     }
-}
 
-// How many entries of an array of so many a count says are in use.
-pub fn used(count: u8, most: usize) -> usize
-    ensures { result ≡ min count most }
-{
-    let n = count as usize;
-    if n < most { n } else { most }
+    // Adds the comparisons of a condition that a mask selects. (Each is written behind the others; the next takes its place where it is not selected.)
+    pub fn add(&mut self, condition: &Condition, mask: u8, reading: Reading)
+        requires { (self.old.count ≤ 8) × (condition.now.count ≤ 8) × All Readable self.old.codes }
+        ensures { Extended self.old.codes self.old.ops self.old.count (chosen_of reading.entry.role reading.entry.from (map setting_read reading.entry.settings.now) condition.now mask) self.new }
+    {
+        let mut left = mask;
+        for c in in_use(&condition.comparisons, usize::from(condition.count)) {
+            let at = self.count;
+            self.codes[2 * at] = reading.operand(c.left_side());
+            self.codes[2 * at + 1] = reading.operand(c.right_side());
+            self.ops[at] = c.op;
+            self.count += usize::from(left % 2);
+            left /= 2;
+        }
+    }
 }
 
 // ---- operands
@@ -63,8 +96,8 @@ pub fn used(count: u8, most: usize) -> usize
 fn constant_code(z: i32) -> u64
     ensures { (result ≡ constant_code z) × (is_within32 z ≡ true) }
 {
-    let w = (z as i64) + 4294967296;
-    (w as u64) - Labels::ZERO
+    let w = i64::from(z) + 4294967296;
+    (w as u64) - Joined::ZERO
 }
 
 // What VALUES or SET gives.
@@ -74,141 +107,79 @@ fn value_code(value: Value) -> u64
     if value.mark == 0 {
         return constant_code(value.number);
     }
-    Labels::FROM_MARKS + (value.mark as u64)
-}
-
-// What a column becomes in an INSERT: the value of its place, or itself outside the inserted ones.
-fn inserted_code(settings: [Setting; Update::SETTINGS], n: usize, column: u8, from: u8) -> u64
-    requires { n ≤ 8 }
-    ensures { Coding (replacing (placed_from from (values_of (map setting_read (take n settings)))) column) result }
-{
-    if column < from {
-        return Labels::FROM_COLUMNS + (column as u64);
-    }
-    let i = (column - from) as usize;
-    if i < n {
-        let item = settings[i];
-        let value = item.new_value();
-        return value_code(value);
-    }
-    Labels::FROM_COLUMNS + (column as u64)
+    Joined::FROM_MARKS + u64::from(value.mark)
 }
 
 // A column's number, or the one given, where a setting is of another column.
-fn set_once(item: Setting, column: u8, from: u8, code: u64) -> u64
-    ensures { SetOnce item from column code result }
+fn set_once(item: &Setting, column: u8, from: u8, code: u64) -> u64
+    ensures { SetOnce item.now from column code result }
 {
-    if (from as u16) + (item.column as u16) == (column as u16) {
-        let value = item.new_value();
-        return value_code(value);
+    if u16::from(from) + u16::from(item.column) == u16::from(column) {
+        return value_code(item.new_value());
     }
     code
 }
 
-// What a column becomes in an UPDATE: what it is last set to, or itself.
-fn set_code(settings: [Setting; Update::SETTINGS], n: usize, column: u8, from: u8) -> u64
-    requires { n ≤ 8 }
-    ensures { Coding (replacing (moved from (map setting_read (take n settings))) column) result }
-{
-    let mut code = Labels::FROM_COLUMNS + (column as u64);
-    let mut i: usize = 0;
-    while i < n {
-        let item = settings[i];
-        code = set_once(item, column, from, code);
-        i += 1;
+impl Reading<'_> {
+    // What a column becomes in an INSERT: the value of its place, or itself outside the inserted ones.
+    fn inserted(self, column: u8) -> u64
+        ensures { Coding (replacing (placed_from self.entry.from (values_of (map setting_read self.entry.settings.now))) column) result }
+    {
+        if self.from <= column {
+            let i = usize::from(column - self.from);
+            if i < self.settings.len() {
+                return value_code(self.settings[i].new_value());
+            }
+        }
+        Joined::FROM_COLUMNS + u64::from(column)
     }
-    code
-}
 
-// A column's number: its own, the updated table's counted through both tables, or of what the update puts there.
-fn column_code(
-    column: u8,
-    role: u8,
-    from: u8,
-    settings: [Setting; Update::SETTINGS],
-    n: usize,
-) -> u64
-    requires { n ≤ 8 }
-    ensures { Coding (column_of role from (map setting_read (take n settings)) column) result }
-{
-    if role == Joined::UPDATE {
-        return Labels::FROM_COLUMNS + (from as u64) + (column as u64);
+    // What a column becomes in an UPDATE: what it is last set to, or itself.
+    fn set(self, column: u8) -> u64
+        ensures { Coding (replacing (moved self.entry.from (map setting_read self.entry.settings.now)) column) result }
+    {
+        let from = self.from;
+        let mut code = Joined::FROM_COLUMNS + u64::from(column);
+        for item in self.settings {
+            code = set_once(item, column, from, code);
+        }
+        code
     }
-    if role == Joined::QUERY {
-        return Labels::FROM_COLUMNS + (column as u64);
-    }
-    if role == Joined::INSERTED {
-        return inserted_code(settings, n, column, from);
-    }
-    set_code(settings, n, column, from)
-}
 
-// The number of question mark k + 1, of whom the role says.
-fn mark_code(k: u8, role: u8) -> u64
-    ensures { Coding (mark_of role (suc k)) result }
-{
-    if role == Joined::UPDATE {
-        return Labels::FROM_MARKS + (k as u64) + 1;
+    // A column's number: its own, the updated table's counted through both tables, or of what the update puts there.
+    fn column(self, column: u8) -> u64
+        ensures { Coding (column_of self.entry.role self.entry.from (map setting_read self.entry.settings.now) column) result }
+    {
+        match self.role {
+            Role::Given => Joined::FROM_COLUMNS + u64::from(self.from) + u64::from(column),
+            Role::Asked => Joined::FROM_COLUMNS + u64::from(column),
+            Role::Inserted => self.inserted(column),
+            Role::Set => self.set(column),
+        }
     }
-    Labels::FROM_ASKED + (k as u64) + 1
-}
 
-// A side of a comparison.
-fn operand_code(
-    o: Operand,
-    role: u8,
-    from: u8,
-    settings: [Setting; Update::SETTINGS],
-    n: usize,
-) -> u64
-    requires { n ≤ 8 }
-    ensures { Coding (operand_of role from (map setting_read (take n settings)) (operand_read o)) result }
-{
-    if o.code % 2 == 1 {
-        return mark_code(o.code / 2, role);
+    // The number of question mark k + 1, of whom the role says.
+    fn mark(self, k: u8) -> u64
+        ensures { Coding (mark_of self.entry.role (suc k)) result }
+    {
+        let from = if self.role == Role::Given {
+            Joined::FROM_MARKS
+        } else {
+            Joined::FROM_ASKED
+        };
+        from + u64::from(k) + 1
     }
-    if o.code == 0 {
-        return constant_code(o.number);
-    }
-    column_code(o.code / 2 - 1, role, from, settings, n)
-}
 
-// ---- comparisons
-
-// The clause with the comparisons of a condition added that a mask selects. (Each is written behind the others; the next takes its place where it is not selected.)
-pub fn add(
-    start: [u64; Labels::OPERANDS],
-    ops: [u8; Labels::COMPARISONS],
-    n: usize,
-    condition: Condition,
-    mask: u8,
-    role: u8,
-    from: u8,
-    settings: [Setting; Update::SETTINGS],
-    given: usize,
-) -> Joined
-    requires { (n ≤ 8) × (given ≤ 8) × (condition.count ≤ 8) × All Readable start }
-    ensures { Extended start ops n (chosen_of role from (map setting_read (take given settings)) condition mask) result × (length settings ≡ 8) }
-{
-    let mut codes = start;
-    let mut numbers = ops;
-    let mut at = n;
-    let mut left = mask;
-    let mut i: usize = 0;
-    while i < (condition.count as usize) {
-        let c = condition.comparisons[i];
-        let a = c.left_side();
-        let b = c.right_side();
-        codes[2 * at] = operand_code(a, role, from, settings, given);
-        codes[2 * at + 1] = operand_code(b, role, from, settings, given);
-        numbers[at] = c.op;
-        at += (left % 2) as usize;
-        left = left / 2;
-        i += 1;
-    }
-    Joined {
-        codes,
-        ops: numbers,
-        count: at,
+    // A side of a comparison.
+    fn operand(self, o: Operand) -> u64
+        ensures { Coding (operand_of self.entry.role self.entry.from (map setting_read self.entry.settings.now) (operand_read o)) result }
+    {
+        if o.code % 2 == 1 {
+            return self.mark(o.code / 2);
+        }
+        if o.code == 0 {
+            return constant_code(o.number);
+        }
+        self.column(o.code / 2 - 1)
     }
 }

@@ -15,25 +15,25 @@ ghost use Rattle.pattern.specs.Stored.{clause_total, pattern_at, pattern_list, f
 pub use relevance::reads;
 use table::{Query, Update};
 
+// The first of the entries of an array, of which so many are in use.
+fn in_use<T>(all: &[T], count: usize) -> &[T]
+    ensures { result.now ≡ take count all.now }
+{
+    &all[..count.min(all.len())]
+}
+
 // What a pattern asks of a value of a key: that it is this constant, or the update's parameter of this number (counted from 0), or nothing.
-#[derive(Clone, Copy)]
+#[derive(Clone, Copy, PartialEq, Eq)]
 pub enum Entry {
     Constant(i32),
     Parameter(u8),
     Any,
 }
 
-// A place of a pattern: a struct, as the array of a struct may hold structs and no enums.
-#[derive(Clone, Copy)]
-pub struct Place {
-    pub entry: Entry,
-}
-
-// The pattern of a clause, if it has one: an entry for each of the query's parameters, the first `count` entries.
+// The pattern of a clause: an entry for each of the query's parameters, the first `count` entries. (An array and a count: there is no heap.)
 #[derive(Clone, Copy)]
 pub struct Pattern {
-    pub there: bool,
-    pub entries: [Place; Pattern::ENTRIES],
+    pub entries: [Entry; Pattern::ENTRIES],
     pub count: u8,
 }
 
@@ -45,47 +45,31 @@ impl Pattern {
         ensures { result ≡ filled_of values.now self }
     {
         let mut entries = self.entries;
-        let mut i: usize = 0;
-        while i < Pattern::ENTRIES {
-            let place = entries[i];
-            let asked = place.entry;
-            let entry = filling::filled(asked, values);
-            entries[i] = Place { entry };
-            i += 1;
-        }
+        filling::fill(&mut entries, values);
         Pattern {
-            there: self.there,
             entries,
             count: self.count,
         }
     }
 
-    // Whether the first `count` values of a key are what the pattern asks for.
-    pub fn agrees(self, values: [i32; Pattern::ENTRIES], count: u8) -> bool
-        ensures { result ≡ agrees_stored self (take count values) }
+    // Whether the values of a key are what the pattern asks for.
+    pub fn agrees(&self, values: &[i32]) -> bool
+        ensures { result ≡ agrees_stored self.now values.now }
     {
-        if !self.there {
+        let entries = in_use(&self.entries, usize::from(self.count));
+        if values.len() != entries.len() {
             return false;
         }
-        let n = joint::used(self.count, Pattern::ENTRIES);
-        if n != joint::used(count, Pattern::ENTRIES) {
-            return false;
-        }
-        let entries = self.entries;
-        let mut i: usize = 0;
-        while i < n {
-            let place = entries[i];
-            let entry = place.entry;
-            if !filling::agrees(entry, values[i]) {
+        for (i, value) in values.iter().enumerate() {
+            if !filling::agrees(entries[i], *value) {
                 return false;
             }
-            i += 1;
         }
         true
     }
 }
 
-// The patterns of a query and an update, the first `count` items.
+// The patterns of a query and an update, the first `count` items. Past them stand patterns without entries, which nothing reads. (An array and a count: there is no heap.)
 #[derive(Clone, Copy)]
 pub struct Patterns {
     pub items: [Pattern; Patterns::CLAUSES],
@@ -97,62 +81,43 @@ impl Patterns {
     pub const CLAUSES: usize = 64;
 
     // The patterns of a query and an update, in the order of their clauses.
-    pub fn of(query: Query, update: Update) -> Patterns
-        ensures { result ≡ pattern_list query update }
+    pub fn of(query: &Query, update: &Update) -> Patterns
+        ensures { result ≡ pattern_list query.now update.now }
     {
-        let total = clause_total(query, update);
-        let mut items = listing::no_patterns();
-        let mut count: usize = 0;
-        let mut i: u8 = 0;
-        while i < total {
-            let p = clause_pattern(query, update, i);
-            let mut seen = false;
-            let mut j: usize = 0;
-            while j < count {
-                let other = items[j];
-                seen = seen | listing::same(other, p);
-                j += 1;
+        let mut list = listing::no_patterns();
+        for i in 0..clause_total(query, update) {
+            if let Some(p) = clause_pattern(query, update, i) {
+                listing::add(&mut list, p);
             }
-            if p.there & !seen {
-                items[count] = p;
-                count += 1;
-            }
-            i += 1;
         }
-        Patterns {
-            items,
-            count: count as u8,
-        }
+        list
     }
 }
 
 // How many joint clauses there are to look at.
-pub fn clause_total(query: Query, update: Update) -> u8
-    ensures { result ≡ clause_total query update }
+pub fn clause_total(query: &Query, update: &Update) -> u8
+    ensures { result ≡ clause_total query.now update.now }
 {
     if !relevance::relevant(query, update) {
         return 0;
     }
-    let p = pairing::paired(query, update);
-    if p.many {
-        return 1;
+    match pairing::paired(query, update) {
+        None => 1,
+        Some(p) => p.total as u8,
     }
-    p.total as u8
 }
 
 // The pattern of joint clause i, if it has one. That the update can matter to the query at all is for `clause_total` to tell, once for all clauses.
-pub fn clause_pattern(query: Query, update: Update, i: u8) -> Pattern
-    ensures { result ≡ pattern_at query update i }
+pub fn clause_pattern(query: &Query, update: &Update, i: u8) -> Option<Pattern>
+    ensures { result ≡ pattern_at query.now update.now i }
 {
-    let p = pairing::paired(query, update);
-    if p.many {
-        if i == 0 {
-            return pairing::all_any(query);
+    match pairing::paired(query, update) {
+        None => (i == 0).then_some(pairing::all_any(query)),
+        Some(p) => {
+            if p.total <= u16::from(i) {
+                return None;
+            }
+            pairing::clause_at(query, update, &p, i)
         }
-        return labels::no_pattern();
     }
-    if p.total <= (i as u16) {
-        return labels::no_pattern();
-    }
-    pairing::clause_at(query, update, p, i)
 }

@@ -1,57 +1,42 @@
 // The patterns of a query and an update as a list without repeats (rule 7: "Equal patterns keep the first.").
-ghost use Rattle.std.specs.Prelude.{◌≡◌, map, replicate};
+ghost use Rattle.std.specs.Prelude.{◌≡◌, map, ◌<◌, cond, take};
+ghost use Rattle.lists.specs.Lists.{any};
 ghost use Rattle.lists.specs.Tests.{eq_list};
 ghost use Rattle.meaning.specs.Pattern.{same_entry};
-ghost use Rattle.pattern.specs.Stored.{entry_read, place_read, no_pattern};
+ghost use Rattle.pattern.specs.Stored.{entry_read, same_struct, no_patterns, with_pattern};
 
-use super::{Entry, Pattern, Patterns, labels};
-
-// Whether two entries are the same.
-fn same_entry(a: Entry, b: Entry) -> bool
-    ensures { result ≡ same_entry (entry_read a) (entry_read b) }
-{
-    match a {
-        Entry::Constant(y) => match b {
-            Entry::Constant(z) => y == z,
-            Entry::Parameter(_) => false,
-            Entry::Any => false,
-        },
-        Entry::Parameter(j) => match b {
-            Entry::Constant(_) => false,
-            Entry::Parameter(k) => j == k,
-            Entry::Any => false,
-        },
-        Entry::Any => match b {
-            Entry::Constant(_) => false,
-            Entry::Parameter(_) => false,
-            Entry::Any => true,
-        },
-    }
-}
+use super::{Entry, Pattern, Patterns};
 
 // Whether two patterns have the same entries.
-pub fn same(a: Pattern, b: Pattern) -> bool
-    ensures { result ≡ eq_list same_entry (map place_read a.entries) (map place_read b.entries) }
+fn same(a: &Pattern, b: &Pattern) -> bool
+    ensures { result ≡ same_struct a.now b.now }
 {
-    let xs = a.entries;
-    let ys = b.entries;
-    let mut good = true;
-    let mut i: usize = 0;
-    while i < Pattern::ENTRIES {
-        let x = xs[i];
-        let y = ys[i];
-        let left = x.entry;
-        let right = y.entry;
-        good = good & same_entry(left, right);
-        i += 1;
-    }
-    good
+    a.entries == b.entries
 }
 
-// Room for a list of patterns.
-pub fn no_patterns() -> [Pattern; Patterns::CLAUSES]
-    ensures { result ≡ replicate 64 no_pattern }
+// An empty list of patterns.
+pub fn no_patterns() -> Patterns
+    ensures { result ≡ no_patterns }
 {
-    let none = labels::no_pattern();
-    [none; Patterns::CLAUSES]
+    let blank = Pattern {
+        entries: [Entry::Any; Pattern::ENTRIES],
+        count: 0,
+    };
+    Patterns {
+        items: [blank; Patterns::CLAUSES],
+        count: 0,
+    }
+}
+
+// Puts a pattern behind those of a list, unless it is one of them.
+pub fn add(list: &mut Patterns, p: Pattern)
+    requires { list.old.count < 64 }
+    ensures { list.new ≡ cond (any (λ x. same_struct x p) (take list.old.count list.old.items)) list.old (with_pattern list.old p) }
+{
+    let n = usize::from(list.count);
+    if list.items[..n].iter().any(|other| same(other, &p)) {
+        return;
+    }
+    list.items[n] = p;
+    list.count += 1;
 }

@@ -1,12 +1,13 @@
 // The clauses of a stored condition (rule 4), as masks: bit j of a mask says that comparison j is in the clause. One pass over the steps.
-ghost use Rattle.std.specs.Prelude.{◌≡◌, true, map, ◌+◌, ◌*◌, ◌≤◌, ◌<◌, take, drop};
+ghost use Rattle.std.specs.Prelude.{◌≡◌, true, map, ◌+◌, ◌*◌, ◌≤◌, ◌<◌, length};
 ghost use Rattle.lists.specs.Lists.{All, written};
 ghost use Rattle.pattern.specs.Stored.{is_formed};
 ghost use Rattle.pattern.specs.Masks.{sums, no_stack, pushed_of, either_of, both_of, stepped_of, Pushes, Joins, Steps, Masked};
 
+use super::in_use;
 use table::{Condition, Step};
 
-// The masks of a condition's clauses, the first `count`.
+// The masks of a condition's clauses, the first `count`. (An array and a count: there is no heap.)
 #[derive(Clone, Copy)]
 pub struct Clauses {
     pub masks: [u8; Clauses::MOST],
@@ -18,7 +19,7 @@ impl Clauses {
     pub const MOST: usize = 18;
 }
 
-// Lists of masks, one after another, and how long each of them is, the top last; `bit` is that of the next comparison.
+// Lists of masks, one after another, and how long each of them is, the top last; `bit` is that of the next comparison. (Arrays and counts: there is no heap.)
 #[derive(Clone, Copy)]
 pub struct Stack {
     pub masks: [u8; Clauses::MOST],
@@ -29,10 +30,10 @@ pub struct Stack {
 }
 
 // Whether a condition may come from a text: few enough comparisons, each AND and OR finds two values, and one value is left.
-pub fn is_formed(condition: Condition) -> bool
-    ensures { result ≡ is_formed condition }
+pub fn is_formed(condition: &Condition) -> bool
+    ensures { result ≡ is_formed condition.now }
 {
-    let n = condition.count as usize;
+    let n = usize::from(condition.count);
     if Condition::COMPARISONS < n {
         return false;
     }
@@ -40,10 +41,8 @@ pub fn is_formed(condition: Condition) -> bool
         return true;
     }
     let mut depth: usize = 0;
-    let mut i: usize = 0;
-    while i + 1 < 2 * n {
-        let step = condition.steps[i];
-        if step == Step::COMPARISON {
+    for step in in_use(&condition.steps, 2 * n - 1) {
+        if *step == Step::COMPARISON {
             depth += 1;
         } else {
             if depth < 2 {
@@ -51,53 +50,30 @@ pub fn is_formed(condition: Condition) -> bool
             }
             depth -= 1;
         }
-        i += 1;
     }
     depth == 1
 }
 
-// Puts the sums of a mask and each of n masks at a place.
-fn put_sums(
-    out: [u8; Clauses::MOST],
-    at: usize,
-    mask: u8,
-    masks: [u8; Clauses::MOST],
-    from: usize,
-    n: usize,
-) -> [u8; Clauses::MOST]
-    requires { (at + n ≤ 18) × (from + n ≤ 18) × All (λ b. mask + b < 256) (take n (drop from masks)) }
-    ensures { result ≡ written out at (map (λ b. mask + b) (take n (drop from masks))) }
+// Puts the sums of a mask and each of other masks at a place.
+fn put_sums(out: &mut [u8; Clauses::MOST], at: usize, mask: u8, masks: &[u8])
+    requires { (at + length masks.now ≤ 18) × (length out.old ≡ 18) × All (λ b. mask + b < 256) masks.now }
+    ensures { out.new ≡ written out.old at (map (λ b. mask + b) masks.now) }
 {
-    let mut next = out;
-    let mut j: usize = 0;
-    while j < n {
-        next[at + j] = mask + masks[from + j];
-        j += 1;
+    for (j, other) in masks.iter().enumerate() {
+        out[at + j] = mask + *other;
     }
-    next
 }
 
-// Puts in place of two lists of masks each sum of a mask of the first and one of the second.
-fn product(
-    masks: [u8; Clauses::MOST],
-    start: usize,
-    left: usize,
-    right: usize,
-) -> [u8; Clauses::MOST]
-    requires { (start + left + right ≤ 18) × (start + left * right ≤ 18) × All (λ a. All (λ b. a + b < 256) (take right (drop (start + left) masks))) (take left (drop start masks)) }
-    ensures { result ≡ written masks start (sums (take left (drop start masks)) (take right (drop (start + left) masks))) }
+// Puts at a place each sum of a mask of the first and one of the second.
+fn put_products(out: &mut [u8; Clauses::MOST], start: usize, lefts: &[u8], rights: &[u8])
+    requires { (start + length lefts.now * length rights.now ≤ 18) × (length out.old ≡ 18) × All (λ a. All (λ b. a + b < 256) rights.now) lefts.now }
+    ensures { out.new ≡ written out.old start (sums lefts.now rights.now) }
 {
-    let mut next = masks;
     let mut at = start;
-    let mut i: usize = 0;
-    while i < left {
-        let mask = masks[start + i];
-        let more = put_sums(next, at, mask, masks, start + left, right);
-        next = more;
-        at += right;
-        i += 1;
+    for mask in lefts {
+        put_sums(out, at, *mask, rights);
+        at += rights.len();
     }
-    next
 }
 
 impl Stack {
@@ -105,111 +81,91 @@ impl Stack {
     fn empty() -> Stack
         ensures { result ≡ no_stack }
     {
-        let masks = [0u8; Clauses::MOST];
-        let lengths = [0u8; Condition::COMPARISONS];
         Stack {
-            masks,
-            lengths,
+            masks: [0; Clauses::MOST],
+            lengths: [0; Condition::COMPARISONS],
             depth: 0,
             total: 0,
             bit: 1,
         }
     }
 
-    // A list of the next comparison alone on top.
-    fn pushed(self) -> Stack
-        requires { Pushes self }
-        ensures { result ≡ pushed_of self }
+    // Puts a list of the next comparison alone on top.
+    fn push(&mut self)
+        requires { Pushes self.old }
+        ensures { self.new ≡ pushed_of self.old }
     {
-        let mut masks = self.masks;
-        let mut lengths = self.lengths;
-        let depth = self.depth;
-        let total = self.total;
-        masks[total] = self.bit as u8;
-        lengths[depth] = 1;
-        Stack {
-            masks,
-            lengths,
-            depth: depth + 1,
-            total: total + 1,
-            bit: self.bit * 2,
-        }
+        self.masks[self.total] = self.bit as u8;
+        self.lengths[self.depth] = 1;
+        self.depth += 1;
+        self.total += 1;
+        self.bit *= 2;
     }
 
-    // OR: the two lists on top are one.
-    fn either(self) -> Stack
-        requires { Joins self }
-        ensures { result ≡ either_of self }
+    // OR: the two lists on top become one.
+    fn either(&mut self)
+        requires { Joins self.old }
+        ensures { self.new ≡ either_of self.old }
     {
-        let masks = self.masks;
-        let mut lengths = self.lengths;
         let depth = self.depth;
-        lengths[depth - 2] = lengths[depth - 2] + lengths[depth - 1];
-        Stack {
-            masks,
-            lengths,
-            depth: depth - 1,
-            total: self.total,
-            bit: self.bit,
-        }
+        self.lengths[depth - 2] += self.lengths[depth - 1];
+        self.depth -= 1;
     }
 
     // AND: each clause of the left list with each of the right one.
-    fn both(self) -> Stack
-        requires { Joins self }
-        ensures { result ≡ both_of self }
+    fn both(&mut self)
+        requires { Joins self.old }
+        ensures { self.new ≡ both_of self.old }
     {
-        let masks = self.masks;
-        let mut lengths = self.lengths;
         let depth = self.depth;
-        let left = lengths[depth - 2] as usize;
-        let right = lengths[depth - 1] as usize;
+        let left = usize::from(self.lengths[depth - 2]);
+        let right = usize::from(self.lengths[depth - 1]);
         let start = self.total - (left + right);
-        let next = product(masks, start, left, right);
-        lengths[depth - 2] = (left * right) as u8;
-        Stack {
-            masks: next,
-            lengths,
-            depth: depth - 1,
-            total: start + left * right,
-            bit: self.bit,
-        }
+        let middle = start + left;
+        let old = self.masks;
+        put_products(
+            &mut self.masks,
+            start,
+            &old[start..middle],
+            &old[middle..middle + right],
+        );
+        self.lengths[depth - 2] = (left * right) as u8;
+        self.depth -= 1;
+        self.total = start + left * right;
     }
 
-    // The stack after a step: a comparison, AND or OR.
-    fn stepped(self, step: u8) -> Stack
-        requires { Steps step self }
-        ensures { result ≡ stepped_of step self }
+    // Takes a step: a comparison, AND or OR.
+    fn step(&mut self, step: u8)
+        requires { Steps step self.old }
+        ensures { self.new ≡ stepped_of step self.old }
     {
-        if step == Step::COMPARISON {
-            return self.pushed();
+        match step {
+            Step::COMPARISON => self.push(),
+            Step::AND => self.both(),
+            _ => self.either(),
         }
-        if step == Step::AND {
-            return self.both();
-        }
-        self.either()
     }
 }
 
 // The clauses of a condition that may come from a text.
-pub fn masks_of(condition: Condition) -> Clauses
-    requires { is_formed condition ≡ true }
-    ensures { Masked condition result }
+pub fn masks_of(condition: &Condition) -> Clauses
+    requires { is_formed condition.now ≡ true }
+    ensures { Masked condition.now result }
 {
-    let n = condition.count as usize;
+    let comparisons = in_use(&condition.comparisons, usize::from(condition.count));
+    let n = comparisons.len();
     if n == 0 {
-        let masks = [0u8; Clauses::MOST];
-        return Clauses { masks, count: 1 };
+        return Clauses {
+            masks: [0; Clauses::MOST],
+            count: 1,
+        };
     }
     let mut s = Stack::empty();
-    let mut i: usize = 0;
-    while i + 1 < 2 * n {
-        s = s.stepped(condition.steps[i]);
-        i += 1;
+    for step in in_use(&condition.steps, 2 * n - 1) {
+        s.step(*step);
     }
-    let masks = s.masks;
     Clauses {
-        masks,
+        masks: s.masks,
         count: s.total as u8,
     }
 }

@@ -1,86 +1,61 @@
 // Rules 1 and 2: whether an update can matter to a query at all, and where the updated table's columns stand among the query's (A.1).
-ghost use Rattle.std.specs.Prelude.{◌≡◌, map, ◌+◌, ◌≤◌, length, take};
+ghost use Rattle.std.specs.Prelude.{◌≡◌, map, ◌+◌};
 ghost use Rattle.lists.specs.Lists.{any};
-ghost use Rattle.meaning.specs.Condition.{sides};
-ghost use Rattle.meaning.specs.Pattern.{operand_columns};
 ghost use Rattle.statement.specs.Sound.{comparison_read, operand_read, used_steps};
 ghost use Rattle.pattern.specs.Stored.{start_read, relevant as relevant_to};
-ghost use Rattle.pattern.specs.Relevance.{is_read, is_among, names_any, one_if, comparison_steps, sets_used};
+ghost use Rattle.pattern.specs.Relevance.{is_read, is_among, names_any, tests_any, comparison_steps, sets_used};
 
-use super::joint;
-use table::{Condition, Operand, Query, Setting, Step, Update};
+use super::in_use;
+use table::{Comparison, Condition, Operand, Query, Setting, Step, Update};
 
 // A.1: whether a query of these tables reads the updated one. The second is given by its number and 1, 0 for none.
 pub fn reads(table: u8, second: u8, updated: u8) -> bool
     ensures { result ≡ is_read table second updated }
 {
-    (table == updated) | ((second as u16) == (updated as u16) + 1)
+    (table == updated) | (u16::from(second) == u16::from(updated) + 1)
 }
 
 // A.1: how many columns of the query stand before those of the updated table.
-pub fn start_of(query: Query, update: Update) -> u8
-    ensures { result ≡ start_read query update }
+pub fn start_of(query: &Query, update: &Update) -> u8
+    ensures { result ≡ start_read query.now update.now }
 {
     if query.table == update.table {
         return 0;
     }
-    if (query.second as u16) == (update.table as u16) + 1 {
+    if u16::from(query.second) == u16::from(update.table) + 1 {
         return query.start;
     }
     0
 }
 
 // The columns of settings, as columns of the query.
-fn columns_of(settings: [Setting; Update::SETTINGS], from: u8) -> [u16; Update::SETTINGS]
-    ensures { (result ≡ map (λ s. from + s.column) settings) × (length settings ≡ 8) }
+fn columns_of(settings: &[Setting; Update::SETTINGS], from: u8) -> [u16; Update::SETTINGS]
+    ensures { result ≡ map (λ s. from + s.column) settings.now }
 {
     let mut columns = [0u16; Update::SETTINGS];
-    let mut i: usize = 0;
-    while i < Update::SETTINGS {
-        let item = settings[i];
-        columns[i] = (from as u16) + (item.column as u16);
-        i += 1;
+    for (i, item) in settings.iter().enumerate() {
+        columns[i] = u16::from(from) + u16::from(item.column);
     }
     columns
 }
 
-// Whether a column is one of the first n.
-fn is_among(columns: [u16; Update::SETTINGS], n: usize, column: u8) -> bool
-    requires { n ≤ 8 }
-    ensures { result ≡ is_among (take n columns) column }
+// Whether a column is one of these.
+fn is_among(columns: &[u16], column: u8) -> bool
+    ensures { result ≡ is_among columns.now column }
 {
-    let mut found = false;
-    let mut i: usize = 0;
-    while i < n {
-        found = found | (columns[i] == (column as u16));
-        i += 1;
-    }
-    found
+    columns.iter().any(|c| *c == u16::from(column))
 }
 
-// Whether one of the first `count` selected columns is.
-fn selects(
-    selected: [u8; Query::SELECTED],
-    count: usize,
-    columns: [u16; Update::SETTINGS],
-    n: usize,
-) -> bool
-    requires { (count ≤ 8) × (n ≤ 8) }
-    ensures { result ≡ any (is_among (take n columns)) (take count selected) }
+// Whether a selected column is.
+fn selects(selected: &[u8], columns: &[u16]) -> bool
+    ensures { result ≡ any (is_among columns.now) selected.now }
 {
-    let mut found = false;
-    let mut i: usize = 0;
-    while i < count {
-        found = found | is_among(columns, n, selected[i]);
-        i += 1;
-    }
-    found
+    selected.iter().any(|c| is_among(columns, *c))
 }
 
 // Whether a side of a comparison is such a column.
-fn names(o: Operand, columns: [u16; Update::SETTINGS], n: usize) -> bool
-    requires { n ≤ 8 }
-    ensures { result ≡ names_any (take n columns) (operand_read o) }
+fn names(o: Operand, columns: &[u16]) -> bool
+    ensures { result ≡ names_any columns.now (operand_read o) }
 {
     if o.code % 2 == 1 {
         return false;
@@ -88,75 +63,44 @@ fn names(o: Operand, columns: [u16; Update::SETTINGS], n: usize) -> bool
     if o.code == 0 {
         return false;
     }
-    is_among(columns, n, o.code / 2 - 1)
+    is_among(columns, o.code / 2 - 1)
 }
 
-// Whether a side of one of the first `count` comparisons is.
-fn tests(condition: Condition, count: usize, columns: [u16; Update::SETTINGS], n: usize) -> bool
-    requires { (count ≤ 8) × (n ≤ 8) }
-    ensures { (result ≡ any (is_among (take n columns)) (operand_columns (sides (map comparison_read (take count condition.comparisons))))) × (length condition.comparisons ≡ 8) }
+// Whether a side of one of these comparisons is.
+fn tests(comparisons: &[Comparison], columns: &[u16]) -> bool
+    ensures { result ≡ any (tests_any columns.now) (map comparison_read comparisons.now) }
 {
-    let mut found = false;
-    let mut i: usize = 0;
-    while i < count {
-        let c = condition.comparisons[i];
-        let left = c.left_side();
-        let right = c.right_side();
-        found = found | names(left, columns, n) | names(right, columns, n);
-        i += 1;
-    }
-    found
-}
-
-// 1 if so, else 0.
-fn one_if(b: bool) -> usize
-    ensures { result ≡ one_if b }
-{
-    if b { 1 } else { 0 }
+    comparisons.iter().any(|c| names(c.left_side(), columns) | names(c.right_side(), columns))
 }
 
 // How many comparisons the steps of a condition ask for.
-fn comparison_steps(condition: Condition) -> usize
-    ensures { result ≡ comparison_steps (used_steps condition) }
+fn comparison_steps(condition: &Condition) -> usize
+    ensures { result ≡ comparison_steps (used_steps condition.now) }
 {
-    let n = joint::used(condition.count, Condition::COMPARISONS);
-    let mut found: usize = 0;
-    let mut i: usize = 0;
-    while i + 1 < 2 * n {
-        found += one_if(condition.steps[i] == Step::COMPARISON);
-        i += 1;
-    }
-    found
+    let count = (2 * usize::from(condition.count)).saturating_sub(1);
+    let steps = in_use(&condition.steps, count);
+    steps.iter().filter(|s| **s == Step::COMPARISON).count()
 }
 
 // Whether a query selects or tests a column that an update sets.
-fn touches(query: Query, update: Update, from: u8) -> bool
-    ensures { result ≡ sets_used from query update }
+fn touches(query: &Query, update: &Update, from: u8) -> bool
+    ensures { result ≡ sets_used from query.now update.now }
 {
-    let settings = update.settings;
-    let columns = columns_of(settings, from);
-    let n = joint::used(update.count, Update::SETTINGS);
-    let selected = query.selected;
-    if selects(
-        selected,
-        joint::used(query.count, Query::SELECTED),
-        columns,
-        n,
-    ) {
+    let all = columns_of(&update.settings, from);
+    let columns = in_use(&all, usize::from(update.count));
+    let selected = in_use(&query.selected, usize::from(query.count));
+    if selects(selected, columns) {
         return true;
     }
-    let condition = query.condition;
+    let condition = &query.condition;
+    let there = in_use(&condition.comparisons, usize::from(condition.count));
     let asked = comparison_steps(condition);
-    let there = joint::used(condition.count, Condition::COMPARISONS);
-    if asked < there {
-        return tests(condition, asked, columns, n);
-    }
-    tests(condition, there, columns, n)
+    tests(in_use(there, asked), columns)
 }
 
 // Rules 1 and 2: whether the update can change an answer of the query.
-pub fn relevant(query: Query, update: Update) -> bool
-    ensures { result ≡ relevant_to query update }
+pub fn relevant(query: &Query, update: &Update) -> bool
+    ensures { result ≡ relevant_to query.now update.now }
 {
     if !reads(query.table, query.second, update.table) {
         return false;

@@ -1,1 +1,1 @@
-mod Constants
+mod Left

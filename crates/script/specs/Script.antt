@@ -1,22 +1,25 @@
--- Parts of a text between bytes, and numbers. Assumes nothing: these are definitions.
-use Rattle.std.specs.Prelude.{Bool, true, false, not, List, [], ◌∷◌, ℕ, zero, suc, ◌+◌, min, eqb, ℤ, pos, negsuc, length, drop, get_or}
-use Rattle.lists.specs.Lists.{take_while}
-use Rattle.token.specs.Tokens.{token_at}
-use Rattle.script.specs.declared.numbers.Count.{Count}
+-- The constants of a text, and numbers that are not negative. Assumes nothing: these are definitions.
+use Rattle.std.specs.Prelude.{cond, List, [], ◌∷◌, ℕ, ℤ, pos, negsuc, replicate, take, drop, get_or}
+use Rattle.lists.specs.Lists.{written}
+use Rattle.meaning.specs.Tokens.{Token, constant, tokens}
+use Rattle.meaning.specs.Limits.{is_within32}
+use Rattle.statement.specs.declared.Table.{Table}
+use Rattle.statement.specs.Compiled.{no_table}
+use Rattle.script.specs.declared.constants.Constants.{Constants}
 
-abbrev pub is_other : ℕ → ℕ → Bool
-is_other b x = not (eqb x b)
+-- the constants at the start of a list of tokens, up to the first that is none of 32 bits
+abbrev pub constants : List Token → List ℤ
+constants [] = []
+constants (constant z ∷ ts) = cond (is_within32 z) (z ∷ constants ts) []
+constants (t ∷ ts) = []
 
--- the bytes from a place on, up to the first byte b, and where they end
-abbrev pub part_at : ℕ → List ℕ → ℕ → List ℕ
-part_at b text at = take_while (is_other b) (drop at text)
+-- the constants of a text
+abbrev pub constants_of : List ℕ → List ℤ
+constants_of text = constants (tokens text)
 
-abbrev pub end_at : ℕ → List ℕ → ℕ → ℕ
-end_at b text at = at + length (part_at b text at)
-
--- where the part behind it starts
-abbrev pub next_at : ℕ → List ℕ → ℕ → ℕ
-next_at b text at = min (end_at b text at + 1) (length text)
+-- those that are left
+abbrev pub constants_left : Constants → List ℤ
+constants_left c = constants_of (drop c.at c.text.now)
 
 -- a number, or 0 in place of a negative one
 abbrev pub natural_of : ℤ → ℕ
@@ -26,13 +29,6 @@ natural_of (negsuc n) = 0
 abbrev pub number_at : List ℤ → ℕ → ℕ
 number_at zs i = natural_of (get_or zs i (pos 0))
 
--- the constant behind a place, and where the text goes on
-abbrev pub count_at : List ℕ → ℕ → Count
-count_at text at = record { value = natural_of (token_at text at).value; next = (token_at text at).next }
-
--- the constants from a place on, at most n, up to the first token that is none
-unfoldable pub constants : ℕ → List ℕ → ℕ → List ℤ
-constants zero text at = []
-constants (suc n) text at =
-    let t = token_at text at in
-    elim (eqb t.kind 3) [ true ↦ t.value ∷ constants n text t.next | false ↦ [] ]
+-- the places of a store's tables, with the first tables of a list in them
+abbrev pub in_places : List Table → List Table
+in_places tables = written (replicate 8 no_table) 0 (take 8 tables)

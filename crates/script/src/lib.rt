@@ -1,12 +1,13 @@
-// Scripts of test programs: the lines, words and numbers of a text, and what is printed on standard output.
+// What test programs share: a script read line by line, the constants of a line, a text beside the tables that a script makes, and how the rows of a record are
+// printed. These programs run on a host and may use the heap.
 #![tactic(auto)]
 
-mod numbers; // the numbers of a line
-mod printing; // what is printed
-mod words; // the lines and words of a text
+mod constants; // the constants of a line
+mod lines; // a script, line by line
+mod rows; // the rows of a record
+mod tables; // a text beside the tables so far
 
-pub use numbers::{
-    Count, count_at, least, natural, no_numbers, number, numbers_from, read_numbers,
-};
-pub use printing::{print, print_item, print_line, print_row, print_rows, print_signed};
-pub use words::{behind, find, next_line, part, same};
+pub use constants::{Constants, number, numbered};
+pub use lines::{Program, run_lines};
+pub use rows::{PAIRS_RECORD, Row, Rows, TABLE_RECORD};
+pub use tables::compile;

@@ -375,38 +375,20 @@ fn no_cells() -> [i32; Desk::CELLS]
     [0; Desk::CELLS]
 }
 
-fn no_memory() -> [u8; Desk::MEMORY]
-    ensures { 256 ≡ length result }
+fn zeroed<const N: usize>() -> [u8; N]
+    ensures { N ≡ length result }
 {
-    [0; Desk::MEMORY]
-}
-
-fn no_answer() -> [u8; Desk::ANSWER]
-    ensures { 65536 ≡ length result }
-{
-    [0; Desk::ANSWER]
-}
-
-fn no_line() -> [u8; HELD]
-    ensures { 513 ≡ length result }
-{
-    [0; HELD]
-}
-
-fn no_text() -> [u8; PRINTED]
-    ensures { 262144 ≡ length result }
-{
-    [0; PRINTED]
+    [0; N]
 }
 
 // Opens a store, and answers the lines of an input until it ends or nothing more can be written.
 pub fn serve<R: Read, W: Write>(input: &mut R, output: &mut W) {
     let mut cells = no_cells();
-    let mut memory = no_memory();
-    let mut answer = no_answer();
+    let mut memory: [u8; Desk::MEMORY] = zeroed();
+    let mut answer: [u8; Desk::ANSWER] = zeroed();
     let mut piece = io::large_buffer();
-    let mut line = no_line();
-    let mut out = no_text();
+    let mut line: [u8; HELD] = zeroed();
+    let mut out: [u8; PRINTED] = zeroed();
     run(
         &mut cells,
         &mut memory,

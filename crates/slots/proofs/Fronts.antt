@@ -1,13 +1,13 @@
--- A member of a list moved to the front: laws of `front`, and the loop that does it. Assumes nothing.
+-- A member of a list moved to the front: laws of `front`. Assumes nothing.
 use mathlib.Core.Path.{◌≡◌, refl, sym, ap, ap₂, subst, ◌∙◌}
-use mathlib.Core.List.{List, [], ◌∷◌, ◌++◌, append-nil}
+use mathlib.Core.List.{List, [], ◌∷◌, ◌++◌, append-nil, append_assoc}
 use Prim.Native.Nat.{ℕ, zero, suc, ◌+◌, ◌-◌, ◌≤◌, ◌<◌}
 use native.Mathlib.Nat.{le_of_suc-le-suc, not-suc-le-zero}
-use native.Mathlib.Numerals.{add-one, sub-one}
 use native.Mathlib.Decide.{dec_lt}
 use native.Mathlib.Omega.{arith}
-use lib.ListN.{length, take, drop, get_or, set, length-take, drop_of_length-le}
-use lib.Seq.{take_all, take-suc, take_at, drop_at, drop-cons, length-take-le, take-append-add, drop-append-add, append_snoc, take-set-le, set_split}
+use lib.ListN.{length, take, drop, length-take, drop_of_length-le}
+use lib.Seq.{take_all, take_at, take-take, drop_at, take-append-add, drop-append-add}
+use Rattle.std.proofs.lemmas.List.{drop-take}
 use Rattle.lists.proofs.Moved.{Moved, moved-refl, moved-mid, moved_length}
 use Rattle.slots.specs.Order.{front}
 
@@ -99,34 +99,11 @@ module _ {A : Type 0} where
   pub front_length : (p : ℕ) (l : List A) → length (front p l) ≡ length l
   front_length p l = sym (moved_length (front-moved p l))
 
-  -- ---- the loop: with x at the front and without the member at i the list is the one wanted
-
-  pub record Shifting (goal : List A) (x : A) (l : List A) (i : ℕ) : Type 0 where
-    pub left : x ∷ (take i l ++ drop (suc i) l) ≡ goal
-
-  pub shifting-start : (p : ℕ) (l : List A) (d : A) → p < length l → Shifting (front p l) (get_or l p d) l p
-  shifting-start p l d h = record {
-    left =
-        ap (λ (r : List A). take 1 r ++ (take p l ++ drop (suc p) l)) (sym (drop-cons l p d h))
-        ∙ ap (λ (k : ℕ). take 1 (drop p l) ++ (take p l ++ drop k l)) (sym (add-one p));
-  }
-
-  shifting-suc : (goal : List A) (x : A) (l : List A) (i : ℕ) (d : A) → suc i < length l → Shifting goal x l (suc i) → Shifting goal x (set l (suc i) (get_or l i d)) i
-  shifting-suc goal x l i d h S =
-      let y : A = get_or l i d in
-      let n : length (take (suc i) l) ≡ suc i = length-take-le (suc i) l (omega arith) in
-      let k : drop (suc i) (set l (suc i) y) ≡ y ∷ drop (suc (suc i)) l = ap (drop (suc i)) (set_split l (suc i) y h) ∙ drop_at (take (suc i) l) (y ∷ drop (suc (suc i)) l) (suc i) n in
-      let e : take i (set l (suc i) y) ++ drop (suc i) (set l (suc i) y) ≡ take (suc i) l ++ drop (suc (suc i)) l =
-      ap₂ (λ (a b : List A). a ++ b) (take-set-le i l (suc i) y (omega arith)) k
-      ∙ sym (append_snoc (take i l) y (drop (suc (suc i)) l))
-      ∙ ap (λ (a : List A). a ++ drop (suc (suc i)) l) (sym (take-suc l i d (omega arith))) in
-      record { left = ap (λ (r : List A). x ∷ r) e ∙ S.left }
-
-  pub shifting-more : (goal : List A) (x : A) (l : List A) (i : ℕ) (d : A) → 0 < i → i < length l → Shifting goal x l i → Shifting goal x (set l i (get_or l (i - 1) d)) (i - 1)
-  shifting-more goal x l zero d z h S = absurd (not-suc-le-zero z)
-  shifting-more goal x l (suc i) d z h S = rw (sub-one (suc i)) (shifting-suc goal x l i d h S)
-
-  pub shifting-end : (goal : List A) (x : A) (l : List A) (i : ℕ) → i ≤ 0 → 0 < length l → Shifting goal x l i → set l 0 x ≡ goal
-  shifting-end goal x l i z h S =
-      let e : i ≡ 0 = omega arith in
-      set_split l 0 x h ∙ ap (λ (k : ℕ). x ∷ (take k l ++ drop (suc k) l)) (sym e) ∙ S.left
+  -- the first p + 1 turned to the right by one
+  pub front_turned : (p : ℕ) (l r : List A) → p < length l → (let t = take (p + 1) l in r ≡ drop (length t - 1) t ++ take (length t - 1) t) → r ++ drop (p + 1) l ≡ front p l
+  front_turned p l r h e =
+      let n : length (take (p + 1) l) - 1 ≡ p = omega (arith, length-take (p + 1) l) in
+      let d : drop p (take (p + 1) l) ≡ take 1 (drop p l) = drop-take p 1 l in
+      let t : take p (take (p + 1) l) ≡ take p l = take-take p (p + 1) l (omega arith) in
+      ap (λ (x : List A). x ++ drop (p + 1) l) (e ∙ ap₂ (λ (i j : ℕ). drop i (take (p + 1) l) ++ take j (take (p + 1) l)) n n ∙ ap₂ (λ (y z : List A). y ++ z) d t)
+      ∙ append_assoc (take 1 (drop p l)) (take p l) (drop (p + 1) l)

@@ -16,7 +16,7 @@ use Rattle.lists.proofs.Repeats.{distinct-repeats, distinct-map}
 use Rattle.meaning.specs.Limits.{most_slots}
 use Rattle.slots.specs.declared.Key.{Key}
 use Rattle.slots.specs.declared.SlotList.{SlotList}
-use Rattle.slots.specs.Order.{held_slots, open_of, front_of, taken_of, drop_by}
+use Rattle.slots.specs.Order.{held_slots, open_of, front_of, last_taken, drop_by}
 use Rattle.slots.specs.Keys.{key_read, same_key, no_key, slot_key, held_keys, held_twice}
 use Rattle.slots.proofs.KeyLaws.{read-other, not-twice, twice-not}
 use Rattle.slots.proofs.Laws.{Sound, held-front, drop-held, taken-below, taken_free, taken-held}
@@ -38,17 +38,17 @@ drop-once keys s p t =
 -- a key put at the slot that was taken
 module _ (keys : List Key) (s : SlotList) (k : Key) (S : Sound s) (long : length s.order ≡ most_slots) (some : 1 ≤ s.count) (sized : length keys ≡ most_slots) where
   -- the keys that are held then, where these are the other held slots
-  put-keys : (rest : List ℕ) → held_slots (taken_of s).slots ≡ (taken_of s).slot ∷ rest → All (λ x. x ≢ (taken_of s).slot) rest
-      → held_keys (set keys (taken_of s).slot k) (taken_of s).slots ≡ k ∷ map (slot_key keys) rest
+  put-keys : (rest : List ℕ) → held_slots (last_taken s).slots ≡ (last_taken s).slot ∷ rest → All (λ x. x ≢ (last_taken s).slot) rest
+      → held_keys (set keys (last_taken s).slot k) (last_taken s).slots ≡ k ∷ map (slot_key keys) rest
   put-keys rest e a =
-      ap (map (slot_key (set keys (taken_of s).slot k))) e
+      ap (map (slot_key (set keys (last_taken s).slot k))) e
       ∙ ap₂ (λ (y : Key) (l : List Key). y ∷ l)
-      (get_or-set_same keys (taken_of s).slot k no_key (omega (arith, taken-below s S long some, S.few)))
-      (set_apart keys (taken_of s).slot k no_key a)
+      (get_or-set_same keys (last_taken s).slot k no_key (omega (arith, taken-below s S some, S.few)))
+      (set_apart keys (last_taken s).slot k no_key a)
 
-  put_rest : (rest : List ℕ) → held_slots (taken_of s).slots ≡ (taken_of s).slot ∷ rest → All (λ x. x ≢ (taken_of s).slot) rest
+  put_rest : (rest : List ℕ) → held_slots (last_taken s).slots ≡ (last_taken s).slot ∷ rest → All (λ x. x ≢ (last_taken s).slot) rest
       → DistinctBy (λ (x : ℕ). key_read (slot_key keys x)) rest → All (λ x. key_read (slot_key keys x) ≢ key_read k) rest
-      → held_twice (set keys (taken_of s).slot k) (taken_of s).slots ≡ false
+      → held_twice (set keys (last_taken s).slot k) (last_taken s).slots ≡ false
   unfolding held_twice
   put_rest rest e a d o =
       ap (repeats same_key) (put-keys rest e a)
@@ -57,13 +57,13 @@ module _ (keys : List Key) (s : SlotList) (k : Key) (S : Sound s) (long : length
       (distinct-repeats same_key key_read (λ x y ne. read-other x y (λ q. ne (sym q))) (map (slot_key keys) rest) (distinct-map (slot_key keys) key_read rest d))
 
   pub put-once : held_twice keys s ≡ false → All (λ x. key_read (slot_key keys x) ≢ key_read k) (held_slots s)
-      → held_twice (set keys (taken_of s).slot k) (taken_of s).slots ≡ false
+      → held_twice (set keys (last_taken s).slot k) (last_taken s).slots ≡ false
   put-once t o = go (dec_lt s.held s.count)
     where
-      go : Dec (s.held < s.count) → held_twice (set keys (taken_of s).slot k) (taken_of s).slots ≡ false
+      go : Dec (s.held < s.count) → held_twice (set keys (last_taken s).slot k) (last_taken s).slots ≡ false
       go (yes h) = let F = taken_free s S long some h in put_rest (held_slots s) F.held F.apart (not-twice keys s t) o
       go (no h) =
           let F = taken-held s S long some (omega (arith, S.within)) in
           put_rest F.others F.held F.apart
-          (distinct-left (λ (x : ℕ). key_read (slot_key keys x)) F.others ((taken_of s).slot ∷ []) (subst (DistinctBy (λ (x : ℕ). key_read (slot_key keys x))) F.before (not-twice keys s t)))
-          (All-left F.others ((taken_of s).slot ∷ []) (subst (All (λ x. key_read (slot_key keys x) ≢ key_read k)) F.before o))
+          (distinct-left (λ (x : ℕ). key_read (slot_key keys x)) F.others ((last_taken s).slot ∷ []) (subst (DistinctBy (λ (x : ℕ). key_read (slot_key keys x))) F.before (not-twice keys s t)))
+          (All-left F.others ((last_taken s).slot ∷ []) (subst (All (λ x. key_read (slot_key keys x) ≢ key_read k)) F.before o))

@@ -1,4 +1,4 @@
--- Laws for callers: keys that are the same, the key of a question, the first held place whose slot has a key, and keys held twice. Assumes nothing.
+-- Laws for callers: keys that differ, the key of a question, the first held place whose slot has a key, and keys held twice. Assumes nothing.
 use mathlib.Core.Path.{◌≡◌, refl, sym, ap, subst, ◌∙◌}
 use mathlib.Core.Logic.{◌≢◌}
 use mathlib.Core.Bool.{Bool, true, false, ◌&&◌, cond}
@@ -7,30 +7,25 @@ use Prim.Native.Nat.{ℕ, suc, ◌+◌, ◌≤◌, ◌<◌, min}
 use native.Mathlib.Omega.{arith}
 use borrow.Author.Tests.{lt-ltb, ltb-true}
 use lib.Dec.{ltb}
-use lib.IntN.{ℤ}
-use lib.ListN.{length, take, length-append, length-take}
+use lib.IntN.{ℤ, pos}
+use lib.ListN.{length, take, drop, replicate, length-append, length-take}
 use lib.Seq.{take_all, take_at}
 use Rattle.lists.specs.Lists.{All, nil, cons, DistinctBy}
-use Rattle.lists.proofs.Bools.{T→true, true→T, and_left, and_right, clash}
+use Rattle.lists.proofs.Bools.{and_left, and_right, clash}
 use Rattle.lists.proofs.Lists.{distinct-source}
+use Rattle.lists.proofs.Walks.{take_min}
 use Rattle.lists.proofs.Repeats.{repeats-distinct, distinct-repeats, distinct-map}
-use Rattle.meaning.specs.Key as M
 use Rattle.meaning.specs.Limits.{most_slots, most_marks}
 use Rattle.slots.specs.declared.Key.{Key}
 use Rattle.slots.specs.declared.SlotList.{SlotList}
-use Rattle.slots.specs.declared.Found.TheVariants.{At, Nothing}
+use Rattle.std.specs.Prelude.{Some, None}
+use Rattle.std.specs.List.{position_from}
+use Rattle.std.proofs.lemmas.Iterator.Adapters.{position_from-zero}
 use Rattle.slots.specs.Order.{held_slots}
-use Rattle.slots.specs.Keys.{values_of, key_read, same_key, key_of, slot_key, held_keys, slot_has, find_from, find_of, held_twice}
+use Rattle.slots.specs.Same.{same_read, read_same}
+use Rattle.slots.specs.Keys.{values_of, key_read, same_key, key_of, slot_key, held_keys, slot_has, find_of, held_twice}
 
--- ---- keys that are the same
-
-pub same_read : (a b : Key) → same_key a b ≡ true → key_read a ≡ key_read b
-unfolding same_key
-same_read a b h = M.is_key→eq (key_read a) (key_read b) (true→T (M.is_key (key_read a) (key_read b)) h)
-
-pub read_same : (a b : Key) → key_read a ≡ key_read b → same_key a b ≡ true
-unfolding same_key
-read_same a b e = ap (M.is_key (key_read a)) (sym e) ∙ T→true (M.is_key (key_read a) (key_read a)) (M.is_key-refl (key_read a))
+-- ---- keys that differ
 
 pub other-read : (a b : Key) → same_key a b ≡ false → key_read a ≢ key_read b
 other-read a b h e = clash (read_same a b e) h
@@ -74,11 +69,11 @@ pub record FoundAt (p : ℕ → Bool) (l : List ℕ) (i : ℕ) : Type 0 where
   pub passed : All (λ x. p x ≡ false) before
   pub has : p slot ≡ true
 
-find_at : (p : ℕ → Bool) (j : ℕ) (l : List ℕ) (i : ℕ) → find_from p j l ≡ At i → (k : ℕ) × (i ≡ j + k) × FoundAt p l k
+find_at : (p : ℕ → Bool) (j : ℕ) (l : List ℕ) (i : ℕ) → position_from p j l ≡ Some i → (k : ℕ) × (i ≡ j + k) × FoundAt p l k
 find_at p j [] i h = let z : ◌≡◌ {A = ℕ} 0 1 = cc in absurd (omega arith)
-find_at p j (x ∷ l) i h = go (p x) refl h (find_at p (suc j) l i)
+find_at p j (x ∷ l) i h = go (p x) refl h (find_at p (j + 1) l i)
   where
-    go : (b : Bool) → p x ≡ b → cond b (At j) (find_from p (suc j) l) ≡ At i → (find_from p (suc j) l ≡ At i → (k : ℕ) × (i ≡ suc j + k) × FoundAt p l k)
+    go : (b : Bool) → p x ≡ b → cond b (Some j) (position_from p (j + 1) l) ≡ Some i → (position_from p (j + 1) l ≡ Some i → (k : ℕ) × (i ≡ j + 1 + k) × FoundAt p l k)
         → (k : ℕ) × (i ≡ j + k) × FoundAt p (x ∷ l) k
     go true e q f =
         let z : j ≡ i = cc in
@@ -86,7 +81,7 @@ find_at p j (x ∷ l) i h = go (p x) refl h (find_at p (suc j) l i)
     go false e q f =
         let r = f q in
         let F = r.2 in
-        let s : i ≡ suc j + r.0 = r.1 in (
+        let s : i ≡ j + 1 + r.0 = r.1 in (
           suc r.0,
           omega arith,
           record {
@@ -100,11 +95,11 @@ find_at p j (x ∷ l) i h = go (p x) refl h (find_at p (suc j) l i)
           },
         )
 
-find-nothing : (p : ℕ → Bool) (j : ℕ) (l : List ℕ) → find_from p j l ≡ Nothing → All (λ x. p x ≡ false) l
+find-nothing : (p : ℕ → Bool) (j : ℕ) (l : List ℕ) → position_from p j l ≡ None → All (λ x. p x ≡ false) l
 find-nothing p j [] h = nil
-find-nothing p j (x ∷ l) h = go (p x) refl h (find-nothing p (suc j) l)
+find-nothing p j (x ∷ l) h = go (p x) refl h (find-nothing p (j + 1) l)
   where
-    go : (b : Bool) → p x ≡ b → cond b (At j) (find_from p (suc j) l) ≡ Nothing → (find_from p (suc j) l ≡ Nothing → All (λ x. p x ≡ false) l) → All (λ x. p x ≡ false) (x ∷ l)
+    go : (b : Bool) → p x ≡ b → cond b (Some j) (position_from p (j + 1) l) ≡ None → (position_from p (j + 1) l ≡ None → All (λ x. p x ≡ false) l) → All (λ x. p x ≡ false) (x ∷ l)
     go true e q f = let z : ◌≡◌ {A = ℕ} 0 1 = cc in absurd (omega arith)
     go false e q f = cons e (f q)
 
@@ -114,19 +109,19 @@ found_inside s p i F =
     omega (arith, F.place, ap length F.split, length-append F.before (F.slot ∷ F.after), length-take s.held s.order)
 
 module _ (keys : List Key) (s : SlotList) (k : Key) where
-  pub found_at : (i : ℕ) → find_of keys s k ≡ At i → FoundAt (slot_has keys k) (held_slots s) i
+  pub found_at : (i : ℕ) → find_of keys s k ≡ Some i → FoundAt (slot_has keys k) (held_slots s) i
   unfolding find_of
   found_at i h =
-      let r = find_at (slot_has keys k) 0 (held_slots s) i h in
+      let r = find_at (slot_has keys k) 0 (held_slots s) i (sym (position_from-zero (slot_has keys k) (held_slots s)) ∙ h) in
       let e : r.0 ≡ i = omega (arith, r.1) in
       subst (FoundAt (slot_has keys k) (held_slots s)) e r.2
 
-  pub found_below : (i : ℕ) → find_of keys s k ≡ At i → i < s.held
+  pub found_below : (i : ℕ) → find_of keys s k ≡ Some i → i < s.held
   found_below i h = found_inside s (slot_has keys k) i (found_at i h)
 
-  pub found_nothing : find_of keys s k ≡ Nothing → All (λ x. slot_has keys k x ≡ false) (held_slots s)
+  pub found_nothing : find_of keys s k ≡ None → All (λ x. slot_has keys k x ≡ false) (held_slots s)
   unfolding find_of
-  found_nothing h = find-nothing (slot_has keys k) 0 (held_slots s) h
+  found_nothing h = find-nothing (slot_has keys k) 0 (held_slots s) (sym (position_from-zero (slot_has keys k) (held_slots s)) ∙ h)
 
 -- ---- keys held twice
 
@@ -142,3 +137,13 @@ module _ (keys : List Key) (s : SlotList) where
   twice-not h =
       distinct-repeats same_key key_read (λ a b e. read-other a b (λ q. e (sym q))) (held_keys keys s)
       (distinct-map (slot_key keys) key_read (held_slots s) h)
+
+-- ---- the key made of a question
+
+pub key_made : (q n : ℕ) (vs r : List ℤ) → n ≡ min (length vs) 8 → r ≡ take n vs → record { query = q; count = n; values = r ++ drop n (replicate 8 (pos 0)) } ≡ key_of q vs
+unfolding key_of
+key_made q n vs r e h =
+    let m : n ≡ min 8 (length vs) = omega arith in
+    let t : r ≡ take 8 vs = h ∙ ap (λ (k : ℕ). take k vs) m ∙ take_min 8 (length vs) vs refl in
+    let d : n ≡ 0 + length (take 8 vs) = omega (arith, length-take 8 vs) in
+    λ j. record { query = q; count = e j; values = t j ++ drop (d j) (replicate 8 (pos 0)) }

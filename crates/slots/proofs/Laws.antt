@@ -5,22 +5,23 @@ use mathlib.Core.Logic.{◌≢◌}
 use mathlib.Core.Bool.{Bool, true, false, not}
 use mathlib.Core.List.{List, [], ◌∷◌, ◌++◌, append_assoc, append-nil}
 use Prim.Native.Nat.{ℕ, suc, ◌+◌, ◌-◌, ◌≤◌, ◌<◌, min}
+use native.Mathlib.Decide.{dec_lt}
 use native.Mathlib.Omega.{arith}
 use borrow.Author.Tests.{le-leb, leb-true, lt-ltb, ltb-true, eqb-false, ne_eqb}
 use lib.Dec.{leb, ltb, eqb}
-use lib.ListN.{length, take, drop, get_or, length-append, length-take, length-drop, take-append-drop, drop_of_length-le}
-use lib.Seq.{take_at, take_all, take-suc, take-take, take-add, take-append-add, drop_at, drop-append-le, length-take-le}
+use lib.ListN.{length, take, drop, get_or, length-append, length-take, length-drop, take-append-drop, drop_of_length-le, get_or-eq_default}
+use lib.Seq.{take_at, take_all, take-suc, take-take, take-add, take-append-add, drop_at, drop-append-le, length-take-le, get_or-take}
 use Rattle.lists.specs.Lists.{All, Distinct, all, keep, count, repeats, from}
 use Rattle.lists.proofs.Bools.{and_left, and_right, and_both, not-true}
-use Rattle.lists.proofs.Lists.{All-head, All-map, All-take, All-every, all_true, all-of, keep_all}
+use Rattle.lists.proofs.Lists.{All-map, All-take, All-every, all_true, all-of, keep_all}
+use Rattle.lists.proofs.Places.{All-at}
 use Rattle.lists.proofs.Moved.{Moved, moved-last, moved-parted, parted-length, moved-All, moved-distinct, from-once, from-below, take-from}
 use Rattle.lists.proofs.Repeats.{repeats-distinct, distinct-repeats}
 use Rattle.meaning.specs.Limits.{most_slots}
 use Rattle.slots.specs.declared.SlotList.{SlotList}
-use Rattle.slots.specs.Order.{slots_of, held_slots, free_slots, sound_slots, open_of, front, front_of, last_taken, taken_of, drop_by, clear_of}
+use Rattle.slots.specs.Order.{slots_of, held_slots, free_slots, sound_slots, open_of, front, front_of, is_open, last_taken, drop_by, clear_of}
 use Rattle.slots.proofs.Fronts.{front_at, take-front, drop-front, front-moved, front_length}
 use Rattle.slots.proofs.KeyLaws.{FoundAt, found_inside}
-use Rattle.slots.proofs.Moves.{taken-some}
 
 -- ---- what the test of a slot list says
 
@@ -148,17 +149,34 @@ module _ (s : SlotList) (p : ℕ) where
 
 -- a free slot was taken: it is held before the others; or a held one was, and it is the first of them
 pub record TakenFree (s : SlotList) : Type 0 where
-  pub held : held_slots (taken_of s).slots ≡ (taken_of s).slot ∷ held_slots s
-  pub free : free_slots s ≡ free_slots (taken_of s).slots ++ (taken_of s).slot ∷ []
-  pub apart : All (λ x. x ≢ (taken_of s).slot) (held_slots s)
+  pub held : held_slots (last_taken s).slots ≡ (last_taken s).slot ∷ held_slots s
+  pub free : free_slots s ≡ free_slots (last_taken s).slots ++ (last_taken s).slot ∷ []
+  pub apart : All (λ x. x ≢ (last_taken s).slot) (held_slots s)
 
 pub record TakenHeld (s : SlotList) : Type 0 where
   pub others : List ℕ
-  pub before : held_slots s ≡ others ++ (taken_of s).slot ∷ []
-  pub held : held_slots (taken_of s).slots ≡ (taken_of s).slot ∷ others
+  pub before : held_slots s ≡ others ++ (last_taken s).slot ∷ []
+  pub held : held_slots (last_taken s).slots ≡ (last_taken s).slot ∷ others
   pub none : free_slots s ≡ []
-  pub free : free_slots (taken_of s).slots ≡ []
-  pub apart : All (λ x. x ≢ (taken_of s).slot) others
+  pub free : free_slots (last_taken s).slots ≡ []
+  pub apart : All (λ x. x ≢ (last_taken s).slot) others
+
+-- of a sound list with a slot one is taken
+pub slots-open : (s : SlotList) → Sound s → 1 ≤ s.count → is_open s ≡ true
+slots-open s S some = and_both (leb 1 s.count) _ (le-leb 1 s.count some) (le-leb s.count 64 S.few)
+
+pub taken-below : (s : SlotList) → Sound s → 1 ≤ s.count → (last_taken s).slot < s.count
+taken-below s S some = go (dec_lt (s.count - 1) (length s.order))
+  where
+    go : Dec (s.count - 1 < length s.order) → get_or s.order (s.count - 1) 0 < s.count
+    go (yes h) =
+        let inside : s.count - 1 < length (slots_of s) = omega (arith, length-take s.count s.order) in
+        let below : get_or (slots_of s) (s.count - 1) 0 < s.count = All-at {P = λ x. x < s.count} (s.count - 1) 0 inside S.below in
+        subst (λ (x : ℕ). x < s.count) (get_or-take s.count s.order (s.count - 1) 0 (omega arith)) below
+    go (no h) =
+        let past : length s.order ≤ s.count - 1 = omega arith in
+        let z : get_or s.order (s.count - 1) 0 ≡ 0 = get_or-eq_default s.order 0 past in
+        omega arith
 
 module _ (s : SlotList) (S : Sound s) (long : length s.order ≡ most_slots) (some : 1 ≤ s.count) where
   -- all but the last
@@ -167,9 +185,6 @@ module _ (s : SlotList) (S : Sound s) (long : length s.order ≡ most_slots) (so
 
   abbrev last : ℕ
   last = get_or s.order (s.count - 1) 0
-
-  pub taken_is : taken_of s ≡ last_taken s
-  taken_is = sym (taken-some s (and_both (leb 1 s.count) _ (le-leb 1 s.count some) (le-leb s.count 64 S.few)))
 
   others-length : length others ≡ s.count - 1
   others-length = length-take-le (s.count - 1) s.order (omega (arith, S.few))
@@ -193,32 +208,21 @@ module _ (s : SlotList) (S : Sound s) (long : length s.order ≡ most_slots) (so
   after-within : min (s.held + 1) s.count ≤ s.count
   after-within = omega arith
 
-  pub taken-slots : slots_of (taken_of s).slots ≡ (taken_of s).slot ∷ others
-  taken-slots = subst (λ t. slots_of t.slots ≡ t.slot ∷ others) (sym taken_is) after-slots
+  pub taken-slots : slots_of (last_taken s).slots ≡ (last_taken s).slot ∷ others
+  taken-slots = after-slots
 
-  pub slots-taken : Moved (slots_of s) (slots_of (taken_of s).slots)
-  slots-taken =
-      subst (λ t. Moved (slots_of s) (slots_of t.slots)) (sym taken_is)
-      (subst (λ (l : List ℕ). Moved (slots_of s) l) (sym after-slots) (subst (λ (l : List ℕ). Moved l (last ∷ others)) (sym slots-last) (moved-last others last)))
+  pub slots-taken : Moved (slots_of s) (slots_of (last_taken s).slots)
+  slots-taken = subst (λ (l : List ℕ). Moved (slots_of s) l) (sym after-slots) (subst (λ (l : List ℕ). Moved l (last ∷ others)) (sym slots-last) (moved-last others last))
 
-  pub taken-there : (taken_of s).there ≡ true
-  taken-there = ap (λ t. t.there) taken_is
-
-  pub taken-size : length (taken_of s).slots.order ≡ most_slots
+  pub taken-size : length (last_taken s).slots.order ≡ most_slots
   unfolding front_of
-  taken-size = ap (λ t. length t.slots.order) taken_is ∙ front_length (s.count - 1) s.order ∙ long
+  taken-size = front_length (s.count - 1) s.order ∙ long
 
-  pub taken-sound : Sound (taken_of s).slots
-  taken-sound = sound-moved s (taken_of s).slots S (ap (λ t. t.slots.count) taken_is) (subst (λ t. t.slots.held ≤ s.count) (sym taken_is) after-within) slots-taken
-
-  pub taken-below : (taken_of s).slot < s.count
-  taken-below = All-head (subst (All (λ x. x < s.count)) taken-slots (moved-All slots-taken S.below))
+  pub taken-sound : Sound (last_taken s).slots
+  taken-sound = sound-moved s after S refl after-within slots-taken
 
   others_apart : All (λ x. x ≢ last) others
-  others_apart = (subst Distinct after-slots (moved-distinct slots-after S.once)).0
-    where
-      slots-after : Moved (slots_of s) (slots_of after)
-      slots-after = subst (λ t. Moved (slots_of s) (slots_of t.slots)) taken_is slots-taken
+  others_apart = (subst Distinct after-slots (moved-distinct slots-taken S.once)).0
 
   -- by how many are held
   after-held : (n : ℕ) → min (s.held + 1) s.count ≡ suc n → held_slots after ≡ last ∷ take n others
@@ -236,9 +240,9 @@ module _ (s : SlotList) (S : Sound s) (long : length s.order ≡ most_slots) (so
       let f : free_slots s ≡ drop s.held others ++ last ∷ [] =
       ap (drop s.held) slots-last ∙ drop-append-le s.held others (last ∷ []) (omega (arith, others-length)) in
       record {
-        held = subst (λ t. held_slots t.slots ≡ t.slot ∷ held_slots s) (sym taken_is) (after-held s.held m ∙ ap (λ (l : List ℕ). last ∷ l) k);
-        free = subst (λ t. free_slots s ≡ free_slots t.slots ++ t.slot ∷ []) (sym taken_is) (f ∙ ap (λ (l : List ℕ). l ++ last ∷ []) (sym (after_free s.held m)));
-        apart = subst (λ t. All (λ x. x ≢ t.slot) (held_slots s)) (sym taken_is) (subst (All (λ x. x ≢ last)) k (All-take s.held others_apart));
+        held = after-held s.held m ∙ ap (λ (l : List ℕ). last ∷ l) k;
+        free = f ∙ ap (λ (l : List ℕ). l ++ last ∷ []) (sym (after_free s.held m));
+        apart = subst (All (λ x. x ≢ last)) k (All-take s.held others_apart);
       }
 
   pub taken-held : s.held ≡ s.count → TakenHeld s
@@ -248,13 +252,11 @@ module _ (s : SlotList) (S : Sound s) (long : length s.order ≡ most_slots) (so
       let k : length others ≤ s.count - 1 = omega (arith, others-length) in
       record {
         others = others;
-        before = subst (λ t. held_slots s ≡ others ++ t.slot ∷ []) (sym taken_is) (ap (λ (i : ℕ). take i s.order) h ∙ slots-last);
-        held =
-            subst (λ t. held_slots t.slots ≡ t.slot ∷ others) (sym taken_is)
-            (after-held (s.count - 1) m ∙ ap (λ (l : List ℕ). last ∷ l) (take_all (s.count - 1) others k));
+        before = ap (λ (i : ℕ). take i s.order) h ∙ slots-last;
+        held = after-held (s.count - 1) m ∙ ap (λ (l : List ℕ). last ∷ l) (take_all (s.count - 1) others k);
         none = drop_of_length-le (slots_of s) n;
-        free = ap (λ t. free_slots t.slots) taken_is ∙ after_free (s.count - 1) m ∙ drop_of_length-le others k;
-        apart = subst (λ t. All (λ x. x ≢ t.slot) others) (sym taken_is) others_apart;
+        free = after_free (s.count - 1) m ∙ drop_of_length-le others k;
+        apart = others_apart;
       }
 
 -- ---- slots dropped

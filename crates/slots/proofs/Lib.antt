@@ -1,12 +1,11 @@
-pub mod Compared
 pub mod Fronts
-pub mod Gathers
 pub mod HeldLaws
 pub mod KeyLaws
 pub mod Laws
 pub mod Moves
 pub mod Named
 pub mod Noted
+pub mod Parts
 pub mod Repeated
 pub mod Signed
 pub mod SlotReads

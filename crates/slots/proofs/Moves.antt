@@ -1,88 +1,81 @@
 -- What `take_last` and `drop` return, over plain variables. Assumes nothing.
-use mathlib.Core.Path.{◌≡◌, sym, ap, ◌∙◌}
-use mathlib.Core.Bool.{Bool, true, false, not, cond}
+use mathlib.Core.Path.{◌≡◌, refl, sym, ap, ◌∙◌}
+use mathlib.Core.Bool.{Bool, true, false, cond}
 use mathlib.Core.List.{List, ◌++◌}
-use Prim.Native.Nat.{ℕ, ◌+◌, ◌-◌, ◌≤◌, min}
-use native.Mathlib.Decide.{dec_le}
+use Prim.Native.Nat.{ℕ, ◌+◌, ◌-◌, ◌≤◌, ◌<◌, min}
 use native.Mathlib.Omega.{arith}
-use borrow.Author.Tests.{leb-true}
+use borrow.Author.Tests.{leb-true, le-leb}
 use lib.Dec.{leb}
-use lib.ListN.{length, take, drop, get_or, length-append, length-take, drop_of_length-le}
-use Rattle.lists.specs.Lists.{keep, written}
-use Rattle.lists.proofs.Bools.{and_left, and_right}
-use Rattle.lists.proofs.Moved.{parted-length}
-use Rattle.lists.proofs.Walks.{take_min}
-use Rattle.lists.proofs.Written.{written-append}
+use lib.ListN.{length, take, drop, get_or}
+use Rattle.std.specs.Prelude.{Option, Some, None}
+use Rattle.lists.proofs.Bools.{and_left, and_right, and_both}
+use Rattle.lists.proofs.Places.{get_or-inside}
 use Rattle.slots.specs.declared.SlotList.{SlotList}
-use Rattle.slots.specs.declared.order.Run.{Run}
-use Rattle.slots.specs.Order.{held_slots, front_of, last_taken, none_taken, is_open, taken_of, is_marked, has_mark, appended, drop_by, drop_of}
+use Rattle.slots.specs.declared.Taken.{Taken}
+use Rattle.slots.proofs.Fronts.{front_turned, front-past}
+use Rattle.slots.specs.Order.{front, front_of, last_taken, is_open, taken_of}
 
 -- ---- the last slot taken
 
 pub open_is : (s : SlotList) → is_open s ≡ true → (1 ≤ s.count) × (s.count ≤ 64)
 open_is s h = (leb-true 1 s.count (and_left (leb 1 s.count) _ h), leb-true s.count 64 (and_right (leb 1 s.count) _ h))
 
-pub taken_none : (s : SlotList) → is_open s ≡ false → none_taken s ≡ taken_of s
-unfolding taken_of
-taken_none s h = sym (ap (λ (b : Bool). cond b (last_taken s) (none_taken s)) h)
+none-some : {t : Taken} → ◌≡◌ {A = Option Taken} None (Some t) → ⊥
+none-some e = cc
 
-pub taken-some : (s : SlotList) → is_open s ≡ true → last_taken s ≡ taken_of s
-unfolding taken_of
-taken-some s h = sym (ap (λ (b : Bool). cond b (last_taken s) (none_taken s)) h)
+module _ (s : SlotList) where
+  is_taken : (b : Bool) → is_open s ≡ b → taken_of s ≡ cond b (Some (last_taken s)) None
+  unfolding taken_of
+  is_taken b h = ap (λ (t : Bool). cond t (Some (last_taken s)) None) h
 
-pub taken-last : (s m : SlotList) (h : ℕ) → is_open s ≡ true → m ≡ front_of s (s.count - 1) → h ≡ min (s.held + 1) s.count
-    → record { there = true; slot = get_or s.order (s.count - 1) 0; slots = record { order = m.order; held = h; count = m.count } } ≡ taken_of s
+  pub taken_none : is_open s ≡ false → taken_of s ≡ None
+  taken_none h = is_taken false h
+
+  pub taken-some : is_open s ≡ true → taken_of s ≡ Some (last_taken s)
+  taken-some h = is_taken true h
+
+  pub taken_open : (t : Taken) → taken_of s ≡ Some t → (is_open s ≡ true) × (t ≡ last_taken s)
+  taken_open t h = go (is_open s) refl
+    where
+      go : (b : Bool) → is_open s ≡ b → (is_open s ≡ true) × (t ≡ last_taken s)
+      go true e = let k = taken-some e in (e, cc)
+      go false e = let k = taken_none e in absurd (none-some (sym k ∙ h))
+
+  pub not_open : taken_of s ≡ None → is_open s ≡ false
+  not_open h = go (is_open s) refl
+    where
+      go : (b : Bool) → is_open s ≡ b → is_open s ≡ false
+      go true e = let k = taken-some e in absurd (none-some (sym h ∙ k))
+      go false e = e
+
+-- ---- a slot moved to the front
+
+pub front-turned_is : (s : SlotList) (p at : ℕ) (r : List ℕ) → at < length s.order → at ≡ p
+    → (let t = take (at + 1) s.order in r ≡ drop (length t - 1) t ++ take (length t - 1) t)
+    → record { order = r ++ drop (at + 1) s.order; held = s.held; count = s.count } ≡ front_of s p
 unfolding front_of
-taken-last s m h o e q =
-    (λ j. record { there = true; slot = get_or s.order (s.count - 1) 0; slots = record { order = (e j).order; held = q j; count = (e j).count } })
-    ∙ taken-some s o
+front-turned_is s p at r h e t =
+    ap (λ (l : List ℕ). record { order = l; held = s.held; count = s.count }) (front_turned at s.order r h t ∙ ap (λ (k : ℕ). front k s.order) e)
 
--- ---- marked slots put behind the others
+pub front_past_is : (s : SlotList) (p : ℕ) → length s.order ≤ p → s ≡ front_of s p
+unfolding front_of
+front_past_is s p h = ap (λ (l : List ℕ). record { order = l; held = s.held; count = s.count }) (sym (front-past p s.order h))
 
-drop_min : {A : Type 0} (n k : ℕ) (l : List A) → length l ≡ k → drop (min n k) l ≡ drop n l
-drop_min n k l e = go (dec_le n k)
+-- ---- what `take_last` returns
+
+pub taken_past : (s : SlotList) → ((1 ≤ s.count) × (s.count ≤ 64) → ⊥) → taken_of s ≡ None
+taken_past s h = go (is_open s) refl
   where
-    go : Dec (n ≤ k) → drop (min n k) l ≡ drop n l
-    go (yes h) = let z : min n k ≡ n = omega arith in rw z
-    go (no h) =
-        let z : min n k ≡ k = omega arith in
-        let a : length l ≤ k = omega arith in
-        let b : length l ≤ n = omega arith in
-        rw z (drop_of_length-le l a ∙ sym (drop_of_length-le l b))
+    go : (b : Bool) → is_open s ≡ b → taken_of s ≡ None
+    go true e = absurd (h (open_is s e))
+    go false e = taken_none s e
 
-module _ (order : List ℕ) (gone : List Bool) (n held : ℕ) (long : length order ≡ 64) (is : n ≡ min held 64) where
-  abbrev kept : List ℕ
-  kept = keep (has_mark gone false) (take n order)
-
-  abbrev marked : List ℕ
-  marked = keep (has_mark gone true) (take n order)
-
-  pub both-length : length kept + length marked ≡ n
-  both-length = parted-length (is_marked gone) (take n order) ∙ length-take n order ∙ omega arith
-
-  placed : written (written order 0 kept) (0 + length kept) marked ≡ (kept ++ marked) ++ drop held order
-  placed =
-      let e : 0 + length (kept ++ marked) ≡ min held 64 = omega (arith, length-append kept marked, both-length) in
-      written-append order 0 kept (omega (arith, both-length)) marked
-      ∙ ap (λ (r : List ℕ). (kept ++ marked) ++ r) (ap (λ (k : ℕ). drop k order) e ∙ drop_min held 64 order long)
-
-pub appended-len : (a r : Run) (xs : List ℕ) → a ≡ appended r xs → a.len ≡ r.len + length xs
-unfolding appended
-appended-len a r xs e = ap (λ (r : Run). r.len) e
-
-pub dropped : (s : SlotList) (gone : List Bool) (n : ℕ) (a b : Run) → length s.order ≡ 64 → n ≡ min s.held 64
-    → a ≡ appended (record { places = s.order; len = 0 }) (keep (has_mark gone false) (take n s.order))
-    → b ≡ appended a (keep (has_mark gone true) (take n s.order))
-    → record { order = b.places; held = a.len; count = s.count } ≡ drop_of s gone
-unfolding drop_by appended
-dropped s gone n a b long is ea eb =
-    let K : List ℕ → List ℕ = keep (λ (x : ℕ). not (is_marked gone x)) in
-    let t : take n s.order ≡ held_slots s = ap (λ (k : ℕ). take k s.order) is ∙ take_min s.held 64 s.order long in
-    let o : b.places ≡ (K (held_slots s) ++ keep (is_marked gone) (held_slots s)) ++ drop s.held s.order =
-    ap (λ (r : Run). r.places) eb
-    ∙ ap (λ (r : Run). written r.places r.len (keep (has_mark gone true) (take n s.order))) ea
-    ∙ placed s.order gone n s.held long is
-    ∙ ap (λ (l : List ℕ). (K l ++ keep (is_marked gone) l) ++ drop s.held s.order) t in
-    let m : 0 + length (K (take n s.order)) ≡ length (K (take n s.order)) = omega arith in
-    let h : a.len ≡ length (K (held_slots s)) = ap (λ (r : Run). r.len) ea ∙ m ∙ ap (λ (l : List ℕ). length (K l)) t in
-    λ j. record { order = o j; held = h j; count = s.count }
+pub taken_last_is : (s m : SlotList) (last x h : ℕ) → last + 1 ≡ s.count → last < 64 → m ≡ front_of s last → x ≡ get_or s.order last x → last < length s.order → h ≡ min (s.held + 1) s.count
+    → Some (record { slot = x; slots = record { order = m.order; held = h; count = m.count } }) ≡ taken_of s
+unfolding front_of
+taken_last_is s m last x h n b e g l k =
+    let z : last ≡ s.count - 1 = omega arith in
+    let o : is_open s ≡ true = and_both (leb 1 s.count) _ (le-leb 1 s.count (omega arith)) (le-leb s.count 64 (omega arith)) in
+    let y : x ≡ get_or s.order (s.count - 1) 0 = g ∙ get_or-inside s.order last x 0 l ∙ ap (λ (i : ℕ). get_or s.order i 0) z in
+    let w : m ≡ front_of s (s.count - 1) = e ∙ ap (front_of s) z in
+    (λ j. Some (record { slot = y j; slots = record { order = (w j).order; held = k j; count = (w j).count } })) ∙ sym (taken-some s o)

@@ -3,13 +3,13 @@ use mathlib.Core.Path.{◌≡◌, refl, sym, ap, ap₂, ◌∙◌}
 use mathlib.Core.Bool.{Bool, true, false, not, ◌&&◌, ◌||◌, and-true, and-false}
 use mathlib.Core.List.{List, [], ◌∷◌}
 use Prim.Native.Nat.{ℕ, zero, suc, ◌+◌, ◌≤◌, ◌<◌}
+use native.Mathlib.Numerals.{add-one}
 use native.Mathlib.Omega.{arith}
 use borrow.Author.Tests.{lt-ltb, le-ltb, eqb-true, eqb-false}
 use lib.Dec.{ltb, eqb}
-use lib.ListN.{length, take, get_or, set, replicate}
-use lib.Seq.{get_or-set_same, get_or-set_other}
+use lib.ListN.{length, drop, get_or, set, replicate, drop_of_length-le}
+use lib.Seq.{drop-cons, get_or-set_same, get_or-set_other}
 use Rattle.lists.specs.Lists.{any, all, repeats}
-use Rattle.lists.proofs.Walks.{rest, rest-cons, rest-none}
 
 abbrev unseen : List Bool → List ℕ → Bool
 unseen seen xs = all (λ (x : ℕ). not (get_or seen x false)) xs
@@ -52,40 +52,43 @@ moved-not true true r = refl
 moved-not true false r = refl
 moved-not false e r = refl
 
-module _ (n : ℕ) (l : List ℕ) where
+module _ (l : List ℕ) where
+  abbrev n : ℕ
+  n = length l
+
   abbrev named : Bool
-  named = all (λ (x : ℕ). ltb x n) (take n l) && not (repeats eqb (take n l))
+  named = all (λ (x : ℕ). ltb x n) l && not (repeats eqb l)
 
   pub record Naming (seen : List Bool) (i : ℕ) : Type 0 where
     pub within : i ≤ n
-    pub left : fresh n seen (rest n i l) ≡ named
+    pub left : fresh n seen (drop i l) ≡ named
 
   pub naming-start : (k : ℕ) → Naming (replicate k false) 0
   naming-start k = record {
     within = omega arith;
-    left = ap (λ (b : Bool). all (λ (x : ℕ). ltb x n) (take n l) && (b && not (repeats eqb (take n l)))) (none_seen k (take n l));
+    left = ap (λ (b : Bool). all (λ (x : ℕ). ltb x n) l && (b && not (repeats eqb l))) (none_seen k l);
   }
 
   pub naming-end : (seen : List Bool) (i : ℕ) → n ≤ i → Naming seen i → true ≡ named
-  naming-end seen i h N = ap (fresh n seen) (sym (rest-none n i l h)) ∙ N.left
+  naming-end seen i h N = ap (fresh n seen) (sym (drop_of_length-le l h)) ∙ N.left
 
-  module _ (seen : List Bool) (i : ℕ) (h : n ≤ length l) (k : i < n) (N : Naming seen i) where
+  module _ (seen : List Bool) (i : ℕ) (k : i < n) (N : Naming seen i) where
     abbrev here : ℕ
     here = get_or l i 0
 
-    step : fresh n seen (here ∷ rest n (i + 1) l) ≡ named
-    step = ap (fresh n seen) (sym (rest-cons n i l 0 h k)) ∙ N.left
+    step : fresh n seen (here ∷ drop (i + 1) l) ≡ named
+    step = ap (λ (m : ℕ). fresh n seen (here ∷ drop m l)) (add-one i) ∙ ap (fresh n seen) (sym (drop-cons l i 0 k)) ∙ N.left
 
     -- a number that is no slot, and one that was seen
     pub naming-past : n ≤ here → false ≡ named
     naming-past e = rw (le-ltb here n e) at step
 
     pub naming-seen : here < n → get_or seen here false ≡ true → false ≡ named
-    naming-seen b e = sym (and-false (all (λ (x : ℕ). ltb x n) (rest n (i + 1) l))) ∙ (rw (lt-ltb here n b, e) at step)
+    naming-seen b e = sym (and-false (all (λ (x : ℕ). ltb x n) (drop (i + 1) l))) ∙ (rw (lt-ltb here n b, e) at step)
 
     pub naming-more : here < n → n ≤ length seen → get_or seen here false ≡ false → Naming (set seen here true) (i + 1)
     naming-more b s e =
-        let xs : List ℕ = rest n (i + 1) l in
+        let xs : List ℕ = drop (i + 1) l in
         let t : (all (λ (x : ℕ). ltb x n) xs && (unseen seen xs && not (any (eqb here) xs || repeats eqb xs))) ≡ named = rw (lt-ltb here n b, e) at step in
         record {
           within = omega arith;

@@ -1,41 +1,18 @@
--- The loops of `held_twice`: a number looked for among others; and fingerprints that are noted, with a mark for the remainder of each, and no two of them equal.
--- Assumes nothing.
+-- The loop of `held_twice`: fingerprints that are noted, with a mark for the remainder of each, and no two of them equal. Assumes nothing.
 use mathlib.Core.Path.{◌≡◌, refl, sym, ap, ap₂, ◌∙◌, subst}
-use mathlib.Core.Bool.{Bool, true, false, ◌&&◌, ◌||◌, or-false}
+use mathlib.Core.Bool.{Bool, true, false, ◌&&◌, ◌||◌, and-false}
 use mathlib.Core.List.{List, [], ◌∷◌, ◌++◌, map}
 use Prim.Native.Nat.{ℕ, ◌+◌, ◌%◌, ◌≤◌, ◌<◌}
 use native.Mathlib.Numerals.{add-one}
 use native.Mathlib.Omega.{arith}
-use borrow.Author.Tests.{eqb-true, eqb-false, ne_eqb}
+use borrow.Author.Tests.{eqb-true, eqb-false, eq-eqb, ne_eqb}
 use lib.Dec.{eqb}
 use lib.ListN.{length, take, get_or, set}
-use lib.Seq.{take-suc, take-suc-set, get_or-set_same, get_or-set_other}
+use lib.Seq.{take_all, take-suc, take-suc-set, get_or-set_same, get_or-set_other}
+use Rattle.std.specs.List.{list_any}
 use Rattle.lists.specs.Lists.{All, nil, cons, any, repeats}
-use Rattle.lists.proofs.Bools.{or_left, or_right, or_assoc, clash}
+use Rattle.lists.proofs.Bools.{or_left, or_right, clash}
 use Rattle.lists.proofs.Lists.{All-map, All-append, any_append, map-append}
-use Rattle.lists.proofs.Walks.{rest, rest-cons, rest-none}
-
--- ---- whether one of the first n passes the test is told by those left
-
-module _ (p : ℕ → Bool) (n : ℕ) (l : List ℕ) where
-  pub record Sought (found : Bool) (i : ℕ) : Type 0 where
-    pub within : i ≤ n
-    pub left : (found || any p (rest n i l)) ≡ any p (take n l)
-
-  pub sought-start : Sought false 0
-  sought-start = record { within = omega arith; left = refl }
-
-  pub sought-more : (found : Bool) (i d : ℕ) → n ≤ length l → i < n → Sought found i → Sought (found || p (get_or l i d)) (i + 1)
-  sought-more found i d h k S = record {
-    within = omega arith;
-    left =
-        sym (or_assoc found (p (get_or l i d)) (any p (rest n (i + 1) l)))
-        ∙ ap (λ (xs : List ℕ). found || any p xs) (sym (rest-cons n i l d h k))
-        ∙ S.left;
-  }
-
-  pub sought-end : (found : Bool) (i : ℕ) → n ≤ i → Sought found i → found ≡ any p (take n l)
-  sought-end found i h S = sym (or-false found) ∙ ap (λ (xs : List ℕ). found || any p xs) (sym (rest-none n i l h)) ∙ S.left
 
 -- ---- numbers, no two of them equal, with a mark for the remainder of each
 
@@ -74,10 +51,19 @@ repeats-last (x ∷ l) h a r =
     (any_append (eqb x) l (h ∷ []) ∙ ap₂ ◌||◌ (or_left (any (eqb x) l) (repeats eqb l) r) (ap (λ (b : Bool). b || false) k))
     (repeats-last l h (or_right (eqb h x) (any (eqb h) l) a) (or_right (any (eqb x) l) (repeats eqb l) r))
 
-module _ (f : ℕ → ℕ) (n : ℕ) (l : List ℕ) where
+-- the library's test of some member, of an equal number
+any_equal : (h : ℕ) (l : List ℕ) → list_any (λ (x : ℕ). eqb x h) l ≡ any (eqb h) l
+any_equal h [] = refl
+any_equal h (x ∷ l) = ap₂ ◌||◌ (turned (eqb h x) refl) (any_equal h l)
+  where
+    turned : (b : Bool) → eqb h x ≡ b → eqb x h ≡ eqb h x
+    turned true e = eq-eqb x h (sym (eqb-true h x e)) ∙ sym e
+    turned false e = ne_eqb x h (λ q. eqb-false h x e (sym q)) ∙ sym e
+
+module _ (f : ℕ → ℕ) (l : List ℕ) where
   -- of the first i: their numbers are noted, each has its mark, and no two are equal
   pub record Noted (prints : List ℕ) (seen : List Bool) (i : ℕ) : Type 0 where
-    pub within : i ≤ n
+    pub within : i ≤ length l
     pub noted : take i prints ≡ map f (take i l)
     pub marked : All (Marked seen) (take i prints)
     pub apart : repeats eqb (take i prints) ≡ false
@@ -85,13 +71,12 @@ module _ (f : ℕ → ℕ) (n : ℕ) (l : List ℕ) where
   pub noted-start : (prints : List ℕ) (seen : List Bool) → Noted prints seen 0
   noted-start prints seen = record { within = omega arith; noted = refl; marked = nil; apart = refl }
 
-  pub noted-end : (prints : List ℕ) (seen : List Bool) (i : ℕ) → n ≤ i → Noted prints seen i → repeats eqb (map f (take n l)) ≡ false
+  pub noted-end : (prints : List ℕ) (seen : List Bool) (i : ℕ) → length l ≤ i → Noted prints seen i → repeats eqb (map f l) ≡ false
   noted-end prints seen i h N =
-      let e : i ≡ n = omega (arith, N.within) in
-      ap (λ (k : ℕ). repeats eqb (map f (take k l))) (sym e) ∙ ap (repeats eqb) (sym N.noted) ∙ N.apart
+      ap (λ (r : List ℕ). repeats eqb (map f r)) (sym (take_all i l h)) ∙ ap (repeats eqb) (sym N.noted) ∙ N.apart
 
-  module _ (prints : List ℕ) (seen : List Bool) (i h : ℕ) (k : i < n) (lp : i < length prints) (ll : i < length l) (ls : h % 1024 < length seen) where
-    pub noted_more : h ≡ f (get_or l i 0) → (get_or seen (h % 1024) false && any (eqb h) (take i prints)) ≡ false → Noted prints seen i
+  module _ (prints : List ℕ) (seen : List Bool) (i h : ℕ) (lp : i < length prints) (ll : i < length l) (ls : h % 1024 < length seen) where
+    noted_more : h ≡ f (get_or l i 0) → (get_or seen (h % 1024) false && any (eqb h) (take i prints)) ≡ false → Noted prints seen i
         → Noted (set prints i h) (set seen (h % 1024) true) (i + 1)
     noted_more e q N =
         let s : take (i + 1) (set prints i h) ≡ take i prints ++ (h ∷ []) = ap (λ (j : ℕ). take j (set prints i h)) (add-one i) ∙ take-suc-set prints i h lp in
@@ -104,3 +89,11 @@ module _ (f : ℕ → ℕ) (n : ℕ) (l : List ℕ) where
               (All-append (All-map (λ x a. still_marked seen (h % 1024) x ls a) N.marked) (cons (get_or-set_same seen (h % 1024) true false ls) nil));
           apart = ap (repeats eqb) s ∙ repeats-last (take i prints) h (is-new seen h (take i prints) N.marked q) N.apart;
         }
+
+    -- with no mark, or looked for and not found
+    pub noted-unmarked : h ≡ f (get_or l i 0) → get_or seen (h % 1024) false ≡ false → Noted prints seen i → Noted (set prints i h) (set seen (h % 1024) true) (i + 1)
+    noted-unmarked e q N = noted_more e (ap (λ (b : Bool). b && any (eqb h) (take i prints)) q) N
+
+    pub noted-apart : h ≡ f (get_or l i 0) → list_any (λ (x : ℕ). eqb x h) (take i prints) ≡ false → Noted prints seen i → Noted (set prints i h) (set seen (h % 1024) true) (i + 1)
+    noted-apart e q N =
+        noted_more e (ap (λ (b : Bool). get_or seen (h % 1024) false && b) (sym (any_equal h (take i prints)) ∙ q) ∙ and-false (get_or seen (h % 1024) false)) N

@@ -1,8 +1,7 @@
 -- Slot lists and keys, computed. Assumes nothing.
-use Rattle.std.specs.Prelude.{◌≡◌, refl, true, false, List, [], ◌∷◌, map, ℕ, pos, neg_ℤ, replicate}
+use Rattle.std.specs.Prelude.{◌≡◌, refl, true, false, List, [], ◌∷◌, map, ℕ, pos, neg_ℤ, replicate, Some, None}
 use Rattle.slots.specs.declared.Key.{Key}
 use Rattle.slots.specs.declared.SlotList.{SlotList}
-use Rattle.slots.specs.declared.Found.TheVariants.{At, Nothing}
 use Rattle.slots.specs.Order.{sound_slots, open_of, front_of, taken_of, drop_by, drop_of, clear_of}
 use Rattle.slots.specs.Keys.{key_of, same_key, slot_has, find_of, held_twice}
 
@@ -21,9 +20,9 @@ moved = refl
 
 -- the last slot, free and then held; and no slot
 pub taken : map taken_of (four ∷ listed (2 ∷ 3 ∷ 1 ∷ 0 ∷ 9 ∷ []) 4 4 ∷ listed (9 ∷ []) 0 0 ∷ [])
-    ≡ record { there = true; slot = 2; slots = listed (2 ∷ 3 ∷ 1 ∷ 0 ∷ 9 ∷ []) 4 4 }
-    ∷ record { there = true; slot = 0; slots = listed (0 ∷ 2 ∷ 3 ∷ 1 ∷ 9 ∷ []) 4 4 }
-    ∷ record { there = false; slot = 0; slots = listed (9 ∷ []) 0 0 }
+    ≡ Some (record { slot = 2; slots = listed (2 ∷ 3 ∷ 1 ∷ 0 ∷ 9 ∷ []) 4 4 })
+    ∷ Some (record { slot = 0; slots = listed (0 ∷ 2 ∷ 3 ∷ 1 ∷ 9 ∷ []) 4 4 })
+    ∷ None
     ∷ []
 unfolding taken_of front_of
 taken = refl
@@ -71,11 +70,11 @@ abbrev keys : List Key
 keys = key 1 1 (5 ∷ 6 ∷ []) ∷ key 1 1 (6 ∷ 6 ∷ []) ∷ key 1 1 (5 ∷ 7 ∷ []) ∷ []
 
 -- looked for among the held places: found at the first; not found where it is free; a number that is no slot has no key
-pub found : map (λ (s : SlotList). find_of keys s (key 1 1 (5 ∷ []))) (listed (1 ∷ 2 ∷ 0 ∷ []) 3 3 ∷ listed (1 ∷ 2 ∷ 0 ∷ []) 1 3 ∷ []) ≡ At 1 ∷ Nothing ∷ []
+pub found : map (λ (s : SlotList). find_of keys s (key 1 1 (5 ∷ []))) (listed (1 ∷ 2 ∷ 0 ∷ []) 3 3 ∷ listed (1 ∷ 2 ∷ 0 ∷ []) 1 3 ∷ []) ≡ Some 1 ∷ None ∷ []
 unfolding find_of slot_has same_key
 found = refl
 
-pub no_slot : find_of keys (listed (64 ∷ []) 1 1) (key 0 0 []) ≡ Nothing
+pub no_slot : find_of keys (listed (64 ∷ []) 1 1) (key 0 0 []) ≡ None
 unfolding find_of slot_has same_key
 no_slot = refl
 

@@ -1,13 +1,11 @@
 -- The key of a cached answer as the program has it, and the keys of the held slots: document 01, "A key is the question's number with up to eight values", and of a sound
 -- state "no key is held twice". Assumes nothing: these are definitions.
-use Rattle.std.specs.Prelude.{Bool, ◌&&◌, cond, List, [], ◌∷◌, map, ℕ, suc, ◌+◌, ◌-◌, ◌*◌, ◌%◌, ◌^◌, min, ltb, ℤ, pos, negsuc, length, take, get_or, replicate}
+use Rattle.std.specs.Prelude.{Bool, ◌&&◌, List, [], ◌∷◌, map, ℕ, suc, ◌+◌, ◌-◌, ◌*◌, ◌%◌, ◌^◌, min, ltb, ℤ, pos, negsuc, length, take, get_or, replicate, Option, position}
 use Rattle.lists.specs.Lists.{repeats, written}
 use Rattle.meaning.specs.Key as M
 use Rattle.meaning.specs.Limits.{most_slots, most_marks}
 use Rattle.slots.specs.declared.Key.{Key}
 use Rattle.slots.specs.declared.SlotList.{SlotList}
-use Rattle.slots.specs.declared.Found.{Found}
-use Rattle.slots.specs.declared.Found.TheVariants.{At, Nothing}
 use Rattle.slots.specs.Order.{held_slots}
 
 -- ---- keys
@@ -43,14 +41,13 @@ held_keys keys s = map (slot_key keys) (held_slots s)
 unfoldable pub slot_has : List Key → Key → ℕ → Bool
 slot_has keys k x = ltb x most_slots && same_key (slot_key keys x) k
 
--- the first place from i on whose slot passes the test
-abbrev pub find_from : (ℕ → Bool) → ℕ → List ℕ → Found
-find_from p i [] = Nothing
-find_from p i (x ∷ xs) = cond (p x) (At i) (find_from p (suc i) xs)
+-- a place in the order of use, if one is found
+abbrev pub Found : Type 0
+Found = Option ℕ
 
 -- the first held place whose slot has the key
 unfoldable pub find_of : List Key → SlotList → Key → Found
-find_of keys s k = find_from (slot_has keys k) 0 (held_slots s)
+find_of keys s k = position (slot_has keys k) (held_slots s)
 
 -- "no key is held twice"
 unfoldable pub held_twice : List Key → SlotList → Bool

@@ -1,3 +1,4 @@
 pub mod Order
 pub mod Keys
+pub mod Same
 pub mod Examples

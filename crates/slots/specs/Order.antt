@@ -1,11 +1,10 @@
 -- The order of use as the program has it: document 01, "Slots". Of its array the first `count` places are the slots, the first `held` of them hold an answer, and what
 -- stands behind is no slot and stays. The definitions are given for every struct, also one that is not sound. Assumes nothing: these are definitions.
-use Rattle.std.specs.Prelude.{Bool, true, false, not, ◌&&◌, cond, List, ◌++◌, ℕ, ◌+◌, ◌-◌, min, leb, ltb, eqb, length, take, drop, get_or}
-use Rattle.lists.specs.Lists.{all, keep, repeats, from, written}
+use Rattle.std.specs.Prelude.{Bool, true, false, not, ◌&&◌, cond, List, ◌++◌, ℕ, ◌+◌, ◌-◌, min, leb, ltb, eqb, length, take, drop, get_or, Option, Some, None}
+use Rattle.lists.specs.Lists.{all, keep, repeats, from}
 use Rattle.meaning.specs.Limits.{most_slots}
 use Rattle.slots.specs.declared.SlotList.{SlotList}
 use Rattle.slots.specs.declared.Taken.{Taken}
-use Rattle.slots.specs.declared.order.Run.{Run}
 
 -- the slots, those that hold an answer, and the free ones, each the most recently used first
 abbrev pub slots_of : SlotList → List ℕ
@@ -40,20 +39,16 @@ abbrev pub last_taken : SlotList → Taken
 last_taken s =
     let moved = front_of s (s.count - 1) in
     record {
-      there = true;
       slot = get_or s.order (s.count - 1) 0;
       slots = record { order = moved.order; held = min (s.held + 1) s.count; count = s.count };
     }
 
--- with no slot, or more than there can be, none is taken
-abbrev pub none_taken : SlotList → Taken
-none_taken s = record { there = false; slot = 0; slots = s }
-
 abbrev pub is_open : SlotList → Bool
 is_open s = leb 1 s.count && leb s.count most_slots
 
-unfoldable pub taken_of : SlotList → Taken
-taken_of s = cond (is_open s) (last_taken s) (none_taken s)
+-- with no slot, or more than there can be, none is taken
+unfoldable pub taken_of : SlotList → Option Taken
+taken_of s = cond (is_open s) (Some (last_taken s)) None
 
 -- whether a slot is marked; a number past the marks is not
 abbrev pub is_marked : List Bool → ℕ → Bool
@@ -73,17 +68,3 @@ drop_of s gone = drop_by (is_marked gone) s
 -- "flush (drop every kept answer)"
 abbrev pub clear_of : SlotList → SlotList
 clear_of s = drop_by (λ x. true) s
-
--- ---- parts of the code
-
--- a number as an index: 0 if it is no slot
-abbrev pub if_slot : ℕ → ℕ
-if_slot x = cond (ltb x most_slots) x 0
-
--- whether a slot is marked, or is not
-abbrev pub has_mark : List Bool → Bool → ℕ → Bool
-has_mark marks b x = cond b (is_marked marks x) (not (is_marked marks x))
-
--- a run with others behind what it has
-unfoldable pub appended : Run → List ℕ → Run
-appended r xs = record { places = written r.places r.len xs; len = r.len + length xs }

@@ -1,13 +1,16 @@
-// The key of a cached answer, and the slot list: the order of use of the slots. Both by value. Every function answers for every struct, also one that is not sound.
+// The key of a cached answer, and the slot list: the order of use of the slots. Every function answers for every struct, also one that is not sound.
 #![tactic(auto)]
 
-mod order; // slots moved in the order of use, and the test of it
 mod twice; // fingerprints of keys, and whether a key is held twice
-mod values; // the values of a key
 
-ghost use Rattle.std.specs.Prelude.{◌≡◌};
-ghost use Rattle.slots.specs.Order.{sound_slots, open_of, front_of, taken_of, drop_of, clear_of};
-ghost use Rattle.slots.specs.Keys.{key_of, same_key, find_of, held_twice};
+ghost use Rattle.std.specs.Prelude.{◌≡◌, ◌&&◌, ◌≤◌, not, ℕ, ltb, eqb, length, take, drop, ◌++◌};
+ghost use Rattle.lists.specs.Lists.{all, repeats, keep};
+ghost use Rattle.slots.specs.Order.{sound_slots, open_of, front_of, taken_of, drop_of, clear_of, held_slots, is_marked};
+ghost use Rattle.slots.specs.Keys.{key_of, values_of, same_key, slot_has, find_of};
+ghost use Rattle.slots.specs.Same.{same_laws};
+
+use std::array;
+pub use twice::held_twice;
 
 // A question's number with its values: the first `count`. What stands behind them is not looked at.
 #[repr(C)]
@@ -27,19 +30,11 @@ pub struct SlotList {
     pub count: u8,
 }
 
-// The slot taken, if there is one, and the list in which it has moved.
+// The slot taken, and the list in which it has moved.
 #[derive(Clone, Copy)]
 pub struct Taken {
-    pub there: bool,
     pub slot: u8,
     pub slots: SlotList,
-}
-
-// A place in the order of use.
-#[derive(Clone, Copy)]
-pub enum Found {
-    At(u8),
-    Nothing,
 }
 
 impl Key {
@@ -49,8 +44,9 @@ impl Key {
     pub fn of(query: u8, values: &[i32]) -> Self
         ensures { result ≡ key_of query values.now }
     {
-        let n = values::least(values.len(), Self::VALUES);
-        let first = values::first(values, n);
+        let n = values.len().min(Self::VALUES);
+        let mut first = [0i32; Self::VALUES];
+        first[..n].copy_from_slice(&values[..n]);
         Self {
             query,
             count: n as u8,
@@ -58,20 +54,24 @@ impl Key {
         }
     }
 
-    // Whether two keys have the same number and the same values in use.
-    pub fn same(self, other: Key) -> bool
-        ensures { result ≡ same_key self other }
+    // The values in use.
+    fn used(&self) -> &[i32]
+        ensures { result.now ≡ values_of self.now }
     {
-        if self.query != other.query {
-            return false;
-        }
-        let n = values::used(self.count);
-        if n != values::used(other.count) {
-            return false;
-        }
-        let x = self.values;
-        let y = other.values;
-        values::same(x, y, n)
+        let n = usize::from(self.count).min(Self::VALUES);
+        &self.values[..n]
+    }
+}
+
+// Two keys are equal if they have the same number and the same values in use.
+impl PartialEq for Key {
+    ghost eq = { same_key };
+
+    ghost laws = { same_laws };
+
+    #[tactic(auto, unfolding(crate::specs::Keys::same_key))]
+    fn eq(&self, other: &Key) -> bool {
+        self.query == other.query && self.used() == other.used()
     }
 }
 
@@ -87,146 +87,121 @@ impl SlotList {
     pub fn open(count: u8) -> Self
         ensures { result ≡ open_of count }
     {
-        let places = order::first();
         Self {
-            order: places,
+            order: array::from_fn(|i| i as u8),
             held: 0,
             count,
         }
+    }
+
+    // The held slots.
+    pub fn held_slots(&self) -> &[u8]
+        ensures { result.now ≡ held_slots self.now }
+    {
+        let n = usize::from(self.held).min(Self::SLOTS);
+        &self.order[..n]
     }
 
     // The slot at place p moves to the front; with no such place the list stays.
     pub fn move_to_front(self, p: u8) -> Self
         ensures { result ≡ front_of self p }
     {
-        let at = p as usize;
+        let at = usize::from(p);
         if Self::SLOTS <= at {
             return self;
         }
-        let order = self.order;
-        let places = order::to_front(order, at);
-        Self {
-            order: places,
-            held: self.held,
-            count: self.count,
-        }
+        let mut order = self.order;
+        order[..at + 1].rotate_right(1);
+        Self { order, ..self }
     }
 
     // The last slot moves to the front and is held.
-    pub fn take_last(self) -> Taken
+    pub fn take_last(self) -> Option<Taken>
         ensures { result ≡ taken_of self }
     {
-        let n = self.count as usize;
-        let open = (1 <= n) & (n <= Self::SLOTS);
-        if !open {
-            return Taken {
-                there: false,
-                slot: 0,
-                slots: self,
-            };
-        }
-        let last = self.count - 1;
-        let slot = self.order[last as usize];
+        let last = self.count.checked_sub(1)?;
+        let slot = *self.order.get(usize::from(last))?;
         let mut slots = self.move_to_front(last);
-        slots.held = order::one_more(self.held, self.count);
-        Taken {
-            there: true,
-            slot,
-            slots,
-        }
+        slots.held = self.held.saturating_add(1).min(self.count);
+        Some(Taken { slot, slots })
     }
 
     // Of the held slots those that `gone` does not mark come first and stay held; the marked ones come behind them and are free. Each in the order they had.
-    pub fn drop(self, gone: [bool; SlotList::SLOTS]) -> Self
+    pub fn drop(mut self, gone: [bool; SlotList::SLOTS]) -> Self
         ensures { result ≡ drop_of self gone }
     {
-        let n = values::least(self.held as usize, Self::SLOTS);
-        let from = self.order;
-        let kept = order::gather(
-            order::Run {
-                places: from,
-                len: 0,
-            },
-            from,
-            n,
-            gone,
-            false,
-        );
-        let all = order::gather(kept, from, n, gone, true);
-        let places = all.places;
-        Self {
-            order: places,
-            held: kept.len as u8,
-            count: self.count,
+        let mut free = [0u8; Self::SLOTS];
+        let mut kept = 0;
+        let mut dropped = 0;
+        let from = self;
+        for x in from.held_slots() {
+            if is_marked(&gone, *x) {
+                free[dropped] = *x;
+                dropped += 1;
+            } else {
+                self.order[kept] = *x;
+                kept += 1;
+            }
         }
+        self.order[kept..kept + dropped].copy_from_slice(&free[..dropped]);
+        self.held = kept as u8;
+        self
     }
 
     // Every held slot is dropped: all are free, in the order they had.
-    pub fn clear(self) -> Self
+    pub fn clear(mut self) -> Self
         ensures { result ≡ clear_of self }
     {
-        let order = self.order;
-        Self {
-            order,
-            held: 0,
-            count: self.count,
-        }
+        self.held = 0;
+        self
     }
 
     // Whether the list names each slot once, no more of them held than there are.
-    pub fn is_sound(self) -> bool
-        ensures { result ≡ sound_slots self }
+    #[tactic(auto, unfolding(crate::specs::Order::sound_slots))]
+    pub fn is_sound(&self) -> bool
+        ensures { result ≡ sound_slots self.now }
     {
-        let n = self.count as usize;
-        if Self::SLOTS < n {
-            return false;
-        }
-        if self.count < self.held {
-            return false;
-        }
-        let places = self.order;
-        order::names_once(places, n)
+        let n = usize::from(self.count);
+        n <= Self::SLOTS && self.held <= self.count && names_once(&self.order[..n])
     }
+}
+
+// Whether a slot is marked; a number that is no slot is not.
+fn is_marked(marks: &[bool; SlotList::SLOTS], x: u8) -> bool
+    ensures { result ≡ is_marked marks.now x }
+{
+    marks.get(usize::from(x)).is_some_and(|marked| *marked)
+}
+
+// Whether each of as many slots as there are places is named once.
+fn names_once(places: &[u8]) -> bool
+    requires { length places.now ≤ 64 }
+    ensures { result ≡ (all (λ (x : ℕ). ltb x (length places.now)) places.now && not (repeats eqb places.now)) }
+{
+    let mut seen = [false; SlotList::SLOTS];
+    for x in places {
+        let at = usize::from(*x);
+        if places.len() <= at || seen[at] {
+            return false;
+        }
+        seen[at] = true;
+    }
+    true
+}
+
+// Whether a slot has the key; a number that is no slot has none.
+#[tactic(auto, unfolding(crate::specs::Keys::slot_has))]
+fn has(keys: &[Key; SlotList::SLOTS], key: &Key, x: u8) -> bool
+    ensures { result ≡ slot_has keys.now key.now x }
+{
+    keys.get(usize::from(x)).is_some_and(|k| k == key)
 }
 
 // The first held place whose slot has the key.
-pub fn find(keys: [Key; SlotList::SLOTS], slots: SlotList, key: Key) -> Found
-    ensures { result ≡ find_of keys slots key }
+#[tactic(auto, unfolding(crate::specs::Keys::find_of))]
+pub fn find(keys: &[Key; SlotList::SLOTS], slots: &SlotList, key: &Key) -> Option<u8>
+    ensures { result ≡ find_of keys.now slots.now key.now }
 {
-    let places = slots.order;
-    let n = values::least(slots.held as usize, SlotList::SLOTS);
-    let mut i: usize = 0;
-    while i < n {
-        let x = places[i];
-        let k = keys[order::index(x)];
-        if order::is_slot(x) & k.same(key) {
-            return Found::At(i as u8);
-        }
-        i += 1;
-    }
-    Found::Nothing
-}
-
-// Whether a key is held twice. Keys with different fingerprints differ, so that keys are compared only where two fingerprints are equal.
-pub fn held_twice(keys: [Key; SlotList::SLOTS], slots: SlotList) -> bool
-    ensures { result ≡ held_twice keys slots }
-{
-    let places = slots.order;
-    let n = values::least(slots.held as usize, SlotList::SLOTS);
-    let mut prints = [0u32; SlotList::SLOTS];
-    let mut seen = [false; twice::REMAINDERS];
-    let mut i: usize = 0;
-    while i < n {
-        let x = places[i];
-        let k = keys[order::index(x)];
-        let h = twice::print_if(x, k);
-        let at = h as usize % twice::REMAINDERS;
-        if twice::occurs(seen[at], h, &prints, i) {
-            return twice::any_same(keys, places, n);
-        }
-        prints[i] = h;
-        seen[at] = true;
-        i += 1;
-    }
-    false
+    let place = slots.held_slots().iter().position(|x| has(keys, key, *x))?;
+    Some(place as u8)
 }

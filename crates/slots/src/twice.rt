@@ -1,101 +1,84 @@
-// Fingerprints of keys, and whether a key is held twice. The pairwise test is one function with two loops: a function called in a loop would be handed a copy of the
-// keys at every turn.
-ghost use Rattle.std.specs.Prelude.{◌≡◌, ◌&&◌, cond, map, ◌≤◌, ltb, eqb, length, take};
-ghost use Rattle.lists.specs.Lists.{any, repeats};
-ghost use Rattle.slots.specs.Keys.{key_read, same_key, no_key, slot_key, raised, mixed, fingerprint};
+// Fingerprints of keys, and whether a key is held twice.
+ghost use Rattle.std.specs.Prelude.{◌≡◌, map};
+ghost use Rattle.lists.specs.Lists.{repeats};
+ghost use Rattle.slots.specs.Keys.{key_read, same_key, slot_key, mixed, fingerprint, slot_print, held_twice};
 
-use super::{Key, SlotList, order, values};
+use super::{Key, SlotList};
 
 // By how much fingerprints are divided: one is looked for among others only if one of them has the same remainder.
-pub const REMAINDERS: usize = 1024;
+const REMAINDERS: usize = 1024;
 
-// A signed number, counted from the lowest.
-fn raised_of(v: i32) -> u64
-    ensures { result ≡ raised v }
-{
-    ((v as i64) + 2147483648) as u64
-}
-
-// A fingerprint with a value more.
+// A fingerprint with a value more, which is counted from the lowest.
 fn mix(h: u32, v: i32) -> u32
     ensures { result ≡ mixed h v }
 {
-    ((h as u64 * 2654435761 + raised_of(v)) % 4294967296) as u32
+    h.wrapping_mul(2654435761)
+        .wrapping_add(v.abs_diff(i32::MIN))
 }
 
 // The fingerprint of a key: a number that is the same for the same keys.
-fn print_of(k: Key) -> u32
-    ensures { result ≡ fingerprint (key_read k) }
+#[tactic(auto, unfolding(crate::specs::Keys::fingerprint))]
+fn print_of(key: &Key) -> u32
+    ensures { result ≡ fingerprint (key_read key.now) }
 {
-    let n = values::used(k.count);
-    let numbers = k.values;
-    let mut h = k.query as u32 * 16 + n as u32;
-    let mut i: usize = 0;
-    while i < n {
-        let v = numbers[i];
-        h = mix(h, v);
-        i += 1;
+    let values = key.used();
+    let mut h = u32::from(key.query) * 16 + values.len() as u32;
+    for v in values {
+        h = mix(h, *v);
     }
     h
 }
 
-// The fingerprint of the key of a slot, or of what stands for that of a number that is no slot.
-pub fn print_if(x: u8, k: Key) -> u32
-    ensures { result ≡ fingerprint (key_read (cond (ltb x 64) k no_key)) }
+// The fingerprint of a slot's key, or of what stands for that of a number that is no slot.
+fn print_at(keys: &[Key; SlotList::SLOTS], x: u8) -> u32
+    ensures { result ≡ slot_print keys.now x }
 {
-    if order::is_slot(x) { print_of(k) } else { 0 }
+    match keys.get(usize::from(x)) {
+        Some(key) => print_of(key),
+        None => 0,
+    }
 }
 
 // The key of a slot, or what stands for that of a number that is no slot.
-fn key_if(x: u8, k: Key) -> Key
-    ensures { result ≡ cond (ltb x 64) k no_key }
+fn key_at(keys: &[Key; SlotList::SLOTS], x: u8) -> Key
+    ensures { result ≡ slot_key keys.now x }
 {
-    if order::is_slot(x) {
-        return k;
-    }
-    Key {
-        query: 0,
-        count: 0,
-        values: [0i32; Key::VALUES],
+    match keys.get(usize::from(x)) {
+        Some(key) => *key,
+        None => Key::of(0, &[]),
     }
 }
 
-// Whether a number that is marked stands among the first n.
-pub fn occurs(marked: bool, x: u32, prints: &[u32], n: usize) -> bool
-    requires { n ≤ length prints.now }
-    ensures { result ≡ (marked && any (eqb x) (take n prints.now)) }
+// Whether two of the slots have the same key.
+fn any_same(keys: &[Key; SlotList::SLOTS], slots: &[u8]) -> bool
+    ensures { result ≡ repeats same_key (map (slot_key keys.now) slots.now) }
 {
-    if !marked {
-        return false;
-    }
-    let mut found = false;
-    let mut i: usize = 0;
-    while i < n {
-        found = found | (x == prints[i]);
-        i += 1;
-    }
-    found
-}
-
-// Whether two of the first n slots have the same key.
-pub fn any_same(keys: [Key; SlotList::SLOTS], places: [u8; SlotList::SLOTS], n: usize) -> bool
-    requires { n ≤ 64 }
-    ensures { result ≡ repeats same_key (map (slot_key keys) (take n places)) }
-{
-    let mut found = false;
-    let mut i: usize = 0;
-    while i < n {
-        let x = places[i];
-        let at = keys[order::index(x)];
-        let k = key_if(x, at);
-        let mut j = i + 1;
-        while j < n {
-            let y = places[j];
-            let e = keys[order::index(y)];
-            found = found | k.same(key_if(y, e));
-            j += 1;
+    let mut left = slots;
+    while let Some((x, rest)) = left.split_first() {
+        let key = key_at(keys, *x);
+        if rest.iter().any(|y| key == key_at(keys, *y)) {
+            return true;
         }
-        i += 1;
+        left = rest;
     }
-    found
+    false
+}
+
+// Whether a key is held twice. Keys with different fingerprints differ, so that keys are compared only where two fingerprints are equal.
+pub fn held_twice(keys: &[Key; SlotList::SLOTS], slots: &SlotList) -> bool
+    ensures { result ≡ held_twice keys.now slots.now }
+{
+    let held = slots.held_slots();
+    let mut prints = [0u32; SlotList::SLOTS];
+    let mut seen = [false; REMAINDERS];
+    for (i, x) in held.iter().enumerate() {
+        let print = print_at(keys, *x);
+        let at = print as usize % REMAINDERS;
+        if seen[at] && prints[..i].contains(&print) {
+            return any_same(keys, held);
+        }
+        prints[i] = print;
+        seen[at] = true;
+    }
+    false
 }

@@ -1,43 +1,20 @@
--- Numbers noted one after another: whether one stands among those before it, and whether two are equal. Assumes nothing.
+-- Numbers of sound members noted one after another: whether one stands among those before it, and whether two are equal. Assumes nothing.
 use mathlib.Core.Path.{◌≡◌, refl, sym, ap, ap₂, ◌∙◌}
 use mathlib.Core.Bool.{Bool, true, false, ◌||◌}
-use mathlib.Core.List.{List, [], ◌∷◌, ◌++◌}
+use mathlib.Core.List.{List, [], ◌∷◌, ◌++◌, map}
 use Prim.Native.Nat.{ℕ, ◌+◌, ◌≤◌, ◌<◌}
 use native.Mathlib.Numerals.{add-one}
 use native.Mathlib.Omega.{arith}
 use borrow.Author.Tests.{eqb-true, eqb-false, eq-eqb, ne_eqb}
 use lib.Dec.{eqb}
 use lib.ListN.{length, get_or, take, set}
-use lib.Seq.{take-suc-set}
-use Rattle.lists.specs.Lists.{any, repeats}
-use Rattle.lists.proofs.Lists.{any_append}
-use Rattle.statement.proofs.Walks.{rest, rest-cons, rest-none}
-use Rattle.soundness.proofs.Tests.{shuffled}
+use lib.Seq.{take_all, take-suc, take-suc-set}
+use Rattle.std.specs.List.{list_any}
+use Rattle.lists.specs.Lists.{any, all, repeats}
+use Rattle.lists.proofs.Lists.{any_append, map-append}
+use Rattle.soundness.proofs.Tests.{shuffled, all-more, all-stop, all-end}
 
--- ---- one looked for: those left tell
-
-module _ (p : ℕ → Bool) (n : ℕ) (l : List ℕ) where
-  pub record Sought (i : ℕ) : Type 0 where
-    pub within : i ≤ n
-    pub left : any p (rest n i l) ≡ any p (take n l)
-
-  pub sought-start : Sought 0
-  sought-start = record { within = omega arith; left = refl }
-
-  pub sought-end : (i : ℕ) → n ≤ i → Sought i → false ≡ any p (take n l)
-  sought-end i h S = ap (any p) (sym (rest-none n i l h)) ∙ S.left
-
-  module _ (i d : ℕ) (h : n ≤ length l) (k : i < n) (S : Sought i) where
-    step : (b : Bool) → p (get_or l i d) ≡ b → (b || any p (rest n (i + 1) l)) ≡ any p (take n l)
-    step b e = ap (λ (c : Bool). c || any p (rest n (i + 1) l)) (sym e) ∙ ap (any p) (sym (rest-cons n i l d h k)) ∙ S.left
-
-    pub sought-more : p (get_or l i d) ≡ false → Sought (i + 1)
-    sought-more e = record { within = omega arith; left = step false e }
-
-    pub sought-stop : p (get_or l i d) ≡ true → true ≡ any p (take n l)
-    sought-stop e = step true e
-
--- ---- two that are equal
+-- ---- one looked for
 
 eqb-turned : (x y : ℕ) → eqb x y ≡ eqb y x
 eqb-turned x y = go (eqb x y) refl
@@ -46,6 +23,12 @@ eqb-turned x y = go (eqb x y) refl
     go true e = sym (eq-eqb y x (sym (eqb-true x y e)))
     go false e = sym (ne_eqb y x (λ q. eqb-false x y e (sym q)))
 
+pub found : (l : List ℕ) (x : ℕ) → list_any (λ (y : ℕ). eqb y x) l ≡ any (eqb x) l
+found [] x = refl
+found (y ∷ l) x = ap₂ ◌||◌ (eqb-turned y x) (found l x)
+
+-- ---- two that are equal
+
 repeats-last : (l : List ℕ) (x : ℕ) → repeats eqb (l ++ (x ∷ [])) ≡ (repeats eqb l || any (eqb x) l)
 repeats-last [] x = refl
 repeats-last (y ∷ l) x =
@@ -53,13 +36,44 @@ repeats-last (y ∷ l) x =
     ∙ shuffled (any (eqb y) l) (eqb x y) (repeats eqb l) (any (eqb x) l)
 
 -- one more is noted
-pub noted : (codes : List ℕ) (i x : ℕ) (same b : Bool) → i < length codes → same ≡ repeats eqb (take i codes) → b ≡ any (eqb x) (take i codes)
+noted : (codes : List ℕ) (i x : ℕ) (same b : Bool) → i < length codes → same ≡ repeats eqb (take i codes) → b ≡ any (eqb x) (take i codes)
     → (same || b) ≡ repeats eqb (take (i + 1) (set codes i x))
 noted codes i x same b h e f =
     ap₂ ◌||◌ e f ∙ sym (repeats-last (take i codes) x) ∙ ap (repeats eqb) (sym (ap (λ (j : ℕ). take j (set codes i x)) (add-one i) ∙ take-suc-set codes i x h))
 
--- all are noted
-pub noted-all : (xs codes : List ℕ) (n i : ℕ) (same : Bool) → i ≤ n → n ≤ i → same ≡ repeats eqb (take i codes) → take n codes ≡ xs → same ≡ repeats eqb xs
-noted-all xs codes n i same h k e f =
-    let z : i ≡ n = omega arith in
-    e ∙ ap (λ (j : ℕ). repeats eqb (take j codes)) z ∙ ap (repeats eqb) f
+-- ---- the loop: the members passed are sound, their numbers are noted, and whether two of these are equal
+
+module _ {A : Type 0} (f : A → ℕ) (p : A → Bool) (xs : List A) where
+  pub record Noted (codes : List ℕ) (same : Bool) (i : ℕ) : Type 0 where
+    pub within : i ≤ length xs
+    pub sound : all p (take i xs) ≡ true
+    pub numbers : take i codes ≡ map f (take i xs)
+    pub twice : same ≡ repeats eqb (take i codes)
+
+  pub noted-end : (codes : List ℕ) (same : Bool) (i : ℕ) → length xs ≤ i → Noted codes same i → (all p xs ≡ true) × (same ≡ repeats eqb (map f xs))
+  noted-end codes same i h N =
+      let e : take i xs ≡ xs = take_all i xs h in
+      (sym (all-end p xs i h N.sound), N.twice ∙ ap (repeats eqb) (N.numbers ∙ ap (map f) e))
+
+  -- x is the member after those passed
+  module _ (codes : List ℕ) (same : Bool) (i : ℕ) (d : A) (N : Noted codes same i) (h : i < length xs) where
+    abbrev x : A
+    x = get_or xs i d
+
+    step : take (i + 1) xs ≡ take i xs ++ (x ∷ [])
+    step = ap (λ (j : ℕ). take j xs) (add-one i) ∙ take-suc xs i d h
+
+    pub noted-more : (c : ℕ) (b : Bool) → i < length codes → (c ≡ f x) × (p x ≡ true) → b ≡ list_any (λ (y : ℕ). eqb y c) (take i codes)
+        → Noted (set codes i c) (same || b) (i + 1)
+    noted-more c b k e q = record {
+      within = omega arith;
+      sound = all-more p xs i d h N.sound e.1;
+      numbers =
+          ap (λ (j : ℕ). take j (set codes i c)) (add-one i) ∙ take-suc-set codes i c k
+          ∙ ap₂ (λ (l : List ℕ) (y : ℕ). l ++ (y ∷ [])) N.numbers e.0
+          ∙ sym (map-append f (take i xs) (x ∷ [])) ∙ ap (map f) (sym step);
+      twice = noted codes i c same b k N.twice (q ∙ found (take i codes) c);
+    }
+
+    pub noted-stop : p x ≡ false → false ≡ all p xs
+    noted-stop = all-stop p xs i d h

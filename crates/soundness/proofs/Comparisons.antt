@@ -116,15 +116,16 @@ module _ (columns m p : ℕ) (c : Condition) where
   condition-long h =
       sym (ap (λ (b : Bool). (b && others) && (eqb p (m + condition_marks c) && leb p most_marks)) (lt-leb c.count most_comparisons h))
 
-  pub condition-ordered : sound_condition_on columns m p c ≡ true → Ordered c
+  pub condition-ordered : length c.comparisons ≡ 8 → sound_condition_on columns m p c ≡ true → Ordered c
   unfolding sound_condition_on sound_condition
-  condition-ordered h =
+  condition-ordered eight h =
       let all_but = and_left (leb c.count most_comparisons && others) _ h in
       let steps = and_right (leb c.count most_comparisons) _ all_but in
       record {
         few = leb-true c.count most_comparisons (and_left (leb c.count most_comparisons) _ all_but);
         known = and_left (all (λ (s : ℕ). ltb s 3) ss) _ steps;
         postfix = and_left (is_postfix nodes) _ (and_right (operators cs) _ (and_right (all (λ (s : ℕ). ltb s 3) ss) _ steps));
+        eight = eight;
       }
 
   module _ (few : c.count ≤ 8) (fifteen : length c.steps ≡ 15) (eight : length c.comparisons ≡ 8) where

@@ -1,8 +1,6 @@
 pub mod Tests
-pub mod Apart
 pub mod Codes
 pub mod Numbering
-pub mod Operators
 pub mod Packed
 pub mod Tables
 pub mod Steps

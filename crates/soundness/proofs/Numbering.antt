@@ -1,24 +1,20 @@
 -- Comparisons by the number of the next parameter alone: past all numbers where one does not fit. Assumes nothing.
 use mathlib.Core.Path.{◌≡◌, refl, sym, ap, ◌∙◌}
-use mathlib.Core.Logic.{◌≢◌}
 use mathlib.Core.Bool.{Bool, true, false, cond, ◌&&◌}
 use mathlib.Core.List.{List, [], ◌∷◌}
-use Prim.Native.Nat.{ℕ, suc, ◌+◌, ◌*◌, ◌-◌, ◌/◌, ◌%◌, ◌≤◌, ◌<◌}
+use Prim.Native.Nat.{ℕ, ◌+◌, ◌≤◌, ◌<◌}
 use native.Mathlib.Omega.{arith}
-use borrow.Author.Tests.{eqb-true, eqb-false, leb-true, ltb-true, ltb-false, lt-ltb, le-ltb, eq-eqb, ne_eqb}
-use lib.Dec.{eqb, leb, ltb}
-use lib.ListN.{length, get_or}
+use borrow.Author.Tests.{leb-true, ne_eqb}
+use lib.Dec.{eqb, leb}
+use lib.ListN.{length, get_or, drop}
+use Rattle.std.proofs.lemmas.List.{at_drop_more}
 use Rattle.lists.proofs.Bools.{and_left, and_right, clash}
-use Rattle.meaning.specs.Statement as M
-use Rattle.meaning.specs.Resolve.{mark_in_operand, is_numbered, is_below}
 use Rattle.statement.specs.Built.{mark_in_side}
 use Rattle.statement.specs.Compiled.{left_side, right_side}
 use Rattle.statement.specs.Sound.{sound_predicate}
 use Rattle.statement.specs.declared.Operand.{Operand}
 use Rattle.statement.specs.declared.Comparison.{Comparison}
-use Rattle.statement.proofs.ByKind.{is-constant, is-column, is-mark}
 use Rattle.statement.proofs.Parts.{mark-few}
-use Rattle.statement.proofs.Walks.{rest, rest-cons, rest-none}
 use Rattle.soundness.specs.Parts.{side_fits, comparison_fits, comparison_marks, comparisons_on, after_side, after_sides, after_comparison, after_all}
 
 cond_up : (b : Bool) (m x y : ℕ) → m ≤ x → m ≤ y → m ≤ cond b x y
@@ -44,33 +40,6 @@ module _ (columns : ℕ) where
   side-no : (m : ℕ) (o : Operand) → side_fits columns m o ≡ false → after_side columns m o ≡ m + 64
   side-no m o h = ap (λ (b : Bool). cond b (m + mark_in_side o) (m + 64)) h
 
-  -- by its kind
-  abbrev read_after : ℕ → M.Operand → ℕ
-  read_after m p = cond (is_below columns p && is_numbered m p) (m + mark_in_operand p) (m + 64)
-
-  module _ (m : ℕ) (o : Operand) where
-    pub mark-next : o.code % 2 ≡ 1 → o.code ≡ 2 * m + 1 → m + 1 ≡ after_side columns m o
-    mark-next h q =
-        let e : suc (o.code / 2) ≡ suc m = omega arith in
-        sym (ap (read_after m) (is-mark o h) ∙ ap (λ (b : Bool). cond b (m + 1) (m + 64)) (eq-eqb (suc (o.code / 2)) (suc m) e))
-
-    pub mark-other : o.code % 2 ≡ 1 → o.code ≢ 2 * m + 1 → m + 64 ≡ after_side columns m o
-    mark-other h q = sym (ap (read_after m) (is-mark o h) ∙ ap (λ (b : Bool). cond b (m + 1) (m + 64)) (ne_eqb (suc (o.code / 2)) (suc m) (λ r. q (omega arith))))
-
-    pub column-in : o.code % 2 ≢ 1 → o.code ≤ 2 * columns → m ≡ after_side columns m o
-    column-in h k = go (eqb o.code 0) refl
-      where
-        go : (b : Bool) → eqb o.code 0 ≡ b → m ≡ after_side columns m o
-        go true e = let z : m ≡ m + 0 = omega arith in z ∙ sym (ap (read_after m) (is-constant o (eqb-true o.code 0 e)))
-        go false e =
-            let z : m ≡ m + 0 = omega arith in
-            let n : o.code ≢ 0 = eqb-false o.code 0 e in
-            z ∙ sym (ap (read_after m) (is-column o h n) ∙ ap (λ (b : Bool). cond (b && true) (m + 0) (m + 64)) (lt-ltb (o.code / 2 - 1) columns (omega arith)))
-
-    pub column-out : o.code % 2 ≢ 1 → 2 * columns < o.code → m + 64 ≡ after_side columns m o
-    column-out h k =
-        sym (ap (read_after m) (is-column o h (λ e. omega arith)) ∙ ap (λ (b : Bool). cond (b && true) (m + 0) (m + 64)) (le-ltb (o.code / 2 - 1) columns (omega arith)))
-
   -- ---- a comparison
 
   sides-up : (m : ℕ) (c : Comparison) → m ≤ after_sides columns m c
@@ -85,6 +54,9 @@ module _ (columns : ℕ) where
   comparison-top m c =
       let t : after_sides columns m c ≤ m + 128 = omega (arith, side-top m (left_side c), side-top (after_side columns m (left_side c)) (right_side c)) in
       cond_top (sound_predicate c) (m + 192) (after_sides columns m c) (after_sides columns m c + 64) (omega arith) (omega arith)
+
+  pub next-top : (m r : ℕ) (c : Comparison) → r ≡ after_comparison columns m c → r ≤ m + 192
+  next-top m r c e = omega (arith, comparison-top m c)
 
   comparison-yes : (m : ℕ) (c : Comparison) → comparison_fits columns m c ≡ true → after_comparison columns m c ≡ m + comparison_marks c
   unfolding after_comparison
@@ -139,35 +111,8 @@ module _ (columns : ℕ) where
       go true e = ap (λ (b : Bool). s && b) (numbered m p cs (omega (arith, leb-true p 8 e)))
       go false e = refl
 
-  -- ---- one that is there, or is not
+  -- ---- the loop: those left are still to be numbered
 
-  pub used-top : (b : Bool) (m r : ℕ) (c : Comparison) → r ≡ cond b (after_comparison columns m c) m → r ≤ m + 192
-  used-top b m r c e = omega (arith, cond_top b (m + 192) (after_comparison columns m c) m (comparison-top m c) (omega arith))
-
-  module _ (n : ℕ) (cs : List Comparison) where
-    -- ---- the loop: those left are still to be numbered
-
-    pub record Numbering (m next i : ℕ) : Type 0 where
-      pub bound : next ≤ m + 192 * i
-      pub left : after_all columns next (rest n i cs) ≡ after_all columns m (rest n 3 cs)
-
-    pub numbering_start : (m : ℕ) → Numbering m m 3
-    numbering_start m = record { bound = omega arith; left = refl }
-
-    pub numbering-more : (m next i : ℕ) (d : Comparison) (r : ℕ) → n ≤ length cs → i < n → r ≡ after_comparison columns next (get_or cs i d) → Numbering m next i → Numbering m r (i + 1)
-    numbering-more m next i d r l k e N = record {
-      bound = omega (arith, comparison-top next (get_or cs i d), N.bound);
-      left = ap (λ (j : ℕ). after_all columns j (rest n (i + 1) cs)) e ∙ ap (after_all columns next) (sym (rest-cons n i cs d l k)) ∙ N.left;
-    }
-
-    pub numbering-end : (m next i : ℕ) → n ≤ i → Numbering m next i → next ≡ after_all columns m (rest n 3 cs)
-    numbering-end m next i h N = ap (after_all columns next) (sym (rest-none n i cs h)) ∙ N.left
-
-    pub used : (m i : ℕ) (d : Comparison) (r : ℕ) → n ≤ length cs → r ≡ cond (ltb i n) (after_comparison columns m (get_or cs i d)) m
-        → after_all columns r (rest n (i + 1) cs) ≡ after_all columns m (rest n i cs)
-    used m i d r l e = ap (λ (k : ℕ). after_all columns k (rest n (i + 1) cs)) e ∙ go (ltb i n) refl
-      where
-        go : (b : Bool) → ltb i n ≡ b → after_all columns (cond b (after_comparison columns m (get_or cs i d)) m) (rest n (i + 1) cs) ≡ after_all columns m (rest n i cs)
-        go true q = ap (after_all columns m) (sym (rest-cons n i cs d l (ltb-true i n q)))
-        go false q =
-            ap (after_all columns m) (rest-none n (i + 1) cs (omega (arith, ltb-false i n q)) ∙ sym (rest-none n i cs (ltb-false i n q)))
+  pub numbered-more : (m i : ℕ) (d : Comparison) (cs : List Comparison) → i < length cs
+      → after_all columns (after_comparison columns m (get_or cs i d)) (drop (i + 1) cs) ≡ after_all columns m (drop i cs)
+  numbered-more m i d cs h = sym (at_drop_more (after_all columns m) cs i d h)

@@ -1,14 +1,14 @@
 -- A.6: the marks of outer comparisons by the steps from the last one on: the loop over them, and that they tell what is asked of the marks. Assumes nothing.
 use mathlib.Core.Path.{◌≡◌, refl, sym, ap, ap₂, ◌∙◌}
-use mathlib.Core.Bool.{Bool, true, false, not, ◌&&◌, ◌||◌, cond, and-true, or-true, or-false}
-use mathlib.Core.List.{List, [], ◌∷◌, map, reverse, reverse_aux, reverse-append}
-use Prim.Native.Nat.{ℕ, zero, suc, ◌+◌, ◌-◌, ◌*◌, ◌/◌, ◌%◌, ◌≤◌, ◌<◌}
+use mathlib.Core.Bool.{Bool, true, false, not, ◌&&◌, ◌||◌, cond, or-true, or-false}
+use mathlib.Core.List.{List, [], ◌∷◌, map, reverse, reverse_aux}
+use Prim.Native.Nat.{ℕ, zero, suc, ◌+◌, ◌-◌, ◌/◌, ◌%◌, ◌≤◌, ◌<◌}
 use native.Mathlib.Omega.{arith}
 use lib.Dec.{eqb, ltb, eqb-suc-zero}
-use lib.ListN.{length, get_or, take}
-use lib.Seq.{take-suc}
+use lib.ListN.{length, get_or, drop}
+use Rattle.std.proofs.lemmas.List.{at_drop_more}
 use Rattle.lists.specs.Lists.{all}
-use Rattle.lists.proofs.Bools.{and_assoc, clash}
+use Rattle.lists.proofs.Bools.{clash}
 use Rattle.meaning.specs.Postfix.{Node, leaf, all_of, any_of, leaves, within, chained}
 use Rattle.statement.specs.Compiled.{step_of}
 use Rattle.statement.specs.Sound.{nodes_read, used_steps, used_comparisons, condition_nodes, second_by, digits_back, sound_outer}
@@ -19,9 +19,9 @@ use Rattle.statement.proofs.Stored.{read-steps}
 use Rattle.soundness.specs.Parts.{mark_fits, marks_after, need_after, outer_on, Ordered, outer_fits}
 use Rattle.soundness.proofs.Comparisons.{leaves-many}
 
--- ---- the loop: the steps left tell, those before the i-th of 1, 2, ..
+-- ---- the loop: the steps left tell
 
-need-bound : (e : Bool) (k s : ℕ) → need_after e k s ≤ k + 2
+pub need-bound : (e : Bool) (k s : ℕ) → need_after e k s ≤ k + 2
 need-bound e k s = go (eqb k 0) (eqb s 0 || e) (eqb s 0)
   where
     go : (a b d : Bool) → cond a (cond b 0 2) (cond d (k - 1) (k + 1)) ≤ k + 2
@@ -30,41 +30,20 @@ need-bound e k s = go (eqb k 0) (eqb s 0 || e) (eqb s 0)
     go false b true = omega arith
     go false b false = omega arith
 
-before_last : (ss : List ℕ) (j : ℕ) → j < length ss → reverse (take (suc j) ss) ≡ get_or ss j 0 ∷ reverse (take j ss)
-before_last ss j h = ap reverse (take-suc ss j 0 h) ∙ reverse-append (take j ss) (get_or ss j 0 ∷ [])
+-- s is the next of the steps ss
+module _ (ending : Bool) (need marks i s : ℕ) (ss : List ℕ) (h : i < length ss) (e : s ≡ get_or ss i s) where
+  turn : outer_on ending need marks (drop i ss)
+      ≡ (mark_fits need marks s && outer_on (ending && eqb s 1) (need_after (ending && eqb s 1) need s) (marks_after marks s) (drop (i + 1) ss))
+  turn = at_drop_more (outer_on ending need marks) ss i s h ∙ ap (λ (x : ℕ). outer_on ending need marks (x ∷ drop (i + 1) ss)) (sym e)
 
-module _ (n outer : ℕ) (ss : List ℕ) where
-  pub record Marked (ok ending : Bool) (need marks i : ℕ) : Type 0 where
-    pub bound : need + 2 * i ≤ 32
-    pub left : (ok && outer_on ending need marks (reverse (take (i - 1) ss))) ≡ outer_on true 0 outer (reverse (take (2 * n - 1) ss))
+  pub outer-more : mark_fits need marks s ≡ true
+      → outer_on (ending && eqb s 1) (need_after (ending && eqb s 1) need s) (marks_after marks s) (drop (i + 1) ss) ≡ outer_on ending need marks (drop i ss)
+  outer-more f =
+      ap (λ (b : Bool). b && outer_on (ending && eqb s 1) (need_after (ending && eqb s 1) need s) (marks_after marks s) (drop (i + 1) ss)) (sym f) ∙ sym turn
 
-  pub marked_start : n ≤ 8 → Marked true true 0 outer (2 * n)
-  marked_start h = record { bound = omega arith; left = refl }
-
-  module _ (ok ending : Bool) (need marks i : ℕ) (M : Marked ok ending need marks i) where
-    pub marked-end : i ≤ 1 → ok ≡ outer_on true 0 outer (reverse (take (2 * n - 1) ss))
-    marked-end h =
-        let z : 0 ≡ i - 1 = omega arith in
-        sym (and-true ok) ∙ ap (λ (j : ℕ). ok && outer_on ending need marks (reverse (take j ss))) z ∙ M.left
-
-    -- s is the last step that is left
-    pub marked_more : length ss ≡ 15 → 1 < i → (fits : Bool) (need' marks' s : ℕ) → s ≡ get_or ss (i - 1 - 1) 0
-        → fits ≡ mark_fits need marks s → need' ≡ need_after (ending && eqb s 1) need s → marks' ≡ marks_after marks s
-        → Marked (ok && fits) (ending && eqb s 1) need' marks' (i - 1)
-    marked_more l h fits need' marks' s e f k w =
-        let rest : List ℕ = reverse (take (i - 1 - 1) ss) in
-        let j : suc (i - 1 - 1) ≡ i - 1 = omega arith in
-        let steps : s ∷ rest ≡ reverse (take (i - 1) ss) =
-        ap (λ (x : ℕ). x ∷ rest) e ∙ sym (before_last ss (i - 1 - 1) (omega (arith, M.bound))) ∙ ap (λ (x : ℕ). reverse (take x ss)) j in
-        let turn : (fits && outer_on (ending && eqb s 1) need' marks' rest) ≡ outer_on ending need marks (s ∷ rest) =
-        λ x. f x && outer_on (ending && eqb s 1) (k x) (w x) rest in
-        record {
-          bound = omega (arith, M.bound, need-bound (ending && eqb s 1) need s);
-          left =
-              sym (and_assoc ok fits (outer_on (ending && eqb s 1) need' marks' rest))
-              ∙ ap (λ (b : Bool). ok && b) (turn ∙ ap (outer_on ending need marks) steps)
-              ∙ M.left;
-        }
+  pub outer-stop : mark_fits need marks s ≡ false → false ≡ outer_on ending need marks (drop i ss)
+  outer-stop f =
+      ap (λ (b : Bool). b && outer_on (ending && eqb s 1) (need_after (ending && eqb s 1) need s) (marks_after marks s) (drop (i + 1) ss)) (sym f) ∙ sym turn
 
 -- ---- steps and nodes, from the last one on
 
@@ -122,11 +101,11 @@ outer-read outer ss cs h e =
     ∙ ap (λ (n : ℕ). within (digits_back n outer) (chained true 0 (reverse ns))) many
 
 -- a condition whose steps are a postfix order
-pub outer_told : (outer : ℕ) (c : Condition) → length c.steps ≡ 15 → length c.comparisons ≡ 8 → Ordered c
+pub outer_told : (outer : ℕ) (c : Condition) → length c.steps ≡ 15 → Ordered c
     → outer_on true 0 outer (reverse (used_steps c)) ≡ outer_fits c outer
 unfolding condition_nodes
-outer_told outer c fifteen eight o =
-    outer-read outer (used_steps c) (used_comparisons c) o.known (leaves-many c o.few fifteen eight o.postfix)
+outer_told outer c fifteen o =
+    outer-read outer (used_steps c) (used_comparisons c) o.known (leaves-many c o.few fifteen o.eight o.postfix)
 
 -- ---- a question: its marks are read where there is a second table
 

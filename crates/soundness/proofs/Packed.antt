@@ -1,15 +1,18 @@
 -- Names as numbers of base 38: a byte's digit, a list of bytes as a number, and that sound names are the same exactly if their numbers are. Assumes nothing.
 use mathlib.Core.Path.{◌≡◌, refl, sym, ap, ap₂, ◌∙◌}
 use mathlib.Core.Bool.{Bool, true, false, cond, ◌&&◌, ◌||◌, and-false}
-use mathlib.Core.List.{List, [], ◌∷◌, map}
+use mathlib.Core.List.{List, [], ◌∷◌, map, reverse}
 use Prim.Native.Nat.{ℕ, zero, suc, ◌+◌, ◌-◌, ◌*◌, ◌^◌, ◌≤◌, ◌<◌}
 use native.Mathlib.Nat.{pow-suc, pow-le-pow_right}
 use native.Mathlib.Omega.{arith}
-use borrow.Author.Tests.{leb-true, eqb-true, eq-eqb, ne_eqb}
+use borrow.Author.Tests.{leb-true, le-leb, eqb-true, eq-eqb, ne_eqb}
 use lib.Dec.{eqb, leb, lit<}
-use lib.ListN.{length, get_or, take, take-append-drop}
+use lib.ListN.{length, get_or, take, drop, take-append-drop}
+use native.Mathlib.Numerals.{add-one}
+use Rattle.std.specs.Prelude.{Some, None}
+use Rattle.std.proofs.lemmas.List.{at_drop_more, get_or-reverse}
 use Rattle.lists.specs.Lists.{all, from}
-use Rattle.lists.proofs.Bools.{and_left, and_right, clash}
+use Rattle.lists.proofs.Bools.{and_left, and_right, and_both, contra, clash}
 use Rattle.lists.proofs.Lists.{all_append}
 use Rattle.meaning.specs.Tokens.{is_digit, is_small, is_name_byte, is_name}
 use Rattle.meaning.specs.Limits.{most_name}
@@ -19,8 +22,7 @@ use Rattle.meaning.proofs.Resolve.{same-name}
 use Rattle.statement.specs.Catalog.{name_of_struct}
 use Rattle.statement.specs.Sound.{sound_name}
 use Rattle.statement.specs.declared.Name.{Name}
-use Rattle.statement.proofs.Walks.{rest, rest-cons, rest-none}
-use Rattle.soundness.specs.Parts.{digit_of, digit_table, packed, packed_name, code_of}
+use Rattle.soundness.specs.Parts.{some_if, digit_of, digit_table, packed, packed_name, code_of}
 
 -- ---- digits
 
@@ -50,10 +52,6 @@ from_at f i (suc n) (suc k) h = let e : suc i + k ≡ i + suc k = omega arith in
 from-length : (f : ℕ → ℕ) (i n : ℕ) → length (map f (from i n)) ≡ n
 from-length f i zero = refl
 from-length f i (suc n) = ap suc (from-length f (suc i) n)
-
-pub table-length : length digit_table ≡ 256
-unfolding digit_table
-table-length = from-length digit_of 0 256
 
 pub table-at : (b : ℕ) → b < 256 → get_or digit_table b 0 ≡ digit_of b
 unfolding digit_table
@@ -138,63 +136,58 @@ packed-once (b ∷ x) (c ∷ y) h k e =
 pub power_small : (k : ℕ) → k ≤ 11 → 38 ^ k ≤ 238572050223552512
 power_small k h = pow-le-pow_right (lit< tt) h
 
-module _ (n : ℕ) (bytes : List ℕ) where
-  pub record Packing (code i : ℕ) : Type 0 where
-    pub within : i ≤ n
-    pub named : all is_name_byte (rest n i bytes) ≡ true
-    pub number : code ≡ packed (rest n i bytes)
-    pub small : code < 38 ^ (n - i)
+-- the last k bytes are passed
+module _ (bytes : List ℕ) where
+  pub record Packing (code k : ℕ) : Type 0 where
+    pub within : k ≤ length bytes
+    pub named : all is_name_byte (drop (length bytes - k) bytes) ≡ true
+    pub number : code ≡ packed (drop (length bytes - k) bytes)
+    pub small : code < 38 ^ k
 
-  pub packing-start : Packing 0 n
-  packing-start =
-      let z : n - n ≡ 0 = omega arith in
-      let e : rest n n bytes ≡ [] = rest-none n n bytes (omega arith) in
-      record { within = omega arith; named = ap (all is_name_byte) e; number = sym (ap packed e); small = rw z (lit< tt) }
-
-  module _ (l : n ≤ length bytes) (code i : ℕ) (h : 0 < i) (P : Packing code i) where
-    step : rest n (i - 1) bytes ≡ get_or bytes (i - 1) 0 ∷ rest n i bytes
+  -- b is the byte before them
+  module _ (code k b : ℕ) (P : Packing code k) (h : k < length bytes) (at : b ≡ get_or (reverse bytes) k b) where
+    step : drop (length bytes - (k + 1)) bytes ≡ b ∷ drop (length bytes - k) bytes
     step =
-        let e : i - 1 + 1 ≡ i = omega arith in
-        rest-cons n (i - 1) bytes 0 l (omega (arith, P.within)) ∙ ap (λ (k : ℕ). get_or bytes (i - 1) 0 ∷ rest n k bytes) e
+        let i : ℕ = length bytes - 1 - k in
+        let e : length bytes - (k + 1) ≡ i = omega arith in
+        let f : i + 1 ≡ length bytes - k = omega arith in
+        ap (λ (j : ℕ). drop j bytes) e
+        ∙ at_drop_more (λ (l : List ℕ). l) bytes i b (omega arith)
+        ∙ ap₂ (λ (x j : ℕ). x ∷ drop j bytes) (sym (at ∙ get_or-reverse bytes k b h)) f
 
-    pub packing-more : (d : ℕ) → d ≡ digit_of (get_or bytes (i - 1) 0) → (d ≡ 0 → ⊥) → Packing (code * 38 + d) (i - 1)
+    pub packing-more : (d : ℕ) → d ≡ digit_of b → (d ≡ 0 → ⊥) → Packing (code * 38 + d) (k + 1)
     packing-more d e s =
-        let b : ℕ = get_or bytes (i - 1) 0 in
-        let q : n - (i - 1) ≡ suc (n - i) = omega (arith, P.within) in
-        let p : 38 ^ suc (n - i) ≡ 38 ^ (n - i) * 38 = pow-suc 38 (n - i) in
+        let p : 38 ^ suc k ≡ 38 ^ k * 38 = pow-suc 38 k in
+        let q : k + 1 ≡ suc k = add-one k in
         record {
-          within = omega (arith, P.within);
+          within = omega arith;
           named = ap (all is_name_byte) step ∙ ap₂ ◌&&◌ (digit-yes b (λ z. s (e ∙ z))) P.named;
           number = omega (arith, ap packed step, P.number);
           small = rw (q, p) (omega (arith, P.small, digit-below b));
         }
 
-    pub packing-stop : digit_of (get_or bytes (i - 1) 0) ≡ 0 → 0 ≡ packed_name (take n bytes)
+    pub packing-stop : digit_of b ≡ 0 → None ≡ packed_name bytes
     packing-stop e =
-        let front : List ℕ = take (i - 1) (take n bytes) in
-        let b : all is_name_byte (rest n (i - 1) bytes) ≡ false =
-        ap (all is_name_byte) step ∙ ap (λ (t : Bool). t && all is_name_byte (rest n i bytes)) (digit-no (get_or bytes (i - 1) 0) e) in
-        let a : all is_name_byte (take n bytes) ≡ false =
-        ap (all is_name_byte) (sym (take-append-drop (i - 1) (take n bytes)))
-        ∙ all_append is_name_byte front (rest n (i - 1) bytes) ∙ ap (λ (t : Bool). all is_name_byte front && t) b ∙ and-false (all is_name_byte front) in
-        sym (ap (λ (t : Bool). cond t (packed (take n bytes)) 0) a)
-
-  pub packing-end : (code i : ℕ) → i ≤ 0 → Packing code i → code ≡ packed_name (take n bytes)
-  packing-end code zero h P = P.number ∙ sym (ap (λ (t : Bool). cond t (packed (take n bytes)) 0) P.named)
-  packing-end code (suc i) h P = absurd (omega arith)
+        let j : ℕ = length bytes - (k + 1) in
+        let t : all is_name_byte (drop j bytes) ≡ false =
+        ap (all is_name_byte) step ∙ ap (λ (t : Bool). t && all is_name_byte (drop (length bytes - k) bytes)) (digit-no b e) in
+        let a : all is_name_byte bytes ≡ false =
+        ap (all is_name_byte) (sym (take-append-drop j bytes))
+        ∙ all_append is_name_byte (take j bytes) (drop j bytes) ∙ ap (λ (x : Bool). all is_name_byte (take j bytes) && x) t ∙ and-false (all is_name_byte (take j bytes)) in
+        sym (ap (λ (x : Bool). some_if x (packed bytes)) a)
 
 -- ---- names
 
 module _ (k : ℕ) (l : List ℕ) where
   -- the first k bytes of a list that begins with a small letter, as the loop takes them
-  started : is_small (get_or l 0 0) ≡ true → packed_name (take k l) ≡ cond (is_name (take k l)) (packed (take k l)) 0
+  started : 1 ≤ k → is_small (get_or l 0 0) ≡ true → packed_name (take k l) ≡ some_if (is_name (take k l)) (packed (take k l))
   unfolding is_name
-  started e = go k l e
+  started h e = go k l h e
     where
-      go : (k : ℕ) (l : List ℕ) → is_small (get_or l 0 0) ≡ true → packed_name (take k l) ≡ cond (is_name (take k l)) (packed (take k l)) 0
-      go zero l e = refl
-      go (suc k) [] e = refl
-      go (suc k) (b ∷ l) e = ap (λ (t : Bool). cond (t && all is_name_byte (take k l)) (packed (b ∷ take k l)) 0) (small-name b e ∙ sym e)
+      go : (k : ℕ) (l : List ℕ) → 1 ≤ k → is_small (get_or l 0 0) ≡ true → packed_name (take k l) ≡ some_if (is_name (take k l)) (packed (take k l))
+      go zero l h e = absurd (omega arith)
+      go (suc k) [] h e = clash e refl
+      go (suc k) (b ∷ l) h e = ap (λ (t : Bool). some_if (t && all is_name_byte (take k l)) (packed (b ∷ take k l))) (small-name b e ∙ sym e)
 
   not-started : is_small (get_or l 0 0) ≡ false → is_name (take k l) ≡ false
   unfolding is_name
@@ -210,60 +203,73 @@ unfolding is_name
 name-bytes [] h = clash h refl
 name-bytes (b ∷ w) h = ap₂ ◌&&◌ (small-name b (and_left (is_small b) _ h)) (and_right (is_small b) _ h)
 
-name-some : (w : List ℕ) → is_name w ≡ true → 1 ≤ packed w
+-- a name has a byte
+name-long : (k : ℕ) (l : List ℕ) → is_name (take k l) ≡ true → 1 ≤ k
 unfolding is_name
-name-some [] h = clash h refl
-name-some (b ∷ w) h = packed-some b w (name-bytes (b ∷ w) h)
+name-long zero l e = clash e refl
+name-long (suc k) l e = omega arith
+
+-- the number of a name
+abbrev pub number_of : Name → ℕ
+number_of n = packed (name_of_struct n)
 
 module _ (n : Name) where
   abbrev begins : Bool
-  begins = leb n.len 12 && is_small (get_or n.bytes 0 0)
+  begins = (leb 1 n.len && leb n.len 12) && is_small (get_or n.bytes 0 0)
+
+  started-small : (b : Bool) → (b ≡ false → ⊥) → b ≡ true
+  started-small true f = refl
+  started-small false f = absurd (f refl)
+
+  begins-sound : begins ≡ false → sound_name n ≡ false
+  begins-sound e = contra (sound_name n) false (λ h. clash (both h) e) refl
+    where
+      both : sound_name n ≡ true → begins ≡ true
+      both h =
+          let few : leb n.len 12 ≡ true = and_left (leb n.len most_name) _ h in
+          let named : is_name (name_of_struct n) ≡ true = and_right (leb n.len most_name) _ h in
+          and_both (leb 1 n.len && leb n.len 12) _
+          (and_both (leb 1 n.len) _ (le-leb 1 n.len (name-long n.len n.bytes named)) few)
+          (started-small (is_small (get_or n.bytes 0 0)) (λ f. clash named (not-started n.len n.bytes f)))
 
   pub code-packed : begins ≡ true → packed_name (take n.len n.bytes) ≡ code_of n
   unfolding code_of
   code-packed e =
-      started n.len n.bytes (and_right (leb n.len 12) _ e)
-      ∙ ap (λ (t : Bool). cond (t && is_name (name_of_struct n)) (packed (name_of_struct n)) 0) (sym (and_left (leb n.len 12) _ e))
+      let fits : (leb 1 n.len && leb n.len 12) ≡ true = and_left (leb 1 n.len && leb n.len 12) _ e in
+      started n.len n.bytes (leb-true 1 n.len (and_left (leb 1 n.len) _ fits)) (and_right (leb 1 n.len && leb n.len 12) _ e)
+      ∙ ap (λ (t : Bool). some_if (t && is_name (name_of_struct n)) (number_of n)) (sym (and_right (leb 1 n.len) _ fits))
 
-  pub code-none : begins ≡ false → 0 ≡ code_of n
+  pub code-none : begins ≡ false → None ≡ code_of n
   unfolding code_of
-  code-none e = go (leb n.len 12) refl e
-    where
-      go : (t : Bool) → leb n.len 12 ≡ t → (t && is_small (get_or n.bytes 0 0)) ≡ false → 0 ≡ cond (leb n.len 12 && is_name (name_of_struct n)) (packed (name_of_struct n)) 0
-      go true f e = sym (ap₂ (λ (s t : Bool). cond (s && t) (packed (name_of_struct n)) 0) f (not-started n.len n.bytes e))
-      go false f e = sym (ap (λ (t : Bool). cond (t && is_name (name_of_struct n)) (packed (name_of_struct n)) 0) f)
-
-  code_is : sound_name n ≡ true → code_of n ≡ packed (name_of_struct n)
-  unfolding code_of
-  code_is e = ap (λ (t : Bool). cond t (packed (name_of_struct n)) 0) e
+  code-none e = ap (λ (t : Bool). some_if t (number_of n)) (sym (begins-sound e))
 
   -- its number tells whether a name is sound
-  pub code-zero : code_of n ≡ 0 → sound_name n ≡ false
+  pub code-no : None ≡ code_of n → sound_name n ≡ false
   unfolding code_of
-  code-zero e = go (sound_name n) refl e
+  code-no e = go (sound_name n) e
     where
-      go : (t : Bool) → sound_name n ≡ t → cond t (packed (name_of_struct n)) 0 ≡ 0 → t ≡ false
-      go true f e = absurd (omega (arith, name-some (name_of_struct n) (and_right (leb n.len most_name) _ f)))
-      go false f e = refl
+      go : (t : Bool) → None ≡ some_if t (number_of n) → t ≡ false
+      go true e = cc
+      go false e = refl
 
-  pub code-some : (code_of n ≡ 0 → ⊥) → sound_name n ≡ true
+  pub code-yes : (k : ℕ) → Some k ≡ code_of n → (k ≡ number_of n) × (sound_name n ≡ true)
   unfolding code_of
-  code-some k = go (sound_name n) k
+  code-yes k e = go (sound_name n) e
     where
-      go : (t : Bool) → (cond t (packed (name_of_struct n)) 0 ≡ 0 → ⊥) → t ≡ true
-      go true k = refl
-      go false k = absurd (k refl)
+      go : (t : Bool) → Some k ≡ some_if t (number_of n) → (k ≡ number_of n) × (t ≡ true)
+      go true e = (cc, refl)
+      go false e = (cc, cc)
 
 -- sound names are the same exactly if their numbers are
-pub code_same : (m n : Name) → sound_name m ≡ true → sound_name n ≡ true → eqb (code_of m) (code_of n) ≡ same_name (name_of_struct m) (name_of_struct n)
-code_same m n h k = go (same_name (name_of_struct m) (name_of_struct n)) refl
+pub number_same : (m n : Name) → sound_name m ≡ true → sound_name n ≡ true → eqb (number_of m) (number_of n) ≡ same_name (name_of_struct m) (name_of_struct n)
+number_same m n h k = go (same_name (name_of_struct m) (name_of_struct n)) refl
   where
     named : (p : Name) → sound_name p ≡ true → all is_name_byte (name_of_struct p) ≡ true
     named p e = name-bytes (name_of_struct p) (and_right (leb p.len most_name) _ e)
 
-    go : (t : Bool) → same_name (name_of_struct m) (name_of_struct n) ≡ t → eqb (code_of m) (code_of n) ≡ t
-    go true e = eq-eqb (code_of m) (code_of n) (code_is m h ∙ ap packed (same-is (name_of_struct m) (name_of_struct n) e) ∙ sym (code_is n k))
+    go : (t : Bool) → same_name (name_of_struct m) (name_of_struct n) ≡ t → eqb (number_of m) (number_of n) ≡ t
+    go true e = eq-eqb (number_of m) (number_of n) (ap packed (same-is (name_of_struct m) (name_of_struct n) e))
     go false e =
-        ne_eqb (code_of m) (code_of n) (λ q.
-        let same : name_of_struct m ≡ name_of_struct n = packed-once (name_of_struct m) (name_of_struct n) (named m h) (named n k) (sym (code_is m h) ∙ q ∙ code_is n k) in
+        ne_eqb (number_of m) (number_of n) (λ q.
+        let same : name_of_struct m ≡ name_of_struct n = packed-once (name_of_struct m) (name_of_struct n) (named m h) (named n k) q in
         clash (ap (same_name (name_of_struct m)) (sym same) ∙ same-name (name_of_struct m)) e)

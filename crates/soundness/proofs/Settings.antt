@@ -1,13 +1,14 @@
--- Settings by the number of the next parameter: the loop over them, and what they say of an update of each form. Assumes nothing.
+-- Settings by the number of the next parameter, and what they say of an update of each form. Assumes nothing.
 use mathlib.Core.Path.{◌≡◌, refl, sym, ap, ap₂, ◌∙◌}
-use mathlib.Core.Bool.{Bool, true, false, not, cond, ◌&&◌, ◌||◌, and-false, and-true}
+use mathlib.Core.Bool.{Bool, true, false, not, cond, ◌&&◌, ◌||◌, and-false}
 use mathlib.Core.List.{List, [], ◌∷◌, map}
-use Prim.Native.Nat.{ℕ, zero, suc, ◌+◌, ◌≤◌, ◌<◌}
+use Prim.Native.Nat.{ℕ, zero, suc, ◌+◌, ◌≤◌}
 use native.Mathlib.Numerals.{add-one}
 use native.Mathlib.Omega.{arith}
-use borrow.Author.Tests.{leb-true, eqb-true, ne_eqb}
-use lib.Dec.{eqb, leb, ltb}
-use lib.ListN.{length, get_or, take, length-take}
+use borrow.Author.Tests.{eqb-true, ne_eqb}
+use lib.Dec.{eqb, ltb}
+use lib.ListN.{length, take}
+use Rattle.std.specs.Prelude.{Some, None}
 use lib.Seq.{length-take-le}
 use Rattle.lists.specs.Lists.{any, all, repeats, from}
 use Rattle.lists.specs.Tests.{eq_list}
@@ -17,63 +18,11 @@ use Rattle.meaning.specs.Statement.{value}
 use Rattle.meaning.specs.Resolve.{mark_in_operand, parameter_count, is_numbered, numbered_on}
 use Rattle.statement.specs.Built.{mark_in_value}
 use Rattle.statement.specs.Compiled.{new_value}
-use Rattle.statement.specs.Sound.{value_by, value_read, setting_read, used_settings, setting_columns, setting_operands, sound_form, sound_condition_on, sound_update_on}
-use Rattle.statement.specs.declared.Value.{Value}
+use Rattle.statement.specs.Sound.{value_read, setting_read, used_settings, setting_columns, setting_operands, sound_form, sound_condition_on, sound_update_on}
 use Rattle.statement.specs.declared.Setting.{Setting}
 use Rattle.statement.specs.declared.Update.{Update}
-use Rattle.statement.proofs.Parts.{mark-value-few}
-use Rattle.statement.proofs.Walks.{rest, rest-cons, rest-none}
-use Rattle.soundness.specs.declared.statements.Numbered.{Numbered}
-use Rattle.soundness.specs.Parts.{if_so, same_column, form_fits, column_fits, value_fits, setting_fits, settings_fit, setting_marks, settings_on}
+use Rattle.soundness.specs.Parts.{some_if, same_column, form_fits, column_fits, setting_fits, settings_fit, setting_marks, settings_on}
 use Rattle.soundness.proofs.Tests.{interchange, counted}
-
--- ---- a value, as the code tests it
-
-pub value-test : (v : Value) (m : ℕ) → (eqb v.mark 0 || eqb v.mark (m + 1)) ≡ value_fits m v
-value-test v m = go v.mark
-  where
-    go : (n : ℕ) → (eqb n 0 || eqb n (m + 1)) ≡ is_numbered m (value (value_by n v.number))
-    go zero = refl
-    go (suc k) = ap₂ (λ (b : Bool) (j : ℕ). b || eqb (suc k) j) (ne_eqb (suc k) 0 (λ e. omega arith)) (add-one m)
-
--- ---- the loop: the settings left tell, and have the marks left
-
-module _ (form columns n : ℕ) (ss : List Setting) where
-  pub record Settled (ok : Bool) (next i : ℕ) : Type 0 where
-    pub within : i ≤ n
-    pub bound : next ≤ i
-    pub left : (ok && settings_fit form columns i next (rest n i ss)) ≡ settings_fit form columns 0 0 (take n ss)
-    pub marks : next + setting_marks (rest n i ss) ≡ setting_marks (take n ss)
-
-  pub settled-start : Settled true 0 0
-  settled-start = record { within = omega arith; bound = omega arith; left = refl; marks = omega arith }
-
-  module _ (ok : Bool) (next i : ℕ) (P : Settled ok next i) where
-    pub settled-more : n ≤ length ss → (d : Setting) (a b : Bool) (k : ℕ) → i < n → a ≡ column_fits form columns i (get_or ss i d).column → b ≡ value_fits next (new_value (get_or ss i d))
-        → k ≡ mark_in_value (new_value (get_or ss i d)) → Settled (ok && (a && b)) (next + k) (i + 1)
-    settled-more l d a b k h e f g =
-        let s : Setting = get_or ss i d in
-        let r : rest n i ss ≡ s ∷ rest n (i + 1) ss = rest-cons n i ss d l h in
-        let m : setting_marks (rest n i ss) ≡ mark_in_value (new_value s) + setting_marks (rest n (i + 1) ss) = ap setting_marks r in
-        record {
-          within = omega arith;
-          bound = omega (arith, P.bound, mark-value-few (new_value s));
-          left =
-              sym (and_assoc ok (a && b) (settings_fit form columns (i + 1) (next + k) (rest n (i + 1) ss)))
-              ∙ ap₂ (λ (t : Bool) (j : ℕ). ok && (t && settings_fit form columns (i + 1) (next + j) (rest n (i + 1) ss))) (ap₂ ◌&&◌ e f) g
-              ∙ ap (λ (ts : List Setting). ok && settings_fit form columns i next ts) (sym r)
-              ∙ P.left;
-          marks = omega (arith, P.marks);
-        }
-
-    pub settled-end : n ≤ i → record { ok = ok; next = next } ≡ settings_on form columns (take n ss)
-    settled-end h =
-        let none : rest n i ss ≡ [] = rest-none n i ss h in
-        let m : setting_marks (rest n i ss) ≡ 0 = ap setting_marks none in
-        let marked : next ≡ setting_marks (take n ss) = omega (arith, P.marks) in
-        ap₂ (λ (t : Bool) (k : ℕ). record { ok = t; next = k })
-        (sym (and-true ok) ∙ ap (λ (ts : List Setting). ok && settings_fit form columns i next ts) (sym none) ∙ P.left)
-        marked
 
 -- ---- settings as they are read
 
@@ -86,17 +35,6 @@ operands_read ss = map value (map (λ (s : ℕ × M.Value). s.1) (map setting_re
 marks_are : (ss : List Setting) → setting_marks ss ≡ parameter_count (operands_read ss)
 marks_are [] = refl
 marks_are (s ∷ ss) = ap (λ (n : ℕ). mark_in_value (new_value s) + n) (marks_are ss)
-
-marks_few : (ss : List Setting) → setting_marks ss ≤ length ss
-marks_few [] = omega arith
-marks_few (s ∷ ss) = omega (arith, mark-value-few (new_value s), marks_few ss)
-
-pub next-few : (n : ℕ) (ss : List Setting) → n ≤ 8 → setting_marks (take n ss) ≤ 8
-next-few n ss h = omega (arith, marks_few (take n ss), length-take n ss)
-
-pub if-few : (b : Bool) (n : ℕ) → n ≤ 8 → if_so b n ≤ 8
-if-few true n h = h
-if-few false n h = omega arith
 
 repeats-columns : (ss : List Setting) → repeats same_column ss ≡ repeats eqb (columns_read ss)
 repeats-columns [] = refl
@@ -139,7 +77,7 @@ module _ (columns : ℕ) (u : Update) where
 
   -- the settings of the form k, which the code looks at
   abbrev distinct : ℕ → Bool
-  distinct k = not (repeats same_column (take (if_so (eqb k 1) u.count) u.settings))
+  distinct k = not (eqb k 1) || not (repeats same_column ss)
 
   form-no : (k : ℕ) → formed k ≡ false → sound_form k columns u ≡ false
   form-no zero h = go (eqb u.count columns) (eq_list eqb (setting_columns u) (from 0 u.count)) (eqb u.condition.count 0) h
@@ -171,13 +109,6 @@ module _ (columns : ℕ) (u : Update) where
         ap (λ (n : ℕ). columns_fit 2 columns 0 (take n u.settings) && true) (eqb-true u.count 0 h) ∙ sym h
     form-yes (suc (suc (suc k))) h = clash h (form-none (suc (suc (suc k))) (omega arith))
 
-    -- there are no more settings than places
-    pub settings-few : (k : ℕ) → formed k ≡ true → u.count ≤ 8
-    settings-few zero h = omega (arith, eqb-true u.count columns (and_left (eqb u.count columns) _ h))
-    settings-few (suc zero) h = leb-true u.count 8 (and_right (leb 1 u.count) _ h)
-    settings-few (suc (suc zero)) h = omega (arith, eqb-true u.count 0 h)
-    settings-few (suc (suc (suc k))) h = clash h (form-none (suc (suc (suc k))) (omega arith))
-
     update-yes : formed u.form ≡ true
         → ((settings_fit u.form columns 0 0 ss && distinct u.form) && sound_condition_on columns (setting_marks ss) u.parameters u.condition) ≡ sound_update_on columns u
     update-yes h =
@@ -191,14 +122,26 @@ module _ (columns : ℕ) (u : Update) where
         ∙ ap (λ (t : Bool). t && (n && c (parameter_count (setting_operands u)))) (form-yes u.form h)
 
     -- by what its parts tell
-    pub update-told : formed u.form ≡ true → (r : Numbered) (k : ℕ) (d b : Bool) → r ≡ settings_on u.form columns ss → k ≡ if_so (eqb u.form 1) u.count
-        → d ≡ not (repeats same_column (take k u.settings)) → b ≡ sound_condition_on columns r.next u.parameters u.condition
-        → ((r.ok && d) && b) ≡ sound_update_on columns u
-    update-told h r k d b e f g i =
-        ap₂ (λ (x y : Bool). (x && y) && b) (ap (λ (n : Numbered). n.ok) e) (g ∙ ap (λ (n : ℕ). not (repeats same_column (take n u.settings))) f)
-        ∙ ap (λ (x : Bool). (settings_fit u.form columns 0 0 ss && distinct u.form) && x)
-        (i ∙ ap (λ (n : Numbered). sound_condition_on columns n.next u.parameters u.condition) e)
-        ∙ update-yes h
+    pub update-told : formed u.form ≡ true → (k : ℕ) → Some k ≡ settings_on u.form columns ss
+        → (distinct u.form && sound_condition_on columns k u.parameters u.condition) ≡ sound_update_on columns u
+    update-told h k e = go (settings_fit u.form columns 0 0 ss) refl e
+      where
+        go : (b : Bool) → settings_fit u.form columns 0 0 ss ≡ b → Some k ≡ some_if b (setting_marks ss)
+            → (distinct u.form && sound_condition_on columns k u.parameters u.condition) ≡ sound_update_on columns u
+        go true f e =
+            let q : k ≡ setting_marks ss = cc in
+            ap (λ (n : ℕ). distinct u.form && sound_condition_on columns n u.parameters u.condition) q
+            ∙ ap (λ (b : Bool). (b && distinct u.form) && sound_condition_on columns (setting_marks ss) u.parameters u.condition) (sym f)
+            ∙ update-yes h
+        go false f e = absurd (let q : ⊥ = cc in q)
+
+    pub update-unsettled : formed u.form ≡ true → None ≡ settings_on u.form columns ss → false ≡ sound_update_on columns u
+    update-unsettled h e = go (settings_fit u.form columns 0 0 ss) refl e
+      where
+        go : (b : Bool) → settings_fit u.form columns 0 0 ss ≡ b → None ≡ some_if b (setting_marks ss) → false ≡ sound_update_on columns u
+        go true f e = absurd (let q : ⊥ = cc in q)
+        go false f e =
+            ap (λ (b : Bool). (b && distinct u.form) && sound_condition_on columns (setting_marks ss) u.parameters u.condition) (sym f) ∙ update-yes h
 
   pub update-no : formed u.form ≡ false → false ≡ sound_update_on columns u
   update-no h =

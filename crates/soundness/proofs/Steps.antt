@@ -1,58 +1,18 @@
--- Steps by the depth of the stack: the loop over them, and that it tells whether they are a postfix order of steps 0 to 2. Assumes nothing.
+-- Steps by the depth of the stack, and that it tells whether they are a postfix order of steps 0 to 2. Assumes nothing.
 use mathlib.Core.Path.{◌≡◌, refl, sym, ap, ◌∙◌}
-use mathlib.Core.Bool.{Bool, true, false, not, cond, ◌&&◌, and-false}
+use mathlib.Core.Bool.{Bool, false, ◌&&◌, and-false}
 use mathlib.Core.List.{List, [], ◌∷◌}
-use Prim.Native.Nat.{ℕ, zero, suc, ◌+◌, ◌-◌, ◌≤◌, ◌<◌}
+use Prim.Native.Nat.{ℕ, zero, suc, ◌-◌, ◌≤◌, ◌<◌}
 use native.Mathlib.Numerals.{add-one}
 use native.Mathlib.Omega.{arith}
-use borrow.Author.Tests.{eq-eqb, ne_eqb, le-leb, lt-leb, lt-ltb, le-ltb}
-use lib.Dec.{eqb, leb, ltb, eqb-suc-zero}
-use lib.ListN.{length, get_or, take}
+use borrow.Author.Tests.{ne_eqb, le-leb, lt-leb, lt-ltb, le-ltb}
+use lib.Dec.{ltb}
+use Rattle.std.specs.Prelude.{Some, None}
 use Rattle.lists.specs.Lists.{all}
 use Rattle.meaning.specs.Postfix.{balanced_on, is_postfix}
 use Rattle.statement.specs.Sound.{nodes_read}
 use Rattle.statement.specs.declared.Comparison.{Comparison}
-use Rattle.statement.proofs.Walks.{rest, rest-cons, rest-none}
-use Rattle.soundness.specs.Parts.{depth_after, steps_on}
-
--- ---- the loop: the steps left tell
-
-pub depth-bound : (k s : ℕ) → depth_after k s ≤ k + 1
-depth-bound k s = go (eqb s 0) (ltb s 3 && leb 2 k)
-  where
-    go : (a b : Bool) → cond a (k + 1) (cond b (k - 1) 0) ≤ k + 1
-    go true b = omega arith
-    go false true = omega arith
-    go false false = omega arith
-
-module _ (n : ℕ) (ss : List ℕ) where
-  pub record Stacked (k i : ℕ) : Type 0 where
-    pub within : i ≤ n
-    pub bound : k ≤ i
-    pub left : steps_on k (rest n i ss) ≡ steps_on 0 (take n ss)
-
-  pub stacked-start : Stacked 0 0
-  stacked-start = record { within = omega arith; bound = omega arith; left = refl }
-
-  module _ (k i : ℕ) (P : Stacked k i) where
-    pub stacked-end : n ≤ i → leb k 1 ≡ steps_on 0 (take n ss)
-    stacked-end h = ap (steps_on k) (sym (rest-none n i ss h)) ∙ P.left
-
-    module _ (l : n ≤ length ss) (d : ℕ) (h : i < n) (e : d ≡ depth_after k (get_or ss i 0)) where
-      step : (not (eqb d 0) && steps_on d (rest n (i + 1) ss)) ≡ steps_on 0 (take n ss)
-      step =
-          ap (λ (m : ℕ). not (eqb m 0) && steps_on m (rest n (i + 1) ss)) e
-          ∙ ap (steps_on k) (sym (rest-cons n i ss 0 l h)) ∙ P.left
-
-      pub stacked-more : (d ≡ 0 → ⊥) → Stacked d (i + 1)
-      stacked-more s = record {
-        within = omega arith;
-        bound = omega (arith, P.bound, depth-bound k (get_or ss i 0));
-        left = ap (λ (b : Bool). not b && steps_on d (rest n (i + 1) ss)) (sym (ne_eqb d 0 s)) ∙ step;
-      }
-
-      pub stacked-stop : d ≡ 0 → false ≡ steps_on 0 (take n ss)
-      stacked-stop z = ap (λ (b : Bool). not b && steps_on d (rest n (i + 1) ss)) (sym (eq-eqb d 0 z)) ∙ step
+use Rattle.soundness.specs.Parts.{passes, depth_after, steps_on}
 
 -- ---- steps and nodes
 
@@ -60,26 +20,28 @@ abbrev known : List ℕ → Bool
 known ss = all (λ (s : ℕ). ltb s 3) ss
 
 -- AND and OR take one value away, if two are there; there is no other step
-depth-join : (k s : ℕ) → (s ≡ 0 → ⊥) → s < 3 → depth_after (suc (suc k)) s ≡ suc k
-depth-join k s z h = rw (ne_eqb s 0 z, lt-ltb s 3 h, le-leb 2 (suc (suc k)) (omega arith)) (omega arith)
+depth-join : (k s : ℕ) → (s ≡ 0 → ⊥) → s < 3 → depth_after (suc (suc k)) s ≡ Some (suc k)
+depth-join k s z h =
+    let e : suc (suc k) - 1 ≡ suc k = omega arith in
+    rw (ne_eqb s 0 z, lt-ltb s 3 h, le-leb 2 (suc (suc k)) (omega arith)) (ap Some e)
 
-depth-few : (k s : ℕ) → (s ≡ 0 → ⊥) → k < 2 → depth_after k s ≡ 0
+depth-few : (k s : ℕ) → (s ≡ 0 → ⊥) → k < 2 → depth_after k s ≡ None
 depth-few k s z h = rw (ne_eqb s 0 z, lt-leb 2 k h, and-false (ltb s 3))
 
-depth-far : (k s : ℕ) → 3 ≤ s → depth_after k s ≡ 0
+depth-far : (k s : ℕ) → 3 ≤ s → depth_after k s ≡ None
 depth-far k s h = rw (ne_eqb s 0 (λ e. omega arith), le-ltb s 3 h)
 
-on_none : (k s : ℕ) (ss : List ℕ) → depth_after k s ≡ 0 → steps_on k (s ∷ ss) ≡ false
-on_none k s ss e = ap (λ (d : ℕ). not (eqb d 0) && steps_on d ss) e
+on_none : (k s : ℕ) (ss : List ℕ) → depth_after k s ≡ None → steps_on k (s ∷ ss) ≡ false
+on_none k s ss e = ap (passes (λ (d : ℕ). steps_on d ss)) e
 
-on_some : (k s d : ℕ) (ss : List ℕ) → depth_after k s ≡ suc d → steps_on k (s ∷ ss) ≡ steps_on (suc d) ss
-on_some k s d ss e = ap (λ (d : ℕ). not (eqb d 0) && steps_on d ss) e ∙ ap (λ (b : Bool). not b && steps_on (suc d) ss) (eqb-suc-zero d)
+on_some : (k s d : ℕ) (ss : List ℕ) → depth_after k s ≡ Some (suc d) → steps_on k (s ∷ ss) ≡ steps_on (suc d) ss
+on_some k s d ss e = ap (passes (λ (d : ℕ). steps_on d ss)) e
 
 steps_on_lem : (k : ℕ) (ss : List ℕ) (cs : List Comparison) → steps_on (suc k) ss ≡ (known ss && balanced_on (suc k) (nodes_read ss cs))
 steps_on_lem zero [] cs = refl
 steps_on_lem (suc k) [] cs = lt-leb (suc (suc k)) 1 (omega arith)
-steps_on_lem k (zero ∷ ss) [] = on_some (suc k) 0 (suc k) ss (add-one (suc k)) ∙ steps_on_lem (suc k) ss []
-steps_on_lem k (zero ∷ ss) (c ∷ cs) = on_some (suc k) 0 (suc k) ss (add-one (suc k)) ∙ steps_on_lem (suc k) ss cs
+steps_on_lem k (zero ∷ ss) [] = on_some (suc k) 0 (suc k) ss (ap Some (add-one (suc k))) ∙ steps_on_lem (suc k) ss []
+steps_on_lem k (zero ∷ ss) (c ∷ cs) = on_some (suc k) 0 (suc k) ss (ap Some (add-one (suc k))) ∙ steps_on_lem (suc k) ss cs
 steps_on_lem zero (suc zero ∷ ss) cs = on_none 1 1 ss (depth-few 1 1 (λ e. omega arith) (omega arith)) ∙ sym (and-false (known ss))
 steps_on_lem (suc k) (suc zero ∷ ss) cs = on_some (suc (suc k)) 1 k ss (depth-join k 1 (λ e. omega arith) (omega arith)) ∙ steps_on_lem k ss cs
 steps_on_lem zero (suc (suc zero) ∷ ss) cs = on_none 1 2 ss (depth-few 1 2 (λ e. omega arith) (omega arith)) ∙ sym (and-false (known ss))

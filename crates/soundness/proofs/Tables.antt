@@ -1,58 +1,23 @@
--- Tables: the loop that notes the numbers of names, and what the tests of single tables and of the numbers say together. Assumes nothing.
-use mathlib.Core.Path.{◌≡◌, refl, sym, ap, ap₂, ◌∙◌, subst}
-use mathlib.Core.Bool.{Bool, true, false, not, ◌&&◌, ◌||◌, and-true, and_comm}
+-- Tables: what the tests of single tables and of the numbers of their names say together. Assumes nothing.
+use mathlib.Core.Path.{◌≡◌, refl, sym, ap, ap₂, ◌∙◌}
+use mathlib.Core.Bool.{Bool, true, false, not, ◌&&◌, ◌||◌, and-true, and-false, and_comm}
 use mathlib.Core.List.{List, [], ◌∷◌, ◌++◌, map}
-use Prim.Native.Nat.{ℕ, ◌+◌, ◌≤◌, ◌<◌}
-use native.Mathlib.Omega.{arith}
-use borrow.Author.Tests.{eqb-true, eqb-false}
+use Prim.Native.Nat.{ℕ}
 use lib.Dec.{eqb, leb}
-use lib.ListN.{length, get_or, take, set, replicate}
 use Rattle.lists.specs.Lists.{All, nil, cons, any, all, repeats}
-use Rattle.lists.proofs.Bools.{and_left, not-and, not-or, not-true, not-false}
+use Rattle.lists.proofs.Bools.{and_left, not-or}
 use Rattle.lists.proofs.Lists.{all_true, any_append, map-append}
 use Rattle.meaning.specs.Limits.{most_items, most_rows}
 use Rattle.meaning.specs.Names.{Schema, same_name, has, table_names}
 use Rattle.statement.specs.Catalog.{name_of_struct, schema_of}
-use Rattle.statement.specs.Compiled.{padded}
 use Rattle.statement.specs.Sound.{used_columns, sound_name, sound_table, sound_tables}
 use Rattle.statement.specs.declared.Name.{Name}
 use Rattle.statement.specs.declared.Table.{Table}
-use Rattle.statement.proofs.Walks.{rest, rest-cons, length-first, map-rest, map-none, Fills, fills-start, fills-more, fills-end, Tested, tested-start, tested-more, tested-end}
 use Rattle.statement.proofs.Found.{same-sym}
-use Rattle.statement.proofs.Assembled.{take-padded}
 use Rattle.soundness.specs.Parts.{code_of, columns_on, table_on}
-use Rattle.soundness.proofs.Packed.{code-zero, code-some, code_same}
+use Rattle.soundness.proofs.Packed.{number_of, code-no, code-yes, number_same}
+use Rattle.std.specs.Prelude.{Some, None}
 use Rattle.soundness.proofs.Tests.{shuffled, counted}
-
--- ---- the loop: the members passed are sound, and their numbers are noted
-
-module _ {A : Type 0} (f : A → ℕ) (p : A → Bool) (n : ℕ) (xs : List A) where
-  pub record Coded (codes : List ℕ) (i : ℕ) : Type 0 where
-    pub tested : Tested p n xs true i
-    pub fills : Fills (padded 8 0 (map f (take n xs))) codes i (map f (rest n i xs))
-
-  pub coded-start : n ≤ 8 → n ≤ length xs → Coded (replicate 8 0) 0
-  coded-start few l = record {
-    tested = tested-start p n xs;
-    fills = fills-start 8 0 (map f (take n xs)) (replicate 8 0) refl (omega (arith, length-first f n xs l));
-  }
-
-  pub coded-end : n ≤ length xs → (codes : List ℕ) (i : ℕ) → n ≤ i → Coded codes i → (all p (take n xs) ≡ true) × (take n codes ≡ map f (take n xs))
-  coded-end l codes i k C = (
-    sym (tested-end p n xs true i k C.tested),
-    ap (take n) (fills-end _ codes i (map f (rest n i xs)) (map-none f n i xs k) C.fills) ∙ take-padded 8 0 (map f (take n xs)) n (length-first f n xs l),
-  )
-
-  module _ (l : n ≤ length xs) (codes : List ℕ) (i : ℕ) (d : A) (k : i < n) (C : Coded codes i) where
-    pub coded-more : (c : ℕ) → c ≡ f (get_or xs i d) → p (get_or xs i d) ≡ true → Coded (set codes i c) (i + 1)
-    coded-more c e h = record {
-      tested = subst (λ (b : Bool). Tested p n xs b (i + 1)) h (tested-more p n xs l true i d k C.tested);
-      fills = fills-more _ codes i (map f (rest n i xs)) c (map f (rest n (i + 1) xs)) (map-rest f n i xs d c l k e) C.fills;
-    }
-
-    pub coded-stop : p (get_or xs i d) ≡ false → false ≡ all p (take n xs)
-    coded-stop h =
-        ap (λ (b : Bool). b && all p (rest n (i + 1) xs)) (sym h) ∙ ap (all p) (sym (rest-cons n i xs d l k)) ∙ C.tested.left
 
 -- ---- names by their numbers
 
@@ -70,10 +35,10 @@ pub columns-no : (ns : List Name) → false ≡ all sound_name ns → false ≡ 
 unfolding columns_on
 columns-no ns h = ap (λ (b : Bool). b && not (repeats same_name (map name_of_struct ns))) h
 
-pub columns-yes : (ns : List Name) → all sound_name ns ≡ true → not (repeats eqb (map code_of ns)) ≡ columns_on ns
+pub columns-yes : (ns : List Name) → all sound_name ns ≡ true → not (repeats eqb (map number_of ns)) ≡ columns_on ns
 unfolding columns_on
 columns-yes ns h =
-    ap not (repeats-same code_of name_of_struct eqb same_name (λ m n p q. code_same m n p q) (all_true sound_name ns h))
+    ap not (repeats-same number_of name_of_struct eqb same_name (λ m n p q. number_same m n p q) (all_true sound_name ns h))
     ∙ ap (λ (b : Bool). b && not (repeats same_name (map name_of_struct ns))) (sym h)
 
 -- ---- tables
@@ -81,26 +46,21 @@ columns-yes ns h =
 abbrev pub table_name : Table → List ℕ
 table_name t = name_of_struct t.name
 
-abbrev pub table_code : Table → ℕ
-table_code t = code_of t.name
+abbrev pub table_number : Table → ℕ
+table_number t = number_of t.name
 
 -- a table by itself
 abbrev pub single : Table → Bool
 single t = sound_name t.name && table_on t
 
--- it is not, if its name has no number or the rest does not fit
-single-not : (t : Table) (k : ℕ) (b : Bool) → k ≡ table_code t → b ≡ table_on t → (eqb k 0 || not b) ≡ not (single t)
-single-not t k b e f = ap₂ (λ (x y : Bool). x || not y) (go (eqb k 0) refl) f ∙ not-and (sound_name t.name) (table_on t)
-  where
-    go : (z : Bool) → eqb k 0 ≡ z → z ≡ not (sound_name t.name)
-    go true h = sym (ap not (code-zero t.name (sym e ∙ eqb-true k 0 h)))
-    go false h = sym (ap not (code-some t.name (λ n. eqb-false k 0 h (e ∙ n))))
+pub single-unnamed : (t : Table) → None ≡ code_of t.name → single t ≡ false
+single-unnamed t e = ap (λ (b : Bool). b && table_on t) (code-no t.name e)
 
-pub single-no : (t : Table) (k : ℕ) (b : Bool) → k ≡ table_code t → b ≡ table_on t → (eqb k 0 || not b) ≡ true → single t ≡ false
-single-no t k b e f h = not-true (single t) (sym (single-not t k b e f) ∙ h)
+pub single-unfit : (t : Table) → table_on t ≡ false → single t ≡ false
+single-unfit t e = ap (λ (b : Bool). sound_name t.name && b) e ∙ and-false (sound_name t.name)
 
-pub single-yes : (t : Table) (k : ℕ) (b : Bool) → k ≡ table_code t → b ≡ table_on t → (eqb k 0 || not b) ≡ false → single t ≡ true
-single-yes t k b e f h = not-false (single t) (sym (single-not t k b e f) ∙ h)
+pub single-yes : (t : Table) (k : ℕ) → Some k ≡ code_of t.name → table_on t ≡ true → (k ≡ table_number t) × (single t ≡ true)
+single-yes t k e f = let y = code-yes t.name k e in (y.0, ap₂ ◌&&◌ y.1 f)
 
 pub table-no : (t : Table) → (leb 1 t.count && leb t.count 8) ≡ false → false ≡ table_on t
 unfolding table_on
@@ -173,8 +133,8 @@ sound-tables ts =
 pub tables-no : (ts : List Table) → false ≡ all single ts → false ≡ sound_tables [] ts
 tables-no ts h = ap (λ (b : Bool). b && not (repeats same_name (map table_name ts))) h ∙ sym (sound-tables ts)
 
-pub tables-yes : (ts : List Table) → all single ts ≡ true → not (repeats eqb (map table_code ts)) ≡ sound_tables [] ts
+pub tables-yes : (ts : List Table) → all single ts ≡ true → not (repeats eqb (map table_number ts)) ≡ sound_tables [] ts
 tables-yes ts h =
-    ap not (repeats-same table_code table_name eqb same_name (λ t u p q. code_same t.name u.name (and_left (sound_name t.name) _ p) (and_left (sound_name u.name) _ q)) (all_true single ts h))
+    ap not (repeats-same table_number table_name eqb same_name (λ t u p q. number_same t.name u.name (and_left (sound_name t.name) _ p) (and_left (sound_name u.name) _ q)) (all_true single ts h))
     ∙ ap (λ (b : Bool). b && not (repeats same_name (map table_name ts))) (sym h)
     ∙ sym (sound-tables ts)

@@ -1,8 +1,16 @@
 -- Laws of tests that several proofs use. Assumes nothing.
-use mathlib.Core.Path.{◌≡◌, refl, sym, ap, ◌∙◌}
-use mathlib.Core.Bool.{Bool, true, false, ◌&&◌, ◌||◌, and_assoc}
-use Prim.Native.Nat.{ℕ}
+use mathlib.Core.Path.{◌≡◌, refl, sym, ap, ap₂, ◌∙◌}
+use mathlib.Core.Bool.{Bool, true, false, ◌&&◌, ◌||◌, and_assoc, and-false}
+use mathlib.Core.List.{List, [], ◌∷◌}
+use Prim.Native.Nat.{ℕ, ◌+◌, ◌≤◌, ◌<◌}
+use native.Mathlib.Numerals.{add-one}
 use lib.Dec.{leb}
+use lib.ListN.{length, get_or, take, drop, take-append-drop}
+use lib.Seq.{take_all, take-suc}
+use Rattle.std.proofs.lemmas.List.{at_drop_more}
+use Rattle.std.specs.List.{list_all, list_any}
+use Rattle.lists.specs.Lists.{any, all}
+use Rattle.lists.proofs.Lists.{all_append}
 
 pub interchange : (a b c d : Bool) → ((a && b) && (c && d)) ≡ ((a && c) && (b && d))
 interchange true true c d = refl
@@ -19,3 +27,30 @@ shuffled false false c d = refl
 -- 1 to 8 of them, and then b
 pub counted : (n : ℕ) (t b : Bool) → (leb 1 n && leb n 8) ≡ t → (t && b) ≡ (leb 1 n && (leb n 8 && b))
 counted n t b h = ap (λ (t : Bool). t && b) (sym h) ∙ and_assoc (leb 1 n) (leb n 8) b
+
+-- ---- a loop that tests the members of a list
+
+module _ {A : Type 0} (p : A → Bool) (xs : List A) (i : ℕ) (d : A) (h : i < length xs) where
+  pub all-more : all p (take i xs) ≡ true → p (get_or xs i d) ≡ true → all p (take (i + 1) xs) ≡ true
+  all-more a e =
+      ap (λ (j : ℕ). all p (take j xs)) (add-one i) ∙ ap (all p) (take-suc xs i d h) ∙ all_append p (take i xs) (get_or xs i d ∷ [])
+      ∙ ap₂ (λ (s t : Bool). s && (t && true)) a e
+
+  pub all-stop : p (get_or xs i d) ≡ false → false ≡ all p xs
+  all-stop e =
+      sym
+      (ap (all p) (sym (take-append-drop i xs)) ∙ all_append p (take i xs) (drop i xs)
+      ∙ ap (λ (b : Bool). all p (take i xs) && b) (at_drop_more (all p) xs i d h ∙ ap (λ (b : Bool). b && all p (drop (i + 1) xs)) e)
+      ∙ and-false (all p (take i xs)))
+
+pub all-end : {A : Type 0} (p : A → Bool) (xs : List A) (i : ℕ) → length xs ≤ i → all p (take i xs) ≡ true → true ≡ all p xs
+all-end p xs i h a = sym a ∙ ap (all p) (take_all i xs h)
+
+-- as the library's tests of all members and of one
+pub listed : {A : Type 0} (p : A → Bool) (xs : List A) → list_all p xs ≡ all p xs
+listed p [] = refl
+listed p (x ∷ xs) = ap (λ (b : Bool). p x && b) (listed p xs)
+
+pub listed_any : {A : Type 0} (p : A → Bool) (xs : List A) → list_any p xs ≡ any p xs
+listed_any p [] = refl
+listed_any p (x ∷ xs) = ap (λ (b : Bool). p x || b) (listed_any p xs)

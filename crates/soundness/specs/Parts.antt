@@ -1,7 +1,7 @@
 -- The parts of the tests, as the code takes them: names as numbers, steps by the depth of the stack, comparisons and settings by the number of the next
 -- parameter, tables by how many columns they have. proofs/Tables, Comparisons, Outer, Widths and Settings show that they are the tests of crate `statement`.
 -- Assumes nothing: these are definitions.
-use Rattle.std.specs.Prelude.{◌≡◌, Bool, true, not, ◌&&◌, ◌||◌, cond, List, [], ◌∷◌, map, reverse, ℕ, ◌+◌, ◌-◌, ◌*◌, ◌/◌, ◌%◌, ◌≤◌, eqb, leb, ltb, length, get_or, take}
+use Rattle.std.specs.Prelude.{◌≡◌, Bool, true, false, not, ◌&&◌, ◌||◌, cond, List, [], ◌∷◌, map, reverse, Option, Some, None, option_map, option_and_then, slice_get, ℕ, ◌+◌, ◌-◌, ◌*◌, ◌/◌, ◌%◌, ◌≤◌, eqb, leb, ltb, length}
 use Rattle.lists.specs.Lists.{All, all, repeats, from}
 use Rattle.meaning.specs.Tokens.{is_digit, is_small, is_name_byte}
 use Rattle.meaning.specs.Limits.{most_items, most_rows}
@@ -11,8 +11,8 @@ use Rattle.meaning.specs.Resolve.{is_numbered, is_below}
 use Rattle.meaning.specs.Statement.{value}
 use Rattle.statement.specs.Built.{mark_in_value, mark_in_side}
 use Rattle.statement.specs.Catalog.{name_of_struct, schema_of}
-use Rattle.statement.specs.Compiled.{padded, left_side, right_side, new_value}
-use Rattle.statement.specs.Sound.{value_read, operand_read, used_columns, used_steps, used_comparisons, condition_nodes, second_read, digits_back, sound_name, sound_predicate, sound_query_on, sound_outer}
+use Rattle.statement.specs.Compiled.{left_side, right_side, new_value}
+use Rattle.statement.specs.Sound.{value_read, operand_read, used_columns, used_steps, used_comparisons, condition_nodes, second_read, digits_back, sound_name, sound_predicate, sound_query_on, sound_outer, sound_update_on}
 use Rattle.statement.specs.declared.Name.{Name}
 use Rattle.statement.specs.declared.Table.{Table}
 use Rattle.statement.specs.declared.Operand.{Operand}
@@ -21,7 +21,17 @@ use Rattle.statement.specs.declared.Condition.{Condition}
 use Rattle.statement.specs.declared.Query.{Query}
 use Rattle.statement.specs.declared.Value.{Value}
 use Rattle.statement.specs.declared.Setting.{Setting}
-use Rattle.soundness.specs.declared.statements.Numbered.{Numbered}
+use Rattle.statement.specs.declared.Update.{Update}
+
+-- whether there is a value, and it passes the test
+abbrev pub passes : {A : Type 0} → (A → Bool) → Option A → Bool
+passes p None = false
+passes p (Some x) = p x
+
+-- the value, where the test holds
+abbrev pub some_if : {A : Type 0} → Bool → A → Option A
+some_if true x = Some x
+some_if false x = None
 
 -- ---- names as numbers
 
@@ -36,12 +46,11 @@ abbrev pub packed : List ℕ → ℕ
 packed [] = 0
 packed (b ∷ bs) = digit_of b + 38 * packed bs
 
-abbrev pub packed_name : List ℕ → ℕ
-packed_name bs = cond (all is_name_byte bs) (packed bs) 0
+abbrev pub packed_name : List ℕ → Option ℕ
+packed_name bs = some_if (all is_name_byte bs) (packed bs)
 
--- 0 for what is no name
-unfoldable pub code_of : Name → ℕ
-code_of n = cond (sound_name n) (packed (name_of_struct n)) 0
+unfoldable pub code_of : Name → Option ℕ
+code_of n = some_if (sound_name n) (packed (name_of_struct n))
 
 -- ---- a table but for its name
 
@@ -51,31 +60,35 @@ columns_on ns = all sound_name ns && not (repeats same_name (map name_of_struct 
 unfoldable pub table_on : Table → Bool
 table_on t = leb 1 t.count && (leb t.count most_items && (columns_on (used_columns t) && (leb 1 t.capacity && leb t.capacity most_rows)))
 
--- how many columns a table has; those of eight tables, in an array
+-- how many columns a table has; those of all tables
 abbrev pub width_of : Table → ℕ
 width_of t = length (schema_of t).columns
 
 abbrev pub Widths : List Table → List ℕ → Type 0
-Widths tables r = (r ≡ padded 8 0 (map width_of (take 8 tables))) × All (λ w. w ≤ 8) r
+Widths tables r = (r ≡ map width_of tables) × All (λ w. w ≤ 8) r
 
--- A.1: the columns of both tables of a question, by the code of the second (0 none, else its number and 1); 0 where the second table does not fit
-abbrev pub fits_second : ℕ → ℕ → ℕ → ℕ → ℕ → Bool
-fits_second there table columns second start = ltb second there && (not (eqb second table) && eqb start columns)
+-- A.1: the columns of the tables of a question, by the code of the second (0 none, else its number and 1), if they fit
+abbrev pub fits_second : ℕ → ℕ → ℕ → ℕ → Bool
+fits_second table columns second start = not (eqb second table) && eqb start columns
 
-abbrev pub width_with : ℕ → List ℕ → ℕ → ℕ → ℕ → ℕ → ℕ
-width_with there widths table columns second start =
-    cond (eqb second 0) columns (cond (fits_second there table columns (second - 1) start) (columns + get_or widths (second - 1) 0) 0)
+abbrev pub width_beside : List ℕ → ℕ → ℕ → ℕ → ℕ → Option ℕ
+width_beside widths table second start columns =
+    cond (eqb second 0) (Some columns)
+    (cond (fits_second table columns (second - 1) start) (option_map (λ (w : ℕ). columns + w) (slice_get widths (second - 1))) None)
+
+abbrev pub width_with : List ℕ → ℕ → ℕ → ℕ → Option ℕ
+width_with widths table second start = option_and_then (width_beside widths table second start) (slice_get widths table)
 
 -- ---- steps, where k values are on the stack
 
--- 0 if the step does not fit
-abbrev pub depth_after : ℕ → ℕ → ℕ
-depth_after k s = cond (eqb s 0) (k + 1) (cond (ltb s 3 && leb 2 k) (k - 1) 0)
+-- if the step fits
+abbrev pub depth_after : ℕ → ℕ → Option ℕ
+depth_after k s = cond (eqb s 0) (Some (k + 1)) (some_if (ltb s 3 && leb 2 k) (k - 1))
 
 -- each step fits, and at most one value is left
 abbrev pub steps_on : ℕ → List ℕ → Bool
 steps_on k [] = leb k 1
-steps_on k (s ∷ ss) = not (eqb (depth_after k s) 0) && steps_on (depth_after k s) ss
+steps_on k (s ∷ ss) = passes (λ (d : ℕ). steps_on d ss) (depth_after k s)
 
 -- ---- A.6: marks of outer comparisons, by the steps from the last one on: `Postfix.chained`, with the marks that are left
 
@@ -100,6 +113,7 @@ pub record Ordered (c : Condition) : Type 0 where
   pub few : c.count ≤ 8
   pub known : all (λ (s : ℕ). ltb s 3) (used_steps c) ≡ true
   pub postfix : is_postfix (condition_nodes c) ≡ true
+  pub eight : length c.comparisons ≡ 8
 
 -- each comparison that is marked may be outer in a text
 abbrev pub outer_fits : Condition → ℕ → Bool
@@ -109,6 +123,13 @@ outer_fits c outer = within (digits_back (length (used_comparisons c)) outer) (c
 
 abbrev pub query_on : ℕ → Query → Bool
 query_on columns q = sound_query_on columns q && sound_outer (second_read q) q
+
+-- questions and updates beside tables of so many columns
+abbrev pub query_at : List ℕ → Query → Bool
+query_at widths q = passes (λ (n : ℕ). query_on n q) (width_with widths q.table q.second q.start)
+
+abbrev pub update_at : List ℕ → Update → Bool
+update_at widths u = passes (λ (n : ℕ). sound_update_on n u) (slice_get widths u.table)
 
 -- ---- comparisons, where m parameters stand before
 
@@ -142,9 +163,6 @@ after_all columns m (c ∷ cs) = after_all columns (after_comparison columns m c
 
 -- ---- settings, where the table has so many columns
 
-abbrev pub if_so : Bool → ℕ → ℕ
-if_so b n = cond b n 0
-
 abbrev pub same_column : Setting → Setting → Bool
 same_column s t = eqb s.column t.column
 
@@ -172,5 +190,6 @@ abbrev pub setting_marks : List Setting → ℕ
 setting_marks [] = 0
 setting_marks (s ∷ ss) = mark_in_value (new_value s) + setting_marks ss
 
-abbrev pub settings_on : ℕ → ℕ → List Setting → Numbered
-settings_on form columns ss = record { ok = settings_fit form columns 0 0 ss; next = setting_marks ss }
+-- the number of the next parameter
+abbrev pub settings_on : ℕ → ℕ → List Setting → Option ℕ
+settings_on form columns ss = some_if (settings_fit form columns 0 0 ss) (setting_marks ss)

@@ -1,41 +1,39 @@
 // A condition: its steps are a postfix order, its comparisons name columns of the table, and its parameters are numbered in order.
-ghost use Rattle.std.specs.Prelude.{◌≡◌, true, cond, reverse, ◌-◌, ◌*◌, ◌≤◌, ◌<◌, take, drop};
+ghost use Rattle.std.specs.Prelude.{◌≡◌, true, reverse, ◌-◌, ◌*◌, ◌≤◌, ◌<◌, length, take};
 ghost use Rattle.statement.specs.Sound.{sound_predicate, sound_condition_on};
 ghost use Rattle.soundness.specs.Parts.{depth_after, steps_on, mark_fits, marks_after, need_after, outer_on, Ordered, outer_fits, after_side, after_comparison, after_all};
 
+use super::whole;
 use table::{Comparison, Condition, Operand, Statement, Step};
 
 // ---- steps
 
-// How many values are on the stack after a step; 0 if the step does not fit, since AND and OR find two values.
-fn stepped(depth: u8, step: u8) -> u8
+// How many values are on the stack after a step, if it fits: AND and OR find two values.
+fn stepped(depth: u8, step: u8) -> Option<u8>
     requires { depth < 255 }
     ensures { result ≡ depth_after depth step }
 {
     if step == Step::COMPARISON {
-        return depth + 1;
+        return Some(depth + 1);
     }
     if (step < Step::KINDS) & (2 <= depth) {
-        depth - 1
+        Some(depth - 1)
     } else {
-        0
+        None
     }
 }
 
-// Whether the steps of n comparisons are none, or leave one value.
-fn steps_are_sound(steps: [u8; Condition::STEPS], n: usize) -> bool
-    requires { n ≤ 8 }
-    ensures { result ≡ steps_on 0 (take (2 * n - 1) steps) }
+// Whether the steps are none, or leave one value.
+fn steps_are_sound(steps: &[u8]) -> bool
+    requires { length steps.now ≤ 15 }
+    ensures { result ≡ steps_on 0 steps.now }
 {
-    let mut depth: u8 = 0;
-    let mut i = 0;
-    while i + 1 < 2 * n {
-        let s = steps[i];
-        depth = stepped(depth, s);
-        if depth == 0 {
+    let mut depth = 0u8;
+    for s in steps {
+        let Some(after) = stepped(depth, *s) else {
             return false;
-        }
-        i += 1;
+        };
+        depth = after;
     }
     depth <= 1
 }
@@ -79,35 +77,32 @@ fn need_after(ending: bool, need: u8, step: u8) -> u8
     }
 }
 
-// Whether the marks fit the steps of n comparisons, which are read from the last one on.
-fn marks_fit(steps: [u8; Condition::STEPS], n: usize, outer: u8) -> bool
-    requires { n ≤ 8 }
-    ensures { result ≡ outer_on true 0 outer (reverse (take (2 * n - 1) steps)) }
+// Whether the marks fit the steps, which are read from the last one on.
+fn marks_fit(steps: &[u8], outer: u8) -> bool
+    requires { length steps.now ≤ 15 }
+    ensures { result ≡ outer_on true 0 outer (reverse steps.now) }
 {
-    let mut ok = true;
     let mut ending = true;
-    let mut need: u8 = 0;
+    let mut need = 0u8;
     let mut marks = outer;
-    let mut i = 2 * n;
-    while 1 < i {
-        i -= 1;
-        let s = steps[i - 1];
-        ok = ok & mark_fits(need, marks, s);
-        ending = ending & (s == Step::AND);
-        need = need_after(ending, need, s);
-        marks = marks_after(marks, s);
+    for s in steps.iter().rev() {
+        if !mark_fits(need, marks, *s) {
+            return false;
+        }
+        ending &= *s == Step::AND;
+        need = need_after(ending, need, *s);
+        marks = marks_after(marks, *s);
     }
-    ok
+    true
 }
 
 // Whether each comparison that is marked may be outer in a text.
-pub fn outer_is_sound(c: Condition, outer: u8) -> bool
-    requires { Ordered c }
-    ensures { result ≡ outer_fits c outer }
+pub fn outer_is_sound(c: &Condition, outer: u8) -> bool
+    requires { Ordered c.now }
+    ensures { result ≡ outer_fits c.now outer }
 {
-    let n = c.count as usize;
-    let steps = c.steps;
-    marks_fit(steps, n, outer)
+    let n = 2 * usize::from(c.count);
+    marks_fit(&c.steps[..n.saturating_sub(1)], outer)
 }
 
 // ---- comparisons, by the number of the next parameter: where one does not fit, it is more than there can be
@@ -121,13 +116,13 @@ fn after_side(o: Operand, columns: u8, m: u32) -> u32
     ensures { result ≡ after_side columns m o }
 {
     if o.code % 2 == 1 {
-        return if (o.code as u32) == 2 * m + 1 {
+        return if u32::from(o.code) == 2 * m + 1 {
             m + 1
         } else {
             m + MISFIT
         };
     }
-    if (o.code as u32) <= 2 * (columns as u32) {
+    if u32::from(o.code) <= 2 * u32::from(columns) {
         m
     } else {
         m + MISFIT
@@ -135,8 +130,8 @@ fn after_side(o: Operand, columns: u8, m: u32) -> u32
 }
 
 // Whether a comparison's operator fits its sides: one of the six, or a null test (A.5) with one column on both sides.
-fn operator_fits(c: Comparison) -> bool
-    ensures { result ≡ sound_predicate c }
+fn operator_fits(c: &Comparison) -> bool
+    ensures { result ≡ sound_predicate c.now }
 {
     if c.op < Comparison::IS_NULL {
         return true;
@@ -145,14 +140,12 @@ fn operator_fits(c: Comparison) -> bool
 }
 
 // The next number behind a comparison.
-fn after_comparison(c: Comparison, columns: u8, m: u32) -> u32
+fn after_comparison(c: &Comparison, columns: u8, m: u32) -> u32
     requires { m ≤ 4096 }
-    ensures { result ≡ after_comparison columns m c }
+    ensures { result ≡ after_comparison columns m c.now }
 {
-    let a = c.left_side();
-    let b = c.right_side();
-    let left = after_side(a, columns, m);
-    let right = after_side(b, columns, left);
+    let left = after_side(c.left_side(), columns, m);
+    let right = after_side(c.right_side(), columns, left);
     if operator_fits(c) {
         right
     } else {
@@ -160,75 +153,32 @@ fn after_comparison(c: Comparison, columns: u8, m: u32) -> u32
     }
 }
 
-// The next number behind a comparison that is there.
-fn after_used(used: bool, c: Comparison, columns: u8, m: u32) -> u32
-    requires { m ≤ 4096 }
-    ensures { result ≡ cond used (after_comparison columns m c) m }
+// The next number behind comparisons.
+fn after_comparisons(comparisons: &[Comparison], columns: u8, m: u8) -> u32
+    requires { length comparisons.now ≤ 8 }
+    ensures { result ≡ after_all columns m comparisons.now }
 {
-    if used {
-        after_comparison(c, columns, m)
-    } else {
-        m
-    }
-}
-
-// The next number behind those of the first n comparisons that follow the third.
-fn after_others(
-    comparisons: [Comparison; Condition::COMPARISONS],
-    n: usize,
-    columns: u8,
-    m: u32,
-) -> u32
-    requires { (n ≤ 8) × (m ≤ 1024) }
-    ensures { result ≡ after_all columns m (drop 3 (take n comparisons)) }
-{
-    let mut next = m;
-    let mut i = 3;
-    while i < n {
-        let c = comparisons[i];
+    let mut next = u32::from(m);
+    for c in comparisons {
         next = after_comparison(c, columns, next);
-        i += 1;
     }
     next
 }
 
-// The next number behind the first n comparisons. Most conditions have no more than three: these are read where they stand.
-fn after_comparisons(
-    comparisons: [Comparison; Condition::COMPARISONS],
-    n: usize,
-    columns: u8,
-    m: u8,
-) -> u32
-    requires { (n ≤ 8) × (m ≤ 8) }
-    ensures { result ≡ after_all columns m (take n comparisons) }
-{
-    let first = comparisons[0];
-    let second = comparisons[1];
-    let third = comparisons[2];
-    let a = after_used(0 < n, first, columns, m as u32);
-    let b = after_used(1 < n, second, columns, a);
-    let c = after_used(2 < n, third, columns, b);
-    if n <= 3 {
-        return c;
-    }
-    after_others(comparisons, n, columns, c)
-}
-
 // Whether a condition is sound, where m parameters stand before it and there are so many in all.
-pub fn is_sound(c: Condition, columns: u8, m: u8, parameters: u8) -> bool
-    requires { m ≤ 8 }
-    ensures { result ≡ sound_condition_on columns m parameters c }
+pub fn is_sound(c: &Condition, columns: u8, m: u8, parameters: u8) -> bool
+    ensures sound { result ≡ sound_condition_on columns m parameters c.now }
+    ensures ordered { result ≡ true → Ordered c.now }
 {
-    let n = c.count as usize;
-    if Condition::COMPARISONS < n {
+    let n = usize::from(c.count);
+    let comparisons = whole(&c.comparisons);
+    if comparisons.len() < n {
         return false;
     }
+    let few = u16::from(parameters) <= Statement::MARKS;
     if n == 0 {
-        return ((parameters as u16) <= Statement::MARKS) & (parameters == m);
+        return few & (parameters == m);
     }
-    let steps = c.steps;
-    let comparisons = c.comparisons;
-    ((parameters as u16) <= Statement::MARKS)
-        & steps_are_sound(steps, n)
-        & ((parameters as u32) == after_comparisons(comparisons, n, columns, m))
+    few & steps_are_sound(&c.steps[..2 * n - 1])
+        & (u32::from(parameters) == after_comparisons(&comparisons[..n], columns, m))
 }

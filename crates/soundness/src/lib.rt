@@ -6,83 +6,83 @@ mod conditions; // steps and comparisons
 mod names; // names, and tables by themselves
 mod statements; // questions and updates by themselves
 
-ghost use Rattle.std.specs.Prelude.{◌≡◌, min};
+ghost use Rattle.std.specs.Prelude.{◌≡◌, [], ◌≤◌, length};
+ghost use Rattle.statement.specs.Sound.{sound_tables};
 ghost use Rattle.soundness.specs.Soundness.{tables_sound, queries_sound, updates_sound};
 
+use names::Digits;
 use table::{Query, Table, Update};
 
-fn least(a: usize, b: usize) -> usize
-    ensures { result ≡ min a b }
+// An array as a slice, with the length that it is known to have.
+fn whole<T, const N: usize>(array: &[T; N]) -> &[T]
+    ensures same { result.now ≡ array.now }
+    ensures long { length array.now ≡ N }
 {
-    if a < b { a } else { b }
+    array
 }
 
-// Whether the first `used` tables are sound beside each other.
-pub fn tables_are_sound(tables: [Table; Table::TABLES], used: u8) -> bool
-    ensures { result ≡ tables_sound tables used }
+// Whether tables are sound beside each other.
+fn are_sound(tables: &[Table]) -> bool
+    requires { length tables.now ≤ 8 }
+    ensures { result ≡ sound_tables [] tables.now }
 {
-    let n = least(used as usize, Table::TABLES);
-    let digits = names::digits();
+    let digits = Digits::new();
     let mut codes = [0u64; Table::TABLES];
     let mut same = false;
-    let mut i: usize = 0;
-    while i < n {
-        let t = tables[i];
-        let name = t.name;
-        let c = names::code(name, &digits);
-        if (c == 0) | !names::table_fits(t, &digits) {
+    for (i, t) in tables.iter().enumerate() {
+        let Some(code) = digits.code(&t.name) else {
+            return false;
+        };
+        if !names::table_fits(t, &digits) {
             return false;
         }
-        same = same | names::occurs(c, &codes, i);
-        codes[i] = c;
-        i += 1;
+        same |= codes[..i].contains(&code);
+        codes[i] = code;
     }
     !same
 }
 
+// Whether the first `used` tables are sound beside each other.
+pub fn tables_are_sound(tables: &[Table; Table::TABLES], used: u8) -> bool
+    ensures { result ≡ tables_sound tables.now used }
+{
+    are_sound(&tables[..Table::TABLES.min(usize::from(used))])
+}
+
 // Whether the first n questions are sound beside the first `used` tables.
 pub fn queries_are_sound(
-    tables: [Table; Table::TABLES],
+    tables: &[Table; Table::TABLES],
     used: u8,
-    queries: [Query; Query::QUERIES],
+    queries: &[Query; Query::QUERIES],
     n: u8,
 ) -> bool
-    ensures { result ≡ queries_sound tables used queries n }
+    ensures { result ≡ queries_sound tables.now used queries.now n }
 {
-    let there = least(used as usize, Table::TABLES);
-    let widths = statements::widths(tables);
-    let count = least(n as usize, Query::QUERIES);
-    let mut ok = true;
-    let mut i: usize = 0;
-    while i < count {
-        let q = queries[i];
-        let first = statements::width_at(widths, q.table);
-        let columns = statements::width_with(widths, there, q.table, first, q.second, q.start);
-        ok = ok & (((q.table as usize) < there) & statements::query_is_sound(q, columns));
-        i += 1;
+    let all = statements::widths(tables);
+    let widths = &all[..Table::TABLES.min(usize::from(used))];
+    for q in queries[..Query::QUERIES.min(usize::from(n))].iter() {
+        if !statements::query_fits(q, widths) {
+            return false;
+        }
     }
-    ok
+    true
 }
 
 // Whether the first n updates are sound beside the first `used` tables.
 pub fn updates_are_sound(
-    tables: [Table; Table::TABLES],
+    tables: &[Table; Table::TABLES],
     used: u8,
-    updates: [Update; Update::UPDATES],
+    updates: &[Update; Update::UPDATES],
     n: u8,
 ) -> bool
-    ensures { result ≡ updates_sound tables used updates n }
+    ensures { result ≡ updates_sound tables.now used updates.now n }
 {
-    let there = least(used as usize, Table::TABLES);
-    let widths = statements::widths(tables);
-    let count = least(n as usize, Update::UPDATES);
-    let mut ok = true;
-    let mut i: usize = 0;
-    while i < count {
-        let u = updates[i];
-        let columns = statements::width_at(widths, u.table);
-        ok = ok & (((u.table as usize) < there) & statements::update_is_sound(u, columns));
-        i += 1;
+    let all = statements::widths(tables);
+    let widths = &all[..Table::TABLES.min(usize::from(used))];
+    for u in updates[..Update::UPDATES.min(usize::from(n))].iter() {
+        if !statements::update_fits(u, widths) {
+            return false;
+        }
     }
-    ok
+    true
 }

@@ -1,124 +1,101 @@
 // Questions and updates, by how many columns their table has.
-ghost use Rattle.std.specs.Prelude.{◌≡◌, false, not, ℕ, ◌≤◌, ltb, get_or, take};
-ghost use Rattle.lists.specs.Lists.{All, all, repeats};
-ghost use Rattle.statement.specs.Built.{mark_in_value};
+ghost use Rattle.std.specs.Prelude.{◌≡◌, not, ℕ, ◌≤◌, ltb, length, slice_get};
+ghost use Rattle.lists.specs.Lists.{All, any, all, repeats};
 ghost use Rattle.statement.specs.Sound.{sound_update_on};
-ghost use Rattle.soundness.specs.Parts.{width_of, Widths, width_with, query_on, if_so, same_column, form_fits, column_fits, value_fits, settings_on};
+ghost use Rattle.soundness.specs.Parts.{width_of, Widths, width_with, query_on, query_at, update_at, same_column, form_fits, column_fits, value_fits, settings_on};
 
-use super::conditions;
+use super::{conditions, whole};
 use table::{Query, Setting, Table, Update, Value};
 
 // ---- how many columns the tables have
 
-fn width(t: Table) -> u8
-    ensures { (result ≡ width_of t) × (result ≤ 8) }
+fn width(t: &Table) -> u8
+    ensures { (result ≡ width_of t.now) × (result ≤ 8) }
 {
-    if (t.count as usize) < Table::COLUMNS {
-        t.count
-    } else {
-        Table::COLUMNS as u8
-    }
+    t.count.min(whole(&t.columns).len() as u8)
 }
 
-// Of all tables, also of those that are not in use: a loop of always eight turns is laid out flat, and reads the tables where they stand.
-pub fn widths(tables: [Table; Table::TABLES]) -> [u8; Table::TABLES]
-    ensures { Widths tables result }
+// Of all tables, also of those that are not in use: a loop of always eight turns is laid out flat.
+pub fn widths(tables: &[Table; Table::TABLES]) -> [u8; Table::TABLES]
+    ensures { Widths tables.now result }
 {
     let mut widths = [0u8; Table::TABLES];
-    let mut i = 0;
-    while i < Table::TABLES {
-        let t = tables[i];
+    for (i, t) in tables.iter().enumerate() {
         widths[i] = width(t);
-        i += 1;
     }
     widths
 }
 
-// Of a table; 0 if it is not there.
-pub fn width_at(widths: [u8; Table::TABLES], table: u8) -> u8
-    ensures { result ≡ get_or widths table 0 }
+// Of a table, if it is there.
+fn width_at(widths: &[u8], table: u8) -> Option<u8>
+    ensures { result ≡ slice_get widths.now table }
 {
-    let i = table as usize;
-    if i < Table::TABLES { widths[i] } else { 0 }
+    widths.get(usize::from(table)).copied()
 }
 
-// A.1: of both tables of a question, where the first has so many columns. It is 0 if the second is not there, is the first again, or does not begin behind the first's columns.
-pub fn width_with(
-    widths: [u8; Table::TABLES],
-    there: usize,
-    table: u8,
-    columns: u8,
-    second: u8,
-    start: u8,
-) -> u8
-    requires { (columns ≤ 8) × All (λ w. w ≤ 8) widths }
-    ensures { result ≡ width_with there widths table columns second start }
+// Of the tables of a question, if they are there. A.1: a second one is another than the first, and begins behind the first's columns.
+fn width_with(widths: &[u8], table: u8, second: u8, start: u8) -> Option<u8>
+    requires { All (λ w. w ≤ 8) widths.now }
+    ensures { result ≡ width_with widths.now table second start }
 {
+    let columns = width_at(widths, table)?;
     if second == 0 {
-        return columns;
+        return Some(columns);
     }
     let other = second - 1;
-    if ((other as usize) < there) & ((other != table) & (start == columns)) {
-        return columns + width_at(widths, other);
+    if (other == table) | (start != columns) {
+        return None;
     }
-    0
+    Some(columns + width_at(widths, other)?)
 }
 
 // ---- questions
 
-// Whether the first n are columns of the tables.
-fn are_below(selected: [u8; Query::SELECTED], n: usize, columns: u8) -> bool
-    requires { n ≤ 8 }
-    ensures { result ≡ all (λ (i : ℕ). ltb i columns) (take n selected) }
+// Whether these are columns of the tables.
+fn are_below(selected: &[u8], columns: u8) -> bool
+    ensures { result ≡ all (λ (i : ℕ). ltb i columns) selected.now }
 {
-    let mut ok = true;
-    let mut i = 0;
-    while i < n {
-        let x = selected[i];
-        ok = ok & (x < columns);
-        i += 1;
-    }
-    ok
+    selected.iter().all(|i| *i < columns)
 }
 
-// Whether a question is sound, where its tables have so many columns: with none it is not. A.6: its marks are read where it is over two tables.
-pub fn query_is_sound(q: Query, columns: u8) -> bool
-    ensures { (result ≡ query_on columns q) × (query_on 0 q ≡ false) }
+// Whether a question is sound, where its tables have so many columns. A.6: its marks are read where it is over two tables.
+fn query_is_sound(q: &Query, columns: u8) -> bool
+    ensures { result ≡ query_on columns q.now }
 {
-    let n = q.count as usize;
-    if (1 <= n) & (n <= Query::SELECTED) {
-        let selected = q.selected;
-        let condition = q.condition;
-        let sound = are_below(selected, n, columns)
-            & conditions::is_sound(condition, columns, 0, q.parameters);
-        if sound & (q.second != 0) {
-            return conditions::outer_is_sound(condition, q.outer);
-        }
-        return sound;
+    let n = usize::from(q.count);
+    if !((1 <= n) & (n <= Query::SELECTED)) {
+        return false;
     }
-    false
+    let sound = are_below(&q.selected[..n], columns)
+        & conditions::is_sound(&q.condition, columns, 0, q.parameters);
+    if sound & (q.second != 0) {
+        return conditions::outer_is_sound(&q.condition, q.outer);
+    }
+    sound
+}
+
+// Whether a question is sound beside tables of so many columns.
+pub fn query_fits(q: &Query, widths: &[u8]) -> bool
+    requires { All (λ w. w ≤ 8) widths.now }
+    ensures { result ≡ query_at widths.now q.now }
+{
+    match width_with(widths, q.table, q.second, q.start) {
+        Some(columns) => query_is_sound(q, columns),
+        None => false,
+    }
 }
 
 // ---- updates
-
-// n, or 0.
-fn if_so(b: bool, n: usize) -> usize
-    ensures { result ≡ if_so b n }
-{
-    if b { n } else { 0 }
-}
 
 // Whether an update of this form may have so many settings and comparisons.
 fn form_fits(form: u8, count: u8, columns: u8, comparisons: u8) -> bool
     ensures { result ≡ form_fits form count columns comparisons }
 {
-    if form == Update::INSERT {
-        return (count == columns) & (comparisons == 0);
+    match form {
+        Update::INSERT => (count == columns) & (comparisons == 0),
+        Update::UPDATE => (1 <= count) & (usize::from(count) <= Update::SETTINGS),
+        _ => (form == Update::DELETE) & (count == 0),
     }
-    if form == Update::UPDATE {
-        return (1 <= count) & ((count as usize) <= Update::SETTINGS);
-    }
-    (form == Update::DELETE) & (count == 0)
 }
 
 // Whether the i-th setting may set this column: in an INSERT its own place.
@@ -126,7 +103,7 @@ fn column_fits(form: u8, columns: u8, i: usize, column: u8) -> bool
     ensures { result ≡ column_fits form columns i column }
 {
     if form == Update::INSERT {
-        return (column as usize) == i;
+        return usize::from(column) == i;
     }
     column < columns
 }
@@ -135,82 +112,70 @@ fn column_fits(form: u8, columns: u8, i: usize, column: u8) -> bool
 fn value_fits(v: Value, m: u8) -> bool
     ensures { result ≡ value_fits m v }
 {
-    (v.mark == 0) | ((v.mark as u16) == (m as u16) + 1)
+    (v.mark == 0) | (u16::from(v.mark) == u16::from(m) + 1)
 }
 
-// How many parameters a value has.
-fn marks_in(v: Value) -> u8
-    ensures { (result ≡ mark_in_value v) × (result ≤ 1) }
+// The number of the parameter behind the settings, if these are sound.
+fn after_settings(settings: &[Setting], form: u8, columns: u8) -> Option<u8>
+    requires { length settings.now ≤ 8 }
+    ensures { result ≡ settings_on form columns settings.now }
 {
-    if v.mark == 0 { 0 } else { 1 }
-}
-
-// Whether settings are sound, and the number of the next parameter.
-#[derive(Clone, Copy)]
-pub struct Numbered {
-    pub ok: bool,
-    pub next: u8,
-}
-
-// The first n settings.
-fn settings_are_sound(
-    settings: [Setting; Update::SETTINGS],
-    n: usize,
-    form: u8,
-    columns: u8,
-) -> Numbered
-    requires { n ≤ 8 }
-    ensures { result ≡ settings_on form columns (take n settings) }
-{
-    let mut ok = true;
-    let mut next: u8 = 0;
-    let mut i = 0;
-    while i < n {
-        let s = settings[i];
+    let mut next = 0u8;
+    for (i, s) in settings.iter().enumerate() {
         let value = s.new_value();
-        ok = ok & (column_fits(form, columns, i, s.column) & value_fits(value, next));
-        next += marks_in(value);
-        i += 1;
+        if !(column_fits(form, columns, i, s.column) & value_fits(value, next)) {
+            return None;
+        }
+        next += u8::from(value.mark != 0);
     }
-    Numbered { ok, next }
+    Some(next)
 }
 
-// Whether no two of the first n settings set the same column.
-fn are_distinct(settings: [Setting; Update::SETTINGS], n: usize) -> bool
-    requires { n ≤ 8 }
-    ensures { result ≡ not (repeats same_column (take n settings)) }
+// Whether one of the settings sets the same column as s.
+fn is_set(s: &Setting, settings: &[Setting]) -> bool
+    ensures { result ≡ any (same_column s.now) settings.now }
 {
-    let mut i = 0;
-    while i < n {
-        let x = settings[i];
-        let mut j = i + 1;
-        while j < n {
-            let y = settings[j];
-            if x.column == y.column {
-                return false;
-            }
-            j += 1;
+    settings.iter().any(|t| s.column == t.column)
+}
+
+// Whether no two settings set the same column.
+fn are_distinct(settings: &[Setting]) -> bool
+    ensures { result ≡ not (repeats same_column settings.now) }
+{
+    let mut left = settings;
+    while let Some((s, after)) = left.split_first() {
+        if is_set(s, after) {
+            return false;
         }
-        i += 1;
+        left = after;
     }
     true
 }
 
 // Whether an update is sound, where its table has so many columns.
-pub fn update_is_sound(u: Update, columns: u8) -> bool
+fn update_is_sound(u: &Update, columns: u8) -> bool
     requires { columns ≤ 8 }
-    ensures { result ≡ sound_update_on columns u }
+    ensures { result ≡ sound_update_on columns u.now }
 {
-    let condition = u.condition;
-    if form_fits(u.form, u.count, columns, condition.count) {
-        let n = u.count as usize;
-        let settings = u.settings;
-        let s = settings_are_sound(settings, n, u.form, columns);
-        // the columns of an INSERT are their places, so they differ
-        let listed = if_so(u.form == Update::UPDATE, n);
-        return s.ok
-            & are_distinct(settings, listed)
-            & conditions::is_sound(condition, columns, s.next, u.parameters);
+    if !form_fits(u.form, u.count, columns, u.condition.count) {
+        return false;
     }
-    false
+    let settings = &whole(&u.settings)[..usize::from(u.count)];
+    let Some(next) = after_settings(settings, u.form, columns) else {
+        return false;
+    };
+    // the columns of an INSERT are their places, so they differ
+    ((u.form != Update::UPDATE) | are_distinct(settings))
+        & conditions::is_sound(&u.condition, columns, next, u.parameters)
+}
+
+// Whether an update is sound beside tables of so many columns.
+pub fn update_fits(u: &Update, widths: &[u8]) -> bool
+    requires { All (λ w. w ≤ 8) widths.now }
+    ensures { result ≡ update_at widths.now u.now }
+{
+    match width_at(widths, u.table) {
+        Some(columns) => update_is_sound(u, columns),
+        None => false,
+    }
 }

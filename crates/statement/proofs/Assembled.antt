@@ -1,39 +1,40 @@
 -- Statements put together of their parts: what the functions of the five forms make, from what those that they call make. Assumes nothing.
 use mathlib.Core.Path.{◌≡◌, refl, sym, ap, ap₂, ◌∙◌}
-use mathlib.Core.Bool.{Bool, true, false, not, ◌&&◌, ◌||◌}
+use mathlib.Core.Bool.{Bool, true, false, not, ◌&&◌, ◌||◌, cond}
 use mathlib.Core.List.{List, [], ◌∷◌, map}
-use Prim.Native.Nat.{ℕ, zero, suc, ◌+◌, ◌-◌, ◌*◌, ◌≤◌, ◌<◌, min}
+use Prim.Native.Nat.{ℕ, zero, suc, ◌+◌, ◌-◌, ◌*◌, ◌≤◌, ◌<◌}
 use native.Mathlib.Nat.{le_of_suc-le-suc, not-suc-le-zero}
 use native.Mathlib.Numerals.{add-one}
 use native.Mathlib.Omega.{arith}
-use borrow.Author.Tests.{lt-ltb, le-ltb, eq-eqb, ne_eqb}
+use borrow.Author.Tests.{ltb-true, eq-eqb, ne_eqb}
 use lib.Dec.{eqb, ltb, leb}
 use lib.ListN.{length, get_or, take, replicate, length-take, length-map}
-use lib.Seq.{take_at, get_or-take}
+use lib.Seq.{take_at}
 use Rattle.lists.specs.Lists.{repeats, from}
 use Rattle.meaning.specs.Grammar.{Given}
 use Rattle.meaning.specs.Limits.{mark_count}
-use Rattle.meaning.specs.Names.{Schema, no_schema, same_name, has, position, table_names}
+use Rattle.meaning.specs.Names.{Schema, no_schema, same_name, has, position, table_names, pair_place}
 use Rattle.meaning.specs.Cells.{areas_size}
 use Rattle.statement.specs.declared.Name.{Name}
 use Rattle.statement.specs.declared.Table.{Table}
-use Rattle.statement.specs.declared.names.Scope.{Scope}
 use Rattle.statement.specs.declared.Condition.{Condition}
 use Rattle.statement.specs.declared.Setting.{Setting}
-use Rattle.statement.specs.declared.Statement.{Statement}
+use Rattle.statement.specs.Compiled.{Compiled}
+use Rattle.statement.specs.declared.sentences.Form.{Form}
+use Rattle.statement.specs.declared.sentences.Form.TheVariants.{Select, Insert, Update, Pair}
 use Rattle.statement.specs.declared.sentences.Entry.{Entry}
 use Rattle.statement.specs.declared.assembling.Settings.{Settings}
-use Rattle.statement.specs.Places.{name_on, given_on, Column, column_on, nodes_on, bare_marks_on}
+use Rattle.statement.specs.Places.{name_on, given_on, Column, column_on, bare_marks_on}
 use Rattle.statement.specs.Sentences.{items_on, givens_on}
-use Rattle.statement.specs.Catalog.{name_of_struct, names_of, scope_names, scope_of, pair_scope, schema_of, schemas_of}
+use Rattle.statement.specs.Catalog.{name_of_struct, names_of, column_names, schema_of}
 use Rattle.statement.specs.Compiled.{padded, name_struct, no_name, no_setting, condition_struct, created, asked, changing, refused_by, settled}
-use Rattle.statement.specs.Built.{lowest_by, places_of, place_in, width_in, start_in, twice_in, short_name, short_column, rows_on, settings_on, outer_in, condition_below, places_below, Fits, listed_on, condition_on, unknown_on, table_on, select_on, insert_on, sets_on, update_on, delete_on, form_on, number_on, columns_at, pair_with, pair_on, beside_on}
+use Rattle.statement.specs.Built.{lowest_by, places_of, number_in, short_name, short_column, rows_on, settings_on, outer_in, condition_below, places_below, Fits, listed_on, condition_on, unknown_on, table_on, select_on, insert_on, sets_on, update_on, delete_on, form_as, form_on, is_pair, number_on, columns_at, pair_with, pair_on, beside_on}
 use Rattle.statement.proofs.Left.{length-items}
 use Rattle.statement.proofs.Values.{name_back}
 use Rattle.statement.proofs.Parts.{mark-one}
-use Rattle.statement.proofs.Resolving.{resolve-count}
 use Rattle.statement.proofs.Sets.{marks-count}
-use Rattle.statement.proofs.Found.{has-ltb}
+use Rattle.std.proofs.Common.{Option, Some, None}
+use Rattle.meaning.proofs.Names.{same-is}
 
 -- ---- arrays read back
 
@@ -67,6 +68,10 @@ module _ (s ls : List ℕ) (e : Entry) where
   pub sets-few : e.listed ≤ 8 → (cs : List ℕ) → (settings_on cs (givens_on s e.listed ls)).marks ≤ 8
   sets-few h cs = omega (arith, marks_few (givens_on s e.listed ls), length-items (λ a b. given_on s b) e.listed ls)
 
+  -- the settings of as many columns as the list has items
+  pub sets-listed : (cs : List ℕ) → e.listed ≤ length cs → settings_on (take e.listed cs) (givens_on s (length (take e.listed cs)) ls) ≡ settings_on (take e.listed cs) (givens_on s e.listed ls)
+  sets-listed cs h = let l : length (take e.listed cs) ≡ e.listed = omega (arith, length-take e.listed cs) in ap (λ (k : ℕ). settings_on (take e.listed cs) (givens_on s k ls)) l
+
   module _ (columns : List (List ℕ)) (names : List Name) (en : names ≡ padded 8 no_name (map name_struct (listed_on false s ls e))) where
     pub names-are : names_of names e.listed ≡ listed_on false s ls e
     names-are = ap (λ (x : List Name). names_of x e.listed) en ∙ names-of (listed_on false s ls e) e.listed (listed-count false s ls e)
@@ -74,50 +79,14 @@ module _ (s ls : List ℕ) (e : Entry) where
     pub places-are : (at : List ℕ) → at ≡ padded 8 0 (places_of columns (names_of names e.listed)) → at ≡ padded 8 0 (places_of columns (listed_on false s ls e))
     places-are at ea = ea ∙ ap (λ (x : List (List ℕ)). padded 8 0 (places_of columns x)) names-are
 
--- the number of comparisons of a condition that was noted
-pub condition-few : (d : Bool) (place : Column d → ℕ) (s ps : List ℕ) (e : Entry) (m : ℕ) → Fits s ps e → (c : Condition) → c ≡ condition_on d place s ps e m → c.count ≤ 8
-condition-few d place s ps e m f c q = omega (arith, ap (λ (x : Condition). x.count) q, resolve-count place (short_column d) m (nodes_on d s e.c.nodes ps), f.comparisons d)
-
 -- and how many marks its comparisons have
 pub marks-few-noted : (s ps : List ℕ) (e : Entry) → Fits s ps e → length (bare_marks_on e.c.nodes ps) ≤ 8
 marks-few-noted s ps e f = omega (arith, marks-count false s e.c.nodes ps, f.comparisons false)
 
--- ---- of one table
-
-module _ (scope : Scope) (h : scope.dotted ≡ false) where
-  pub one_width : width_in scope.dotted scope ≡ length (scope_names scope)
-  one_width = ap (λ (b : Bool). width_in b scope) h
-
-  pub one-condition : (s ps : List ℕ) (e : Entry) (m : ℕ) → condition_on scope.dotted (place_in scope.dotted scope) s ps e m ≡ condition_on false (position (scope_names scope)) s ps e m
-  one-condition s ps e m = ap (λ (b : Bool). condition_on b (place_in b scope) s ps e m) h
-
-  pub one-select : (s ls ps : List ℕ) (e : Entry) (i queries : ℕ)
-      → select_on scope.dotted (place_in scope.dotted scope) (width_in scope.dotted scope) s ls ps e i 0 (start_in scope.dotted scope) (twice_in scope.dotted scope) queries
-      ≡ select_on false (position (scope_names scope)) (length (scope_names scope)) s ls ps e i 0 0 false queries
-  one-select s ls ps e i queries = ap (λ (b : Bool). select_on b (place_in b scope) (width_in b scope) s ls ps e i 0 (start_in b scope) (twice_in b scope) queries) h
-
--- ---- refusals
-
-pub settled-none : (number : ℕ) (done : Statement) → number ≡ 0 → done ≡ settled number done
-settled-none number done e = ap (λ (n : ℕ). settled n done) (sym e)
-
-pub settled-some : (number : ℕ) (done : Statement) → (number ≡ 0 → ⊥) → refused_by number ≡ settled number done
-settled-some zero done h = absurd (h refl)
-settled-some (suc n) done h = refl
-
-pub taken_made : (ts : List Schema) (name : List ℕ) (columns : List (List ℕ)) (i n : ℕ) (twice : Bool) → i ≡ position (table_names ts) name → n ≡ length ts → twice ≡ repeats same_name columns
-    → (ltb i n || twice) ≡ (has (table_names ts) name || repeats same_name columns)
-taken_made ts name columns i n twice ei en et =
-    ap₂ ◌||◌ (ap₂ ltb ei (en ∙ sym (length-map ts (λ (t : Schema). t.name))) ∙ has-ltb (table_names ts) name) et
-
-pub full-made : (ts : List Schema) (cells taken left n size : ℕ) → taken ≡ areas_size ts → left ≡ cells - taken → n ≡ length ts
-    → (leb 8 n || ltb left size) ≡ (leb 8 (length ts) || ltb (cells - areas_size ts) size)
-full-made ts cells taken left n size et el en = ap₂ (λ (k m : ℕ). leb 8 k || ltb m size) en (el ∙ ap (λ (k : ℕ). cells - k) et)
-
 -- ---- the forms
 
 module _ (d : Bool) (place : Column d → ℕ) (width : ℕ) (s ls ps : List ℕ) (e : Entry) (i second start : ℕ) (twice : Bool) where
-  pub select-made : (queries : ℕ) (at : List ℕ) (c : Condition) (w : ℕ) (t : Bool) (k o number : ℕ) (r : Statement)
+  pub select-made : (queries : ℕ) (at : List ℕ) (c : Condition) (w : ℕ) (t : Bool) (k o number : ℕ) (r : Compiled)
       → at ≡ padded 8 0 (map place (listed_on d s ls e)) → c ≡ condition_on d place s ps e 0 → w ≡ width → t ≡ twice → k ≡ start → o ≡ outer_in d e.c.nodes ps
       → number ≡ lowest_by (not (places_below w (take e.listed at) && condition_below w c)) false false t (leb 16 queries)
       → r ≡ settled number (asked (record { table = i; selected = at; count = e.listed; parameters = e.c.marks; second = second; start = k; outer = o; condition = c }))
@@ -131,7 +100,7 @@ module _ (d : Bool) (place : Column d → ℕ) (width : ℕ) (s ls ps : List ℕ
       (asked (record { table = i; selected = ea j; count = e.listed; parameters = e.c.marks; second = second; start = ek j; outer = eo j; condition = ec j })))
 
 module _ (s ls ps : List ℕ) (e : Entry) (columns : List (List ℕ)) (i : ℕ) where
-  pub update-made : (updates : ℕ) (names : List Name) (at : List ℕ) (sets : Settings) (settings : List Setting) (c : Condition) (w : ℕ) (twice : Bool) (number : ℕ) (r : Statement)
+  pub update-made : (updates : ℕ) (names : List Name) (at : List ℕ) (sets : Settings) (settings : List Setting) (c : Condition) (w : ℕ) (twice : Bool) (number : ℕ) (r : Compiled)
       → names ≡ padded 8 no_name (map name_struct (listed_on false s ls e)) → at ≡ padded 8 0 (places_of columns (names_of names e.listed))
       → sets ≡ settings_on (take e.listed at) (givens_on s e.listed ls) → settings ≡ sets.all
       → c ≡ condition_on false (position columns) s ps e sets.marks → w ≡ length columns → twice ≡ repeats same_name (names_of names e.listed)
@@ -151,7 +120,7 @@ module _ (s ls ps : List ℕ) (e : Entry) (columns : List (List ℕ)) (i : ℕ) 
       (changing (record { form = 1; table = i; settings = q j; count = e.listed; parameters = e.c.marks; condition = d j })))
 
 module _ (s ls : List ℕ) (e : Entry) (columns : List (List ℕ)) (i : ℕ) where
-  pub insert-made : (updates : ℕ) (sets : Settings) (settings : List Setting) (c : Condition) (w number : ℕ) (r : Statement)
+  pub insert-made : (updates : ℕ) (sets : Settings) (settings : List Setting) (c : Condition) (w number : ℕ) (r : Compiled)
       → sets ≡ settings_on (take e.listed (from 0 8)) (givens_on s e.listed ls) → settings ≡ sets.all → c ≡ condition_struct [] → w ≡ length columns
       → number ≡ lowest_by false false (not (eqb e.listed w)) false (leb 16 updates)
       → r ≡ settled number (changing (record { form = 0; table = i; settings = settings; count = e.listed; parameters = e.c.marks; condition = c }))
@@ -164,7 +133,7 @@ module _ (s ls : List ℕ) (e : Entry) (columns : List (List ℕ)) (i : ℕ) whe
       er ∙ λ j. settled (m j) (changing (record { form = 0; table = i; settings = q j; count = e.listed; parameters = e.c.marks; condition = ec j }))
 
 module _ (s ps : List ℕ) (e : Entry) (columns : List (List ℕ)) (i : ℕ) where
-  pub delete-made : (updates : ℕ) (c : Condition) (settings : List Setting) (w number : ℕ) (r : Statement)
+  pub delete-made : (updates : ℕ) (c : Condition) (settings : List Setting) (w number : ℕ) (r : Compiled)
       → c ≡ condition_on false (position columns) s ps e 0 → settings ≡ replicate 8 no_setting → w ≡ length columns
       → number ≡ lowest_by (not (places_below w [] && condition_below w c)) false false false (leb 16 updates)
       → r ≡ settled number (changing (record { form = 2; table = i; settings = settings; count = 0; parameters = e.c.marks; condition = c }))
@@ -176,7 +145,7 @@ module _ (s ps : List ℕ) (e : Entry) (columns : List (List ℕ)) (i : ℕ) whe
       er ∙ λ j. settled (m j) (changing (record { form = 2; table = i; settings = es j; count = 0; parameters = e.c.marks; condition = ec j }))
 
 module _ (s ls : List ℕ) (e : Entry) (ts : List Schema) (cells : ℕ) where
-  pub table-made : (name : Name) (columns : List Name) (capacity : ℕ) (taken full : Bool) (size number : ℕ) (r : Statement)
+  pub table-made : (name : Name) (columns : List Name) (capacity : ℕ) (taken full : Bool) (size number : ℕ) (r : Compiled)
       → name ≡ name_struct (short_name (name_on s e.table)) → columns ≡ padded 8 no_name (map name_struct (listed_on false s ls e)) → capacity ≡ rows_on s e.rows
       → taken ≡ (has (table_names ts) (name_of_struct name) || repeats same_name (names_of columns e.listed))
       → size ≡ e.listed * capacity → full ≡ (leb 8 (length ts) || ltb (cells - areas_size ts) size)
@@ -197,17 +166,27 @@ module _ (s ls : List ℕ) (e : Entry) (ts : List Schema) (cells : ℕ) where
 -- ---- by the form
 
 module _ (s ls ps : List ℕ) (e : Entry) (columns : List (List ℕ)) (i queries updates : ℕ) where
-  pub form-select : (r : Statement) → r ≡ select_on false (position columns) (length columns) s ls ps e i 0 0 false queries → e.form ≡ 1 → r ≡ form_on s ls ps e columns i queries updates
-  form-select r h k = rw (eq-eqb e.form 1 k) h
+  pub form-select : (r : Compiled) → r ≡ select_on false (position columns) (length columns) s ls ps e i 0 0 false queries → e.form ≡ Select → r ≡ form_on s ls ps e columns i queries updates
+  form-select r h k = h ∙ sym (ap (λ f. form_as f s ls ps e columns i queries updates) k)
 
-  pub form-insert : (r : Statement) → r ≡ insert_on s ls e columns i updates → (e.form ≡ 1 → ⊥) → e.form ≡ 2 → r ≡ form_on s ls ps e columns i queries updates
-  form-insert r h a k = rw (ne_eqb e.form 1 a, eq-eqb e.form 2 k) h
+  pub form-insert : (r : Compiled) → r ≡ insert_on s ls e columns i updates → e.form ≡ Insert → r ≡ form_on s ls ps e columns i queries updates
+  form-insert r h k = h ∙ sym (ap (λ f. form_as f s ls ps e columns i queries updates) k)
 
-  pub form-update : (r : Statement) → r ≡ update_on s ls ps e columns i updates → (e.form ≡ 1 → ⊥) → (e.form ≡ 2 → ⊥) → e.form ≡ 3 → r ≡ form_on s ls ps e columns i queries updates
-  form-update r h a b k = rw (ne_eqb e.form 1 a, ne_eqb e.form 2 b, eq-eqb e.form 3 k) h
+  pub form-update : (r : Compiled) → r ≡ update_on s ls ps e columns i updates → e.form ≡ Update → r ≡ form_on s ls ps e columns i queries updates
+  form-update r h k = h ∙ sym (ap (λ f. form_as f s ls ps e columns i queries updates) k)
 
-  pub form-delete : (r : Statement) → r ≡ delete_on s ps e columns i updates → (e.form ≡ 1 → ⊥) → (e.form ≡ 2 → ⊥) → (e.form ≡ 3 → ⊥) → r ≡ form_on s ls ps e columns i queries updates
-  form-delete r h a b k = rw (ne_eqb e.form 1 a, ne_eqb e.form 2 b, ne_eqb e.form 3 k) h
+  pub form-delete : (r : Compiled) → r ≡ delete_on s ps e columns i updates → (e.form ≡ Select → ⊥) → (e.form ≡ Insert → ⊥) → (e.form ≡ Update → ⊥) → r ≡ form_on s ls ps e columns i queries updates
+  form-delete r h a b c = h ∙ go e.form a b c
+    where
+      go : (f : Form) → (f ≡ Select → ⊥) → (f ≡ Insert → ⊥) → (f ≡ Update → ⊥) → delete_on s ps e columns i updates ≡ form_as f s ls ps e columns i queries updates
+      go Select a b c = absurd (a refl)
+      go Insert a b c = absurd (b refl)
+      go Update a b c = absurd (c refl)
+      go _ a b c = refl
+
+not_pair : (f : Form) → (f ≡ Pair → ⊥) → is_pair f ≡ false
+not_pair Pair h = absurd (h refl)
+not_pair _ h = refl
 
 -- ---- the table of a sentence
 
@@ -216,79 +195,110 @@ get_or-inside f [] i d x h = absurd (not-suc-le-zero h)
 get_or-inside f (a ∷ l) zero d x h = refl
 get_or-inside f (a ∷ l) (suc i) d x h = get_or-inside f l i d x (le_of_suc-le-suc h)
 
-schema-at : (tables : List Table) (used i : ℕ) (d : Table) → i < length (schemas_of tables used) → get_or (schemas_of tables used) i no_schema ≡ schema_of (get_or tables i d)
-schema-at tables used i d h =
-    let l : length (schemas_of tables used) ≡ min used (length tables) = length-map (take used tables) schema_of ∙ length-take used tables in
-    get_or-inside schema_of (take used tables) i d no_schema (omega (arith, length-map (take used tables) schema_of))
-    ∙ ap schema_of (get_or-take used tables i d (omega arith))
+-- a name stands at its place
+at-position : (ns : List (List ℕ)) (n : List ℕ) → position ns n < length ns → get_or ns (position ns n) [] ≡ n
+at-position [] n h = absurd (not-suc-le-zero h)
+at-position (m ∷ ns) n h = go (same_name n m) refl (at-position ns n) h
+  where
+    go : (b : Bool) → same_name n m ≡ b → (position ns n < length ns → get_or ns (position ns n) [] ≡ n) → cond b 0 (suc (position ns n)) < suc (length ns)
+        → get_or (m ∷ ns) (cond b 0 (suc (position ns n))) [] ≡ n
+    go true e f k = sym (same-is n m e)
+    go false e f k = f (le_of_suc-le-suc k)
 
--- the table that the text names at p is of number i, of n tables
-module _ (s : List ℕ) (p : ℕ) (tables : List Table) (used : ℕ) (name : Name) (i n : ℕ)
-    (en : name ≡ name_struct (short_name (name_on s p))) (ei : i ≡ position (table_names (schemas_of tables used)) (name_of_struct name)) (el : n ≡ length (schemas_of tables used)) where
+-- what a lookup says: the number that was found, or none
+number-some : (b : Bool) (j i : ℕ) → cond b (Some j) None ≡ Some i → (b ≡ true) × (i ≡ j)
+number-some true j i e = (refl, cc)
+number-some false j i e = cc
+
+number-none : (b : Bool) (j : ℕ) → cond b (Some j) None ≡ None → b ≡ false
+number-none true j e = cc
+number-none false j e = refl
+
+-- what is read past the end of the tables
+abbrev pub blank : Table
+blank = record { name = record { bytes = []; len = 0 }; columns = []; count = 0; capacity = 0; rows = 0; oldest = 0; ring = false }
+
+-- the tables, and the one that the text names at p
+module _ (s : List ℕ) (p : ℕ) (tables : List Table) (name : Name) (o : Option ℕ)
+    (en : name ≡ name_struct (short_name (name_on s p))) (eo : o ≡ number_in (map schema_of tables) (name_of_struct name)) where
+  abbrev S : List Schema
+  S = map schema_of tables
+
+  abbrev j : ℕ
+  j = number_on s p S
+
   name_is : name_of_struct name ≡ short_name (name_on s p)
   name_is = ap name_of_struct en ∙ name_back (short_name (name_on s p))
 
-  number_is : i ≡ number_on s p (schemas_of tables used)
-  number_is = ei ∙ ap (position (table_names (schemas_of tables used))) name_is
+  number_is : o ≡ cond (ltb j (length S)) (Some j) None
+  number_is = eo ∙ ap (number_in S) name_is
 
-  number_past : n ≤ i → ltb (number_on s p (schemas_of tables used)) (length (schemas_of tables used)) ≡ false
-  number_past h = le-ltb (number_on s p (schemas_of tables used)) (length (schemas_of tables used)) (omega (arith, number_is))
+  pub none-there : o ≡ None → ltb j (length S) ≡ false
+  none-there e = number-none (ltb j (length S)) j (sym number_is ∙ e)
 
-  number-there : i < n → ltb (number_on s p (schemas_of tables used)) (length (schemas_of tables used)) ≡ true
-  number-there h = lt-ltb (number_on s p (schemas_of tables used)) (length (schemas_of tables used)) (omega (arith, number_is))
+  module _ (i : ℕ) (e : o ≡ Some i) where
+    pub one-there : ltb j (length S) ≡ true
+    one-there = (number-some (ltb j (length S)) j i (sym number_is ∙ e)).0
 
-  columns_are : (d : Table) → i < n → names_of (get_or tables i d).columns (get_or tables i d).count ≡ columns_at (schemas_of tables used) (number_on s p (schemas_of tables used))
-  columns_are d h =
-      let j : ℕ = number_on s p (schemas_of tables used) in
-      let k : j < length (schemas_of tables used) = omega (arith, number_is) in
-      ap (λ (m : ℕ). (schema_of (get_or tables m d)).columns) number_is ∙ ap (λ (t : Schema). t.columns) (sym (schema-at tables used j d k))
+    pub one-number : i ≡ j
+    one-number = (number-some (ltb j (length S)) j i (sym number_is ∙ e)).1
 
-module _ (s ls ps : List ℕ) (e : Entry) (tables : List Table) (used queries updates : ℕ) (name : Name) (i n : ℕ)
-    (en : name ≡ name_struct (short_name (name_on s e.table))) (ei : i ≡ position (table_names (schemas_of tables used)) (name_of_struct name)) (el : n ≡ length (schemas_of tables used)) where
-  abbrev S : List Schema
-  S = schemas_of tables used
+    inside : j < length S
+    inside = ltb-true j (length S) one-there
 
-  abbrev j : ℕ
-  j = number_on s e.table S
+    pub one-inside : i < length tables
+    one-inside = omega (arith, inside, one-number, length-map tables schema_of)
 
-  pub beside_none : (r : Statement) → n ≤ i → r ≡ refused_by 6 → r ≡ beside_on s ls ps e S queries updates
-  beside_none r h q = rw (number_past s e.table tables used name i n en ei el h) q
+    pub one-columns : (k : ℕ) (d : Table) → k ≡ i → column_names (get_or tables k d) ≡ columns_at S j
+    one-columns k d q =
+        ap (λ (n : ℕ). column_names (get_or tables n d)) q
+        ∙ ap (λ (t : Schema). t.columns) (sym (get_or-inside schema_of tables i d no_schema one-inside) ∙ ap (λ (n : ℕ). get_or S n no_schema) one-number)
 
-  pub beside-some : (r : Statement) (d : Table) (scope : Scope) → i < n → (e.form ≡ 5 → ⊥) → scope ≡ scope_of (get_or tables i d) → r ≡ form_on s ls ps e (scope_names scope) i queries updates
-      → r ≡ beside_on s ls ps e S queries updates
-  beside-some r d scope h x f q =
-      let c : scope_names scope ≡ columns_at S j = ap scope_names f ∙ columns_are s e.table tables used name i n en ei el d h in
-      rw (number-there s e.table tables used name i n en ei el h, ne_eqb e.form 5 x)
-      (q ∙ ap₂ (λ (y : List (List ℕ)) (m : ℕ). form_on s ls ps e y m queries updates) c (number_is s e.table tables used name i n en ei el))
+    named : (d : Table) → name_of_struct (get_or tables i d).name ≡ short_name (name_on s p)
+    named d =
+        let l : length (table_names S) ≡ length S = length-map S (λ (t : Schema). t.name) in
+        let q : get_or (table_names S) i [] ≡ name_of_struct (get_or tables i d).name =
+        get_or-inside (λ (t : Schema). t.name) S i no_schema [] (omega (arith, inside, one-number)) ∙ ap (λ (t : Schema). t.name) (get_or-inside schema_of tables i d no_schema one-inside) in
+        sym q ∙ ap (λ (k : ℕ). get_or (table_names S) k []) one-number ∙ at-position (table_names S) (short_name (name_on s p)) (omega (arith, inside, l))
 
-  pub beside-pair : (r : Statement) (d : Table) → i < n → e.form ≡ 5
-      → r ≡ pair_on (name_of_struct name) (names_of (get_or tables i d).columns (get_or tables i d).count) s ls ps e S i queries
-      → r ≡ beside_on s ls ps e S queries updates
-  beside-pair r d h x q =
-      let a : name_of_struct name ≡ short_name (name_on s e.table) = name_is s e.table tables used name i n en ei el in
-      let c : names_of (get_or tables i d).columns (get_or tables i d).count ≡ columns_at S j = columns_are s e.table tables used name i n en ei el d h in
-      let k : i ≡ j = number_is s e.table tables used name i n en ei el in
-      rw (number-there s e.table tables used name i n en ei el h, eq-eqb e.form 5 x) (q ∙ (λ y. pair_on (a y) (c y) s ls ps e S (k y) queries))
+    pub one-name : (k : ℕ) (d : Table) → k ≡ i → name_of_struct (get_or tables k d).name ≡ short_name (name_on s p)
+    one-name k d q = ap (λ (n : ℕ). name_of_struct (get_or tables n d).name) q ∙ named d
+
+module _ (s ls ps : List ℕ) (e : Entry) (ts : List Schema) (queries updates : ℕ) where
+  abbrev first : ℕ
+  first = number_on s e.table ts
+
+  pub beside-none : (r : Compiled) → ltb first (length ts) ≡ false → r ≡ refused_by 6 → r ≡ beside_on s ls ps e ts queries updates
+  beside-none r h q = rw h q
+
+  pub beside-some : (r : Compiled) (t : Table) (i : ℕ) → r ≡ form_on s ls ps e (column_names t) i queries updates → (e.form ≡ Pair → ⊥)
+      → ltb first (length ts) ≡ true → i ≡ first → column_names t ≡ columns_at ts first
+      → r ≡ beside_on s ls ps e ts queries updates
+  beside-some r t i q x h k c = rw (h, not_pair e.form x) (q ∙ ap₂ (λ (y : List (List ℕ)) (m : ℕ). form_on s ls ps e y m queries updates) c k)
+
+  pub beside-pair : (r : Compiled) (t : Table) (i : ℕ) → r ≡ pair_on (name_of_struct t.name) (column_names t) s ls ps e ts i queries → e.form ≡ Pair
+      → ltb first (length ts) ≡ true → i ≡ first → column_names t ≡ columns_at ts first → name_of_struct t.name ≡ short_name (name_on s e.table)
+      → r ≡ beside_on s ls ps e ts queries updates
+  beside-pair r t i q x h k c n = rw (h, ap is_pair x) (q ∙ (λ y. pair_on (n y) (c y) s ls ps e ts (k y) queries))
 
 -- the second table
-module _ (s ls ps : List ℕ) (e : Entry) (tables : List Table) (used queries : ℕ) (first : Name) (t : Table) (i : ℕ) (name : Name) (j n : ℕ)
-    (en : name ≡ name_struct (short_name (name_on s e.second))) (ej : j ≡ position (table_names (schemas_of tables used)) (name_of_struct name)) (el : n ≡ length (schemas_of tables used)) where
-  abbrev goal : Statement
-  goal = pair_on (name_of_struct first) (names_of t.columns t.count) s ls ps e (schemas_of tables used) i queries
+module _ (s ls ps : List ℕ) (e : Entry) (ts : List Schema) (queries : ℕ) (t : Table) (i : ℕ) where
+  abbrev second : ℕ
+  second = number_on s e.second ts
 
-  pub pair-none : (r : Statement) → n ≤ j → r ≡ refused_by 6 → r ≡ goal
-  pair-none r h q = rw (number_past s e.second tables used name j n en ej el h) q
+  abbrev goal : Compiled
+  goal = pair_on (name_of_struct t.name) (column_names t) s ls ps e ts i queries
 
-  pub pair-some : (r : Statement) (d : Table) (scope : Scope) (k : ℕ) → j < n → scope ≡ pair_scope first t name (get_or tables j d) → k ≡ j + 1
-      → r ≡ select_on scope.dotted (place_in scope.dotted scope) (width_in scope.dotted scope) s ls ps e i k (start_in scope.dotted scope) (twice_in scope.dotted scope) queries
+  pub pair-none : (r : Compiled) → ltb second (length ts) ≡ false → r ≡ refused_by 6 → r ≡ goal
+  pair-none r h q = rw h q
+
+  pub pair-some : (r : Compiled) (u : Table) (j k : ℕ)
+      → r ≡ select_on true (pair_place (name_of_struct t.name) (column_names t) (name_of_struct u.name) (column_names u)) (length (column_names t) + length (column_names u)) s ls ps e i k (length (column_names t)) (same_name (name_of_struct t.name) (name_of_struct u.name)) queries
+      → k ≡ j + 1 → ltb second (length ts) ≡ true → j ≡ second → column_names u ≡ columns_at ts second → name_of_struct u.name ≡ short_name (name_on s e.second)
       → r ≡ goal
-  pair-some r d scope k h f g q =
-      let a : name_of_struct name ≡ short_name (name_on s e.second) = name_is s e.second tables used name j n en ej el in
-      let c : names_of (get_or tables j d).columns (get_or tables j d).count ≡ columns_at (schemas_of tables used) (number_on s e.second (schemas_of tables used)) =
-      columns_are s e.second tables used name j n en ej el d h in
-      let m : j ≡ number_on s e.second (schemas_of tables used) = number_is s e.second tables used name j n en ej el in
+  pair-some r u j k q g h m c n =
       let z : k ≡ suc j = g ∙ add-one j in
-      rw (number-there s e.second tables used name j n en ej el h)
+      rw h
       (q
-      ∙ ap₂ (λ (x : Scope) (y : ℕ). select_on x.dotted (place_in x.dotted x) (width_in x.dotted x) s ls ps e i y (start_in x.dotted x) (twice_in x.dotted x) queries) f z
-      ∙ (λ y. pair_with (name_of_struct first) (names_of t.columns t.count) (a y) (c y) s ls ps e i (m y) queries))
+      ∙ ap (λ (y : ℕ). select_on true (pair_place (name_of_struct t.name) (column_names t) (name_of_struct u.name) (column_names u)) (length (column_names t) + length (column_names u)) s ls ps e i y (length (column_names t)) (same_name (name_of_struct t.name) (name_of_struct u.name)) queries) z
+      ∙ (λ y. pair_with (name_of_struct t.name) (column_names t) (n y) (c y) s ls ps e i (m y) queries))

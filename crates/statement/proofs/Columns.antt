@@ -2,6 +2,7 @@
 use mathlib.Core.Path.{◌≡◌, refl, sym, ap, subst, ◌∙◌}
 use mathlib.Core.Bool.{Bool, true, false, ◌||◌}
 use mathlib.Core.Option.{Option, none, some}
+use Rattle.std.specs.Prelude.{Option as Maybe, Some, None}
 use mathlib.Core.List.{List, [], ◌∷◌}
 use Prim.Native.Nat.{ℕ, ◌-◌, ◌≤◌, ◌<◌}
 use native.Mathlib.Nat.{add-zero}
@@ -16,6 +17,8 @@ use Rattle.meaning.specs.Limits.{most_name}
 use Rattle.meaning.proofs.Readers.{a_token-some, a_token-none, passing-stops, expect-here, either_first, either_second, then_some, then-none}
 use Rattle.meaning.proofs.Stream.{tokens_none, tokens-some}
 use Rattle.token.specs.declared.Token.{Token}
+use Rattle.token.specs.declared.Kind.{Kind}
+use Rattle.token.specs.declared.Kind.TheVariants.{Name as Named, Dot}
 use Rattle.token.specs.Tokens.{kind_of, token_at}
 use Rattle.token.proofs.Laws.{Reads, token-again}
 use Rattle.token.proofs.TokenKinds.{kind-name}
@@ -23,7 +26,7 @@ use Rattle.statement.specs.declared.conditions.Cursor.{Cursor}
 use Rattle.statement.specs.declared.conditions.Side.{Side}
 use Rattle.statement.specs.declared.sentences.Placed.{Placed}
 use Rattle.statement.specs.Places.{first, token_on, or_empty, name_on, given_on, behind_dot, column_on, or_given}
-use Rattle.statement.specs.Reading.{token_past, past, is_operand, marks_at, a_column, Stands, IsDotted, IsOperand, Sides}
+use Rattle.statement.specs.Reading.{token_past, past, is_operand, is_name, marks_at, a_column, Stands, IsDotted, IsOperand, Sides}
 use Rattle.statement.specs.Sentences.{Columns}
 use Rattle.statement.proofs.Operands.{term_of, Single, term-reader, no-term, term-none, is-term}
 use Rattle.statement.proofs.Steps.{Look, ended, seen, look, stands-there, name_length, goes, stops}
@@ -32,6 +35,10 @@ use Rattle.statement.proofs.SentenceReaders.{failed-before, finds-none, finds}
 use Rattle.statement.proofs.SentenceTokens.{no_name_lem, token-none, token-found}
 
 -- ---- a name
+
+pub name-is : (k : Kind) → is_name k ≡ true → k ≡ Named
+name-is Named e = refl
+name-is _ e = cc
 
 -- the name n stands first, as the token u
 pub record NameHere (s : List ℕ) (at : ℕ) (u : Token) (n : Name) : Type 0 where
@@ -60,18 +67,18 @@ there-too s at u v = go (first_token (drop at s)) refl
     go (some x) e = same_head (sym (tokens-some (drop at s) x.0 x.1 e) ∙ v.left)
 
 module _ (s : List ℕ) (at : ℕ) (u : Token) (e : u ≡ token_at s at) where
-  pub name-not : (u.kind ≡ 2 → ⊥) → a_name (tokens (drop at s)) ≡ none
+  pub name-not : (u.kind ≡ Named → ⊥) → a_name (tokens (drop at s)) ≡ none
   name-not h = token-none name_of s at u (look s at u e) (λ t q. no_name_lem t (λ z. h (sym q ∙ z)))
 
-  long-is : (n : Name) → u.kind ≡ 2 → u.next - u.start ≡ length n → past u ≡ ltb most_name (length n)
+  long-is : (n : Name) → u.kind ≡ Named → u.next - u.start ≡ length n → past u ≡ ltb most_name (length n)
   unfolding token_past
   long-is n h l = rw (h, l)
 
-  pub name-at : u.kind ≡ 2 → (n : Name) × NameHere s at u n
+  pub name-at : u.kind ≡ Named → (n : Name) × NameHere s at u n
   name-at h = go (look s at u e)
     where
       go : Look s at u → (n : Name) × NameHere s at u n
-      go (ended z q) = absurd (omega arith)
+      go (ended z q) = absurd (cc)
       go (seen v) =
           let i = kind-name v.token (v.kind ∙ h) in
           let n = i.0 in (
@@ -91,27 +98,26 @@ module _ (s : List ℕ) (at : ℕ) (u : Token) (e : u ≡ token_at s at) where
 -- ---- a dotted column
 
 module _ (s : List ℕ) (at : ℕ) (u : Token) (e : u ≡ token_at s at) where
-  module _ (r : Side) (f : r.ok ≡ false) where
-    misses : a_dotted (tokens (drop at s)) ≡ none → Sides s at r (IsDotted s r) (a_dotted (tokens (drop at s)))
-    misses q = subst (Sides s at r (IsDotted s r)) (sym q) f
+  misses : a_dotted (tokens (drop at s)) ≡ none → Sides s at None (IsDotted s) (a_dotted (tokens (drop at s)))
+  misses q = subst (Sides s at None (IsDotted s)) (sym q) tt
 
-    pub no_table_lem : (u.kind ≡ 2 → ⊥) → Sides s at r (IsDotted s r) (a_dotted (tokens (drop at s)))
-    no_table_lem h = misses (then-none _ (name-not s at u e h))
+  pub no_table_lem : (u.kind ≡ Named → ⊥) → Sides s at None (IsDotted s) (a_dotted (tokens (drop at s)))
+  no_table_lem h = misses (then-none _ (name-not s at u e h))
 
-    module _ (h₁ : u.kind ≡ 2) (v : Token) (e₂ : v ≡ token_at s u.next) where
-      pub no-dot : (v.kind ≡ 29 → ⊥) → Sides s at r (IsDotted s r) (a_dotted (tokens (drop at s)))
-      no-dot h =
+  module _ (h₁ : u.kind ≡ Named) (v : Token) (e₂ : v ≡ token_at s u.next) where
+    pub no-dot : (v.kind ≡ Dot → ⊥) → Sides s at None (IsDotted s) (a_dotted (tokens (drop at s)))
+    no-dot h =
+        let n = name-at s at u e h₁ in
+        misses (then_some _ n.1.reads ∙ then-none _ (passing-stops dot (done tt) fails (tokens (drop u.next s)) (stops s u.next v e₂ dot h)))
+
+    module _ (h₂ : v.kind ≡ Dot) (w : Token) (e₃ : w ≡ token_at s v.next) where
+      pub no_column : (w.kind ≡ Named → ⊥) → Sides s at None (IsDotted s) (a_dotted (tokens (drop at s)))
+      no_column h =
           let n = name-at s at u e h₁ in
-          misses (then_some _ n.1.reads ∙ then-none _ (passing-stops dot (done tt) fails (tokens (drop u.next s)) (stops s u.next v e₂ dot h)))
+          let g = goes s u.next v e₂ dot refl h₂ in
+          misses (then_some _ n.1.reads ∙ then_some _ (ap (expect dot) g.after ∙ expect-here dot (tokens (drop v.next s))) ∙ then-none _ (name-not s v.next w e₃ h))
 
-      module _ (h₂ : v.kind ≡ 29) (w : Token) (e₃ : w ≡ token_at s v.next) where
-        pub no_column : (w.kind ≡ 2 → ⊥) → Sides s at r (IsDotted s r) (a_dotted (tokens (drop at s)))
-        no_column h =
-            let n = name-at s at u e h₁ in
-            let g = goes s u.next v e₂ dot refl h₂ in
-            misses (then_some _ n.1.reads ∙ then_some _ (ap (expect dot) g.after ∙ expect-here dot (tokens (drop v.next s))) ∙ then-none _ (name-not s v.next w e₃ h))
-
-  module _ (h₁ : u.kind ≡ 2) (v : Token) (e₂ : v ≡ token_at s u.next) (h₂ : v.kind ≡ 29) (w : Token) (e₃ : w ≡ token_at s v.next) (h₃ : w.kind ≡ 2) where
+  module _ (h₁ : u.kind ≡ Named) (v : Token) (e₂ : v ≡ token_at s u.next) (h₂ : v.kind ≡ Dot) (w : Token) (e₃ : w ≡ token_at s v.next) (h₃ : w.kind ≡ Named) where
     -- reading on from the first name's place leads behind the dot
     dot-there : behind_dot s u.start ≡ v.next
     dot-there =
@@ -119,16 +125,16 @@ module _ (s : List ℕ) (at : ℕ) (u : Token) (e : u ≡ token_at s at) where
         ap (λ (x : Token). (token_at s x.next).next) q ∙ ap (λ (x : Token). x.next) (sym e₂)
 
     pub dotted-found : (p q : Bool) → p ≡ past u → q ≡ past w
-        → Sides s at (record { ok = true; over = p || q; marks = 0; start = u.start; next = w.next }) (IsDotted s (record { ok = true; over = p || q; marks = 0; start = u.start; next = w.next })) (a_dotted (tokens (drop at s)))
+        → Sides s at (Some (record { over = p || q; marks = 0; start = u.start; next = w.next })) (IsDotted s) (a_dotted (tokens (drop at s)))
     dotted-found p q ep eq =
         let n = name-at s at u e h₁ in
         let g = goes s u.next v e₂ dot refl h₂ in
         let m = name-at s v.next w e₃ h₃ in
         let a = n.1 in
         let b = m.1 in
-        subst (Sides s at r (IsDotted s r))
+        subst (Sides s at (Some r) (IsDotted s))
         (sym (then_some _ a.reads ∙ then_some _ (ap (expect dot) g.after ∙ expect-here dot (tokens (drop v.next s))) ∙ then_some _ b.reads)) (
-          record { ok = refl; on = omega (arith, a.on, g.on, b.on); within = b.within; begun = omega (arith, a.begun, g.on, b.on); left = refl },
+          record { on = omega (arith, a.on, g.on, b.on); within = b.within; begun = omega (arith, a.begun, g.on, b.on); left = refl },
           record {
             here = λ i. (ap or_empty a.here i, (ap (name_on s) dot-there ∙ ap or_empty b.there) i);
             named = a.here;
@@ -138,7 +144,7 @@ module _ (s : List ℕ) (at : ℕ) (u : Token) (e : u ≡ token_at s at) where
         )
       where
         r : Side
-        r = record { ok = true; over = p || q; marks = 0; start = u.start; next = w.next }
+        r = record { over = p || q; marks = 0; start = u.start; next = w.next }
 
 -- ---- an operand
 
@@ -150,52 +156,58 @@ values = a_given >>= λ v. done (given v)
 
 module _ (s : List ℕ) (at : ℕ) (u : Token) (e : u ≡ token_at s at) where
   -- a name is no constant and no question mark
-  pub dotted-operand : u.kind ≡ 2 → (r : Side) → Sides s at r (IsDotted s r) (a_dotted (tokens (drop at s))) → Sides s at r (IsOperand true s r) (a_term a_dotted (tokens (drop at s)))
-  dotted-operand h r k = go (a_dotted (tokens (drop at s))) refl k
+  pub dotted-operand : u.kind ≡ Named → (r : Maybe Side) → Sides s at r (IsDotted s) (a_dotted (tokens (drop at s))) → Sides s at r (IsOperand true s) (a_term a_dotted (tokens (drop at s)))
+  dotted-operand h r k = go (a_dotted (tokens (drop at s))) r refl k
     where
       n : (n : Name) × NameHere s at u n
       n = name-at s at u e h
 
-      go : (o : Option (Dotted × List T.Token)) → a_dotted (tokens (drop at s)) ≡ o → Sides s at r (IsDotted s r) o → Sides s at r (IsOperand true s r) (a_term a_dotted (tokens (drop at s)))
-      go none q z =
+      go : (o : Option (Dotted × List T.Token)) (r : Maybe Side) → a_dotted (tokens (drop at s)) ≡ o → Sides s at r (IsDotted s) o → Sides s at r (IsOperand true s) (a_term a_dotted (tokens (drop at s)))
+      go none None q z =
           let y : values (tokens (drop at s)) ≡ none = then-none (λ v. done (given v)) (ap a_given n.1.begins_so) in
-          subst (Sides s at r (IsOperand true s r)) (sym (either_second columns values (tokens (drop at s)) (then-none (λ c. done (column c)) q) ∙ y)) z
-      go (some x) q z =
-          subst (Sides s at r (IsOperand true s r)) (sym (either_first columns values (tokens (drop at s)) (column x.0, x.1) (then_some (λ c. done (column c)) q))) (
+          subst (Sides s at None (IsOperand true s)) (sym (either_second columns values (tokens (drop at s)) (then-none (λ c. done (column c)) q) ∙ y)) tt
+      go none (Some d) q z = absurd z
+      go (some x) None q z = absurd z
+      go (some x) (Some d) q z =
+          subst (Sides s at (Some d) (IsOperand true s)) (sym (either_first columns values (tokens (drop at s)) (column x.0, x.1) (then_some (λ c. done (column c)) q))) (
             z.0,
             record {
-              here = ap (or_given (given_on s r.start) (column_on true s r.start)) z.1.named ∙ ap column z.1.here;
+              here = ap (or_given (given_on s d.start) (column_on true s d.start)) z.1.named ∙ ap column z.1.here;
               over = z.1.over;
               marks = z.1.marks;
             },
           )
 
-  alone-is : (b : Bool) (t : T.Token) → (b ≡ true → kind_of t ≡ 2 → ⊥) → Single b t
+  alone-is : (b : Bool) (t : T.Token) → (b ≡ true → kind_of t ≡ Named → ⊥) → Single b t
   alone-is false t h = tt
   alone-is true t h = no_name_lem t (h refl)
 
-  -- one token
-  pub single-side : (b : Bool) → (b ≡ true → u.kind ≡ 2 → ⊥) → (r : Side) → r.ok ≡ is_operand u.kind → r.over ≡ past u → r.marks ≡ marks_at u.kind → r.start ≡ u.start → r.next ≡ u.next
-      → Sides s at r (IsOperand b s r) (a_term (a_column b) (tokens (drop at s)))
-  single-side b h r eo ep em es en = go (look s at u e) (is_operand u.kind) refl
+  -- one token, or none
+  pub no-single : (b : Bool) → (b ≡ true → u.kind ≡ Named → ⊥) → is_operand u.kind ≡ false → Sides s at None (IsOperand b s) (a_term (a_column b) (tokens (drop at s)))
+  no-single b h q = go (look s at u e)
     where
-      go : Look s at u → (q : Bool) → is_operand u.kind ≡ q → Sides s at r (IsOperand b s r) (a_term (a_column b) (tokens (drop at s)))
-      go (ended z k) true q = clash q (ap is_operand z)
-      go (ended z k) false q = subst (Sides s at r (IsOperand b s r)) (sym (ap (a_term (a_column b)) k ∙ no-term b)) (eo ∙ q)
-      go (seen v) false q =
+      go : Look s at u → Sides s at None (IsOperand b s) (a_term (a_column b) (tokens (drop at s)))
+      go (ended z k) = subst (Sides s at None (IsOperand b s)) (sym (ap (a_term (a_column b)) k ∙ no-term b)) tt
+      go (seen v) =
           let t = v.token in
           let i = alone-is b t (λ x y. h x (sym v.kind ∙ y)) in
-          subst (Sides s at r (IsOperand b s r))
-          (sym (ap (a_term (a_column b)) v.left ∙ term-reader b t _ i ∙ a_token-none (term_of b) t _ (term-none b t (ap is_operand v.kind ∙ q)))) (eo ∙ q)
-      go (seen v) true q =
+          subst (Sides s at None (IsOperand b s))
+          (sym (ap (a_term (a_column b)) v.left ∙ term-reader b t _ i ∙ a_token-none (term_of b) t _ (term-none b t (ap is_operand v.kind ∙ q)))) tt
+
+  pub single-side : (b : Bool) → (b ≡ true → u.kind ≡ Named → ⊥) → is_operand u.kind ≡ true → (r : Side) → r.over ≡ past u → r.marks ≡ marks_at u.kind → r.start ≡ u.start → r.next ≡ u.next
+      → Sides s at (Some r) (IsOperand b s) (a_term (a_column b) (tokens (drop at s)))
+  single-side b h q r ep em es en = go (look s at u e)
+    where
+      go : Look s at u → Sides s at (Some r) (IsOperand b s) (a_term (a_column b) (tokens (drop at s)))
+      go (ended z k) = clash q (ap is_operand z)
+      go (seen v) =
           let t = v.token in
           let i = alone-is b t (λ x y. h x (sym v.kind ∙ y)) in
           let m = is-term b t u.start u.next (name_length v) i (ap is_operand v.kind ∙ q) in
           let k = m.1 in
-          subst (Sides s at r (IsOperand b s r))
+          subst (Sides s at (Some r) (IsOperand b s))
           (sym (ap (a_term (a_column b)) v.left ∙ term-reader b t _ i ∙ a_token-some (term_of b) t _ _ k.term)) (
             record {
-              ok = eo ∙ q;
               on = omega (arith, v.from, v.moves, en);
               within = omega (arith, v.inside, en);
               begun = omega (arith, v.moves, es, en);
@@ -214,37 +226,36 @@ module _ (s : List ℕ) (c : Cursor) where
   pub column-failed : (r : Placed) → c.ok ≡ false → r.c.ok ≡ false → Columns s c r
   column-failed r e f = failed-before s a_dotted _ c r.c e f
 
-  module _ (d : Side) (k : Sides s c.at d (IsDotted s d) (a_dotted (tokens (drop c.at s)))) where
-    pub column-none : (r : Placed) → d.ok ≡ false → r.c.ok ≡ false → Columns s c r
-    column-none r h f = finds-none s a_dotted _ c r.c (side-none s c.at d (IsDotted s d) (a_dotted (tokens (drop c.at s))) k h) f
+  pub column-none : Sides s c.at None (IsDotted s) (a_dotted (tokens (drop c.at s))) → (r : Placed) → r.c.ok ≡ false → Columns s c r
+  column-none k r f = finds-none s a_dotted _ c r.c (side-none s c.at (IsDotted s) (a_dotted (tokens (drop c.at s))) k) f
 
-    module _ (h : d.ok ≡ true) where
-      reached : Reached s c.at d (IsDotted s d) (a_dotted (tokens (drop c.at s)))
-      reached = side s c.at d (IsDotted s d) (a_dotted (tokens (drop c.at s))) k h
+  module _ (d : Side) (k : Sides s c.at (Some d) (IsDotted s) (a_dotted (tokens (drop c.at s)))) where
+    reached : Reached s c.at d (IsDotted s d) (a_dotted (tokens (drop c.at s)))
+    reached = side s c.at (IsDotted s) d (a_dotted (tokens (drop c.at s))) k
 
-      pub column-inside : (d.start < d.next) × (d.next ≤ length s)
-      column-inside = (reached.spans.begun, reached.spans.within)
+    pub column-inside : (d.start < d.next) × (d.next ≤ length s)
+    column-inside = (reached.spans.begun, reached.spans.within)
 
-      -- the cursor behind the column
-      abbrev pub behind : Cursor
-      behind = record { ok = c.ok; over = c.over || d.over; dotted = c.dotted; nodes = c.nodes; marks = c.marks; at = d.next }
+    -- the cursor behind the column
+    abbrev pub behind : Cursor
+    behind = record { ok = c.ok; over = c.over || d.over; dotted = c.dotted; nodes = c.nodes; marks = c.marks; at = d.next }
 
-      pub column-found : c.ok ≡ true → Stands s c → Columns s c (record { c = behind; place = d.start })
-      column-found i st =
-          let m = reached in
-          let w = m.spans in
-          finds s a_dotted _ c behind m.value (tokens (drop d.next s)) i m.found
-          (record {
-            ok = i;
-            stands = record { short = st.short; inside = w.within; few_nodes = omega (arith, st.few_nodes, w.on); few_marks = omega (arith, st.few_marks, w.on) };
-            left = refl;
-          }) (
-            record {
-              dotted = refl;
-              moved = w.on;
-              over = ap (λ b. c.over || b) m.is.over;
-              marks_are = sym (add-zero c.marks);
-              nodes_are = refl;
-            },
-            m.is.here,
-          )
+    pub column-found : c.ok ≡ true → Stands s c → Columns s c (record { c = behind; place = d.start })
+    column-found i st =
+        let m = reached in
+        let w = m.spans in
+        finds s a_dotted _ c behind m.value (tokens (drop d.next s)) i m.found
+        (record {
+          ok = i;
+          stands = record { short = st.short; inside = w.within; few_nodes = omega (arith, st.few_nodes, w.on); few_marks = omega (arith, st.few_marks, w.on) };
+          left = refl;
+        }) (
+          record {
+            dotted = refl;
+            moved = w.on;
+            over = ap (λ b. c.over || b) m.is.over;
+            marks_are = sym (add-zero c.marks);
+            nodes_are = refl;
+          },
+          m.is.here,
+        )

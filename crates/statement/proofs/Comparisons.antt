@@ -3,12 +3,12 @@ use mathlib.Core.Path.{◌≡◌, refl, sym, ap, ap₂, subst, ◌∙◌}
 use mathlib.Core.Logic.{◌≢◌}
 use mathlib.Core.Bool.{Bool, true, false, cond, ◌&&◌, ◌||◌}
 use mathlib.Core.Option.{Option, none, some}
+use Rattle.std.specs.Prelude.{Option as Maybe, Some, None}
 use mathlib.Core.List.{List, [], ◌∷◌, ◌++◌}
-use Prim.Native.Nat.{ℕ, ◌+◌, ◌-◌, ◌%◌, ◌≤◌, ◌<◌}
-use native.Mathlib.Decide.{ℕ_discrete}
+use Prim.Native.Nat.{ℕ, ◌+◌, ◌%◌, ◌≤◌, ◌<◌}
 use native.Mathlib.Nat.{le_refl}
 use native.Mathlib.Omega.{arith}
-use borrow.Author.Tests.{lt-ltb, eq-eqb, eqb-true}
+use borrow.Author.Tests.{lt-ltb}
 use lib.Dec.{eqb, ltb}
 use lib.ListN.{length, drop}
 use Rattle.lists.proofs.Bools.{clash, and_left, and_right, and_both}
@@ -21,11 +21,13 @@ use Rattle.meaning.specs.Grammar.{constant, mark, Term, column, given, Test, com
 use Rattle.meaning.specs.Limits.{most_depth, mark_count, term_givens}
 use Rattle.meaning.proofs.Readers.{begins, passing-yes, passing-stops, expect-here, a_token-some, a_token-none, then_some, then-none}
 use Rattle.token.specs.declared.Token.{Token}
-use Rattle.token.specs.Tokens.{kind_of, operator_number, token_at}
+use Rattle.token.specs.declared.Kind.{Kind}
+use Rattle.token.specs.declared.Kind.TheVariants.{Not, Is, Null}
+use Rattle.token.specs.Tokens.{token_at}
 use Rattle.token.proofs.Laws.{next-inside}
-use Rattle.statement.specs.Operators.{predicate_at, predicate_number, opposite_of}
+use Rattle.statement.specs.Operators.{operator_number, predicate_at, predicate_number, opposite_of}
 use Rattle.statement.specs.Places.{Column, term_on, comparison_code, node_on, nodes_on, codes_on, bare_mark, code_marks}
-use Rattle.statement.specs.Reading.{is_comparison, Operand, a_column, with_sides, with_node, PutsNode, ended_at, PutsNull, Stands, Spans, IsOperand, Sides, ReadsSide, Found, Meets, Reaches, TestsNull}
+use Rattle.statement.specs.Reading.{operator_in, is_name, is_is, Operand, a_column, with_sides, with_node, PutsNode, ended_at, PutsNull, Stands, Spans, IsOperand, Sides, ReadsSide, Found, Meets, Reaches, TestsNull}
 use Rattle.statement.specs.declared.conditions.Cursor.{Cursor}
 use Rattle.statement.specs.declared.conditions.Side.{Side}
 use Rattle.statement.proofs.OperatorLaws.{predicate-back, predicate-few, opposite-is, opposite-few}
@@ -42,53 +44,53 @@ pub record Reached {A : Type 0} (s : List ℕ) (at : ℕ) (r : Side) (Q : A → 
   pub spans : Spans s at r (tokens (drop r.next s))
   pub is : Q value
 
-module _ {A : Type 0} (s : List ℕ) (at : ℕ) (r : Side) (Q : A → Type 0) where
-  pub side-none : (o : Option (A × List T.Token)) → Sides s at r Q o → r.ok ≡ false → o ≡ none
-  side-none none h f = refl
-  side-none (some x) h f = clash h.0.ok f
+module _ {A : Type 0} (s : List ℕ) (at : ℕ) (Q : Side → A → Type 0) where
+  pub side-none : (o : Option (A × List T.Token)) → Sides s at None Q o → o ≡ none
+  side-none none h = refl
+  side-none (some x) h = absurd h
 
-  pub side : (o : Option (A × List T.Token)) → Sides s at r Q o → r.ok ≡ true → Reached s at r Q o
-  side none h f = clash f h
-  side (some x) h f =
+  pub side : (r : Side) (o : Option (A × List T.Token)) → Sides s at (Some r) Q o → Reached s at r (Q r) o
+  side r none h = absurd h
+  side r (some x) h =
       let a = h.0 in
       record {
         value = x.0;
         found = ap (λ ts. some (x.0, ts)) (sym a.left);
-        spans = record { ok = a.ok; on = a.on; within = a.within; begun = a.begun; left = refl };
+        spans = record { on = a.on; within = a.within; begun = a.begun; left = refl };
         is = h.1;
       }
 
 -- ---- an operator
 
 -- the operator o stands first, as the token u
-pub record Sign (s : List ℕ) (at : ℕ) (u : Token) (o : Operator) : Type 0 where
+pub record Sign (s : List ℕ) (at : ℕ) (u : Token) (n : ℕ) (o : Operator) : Type 0 where
   pub on : at < u.next
   pub within : u.next ≤ length s
   pub reads : a_token operator_of (tokens (drop at s)) ≡ some (o, tokens (drop u.next s))
-  pub number : u.kind ≡ 9 + operator_number o
+  pub number : n ≡ operator_number o
 
 module _ (s : List ℕ) (at : ℕ) (u : Token) (e : u ≡ token_at s at) where
-  pub sign-none : is_comparison u.kind ≡ false → a_token operator_of (tokens (drop at s)) ≡ none
+  pub sign-none : operator_in u.kind ≡ None → a_token operator_of (tokens (drop at s)) ≡ none
   sign-none h = go (look s at u e)
     where
       go : Look s at u → a_token operator_of (tokens (drop at s)) ≡ none
       go (ended z q) = ap (a_token operator_of) q
-      go (seen v) = ap (a_token operator_of) v.left ∙ a_token-none operator_of v.token _ (no-operator v.token (ap is_comparison v.kind ∙ h))
+      go (seen v) = ap (a_token operator_of) v.left ∙ a_token-none operator_of v.token _ (no-operator v.token (ap operator_in v.kind ∙ h))
 
-  pub sign : is_comparison u.kind ≡ true → (o : Operator) × Sign s at u o
-  sign h = go (look s at u e)
+  pub sign : (n : ℕ) → operator_in u.kind ≡ Some n → (o : Operator) × Sign s at u n o
+  sign n h = go (look s at u e)
     where
-      go : Look s at u → (o : Operator) × Sign s at u o
-      go (ended z q) = clash h (ap is_comparison z)
+      go : Look s at u → (o : Operator) × Sign s at u n o
+      go (ended z q) = let x = ap operator_in z in absurd (cc)
       go (seen v) =
           let t = v.token in
-          let m = is-operator t (ap is_comparison v.kind ∙ h) in (
+          let m = is-operator t n (ap operator_in v.kind ∙ h) in (
             m.0,
             record {
               on = omega (arith, v.from, v.moves);
               within = v.inside;
               reads = ap (a_token operator_of) v.left ∙ a_token-some operator_of t _ _ (ap operator_of m.1);
-              number = sym v.kind ∙ ap kind_of m.1;
+              number = m.2;
             },
           )
 
@@ -164,6 +166,10 @@ module _ (d : Bool) (s : List ℕ) (positive : Bool) (depth : ℕ) (c : Cursor) 
 
 -- ---- the answers of `read_null`: what follows IS
 
+null-or : (k : Kind) → Dec (k ≡ Null)
+null-or Null = yes refl
+null-or _ = no (λ e. cc)
+
 -- what `put_null` asks, of any token
 pub null-fits : (s : List ℕ) (c : Cursor) (a : Side) (at : ℕ) → Stands s c → Reaches s c a at → (from : ℕ) (u : Token) → u ≡ token_at s from
     → (c.nodes < 256) × (c.marks ≤ 256) × (a.marks ≤ 1) × (a.start ≤ 256) × (u.next ≤ 256)
@@ -171,7 +177,7 @@ null-fits s c a at st R from u e =
     omega (arith, st.short, st.few_nodes, st.few_marks, R.on, R.within, R.begun, R.unmarked, ap (λ (v : Token). v.next) e, next-inside s from)
 
 module _ (d : Bool) (s : List ℕ) (positive : Bool) (depth : ℕ) (c : Cursor) (eq : c.dotted ≡ d) (xs : List ℕ) (a : Side) (at : ℕ)
-    (st : Stands s c) (R : Reaches s c a at) (x : Column d) (p : IsOperand d s a (column x)) (r : Cursor) (ys : List ℕ) where
+    (st : Stands s c) (R : Reaches s c a at) (x : Column d) (p : IsOperand d s a (column x)) (r : Maybe Cursor) (ys : List ℕ) where
   abbrev Answers : Option (Test (Column d) × List T.Token) → Type 0
   Answers o = Meets d s positive depth c xs r ys (then o (λ t. done (compare t)))
 
@@ -179,17 +185,22 @@ module _ (d : Bool) (s : List ℕ) (positive : Bool) (depth : ℕ) (c : Cursor) 
   ends : (t : Test (Column d)) → IsOperand d s a (comparison t).left → IsOperand d s a (comparison t).right
       → (from : ℕ) → at ≤ from → (u : Token) → u ≡ token_at s from
       → PutsNull xs c positive depth a (predicate_number (comparison t).op) u ys r → Answers ((expect (keyword NULL) >> done t) (tokens (drop from s)))
-  ends t l q from le u e put = go (ℕ_discrete u.kind 32)
+  ends t l q from le u e put = go (null-or u.kind) r put
     where
-      go : Dec (u.kind ≡ 32) → Answers ((expect (keyword NULL) >> done t) (tokens (drop from s)))
-      go (yes k) =
+      Answered : Maybe Cursor → Type 0
+      Answered v = Meets d s positive depth c xs v ys (then ((expect (keyword NULL) >> done t) (tokens (drop from s))) (λ t. done (compare t)))
+
+      go : Dec (u.kind ≡ Null) → (v : Maybe Cursor) → PutsNull xs c positive depth a (predicate_number (comparison t).op) u ys v → Answered v
+      go (yes k) None put = absurd (put k)
+      go (yes k) (Some w) put =
           let g : Goes s from u.next (keyword NULL) = goes s from u e (keyword NULL) refl k in
-          subst Answers (sym (ap (expect (keyword NULL) >> done t) g.after ∙ then_some (λ _. done t) (expect-here (keyword NULL) (tokens (drop u.next s)))))
+          subst (λ o. Meets d s positive depth c xs (Some w) ys (then o (λ t. done (compare t)))) (sym (ap (expect (keyword NULL) >> done t) g.after ∙ then_some (λ _. done t) (expect-here (keyword NULL) (tokens (drop u.next s)))))
           (found d s positive depth c eq xs ys a (ended_at u.next a) t l (record { here = q.here; over = q.over; marks = q.marks }) (omega (arith, R.on, g.on)) g.within
-          st r (predicate_number (comparison t).op) refl (put.puts k))
-      go (no k) =
-          subst Answers (sym (then-none (λ _. done t) (passing-stops (keyword NULL) (done tt) fails (tokens (drop from s)) (stops s from u e (keyword NULL) k))))
-          (put.fails k)
+          st w (predicate_number (comparison t).op) refl put.1)
+      go (no k) None put =
+          subst (λ o. Meets d s positive depth c xs None ys (then o (λ t. done (compare t)))) (sym (then-none (λ _. done t) (passing-stops (keyword NULL) (done tt) fails (tokens (drop from s)) (stops s from u e (keyword NULL) k))))
+          tt
+      go (no k) (Some w) put = absurd (k put.0)
 
   -- either with NOT before it
   abbrev negated : Reader (Test (Column d))
@@ -199,50 +210,54 @@ module _ (d : Bool) (s : List ℕ) (positive : Bool) (depth : ℕ) (c : Cursor) 
   plain = expect (keyword NULL) >> done (tests_null x)
 
   module _ (v : Token) (e : v ≡ token_at s at) where
-    pub null-negated : v.kind ≡ 28 → (u : Token) → u ≡ token_at s v.next → PutsNull xs c positive depth a 7 u ys r → Answers (a_null (a_column d) x (tokens (drop at s)))
+    pub null-negated : v.kind ≡ Not → (u : Token) → u ≡ token_at s v.next → PutsNull xs c positive depth a 7 u ys r → Answers (a_null (a_column d) x (tokens (drop at s)))
     null-negated k u f put =
         let g : Goes s at v.next (keyword NOT) = goes s at v e (keyword NOT) refl k in
         subst Answers (sym (ap (a_null (a_column d) x) g.after ∙ passing-yes (keyword NOT) negated plain (tokens (drop v.next s))))
         (ends (tests-not-null x) p p v.next (omega (arith, g.on)) u f put)
 
-    pub null-plain : v.kind ≢ 28 → PutsNull xs c positive depth a 6 v ys r → Answers (a_null (a_column d) x (tokens (drop at s)))
+    pub null-plain : v.kind ≢ Not → PutsNull xs c positive depth a 6 v ys r → Answers (a_null (a_column d) x (tokens (drop at s)))
     null-plain k put =
         subst Answers (sym (passing-stops (keyword NOT) negated plain (tokens (drop at s)) (stops s at v e (keyword NOT) k)))
         (ends (tests_null x) p p at (le_refl at) v e put)
 
 -- ---- the answers of `read_comparison`, whose sides are a and w
 
+is-is : (k : Kind) → is_is k ≡ true → k ≡ Is
+is-is Is e = refl
+is-is _ e = cc
+
 -- what follows an operand, but IS behind a column
 behind-rest : {C : Type 0} (a_column : Reader C) (x : Term C) (ts : List T.Token) → (is_column x ≡ true → begins (keyword IS) ts ≡ false) → behind a_column x ts ≡ a_rest a_column x ts
 behind-rest a_column (column n) ts h = passing-stops (keyword IS) (a_null a_column n) (a_rest a_column (column n)) ts (h refl)
 behind-rest a_column (given v) ts h = refl
 
-module _ (d : Bool) (s : List ℕ) (positive : Bool) (depth : ℕ) (c : Cursor) (eq : c.dotted ≡ d) (xs : List ℕ) (r : Cursor) (ys : List ℕ) where
+module _ (d : Bool) (s : List ℕ) (positive : Bool) (depth : ℕ) (c : Cursor) (eq : c.dotted ≡ d) (xs : List ℕ) (r : Maybe Cursor) (ys : List ℕ) where
   abbrev Answer : Type 0
   Answer = Meets d s positive depth c xs r ys (a_comparison (a_column d) (tokens (drop c.at s)))
 
-  misses : a_comparison (a_column d) (tokens (drop c.at s)) ≡ none → r.ok ≡ false → Answer
-  misses e ok = subst (Meets d s positive depth c xs r ys) (sym e) ok
+  misses : a_comparison (a_column d) (tokens (drop c.at s)) ≡ none → r ≡ None → Answer
+  misses e q = subst (λ v. Meets d s positive depth c xs v ys (a_comparison (a_column d) (tokens (drop c.at s)))) (sym q) (subst (Meets d s positive depth c xs None ys) (sym e) tt)
 
-  module _ (first : Token) (e₁ : first ≡ token_at s c.at) (a : Side) (k₁ : Sides s c.at a (IsOperand d s a) (a_term (a_column d) (tokens (drop c.at s)))) where
-    pub no-left : a.ok ≡ false → r.ok ≡ false → Answer
-    no-left h = misses (then-none _ (side-none s c.at a (IsOperand d s a) (a_term (a_column d) (tokens (drop c.at s))) k₁ h))
+  module _ (first : Token) (e₁ : first ≡ token_at s c.at) where
+    pub no-left : Sides s c.at None (IsOperand d s) (a_term (a_column d) (tokens (drop c.at s))) → r ≡ None → Answer
+    no-left k = misses (then-none _ (side-none s c.at (IsOperand d s) (a_term (a_column d) (tokens (drop c.at s))) k))
 
-    module _ (h₁ : a.ok ≡ true) (v : Token) (e₂ : v ≡ token_at s a.next) where
+    module _ (a : Side) (k₁ : Sides s c.at (Some a) (IsOperand d s) (a_term (a_column d) (tokens (drop c.at s)))) (v : Token) (e₂ : v ≡ token_at s a.next) where
       abbrev left : Reached s c.at a (IsOperand d s a) (a_term (a_column d) (tokens (drop c.at s)))
-      left = side s c.at a (IsOperand d s a) (a_term (a_column d) (tokens (drop c.at s))) k₁ h₁
+      left = side s c.at (IsOperand d s) a (a_term (a_column d) (tokens (drop c.at s))) k₁
 
       -- the left side is a column exactly if its first token is a name
-      left-column : is_column left.value ≡ eqb first.kind 2
+      left-column : is_column left.value ≡ is_name first.kind
       left-column = first-column d s c.at first e₁ left.value (tokens (drop a.next s)) left.found
 
       -- behind a column IS follows
-      module _ (h₂ : (eqb v.kind 31 && eqb first.kind 2) ≡ true) where
+      module _ (h₂ : (is_is v.kind && is_name first.kind) ≡ true) where
         is-there : Goes s a.next v.next (keyword IS)
-        is-there = goes s a.next v e₂ (keyword IS) refl (eqb-true v.kind 31 (and_left (eqb v.kind 31) _ h₂))
+        is-there = goes s a.next v e₂ (keyword IS) refl (is-is v.kind (and_left (is_is v.kind) _ h₂))
 
         column-there : (n : Column d) × (left.value ≡ column n)
-        column-there = column-is left.value (left-column ∙ and_right (eqb v.kind 31) _ h₂)
+        column-there = column-is left.value (left-column ∙ and_right (is_is v.kind) _ h₂)
 
         pub null-reaches : Reaches s c a v.next
         null-reaches = record {
@@ -264,9 +279,9 @@ module _ (d : Bool) (s : List ℕ) (positive : Bool) (depth : ℕ) (c : Cursor) 
             (h d eq n (subst (IsOperand d s a) e left.is))
 
       -- or it does not
-      module _ (h₂ : (eqb v.kind 31 && eqb first.kind 2) ≡ false) where
+      module _ (h₂ : (is_is v.kind && is_name first.kind) ≡ false) where
         no-is : is_column left.value ≡ true → begins (keyword IS) (tokens (drop a.next s)) ≡ false
-        no-is e = stops s a.next v e₂ (keyword IS) (λ k. clash (and_both (eqb v.kind 31) _ (eq-eqb v.kind 31 k) (sym left-column ∙ e)) h₂)
+        no-is e = stops s a.next v e₂ (keyword IS) (λ k. clash (and_both (is_is v.kind) _ (ap is_is k) (sym left-column ∙ e)) h₂)
 
         -- what the rest makes of it
         then-rest : (o : Option (Test (Column d) × List T.Token)) → a_rest (a_column d) left.value (tokens (drop a.next s)) ≡ o
@@ -275,23 +290,23 @@ module _ (d : Bool) (s : List ℕ) (positive : Bool) (depth : ℕ) (c : Cursor) 
             then_some _ left.found
             ∙ ap (λ o. then o (λ t. done (compare t))) (behind-rest (a_column d) left.value (tokens (drop a.next s)) no-is ∙ e)
 
-        pub no_sign : is_comparison v.kind ≡ false → r.ok ≡ false → Answer
+        pub no_sign : operator_in v.kind ≡ None → r ≡ None → Answer
         no_sign h = misses (then-rest none (then-none _ (sign-none s a.next v e₂ h)))
 
-        module _ (h₃ : is_comparison v.kind ≡ true) (w : Side) (k₃ : Sides s v.next w (IsOperand d s w) (a_term (a_column d) (tokens (drop v.next s)))) where
-          abbrev between : (o : Operator) × Sign s a.next v o
-          between = sign s a.next v e₂ h₃
+        module _ (op : ℕ) (h₃ : operator_in v.kind ≡ Some op) where
+          abbrev between : (o : Operator) × Sign s a.next v op o
+          between = sign s a.next v e₂ op h₃
 
-          pub no-right : w.ok ≡ false → r.ok ≡ false → Answer
-          no-right h =
+          pub no-right : Sides s v.next None (IsOperand d s) (a_term (a_column d) (tokens (drop v.next s))) → r ≡ None → Answer
+          no-right k =
               misses
               (then-rest none
-              (then_some _ between.1.reads ∙ then-none _ (side-none s v.next w (IsOperand d s w) (a_term (a_column d) (tokens (drop v.next s))) k₃ h)))
+              (then_some _ between.1.reads ∙ then-none _ (side-none s v.next (IsOperand d s) (a_term (a_column d) (tokens (drop v.next s))) k)))
 
           -- all three are there
-          module _ (h₄ : w.ok ≡ true) (st : Stands s c) where
+          module _ (w : Side) (k₃ : Sides s v.next (Some w) (IsOperand d s) (a_term (a_column d) (tokens (drop v.next s)))) (st : Stands s c) where
             abbrev right : Reached s v.next w (IsOperand d s w) (a_term (a_column d) (tokens (drop v.next s)))
-            right = side s v.next w (IsOperand d s w) (a_term (a_column d) (tokens (drop v.next s))) k₃ h₄
+            right = side s v.next (IsOperand d s) w (a_term (a_column d) (tokens (drop v.next s))) k₃
 
             pub fits : (c.nodes < 256) × (c.marks ≤ 256) × (a.marks ≤ 1) × (w.marks ≤ 1) × (a.start ≤ 256) × (w.start ≤ 256) × (w.next ≤ 256)
             fits =
@@ -315,18 +330,18 @@ module _ (d : Bool) (s : List ℕ) (positive : Bool) (depth : ℕ) (c : Cursor) 
                   st.few_marks,
                 )
 
-            pub compared : PutsNode xs (with_sides depth a w c) (comparison_code depth (cond positive (v.kind - 9) (opposite_of (v.kind - 9)))) a.start w.start ys r → Answer
-            compared put =
+            pub compared : (e : Cursor) → r ≡ Some e → PutsNode xs (with_sides depth a w c) (comparison_code depth (cond positive op (opposite_of op))) a.start w.start ys e → Answer
+            compared e q put =
                 let m = left in
                 let n = right in
                 let o : Operator = between.0 in
-                let g : Sign s a.next v o = between.1 in
-                let number : v.kind - 9 ≡ operator_number o = omega (arith, g.number) in
-                subst (Meets d s positive depth c xs r ys)
+                let g : Sign s a.next v op o = between.1 in
+                subst (λ v. Meets d s positive depth c xs v ys (a_comparison (a_column d) (tokens (drop c.at s)))) (sym q)
+                (subst (Meets d s positive depth c xs (Some e) ys)
                 (sym (then-rest (some (compares m.value o n.value, tokens (drop w.next s))) (then_some _ g.reads ∙ then_some _ n.found)))
                 (found d s positive depth c eq xs ys a w (compares m.value o n.value) m.is n.is (omega (arith, m.spans.on, g.on, n.spans.on)) n.spans.within
-                st r (v.kind - 9) number put)
+                st e op g.number put))
 
 -- for every b the sides of a comparison are read as the cursor says
-pub side-as : (s : List ℕ) (first : Token) (r : Side) (c d : Bool) → c ≡ d → ReadsSide c s first r → ReadsSide d s first r
+pub side-as : (s : List ℕ) (first : Token) (r : Maybe Side) (c d : Bool) → c ≡ d → ReadsSide c s first r → ReadsSide d s first r
 side-as s first r c d e h = subst (λ b. ReadsSide b s first r) e h

@@ -5,7 +5,7 @@ use mathlib.Core.Option.{Option, none, some}
 use mathlib.Core.List.{List, [], ◌∷◌, ◌++◌, map}
 use Prim.Native.Nat.{ℕ, suc, ◌+◌, ◌-◌, ◌*◌, ◌/◌, ◌≤◌, ◌<◌}
 use native.Mathlib.Omega.{arith}
-use borrow.Author.Tests.{lt-ltb, le-ltb, ltb-false, eq-eqb, ne_eqb}
+use borrow.Author.Tests.{lt-ltb, le-ltb, ltb-false}
 use lib.Dec.{eqb, ltb, leb}
 use lib.IntN.{ℤ, nat_abs}
 use lib.ListN.{length, take, drop, length-map, length-replicate}
@@ -25,16 +25,17 @@ use Rattle.meaning.specs.Resolve.{resolve_nodes}
 use Rattle.meaning.proofs.Postfix.{sides-in, leaves_in, nodes-count, few_nodes}
 use Rattle.meaning.proofs.Outer.{marks-resolved}
 use Rattle.meaning.proofs.Resolve.{resolve-where}
-use Rattle.token.specs.Tokens.{value_of}
+use Rattle.token.specs.Tokens.{kind_of}
 use Rattle.meaning.specs.Pattern.{placed_from}
 use Rattle.statement.specs.declared.Table.{Table}
-use Rattle.statement.specs.declared.Statement.{Statement}
+use Rattle.statement.specs.Compiled.{Compiled}
+use Rattle.statement.specs.declared.sentences.Form.TheVariants.{Table as TABLE, Select, Insert, Update, Delete}
 use Rattle.statement.specs.declared.sentences.Entry.{Entry}
 use Rattle.statement.specs.Places.{name_on, Column, node_on, nodes_on, bare_marks_on}
 use Rattle.statement.specs.Sentences.{givens_on, over_on, bare_marks_in, Entered, Noted}
 use Rattle.statement.specs.Catalog.{schemas_of, rowless, catalog}
 use Rattle.statement.specs.Compiled.{padded, table_struct, no_setting, step_of, condition_struct, marks_number, setting_struct, created, asked, changing, refused_by, struct_of, struct_of_text, settled, compiled_of}
-use Rattle.statement.specs.Built.{lowest_by, places_of, short_name, short_column, short_nodes, kept_on, short_given, rows_in, rows_on, settings_from, last_of, outer_by, outer_on, Fits, listed_on, condition_on, unknown_on, table_on, select_on, insert_on, sets_on, update_on, delete_on, form_on, pair_with, pair_on, beside_on}
+use Rattle.statement.specs.Built.{lowest_by, places_of, short_name, short_column, short_nodes, kept_on, short_given, rows_as, rows_on, settings_from, last_of, outer_by, outer_on, Fits, listed_on, condition_on, unknown_on, table_on, select_on, insert_on, sets_on, update_on, delete_on, form_on, is_pair, pair_with, pair_on, beside_on}
 use Rattle.statement.proofs.Found.{has-ltb}
 use Rattle.statement.proofs.Left.{length-threes}
 use Rattle.statement.proofs.Sets.{steps-codes, leaves-any}
@@ -150,7 +151,7 @@ module _ (d : Bool) (s ps : List ℕ) (e : Entry) (q : Where (Term (Column d))) 
 -- ---- the forms
 
 -- what a sentence gives beside tables: a refusal from 6 on, or its statement
-abbrev decided : Plain → List Schema → Sentence → Statement
+abbrev decided : Plain → List Schema → Sentence → Compiled
 decided p ts x = settled (lowest_by (unknown ts x) (taken ts x) (miscounted ts x) (twice x) (no_place p x)) (struct_of (statement_of ts x))
 
 abbrev is_table : Sentence → Bool
@@ -174,7 +175,7 @@ module _ (s ls ps : List ℕ) (e : Entry) (tables : List Table) (used queries up
       let x = table t cs ring z in
       let n : short_name (name_on s e.table) ≡ t = table_kept s ls ps e x E w in
       let l : listed_on false s ls e ≡ items cs = ap (map short_name) (E.names few) ∙ whole-columns short_name is_long whole-name (items cs) (short-listed x w) in
-      let r : rows_on s e.rows ≡ nat_abs z = ap (λ (k : T.Token). rows_in (value_of k)) E.rows ∙ whole-rows z (inside-rows x w) in
+      let r : rows_on s e.rows ≡ nat_abs z = ap (λ (k : T.Token). rows_as (kind_of k)) E.rows ∙ whole-rows z (inside-rows x w) in
       let q : S ≡ schemas P = sym (schemas-are tables used queries updates cells) in
       let k : length S ≡ length P.tables = sym (length-map S rowless) in
       λ j. settled
@@ -312,7 +313,7 @@ module _ (s ls ps : List ℕ) (e : Entry) (tables : List Table) (used queries up
       unfolding unknown
       second-unknown h = rw (known, h)
 
-      abbrev chosen : Name → Bool → Statement
+      abbrev chosen : Name → Bool → Compiled
       chosen n b = cond b (pair_with t C n (columns_of S n) s ls ps e i (position (table_names S) n) queries) (refused_by 6)
 
       pair-compiles : pair_on t C s ls ps e S i queries ≡ decided P S (pair cs t u v)
@@ -325,31 +326,34 @@ module _ (s ls ps : List ℕ) (e : Entry) (tables : List Table) (used queries up
           go true h = both-there h
           go false h = second-unknown h
 
+  deletes_none : e.form ≡ Delete → (e.form ≡ Select → ⊥) × (e.form ≡ Insert → ⊥) × (e.form ≡ Update → ⊥)
+  deletes_none h = (λ l. cc, λ l. cc, λ l. cc)
+
   -- by its form
-  abbrev formed : Name → Bool → Statement
+  abbrev formed : Name → Bool → Compiled
   formed n b =
       cond b (pair_on n (columns_of S n) s ls ps e S (position (table_names S) n) queries)
       (form_on s ls ps e (columns_of S n) (position (table_names S) n) queries updates)
 
   form-compiles : (x : Sentence) → is_table x ≡ false → Entered s ls ps e x → past_limit x ≡ false → e.c.nodes ≤ 15 → has (table_names S) (table_named x) ≡ true
-      → formed (table_named x) (eqb e.form 5) ≡ decided P S x
+      → formed (table_named x) (is_pair e.form) ≡ decided P S x
   form-compiles (table t cs ring z) b E w h k = clash refl b
   form-compiles (select cs t q) b E w h k =
-      ap (formed t) (ne_eqb e.form 5 (λ l. omega (arith, E.form)))
+      ap (formed t) (ap is_pair E.form)
       ∙ sym (form-select s ls ps e (columns_of S t) (position (table_names S) t) queries updates _ refl E.form)
       ∙ select-compiles t k h cs q E w
-  form-compiles (pair cs t u q) b E w h k = ap (formed t) (eq-eqb e.form 5 E.form) ∙ pair-compiles t k h u cs q E w
+  form-compiles (pair cs t u q) b E w h k = ap (formed t) (ap is_pair E.form) ∙ pair-compiles t k h u cs q E w
   form-compiles (insert t vs) b E w h k =
-      ap (formed t) (ne_eqb e.form 5 (λ l. omega (arith, E.form)))
-      ∙ sym (form-insert s ls ps e (columns_of S t) (position (table_names S) t) queries updates _ refl (λ l. omega (arith, E.form)) E.form)
+      ap (formed t) (ap is_pair E.form)
+      ∙ sym (form-insert s ls ps e (columns_of S t) (position (table_names S) t) queries updates _ refl E.form)
       ∙ insert-compiles t k h vs E w
   form-compiles (update t ss q) b E w h k =
-      ap (formed t) (ne_eqb e.form 5 (λ l. omega (arith, E.form)))
-      ∙ sym (form-update s ls ps e (columns_of S t) (position (table_names S) t) queries updates _ refl (λ l. omega (arith, E.form)) (λ l. omega (arith, E.form)) E.form)
+      ap (formed t) (ap is_pair E.form)
+      ∙ sym (form-update s ls ps e (columns_of S t) (position (table_names S) t) queries updates _ refl E.form)
       ∙ update-compiles t k h ss q E w
   form-compiles (delete t q) b E w h k =
-      ap (formed t) (ne_eqb e.form 5 (λ l. omega (arith, E.form)))
-      ∙ sym (form-delete s ls ps e (columns_of S t) (position (table_names S) t) queries updates _ refl (λ l. omega (arith, E.form)) (λ l. omega (arith, E.form)) (λ l. omega (arith, E.form)))
+      ap (formed t) (ap is_pair E.form)
+      ∙ sym (form-delete s ls ps e (columns_of S t) (position (table_names S) t) queries updates _ refl (deletes_none E.form).0 (deletes_none E.form).1 (deletes_none E.form).2)
       ∙ delete-compiles t k h q E w
 
   -- a table that is not there
@@ -364,27 +368,27 @@ module _ (s ls ps : List ℕ) (e : Entry) (tables : List Table) (used queries up
 
   beside-compiles : (x : Sentence) → is_table x ≡ false → Entered s ls ps e x → past_limit x ≡ false → e.c.nodes ≤ 15 → beside_on s ls ps e S queries updates ≡ decided P S x
   beside-compiles x b E w h =
-      ap (λ (n : Name). cond (ltb (position (table_names S) n) (length S)) (formed n (eqb e.form 5)) (refused_by 6)) (table_kept s ls ps e x E w)
-      ∙ ap (λ (c : Bool). cond c (formed (table_named x) (eqb e.form 5)) (refused_by 6)) found
+      ap (λ (n : Name). cond (ltb (position (table_names S) n) (length S)) (formed n (is_pair e.form)) (refused_by 6)) (table_kept s ls ps e x E w)
+      ∙ ap (λ (c : Bool). cond c (formed (table_named x) (is_pair e.form)) (refused_by 6)) found
       ∙ go (has (table_names S) (table_named x)) refl
     where
       found : ltb (position (table_names S) (table_named x)) (length S) ≡ has (table_names S) (table_named x)
       found = ap (ltb (position (table_names S) (table_named x))) (sym (length-map S (λ (t : Schema). t.name))) ∙ has-ltb (table_names S) (table_named x)
 
-      go : (c : Bool) → has (table_names S) (table_named x) ≡ c → cond c (formed (table_named x) (eqb e.form 5)) (refused_by 6) ≡ decided P S x
+      go : (c : Bool) → has (table_names S) (table_named x) ≡ c → cond c (formed (table_named x) (is_pair e.form)) (refused_by 6) ≡ decided P S x
       go true k = form-compiles x b E w h k
       go false k = unknown-table x b k
 
   -- a TABLE
-  of-table : (x : Sentence) → e.form ≡ 0 → Entered s ls ps e x → past_limit x ≡ false → table_on s ls e S cells ≡ decided P S x
+  of-table : (x : Sentence) → e.form ≡ TABLE → Entered s ls ps e x → past_limit x ≡ false → table_on s ls e S cells ≡ decided P S x
   of-table (table t cs ring z) h E w = table-compiles t cs ring z E w
-  of-table (select cs t q) h E w = absurd (omega (arith, E.form))
-  of-table (pair cs t u q) h E w = absurd (omega (arith, E.form))
-  of-table (insert t vs) h E w = absurd (omega (arith, E.form))
-  of-table (update t ss q) h E w = absurd (omega (arith, E.form))
-  of-table (delete t q) h E w = absurd (omega (arith, E.form))
+  of-table (select cs t q) h E w = absurd (let x = E.form in cc)
+  of-table (pair cs t u q) h E w = absurd (let x = E.form in cc)
+  of-table (insert t vs) h E w = absurd (let x = E.form in cc)
+  of-table (update t ss q) h E w = absurd (let x = E.form in cc)
+  of-table (delete t q) h E w = absurd (let x = E.form in cc)
 
-no_table_lem : (s ls ps : List ℕ) (e : Entry) (x : Sentence) → Entered s ls ps e x → (e.form ≡ 0 → ⊥) → is_table x ≡ false
+no_table_lem : (s ls ps : List ℕ) (e : Entry) (x : Sentence) → Entered s ls ps e x → (e.form ≡ TABLE → ⊥) → is_table x ≡ false
 no_table_lem s ls ps e (table t cs ring z) E h = absurd (h E.form)
 no_table_lem s ls ps e (select cs t q) E h = refl
 no_table_lem s ls ps e (pair cs t u q) E h = refl
@@ -395,18 +399,18 @@ no_table_lem s ls ps e (delete t q) E h = refl
 -- ---- the text
 
 -- a condition that holds, and one that does not
-first-is : (n : ℕ) (b : Bool) (k : ℕ) (done : Statement) → b ≡ true → refused_by (suc n) ≡ settled (or_else b (suc n) k) done
+first-is : (n : ℕ) (b : Bool) (k : ℕ) (done : Compiled) → b ≡ true → refused_by (suc n) ≡ settled (or_else b (suc n) k) done
 first-is n b k done h = ap (λ (c : Bool). settled (or_else c (suc n) k) done) (sym h)
 
-passed : (n : ℕ) (b : Bool) (k : ℕ) (done : Statement) → b ≡ false → settled k done ≡ settled (or_else b n k) done
+passed : (n : ℕ) (b : Bool) (k : ℕ) (done : Compiled) → b ≡ false → settled k done ≡ settled (or_else b n k) done
 passed n b k done h = ap (λ (c : Bool). settled (or_else c n k) done) (sym h)
 
 module _ (s : List ℕ) (tables : List Table) (used queries updates cells : ℕ) where
-  abbrev goal : Statement
+  abbrev goal : Compiled
   goal = compiled_of s tables used queries updates cells
 
   -- the same for any reading of it
-  abbrev compiled_by : Option Sentence → Statement
+  abbrev compiled_by : Option Sentence → Compiled
   compiled_by o =
       let p = store tables used queries updates cells in
       settled (lowest_of (drop 1 (add_conditions p.lengths p s o))) (struct_of_text (schemas p) o)
@@ -416,7 +420,7 @@ module _ (s : List ℕ) (tables : List Table) (used queries updates cells : ℕ)
   by-reading = refl
 
   -- refusal 3
-  pub compiled-long : (r : Statement) → 256 < length s → r ≡ refused_by 3 → r ≡ goal
+  pub compiled-long : (r : Compiled) → 256 < length s → r ≡ refused_by 3 → r ≡ goal
   compiled-long r h q = q ∙ first-is 2 (too_long s) _ _ (lt-ltb 256 (length s) h) ∙ by-reading
 
 module _ (s ls ps : List ℕ) (e : Entry) (tables : List Table) (used queries updates cells : ℕ) where
@@ -425,7 +429,7 @@ module _ (s ls ps : List ℕ) (e : Entry) (tables : List Table) (used queries up
     fits-text = le-ltb 256 (length s) short
 
     -- refusal 4
-    pub compiled-none : (r : Statement) → e.c.ok ≡ false → r ≡ refused_by 4 → r ≡ goal s tables used queries updates cells
+    pub compiled-none : (r : Compiled) → e.c.ok ≡ false → r ≡ refused_by 4 → r ≡ goal s tables used queries updates cells
     compiled-none r h q = q ∙ go (sentence s) N ∙ by-reading s tables used queries updates cells
       where
         go : (o : Option Sentence) → Noted s ls ps e o → refused_by 4 ≡ compiled_by s tables used queries updates cells o
@@ -434,7 +438,7 @@ module _ (s ls ps : List ℕ) (e : Entry) (tables : List Table) (used queries up
 
     module _ (ok : e.c.ok ≡ true) where
       -- refusal 5
-      pub compiled-over : (r : Statement) → over_on e ≡ true → r ≡ refused_by 5 → r ≡ goal s tables used queries updates cells
+      pub compiled-over : (r : Compiled) → over_on e ≡ true → r ≡ refused_by 5 → r ≡ goal s tables used queries updates cells
       compiled-over r h q = q ∙ go (sentence s) N ∙ by-reading s tables used queries updates cells
         where
           go : (o : Option Sentence) → Noted s ls ps e o → refused_by 5 ≡ compiled_by s tables used queries updates cells o
@@ -457,7 +461,7 @@ module _ (s ls ps : List ℕ) (e : Entry) (tables : List Table) (used queries up
             ∙ passed 5 (past_limit x) _ _ w
             ∙ passed 3 (too_long s) _ _ fits-text
 
-        pub compiled-table : (r : Statement) → e.form ≡ 0 → r ≡ table_on s ls e (schemas_of tables used) cells → r ≡ goal s tables used queries updates cells
+        pub compiled-table : (r : Compiled) → e.form ≡ TABLE → r ≡ table_on s ls e (schemas_of tables used) cells → r ≡ goal s tables used queries updates cells
         compiled-table r h q = q ∙ go (sentence s) N ∙ by-reading s tables used queries updates cells
           where
             go : (o : Option Sentence) → Noted s ls ps e o → table_on s ls e (schemas_of tables used) cells ≡ compiled_by s tables used queries updates cells o
@@ -466,7 +470,7 @@ module _ (s ls ps : List ℕ) (e : Entry) (tables : List Table) (used queries up
                 let w : past_limit x ≡ false = M.past ∙ within in
                 of-table s ls ps e tables used queries updates cells compiled-fits.listed x h M w ∙ decided-is x w
 
-        pub compiled-beside : (r : Statement) → (e.form ≡ 0 → ⊥) → r ≡ beside_on s ls ps e (schemas_of tables used) queries updates → r ≡ goal s tables used queries updates cells
+        pub compiled-beside : (r : Compiled) → (e.form ≡ TABLE → ⊥) → r ≡ beside_on s ls ps e (schemas_of tables used) queries updates → r ≡ goal s tables used queries updates cells
         compiled-beside r h q = q ∙ go (sentence s) N ∙ by-reading s tables used queries updates cells
           where
             go : (o : Option Sentence) → Noted s ls ps e o → beside_on s ls ps e (schemas_of tables used) queries updates ≡ compiled_by s tables used queries updates cells o

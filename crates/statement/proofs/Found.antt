@@ -1,72 +1,46 @@
 -- Names looked up: where a name stands, whether it stands there, whether one stands twice; and the areas of tables. Assumes nothing.
-use mathlib.Core.Path.{◌≡◌, refl, sym, ap, ap₂, ◌∙◌, subst}
+use mathlib.Core.Path.{◌≡◌, refl, sym, ap, ap₂, ◌∙◌}
 use mathlib.Core.Bool.{Bool, true, false, ◌&&◌, ◌||◌, cond}
 use mathlib.Core.List.{List, [], ◌∷◌, ◌++◌, map}
 use Prim.Native.Nat.{ℕ, suc, ◌+◌, ◌*◌, ◌≤◌, ◌<◌, min}
 use native.Mathlib.Nat.{mul-le-mul}
-use native.Mathlib.Numerals.{add-one}
 use native.Mathlib.Omega.{arith}
 use borrow.Author.Tests.{lt-ltb, le-ltb, ltb-false}
-use lib.Dec.{eqb, eqb_refl, ltb, leb-suc-suc, leb-suc-zero}
-use lib.ListN.{length, get_or, take, length-take, length-map}
-use lib.Seq.{take-suc}
+use lib.Dec.{ltb, leb-suc-suc, leb-suc-zero}
+use lib.ListN.{length, take, length-take, length-map}
 use Rattle.lists.specs.Lists.{any, repeats}
-use Rattle.lists.specs.Tests.{eq_list, eq_list-refl}
-use Rattle.lists.proofs.Bools.{T→true, clash}
+use Rattle.lists.proofs.Bools.{clash}
 use Rattle.lists.proofs.Lists.{any_append, map-append}
 use Rattle.meaning.specs.Grammar.{Dotted}
 use Rattle.meaning.specs.Names.{same_name, has, position, table_names, is_of, pair_place}
-use Rattle.meaning.specs.Cells.{area_size, areas_size}
-use Rattle.meaning.proofs.Names.{same-is}
+use Rattle.statement.specs.Same as S
 use Rattle.statement.specs.declared.Name.{Name}
 use Rattle.statement.specs.declared.Table.{Table}
 use Rattle.statement.specs.Catalog.{name_of_struct, names_of, schema_of}
-use Rattle.statement.specs.Built.{place_of}
+use Rattle.statement.specs.Built.{place_of, number_in}
+use Rattle.statement.proofs.Chains.{number-is}
+use Rattle.std.proofs.Common.{Option, Some, None, append_assoc, append-nil, length-append}
+use Rattle.std.specs.List.{position_or_len, list_any, enumerate_from}
+use Rattle.std.specs.Option.{is_some}
+use lib.Seq.{take_at}
 use Rattle.statement.proofs.ByKind.{position-most}
-use Rattle.statement.proofs.Walks.{take_min, rest, rest-cons, rest-none}
 
 -- how many names of an array are in use
 pub names-count : (names : List Name) (count n : ℕ) → length names ≡ 8 → n ≡ min count 8 → n ≡ length (names_of names count)
 names-count names count n h e = e ∙ sym (length-map (take count names) name_of_struct ∙ length-take count names ∙ ap (min count) h)
 
--- two tests that imply each other
-iff : (a b : Bool) → (a ≡ true → b ≡ true) → (b ≡ true → a ≡ true) → a ≡ b
-iff true b f g = sym (f refl)
-iff false true f g = g refl
-iff false false f g = refl
+or-false : (b : Bool) → (b || false) ≡ b
+or-false true = refl
+or-false false = refl
+
+or_assoc : (a b c : Bool) → (a || (b || c)) ≡ ((a || b) || c)
+or_assoc true b c = refl
+or_assoc false b c = refl
 
 -- ---- names that are the same
 
-pub same_self : (n : List ℕ) → same_name n n ≡ true
-same_self n = T→true (same_name n n) (eq_list-refl eqb eqb_refl n)
-
 pub same-sym : (m n : List ℕ) → same_name m n ≡ same_name n m
-same-sym m n =
-    iff (same_name m n) (same_name n m)
-    (λ h. subst (λ (x : List ℕ). same_name x m ≡ true) (same-is m n h) (same_self m))
-    (λ h. subst (λ (x : List ℕ). same_name x n ≡ true) (same-is n m h) (same_self n))
-
--- names of different lengths are not
-pub unlike : (x y : List ℕ) → (length x ≡ length y → ⊥) → false ≡ eq_list eqb x y
-unlike [] [] h = absurd (h refl)
-unlike [] (b ∷ y) h = refl
-unlike (a ∷ x) [] h = refl
-unlike (a ∷ x) (b ∷ y) h = go (eqb a b) (unlike x y (λ e. h (ap suc e)))
-  where
-    go : (t : Bool) → false ≡ eq_list eqb x y → false ≡ (t && eq_list eqb x y)
-    go true e = e
-    go false e = refl
-
-module _ (a b : Name) (ha : length a.bytes ≡ 12) (hb : length b.bytes ≡ 12) (n m : ℕ) (en : n ≡ min a.len 12) (em : m ≡ min b.len 12) where
-  pub names-unlike : (n ≡ m → ⊥) → false ≡ same_name (name_of_struct a) (name_of_struct b)
-  names-unlike h = unlike (name_of_struct a) (name_of_struct b)
-      (λ e. h (omega (arith, length-take a.len a.bytes, length-take b.len b.bytes)))
-
-  pub names-alike : n ≡ m → eq_list eqb (take n a.bytes) (take n b.bytes) ≡ same_name (name_of_struct a) (name_of_struct b)
-  names-alike h =
-      ap₂ (eq_list eqb)
-      (ap (λ (k : ℕ). take k a.bytes) en ∙ take_min a.len 12 a.bytes ha)
-      (ap (λ (k : ℕ). take k b.bytes) (h ∙ em) ∙ take_min b.len 12 b.bytes hb)
+same-sym = S.same-sym
 
 -- ---- a name that is there has a place inside the list
 
@@ -81,12 +55,6 @@ has-ltb (m ∷ ns) n = go (same_name n m) (has-ltb ns n)
 -- ---- a dotted column: looked for in the first table, and then in the second
 
 module _ (t : List ℕ) (cs : List (List ℕ)) (c : Dotted) where
-  pub place_same : same_name c.0 t ≡ true → position cs c.1 ≡ place_of t cs c
-  place_same h = ap (λ (b : Bool). cond b (position cs c.1) (length cs)) (sym h)
-
-  pub place_other : same_name c.0 t ≡ false → length cs ≡ place_of t cs c
-  place_other h = ap (λ (b : Bool). cond b (position cs c.1) (length cs)) (sym h)
-
   of-place : ltb (place_of t cs c) (length cs) ≡ is_of t cs c
   of-place = go (same_name c.0 t)
     where
@@ -138,32 +106,34 @@ repeats-last (m ∷ ns) n =
     ∙ ap (λ (b : Bool). (any (same_name m) ns || (b || false)) || (repeats same_name ns || has ns n)) (same-sym m n)
     ∙ shuffle (any (same_name m) ns) (same_name n m) (repeats same_name ns) (has ns n)
 
-pub record Twice (names : List Name) (n : ℕ) (found : Bool) (i : ℕ) : Type 0 where
-  pub within : i ≤ n
-  pub so_far : found ≡ repeats same_name (names_of names i)
+-- as the list is gone through: each name is looked for among those before it
+module _ (all : List Name) where
+  abbrev pub before : ℕ × Name → Bool
+  before e = list_any (λ (y : Name). same_name (name_of_struct y) (name_of_struct e.1)) (take e.0 all)
 
-module _ (names : List Name) (n : ℕ) (h : n ≤ length names) where
-  pub twice-start : Twice names n false 0
-  twice-start = record { within = omega arith; so_far = refl }
+  before-is : (i : ℕ) (x : Name) → before (i, x) ≡ has (map name_of_struct (take i all)) (name_of_struct x)
+  before-is i x = go (take i all)
+    where
+      go : (ys : List Name) → list_any (λ (y : Name). same_name (name_of_struct y) (name_of_struct x)) ys ≡ has (map name_of_struct ys) (name_of_struct x)
+      go [] = refl
+      go (y ∷ ys) = ap₂ ◌||◌ (same-sym (name_of_struct y) (name_of_struct x)) (go ys)
 
-  pub twice-more : (found : Bool) (i p : ℕ) (d : Name) → i < n → p ≡ position (names_of names i) (name_of_struct (get_or names i d)) → Twice names n found i
-      → Twice names n (found || ltb p i) (i + 1)
-  twice-more found i p d k e P =
-      let l : length (names_of names i) ≡ i = length-map (take i names) name_of_struct ∙ length-take i names ∙ omega arith in
-      let s : names_of names (i + 1) ≡ names_of names i ++ (name_of_struct (get_or names i d) ∷ []) =
-      ap (names_of names) (add-one i) ∙ ap (map name_of_struct) (take-suc names i d (omega arith)) ∙ map-append name_of_struct (take i names) (get_or names i d ∷ []) in
-      record {
-        within = omega arith;
-        so_far =
-            ap₂ ◌||◌ P.so_far
-            (ap₂ ltb e (sym l) ∙ has-ltb (names_of names i) (name_of_struct (get_or names i d)))
-            ∙ sym (ap (repeats same_name) s ∙ repeats-last (names_of names i) (name_of_struct (get_or names i d)));
-      }
+  repeats-from : (ys xs : List Name) (n : ℕ) → n ≡ length ys → all ≡ ys ++ xs
+      → (repeats same_name (map name_of_struct ys) || list_any before (enumerate_from n xs)) ≡ repeats same_name (map name_of_struct all)
+  repeats-from ys [] n e h = or-false _ ∙ ap (λ (l : List Name). repeats same_name (map name_of_struct l)) (sym (append-nil ys) ∙ sym h)
+  repeats-from ys (x ∷ xs) n e h =
+      let t : take n all ≡ ys = ap (take n) h ∙ take_at ys (x ∷ xs) n (sym e) in
+      let b : before (n, x) ≡ has (map name_of_struct ys) (name_of_struct x) = before-is n x ∙ ap (λ (l : List Name). has (map name_of_struct l) (name_of_struct x)) t in
+      let r : repeats same_name (map name_of_struct (ys ++ (x ∷ []))) ≡ (repeats same_name (map name_of_struct ys) || has (map name_of_struct ys) (name_of_struct x)) =
+      ap (repeats same_name) (map-append name_of_struct ys (x ∷ [])) ∙ repeats-last (map name_of_struct ys) (name_of_struct x) in
+      let k : n + 1 ≡ length (ys ++ (x ∷ [])) = omega (arith, length-append ys (x ∷ [])) in
+      ap (λ (c : Bool). repeats same_name (map name_of_struct ys) || (c || list_any before (enumerate_from (n + 1) xs))) b
+      ∙ or_assoc (repeats same_name (map name_of_struct ys)) (has (map name_of_struct ys) (name_of_struct x)) (list_any before (enumerate_from (n + 1) xs))
+      ∙ ap (λ (c : Bool). c || list_any before (enumerate_from (n + 1) xs)) (sym r)
+      ∙ repeats-from (ys ++ (x ∷ [])) xs (n + 1) k (h ∙ sym (append_assoc ys (x ∷ []) xs))
 
-  pub twice-end : (found : Bool) (i : ℕ) → n ≤ i → Twice names n found i → found ≡ repeats same_name (names_of names n)
-  twice-end found i k P =
-      let e : i ≡ n = omega (arith, P.within) in
-      P.so_far ∙ ap (λ (j : ℕ). repeats same_name (names_of names j)) e
+  pub repeats-is : list_any before (enumerate_from 0 all) ≡ repeats same_name (map name_of_struct all)
+  repeats-is = repeats-from [] all 0 refl refl
 
 -- ---- tables
 
@@ -177,23 +147,21 @@ column-count t h = sym (names-count t.columns t.count (min t.count 8) h refl)
 pub area_small : (n k : ℕ) → n ≤ 8 → k ≤ 65535 → n * k ≤ 524280
 area_small n k h l = mul-le-mul h l
 
--- the cells of the areas left, and of those summed up
-module _ (n : ℕ) (ts : List Table) where
-  pub record Summed (sum i : ℕ) : Type 0 where
-    pub within : i ≤ n
-    pub small : sum ≤ 524280 * i
-    pub left : sum + areas_size (map schema_of (rest n i ts)) ≡ areas_size (map schema_of (take n ts))
+-- the number of a table by its name
+pub number-of : (n : List ℕ) (ts : List Table) (r : Option ℕ)
+    → r ≡ cond (ltb (position_or_len (λ (t : Table). same_name n (name_of_struct t.name)) ts) (length ts)) (Some (position_or_len (λ (t : Table). same_name n (name_of_struct t.name)) ts)) None
+    → r ≡ number_in (map schema_of ts) n
+number-of n ts r e =
+    number-is (λ (t : Table). name_of_struct t.name) n ts r e
+    ∙ ap₂ (λ (ns : List (List ℕ)) (l : ℕ). cond (ltb (position ns n) l) (Some (position ns n)) None) (sym (table-names ts)) (sym (length-map ts schema_of))
 
-  pub summed-start : Summed 0 0
-  summed-start = record { within = omega arith; small = omega arith; left = omega arith }
-
-  pub summed-more : n ≤ length ts → (sum i size : ℕ) (d : Table) → i < n → size ≡ area_size (schema_of (get_or ts i d)) → size ≤ 524280 → Summed sum i → Summed (sum + size) (i + 1)
-  summed-more h sum i size d k e l S =
-      let r : areas_size (map schema_of (rest n i ts)) ≡ area_size (schema_of (get_or ts i d)) + areas_size (map schema_of (rest n (i + 1) ts)) =
-      ap (λ (xs : List Table). areas_size (map schema_of xs)) (rest-cons n i ts d h k) in
-      record { within = omega arith; small = omega (arith, S.small); left = omega (arith, S.left) }
-
-  pub summed-end : (sum i : ℕ) → n ≤ i → Summed sum i → sum ≡ areas_size (map schema_of (take n ts))
-  summed-end sum i k S =
-      let r : areas_size (map schema_of (rest n i ts)) ≡ 0 = ap (λ (xs : List Table). areas_size (map schema_of xs)) (rest-none n i ts k) in
-      omega (arith, S.left)
+pub has-number : (ts : List Table) (n : List ℕ) → is_some (number_in (map schema_of ts) n) ≡ has (table_names (map schema_of ts)) n
+has-number ts n =
+    let e : length (table_names (map schema_of ts)) ≡ length (map schema_of ts) = length-map (map schema_of ts) _ in
+    go (ltb (position (table_names (map schema_of ts)) n) (length (map schema_of ts)))
+    ∙ ap (ltb (position (table_names (map schema_of ts)) n)) (sym e)
+    ∙ has-ltb (table_names (map schema_of ts)) n
+  where
+    go : (b : Bool) → is_some (cond b (Some (position (table_names (map schema_of ts)) n)) None) ≡ b
+    go true = refl
+    go false = refl

@@ -2,6 +2,7 @@ pub mod OperatorLaws
 pub mod Nodes
 pub mod Operands
 pub mod Steps
+pub mod Tells
 pub mod Comparisons
 pub mod Readers
 pub mod Stored
@@ -22,6 +23,8 @@ pub mod SentenceForms
 pub mod Paired
 pub mod SentenceTexts
 pub mod Walks
+pub mod Chains
+pub mod Empty
 pub mod Found
 pub mod Standing
 pub mod Parts
@@ -31,6 +34,7 @@ pub mod Outer
 pub mod Sets
 pub mod Resolving
 pub mod Assembled
+pub mod Settled
 pub mod Limited
 pub mod ByKind
 pub mod Known

@@ -20,7 +20,8 @@ use Rattle.meaning.specs.Tokens.{Name}
 use Rattle.meaning.specs.Grammar.{Given, constant, mark, Term, column, given, Test, comparison, Dotted, Listed, items, Sentence, pair}
 use Rattle.meaning.specs.Limits.{table_named, further_tables, list_columns, list_givens, where_of, term_columns, term_givens, is_within32, outside32, many_items, rows_outside, many_marks, many_comparisons, deep, long_name, big_constant, past_limit}
 use Rattle.meaning.proofs.Dotted.{bare-givens, bare-columns}
-use Rattle.statement.specs.Built.{short_name, short_given, short_column, short_term, short_nodes, rows_in}
+use Rattle.token.specs.declared.Kind.TheVariants.{Constant, Big}
+use Rattle.statement.specs.Built.{short_name, short_given, short_column, short_term, short_nodes, rows_in, rows_as}
 
 abbrev pub is_long : Name → Bool
 is_long n = ltb 12 (length n)
@@ -164,7 +165,7 @@ module _ {C : Type 0} (short : C → C) (long : C → Bool) (whole : (c : C) →
       (whole-nodes ns (or_right (any long (term_columns (c.right ∷ []))) _ h₂) (or_right (any outside32 (term_givens (c.right ∷ []))) _ k₂))
 
 -- ROWS
-pub whole-rows : (z : ℤ) → (not (le_z (pos 1) z && le_z z (pos 512)) || false) ≡ false → rows_in (cond (is_within32 z) z (pos 0)) ≡ nat_abs z
+pub whole-rows : (z : ℤ) → (not (le_z (pos 1) z && le_z z (pos 512)) || false) ≡ false → rows_as (cond (is_within32 z) (Constant z) Big) ≡ nat_abs z
 unfolding rows_in
 whole-rows (pos n) h =
     let k : (leb 1 n && leb n 512) ≡ true = not-false (leb 1 n && leb n 512) (or_left (not (leb 1 n && leb n 512)) false h) in

@@ -1,27 +1,31 @@
 -- Operands and operators, by the kind of their tokens. Assumes nothing.
 use mathlib.Core.Path.{◌≡◌, refl, sym, ap, ◌∙◌}
-use mathlib.Core.Bool.{Bool, true, false, not, cond, ◌&&◌}
+use mathlib.Core.Bool.{Bool, true, false, not, cond}
 use mathlib.Core.Option.{Option, none, some}
+use Rattle.std.specs.Prelude.{Some, None}
 use mathlib.Core.List.{List, [], ◌∷◌, ◌++◌}
-use Prim.Native.Nat.{ℕ, ◌+◌, ◌-◌, ◌≤◌, ◌<◌}
+use Prim.Native.Nat.{ℕ, ◌+◌, ◌-◌}
 use native.Mathlib.Omega.{arith}
+use lib.IntN.{ℤ}
 use lib.ListN.{length, drop}
-use lib.Dec.{eqb, leb, ltb}
-use borrow.Author.Tests.{leb-true, lt-leb, le-leb}
-use Rattle.lists.proofs.Bools.{and_left, and_right, and_both, clash}
-use Rattle.meaning.specs.Operator.{Operator}
+use lib.Dec.{ltb}
+use Rattle.lists.proofs.Bools.{clash}
+use Rattle.meaning.specs.Operator.{Operator, eq, ne, lt, le, gt, ge}
 use Rattle.meaning.specs.Condition.{Comparison, sides}
 use Rattle.meaning.specs.Tokens as T
-use Rattle.meaning.specs.Tokens.{Token, tokens, keyword, name, operator, comma, lparen, rparen, dot, other}
+use Rattle.meaning.specs.Tokens.{Token, tokens, Keyword, TABLE, keyword, name, operator, comma, lparen, rparen, dot, other}
 use Rattle.meaning.specs.Grammar.{constant, mark, Term, column, given, spell_name, spell_dotted, spell_term, a_token, a_term, name_of, operator_of}
 use Rattle.meaning.specs.Limits.{is_within32, mark_count, term_givens}
 use Rattle.meaning.proofs.Readers.{some-none, sound-read}
 use Rattle.meaning.proofs.Decides.{Exact, name_sound, dotted-sound, term-sound}
 use Rattle.token.specs.declared.Token.{Token as Read}
-use Rattle.token.specs.Tokens.{kind_of, operator_number, token_at}
+use Rattle.token.specs.declared.Kind.{Kind}
+use Rattle.token.specs.declared.Kind.TheVariants.{Constant, Big, Eq, Ne, Lt, Le, Gt, Ge}
+use Rattle.token.specs.Tokens.{operator_kind, keyword_kind, kind_of, token_at}
+use Rattle.statement.proofs.Tells.{Told, told}
 use Rattle.statement.specs.Places.{token_on, Column, term_on}
-use Rattle.statement.specs.Reading.{token_past, is_operand, is_comparison, marks_at, Operand, a_column, term_past}
-use Rattle.statement.proofs.OperatorLaws.{operator-few}
+use Rattle.statement.specs.Reading.{token_past, is_operand, operator_in, is_name, marks_at, Operand, a_column, term_past}
+use Rattle.statement.specs.Operators.{operator_number}
 use Rattle.statement.proofs.Steps.{Look, ended, seen, look}
 
 -- ---- question marks
@@ -85,20 +89,21 @@ pub no-term : (b : Bool) → a_term (a_column b) [] ≡ none
 no-term false = refl
 no-term true = refl
 
--- from 6 on no kind is an operand's
-far : (k : ℕ) → 5 < k → is_operand k ≡ false
-far k h = go (leb 2 k) (leb k 5) (lt-leb k 5 h)
-  where
-    go : (a b : Bool) → b ≡ false → (a && b) ≡ false
-    go true b e = e
-    go false b e = refl
+-- no keyword's and no operator's kind is an operand's
+keyword-none : (k : Keyword) → is_operand (keyword_kind k) ≡ false
+keyword-none TABLE = refl
+keyword-none _ = refl
+
+operator-none : (o : Operator) → is_operand (operator_kind o) ≡ false
+operator-none eq = refl
+operator-none _ = refl
 
 pub term-none : (b : Bool) (t : Token) → is_operand (kind_of t) ≡ false → term_of b t ≡ none
 term-none b (keyword k) e = refl
 term-none b (name n) e = clash refl e
 term-none b (T.constant z) e = go (is_within32 z) e
   where
-    go : (w : Bool) → is_operand (cond w 3 4) ≡ false → term_of b (T.constant z) ≡ none
+    go : (w : Bool) → is_operand (cond w (Constant z) Big) ≡ false → term_of b (T.constant z) ≡ none
     go true q = clash refl q
     go false q = clash refl q
 term-none b (operator o) e = refl
@@ -119,19 +124,19 @@ pub record IsTerm (b : Bool) (t : Token) (start next : ℕ) (x : Operand b) : Ty
 pub is-term : (b : Bool) (t : Token) (start next : ℕ) → ((n : T.Name) → t ≡ name n → next - start ≡ length n) → Single b t → is_operand (kind_of t) ≡ true
     → (x : Operand b) × IsTerm b t start next x
 unfolding token_past
-is-term b (keyword k) start next l h e = clash e (far (kind_of (keyword k)) (omega arith))
+is-term b (keyword k) start next l h e = clash e (keyword-none k)
 is-term false (name n) start next l h e = (column n, record { term = refl; over = ap (ltb 12) (l n refl); marks = refl; here = λ s p q. rw q })
 is-term true (name n) start next l h e = some-none h
 is-term b (T.constant z) start next l h e = (given (constant z), record { term = refl; over = go (is_within32 z); marks = no-mark (is_within32 z); here = λ s p q. rw q })
   where
-    go : (b : Bool) → token_past (cond b 3 4) start next ≡ not b
+    go : (b : Bool) → token_past (cond b (Constant z) Big) start next ≡ not b
     go true = refl
     go false = refl
 
-    no-mark : (b : Bool) → marks_at (cond b 3 4) ≡ 0
+    no-mark : (b : Bool) → marks_at (cond b (Constant z) Big) ≡ 0
     no-mark true = refl
     no-mark false = refl
-is-term b (operator o) start next l h e = clash e (far (kind_of (operator o)) (omega arith))
+is-term b (operator o) start next l h e = clash e (operator-none o)
 is-term b T.mark start next l h e = (given mark, record { term = refl; over = refl; marks = refl; here = λ s p q. rw q })
 is-term b comma start next l h e = clash e refl
 is-term b lparen start next l h e = clash e refl
@@ -158,64 +163,51 @@ spelled-so : (b : Bool) → Exact (spelling b) (a_column b)
 spelled-so false = name_sound
 spelled-so true = dotted-sound
 
-begins-column : (b : Bool) (x : Operand b) (more : List Token) (t : Token) (ts : List Token) → t ∷ ts ≡ spell_term (spelling b) x more → is_column x ≡ eqb (kind_of t) 2
+begins-column : (b : Bool) (x : Operand b) (more : List Token) (t : Token) (ts : List Token) → t ∷ ts ≡ spell_term (spelling b) x more → is_column x ≡ is_name (kind_of t)
 begins-column b x more t ts e = go b x e
   where
     first : List Token → Token
     first [] = other
     first (u ∷ us) = u
 
-    within : (w : Bool) → false ≡ eqb (cond w 3 4) 2
-    within true = refl
-    within false = refl
+    within : (z : ℤ) (w : Bool) → false ≡ is_name (cond w (Constant z) Big)
+    within z true = refl
+    within z false = refl
 
-    go : (b : Bool) (x : Operand b) → t ∷ ts ≡ spell_term (spelling b) x more → is_column x ≡ eqb (kind_of t) 2
-    go false (column n) q = sym (ap (λ us. eqb (kind_of (first us)) 2) q)
-    go true (column n) q = sym (ap (λ us. eqb (kind_of (first us)) 2) q)
-    go b (given (constant z)) q = within (is_within32 z) ∙ sym (ap (λ us. eqb (kind_of (first us)) 2) q)
-    go b (given mark) q = sym (ap (λ us. eqb (kind_of (first us)) 2) q)
+    go : (b : Bool) (x : Operand b) → t ∷ ts ≡ spell_term (spelling b) x more → is_column x ≡ is_name (kind_of t)
+    go false (column n) q = sym (ap (λ us. is_name (kind_of (first us))) q)
+    go true (column n) q = sym (ap (λ us. is_name (kind_of (first us))) q)
+    go b (given (constant z)) q = within z (is_within32 z) ∙ sym (ap (λ us. is_name (kind_of (first us))) q)
+    go b (given mark) q = sym (ap (λ us. is_name (kind_of (first us))) q)
 
 pub first-column : (b : Bool) (s : List ℕ) (at : ℕ) (u : Read) → u ≡ token_at s at → (x : Operand b) (more : List Token) → a_term (a_column b) (tokens (drop at s)) ≡ some (x, more)
-    → is_column x ≡ eqb u.kind 2
+    → is_column x ≡ is_name u.kind
 first-column b s at u e x more f = go (look s at u e)
   where
-    go : Look s at u → is_column x ≡ eqb u.kind 2
+    go : Look s at u → is_column x ≡ is_name u.kind
     go (ended z q) = some-none (sym f ∙ ap (a_term (a_column b)) q ∙ no-term b)
     go (seen v) =
         begins-column b x more v.token (tokens (drop u.next s)) (sym v.left ∙ sound-read (term-sound (spelled-so b)) (tokens (drop at s)) x more f)
-        ∙ ap (λ k. eqb k 2) v.kind
+        ∙ ap is_name v.kind
 
 -- ---- operators
 
-pub no-operator : (t : Token) → is_comparison (kind_of t) ≡ false → operator_of t ≡ none
-no-operator (keyword k) e = refl
-no-operator (name n) e = refl
-no-operator (T.constant z) e = refl
-no-operator (operator o) e =
-    let k = 9 + operator_number o in
-    clash (and_both (leb 9 k) (leb k 14) (le-leb 9 k (omega arith)) (le-leb k 14 (omega (arith, operator-few o)))) e
-no-operator T.mark e = refl
-no-operator comma e = refl
-no-operator lparen e = refl
-no-operator rparen e = refl
-no-operator dot e = refl
-no-operator other e = refl
-
-pub is-operator : (t : Token) → is_comparison (kind_of t) ≡ true → (o : Operator) × (t ≡ operator o)
-is-operator t e = go t (leb-true 9 (kind_of t) (and_left (leb 9 (kind_of t)) (leb (kind_of t) 14) e)) (leb-true (kind_of t) 14 (and_right (leb 9 (kind_of t)) (leb (kind_of t) 14) e))
+pub no-operator : (t : Token) → operator_in (kind_of t) ≡ None → operator_of t ≡ none
+no-operator (operator o) e = go o e
   where
-    low : (b : Bool) → 9 ≤ cond b 3 4 → ⊥
-    low true q = omega arith
-    low false q = omega arith
+    go : (o : Operator) → operator_in (operator_kind o) ≡ None → operator_of (operator o) ≡ none
+    go eq q = cc
+    go _ q = cc
+no-operator _ e = refl
 
-    go : (t : Token) → 9 ≤ kind_of t → kind_of t ≤ 14 → (o : Operator) × (t ≡ operator o)
-    go (keyword k) h l = absurd (omega arith)
-    go (name n) h l = absurd (omega arith)
-    go (T.constant z) h l = absurd (low (is_within32 z) h)
-    go (operator o) h l = (o, refl)
-    go T.mark h l = absurd (omega arith)
-    go comma h l = absurd (omega arith)
-    go lparen h l = absurd (omega arith)
-    go rparen h l = absurd (omega arith)
-    go dot h l = absurd (omega arith)
-    go other h l = absurd (omega arith)
+pub is-operator : (t : Token) (n : ℕ) → operator_in (kind_of t) ≡ Some n → (o : Operator) × (t ≡ operator o) × (n ≡ operator_number o)
+is-operator t n e = go (kind_of t) e (told t)
+  where
+    go : (k : Kind) → operator_in k ≡ Some n → Told t k → (o : Operator) × (t ≡ operator o) × (n ≡ operator_number o)
+    go Eq q r = (eq, r, cc)
+    go Ne q r = (ne, r, cc)
+    go Lt q r = (lt, r, cc)
+    go Le q r = (le, r, cc)
+    go Gt q r = (gt, r, cc)
+    go Ge q r = (ge, r, cc)
+    go _ q r = absurd (cc)

@@ -1,6 +1,5 @@
 -- The operators by their numbers: there and back, opposites, and comparisons by the order of their sides. Assumes nothing.
 use mathlib.Core.Path.{◌≡◌, refl, sym, ap, ap₂, ◌∙◌}
-use mathlib.Core.Logic.{◌≢◌}
 use mathlib.Core.Bool.{Bool, true, false, not, cond, ◌&&◌, ◌||◌, and-false}
 use Prim.Native.Nat.{ℕ, zero, suc, ◌≤◌, ◌<◌}
 use native.Mathlib.Omega.{arith}
@@ -11,8 +10,7 @@ use lib.Signed.{lt_z, le_z}
 use Rattle.lists.specs.Tests.{eq_z}
 use Rattle.lists.proofs.Bools.{clash}
 use Rattle.meaning.specs.Operator.{Operator, eq, ne, lt, le, gt, ge, related, is_null, known, unknown, is_true, Predicate, by, is-null, is-not-null, truth, opposite}
-use Rattle.token.specs.Tokens.{operator_number}
-use Rattle.statement.specs.Operators.{predicate_at, predicate_number, is_null_test, opposite_of, order_of, truth_by}
+use Rattle.statement.specs.Operators.{operator_number, predicate_at, predicate_number, is_null_test, opposite_of, order_of, truth_by}
 
 -- ---- numbers
 
@@ -101,66 +99,6 @@ opposite-few (suc (suc (suc (suc (suc (suc (suc zero))))))) h = omega arith
 opposite-few (suc (suc (suc (suc (suc (suc (suc (suc k)))))))) h = absurd (omega arith)
 
 -- ---- what `truth` says of each operator
-
-pub of_eq : (k : ℕ) → eqb k 1 ≡ truth_by (by eq) k
-of_eq zero = refl
-of_eq (suc zero) = refl
-of_eq (suc (suc zero)) = refl
-of_eq (suc (suc (suc k))) = ne_eqb (suc (suc (suc k))) 1 (λ e. omega arith)
-
-pub of-ne : (k : ℕ) → (eqb k 0 || eqb k 2) ≡ truth_by (by ne) k
-of-ne zero = refl
-of-ne (suc zero) = refl
-of-ne (suc (suc zero)) = refl
-of-ne (suc (suc (suc k))) = ap₂ ◌||◌ (ne_eqb (suc (suc (suc k))) 0 (λ e. omega arith)) (ne_eqb (suc (suc (suc k))) 2 (λ e. omega arith))
-
-pub of_lt : (k : ℕ) → eqb k 0 ≡ truth_by (by lt) k
-of_lt zero = refl
-of_lt (suc zero) = refl
-of_lt (suc (suc zero)) = refl
-of_lt (suc (suc (suc k))) = ne_eqb (suc (suc (suc k))) 0 (λ e. omega arith)
-
-pub of_le : (k : ℕ) → leb k 1 ≡ truth_by (by le) k
-of_le zero = refl
-of_le (suc zero) = refl
-of_le (suc (suc zero)) = refl
-of_le (suc (suc (suc k))) = lt-leb (suc (suc (suc k))) 1 (omega arith)
-
-pub of-gt : (k : ℕ) → eqb k 2 ≡ truth_by (by gt) k
-of-gt zero = refl
-of-gt (suc zero) = refl
-of-gt (suc (suc zero)) = refl
-of-gt (suc (suc (suc k))) = ne_eqb (suc (suc (suc k))) 2 (λ e. omega arith)
-
-pub of_ge : (k : ℕ) → (eqb k 1 || eqb k 2) ≡ truth_by (by ge) k
-of_ge zero = refl
-of_ge (suc zero) = refl
-of_ge (suc (suc zero)) = refl
-of_ge (suc (suc (suc k))) = ap₂ ◌||◌ (ne_eqb (suc (suc (suc k))) 1 (λ e. omega arith)) (ne_eqb (suc (suc (suc k))) 2 (λ e. omega arith))
-
-pub of-null : (k : ℕ) → leb 3 k ≡ truth_by is-null k
-of-null zero = refl
-of-null (suc zero) = refl
-of-null (suc (suc zero)) = refl
-of-null (suc (suc (suc k))) = le-leb 3 (suc (suc (suc k))) (omega arith)
-
-pub of-not-null : (k : ℕ) → ltb k 3 ≡ truth_by is-not-null k
-of-not-null zero = refl
-of-not-null (suc zero) = refl
-of-not-null (suc (suc zero)) = refl
-of-not-null (suc (suc (suc k))) = le-ltb (suc (suc (suc k))) 3 (omega arith)
-
--- a number of no other operator is read as <>
-pub else-ne : (k : ℕ) → k ≢ 0 → k ≢ 2 → k ≢ 3 → k ≢ 4 → k ≢ 5 → k ≢ 6 → k ≢ 7 → predicate_at k ≡ by ne
-else-ne zero a b c d e f g = absurd (a refl)
-else-ne (suc zero) a b c d e f g = refl
-else-ne (suc (suc zero)) a b c d e f g = absurd (b refl)
-else-ne (suc (suc (suc zero))) a b c d e f g = absurd (c refl)
-else-ne (suc (suc (suc (suc zero)))) a b c d e f g = absurd (d refl)
-else-ne (suc (suc (suc (suc (suc zero))))) a b c d e f g = absurd (e refl)
-else-ne (suc (suc (suc (suc (suc (suc zero)))))) a b c d e f g = absurd (f refl)
-else-ne (suc (suc (suc (suc (suc (suc (suc zero))))))) a b c d e f g = absurd (g refl)
-else-ne (suc (suc (suc (suc (suc (suc (suc (suc k)))))))) a b c d e f g = refl
 
 -- ---- the order of two numbers, and what each comparison says of it
 

@@ -5,8 +5,8 @@ use mathlib.Core.List.{List, [], ◌∷◌, ◌++◌, map, append-nil, append_as
 use Prim.Native.Nat.{ℕ, zero, suc, ◌+◌, ◌*◌, ◌/◌, ◌%◌, ◌≤◌, ◌<◌}
 use native.Mathlib.Nat.{zero-add, add-zero}
 use native.Mathlib.Omega.{arith}
-use borrow.Author.Tests.{eq-eqb, ne_eqb, lt-ltb, le-ltb, leb-true, leb-false}
-use lib.Dec.{eqb, leb}
+use borrow.Author.Tests.{eq-eqb, ne_eqb}
+use lib.Dec.{eqb}
 use lib.ListN.{length, get_or, replicate, replicate-append-replicate}
 use Rattle.meaning.specs.Condition.{Level, atom, conjunction, disjunction, Tree, Condition, Where, always, under, compare, negate, group, alone, both, single, either}
 use Rattle.meaning.specs.Postfix.{Node, join_all, join_any, nodes, nodes_in, size, outer_marks, outer_marks_in}
@@ -111,19 +111,6 @@ module _ {O : Type 0} where
   pub outer-in : (w : Where O) → outer_by (last_of 0 (map step_of (nodes_in w))) (marks_number 0 (bare_marks_in w)) ≡ marks_number 0 (outer_marks_in w)
   outer-in always = refl
   outer-in (under c) = outer-number c
-
--- ---- one mark more, as `with_mark` makes it
-
-module _ (n k : ℕ) where
-  pub mark-bare : k < 16 → marks_number n (bare_mark k) ≡ 2 * n + k / 8
-  mark-bare h = ap (λ (t : Bool). marks_number n (cond t (leb 8 k ∷ []) [])) (lt-ltb k 16 h) ∙ ap (λ (j : ℕ). 2 * n + j) (go (leb 8 k) refl)
-    where
-      go : (b : Bool) → leb 8 k ≡ b → digit b ≡ k / 8
-      go true e = let l : 8 ≤ k = leb-true 8 k e in omega arith
-      go false e = let l : k < 8 = leb-false 8 k e in omega arith
-
-  pub mark-none : 16 ≤ k → marks_number n (bare_mark k) ≡ n
-  mark-none h = ap (λ (t : Bool). marks_number n (cond t (leb 8 k ∷ []) [])) (le-ltb k 16 h)
 
 -- ---- the loop of `outer_marks`: the nodes left are still to be marked
 

@@ -1,13 +1,11 @@
 -- Whether a question is over two tables (A.1): what `is_paired` sees of the tokens up to FROM and behind it. Assumes nothing.
 use mathlib.Core.Path.{◌≡◌, refl, sym, ap, subst, ◌∙◌}
-use mathlib.Core.Bool.{Bool, true, false, not, cond, ◌&&◌}
+use mathlib.Core.Bool.{Bool, true, false, ◌&&◌}
 use mathlib.Core.Option.{Option, none, some}
 use mathlib.Core.List.{List, [], ◌∷◌}
 use Prim.Native.Nat.{ℕ, ◌+◌, ◌-◌, ◌≤◌, ◌<◌}
 use native.Mathlib.Nat.{le_refl}
 use native.Mathlib.Omega.{arith}
-use borrow.Author.Tests.{eqb-true, eqb-false, eq-eqb, ne_eqb}
-use lib.Dec.{eqb}
 use lib.ListN.{length, drop}
 use Rattle.lists.proofs.Bools.{clash}
 use Rattle.meaning.specs.Tokens as T
@@ -15,6 +13,8 @@ use Rattle.meaning.specs.Tokens.{keyword, comma, FROM, same_token, first_token, 
 use Rattle.meaning.specs.Grammar.{comma_second, is_paired, a_single, a_pair, a_select}
 use Rattle.meaning.proofs.Readers.{same_self, same_not}
 use Rattle.meaning.proofs.Stream.{tokens-some}
+use Rattle.token.specs.declared.Kind.{Kind}
+use Rattle.token.specs.declared.Kind.TheVariants.{End, Comma, From}
 use Rattle.token.specs.declared.Token.{Token}
 use Rattle.token.specs.Tokens.{kind_of, token_at}
 use Rattle.token.proofs.Cases.{none_is, past_end}
@@ -22,7 +22,7 @@ use Rattle.token.proofs.Laws.{next-from}
 use Rattle.token.proofs.TokenKinds.{kind-some, kind-fixed}
 use Rattle.statement.specs.declared.conditions.Cursor.{Cursor}
 use Rattle.statement.specs.declared.sentences.Entry.{Entry}
-use Rattle.statement.specs.Sentences.{is_comma_second, Takes, Entered, Starts, ReadsForm}
+use Rattle.statement.specs.Sentences.{is_from, is_comma, ends_list, is_comma_second, Takes, Entered, Starts, ReadsForm}
 use Rattle.statement.proofs.Steps.{Look, ended, seen, look, goes}
 
 -- ---- behind FROM
@@ -39,14 +39,18 @@ module _ (s : List ℕ) (p : ℕ) where
       go none e = ap (λ (t : Token). t.next) (none_is s p e)
       go (some x) e = absurd (never (sym k ∙ tokens-some (drop p s) x.0 x.1 e))
 
-same-comma : (t : T.Token) → same_token t comma ≡ eqb (kind_of t) 6
-same-comma t = go (eqb (kind_of t) 6) refl
-  where
-    go : (b : Bool) → eqb (kind_of t) 6 ≡ b → same_token t comma ≡ eqb (kind_of t) 6
-    go true e = ap (λ u. same_token u comma) (kind-fixed t comma refl (eqb-true (kind_of t) 6 e)) ∙ same_self comma ∙ sym e
-    go false e = same_not t comma (λ q. eqb-false (kind_of t) 6 e (ap kind_of q)) ∙ sym e
+comma-is : (k : Kind) → is_comma k ≡ true → k ≡ Comma
+comma-is Comma e = refl
+comma-is _ e = cc
 
-comma-second : (s : List ℕ) (p : ℕ) → eqb (token_at s (token_at s p).next).kind 6 ≡ comma_second (tokens (drop p s))
+same-comma : (t : T.Token) → same_token t comma ≡ is_comma (kind_of t)
+same-comma t = go (is_comma (kind_of t)) refl
+  where
+    go : (b : Bool) → is_comma (kind_of t) ≡ b → same_token t comma ≡ is_comma (kind_of t)
+    go true e = ap (λ u. same_token u comma) (kind-fixed t comma refl (comma-is (kind_of t) e)) ∙ same_self comma ∙ sym e
+    go false e = same_not t comma (λ q. clash (ap (λ (u : T.Token). is_comma (kind_of u)) q) e) ∙ sym e
+
+comma-second : (s : List ℕ) (p : ℕ) → is_comma (token_at s (token_at s p).next).kind ≡ comma_second (tokens (drop p s))
 comma-second s p = one (look s p u refl)
   where
     u : Token
@@ -55,12 +59,12 @@ comma-second s p = one (look s p u refl)
     w : Token
     w = token_at s (token_at s p).next
 
-    two : (t : T.Token) → tokens (drop p s) ≡ t ∷ tokens (drop u.next s) → Look s u.next w → eqb w.kind 6 ≡ comma_second (tokens (drop p s))
-    two t l (ended z q) = ap (λ n. eqb n 6) z ∙ sym (ap comma_second (l ∙ ap (λ ts. t ∷ ts) q))
-    two t l (seen v) = ap (λ n. eqb n 6) (sym v.kind) ∙ sym (same-comma v.token) ∙ sym (ap comma_second (l ∙ ap (λ ts. t ∷ ts) v.left))
+    two : (t : T.Token) → tokens (drop p s) ≡ t ∷ tokens (drop u.next s) → Look s u.next w → is_comma w.kind ≡ comma_second (tokens (drop p s))
+    two t l (ended z q) = ap is_comma z ∙ sym (ap comma_second (l ∙ ap (λ ts. t ∷ ts) q))
+    two t l (seen v) = ap is_comma (sym v.kind) ∙ sym (same-comma v.token) ∙ sym (ap comma_second (l ∙ ap (λ ts. t ∷ ts) v.left))
 
-    one : Look s p u → eqb w.kind 6 ≡ comma_second (tokens (drop p s))
-    one (ended z q) = ap (λ n. eqb (token_at s n).kind 6) (ended-next s p q) ∙ sym (ap (λ (t : Token). eqb t.kind 6) (past_end s (length s) (le_refl (length s)))) ∙ sym (ap comma_second q)
+    one : Look s p u → is_comma w.kind ≡ comma_second (tokens (drop p s))
+    one (ended z q) = ap (λ n. is_comma (token_at s n).kind) (ended-next s p q) ∙ sym (ap (λ (t : Token). is_comma t.kind) (past_end s (length s) (le_refl (length s)))) ∙ sym (ap comma_second q)
     one (seen v) = two v.token v.left (look s u.next w refl)
 
 -- ---- up to FROM
@@ -75,8 +79,12 @@ pub looks-start : (s : List ℕ) (at : ℕ) (t : Token) → t ≡ token_at s at 
 looks-start s at t e = record { from = at; here = e; same = refl }
 
 -- what is left of the text, and whether a token is
+abbrev pub here_left : Kind → ℕ
+here_left End = 0
+here_left _ = 1
+
 abbrev pub left_of : List ℕ → Token → ℕ
-left_of s t = length s - t.next + cond (eqb t.kind 0) 0 1
+left_of s t = length s - t.next + here_left t.kind
 
 paired-not : (t : T.Token) (ts : List T.Token) → same_token t (keyword FROM) ≡ false → is_paired (t ∷ ts) ≡ is_paired ts
 paired-not t ts e = rw (e, is_paired)
@@ -85,15 +93,10 @@ paired-from : (ts : List T.Token) → is_paired (keyword FROM ∷ ts) ≡ comma_
 paired-from ts = refl
 
 module _ (s : List ℕ) (at : ℕ) (t : Token) (k : Looks s at t) where
-  module _ (h : (not (eqb t.kind 0) && not (eqb t.kind 18)) ≡ true) (u : Token) (e : u ≡ token_at s t.next) where
+  module _ (h : ends_list t.kind ≡ false) (u : Token) (e : u ≡ token_at s t.next) where
     -- neither the end nor FROM
-    other : (t.kind ≡ 0 → ⊥) × (t.kind ≡ 18 → ⊥)
-    other = go (eqb t.kind 0) (eqb t.kind 18) refl refl h
-      where
-        go : (a b : Bool) → eqb t.kind 0 ≡ a → eqb t.kind 18 ≡ b → (not a && not b) ≡ true → (t.kind ≡ 0 → ⊥) × (t.kind ≡ 18 → ⊥)
-        go true b p q r = clash r refl
-        go false true p q r = clash r refl
-        go false false p q r = (eqb-false t.kind 0 p, eqb-false t.kind 18 q)
+    other : (t.kind ≡ End → ⊥) × (t.kind ≡ From → ⊥)
+    other = (λ z. clash (ap ends_list z) h, λ z. clash (ap ends_list z) h)
 
     pub looks-more : Looks s at u
     looks-more = go (look s k.from t k.here)
@@ -114,36 +117,37 @@ module _ (s : List ℕ) (at : ℕ) (t : Token) (k : Looks s at t) where
         behind : t.next ≤ length s → t.next ≤ u.next
         behind l = subst (λ (x : Token). t.next ≤ x.next) (sym e) (next-from s t.next l)
 
-        one : ◌≡◌ {A = ℕ} (cond (eqb t.kind 0) 0 1) 1
-        one = ap (λ b. cond b 0 1) (ne_eqb t.kind 0 other.0)
+        one : here_left t.kind ≡ 1
+        one = by t.kind other.0
+          where
+            by : (k : Kind) → (k ≡ End → ⊥) → here_left k ≡ 1
+            by End n = absurd (n refl)
+            by _ n = refl
 
-        few : (b : Bool) → cond b 0 1 ≤ 1
-        few true = omega arith
-        few false = omega arith
+        few : (k : Kind) → here_left k ≤ 1
+        few End = omega arith
+        few _ = omega arith
 
         go : Look s t.next u → Look s k.from t → left_of s u < left_of s t
         go l (ended z q) = absurd (other.0 z)
         go (ended z q) (seen v) =
-            let n : ◌≡◌ {A = ℕ} (cond (eqb u.kind 0) 0 1) 0 = ap (λ b. cond b 0 1) (eq-eqb u.kind 0 z) in
+            let n : here_left u.kind ≡ 0 = ap here_left z in
             omega (arith, n, one, behind v.inside)
-        go (seen w) (seen v) = omega (arith, one, few (eqb u.kind 0), w.from, w.moves, w.inside, v.inside)
+        go (seen w) (seen v) = omega (arith, one, few u.kind, w.from, w.moves, w.inside, v.inside)
 
-  pub looks-end : (not (eqb t.kind 0) && not (eqb t.kind 18)) ≡ false → is_comma_second s t ≡ is_paired (tokens (drop at s))
-  looks-end h = go (eqb t.kind 18) refl
+  pub looks-end : ends_list t.kind ≡ true → is_comma_second s t ≡ is_paired (tokens (drop at s))
+  looks-end h = go t.kind refl h
     where
-      go : (b : Bool) → eqb t.kind 18 ≡ b → is_comma_second s t ≡ is_paired (tokens (drop at s))
-      go true e =
-          let g = goes s k.from t k.here (keyword FROM) refl (eqb-true t.kind 18 e) in
-          ap (λ b. b && eqb (token_at s (token_at s t.next).next).kind 6) e ∙ comma-second s t.next ∙ sym (ap is_paired g.after ∙ paired-from (tokens (drop t.next s))) ∙ k.same
-      go false e = last (eqb t.kind 0) refl (look s k.from t k.here)
+      go : (l : Kind) → t.kind ≡ l → ends_list l ≡ true → is_comma_second s t ≡ is_paired (tokens (drop at s))
+      go From e q =
+          let g = goes s k.from t k.here (keyword FROM) refl e in
+          ap (λ l. is_from l && is_comma (token_at s (token_at s t.next).next).kind) e ∙ comma-second s t.next ∙ sym (ap is_paired g.after ∙ paired-from (tokens (drop t.next s))) ∙ k.same
+      go End e q = last (look s k.from t k.here)
         where
-          last : (a : Bool) → eqb t.kind 0 ≡ a → Look s k.from t → is_comma_second s t ≡ is_paired (tokens (drop at s))
-          last a q (ended z l) = ap (λ b. b && eqb (token_at s (token_at s t.next).next).kind 6) e ∙ sym (ap is_paired l) ∙ k.same
-          last true q (seen v) = absurd (no_end (eqb-true t.kind 0 q))
-            where
-              no_end : t.kind ≡ 0 → ⊥
-              no_end z = kind-some v.token (v.kind ∙ z)
-          last false q (seen v) = clash (ap (λ a. not a && not (eqb t.kind 18)) q ∙ ap not e) h
+          last : Look s k.from t → is_comma_second s t ≡ is_paired (tokens (drop at s))
+          last (ended z l) = ap (λ l. is_from l && is_comma (token_at s (token_at s t.next).next).kind) e ∙ sym (ap is_paired l) ∙ k.same
+          last (seen v) = absurd (kind-some v.token (v.kind ∙ e))
+      go _ e q = absurd (cc)
 
 -- ---- SELECT, by what stands behind FROM
 

@@ -1,6 +1,6 @@
 -- The parts of statements: a number of rows, and the marks, operators and steps of what stands at places. Assumes nothing.
 use mathlib.Core.Path.{◌≡◌, refl, sym, ap, ◌∙◌}
-use mathlib.Core.Bool.{Bool, true, false}
+use mathlib.Core.Bool.{Bool, true, false, ◌||◌}
 use mathlib.Core.List.{List}
 use Prim.Native.Nat.{ℕ, ◌+◌, ◌≤◌, ◌<◌}
 use native.Mathlib.Omega.{arith}
@@ -30,13 +30,14 @@ use Rattle.statement.specs.Built.{rows_in, short_given, short_column, short_term
 -- ---- rows
 
 module _ (z y : ℤ) (e : y ≡ z) where
-  pub rows-low : lt_z y (pos 1) ≡ true → 0 ≡ rows_in z
+  pub rows-past : (lt_z y (pos 1) || lt_z (pos 512) y) ≡ true → 0 ≡ rows_in z
   unfolding rows_in
-  rows-low h = rw (← e, h)
-
-  pub rows-high : lt_z y (pos 1) ≡ false → lt_z (pos 512) y ≡ true → 0 ≡ rows_in z
-  unfolding rows_in
-  rows-high h k = rw (← e, h, k)
+  rows-past h = go (lt_z y (pos 1)) (lt_z (pos 512) y) refl refl h
+    where
+      go : (a b : Bool) → lt_z y (pos 1) ≡ a → lt_z (pos 512) y ≡ b → (a || b) ≡ true → 0 ≡ rows_in z
+      go true b p q h = rw (← e, p)
+      go false true p q h = rw (← e, p, q)
+      go false false p q h = clash h refl
 
   pub rows_inside : lt_z y (pos 1) ≡ false → lt_z (pos 512) y ≡ false → nat_abs y ≡ rows_in z
   unfolding rows_in

@@ -2,12 +2,13 @@
 use mathlib.Core.Path.{◌≡◌, refl, sym, ap, subst, ◌∙◌}
 use mathlib.Core.Bool.{Bool, true, false, not, cond, ◌||◌}
 use mathlib.Core.Option.{Option, none, some}
+use Rattle.std.specs.Prelude.{Option as Maybe, Some, None}
 use mathlib.Core.List.{List, [], ◌∷◌, ◌++◌, append-nil, append_assoc}
 use Prim.Native.Nat.{ℕ, zero, suc, ◌+◌, ◌-◌, ◌*◌, ◌≤◌, ◌<◌}
 use native.Mathlib.Nat.{le_refl}
 use native.Mathlib.Omega.{arith}
 use lib.ListN.{length, drop, length-append}
-use Rattle.lists.proofs.Bools.{clash, or_assoc}
+use Rattle.lists.proofs.Bools.{or_assoc}
 use Rattle.meaning.specs.Condition.{Level, atom, conjunction, disjunction, mapped, negate, group, alone, both, single, either, comparisons}
 use Rattle.meaning.specs.Postfix.{Node, nodes, join_all, join_any}
 use Rattle.meaning.specs.Tokens as T
@@ -108,18 +109,18 @@ found_as b s p d q e c at xs r ys t u more same le f =
     }
 
 -- what a reader found moved on, and stands; columns are dotted as before
-found-more : (l : Level) (s : List ℕ) (positive : Bool) (depth : ℕ) (c : Cursor) (xs : List ℕ) (r : Cursor) (ys : List ℕ) → Reads l s positive depth c xs r ys → r.ok ≡ true
+found-more : (l : Level) (s : List ℕ) (positive : Bool) (depth : ℕ) (c : Cursor) (xs : List ℕ) (r : Cursor) (ys : List ℕ) → Reads l s positive depth c xs (Some r) ys
     → (Stands s r × (c.at < r.at) × (r.nodes + c.at ≤ c.nodes + r.at)) × (r.dotted ≡ c.dotted)
-found-more l s positive depth c xs r ys m e = go (a_condition (a_column c.dotted) (3 * (length s - c.at) + rank l) l (tokens (drop c.at s))) (m c.dotted refl _ (le_refl _))
+found-more l s positive depth c xs r ys m = go (a_condition (a_column c.dotted) (3 * (length s - c.at) + rank l) l (tokens (drop c.at s))) (m c.dotted refl _ (le_refl _))
   where
-    go : (x : Option (Written c.dotted l × List T.Token)) → Meets c.dotted s positive depth c xs r ys x
+    go : (x : Option (Written c.dotted l × List T.Token)) → Meets c.dotted s positive depth c xs (Some r) ys x
         → (Stands s r × (c.at < r.at) × (r.nodes + c.at ≤ c.nodes + r.at)) × (r.dotted ≡ c.dotted)
-    go none n = clash e n
+    go none n = absurd n
     go (some x) n = ((n.stands, n.moved, n.spread), n.dotted)
 
-pub found-on : (l : Level) (s : List ℕ) (positive : Bool) (depth : ℕ) (c : Cursor) (xs : List ℕ) (r : Cursor) (ys : List ℕ) → Reads l s positive depth c xs r ys → r.ok ≡ true
+pub found-on : (l : Level) (s : List ℕ) (positive : Bool) (depth : ℕ) (c : Cursor) (xs : List ℕ) (r : Cursor) (ys : List ℕ) → Reads l s positive depth c xs (Some r) ys
     → Stands s r × (c.at < r.at) × (r.nodes + c.at ≤ c.nodes + r.at)
-found-on l s positive depth c xs r ys m e = (found-more l s positive depth c xs r ys m e).0
+found-on l s positive depth c xs r ys m = (found-more l s positive depth c xs r ys m).0
 
 -- ---- AND and OR: what follows the first condition
 
@@ -127,38 +128,33 @@ module _ (b : Bool) {lo hi : Level} (k : T.Token) (wrap : Written b lo → Writt
   abbrev rest : Written b lo → Reader (Written b hi)
   rest t = passing k (again >>= λ d. done (join t d)) (done (wrap t))
 
-  module _ (s : List ℕ) (positive : Bool) (depth : ℕ) (c : Cursor) (xs : List ℕ) (p : Cursor) (ys : List ℕ) where
+  module _ (s : List ℕ) (positive : Bool) (depth : ℕ) (c : Cursor) (xs : List ℕ) (ys : List ℕ) where
     -- the first failed
-    chain-fails : (x : Option (Written b lo × List T.Token)) → Meets b s positive depth c xs p ys x → p.ok ≡ false → Meets b s positive depth c xs p ys (then x rest)
-    chain-fails none m e = m
-    chain-fails (some y) m e = clash m.ok e
+    chain-fails : (x : Option (Written b lo × List T.Token)) → Meets b s positive depth c xs None ys x → Meets b s positive depth c xs None ys (then x rest)
+    chain-fails none m = tt
+    chain-fails (some y) m = absurd m
 
-    -- the first is all
-    chain-stops : ((t : Written b lo) → Same b positive depth t positive depth (wrap t))
-        → (x : Option (Written b lo × List T.Token)) → Meets b s positive depth c xs p ys x → p.ok ≡ true → begins k (tokens (drop p.at s)) ≡ false
-        → Meets b s positive depth c xs p ys (then x rest)
-    chain-stops w none m e i = clash e m
-    chain-stops w (some y) m e i =
-        subst (Meets b s positive depth c xs p ys) (sym (passing-stops k (again >>= λ d. done (join y.0 d)) (done (wrap y.0)) y.1 (ap (begins k) (sym m.left) ∙ i)))
-        (found_as b s positive depth positive depth c c.at xs p ys y.0 (wrap y.0) y.1 (w y.0) (le_refl c.at) m)
+    module _ (p : Cursor) where
+      -- the first is all
+      chain-stops : ((t : Written b lo) → Same b positive depth t positive depth (wrap t))
+          → (x : Option (Written b lo × List T.Token)) → Meets b s positive depth c xs (Some p) ys x → begins k (tokens (drop p.at s)) ≡ false
+          → Meets b s positive depth c xs (Some p) ys (then x rest)
+      chain-stops w none m i = absurd m
+      chain-stops w (some y) m i =
+          subst (Meets b s positive depth c xs (Some p) ys) (sym (passing-stops k (again >>= λ d. done (join y.0 d)) (done (wrap y.0)) y.1 (ap (begins k) (sym m.left) ∙ i)))
+          (found_as b s positive depth positive depth c c.at xs p ys y.0 (wrap y.0) y.1 (w y.0) (le_refl c.at) m)
 
-    -- the second is read from `next` on, which leaves q; r is the answer
-    module _ (q : Cursor) (zs : List ℕ) (next : ℕ) (t : Goes s p.at next k) (r : Cursor) (ws : List ℕ) where
-      chain-goes : ((x : Written b lo) (more : List T.Token) → Found b s positive depth c xs p ys x more → (d : Written b hi) (left : List T.Token)
-          → Found b s positive depth (moved_to next p) ys q zs d left → Found b s positive depth c xs r ws (join x d) left)
-          → (q.ok ≡ false → r.ok ≡ false)
-          → (x : Option (Written b lo × List T.Token)) → Meets b s positive depth c xs p ys x → p.ok ≡ true
-          → Meets b s positive depth (moved_to next p) ys q zs (again (tokens (drop next s))) → Meets b s positive depth c xs r ws (then x rest)
-      chain-goes j no_more none m e n = clash e m
-      chain-goes j no_more (some y) m e n =
-          subst (Meets b s positive depth c xs r ws)
-          (sym (ap (rest y.0) (sym m.left ∙ t.after) ∙ passing-yes k (again >>= λ d. done (join y.0 d)) (done (wrap y.0)) (tokens (drop next s))))
-          (go (again (tokens (drop next s))) n)
-        where
-          go : (o : Option (Written b hi × List T.Token)) → Meets b s positive depth (moved_to next p) ys q zs o
-              → Meets b s positive depth c xs r ws (then o (λ d. done (join y.0 d)))
-          go none g = no_more g
-          go (some d) g = j y.0 y.1 m d.0 d.1 g
+      -- the second is read from `next` on, which leaves q; r is the answer
+      module _ (q : Maybe Cursor) (zs : List ℕ) (next : ℕ) (t : Goes s p.at next k) (r : Maybe Cursor) (ws : List ℕ) where
+        chain-goes : ((x : Written b lo) (more : List T.Token) → Found b s positive depth c xs p ys x more → (o : Option (Written b hi × List T.Token))
+            → Meets b s positive depth (moved_to next p) ys q zs o → Meets b s positive depth c xs r ws (then o (λ d. done (join x d))))
+            → (x : Option (Written b lo × List T.Token)) → Meets b s positive depth c xs (Some p) ys x
+            → Meets b s positive depth (moved_to next p) ys q zs (again (tokens (drop next s))) → Meets b s positive depth c xs r ws (then x rest)
+        chain-goes j none m n = absurd m
+        chain-goes j (some y) m n =
+            subst (Meets b s positive depth c xs r ws)
+            (sym (ap (rest y.0) (sym m.left ∙ t.after) ∙ passing-yes k (again >>= λ d. done (join y.0 d)) (done (wrap y.0)) (tokens (drop next s))))
+            (j y.0 y.1 m (again (tokens (drop next s))) n)
 
 -- a level that joins conditions of the one below by the token k: how the grammar reads it, and what the joined condition is
 pub record Chain (lo hi : Level) (k : T.Token) (wrap : (b : Bool) → Written b lo → Written b hi) (join : (b : Bool) → Written b lo → Written b hi → Written b hi)
@@ -230,45 +226,54 @@ ors =
 
 module _ {lo hi : Level} {k : T.Token} {wrap : (b : Bool) → Written b lo → Written b hi} {join : (b : Bool) → Written b lo → Written b hi → Written b hi}
     {number : Bool → ℕ} {node : (b : Bool) → Bool → Node (Operand b)}
-    (𝓒 : Chain lo hi k wrap join number node) (s : List ℕ) (positive : Bool) (depth : ℕ) (c : Cursor) (xs : List ℕ) (p : Cursor) (ys : List ℕ) (m : Reads lo s positive depth c xs p ys) where
-  unrolled : (r : Cursor) (ws : List ℕ)
+    (𝓒 : Chain lo hi k wrap join number node) (s : List ℕ) (positive : Bool) (depth : ℕ) (c : Cursor) (xs : List ℕ) (ys : List ℕ) where
+  unrolled : (v : Maybe Cursor) (m : Reads lo s positive depth c xs v ys) (r : Maybe Cursor) (ws : List ℕ)
       → ((b : Bool) → c.dotted ≡ b → (n : ℕ) → 3 * (length s - c.at) + rank lo ≤ n
       → Meets b s positive depth c xs r ws (then (a_condition (a_column b) n lo (tokens (drop c.at s))) (rest b k (wrap b) (join b) (a_condition (a_column b) n hi))))
       → Reads hi s positive depth c xs r ws
-  unrolled r ws f b eb zero h = absurd (omega (arith, 𝓒.higher))
-  unrolled r ws f b eb (suc n) h = subst (Meets b s positive depth c xs r ws) (sym (𝓒.unrolls b n (tokens (drop c.at s)))) (f b eb n (omega (arith, 𝓒.higher)))
+  unrolled v m r ws f b eb zero h = absurd (omega (arith, 𝓒.higher))
+  unrolled v m r ws f b eb (suc n) h = subst (Meets b s positive depth c xs r ws) (sym (𝓒.unrolls b n (tokens (drop c.at s)))) (f b eb n (omega (arith, 𝓒.higher)))
 
-  pub first-fails : p.ok ≡ false → Reads hi s positive depth c xs p ys
-  first-fails e = unrolled p ys (λ b eb n h. chain-fails b k (wrap b) (join b) (a_condition (a_column b) n hi) s positive depth c xs p ys (a_condition (a_column b) n lo (tokens (drop c.at s))) (m b eb n h) e)
+  pub first-fails : (v : Maybe Cursor) → v ≡ None → Reads lo s positive depth c xs None ys → Reads hi s positive depth c xs v ys
+  first-fails v e m = subst (λ r. Reads hi s positive depth c xs r ys) (sym e) (unrolled None m None ys (λ b eb n h. chain-fails b k (wrap b) (join b) (a_condition (a_column b) n hi) s positive depth c xs ys (a_condition (a_column b) n lo (tokens (drop c.at s))) (m b eb n h)))
 
-  module _ (e : p.ok ≡ true) where
-    pub first_alone : begins k (tokens (drop p.at s)) ≡ false → Reads hi s positive depth c xs p ys
+  module _ (p : Cursor) (m : Reads lo s positive depth c xs (Some p) ys) where
+    pub first_alone : begins k (tokens (drop p.at s)) ≡ false → Reads hi s positive depth c xs (Some p) ys
     first_alone i =
-        unrolled p ys (λ b eb n h.
-        chain-stops b k (wrap b) (join b) (a_condition (a_column b) n hi) s positive depth c xs p ys (𝓒.same b positive depth) (a_condition (a_column b) n lo (tokens (drop c.at s))) (m b eb n h) e i)
+        unrolled (Some p) m (Some p) ys (λ b eb n h.
+        chain-stops b k (wrap b) (join b) (a_condition (a_column b) n hi) s positive depth c xs ys p (𝓒.same b positive depth) (a_condition (a_column b) n lo (tokens (drop c.at s))) (m b eb n h) i)
 
-    module _ (next : ℕ) (t : Goes s p.at next k) (q : Cursor) (zs : List ℕ) (w : Reads hi s positive depth (moved_to next p) ys q zs) where
-      module _ (r : Cursor) (ws : List ℕ) where
-        second-goes : ((b : Bool) (x : Written b lo) (more : List T.Token) → Found b s positive depth c xs p ys x more → (d : Written b hi) (left : List T.Token)
-            → Found b s positive depth (moved_to next p) ys q zs d left → Found b s positive depth c xs r ws (join b x d) left)
-            → (q.ok ≡ false → r.ok ≡ false) → Reads hi s positive depth c xs r ws
-        second-goes j no_more =
-            let on = found-more lo s positive depth c xs p ys m e in
-            unrolled r ws (λ b eb n h.
-            chain-goes b k (wrap b) (join b) (a_condition (a_column b) n hi) s positive depth c xs p ys q zs next t r ws (j b) no_more (a_condition (a_column b) n lo (tokens (drop c.at s))) (m b eb n h) e
-            (w b (on.1 ∙ eb) n (omega (arith, 𝓒.higher, on.0.1, t.on, t.within))))
+    module _ (next : ℕ) (t : Goes s p.at next k) (q : Maybe Cursor) (zs : List ℕ) (w : Reads hi s positive depth (moved_to next p) ys q zs) where
+      second-goes : (r : Maybe Cursor) (ws : List ℕ)
+          → ((b : Bool) (x : Written b lo) (more : List T.Token) → Found b s positive depth c xs p ys x more → (o : Option (Written b hi × List T.Token))
+          → Meets b s positive depth (moved_to next p) ys q zs o → Meets b s positive depth c xs r ws (then o (λ d. done (join b x d))))
+          → Reads hi s positive depth c xs r ws
+      second-goes r ws j =
+          let on = found-more lo s positive depth c xs p ys m in
+          unrolled (Some p) m r ws (λ b eb n h.
+          chain-goes b k (wrap b) (join b) (a_condition (a_column b) n hi) s positive depth c xs ys p q zs next t r ws (j b) (a_condition (a_column b) n lo (tokens (drop c.at s))) (m b eb n h)
+          (w b (on.1 ∙ eb) n (omega (arith, 𝓒.higher, on.0.1, t.on, t.within))))
 
-      pub second-fails : q.ok ≡ false → Reads hi s positive depth c xs q zs
-      second-fails f = second-goes q zs (λ b x more g d left h. clash h.ok f) (λ z. z)
+    module _ (next : ℕ) (t : Goes s p.at next k) (zs : List ℕ) where
+      pub second-fails : (v : Maybe Cursor) → v ≡ None → Reads hi s positive depth (moved_to next p) ys None zs → Reads hi s positive depth c xs v zs
+      second-fails v e w = subst (λ r. Reads hi s positive depth c xs r zs) (sym e) (second-goes next t None zs w None zs go)
+        where
+          go : (b : Bool) (x : Written b lo) (more : List T.Token) → Found b s positive depth c xs p ys x more → (o : Option (Written b hi × List T.Token))
+              → Meets b s positive depth (moved_to next p) ys None zs o → Meets b s positive depth c xs None zs (then o (λ d. done (join b x d)))
+          go b x more g none n = tt
+          go b x more g (some d) n = absurd n
 
-      pub second-joins : q.ok ≡ true → (r : Cursor) (ws : List ℕ) (i : ℕ) → i ≡ number positive → PutsNode zs q i 0 0 ws r → Reads hi s positive depth c xs r ws
-      second-joins f r ws i ei put =
-          second-goes r ws
-          (λ b x more g d left h.
-          joined b s positive depth c xs x d (join b x d) p ys q zs next (number positive) (node b positive) (𝓒.over b depth x d) (𝓒.marks b x d) (𝓒.nodes_are b positive x d)
-          (𝓒.bare_is b depth x d) (𝓒.node_is b s positive) (𝓒.unmarked positive)
-          more left g t.on h r ws (subst (λ z. PutsNode zs q z 0 0 ws r) ei put))
-          (λ z. clash f z)
+      pub second-joins : (q : Cursor) → Reads hi s positive depth (moved_to next p) ys (Some q) zs → (r : Cursor) (ws : List ℕ) (i : ℕ) → i ≡ number positive → PutsNode zs q i 0 0 ws r
+          → Reads hi s positive depth c xs (Some r) ws
+      second-joins q w r ws i ei put = second-goes next t (Some q) zs w (Some r) ws go
+        where
+          go : (b : Bool) (x : Written b lo) (more : List T.Token) → Found b s positive depth c xs p ys x more → (o : Option (Written b hi × List T.Token))
+              → Meets b s positive depth (moved_to next p) ys (Some q) zs o → Meets b s positive depth c xs (Some r) ws (then o (λ d. done (join b x d)))
+          go b x more g none n = absurd n
+          go b x more g (some y) n =
+              joined b s positive depth c xs x y.0 (join b x y.0) p ys q zs next (number positive) (node b positive) (𝓒.over b depth x y.0) (𝓒.marks b x y.0) (𝓒.nodes_are b positive x y.0)
+              (𝓒.bare_is b depth x y.0) (𝓒.node_is b s positive) (𝓒.unmarked positive)
+              more y.1 g t.on n r ws (subst (λ z. PutsNode zs q z 0 0 ws r) ei put)
 
 -- ---- the closing parenthesis
 
@@ -295,54 +300,66 @@ passed-found b s positive depth c xs p ys t more q left f k = subst (λ z. Found
         }
 
 -- the answers of `closed`
-module _ (s : List ℕ) (c r : Cursor) where
-  pub closes-fails : c.ok ≡ false → Closes s c c
-  closes-fails e = ((λ _. e), λ t. clash t e)
+pub closes-not : (s : List ℕ) (c : Cursor) → begins rparen (tokens (drop c.at s)) ≡ false → Closes s c None
+closes-not s c i = subst (Passes s c None) (sym (passing-stops rparen (done tt) fails (tokens (drop c.at s)) i)) tt
 
-  pub closes-not : r.ok ≡ false → begins rparen (tokens (drop c.at s)) ≡ false → Closes s c r
-  closes-not e i = ((λ _. e), λ _. subst (Passes s c r) (sym (passing-stops rparen (done tt) fails (tokens (drop c.at s)) i)) e)
-
-pub closes_here : (s : List ℕ) (c : Cursor) (next : ℕ) → c.ok ≡ true → Goes s c.at next rparen → Closes s c (moved_to next c)
-closes_here s c next e g = (
-  (λ z. clash e z),
-  λ _.
-      subst (Passes s c (moved_to next c)) (sym (ap (expect rparen) g.after ∙ expect-here rparen (tokens (drop next s))))
-      (record { is = refl; moved = g.on; inside = g.within; left = refl }),
-)
+pub closes_here : (s : List ℕ) (c : Cursor) (next : ℕ) → Goes s c.at next rparen → Closes s c (Some (moved_to next c))
+closes_here s c next g =
+    subst (Passes s c (Some (moved_to next c))) (sym (ap (expect rparen) g.after ∙ expect-here rparen (tokens (drop next s))))
+    (record { is = refl; moved = g.on; inside = g.within; left = refl })
 
 -- ---- the answers of `read_one`
 
-module _ (s : List ℕ) (positive : Bool) (depth : ℕ) (c : Cursor) (xs : List ℕ) (p : Cursor) (ys : List ℕ) (next : ℕ) where
-  pub one-negates : Goes s c.at next (keyword NOT) → Reads atom s (not positive) (depth + 1) (moved_to next c) xs p ys → Reads atom s positive depth c xs p ys
-  one-negates g m b eb zero h = absurd (omega arith)
-  one-negates g m b eb (suc n) h =
+module _ (s : List ℕ) (positive : Bool) (depth : ℕ) (c : Cursor) (xs : List ℕ) (ys : List ℕ) (next : ℕ) where
+  pub one-negates : (p : Maybe Cursor) → Goes s c.at next (keyword NOT) → Reads atom s (not positive) (depth + 1) (moved_to next c) xs p ys → Reads atom s positive depth c xs p ys
+  one-negates p g m b eb zero h = absurd (omega arith)
+  one-negates p g m b eb (suc n) h =
       subst (Meets b s positive depth c xs p ys) (sym (ap (a_condition (a_column b) (suc n) atom) g.after ∙ reads-not (a_column b) n (tokens (drop next s))))
-      (go (a_condition (a_column b) n atom (tokens (drop next s))) (m b eb n (omega (arith, g.on, g.within))))
+      (go p (a_condition (a_column b) n atom (tokens (drop next s))) (m b eb n (omega (arith, g.on, g.within))))
     where
-      go : (x : Option (Written b atom × List T.Token)) → Meets b s (not positive) (depth + 1) (moved_to next c) xs p ys x
-          → Meets b s positive depth c xs p ys (then x (λ t. done (negate t)))
-      go none f = f
-      go (some y) f = found_as b s (not positive) (depth + 1) positive depth c next xs p ys y.0 (negate y.0) y.1 (refl, refl, refl, refl) (omega (arith, g.on)) f
+      go : (v : Maybe Cursor) (x : Option (Written b atom × List T.Token)) → Meets b s (not positive) (depth + 1) (moved_to next c) xs v ys x
+          → Meets b s positive depth c xs v ys (then x (λ t. done (negate t)))
+      go None none f = tt
+      go None (some y) f = absurd f
+      go (Some v) none f = absurd f
+      go (Some v) (some y) f = found_as b s (not positive) (depth + 1) positive depth c next xs v ys y.0 (negate y.0) y.1 (refl, refl, refl, refl) (omega (arith, g.on)) f
 
-  pub one-closes : Goes s c.at next lparen → Reads disjunction s positive (depth + 1) (moved_to next c) xs p ys → (q : Cursor) → Closes s p q → Reads atom s positive depth c xs q ys
-  one-closes g m q k b eb zero h = absurd (omega arith)
-  one-closes g m q k b eb (suc n) h =
+  -- what stands in the parentheses is no condition
+  empty : Goes s c.at next lparen → Reads disjunction s positive (depth + 1) (moved_to next c) xs None ys → Reads atom s positive depth c xs None ys
+  empty g m b eb zero h = absurd (omega arith)
+  empty g m b eb (suc n) h =
+      subst (Meets b s positive depth c xs None ys) (sym (ap (a_condition (a_column b) (suc n) atom) g.after ∙ reads-open (a_column b) n (tokens (drop next s))))
+      (go (a_condition (a_column b) n disjunction (tokens (drop next s))) (m b eb n (omega (arith, g.on, g.within))))
+    where
+      go : (x : Option (Written b disjunction × List T.Token)) → Meets b s positive (depth + 1) (moved_to next c) xs None ys x
+          → Meets b s positive depth c xs None ys (then x (λ t. expect rparen >> done (group t)))
+      go none f = tt
+      go (some y) f = absurd f
+
+  pub one-empty : (v : Maybe Cursor) → v ≡ None → Goes s c.at next lparen → Reads disjunction s positive (depth + 1) (moved_to next c) xs None ys → Reads atom s positive depth c xs v ys
+  one-empty v e g m = subst (λ r. Reads atom s positive depth c xs r ys) (sym e) (empty g m)
+
+  pub one-closes : (p : Cursor) → Goes s c.at next lparen → Reads disjunction s positive (depth + 1) (moved_to next c) xs (Some p) ys → (q : Maybe Cursor) → Closes s p q → Reads atom s positive depth c xs q ys
+  one-closes p g m q k b eb zero h = absurd (omega arith)
+  one-closes p g m q k b eb (suc n) h =
       subst (Meets b s positive depth c xs q ys) (sym (ap (a_condition (a_column b) (suc n) atom) g.after ∙ reads-open (a_column b) n (tokens (drop next s))))
       (go (a_condition (a_column b) n disjunction (tokens (drop next s))) (m b eb n (omega (arith, g.on, g.within))))
     where
       shut : (t : Written b disjunction) (more : List T.Token) → Found b s positive (depth + 1) (moved_to next c) xs p ys t more
-          → (o : Option (Unit {0} × List T.Token)) → Passes s p q o → Meets b s positive depth c xs q ys (then o (λ x. done (group t)))
-      shut t more f none z = z
-      shut t more f (some y) z =
-          found_as b s positive (depth + 1) positive depth c next xs q ys t (group t) y.1 (refl, refl, refl, refl) (omega (arith, g.on))
-          (passed-found b s positive (depth + 1) (moved_to next c) xs p ys t more q y.1 f z)
+          → (v : Maybe Cursor) (o : Option (Unit {0} × List T.Token)) → Passes s p v o → Meets b s positive depth c xs v ys (then o (λ x. done (group t)))
+      shut t more f None none z = tt
+      shut t more f None (some y) z = absurd z
+      shut t more f (Some v) none z = absurd z
+      shut t more f (Some v) (some y) z =
+          found_as b s positive (depth + 1) positive depth c next xs v ys t (group t) y.1 (refl, refl, refl, refl) (omega (arith, g.on))
+          (passed-found b s positive (depth + 1) (moved_to next c) xs p ys t more v y.1 f z)
 
-      go : (x : Option (Written b disjunction × List T.Token)) → Meets b s positive (depth + 1) (moved_to next c) xs p ys x
+      go : (x : Option (Written b disjunction × List T.Token)) → Meets b s positive (depth + 1) (moved_to next c) xs (Some p) ys x
           → Meets b s positive depth c xs q ys (then x (λ t. expect rparen >> done (group t)))
-      go none f = k.0 f
-      go (some y) f = shut y.0 y.1 f (expect rparen y.1) (subst (λ ts. Passes s p q (expect rparen ts)) f.left (k.1 f.ok))
+      go none f = absurd f
+      go (some y) f = shut y.0 y.1 f q (expect rparen y.1) (subst (λ ts. Passes s p q (expect rparen ts)) f.left k)
 
-pub one-compares : (s : List ℕ) (positive : Bool) (depth : ℕ) (c : Cursor) (xs : List ℕ) (p : Cursor) (ys : List ℕ)
+pub one-compares : (s : List ℕ) (positive : Bool) (depth : ℕ) (c : Cursor) (xs : List ℕ) (p : Maybe Cursor) (ys : List ℕ)
     → begins (keyword NOT) (tokens (drop c.at s)) ≡ false → begins lparen (tokens (drop c.at s)) ≡ false
     → Compares s positive depth c xs p ys → Reads atom s positive depth c xs p ys
 one-compares s positive depth c xs p ys i j m b eb zero h = absurd (omega arith)

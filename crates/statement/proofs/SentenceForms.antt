@@ -2,6 +2,7 @@
 use mathlib.Core.Path.{◌≡◌, refl, sym, ap, subst, ◌∙◌}
 use mathlib.Core.Bool.{Bool, true, false, ◌||◌, or-false}
 use mathlib.Core.Option.{Option, none, some}
+use Rattle.std.specs.Prelude.{Option as Maybe, Some, None}
 use mathlib.Core.List.{List, [], ◌∷◌, ◌++◌, map, append-nil}
 use Prim.Native.Nat.{ℕ, ◌+◌, ◌≤◌}
 use native.Mathlib.Nat.{add-zero, zero-add}
@@ -19,10 +20,13 @@ use Rattle.statement.specs.declared.conditions.Cursor.{Cursor}
 use Rattle.statement.specs.declared.sentences.Placed.{Placed}
 use Rattle.statement.specs.declared.sentences.Listing.{Listing}
 use Rattle.statement.specs.declared.sentences.Sized.{Sized}
+use Rattle.statement.specs.declared.sentences.Contents.TheVariants.{Names as names, Values as values, Settings as settings, Columns as columns}
+use Rattle.statement.specs.declared.sentences.Form.TheVariants.{Table, Select, Insert, Update, Delete, Pair}
 use Rattle.statement.specs.declared.sentences.Entry.{Entry}
+use Rattle.token.specs.declared.Kind.TheVariants.{Comma, Open, Close, From, Into, Values, Set}
 use Rattle.statement.specs.Places.{name_on, Column, nodes_on, bare_marks_on}
 use Rattle.statement.specs.Reading.{Stands, Operand, Written, a_column, moved_to, Meets, Reads}
-use Rattle.statement.specs.Sentences.{parts_of, item_on, Ready, Within, Takes, Counts, Expects, is_long_name, Names, Sizes, outside_rows, CountsRows, names, values, settings, columns, list_past, ReadsList, where_past, Filters, ReadsWhere, form_of, list_length, ring_of, RowsAt, SecondAt, bare_marks_in, NodesAt, BareAt, NamesAt, GivensAt, Entered, Starts, ReadsForm, Lists, Deletes}
+use Rattle.statement.specs.Sentences.{parts_of, item_on, Ready, Within, Takes, Counts, Expects, is_long_name, Names, Sizes, outside_rows, CountsRows, list_past, ReadsList, where_past, Filters, ReadsWhere, form_of, list_length, ring_of, RowsAt, SecondAt, bare_marks_in, NodesAt, BareAt, NamesAt, GivensAt, Entered, Starts, ReadsForm, Lists, Deletes}
 use Rattle.statement.proofs.Steps.{Goes}
 use Rattle.statement.proofs.SentenceLimits.{sorted, own_past, past-limit, nodes-replaced}
 use Rattle.statement.proofs.SentenceReaders.{failed-before, finds, goes_on, counts-then}
@@ -49,27 +53,39 @@ module _ (s : List ℕ) (c : Cursor) (xs : List ℕ) where
       finds s (a_where (a_column b) n) (λ w. Filters b s c xs c xs (mapped_in comparison w)) c c always (tokens (drop c.at s)) k
       (passing-stops (keyword WHERE) (a_condition (a_column b) n disjunction >>= λ d. done (under d)) (done always) (tokens (drop c.at s)) i) (record { ok = k; stands = st; left = refl }) (filters-nothing b s c xs)
 
-  pub where-read : (at : ℕ) (r : Cursor) (ys : List ℕ) → c.ok ≡ true → Goes s c.at at (keyword WHERE) → Reads disjunction s true 0 (moved_to at c) xs r ys → ReadsWhere s c xs r ys
-  where-read at r ys k g m b eb n h =
-      record {
-        fails = λ z. clash k z;
-        takes = λ _.
-            subst (Takes s r Q) (sym (ap (a_where (a_column b) n) g.after ∙ passing-yes (keyword WHERE) on (done always) (tokens (drop at s))))
-            (go (a_condition (a_column b) n disjunction (tokens (drop at s))) (m b eb n (omega arith)));
-      }
-    where
-      Q : Optional (Test (Column b)) → Type 0
-      Q w = Filters b s c xs r ys (mapped_in comparison w)
+  module _ (at : ℕ) (k : c.ok ≡ true) (g : Goes s c.at at (keyword WHERE)) (ys : List ℕ) where
+    where-as : (v : Maybe Cursor) (r : Cursor) → ((b : Bool) (o : Option (Written b disjunction × List Token)) → Meets b s true 0 (moved_to at c) xs v ys o
+        → Takes s r (λ w. Filters b s c xs r ys (mapped_in comparison w)) (then o (λ t. done (under t))))
+        → Reads disjunction s true 0 (moved_to at c) xs v ys → ReadsWhere s c xs r ys
+    where-as v r f m b eb n h =
+        record {
+          fails = λ z. clash k z;
+          takes = λ _.
+              subst (Takes s r (λ w. Filters b s c xs r ys (mapped_in comparison w))) (sym (ap (a_where (a_column b) n) g.after ∙ passing-yes (keyword WHERE) on (done always) (tokens (drop at s))))
+              (f b (a_condition (a_column b) n disjunction (tokens (drop at s))) (m b eb n (omega arith)));
+        }
+      where
+        on : Reader (Optional (Test (Column b)))
+        on = a_condition (a_column b) n disjunction >>= λ t. done (under t)
 
-      on : Reader (Optional (Test (Column b)))
-      on = a_condition (a_column b) n disjunction >>= λ t. done (under t)
+    pub where-read : (r : Cursor) → Reads disjunction s true 0 (moved_to at c) xs (Some r) ys → ReadsWhere s c xs r ys
+    where-read r m = where-as (Some r) r go m
+      where
+        go : (b : Bool) (o : Option (Written b disjunction × List Token)) → Meets b s true 0 (moved_to at c) xs (Some r) ys o
+            → Takes s r (λ w. Filters b s c xs r ys (mapped_in comparison w)) (then o (λ t. done (under t)))
+        go b none q = absurd q
+        go b (some x) q = (
+          record { ok = q.ok; stands = q.stands; left = q.left },
+          record { over = q.over; marks_are = q.marks_are; nodes_are = q.nodes_are; noted = q.noted; bare = q.bare },
+        )
 
-      go : (o : Option (Written b disjunction × List Token)) → Meets b s true 0 (moved_to at c) xs r ys o → Takes s r Q (then o (λ t. done (under t)))
-      go none q = q
-      go (some x) q = (
-        record { ok = q.ok; stands = q.stands; left = q.left },
-        record { over = q.over; marks_are = q.marks_are; nodes_are = q.nodes_are; noted = q.noted; bare = q.bare },
-      )
+    pub where_none : (r : Cursor) → r.ok ≡ false → Reads disjunction s true 0 (moved_to at c) xs None ys → ReadsWhere s c xs r ys
+    where_none r e m = where-as None r go m
+      where
+        go : (b : Bool) (o : Option (Written b disjunction × List Token)) → Meets b s true 0 (moved_to at c) xs None ys o
+            → Takes s r (λ w. Filters b s c xs r ys (mapped_in comparison w)) (then o (λ t. done (under t)))
+        go b none q = e
+        go b (some x) q = absurd q
 
 -- ---- a sentence from what was counted up to m, before its WHERE
 
@@ -122,12 +138,12 @@ list-starts s c r = record { ready = r; small = omega arith; few = λ _. omega a
 
 module _ (s : List ℕ) (c : Cursor) (st : Starts s false c) where
   pub of-table : (n : Placed) (c₁ : Cursor) (xs ys : List ℕ) (l : Listing) (c₂ : Cursor) (d : Sized) (r : Placed)
-      → Names s c n → Expects s 7 n.c c₁ → ReadsList names s xs c₁ 0 ys l → Expects s 8 l.c c₂ → Sizes s c₂ d → CountsRows s d.c r
-      → Lists a_table s c ys (record { c = r.c; form = 0; table = n.place; second = 0; rows = r.place; listed = l.listed; ring = d.ring })
+      → Names s c n → Expects s Open n.c c₁ → ReadsList names s xs c₁ 0 ys l → Expects s Close l.c c₂ → Sizes s c₂ d → CountsRows s d.c r
+      → Lists a_table s c ys (record { c = r.c; form = Table; table = n.place; second = 0; rows = r.place; listed = l.listed; ring = d.ring })
   of-table n c₁ xs ys l c₂ d r h₁ h₂ h₃ h₄ h₅ h₆ ps k i =
       let list = h₃ k (omega arith) in
-      let open' = h₂ lparen refl in
-      let close = h₄ rparen refl in
+      let open' = h₂ lparen refl refl in
+      let close = h₄ rparen refl refl in
       goes_on s _ _ Q n.c r.c (a_name (tokens (drop c.at s))) (h₁.takes st.ok) (λ f. h₆.fails (h₅.fails (close.fails (list.fails (open'.fails f))))) (λ t b₁ q₁.
       goes_on s _ _ Q c₁ r.c (expect lparen (tokens (drop n.c.at s))) (open'.takes b₁.ok) (λ f. h₆.fails (h₅.fails (close.fails (list.fails f)))) (λ u₂ b₂ q₂.
       goes_on s _ _ Q l.c r.c (a_list a_name k (tokens (drop c₁.at s))) (list.takes b₂.ok) (λ f. h₆.fails (h₅.fails (close.fails f))) (λ cs b₃ q₃.
@@ -141,7 +157,7 @@ module _ (s : List ℕ) (c : Cursor) (st : Starts s false c) where
       )))))))
     where
       E : Entry
-      E = record { c = r.c; form = 0; table = n.place; second = 0; rows = r.place; listed = l.listed; ring = d.ring }
+      E = record { c = r.c; form = Table; table = n.place; second = 0; rows = r.place; listed = l.listed; ring = d.ring }
 
       Q : Sentence → Type 0
       Q = Entered s ys ps E
@@ -150,11 +166,11 @@ module _ (s : List ℕ) (c : Cursor) (st : Starts s false c) where
       order a b d = simp (sorted, or-false)
 
   pub of-single : (xs ys : List ℕ) (l : Listing) (c₁ : Cursor) (n : Placed) (ps : List ℕ) (r : Cursor) (ps' : List ℕ)
-      → ReadsList names s xs c 0 ys l → Expects s 18 l.c c₁ → Names s c₁ n → ReadsWhere s n.c ps r ps'
-      → ReadsForm a_single s c ys ps' (record { c = r; form = 1; table = n.place; second = 0; rows = 0; listed = l.listed; ring = false })
+      → ReadsList names s xs c 0 ys l → Expects s From l.c c₁ → Names s c₁ n → ReadsWhere s n.c ps r ps'
+      → ReadsForm a_single s c ys ps' (record { c = r; form = Select; table = n.place; second = 0; rows = 0; listed = l.listed; ring = false })
   of-single xs ys l c₁ n ps r ps' h₁ h₂ h₃ h₄ k i =
       let list = h₁ k (omega arith) in
-      let word = h₂ (keyword FROM) refl in
+      let word = h₂ (keyword FROM) refl refl in
       let tail = h₄ n.c.dotted refl k i in
       goes_on s _ _ Q l.c r (a_list a_name k (tokens (drop c.at s))) (list.takes st.ok) (λ f. tail.fails (h₃.fails (word.fails f))) (λ cs b₁ q₁.
       goes_on s _ _ Q c₁ r (expect (keyword FROM) (tokens (drop l.c.at s))) (word.takes b₁.ok) (λ f. tail.fails (h₃.fails f)) (λ u₂ b₂ q₂.
@@ -168,7 +184,7 @@ module _ (s : List ℕ) (c : Cursor) (st : Starts s false c) where
       )))))
     where
       E : Entry
-      E = record { c = r; form = 1; table = n.place; second = 0; rows = 0; listed = l.listed; ring = false }
+      E = record { c = r; form = Select; table = n.place; second = 0; rows = 0; listed = l.listed; ring = false }
 
       Q : Sentence → Type 0
       Q = Entered s ys ps' E
@@ -177,14 +193,14 @@ module _ (s : List ℕ) (c : Cursor) (st : Starts s false c) where
       order a b d = simp sorted
 
   pub of-insert : (c₁ : Cursor) (n : Placed) (c₂ c₃ : Cursor) (xs ys : List ℕ) (l : Listing) (r : Cursor)
-      → Expects s 21 c c₁ → Names s c₁ n → Expects s 22 n.c c₂ → Expects s 7 c₂ c₃ → ReadsList values s xs c₃ 0 ys l → Expects s 8 l.c r
-      → Lists an_insert s c ys (record { c = r; form = 2; table = n.place; second = 0; rows = 0; listed = l.listed; ring = false })
+      → Expects s Into c c₁ → Names s c₁ n → Expects s Values n.c c₂ → Expects s Open c₂ c₃ → ReadsList values s xs c₃ 0 ys l → Expects s Close l.c r
+      → Lists an_insert s c ys (record { c = r; form = Insert; table = n.place; second = 0; rows = 0; listed = l.listed; ring = false })
   of-insert c₁ n c₂ c₃ xs ys l r h₁ h₂ h₃ h₄ h₅ h₆ ps k i =
-      let into = h₁ (keyword INTO) refl in
-      let word = h₃ (keyword VALUES) refl in
-      let open' = h₄ lparen refl in
+      let into = h₁ (keyword INTO) refl refl in
+      let word = h₃ (keyword VALUES) refl refl in
+      let open' = h₄ lparen refl refl in
       let list = h₅ k (omega arith) in
-      let close = h₆ rparen refl in
+      let close = h₆ rparen refl refl in
       goes_on s _ _ Q c₁ r (expect (keyword INTO) (tokens (drop c.at s))) (into.takes st.ok) (λ f. close.fails (list.fails (open'.fails (word.fails (h₂.fails f))))) (λ u₁ b₁ q₁.
       goes_on s _ _ Q n.c r (a_name (tokens (drop c₁.at s))) (h₂.takes b₁.ok) (λ f. close.fails (list.fails (open'.fails (word.fails f)))) (λ t b₂ q₂.
       goes_on s _ _ Q c₂ r (expect (keyword VALUES) (tokens (drop n.c.at s))) (word.takes b₂.ok) (λ f. close.fails (list.fails (open'.fails f))) (λ u₃ b₃ q₃.
@@ -198,7 +214,7 @@ module _ (s : List ℕ) (c : Cursor) (st : Starts s false c) where
       )))))))
     where
       E : Entry
-      E = record { c = r; form = 2; table = n.place; second = 0; rows = 0; listed = l.listed; ring = false }
+      E = record { c = r; form = Insert; table = n.place; second = 0; rows = 0; listed = l.listed; ring = false }
 
       Q : Sentence → Type 0
       Q = Entered s ys ps E
@@ -207,10 +223,10 @@ module _ (s : List ℕ) (c : Cursor) (st : Starts s false c) where
       order a b = simp (sorted, or-false)
 
   pub of-update : (n : Placed) (c₁ : Cursor) (xs ys : List ℕ) (l : Listing) (ps : List ℕ) (r : Cursor) (ps' : List ℕ)
-      → Names s c n → Expects s 24 n.c c₁ → ReadsList settings s xs c₁ 0 ys l → ReadsWhere s l.c ps r ps'
-      → ReadsForm an_update s c ys ps' (record { c = r; form = 3; table = n.place; second = 0; rows = 0; listed = l.listed; ring = false })
+      → Names s c n → Expects s Set n.c c₁ → ReadsList settings s xs c₁ 0 ys l → ReadsWhere s l.c ps r ps'
+      → ReadsForm an_update s c ys ps' (record { c = r; form = Update; table = n.place; second = 0; rows = 0; listed = l.listed; ring = false })
   of-update n c₁ xs ys l ps r ps' h₁ h₂ h₃ h₄ k i =
-      let word = h₂ (keyword SET) refl in
+      let word = h₂ (keyword SET) refl refl in
       let list = h₃ k (omega arith) in
       let tail = h₄ l.c.dotted refl k i in
       goes_on s _ _ Q n.c r (a_name (tokens (drop c.at s))) (h₁.takes st.ok) (λ f. tail.fails (list.fails (word.fails f))) (λ t b₁ q₁.
@@ -228,7 +244,7 @@ module _ (s : List ℕ) (c : Cursor) (st : Starts s false c) where
       )))))
     where
       E : Entry
-      E = record { c = r; form = 3; table = n.place; second = 0; rows = 0; listed = l.listed; ring = false }
+      E = record { c = r; form = Update; table = n.place; second = 0; rows = 0; listed = l.listed; ring = false }
 
       Q : Sentence → Type 0
       Q = Entered s ys ps' E
@@ -237,10 +253,10 @@ module _ (s : List ℕ) (c : Cursor) (st : Starts s false c) where
       order a b d = simp sorted
 
   pub of-delete : (c₁ : Cursor) (n : Placed) (ps : List ℕ) (r : Cursor) (ps' : List ℕ)
-      → Expects s 18 c c₁ → Names s c₁ n → ReadsWhere s n.c ps r ps'
-      → Deletes s c ps' (record { c = r; form = 4; table = n.place; second = 0; rows = 0; listed = 0; ring = false })
+      → Expects s From c c₁ → Names s c₁ n → ReadsWhere s n.c ps r ps'
+      → Deletes s c ps' (record { c = r; form = Delete; table = n.place; second = 0; rows = 0; listed = 0; ring = false })
   of-delete c₁ n ps r ps' h₁ h₂ h₃ ls k i =
-      let word = h₁ (keyword FROM) refl in
+      let word = h₁ (keyword FROM) refl refl in
       let tail = h₃ n.c.dotted refl k i in
       goes_on s _ _ Q c₁ r (expect (keyword FROM) (tokens (drop c.at s))) (word.takes st.ok) (λ f. tail.fails (h₂.fails f)) (λ u₁ b₁ q₁.
       goes_on s _ _ Q n.c r (a_name (tokens (drop c₁.at s))) (h₂.takes b₁.ok) (λ f. tail.fails f) (λ t b₂ q₂.
@@ -249,7 +265,7 @@ module _ (s : List ℕ) (c : Cursor) (st : Starts s false c) where
       (b₃, entered s ls false c n.c _ _ ps E ps' (delete t w) (mapped_in comparison w) st m q₃ refl refl (λ n z. z) (λ n z. tt) b₃.ok refl refl refl q₂.1 tt refl tt refl tt tt))))
     where
       E : Entry
-      E = record { c = r; form = 4; table = n.place; second = 0; rows = 0; listed = 0; ring = false }
+      E = record { c = r; form = Delete; table = n.place; second = 0; rows = 0; listed = 0; ring = false }
 
       Q : Sentence → Type 0
       Q = Entered s ls ps' E
@@ -257,12 +273,12 @@ module _ (s : List ℕ) (c : Cursor) (st : Starts s false c) where
 -- A.1: a question over two tables
 module _ (s : List ℕ) (c : Cursor) (st : Starts s true c) where
   pub of_pair : (xs ys : List ℕ) (l : Listing) (c₁ : Cursor) (n : Placed) (c₂ : Cursor) (o : Placed) (ps : List ℕ) (r : Cursor) (ps' : List ℕ)
-      → ReadsList columns s xs c 0 ys l → Expects s 18 l.c c₁ → Names s c₁ n → Expects s 6 n.c c₂ → Names s c₂ o → ReadsWhere s o.c ps r ps'
-      → ReadsForm a_pair s c ys ps' (record { c = r; form = 5; table = n.place; second = o.place; rows = 0; listed = l.listed; ring = false })
+      → ReadsList columns s xs c 0 ys l → Expects s From l.c c₁ → Names s c₁ n → Expects s Comma n.c c₂ → Names s c₂ o → ReadsWhere s o.c ps r ps'
+      → ReadsForm a_pair s c ys ps' (record { c = r; form = Pair; table = n.place; second = o.place; rows = 0; listed = l.listed; ring = false })
   of_pair xs ys l c₁ n c₂ o ps r ps' h₁ h₂ h₃ h₄ h₅ h₆ k i =
       let list = h₁ k (omega arith) in
-      let word = h₂ (keyword FROM) refl in
-      let sign = h₄ comma refl in
+      let word = h₂ (keyword FROM) refl refl in
+      let sign = h₄ comma refl refl in
       let tail = h₆ o.c.dotted refl k i in
       goes_on s _ _ Q l.c r (a_list a_dotted k (tokens (drop c.at s))) (list.takes st.ok) (λ f. tail.fails (h₅.fails (sign.fails (h₃.fails (word.fails f))))) (λ cs b₁ q₁.
       goes_on s _ _ Q c₁ r (expect (keyword FROM) (tokens (drop l.c.at s))) (word.takes b₁.ok) (λ f. tail.fails (h₅.fails (sign.fails (h₃.fails f)))) (λ u₂ b₂ q₂.
@@ -280,7 +296,7 @@ module _ (s : List ℕ) (c : Cursor) (st : Starts s true c) where
       )))))))
     where
       E : Entry
-      E = record { c = r; form = 5; table = n.place; second = o.place; rows = 0; listed = l.listed; ring = false }
+      E = record { c = r; form = Pair; table = n.place; second = o.place; rows = 0; listed = l.listed; ring = false }
 
       Q : Sentence → Type 0
       Q = Entered s ys ps' E

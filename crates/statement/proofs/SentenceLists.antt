@@ -6,7 +6,6 @@ use Prim.Native.Nat.{ℕ, zero, suc, ◌+◌, ◌-◌, ◌*◌, ◌≤◌, ◌<�
 use native.Mathlib.Nat.{add-zero}
 use native.Mathlib.Numerals.{add-one}
 use native.Mathlib.Omega.{arith}
-use borrow.Author.Tests.{eq-eqb, ne_eqb}
 use lib.ListN.{length, set, drop, get_or}
 use Rattle.lists.specs.Lists.{any}
 use Rattle.lists.proofs.Bools.{clash}
@@ -18,8 +17,10 @@ use Rattle.meaning.proofs.Readers.{begins, passing-stops, passing-yes}
 use Rattle.statement.specs.declared.conditions.Cursor.{Cursor}
 use Rattle.statement.specs.declared.sentences.Placed.{Placed}
 use Rattle.statement.specs.declared.sentences.Listing.{Listing}
+use Rattle.statement.specs.declared.sentences.Contents.{Contents}
+use Rattle.statement.specs.declared.sentences.Contents.TheVariants.{Names as names, Values as values, Settings as settings, Columns as columns}
 use Rattle.statement.specs.Reading.{moved_to}
-use Rattle.statement.specs.Sentences.{items_on, Ready, Takes, Counts, ExpectsToken, is_long_name, Names, Columns, Gives, Kind, names, values, settings, columns, Content, item_reader, item_on, parts_of, columns_in, values_in, list_past, kind_at, PutsItem, Within, Holds, ReadsItem, ReadsList}
+use Rattle.statement.specs.Sentences.{items_on, Ready, Takes, Counts, ExpectsToken, is_long_name, Names, Columns, Gives, Content, item_reader, item_on, parts_of, columns_in, values_in, list_past, PutsItem, Within, Holds, ReadsItem, ReadsList}
 use Rattle.statement.proofs.Steps.{Goes}
 use Rattle.statement.proofs.SentenceLimits.{sorted}
 use Rattle.statement.proofs.SentenceReaders.{found, was-ok, ready-after, after_map, goes_on, stands-moved, recount, counts-then}
@@ -59,7 +60,7 @@ map-items g f (suc n) xs = ap (λ r. g (f (get_or xs 0 0) (get_or xs 1 0)) ∷ r
 -- ---- an item
 
 -- the item was read up to d and put: its places are a and b
-module _ (k : Kind) (s xs : List ℕ) (c : Cursor) (l a b : ℕ) (ys : List ℕ) (d : Cursor) (m : ℕ) (e : m ≡ l + 1) (p : PutsItem xs l a b ys) where
+module _ (k : Contents) (s xs : List ℕ) (c : Cursor) (l a b : ℕ) (ys : List ℕ) (d : Cursor) (m : ℕ) (e : m ≡ l + 1) (p : PutsItem xs l a b ys) where
   holds-one : (x : Content k) → Counts c d (list_past (columns_in k (x ∷ [])) (values_in k (x ∷ []))) (mark_count (values_in k (x ∷ []))) → item_on k s a b ≡ x
       → Holds k s xs c l ys (record { c = d; listed = m }) (x ∷ [])
   holds-one x h q =
@@ -116,21 +117,8 @@ module _ (s xs : List ℕ) (c : Cursor) (l : ℕ) (ys : List ℕ) (m : ℕ) (e :
           recount c v.c _ _ _ _ (sym (ap (λ z. (is_long_name x || false) || z) (or-false (outside32 y)))) (omega arith)
           (counts-then c d v.c _ _ _ _ (counts-then c n.c d _ _ _ _ a b) g)
 
--- by the number of its kind
-pub kind-names : (n : ℕ) → n ≡ 0 → kind_at n ≡ names
-kind-names n h = rw (eq-eqb n 0 h)
-
-pub kind-values : (n : ℕ) → n ≡ 1 → kind_at n ≡ values
-kind-values n h = rw (ne_eqb n 0 (λ z. omega arith), eq-eqb n 1 h)
-
-pub kind-settings : (n : ℕ) → n ≡ 2 → kind_at n ≡ settings
-kind-settings n h = rw (ne_eqb n 0 (λ z. omega arith), ne_eqb n 1 (λ z. omega arith), eq-eqb n 2 h)
-
-pub kind-columns : (n : ℕ) → (n ≡ 0 → ⊥) → (n ≡ 1 → ⊥) → (n ≡ 2 → ⊥) → kind_at n ≡ columns
-kind-columns n h k l = rw (ne_eqb n 0 h, ne_eqb n 1 k, ne_eqb n 2 l)
-
--- an item of a kind is one of the kind with the same number
-pub of-kind : (k j : Kind) (s xs : List ℕ) (c : Cursor) (l : ℕ) (ys : List ℕ) (r : Listing) → j ≡ k → ReadsItem k s xs c l ys r → ReadsItem j s xs c l ys r
+-- an item of one kind is one of the kind that is the same
+pub of-kind : (k j : Contents) (s xs : List ℕ) (c : Cursor) (l : ℕ) (ys : List ℕ) (r : Listing) → j ≡ k → ReadsItem k s xs c l ys r → ReadsItem j s xs c l ys r
 of-kind k j s xs c l ys r e h = subst (λ i. ReadsItem i s xs c l ys r) (sym e) h
 
 -- ---- a list
@@ -144,21 +132,21 @@ regroup-two false true p = refl
 regroup-two false false p = refl
 
 -- one item, and those behind it
-past_more : (k : Kind) (x : Content k) (us : List (Content k))
+past_more : (k : Contents) (x : Content k) (us : List (Content k))
     → (list_past (columns_in k (x ∷ [])) (values_in k (x ∷ [])) || list_past (columns_in k us) (values_in k us)) ≡ list_past (columns_in k (x ∷ us)) (values_in k (x ∷ us))
 past_more names x us = regroup (is_long_name x) false (any is_long_name us) false
 past_more values x us = regroup false (outside32 x) false (any outside32 us)
 past_more settings x us = regroup (is_long_name x.0) (outside32 x.1) (any is_long_name (columns_in settings us)) (any outside32 (values_in settings us))
 past_more columns x us = regroup-two (is_long_name x.0) (is_long_name x.1) (any is_long_name (parts_of us))
 
-marks-more : (k : Kind) (x : Content k) (us : List (Content k)) → mark_count (values_in k (x ∷ [])) + mark_count (values_in k us) ≡ mark_count (values_in k (x ∷ us))
+marks-more : (k : Contents) (x : Content k) (us : List (Content k)) → mark_count (values_in k (x ∷ [])) + mark_count (values_in k us) ≡ mark_count (values_in k (x ∷ us))
 marks-more names x us = refl
 marks-more values x us = omega arith
 marks-more settings x us = omega arith
 marks-more columns x us = refl
 
 -- one item, a comma, and the items behind it
-module _ (k : Kind) (s xs : List ℕ) (c : Cursor) (l : ℕ) (ys : List ℕ) (one : Listing) (at : ℕ) (zs : List ℕ) (r : Listing) where
+module _ (k : Contents) (s xs : List ℕ) (c : Cursor) (l : ℕ) (ys : List ℕ) (one : Listing) (at : ℕ) (zs : List ℕ) (r : Listing) where
   holds_more : one.c.at < at → (x : Content k) (us : List (Content k)) → Holds k s xs c l ys one (x ∷ []) → Holds k s ys (moved_to at one.c) one.listed zs r us
       → Holds k s xs c l zs r (x ∷ us)
   holds_more h x us p q =
@@ -174,7 +162,7 @@ module _ (k : Kind) (s xs : List ℕ) (c : Cursor) (l : ℕ) (ys : List ℕ) (on
             q.noted m ∙ ap (λ ns. ns ++ us) (p.noted (omega arith)) ∙ append_assoc (items_on (item_on k s) l xs) (x ∷ []) us;
       }
 
-module _ (k : Kind) (s xs : List ℕ) (c : Cursor) (l : ℕ) (ys : List ℕ) (one : Listing) (g : ReadsItem k s xs c l ys one) where
+module _ (k : Contents) (s xs : List ℕ) (c : Cursor) (l : ℕ) (ys : List ℕ) (one : Listing) (g : ReadsItem k s xs c l ys one) where
   pub list-fails : one.c.ok ≡ false → ReadsList k s xs c l ys one
   list-fails e zero h = absurd (omega arith)
   list-fails e (suc n) h =
@@ -218,7 +206,7 @@ module _ (k : Kind) (s xs : List ℕ) (c : Cursor) (l : ℕ) (ys : List ℕ) (on
       left m = omega (arith, p.on, p.within)
 
 -- behind an item and a comma the list is read on, and less of the text is left
-module _ (k : Kind) (s xs : List ℕ) (c : Cursor) (l : ℕ) (ys : List ℕ) (one : Listing) (at : ℕ) where
+module _ (k : Contents) (s xs : List ℕ) (c : Cursor) (l : ℕ) (ys : List ℕ) (one : Listing) (at : ℕ) where
   pub list-asks : Within s c l → ReadsItem k s xs c l ys one → one.c.ok ≡ true → Goes s one.c.at at comma
       → (length s - at < length s - c.at) × Within s (moved_to at one.c) one.listed
   list-asks w g e p =
@@ -239,5 +227,5 @@ module _ (k : Kind) (s xs : List ℕ) (c : Cursor) (l : ℕ) (ys : List ℕ) (on
       )
 
 -- a reader may be called behind a list
-pub ready-list : (k : Kind) (s : List ℕ) → length s ≤ 256 → (xs : List ℕ) (c : Cursor) (l : ℕ) (ys : List ℕ) (r : Listing) → ReadsList k s xs c l ys r → Ready s r.c
+pub ready-list : (k : Contents) (s : List ℕ) → length s ≤ 256 → (xs : List ℕ) (c : Cursor) (l : ℕ) (ys : List ℕ) (r : Listing) → ReadsList k s xs c l ys r → Ready s r.c
 ready-list k s h xs c l ys r g = ready-after s (a_list (item_reader k) (suc (length s))) _ c r.c h (g (suc (length s)) (omega arith))

@@ -12,6 +12,7 @@ use Rattle.meaning.specs.Grammar.{Sentence, Reader, a_table, a_select, an_insert
 use Rattle.meaning.proofs.Readers.{some-none, begins, passing-stops}
 use Rattle.meaning.proofs.Decides.{decides, decides-from}
 use Rattle.token.specs.declared.Token.{Token as Read}
+use Rattle.token.specs.declared.Kind.TheVariants.{End}
 use Rattle.token.specs.Tokens.{token_at}
 use Rattle.token.proofs.Laws.{token_end, token-ended}
 use Rattle.statement.specs.declared.conditions.Cursor.{Cursor}
@@ -128,7 +129,7 @@ module _ (s ls ps : List ℕ) (e : Entry) (m : ReadsAny s ls ps e) where
       go (some x) q = clash q.0.ok f
 
   module _ (u : Read) (h : u ≡ token_at s e.c.at) where
-    pub more-follows : (r : Entry) → (u.kind ≡ 0 → ⊥) → r.c.ok ≡ false → Noted s ls ps r (sentence s)
+    pub more-follows : (r : Entry) → (u.kind ≡ End → ⊥) → r.c.ok ≡ false → Noted s ls ps r (sentence s)
     more-follows r k f = noted-by r go
       where
         go : (o : Option (Sentence × List Token)) → Takes s e.c (Entered s ls ps e) o → Noted s ls ps r (whole o)
@@ -139,7 +140,7 @@ module _ (s ls ps : List ℕ) (e : Entry) (m : ReadsAny s ls ps e) where
             by [] z = absurd (k (ap (λ (v : Read). v.kind) h ∙ token-ended s e.c.at z))
             by (t ∷ ts) z = f
 
-    pub all_read : e.c.ok ≡ true → u.kind ≡ 0 → Noted s ls ps e (sentence s)
+    pub all_read : e.c.ok ≡ true → u.kind ≡ End → Noted s ls ps e (sentence s)
     all_read i k = noted-by e go
       where
         nothing : tokens (drop e.c.at s) ≡ []

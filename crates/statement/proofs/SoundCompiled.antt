@@ -34,7 +34,7 @@ use Rattle.statement.specs.Sound.{value_read, operand_read, comparison_read, nod
 use Rattle.statement.specs.declared.Name.{Name}
 use Rattle.statement.specs.declared.Table.{Table}
 use Rattle.statement.specs.declared.Comparison.{Comparison}
-use Rattle.statement.specs.declared.Statement.{Statement}
+use Rattle.statement.specs.Compiled.{Compiled}
 use Rattle.statement.proofs.Compiles.{schemas-are}
 use Rattle.statement.proofs.OperatorLaws.{predicate-back}
 use Rattle.statement.proofs.Stored.{map-twice, where-count}
@@ -212,7 +212,7 @@ module _ (ts : List Schema) (s : Sentence) where
 -- ---- what a text compiles to
 
 -- a statement passes the test of its kind beside the tables: 1 a table, 2 a question, 3 an update
-pub record SoundStatement (ts : List Schema) (r : Statement) : Type 0 where
+pub record SoundStatement (ts : List Schema) (r : Compiled) : Type 0 where
   pub kind_is : (r.kind ≡ 1) ⊎ ((r.kind ≡ 2) ⊎ (r.kind ≡ 3))
   pub table_sound : r.kind ≡ 1 → sound_table ts r.table ≡ true
   pub query_sound : r.kind ≡ 2 → sound_query ts r.query ≡ true
@@ -244,7 +244,7 @@ struct-sound ts s P = go (statement_of ts s) refl
     }
 
 -- a text is not refused only where no condition holds
-unrefused : (n : ℕ) (done : Statement) → (settled n done).refusal ≡ 0 → n ≡ 0
+unrefused : (n : ℕ) (done : Compiled) → (settled n done).refusal ≡ 0 → n ≡ 0
 unrefused zero done h = refl
 unrefused (suc n) done h = h
 
@@ -274,7 +274,7 @@ module _ (text : List ℕ) (tables : List Table) (used queries updates cells : �
       → SoundStatement (schemas_of tables used) (compiled_of text tables used queries updates cells)
   unfolding compiled_of
   compiled-sound h =
-      let done : Statement = struct_of_text (schemas store) (sentence text) in
+      let done : Compiled = struct_of_text (schemas store) (sentence text) in
       let clear-all : lowest_of (text_conditions store text) ≡ 0 = unrefused (lowest_of (text_conditions store text)) done h in
       let s : SoundStatement (schemas store) done = text-sound (sentence text) refl ((clear 2 (text_conditions store text) refl).0 clear-all) in
       let t : SoundStatement (schemas_of tables used) done = subst (λ ts. SoundStatement ts done) (schemas-are tables used queries updates cells) s in
@@ -285,7 +285,7 @@ module _ (text : List ℕ) (tables : List Table) (used queries updates cells : �
       → compiled_of text tables used queries updates cells ≡ struct_of (statement_of (schemas_of tables used) s)
   unfolding compiled_of
   compiled-is s e h =
-      let done : Statement = struct_of_text (schemas store) (sentence text) in
+      let done : Compiled = struct_of_text (schemas store) (sentence text) in
       ap (λ (n : ℕ). settled n done) (unrefused (lowest_of (text_conditions store text)) done h)
       ∙ ap (struct_of_text (schemas store)) e
       ∙ ap (λ (ts : List Schema). struct_of (statement_of ts s)) (schemas-are tables used queries updates cells)

@@ -1,35 +1,37 @@
 -- A token u that was read at a place of the text s: what it says of the tokens from there on. Assumes nothing.
 use mathlib.Core.Path.{◌≡◌, refl, sym, ap, subst, ◌∙◌}
-use mathlib.Core.Bool.{Bool, true, false}
+use mathlib.Core.Bool.{true, false}
+use mathlib.Core.Option.{Option, none, some}
 use mathlib.Core.List.{List, [], ◌∷◌}
 use Prim.Native.Nat.{ℕ, ◌-◌, ◌≤◌, ◌<◌}
 use native.Mathlib.Omega.{arith}
-use borrow.Author.Tests.{eqb-true, eqb-false}
-use lib.Dec.{eqb}
 use lib.ListN.{length, take, drop, length-map, length-take, length-drop}
 use Rattle.meaning.specs.Tokens as T
-use Rattle.meaning.specs.Tokens.{name, folded_byte, folded, tokens}
+use Rattle.meaning.specs.Tokens.{name, folded_byte, folded, first_token, tokens}
 use Rattle.meaning.proofs.Readers.{begins, same_not}
 use Rattle.token.specs.declared.Token.{Token}
-use Rattle.token.specs.Tokens.{kind_of, token_at}
+use Rattle.token.specs.declared.Kind.TheVariants.{End}
+use Rattle.token.specs.Tokens.{kind_of, token_of, token_at}
+use Rattle.token.proofs.Cases.{none_is, some_is}
 use Rattle.token.proofs.Laws.{Reads, token_end, token-some}
 use Rattle.token.proofs.TokenKinds.{is_fixed, kind-some, kind-fixed}
 use Rattle.statement.specs.Places.{first, token_on}
 
 -- no token is left, or one stands first
 pub data Look (s : List ℕ) (at : ℕ) (u : Token) : Type 0 where
-  ended : u.kind ≡ 0 → tokens (drop at s) ≡ [] → Look s at u
+  ended : u.kind ≡ End → tokens (drop at s) ≡ [] → Look s at u
   seen : Reads s at u → Look s at u
 
 pub look : (s : List ℕ) (at : ℕ) (u : Token) → u ≡ token_at s at → Look s at u
-look s at u e = go (eqb u.kind 0) refl
+unfolding token_of
+look s at u e = go (first_token (drop at s)) refl
   where
     kind_is : u.kind ≡ (token_at s at).kind
     kind_is = ap (λ (v : Token). v.kind) e
 
-    go : (b : Bool) → eqb u.kind 0 ≡ b → Look s at u
-    go true q = ended (eqb-true u.kind 0 q) (token_end s at (sym kind_is ∙ eqb-true u.kind 0 q))
-    go false q = seen (subst (Reads s at) (sym e) (token-some s at (λ z. eqb-false u.kind 0 q (kind_is ∙ z))))
+    go : (o : Option (T.Token × List ℕ)) → first_token (drop at s) ≡ o → Look s at u
+    go none q = let k : (token_at s at).kind ≡ End = ap (λ (v : Token). v.kind) (none_is s at q) in ended (kind_is ∙ k) (token_end s at k)
+    go (some x) q = seen (subst (Reads s at) (sym e) (token-some s at (λ z. kind-some x.0 (sym (ap (λ (v : Token). v.kind) (some_is s at x q)) ∙ z))))
 
 module _ {s : List ℕ} {at : ℕ} {u : Token} (v : Reads s at u) where
   pub stands-there : token_on s u.start ≡ v.token

@@ -1,21 +1,18 @@
 -- Loops over the first n members of a list, in which the invariant says what is left: members compared, looked up, tested, and written into an array.
 -- Assumes nothing.
 use mathlib.Core.Path.{◌≡◌, refl, sym, ap, ap₂, ◌∙◌}
-use mathlib.Core.Bool.{Bool, true, false, ◌&&◌, cond, and-true}
+use mathlib.Core.Bool.{Bool, true, ◌&&◌, and-true}
 use mathlib.Core.List.{List, [], ◌∷◌, ◌++◌, map}
-use Prim.Native.Nat.{ℕ, zero, suc, ◌+◌, ◌-◌, ◌≤◌, ◌<◌, min}
+use Prim.Native.Nat.{ℕ, zero, suc, ◌+◌, ◌≤◌, ◌<◌, min}
 use native.Mathlib.Nat.{le_of_suc-le-suc, not-suc-le-zero}
 use native.Mathlib.Numerals.{add-one}
 use native.Mathlib.Decide.{dec_le}
 use native.Mathlib.Omega.{arith}
-use borrow.Author.Tests.{eq-eqb, ne_eqb}
-use lib.Dec.{eqb}
 use lib.ListN.{length, get_or, take, drop, set, replicate, length-take, length-set, length-replicate, length-map}
 use lib.Seq.{take_all, drop-cons, drop-nil, get_or-take, sets, sets-eq}
+use Rattle.std.proofs.lemmas.List.{drop-replicate}
 use Rattle.lists.specs.Lists.{all}
-use Rattle.lists.specs.Tests.{eq_list}
 use Rattle.lists.proofs.Bools.{and_assoc}
-use Rattle.meaning.specs.Names.{same_name, position}
 use Rattle.statement.specs.Compiled.{padded}
 
 module _ {A : Type 0} where
@@ -51,11 +48,6 @@ module _ {A : Type 0} where
 
 -- ---- an array filled from the front
 
-drop-replicate : {A : Type 0} (k n : ℕ) (d : A) → k ≤ n → drop k (replicate n d) ≡ replicate (n - k) d
-drop-replicate zero n d h = let e : n - 0 ≡ n = omega arith in rw e
-drop-replicate (suc k) zero d h = absurd (not-suc-le-zero h)
-drop-replicate (suc k) (suc n) d h = let e : suc n - suc k ≡ n - k = omega arith in rw e (drop-replicate k n d (le_of_suc-le-suc h))
-
 -- `left` is to be written from i on
 pub record Fills {A : Type 0} (goal out : List A) (i : ℕ) (left : List A) : Type 0 where
   pub room : i + length left ≤ length out
@@ -71,7 +63,7 @@ module _ {A : Type 0} where
         fills =
             sets-eq xs out 0 (omega arith)
             ∙ ap₂ (λ (k : ℕ) (ys : List A). xs ++ drop k ys) e q
-            ∙ ap (λ (ys : List A). xs ++ ys) (drop-replicate (length xs) n d h);
+            ∙ ap (λ (ys : List A). xs ++ ys) (drop-replicate (length xs) n d);
       }
 
   pub fills-more : (goal out : List A) (i : ℕ) (left : List A) (y : A) (less : List A) → left ≡ y ∷ less → Fills goal out i left → Fills goal (set out i y) (i + 1) less
@@ -99,58 +91,6 @@ module _ {A B : Type 0} (g : A → B) where
 pub map-map : {A B C : Type 0} (f : B → C) (g : A → B) (l : List A) → map f (map g l) ≡ map (λ (x : A). f (g x)) l
 map-map f g [] = refl
 map-map f g (x ∷ l) = ap (λ ys. f (g x) ∷ ys) (map-map f g l)
-
--- ---- members compared, where the lists are long enough
-
-pub record Agree (n : ℕ) (x y : List ℕ) (i : ℕ) : Type 0 where
-  pub within : i ≤ n
-  pub left : eq_list eqb (rest n i x) (rest n i y) ≡ eq_list eqb (take n x) (take n y)
-
-module _ (n : ℕ) (x y : List ℕ) (hx : n ≤ length x) (hy : n ≤ length y) where
-  pub agree-start : Agree n x y 0
-  agree-start = record { within = omega arith; left = refl }
-
-  module _ (i : ℕ) (A : Agree n x y i) where
-    agree-step : i < n → (eqb (get_or x i 0) (get_or y i 0) && eq_list eqb (rest n (i + 1) x) (rest n (i + 1) y)) ≡ eq_list eqb (take n x) (take n y)
-    agree-step h = ap₂ (eq_list eqb) (sym (rest-cons n i x 0 hx h)) (sym (rest-cons n i y 0 hy h)) ∙ A.left
-
-    pub agree-more : i < n → get_or x i 0 ≡ get_or y i 0 → Agree n x y (i + 1)
-    agree-more h e = record { within = omega arith; left = rw (eq-eqb (get_or x i 0) (get_or y i 0) e) at (agree-step h) }
-
-    pub agree-stop : i < n → (get_or x i 0 ≡ get_or y i 0 → ⊥) → false ≡ eq_list eqb (take n x) (take n y)
-    agree-stop h e = rw (ne_eqb (get_or x i 0) (get_or y i 0) e) at (agree-step h)
-
-    pub agree-end : n ≤ i → true ≡ eq_list eqb (take n x) (take n y)
-    agree-end h = ap₂ (eq_list eqb) (sym (rest-none n i x h)) (sym (rest-none n i y h)) ∙ A.left
-
--- ---- a name looked up
-
-module _ {A : Type 0} (f : A → List ℕ) (name : List ℕ) (n : ℕ) (xs : List A) where
-  pub record Passed (i : ℕ) : Type 0 where
-    pub within : i ≤ n
-    pub left : i + position (map f (rest n i xs)) name ≡ position (map f (take n xs)) name
-
-  pub passed_start : Passed 0
-  passed_start = record { within = omega arith; left = omega arith }
-
-  pub passed-end : (i : ℕ) → Passed i → n ≤ i → n ≡ position (map f (take n xs)) name
-  passed-end i P k =
-      let s : i + 0 ≡ position (map f (take n xs)) name = ap (λ (ys : List A). i + position (map f ys) name) (sym (rest-none n i xs k)) ∙ P.left in
-      omega (arith, P.within)
-
-  module _ (h : n ≤ length xs) (i : ℕ) (d : A) (P : Passed i) where
-    passed-step : i < n → i + cond (same_name name (f (get_or xs i d))) 0 (suc (position (map f (rest n (i + 1) xs)) name)) ≡ position (map f (take n xs)) name
-    passed-step k = ap (λ (ys : List A). i + position (map f ys) name) (sym (rest-cons n i xs d h k)) ∙ P.left
-
-    pub passed-more : i < n → same_name name (f (get_or xs i d)) ≡ false → Passed (i + 1)
-    passed-more k e =
-        let s : i + suc (position (map f (rest n (i + 1) xs)) name) ≡ position (map f (take n xs)) name = rw e at (passed-step k) in
-        record { within = omega arith; left = omega arith }
-
-    pub passed-stop : i < n → same_name name (f (get_or xs i d)) ≡ true → i ≡ position (map f (take n xs)) name
-    passed-stop k e =
-        let s : i + 0 ≡ position (map f (take n xs)) name = rw e at (passed-step k) in
-        omega arith
 
 -- ---- members tested
 

@@ -1,5 +1,5 @@
 -- What the functions that put statements together make of noted places. Assumes nothing: these are definitions.
-use Rattle.std.specs.Prelude.{◌≡◌, Bool, true, false, not, ◌&&◌, ◌||◌, cond, List, [], ◌∷◌, map, ℕ, suc, ◌+◌, ◌-◌, ◌*◌, ◌≤◌, eqb, ltb, leb, ℤ, pos, nat_abs, length, get_or, take}
+use Rattle.std.specs.Prelude.{◌≡◌, Bool, true, false, not, ◌&&◌, ◌||◌, cond, List, [], ◌∷◌, map, ℕ, suc, ◌+◌, ◌-◌, ◌*◌, ◌≤◌, eqb, ltb, leb, ℤ, pos, nat_abs, length, get_or, take, Option as Maybe, Some, None}
 use Rattle.std.specs.Int.Signed.{lt_z}
 use Rattle.lists.specs.Lists.{all, repeats, from}
 use Rattle.meaning.specs.Condition as C
@@ -12,11 +12,13 @@ use Rattle.meaning.specs.Statement.{numbered, value}
 use Rattle.meaning.specs.Resolve.{resolve_nodes, mark_in_operand, is_below}
 use Rattle.meaning.specs.Cells.{areas_size}
 use Rattle.meaning.specs.Plain.{lowest_of}
-use Rattle.token.specs.Tokens.{value_of}
+use Rattle.token.specs.declared.Kind.{Kind}
+use Rattle.token.specs.declared.Kind.TheVariants.{Constant, Big}
+use Rattle.token.specs.Tokens.{kind_of}
 use Rattle.statement.specs.Operators.{predicate_at}
 use Rattle.statement.specs.Places.{token_on, name_on, Column, column_on, term_on, and_code, nodes_on, codes_on, bare_marks_on}
 use Rattle.statement.specs.Sentences.{items_on, givens_on}
-use Rattle.statement.specs.Catalog.{name_of_struct, scope_names, other_names}
+use Rattle.statement.specs.Catalog.{name_of_struct, column_names}
 use Rattle.statement.specs.Compiled.{padded, table_struct, value_struct, left_side, right_side, setting_with, no_setting, step_of, condition_struct, marks_number, created, asked, changing, refused_by, settled}
 use Rattle.statement.specs.Sound.{value_read, operand_read}
 use Rattle.statement.specs.declared.Operand.{Operand}
@@ -24,8 +26,11 @@ use Rattle.statement.specs.declared.Comparison.{Comparison}
 use Rattle.statement.specs.declared.Condition.{Condition}
 use Rattle.statement.specs.declared.Value.{Value}
 use Rattle.statement.specs.declared.Setting.{Setting}
-use Rattle.statement.specs.declared.Statement.{Statement}
+use Rattle.statement.specs.Compiled.{Compiled}
 use Rattle.statement.specs.declared.names.Scope.{Scope}
+use Rattle.statement.specs.declared.names.Scope.TheVariants.{One, Two}
+use Rattle.statement.specs.declared.sentences.Form.{Form}
+use Rattle.statement.specs.declared.sentences.Form.TheVariants.{Select, Insert, Update, Pair}
 use Rattle.statement.specs.declared.sentences.Entry.{Entry}
 use Rattle.statement.specs.declared.assembling.Settings.{Settings}
 
@@ -43,27 +48,36 @@ places_of columns names = map (position columns) names
 abbrev pub place_of : List ℕ → List (List ℕ) → Dotted → ℕ
 place_of t cs c = cond (same_name c.0 t) (position cs c.1) (length cs)
 
--- the place of a column; of its first name and the one behind the dot, which only a dotted one has
-abbrev pub place_in : (b : Bool) → Scope → Column b → ℕ
-place_in false c n = position (scope_names c) n
-place_in true c d = pair_place (name_of_struct c.name) (scope_names c) (name_of_struct c.other) (other_names c) d
+-- whether columns are dotted: over two tables
+abbrev pub dotted : Scope → Bool
+dotted (One t) = false
+dotted (Two t u) = true
 
-abbrev pub place_named : Bool → Scope → List ℕ → List ℕ → ℕ
-place_named false c n m = place_in false c n
-place_named true c n m = place_in true c (n, m)
+-- the place of a column; of its first name and the one behind the dot, which only a dotted one has
+abbrev pub place_in : (c : Scope) → Column (dotted c) → ℕ
+place_in (One t) n = position (column_names t.now) n
+place_in (Two t u) d = pair_place (name_of_struct t.now.name) (column_names t.now) (name_of_struct u.now.name) (column_names u.now) d
+
+abbrev pub place_named : Scope → List ℕ → List ℕ → ℕ
+place_named (One t) n m = place_in (One t) n
+place_named (Two t u) n m = place_in (Two t u) (n, m)
 
 -- how many columns there are; where those of the second table start; whether both tables have one name
-abbrev pub width_in : Bool → Scope → ℕ
-width_in false c = length (scope_names c)
-width_in true c = length (scope_names c) + length (other_names c)
+abbrev pub width_in : Scope → ℕ
+width_in (One t) = length (column_names t.now)
+width_in (Two t u) = length (column_names t.now) + length (column_names u.now)
 
-abbrev pub start_in : Bool → Scope → ℕ
-start_in false c = 0
-start_in true c = length (scope_names c)
+abbrev pub start_in : Scope → ℕ
+start_in (One t) = 0
+start_in (Two t u) = length (column_names t.now)
 
-abbrev pub twice_in : Bool → Scope → Bool
-twice_in false c = false
-twice_in true c = same_name (name_of_struct c.name) (name_of_struct c.other)
+abbrev pub twice_in : Scope → Bool
+twice_in (One t) = false
+twice_in (Two t u) = same_name (name_of_struct t.now.name) (name_of_struct u.now.name)
+
+-- the number of the table of that name, if there is one
+abbrev pub number_in : List Schema → List ℕ → Maybe ℕ
+number_in ts n = cond (ltb (position (table_names ts) n) (length ts)) (Some (position (table_names ts) n)) None
 
 -- ---- what is kept of a name and of a constant: all, where a text is within the limits
 
@@ -107,16 +121,22 @@ columns_on b s n ls = map (short_column b) (items_on (λ p q. column_on b s p) n
 
 -- ---- tokens
 
--- the kinds of constants
-abbrev pub is_constant : ℕ → Bool
-is_constant k = eqb k 3 || eqb k 4
+-- the constant that a token is; one outside 32 bits counts as 0
+abbrev pub constant_in : Kind → Maybe ℤ
+constant_in (Constant z) = Some z
+constant_in Big = Some (pos 0)
+constant_in _ = None
 
 -- 1 to 512 rows, or none
 unfoldable pub rows_in : ℤ → ℕ
 rows_in z = cond (lt_z z (pos 1)) 0 (cond (lt_z (pos 512) z) 0 (nat_abs z))
 
+abbrev pub rows_as : Kind → ℕ
+rows_as (Constant z) = rows_in z
+rows_as _ = 0
+
 abbrev pub rows_on : List ℕ → ℕ → ℕ
-rows_on s p = rows_in (value_of (token_on s p))
+rows_on s p = rows_as (kind_of (token_on s p))
 
 -- ---- settings
 
@@ -200,7 +220,7 @@ abbrev pub schema_on : List ℕ → List ℕ → Entry → Schema
 schema_on s ls e = record { name = short_name (name_on s e.table); columns = listed_on false s ls e; capacity = rows_on s e.rows; ring = e.ring }
 
 -- beside the tables ts
-unfoldable pub table_on : List ℕ → List ℕ → Entry → List Schema → ℕ → Statement
+unfoldable pub table_on : List ℕ → List ℕ → Entry → List Schema → ℕ → Compiled
 table_on s ls e ts cells =
     settled
     (lowest_by false
@@ -211,7 +231,7 @@ table_on s ls e ts cells =
     (created (table_struct (schema_on s ls e)))
 
 -- of the table of number i, and of a second one by its code, whose columns start there; `place` is where a column stands among so many
-unfoldable pub select_on : (b : Bool) → (Column b → ℕ) → ℕ → List ℕ → List ℕ → List ℕ → Entry → ℕ → ℕ → ℕ → Bool → ℕ → Statement
+unfoldable pub select_on : (b : Bool) → (Column b → ℕ) → ℕ → List ℕ → List ℕ → List ℕ → Entry → ℕ → ℕ → ℕ → Bool → ℕ → Compiled
 select_on b place width s ls ps e i second start twice queries =
     settled (lowest_by (unknown_on width (map place (listed_on b s ls e)) (condition_on b place s ps e 0)) false false twice (leb 16 queries))
     (asked (record {
@@ -226,7 +246,7 @@ select_on b place width s ls ps e i second start twice queries =
     }))
 
 -- of one table, which has these columns
-unfoldable pub insert_on : List ℕ → List ℕ → Entry → List (List ℕ) → ℕ → ℕ → Statement
+unfoldable pub insert_on : List ℕ → List ℕ → Entry → List (List ℕ) → ℕ → ℕ → Compiled
 insert_on s ls e columns i updates =
     settled (lowest_by false false (not (eqb e.listed (length columns))) false (leb 16 updates))
     (changing (record {
@@ -242,7 +262,7 @@ insert_on s ls e columns i updates =
 abbrev pub sets_on : List ℕ → List ℕ → Entry → List (List ℕ) → Settings
 sets_on s ls e columns = settings_on (places_of columns (listed_on false s ls e)) (givens_on s e.listed ls)
 
-unfoldable pub update_on : List ℕ → List ℕ → List ℕ → Entry → List (List ℕ) → ℕ → ℕ → Statement
+unfoldable pub update_on : List ℕ → List ℕ → List ℕ → Entry → List (List ℕ) → ℕ → ℕ → Compiled
 update_on s ls ps e columns i updates =
     settled
     (lowest_by (unknown_on (length columns) (places_of columns (listed_on false s ls e)) (condition_on false (position columns) s ps e (sets_on s ls e columns).marks))
@@ -256,7 +276,7 @@ update_on s ls ps e columns i updates =
       condition = condition_on false (position columns) s ps e (sets_on s ls e columns).marks;
     }))
 
-unfoldable pub delete_on : List ℕ → List ℕ → Entry → List (List ℕ) → ℕ → ℕ → Statement
+unfoldable pub delete_on : List ℕ → List ℕ → Entry → List (List ℕ) → ℕ → ℕ → Compiled
 delete_on s ps e columns i updates =
     settled (lowest_by (unknown_on (length columns) [] (condition_on false (position columns) s ps e 0)) false false false (leb 16 updates))
     (changing (record {
@@ -269,11 +289,14 @@ delete_on s ps e columns i updates =
     }))
 
 -- a question of one table or an update, by its form
-abbrev pub form_on : List ℕ → List ℕ → List ℕ → Entry → List (List ℕ) → ℕ → ℕ → ℕ → Statement
-form_on s ls ps e columns i queries updates =
-    cond (eqb e.form 1) (select_on false (position columns) (length columns) s ls ps e i 0 0 false queries)
-    (cond (eqb e.form 2) (insert_on s ls e columns i updates)
-    (cond (eqb e.form 3) (update_on s ls ps e columns i updates) (delete_on s ps e columns i updates)))
+abbrev pub form_as : Form → List ℕ → List ℕ → List ℕ → Entry → List (List ℕ) → ℕ → ℕ → ℕ → Compiled
+form_as Select s ls ps e columns i queries updates = select_on false (position columns) (length columns) s ls ps e i 0 0 false queries
+form_as Insert s ls ps e columns i queries updates = insert_on s ls e columns i updates
+form_as Update s ls ps e columns i queries updates = update_on s ls ps e columns i updates
+form_as _ s ls ps e columns i queries updates = delete_on s ps e columns i updates
+
+abbrev pub form_on : List ℕ → List ℕ → List ℕ → Entry → List (List ℕ) → ℕ → ℕ → ℕ → Compiled
+form_on s ls ps e columns i queries updates = form_as e.form s ls ps e columns i queries updates
 
 -- the number of the table that the text names at a place
 abbrev pub number_on : List ℕ → ℕ → List Schema → ℕ
@@ -283,21 +306,25 @@ abbrev pub columns_at : List Schema → ℕ → List (List ℕ)
 columns_at ts i = (get_or ts i no_schema).columns
 
 -- a question of table i, which the text names t, and of the one that it names second
-abbrev pub pair_with : List ℕ → List (List ℕ) → List ℕ → List (List ℕ) → List ℕ → List ℕ → List ℕ → Entry → ℕ → ℕ → ℕ → Statement
+abbrev pub pair_with : List ℕ → List (List ℕ) → List ℕ → List (List ℕ) → List ℕ → List ℕ → List ℕ → Entry → ℕ → ℕ → ℕ → Compiled
 pair_with t cs u ds s ls ps e i j queries =
     select_on true (pair_place t cs u ds) (length cs + length ds) s ls ps e i (suc j) (length cs) (same_name t u) queries
 
-abbrev pub pair_on : List ℕ → List (List ℕ) → List ℕ → List ℕ → List ℕ → Entry → List Schema → ℕ → ℕ → Statement
+abbrev pub pair_on : List ℕ → List (List ℕ) → List ℕ → List ℕ → List ℕ → Entry → List Schema → ℕ → ℕ → Compiled
 pair_on t cs s ls ps e ts i queries =
     cond (ltb (number_on s e.second ts) (length ts))
     (pair_with t cs (short_name (name_on s e.second)) (columns_at ts (number_on s e.second ts)) s ls ps e i (number_on s e.second ts) queries)
     (refused_by 6)
 
+abbrev pub is_pair : Form → Bool
+is_pair Pair = true
+is_pair _ = false
+
 -- of a table of ts
-abbrev pub beside_on : List ℕ → List ℕ → List ℕ → Entry → List Schema → ℕ → ℕ → Statement
+abbrev pub beside_on : List ℕ → List ℕ → List ℕ → Entry → List Schema → ℕ → ℕ → Compiled
 beside_on s ls ps e ts queries updates =
     cond (ltb (number_on s e.table ts) (length ts))
-    (cond (eqb e.form 5)
+    (cond (is_pair e.form)
     (pair_on (short_name (name_on s e.table)) (columns_at ts (number_on s e.table ts)) s ls ps e ts (number_on s e.table ts) queries)
     (form_on s ls ps e (columns_at ts (number_on s e.table ts)) (number_on s e.table ts) queries updates))
     (refused_by 6)

@@ -1,11 +1,10 @@
 -- The tables that there are, as the plain store has them: what a text is read beside. Assumes nothing: these are definitions.
-use Rattle.std.specs.Prelude.{true, false, List, [], map, ℕ, take, replicate}
+use Rattle.std.specs.Prelude.{List, [], map, ℕ, take, replicate}
 use Rattle.meaning.specs.Names.{Schema}
 use Rattle.meaning.specs.Plain as P
 use Rattle.meaning.specs.Plain.{Plain, no_query, no_update}
 use Rattle.statement.specs.declared.Name.{Name}
 use Rattle.statement.specs.declared.Table.{Table}
-use Rattle.statement.specs.declared.names.Scope.{Scope}
 
 -- a name is its first `len` bytes
 abbrev pub name_of_struct : Name → List ℕ
@@ -14,19 +13,9 @@ name_of_struct n = take n.len n.bytes
 abbrev pub names_of : List Name → ℕ → List (List ℕ)
 names_of names count = map name_of_struct (take count names)
 
--- the columns that a statement may name: those of its table, and over two tables (A.1) those of the second
-abbrev pub scope_names : Scope → List (List ℕ)
-scope_names s = names_of s.columns s.count
-
-abbrev pub other_names : Scope → List (List ℕ)
-other_names s = names_of s.others s.more
-
--- those of one table; and of two, which a text names so
-abbrev pub scope_of : Table → Scope
-scope_of t = record { dotted = false; name = t.name; columns = t.columns; count = t.count; other = t.name; others = t.columns; more = 0 }
-
-abbrev pub pair_scope : Name → Table → Name → Table → Scope
-pair_scope n t m u = record { dotted = true; name = n; columns = t.columns; count = t.count; other = m; others = u.columns; more = u.count }
+-- the names of a table's columns
+abbrev pub column_names : Table → List (List ℕ)
+column_names t = names_of t.columns t.count
 
 -- what a table's TABLE text says
 abbrev pub schema_of : Table → Schema

@@ -1,5 +1,5 @@
 -- What a text compiles to: the statement of its sentence, in the types of the code, or the number of its refusal. Assumes nothing: these are definitions.
-use Rattle.std.specs.Prelude.{Bool, true, false, List, [], ◌∷◌, ◌++◌, map, ℕ, zero, suc, ◌+◌, ◌*◌, ◌-◌, pos, length, drop, replicate}
+use Rattle.std.specs.Prelude.{Result, Ok, Err, Bool, true, false, List, [], ◌∷◌, ◌++◌, map, ℕ, zero, suc, ◌+◌, ◌*◌, ◌-◌, pos, length, drop, replicate}
 use Rattle.std.proofs.Math.Option.{Option, none, some}
 use Rattle.meaning.specs.Condition as C
 use Rattle.meaning.specs.Condition.{Where, always}
@@ -21,7 +21,10 @@ use Rattle.statement.specs.declared.Query.{Query}
 use Rattle.statement.specs.declared.Value.{Value}
 use Rattle.statement.specs.declared.Setting.{Setting}
 use Rattle.statement.specs.declared.Update.{Update}
+use Rattle.statement.specs.declared.Refusal.{Refusal}
 use Rattle.statement.specs.declared.Statement.{Statement}
+use Rattle.statement.specs.declared.Statement.TheVariants as V
+use Rattle.statement.specs.Refusals.{number_of}
 
 -- a list in an array of n places: d stands behind it
 abbrev pub padded : {A : Type 0} → ℕ → A → List A → List A
@@ -177,21 +180,35 @@ update_struct u = record {
 abbrev pub no_update : Update
 no_update = update_struct (record { table = 0; change = S.insert []; parameters = 0 })
 
--- ---- statements: 1 a table, 2 a question, 3 an update
+-- ---- statements, as numbers and what they say: the refusal's number or 0; 1 a table, 2 a question, 3 an update, 0 where refused; everything else is empty
 
-abbrev pub created : Table → Statement
+pub record Compiled : Type 0 where
+  pub refusal : ℕ
+  pub kind : ℕ
+  pub table : Table
+  pub query : Query
+  pub update : Update
+
+abbrev pub created : Table → Compiled
 created t = record { refusal = 0; kind = 1; table = t; query = no_query; update = no_update }
 
-abbrev pub asked : Query → Statement
+abbrev pub asked : Query → Compiled
 asked q = record { refusal = 0; kind = 2; table = no_table; query = q; update = no_update }
 
-abbrev pub changing : Update → Statement
+abbrev pub changing : Update → Compiled
 changing u = record { refusal = 0; kind = 3; table = no_table; query = no_query; update = u }
 
-abbrev pub refused_by : ℕ → Statement
+abbrev pub refused_by : ℕ → Compiled
 refused_by n = record { refusal = n; kind = 0; table = no_table; query = no_query; update = no_update }
 
-unfoldable pub struct_of : S.Statement → Statement
+-- what compiling gave, read so
+abbrev pub compiled : Result Statement Refusal → Compiled
+compiled (Ok (V.Table t)) = created t
+compiled (Ok (V.Query q)) = asked q
+compiled (Ok (V.Update u)) = changing u
+compiled (Err r) = refused_by (number_of r)
+
+unfoldable pub struct_of : S.Statement → Compiled
 struct_of (S.creates t) = created (table_struct t)
 struct_of (S.asks q) = asked (query_struct q)
 struct_of (S.changes u) = changing (update_struct u)
@@ -202,16 +219,16 @@ struct_of (S.changes u) = changing (update_struct u)
 abbrev pub text_conditions : Plain → List ℕ → List (ℕ × Bool)
 text_conditions p text = drop 1 (add_conditions p.lengths p text (sentence text))
 
-abbrev pub struct_of_text : List Schema → Option Sentence → Statement
+abbrev pub struct_of_text : List Schema → Option Sentence → Compiled
 struct_of_text ts none = refused_by 0
 struct_of_text ts (some s) = struct_of (statement_of ts s)
 
 -- the statement, or the number of the refusal if there is one
-abbrev pub settled : ℕ → Statement → Statement
+abbrev pub settled : ℕ → Compiled → Compiled
 settled zero done = done
 settled (suc n) done = refused_by (suc n)
 
-unfoldable pub compiled_of : List ℕ → List Table → ℕ → ℕ → ℕ → ℕ → Statement
+unfoldable pub compiled_of : List ℕ → List Table → ℕ → ℕ → ℕ → ℕ → Compiled
 compiled_of text tables used queries updates cells =
     let p : Plain = catalog tables used queries updates cells in
     settled (lowest_of (text_conditions p text)) (struct_of_text (schemas p) (sentence text))

@@ -11,7 +11,7 @@ use Rattle.meaning.specs.Plain.{other_lengths, no_place}
 use Rattle.statement.specs.Compiled.{padded, table_struct, comparison_with, no_comparison, no_setting, created, asked, changing, refused_by, struct_of, compiled_of}
 use Rattle.statement.specs.declared.Operand.{Operand}
 use Rattle.statement.specs.declared.Table.{Table}
-use Rattle.statement.specs.declared.Statement.{Statement}
+use Rattle.statement.specs.Compiled.{Compiled}
 
 -- what the computations open
 computing : Unit {0}
@@ -30,7 +30,7 @@ parameter k = record { code = 2 * k + 1; number = pos 0 }
 abbrev column : ℕ → Operand
 column i = record { code = 2 * i + 2; number = pos 0 }
 
-abbrev compiled : String → Statement
+abbrev compiled : String → Compiled
 compiled text = compiled_of (bytes text) (t ∷ []) 1 0 0 6
 
 -- NOT goes down to the comparisons, and AND becomes OR
@@ -154,7 +154,7 @@ refused-9 = refl
 abbrev u : Table
 u = table_struct (record { name = bytes "u"; columns = bytes "a" ∷ bytes "c" ∷ []; capacity = 3; ring = false })
 
-abbrev paired : String → Statement
+abbrev paired : String → Compiled
 paired text = compiled_of (bytes text) (t ∷ u ∷ []) 2 0 0 12
 
 select-b-c :

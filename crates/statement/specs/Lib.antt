@@ -3,8 +3,10 @@ pub mod Places
 pub mod Reading
 pub mod Sentences
 pub mod Catalog
+pub mod Refusals
 pub mod Compiled
 pub mod Built
 pub mod Sound
 pub mod Demand
 pub mod Examples
+pub mod Same

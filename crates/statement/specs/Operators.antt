@@ -3,8 +3,16 @@
 use Rattle.std.specs.Prelude.{Bool, true, false, ◌||◌, cond, List, [], ◌∷◌, ℕ, zero, suc, ltb, ℤ, pos, get_or}
 use Rattle.std.specs.Int.Signed.{lt_z}
 use Rattle.lists.specs.Tests.{eq_z}
-use Rattle.meaning.specs.Operator.{eq, ne, lt, le, gt, ge, null, is_null, Predicate, by, is-null, is-not-null, truth}
-use Rattle.token.specs.Tokens.{operator_number}
+use Rattle.meaning.specs.Operator.{Operator, eq, ne, lt, le, gt, ge, null, is_null, Predicate, by, is-null, is-not-null, truth}
+
+-- the six operators in their order
+abbrev pub operator_number : Operator → ℕ
+operator_number eq = 0
+operator_number ne = 1
+operator_number lt = 2
+operator_number le = 3
+operator_number gt = 4
+operator_number ge = 5
 
 abbrev pub predicates : List Predicate
 predicates = by eq ∷ by ne ∷ by lt ∷ by le ∷ by gt ∷ by ge ∷ is-null ∷ is-not-null ∷ []

@@ -1,5 +1,5 @@
 -- What a reader of conditions has found, as against what the grammar's reader finds: the contracts of the cycle. Assumes nothing: these are definitions.
-use Rattle.std.specs.Prelude.{◌≡◌, ◌≢◌, Bool, true, false, ◌&&◌, ◌||◌, cond, List, [], ◌∷◌, ◌++◌, ℕ, ◌+◌, ◌-◌, ◌*◌, ◌≤◌, ◌<◌, leb, ltb, eqb, length, drop}
+use Rattle.std.specs.Prelude.{◌≡◌, ◌≢◌, Bool, true, false, ◌||◌, cond, List, [], ◌∷◌, ◌++◌, ℕ, ◌+◌, ◌-◌, ◌*◌, ◌≤◌, ◌<◌, ltb, eqb, length, drop, Option as Maybe, Some, None}
 use Rattle.std.proofs.Math.Option.{Option, none, some}
 use Rattle.meaning.specs.Condition.{Level, atom, conjunction, disjunction, Tree, Condition, compare, negate, group, alone, both, single, either, mapped, comparisons, sides}
 use Rattle.meaning.specs.Postfix.{nodes}
@@ -7,6 +7,8 @@ use Rattle.meaning.specs.Tokens as T
 use Rattle.meaning.specs.Tokens.{tokens, rparen}
 use Rattle.meaning.specs.Grammar.{Term, column, given, Test, comparison, Dotted, Reader, then, done, expect, a_name, a_dotted, a_term, a_null, a_comparison, a_condition, name_of}
 use Rattle.meaning.specs.Limits.{most_name, most_depth, outside32, term_givens, mark_count}
+use Rattle.token.specs.declared.Kind.{Kind}
+use Rattle.token.specs.declared.Kind.TheVariants.{Name, Constant, Big, Mark, Comma, Open, Close, From, Into, Values, Set, Eq, Ne, Lt, Le, Gt, Ge, Is, Null}
 use Rattle.token.specs.declared.Token.{Token}
 use Rattle.token.specs.Tokens.{token_at}
 use Rattle.statement.specs.Operators.{opposite_of}
@@ -14,26 +16,60 @@ use Rattle.statement.specs.Places.{token_on, Column, column_on, term_on, compari
 use Rattle.statement.specs.declared.conditions.Cursor.{Cursor}
 use Rattle.statement.specs.declared.conditions.Side.{Side}
 
--- ---- tokens by their numbers
+-- ---- tokens by their kinds
+
+-- the words and signs that a form asks for at their place
+abbrev pub is_expected : Kind → Bool
+is_expected Comma = true
+is_expected Open = true
+is_expected Close = true
+is_expected Eq = true
+is_expected From = true
+is_expected Into = true
+is_expected Values = true
+is_expected Set = true
+is_expected _ = false
 
 -- a name of more than 12 bytes, or a constant outside 32 bits
-unfoldable pub token_past : ℕ → ℕ → ℕ → Bool
-token_past kind start next = eqb kind 4 || (eqb kind 2 && ltb most_name (next - start))
+unfoldable pub token_past : Kind → ℕ → ℕ → Bool
+token_past Big start next = true
+token_past Name start next = ltb most_name (next - start)
+token_past _ start next = false
 
 abbrev pub past : Token → Bool
 past t = token_past t.kind t.start t.next
 
 -- a name, a constant or a question mark
-abbrev pub is_operand : ℕ → Bool
-is_operand kind = leb 2 kind && leb kind 5
+abbrev pub is_operand : Kind → Bool
+is_operand Name = true
+is_operand (Constant z) = true
+is_operand Big = true
+is_operand Mark = true
+is_operand _ = false
 
--- one of the six operators
-abbrev pub is_comparison : ℕ → Bool
-is_comparison kind = leb 9 kind && leb kind 14
+-- the number of one of the six operators
+abbrev pub operator_in : Kind → Maybe ℕ
+operator_in Eq = Some 0
+operator_in Ne = Some 1
+operator_in Lt = Some 2
+operator_in Le = Some 3
+operator_in Gt = Some 4
+operator_in Ge = Some 5
+operator_in _ = None
+
+-- the kinds of a column, where columns are bare, and of the word behind it in a null test (A.5)
+abbrev pub is_name : Kind → Bool
+is_name Name = true
+is_name _ = false
+
+abbrev pub is_is : Kind → Bool
+is_is Is = true
+is_is _ = false
 
 -- how many question marks
-abbrev pub marks_at : ℕ → ℕ
-marks_at kind = cond (eqb kind 5) 1 0
+abbrev pub marks_at : Kind → ℕ
+marks_at Mark = 1
+marks_at _ = 0
 
 -- ---- cursors
 
@@ -65,12 +101,13 @@ pub record PutsNode (xs : List ℕ) (c : Cursor) (node left right : ℕ) (ys : L
 
 -- a side that ends at another place
 abbrev pub ended_at : ℕ → Side → Side
-ended_at next a = record { ok = a.ok; over = a.over; marks = a.marks; start = a.start; next = next }
+ended_at next a = record { over = a.over; marks = a.marks; start = a.start; next = next }
 
--- A.5: the null test `op` of the column a was put if the token t is NULL, whose kind is 32
-pub record PutsNull (xs : List ℕ) (c : Cursor) (positive : Bool) (depth : ℕ) (a : Side) (op : ℕ) (t : Token) (ys : List ℕ) (r : Cursor) : Type 0 where
-  pub fails : t.kind ≢ 32 → r.ok ≡ false
-  pub puts : t.kind ≡ 32 → PutsNode xs (with_sides depth a (ended_at t.next a) c) (comparison_code depth (cond positive op (opposite_of op))) a.start a.start ys r
+-- A.5: the null test `op` of the column a was put if the token t is NULL
+abbrev pub PutsNull : List ℕ → Cursor → Bool → ℕ → Side → ℕ → Token → List ℕ → Maybe Cursor → Type 0
+PutsNull xs c positive depth a op t ys None = t.kind ≢ Null
+PutsNull xs c positive depth a op t ys (Some r) =
+    (t.kind ≡ Null) × PutsNode xs (with_sides depth a (ended_at t.next a) c) (comparison_code depth (cond positive op (opposite_of op))) a.start a.start ys r
 
 -- a place inside a text of at most 256 bytes, with no more counted than there are bytes before it
 pub record Stands (s : List ℕ) (c : Cursor) : Type 0 where
@@ -127,7 +164,6 @@ marks_in c = mark_count (term_givens (sides (comparisons c)))
 
 -- r reads on from `at` up to the tokens `more`
 pub record Spans (s : List ℕ) (at : ℕ) (r : Side) (more : List T.Token) : Type 0 where
-  pub ok : r.ok ≡ true
   pub on : at < r.next
   pub within : r.next ≤ length s
   pub begun : r.start < r.next
@@ -147,16 +183,18 @@ pub record IsOperand (b : Bool) (s : List ℕ) (r : Side) (x : Operand b) : Type
   pub marks : r.marks ≡ mark_count (term_givens (x ∷ []))
 
 -- r is what the grammar's reader finds from `at` on
-abbrev pub Sides : {A : Type 0} → List ℕ → ℕ → Side → (A → Type 0) → Option (A × List T.Token) → Type 0
-Sides s at r Q none = r.ok ≡ false
-Sides s at r Q (some x) = Spans s at r x.1 × Q x.0
+abbrev pub Sides : {A : Type 0} → List ℕ → ℕ → Maybe Side → (Side → A → Type 0) → Option (A × List T.Token) → Type 0
+Sides s at None Q none = Unit {0}
+Sides s at None Q (some x) = ⊥
+Sides s at (Some r) Q none = ⊥
+Sides s at (Some r) Q (some x) = Spans s at r x.1 × Q r x.0
 
 -- a dotted column, and an operand, whose first token is `first`
-abbrev pub ReadsDotted : List ℕ → Token → Side → Type 0
-ReadsDotted s first r = (at : ℕ) → first ≡ token_at s at → Sides s at r (IsDotted s r) (a_dotted (tokens (drop at s)))
+abbrev pub ReadsDotted : List ℕ → Token → Maybe Side → Type 0
+ReadsDotted s first r = (at : ℕ) → first ≡ token_at s at → Sides s at r (IsDotted s) (a_dotted (tokens (drop at s)))
 
-abbrev pub ReadsSide : Bool → List ℕ → Token → Side → Type 0
-ReadsSide b s first r = (at : ℕ) → first ≡ token_at s at → Sides s at r (IsOperand b s r) (a_term (a_column b) (tokens (drop at s)))
+abbrev pub ReadsSide : Bool → List ℕ → Token → Maybe Side → Type 0
+ReadsSide b s first r = (at : ℕ) → first ≡ token_at s at → Sides s at r (IsOperand b s) (a_term (a_column b) (tokens (drop at s)))
 
 -- ---- conditions
 
@@ -175,9 +213,11 @@ pub record Found (b : Bool) {l : Level} (s : List ℕ) (positive : Bool) (depth 
   pub spread : r.nodes + c.at ≤ c.nodes + r.at
 
 -- r and ys are what the grammar's reader finds
-abbrev pub Meets : (b : Bool) {l : Level} → List ℕ → Bool → ℕ → Cursor → List ℕ → Cursor → List ℕ → Option (Written b l × List T.Token) → Type 0
-Meets b s positive depth c xs r ys none = r.ok ≡ false
-Meets b s positive depth c xs r ys (some x) = Found b s positive depth c xs r ys x.0 x.1
+abbrev pub Meets : (b : Bool) {l : Level} → List ℕ → Bool → ℕ → Cursor → List ℕ → Maybe Cursor → List ℕ → Option (Written b l × List T.Token) → Type 0
+Meets b s positive depth c xs None ys none = Unit {0}
+Meets b s positive depth c xs None ys (some x) = ⊥
+Meets b s positive depth c xs (Some r) ys none = ⊥
+Meets b s positive depth c xs (Some r) ys (some x) = Found b s positive depth c xs r ys x.0 x.1
 
 -- A.5: the column a was read from c on, and IS behind it, up to `at`
 pub record Reaches (s : List ℕ) (c : Cursor) (a : Side) (at : ℕ) : Type 0 where
@@ -187,12 +227,12 @@ pub record Reaches (s : List ℕ) (c : Cursor) (a : Side) (at : ℕ) : Type 0 wh
   pub unmarked : a.marks ≡ 0
 
 -- what follows IS makes a null test of that column
-abbrev pub TestsNull : List ℕ → Bool → ℕ → Cursor → List ℕ → Side → ℕ → Cursor → List ℕ → Type 0
+abbrev pub TestsNull : List ℕ → Bool → ℕ → Cursor → List ℕ → Side → ℕ → Maybe Cursor → List ℕ → Type 0
 TestsNull s positive depth c xs a at r ys =
     (b : Bool) → c.dotted ≡ b → (x : Column b) → IsOperand b s a (column x)
     → Meets b s positive depth c xs r ys (then (a_null (a_column b) x (tokens (drop at s))) (λ t. done (compare t)))
 
-abbrev pub Compares : List ℕ → Bool → ℕ → Cursor → List ℕ → Cursor → List ℕ → Type 0
+abbrev pub Compares : List ℕ → Bool → ℕ → Cursor → List ℕ → Maybe Cursor → List ℕ → Type 0
 Compares s positive depth c xs r ys = (b : Bool) → c.dotted ≡ b → Meets b s positive depth c xs r ys (a_comparison (a_column b) (tokens (drop c.at s)))
 
 abbrev pub rank : Level → ℕ
@@ -201,7 +241,7 @@ rank conjunction = 2
 rank disjunction = 3
 
 -- with calls enough for the text that is left
-abbrev pub Reads : Level → List ℕ → Bool → ℕ → Cursor → List ℕ → Cursor → List ℕ → Type 0
+abbrev pub Reads : Level → List ℕ → Bool → ℕ → Cursor → List ℕ → Maybe Cursor → List ℕ → Type 0
 Reads l s positive depth c xs r ys =
     (b : Bool) → c.dotted ≡ b → (n : ℕ) → 3 * (length s - c.at) + rank l ≤ n → Meets b s positive depth c xs r ys (a_condition (a_column b) n l (tokens (drop c.at s)))
 
@@ -214,9 +254,11 @@ pub record Passed (s : List ℕ) (c r : Cursor) (more : List T.Token) : Type 0 w
   pub inside : r.at ≤ length s
   pub left : tokens (drop r.at s) ≡ more
 
-abbrev pub Passes : List ℕ → Cursor → Cursor → Option (Unit {0} × List T.Token) → Type 0
-Passes s c r none = r.ok ≡ false
-Passes s c r (some x) = Passed s c r x.1
+abbrev pub Passes : List ℕ → Cursor → Maybe Cursor → Option (Unit {0} × List T.Token) → Type 0
+Passes s c None none = Unit {0}
+Passes s c None (some x) = ⊥
+Passes s c (Some r) none = ⊥
+Passes s c (Some r) (some x) = Passed s c r x.1
 
-abbrev pub Closes : List ℕ → Cursor → Cursor → Type 0
-Closes s c r = (c.ok ≡ false → r.ok ≡ false) × (c.ok ≡ true → Passes s c r (expect rparen (tokens (drop c.at s))))
+abbrev pub Closes : List ℕ → Cursor → Maybe Cursor → Type 0
+Closes s c r = Passes s c r (expect rparen (tokens (drop c.at s)))

@@ -1,6 +1,6 @@
 -- What the readers of the forms have found, as against what the grammar's readers find: their contracts. A reader takes a cursor that may have
 -- failed already, and then fails too, so that a form is read by a row of calls. Assumes nothing: these are definitions.
-use Rattle.std.specs.Prelude.{◌≡◌, Bool, true, false, not, ◌&&◌, ◌||◌, cond, List, [], ◌∷◌, ◌++◌, map, ℕ, zero, suc, ◌+◌, ◌-◌, ◌*◌, ◌/◌, ◌≤◌, ◌<◌, leb, ltb, eqb, ℤ, pos, length, drop, get_or, set}
+use Rattle.std.specs.Prelude.{◌≡◌, Bool, true, false, not, ◌&&◌, ◌||◌, List, [], ◌∷◌, ◌++◌, map, ℕ, zero, suc, ◌+◌, ◌-◌, ◌*◌, ◌/◌, ◌≤◌, ◌<◌, ltb, ℤ, pos, length, drop, get_or, set, Option as Maybe, Some, None}
 use Rattle.std.proofs.Math.Option.{Option, none, some}
 use Rattle.std.specs.Int.Signed.{le_z, lt_z}
 use Rattle.lists.specs.Lists.{any}
@@ -10,14 +10,20 @@ use Rattle.meaning.specs.Tokens as T
 use Rattle.meaning.specs.Tokens.{Name, Token, tokens}
 use Rattle.meaning.specs.Grammar.{Given, comparison, Dotted, items, Sentence, table, select, pair, insert, update, delete, Reader, expect, constant_of, a_token, a_name, a_dotted, a_given, a_setting, a_list, a_size_word, a_where, a_delete, a_sentence}
 use Rattle.meaning.specs.Limits.{most_name, most_rows, most_items, most_marks, most_comparisons, table_named, where_of, term_givens, mark_count, givens, outside32, past_limit}
+use Rattle.token.specs.declared.Kind.{Kind}
+use Rattle.token.specs.declared.Kind.TheVariants.{End, Constant, Big, Mark, Comma, Rows, From, Ring}
 use Rattle.token.specs.declared.Token.{Token as Read}
 use Rattle.token.specs.Tokens.{kind_of, token_at}
 use Rattle.statement.specs.Places.{token_on, name_on, given_on, column_on, nodes_on, bare_marks_on}
-use Rattle.statement.specs.Reading.{Stands, Operand, a_column, long_column, condition_past, bare_marks}
+use Rattle.statement.specs.Reading.{is_expected, Stands, Operand, a_column, long_column, condition_past, bare_marks}
 use Rattle.statement.specs.declared.conditions.Cursor.{Cursor}
 use Rattle.statement.specs.declared.sentences.Placed.{Placed}
 use Rattle.statement.specs.declared.sentences.Listing.{Listing}
 use Rattle.statement.specs.declared.sentences.Sized.{Sized}
+use Rattle.statement.specs.declared.sentences.Contents.{Contents}
+use Rattle.statement.specs.declared.sentences.Contents.TheVariants.{Names as names, Values as values, Settings as settings, Columns as columns}
+use Rattle.statement.specs.declared.sentences.Form.{Form}
+use Rattle.statement.specs.declared.sentences.Form.TheVariants.{Table, Select, Insert, Update, Delete, Pair}
 use Rattle.statement.specs.declared.sentences.Entry.{Entry}
 
 -- ---- what is noted of a list: two numbers an item, the place of its name and that of its value
@@ -73,8 +79,8 @@ abbrev pub ExpectsToken : List ℕ → Token → Cursor → Cursor → Type 0
 ExpectsToken s t c r = After s (expect t) (λ u. Counts c r false 0) c r
 
 -- the token that the kind k tells
-abbrev pub Expects : List ℕ → ℕ → Cursor → Cursor → Type 0
-Expects s k c r = (t : Token) → kind_of t ≡ k → ExpectsToken s t c r
+abbrev pub Expects : List ℕ → Kind → Cursor → Cursor → Type 0
+Expects s k c r = (t : Token) → kind_of t ≡ k → is_expected k ≡ true → ExpectsToken s t c r
 
 abbrev pub is_long_name : Name → Bool
 is_long_name n = ltb most_name (length n)
@@ -94,8 +100,10 @@ abbrev pub Sizes : List ℕ → Cursor → Sized → Type 0
 Sizes s c r = After s a_size_word (λ b. Counts c r.c false 0 × (r.ring ≡ b)) c r.c
 
 -- the kinds of the two words
-abbrev pub is_size : ℕ → Bool
-is_size k = eqb k 16 || eqb k 30
+abbrev pub ring_in : Kind → Maybe Bool
+ring_in Rows = Some false
+ring_in Ring = Some true
+ring_in _ = None
 
 -- ROWS or RING is 1 to 512
 abbrev pub outside_rows : ℤ → Bool
@@ -104,31 +112,34 @@ outside_rows z = not (le_z (pos 1) z && le_z z (pos most_rows))
 abbrev pub CountsRows : List ℕ → Cursor → Placed → Type 0
 CountsRows s c r = After s (a_token constant_of) (λ z. Counts c r.c (outside_rows z) 0 × (token_on s r.place ≡ T.constant z)) c r.c
 
-abbrev pub is_between : ℕ → ℕ → ℕ → Bool
-is_between k low high = leb low k && leb k high
+-- by the kind of its token, a constant
+abbrev pub rows_past : Kind → Maybe Bool
+rows_past (Constant z) = Some (lt_z z (pos 1) || lt_z (pos most_rows) z)
+rows_past Big = Some true
+rows_past _ = None
 
--- by the numbers of its token
-abbrev pub is_rows_past : ℕ → ℤ → Bool
-is_rows_past k z = eqb k 4 || (lt_z z (pos 1) || lt_z (pos most_rows) z)
+-- a constant or a question mark
+abbrev pub is_value : Kind → Bool
+is_value (Constant z) = true
+is_value Big = true
+is_value Mark = true
+is_value _ = false
 
 -- ---- lists: of names, of values, of settings, of dotted columns (A.1)
 
-pub data Kind : Type 0 where
-  names values settings columns : Kind
-
-abbrev pub Content : Kind → Type 0
+abbrev pub Content : Contents → Type 0
 Content names = Name
 Content values = Given
 Content settings = Name × Given
 Content columns = Dotted
 
-abbrev pub item_reader : (k : Kind) → Reader (Content k)
+abbrev pub item_reader : (k : Contents) → Reader (Content k)
 item_reader names = a_name
 item_reader values = a_given
 item_reader settings = a_setting
 item_reader columns = a_dotted
 
-abbrev pub item_on : (k : Kind) → List ℕ → ℕ → ℕ → Content k
+abbrev pub item_on : (k : Contents) → List ℕ → ℕ → ℕ → Content k
 item_on names s a b = name_on s a
 item_on values s a b = given_on s b
 item_on settings s a b = (name_on s a, given_on s b)
@@ -140,13 +151,13 @@ parts_of [] = []
 parts_of (c ∷ cs) = c.0 ∷ c.1 ∷ parts_of cs
 
 -- the names and the values of some items
-abbrev pub columns_in : (k : Kind) → List (Content k) → List Name
+abbrev pub columns_in : (k : Contents) → List (Content k) → List Name
 columns_in names xs = xs
 columns_in values xs = []
 columns_in settings xs = map (λ (x : Name × Given). x.0) xs
 columns_in columns xs = parts_of xs
 
-abbrev pub values_in : (k : Kind) → List (Content k) → List Given
+abbrev pub values_in : (k : Contents) → List (Content k) → List Given
 values_in names xs = []
 values_in values xs = xs
 values_in settings xs = map (λ (x : Name × Given). x.1) xs
@@ -154,10 +165,6 @@ values_in columns xs = []
 
 abbrev pub list_past : List Name → List Given → Bool
 list_past cs vs = any is_long_name cs || any outside32 vs
-
--- the kinds by their numbers
-abbrev pub kind_at : ℕ → Kind
-kind_at n = cond (eqb n 0) names (cond (eqb n 1) values (cond (eqb n 2) settings columns))
 
 -- an item at the end, by the places of its name and its value: noted if it is one of the first eight, for which there is room
 pub record PutsItem (xs : List ℕ) (n a b : ℕ) (ys : List ℕ) : Type 0 where
@@ -171,15 +178,15 @@ pub record Within (s : List ℕ) (c : Cursor) (l : ℕ) : Type 0 where
   pub few : c.ok ≡ true → l ≤ c.at
 
 -- the items `found` were read from c on, up to r, after l others: counted, and noted if there was room
-pub record Holds (k : Kind) (s xs : List ℕ) (c : Cursor) (l : ℕ) (ys : List ℕ) (r : Listing) (found : List (Content k)) : Type 0 where
+pub record Holds (k : Contents) (s xs : List ℕ) (c : Cursor) (l : ℕ) (ys : List ℕ) (r : Listing) (found : List (Content k)) : Type 0 where
   pub counts : Counts c r.c (list_past (columns_in k found) (values_in k found)) (mark_count (values_in k found))
   pub listed_are : r.listed ≡ l + length found
   pub noted : r.listed ≤ most_items → items_on (item_on k s) r.listed ys ≡ items_on (item_on k s) l xs ++ found
 
-abbrev pub ReadsItem : Kind → List ℕ → List ℕ → Cursor → ℕ → List ℕ → Listing → Type 0
+abbrev pub ReadsItem : Contents → List ℕ → List ℕ → Cursor → ℕ → List ℕ → Listing → Type 0
 ReadsItem k s xs c l ys r = After s (item_reader k) (λ x. Holds k s xs c l ys r (x ∷ [])) c r.c
 
-abbrev pub ReadsList : Kind → List ℕ → List ℕ → Cursor → ℕ → List ℕ → Listing → Type 0
+abbrev pub ReadsList : Contents → List ℕ → List ℕ → Cursor → ℕ → List ℕ → Listing → Type 0
 ReadsList k s xs c l ys r = (n : ℕ) → length s - c.at < n → After s (a_list (item_reader k) n) (λ x. Holds k s xs c l ys r (items x)) c r.c
 
 -- ---- WHERE
@@ -208,20 +215,34 @@ ReadsWhere s c xs r ys = (b : Bool) → c.dotted ≡ b → (n : ℕ) → calls s
 
 -- ---- FROM
 
+abbrev pub is_from : Kind → Bool
+is_from From = true
+is_from _ = false
+
+abbrev pub is_comma : Kind → Bool
+is_comma Comma = true
+is_comma _ = false
+
+-- up to here the list of a SELECT may reach
+abbrev pub ends_list : Kind → Bool
+ends_list End = true
+ends_list From = true
+ends_list _ = false
+
 -- A.1: the token t is FROM, and a token and a comma follow
 abbrev pub is_comma_second : List ℕ → Read → Bool
-is_comma_second s t = eqb t.kind 18 && eqb (token_at s (token_at s t.next).next).kind 6
+is_comma_second s t = is_from t.kind && is_comma (token_at s (token_at s t.next).next).kind
 
 -- ---- sentences
 
--- the numbers of the forms
-abbrev pub form_of : Sentence → ℕ
-form_of (table t cs ring z) = 0
-form_of (select cs t w) = 1
-form_of (insert t vs) = 2
-form_of (update t ss w) = 3
-form_of (delete t w) = 4
-form_of (pair cs t u w) = 5
+-- the forms
+abbrev pub form_of : Sentence → Form
+form_of (table t cs ring z) = Table
+form_of (select cs t w) = Select
+form_of (insert t vs) = Insert
+form_of (update t ss w) = Update
+form_of (delete t w) = Delete
+form_of (pair cs t u w) = Pair
 
 -- how many items the list has
 abbrev pub list_length : Sentence → ℕ

@@ -1,269 +1,214 @@
 // The forms: statements from what was read, with names looked up in the tables that there are.
-ghost use Rattle.std.specs.Prelude.{◌≡◌, false, ◌≤◌};
-ghost use Rattle.meaning.specs.Limits.{most_items, most_marks};
-ghost use Rattle.statement.specs.Catalog.{name_of_struct, names_of, scope_names, schemas_of};
-ghost use Rattle.statement.specs.Built.{place_in, width_in, start_in, twice_in, Fits, table_on, select_on, insert_on, update_on, delete_on, form_on, pair_on, beside_on};
+ghost use Rattle.std.specs.Prelude.{◌≡◌, suc, ◌≤◌, map};
+ghost use Rattle.meaning.specs.Limits.{most_items};
+ghost use Rattle.statement.specs.Catalog.{name_of_struct, column_names, schema_of};
+ghost use Rattle.statement.specs.Compiled.{compiled};
+ghost use Rattle.statement.specs.Built.{place_in, width_in, start_in, twice_in, dotted, Fits, table_on, select_on, insert_on, update_on, delete_on, form_on, pair_on, beside_on};
 
 use super::conditions::Cursor;
-use super::names::Scope;
-use super::sentences::Entry;
-use super::{
-    Name, Query, Refusal, Statement, Table, Update, assembling, fetching, names, refusals,
-};
+use super::names::{Catalog, Scope};
+use super::refusals::Met;
+use super::sentences::{Entry, Form};
+use super::{Query, Refusal, Statement, Table, Update, assembling, fetching, names, refusals};
 
 // An INSERT's values stand in the order of the columns.
 const PLACES: [u8; Update::SETTINGS] = [0, 1, 2, 3, 4, 5, 6, 7];
 
-// TABLE: a new table.
-pub fn table(
-    text: &[u8],
-    list: [u16; Entry::LIST],
-    e: Entry,
-    tables: [Table; Table::TABLES],
-    used: u8,
-    cells: u32,
-) -> Statement
-    requires { e.listed ≤ most_items }
-    ensures { result ≡ table_on text.now list e (schemas_of tables used) cells }
-{
-    let n = e.listed as usize;
-    let listed = e.listed as u8;
-    let name = fetching::name_at(text, e.table as usize);
-    let columns = fetching::names_at(text, list, n);
-    let capacity = fetching::rows_at(text, e.rows as usize);
-    let taken = refusals::is_taken(name, columns, n, tables, used);
-    let full = refusals::is_full(tables, used, cells, (e.listed as u32) * (capacity as u32));
-    let t = Table {
-        name,
-        columns,
-        count: listed,
-        capacity,
-        rows: 0,
-        oldest: 0,
-        ring: e.ring,
-    };
-    assembling::created(refusals::lowest(false, taken, false, false, full), t)
+// A sentence within the limits, as it was read: its text, where the items of its list and the nodes of its condition stand there, and what was counted.
+#[derive(Clone, Copy)]
+pub struct Reading<'a> {
+    pub text: &'a [u8],
+    pub list: &'a [u16; Entry::LIST],
+    pub places: &'a [u16; Cursor::PLACES],
+    pub e: Entry,
+    ghost fits: { Fits text.now places.now e },
 }
 
-// SELECT from the table of that number, and from the second one of that code, which have these columns.
-fn select(
-    text: &[u8],
-    list: [u16; Entry::LIST],
-    places: [u16; Cursor::PLACES],
-    e: Entry,
-    scope: Scope,
-    table: u8,
-    second: u8,
-    queries: u8,
-) -> Statement
-    requires { Fits text.now places e }
-    ensures { result ≡ select_on scope.dotted (place_in scope.dotted scope) (width_in scope.dotted scope) text.now list places e table second (start_in scope.dotted scope) (twice_in scope.dotted scope) queries }
-{
-    let n = e.listed as usize;
-    let listed = e.listed as u8;
-    let parameters = e.c.marks as u8;
-    let selected = fetching::columns_at(text, list, n, scope);
-    let condition = assembling::condition_at(text, places, e.c.nodes as usize, scope, 0);
-    let full = Query::QUERIES <= (queries as usize);
-    let w = names::width(scope);
-    let twice = names::is_twice(scope);
-    let number = refusals::refusal_of(selected, n, condition, w, false, twice, full);
-    let outer = assembling::outer_of(scope.dotted, places, e.c.nodes as usize);
-    let q = Query {
-        table,
-        selected,
-        count: listed,
-        parameters,
-        second,
-        start: names::start(scope),
-        outer,
-        condition,
-    };
-    assembling::asked(number, q)
-}
-
-// INSERT, UPDATE and DELETE of that table.
-fn insert(
-    text: &[u8],
-    list: [u16; Entry::LIST],
-    e: Entry,
-    scope: Scope,
-    table: u8,
-    updates: u8,
-) -> Statement
-    requires { (e.listed ≤ most_items) × (e.c.marks ≤ most_marks) × (scope.dotted ≡ false) }
-    ensures { result ≡ insert_on text.now list e (scope_names scope) table updates }
-{
-    let n = e.listed as usize;
-    let listed = e.listed as u8;
-    let parameters = e.c.marks as u8;
-    let s = assembling::settings_at(text, list, n, PLACES);
-    let settings = s.all;
-    let full = Update::UPDATES <= (updates as usize);
-    let number = refusals::lowest(false, false, n != names::width(scope), false, full);
-    let u = Update {
-        form: Update::INSERT,
-        table,
-        settings,
-        count: listed,
-        parameters,
-        condition: assembling::no_condition(),
-    };
-    assembling::changing(number, u)
-}
-
-fn update(
-    text: &[u8],
-    list: [u16; Entry::LIST],
-    places: [u16; Cursor::PLACES],
-    e: Entry,
-    scope: Scope,
-    table: u8,
-    updates: u8,
-) -> Statement
-    requires { Fits text.now places e × (scope.dotted ≡ false) }
-    ensures { result ≡ update_on text.now list places e (scope_names scope) table updates }
-{
-    let n = e.listed as usize;
-    let listed = e.listed as u8;
-    let parameters = e.c.marks as u8;
-    let names = fetching::names_at(text, list, n);
-    let at = names::positions(names, n, scope);
-    let s = assembling::settings_at(text, list, n, at);
-    let settings = s.all;
-    let condition = assembling::condition_at(text, places, e.c.nodes as usize, scope, s.marks);
-    let full = Update::UPDATES <= (updates as usize);
-    let w = names::width(scope);
-    let number = refusals::refusal_of(
-        at,
-        n,
-        condition,
-        w,
-        names::is_repeated(names, n),
-        false,
-        full,
-    );
-    let u = Update {
-        form: Update::UPDATE,
-        table,
-        settings,
-        count: listed,
-        parameters,
-        condition,
-    };
-    assembling::changing(number, u)
-}
-
-fn delete(
-    text: &[u8],
-    places: [u16; Cursor::PLACES],
-    e: Entry,
-    scope: Scope,
-    table: u8,
-    updates: u8,
-) -> Statement
-    requires { Fits text.now places e × (scope.dotted ≡ false) }
-    ensures { result ≡ delete_on text.now places e (scope_names scope) table updates }
-{
-    let parameters = e.c.marks as u8;
-    let condition = assembling::condition_at(text, places, e.c.nodes as usize, scope, 0);
-    let full = Update::UPDATES <= (updates as usize);
-    let w = names::width(scope);
-    let number = refusals::refusal_of(PLACES, 0, condition, w, false, false, full);
-    let u = Update {
-        form: Update::DELETE,
-        table,
-        settings: assembling::no_settings(),
-        count: 0,
-        parameters,
-        condition,
-    };
-    assembling::changing(number, u)
-}
-
-// A question of one table or an update, of a table with these columns.
-fn form(
-    text: &[u8],
-    list: [u16; Entry::LIST],
-    places: [u16; Cursor::PLACES],
-    e: Entry,
-    scope: Scope,
-    table: u8,
-    queries: u8,
-    updates: u8,
-) -> Statement
-    requires { Fits text.now places e × (scope.dotted ≡ false) }
-    ensures { result ≡ form_on text.now list places e (scope_names scope) table queries updates }
-{
-    if e.form == Entry::SELECT {
-        return select(text, list, places, e, scope, table, 0, queries);
+impl Reading<'_> {
+    // TABLE: a new table.
+    pub fn table(&self, beside: &Catalog) -> Result<Statement, Refusal>
+        ensures { compiled result ≡ table_on self.now.text.now self.now.list.now self.now.e (map schema_of beside.now.tables.now) beside.now.cells }
+    {
+        let e = self.e;
+        let n = e.listed as usize;
+        let name = fetching::name_at(self.text, e.table as usize);
+        let columns = fetching::names_at(self.text, *self.list, n);
+        let capacity = fetching::rows_at(self.text, e.rows as usize);
+        let met = Met {
+            taken: beside.is_taken(&name, &columns[..n]),
+            full: beside.is_full(u32::from(e.listed) * u32::from(capacity)),
+            ..Met::default()
+        };
+        let t = Table {
+            name,
+            columns,
+            count: e.listed as u8,
+            capacity,
+            rows: 0,
+            oldest: 0,
+            ring: e.ring,
+        };
+        met.refuse()?;
+        Ok(Statement::Table(t))
     }
-    if e.form == Entry::INSERT {
-        return insert(text, list, e, scope, table, updates);
-    }
-    if e.form == Entry::UPDATE {
-        return update(text, list, places, e, scope, table, updates);
-    }
-    delete(text, places, e, scope, table, updates)
-}
 
-// A question of table i, which the text calls `name`, and of the table that it names second.
-fn pair(
-    text: &[u8],
-    list: [u16; Entry::LIST],
-    places: [u16; Cursor::PLACES],
-    e: Entry,
-    name: Name,
-    t: Table,
-    i: u8,
-    tables: [Table; Table::TABLES],
-    used: u8,
-    queries: u8,
-) -> Statement
-    requires { Fits text.now places e }
-    ensures { result ≡ pair_on (name_of_struct name) (names_of t.columns t.count) text.now list places e (schemas_of tables used) i queries }
-{
-    let other = fetching::name_at(text, e.second as usize);
-    let j = names::find_table(other, tables, used);
-    if names::table_count(tables, used) <= (j as usize) {
-        return assembling::refused(Refusal::UNKNOWN);
+    // SELECT from the table of that number, and from the second one of that code, which have these columns.
+    fn select(
+        &self,
+        scope: &Scope,
+        table: u8,
+        second: u8,
+        queries: u8,
+    ) -> Result<Statement, Refusal>
+        ensures { compiled result ≡ select_on (dotted scope.now) (place_in scope.now) (width_in scope.now) self.now.text.now self.now.list.now self.now.places.now self.now.e table second (start_in scope.now) (twice_in scope.now) queries }
+    {
+        let e = self.e;
+        let n = e.listed as usize;
+        let nodes = e.c.nodes as usize;
+        let selected = fetching::columns_at(self.text, *self.list, n, scope);
+        let condition = assembling::condition_at(self.text, self.places, nodes, scope, 0);
+        let met = Met {
+            unknown: refusals::is_unknown(&selected[..n], &condition, scope.width()),
+            twice: scope.is_twice(),
+            full: Query::QUERIES <= usize::from(queries),
+            ..Met::default()
+        };
+        let q = Query {
+            table,
+            selected,
+            count: e.listed as u8,
+            parameters: e.c.marks as u8,
+            second,
+            start: scope.start(),
+            outer: assembling::outer_of(scope, self.places, nodes),
+            condition,
+        };
+        met.refuse()?;
+        Ok(Statement::Query(q))
     }
-    let u = tables[j as usize];
-    let scope = names::pair_scope(name, t, other, u);
-    select(text, list, places, e, scope, i, j + 1, queries)
-}
 
-// A question or an update of one of the tables.
-pub fn beside(
-    text: &[u8],
-    list: [u16; Entry::LIST],
-    places: [u16; Cursor::PLACES],
-    e: Entry,
-    tables: [Table; Table::TABLES],
-    used: u8,
-    queries: u8,
-    updates: u8,
-) -> Statement
-    requires { Fits text.now places e }
-    ensures { result ≡ beside_on text.now list places e (schemas_of tables used) queries updates }
-{
-    let name = fetching::name_at(text, e.table as usize);
-    let i = names::find_table(name, tables, used);
-    if names::table_count(tables, used) <= (i as usize) {
-        return assembling::refused(Refusal::UNKNOWN);
+    // INSERT into, UPDATE and DELETE of the table t of that number.
+    fn insert(&self, t: &Table, table: u8, updates: u8) -> Result<Statement, Refusal>
+        ensures { compiled result ≡ insert_on self.now.text.now self.now.list.now self.now.e (column_names t.now) table updates }
+    {
+        let e = self.e;
+        let n = e.listed as usize;
+        let s = assembling::settings_at(self.text, self.list, &PLACES[..n]);
+        let settings = s.all;
+        let met = Met {
+            miscounted: n != Scope::One(t).width(),
+            full: Update::UPDATES <= usize::from(updates),
+            ..Met::default()
+        };
+        let u = Update {
+            form: Update::INSERT,
+            table,
+            settings,
+            count: e.listed as u8,
+            parameters: e.c.marks as u8,
+            condition: assembling::no_condition(),
+        };
+        met.refuse()?;
+        Ok(Statement::Update(u))
     }
-    let t = tables[i as usize];
-    if e.form == Entry::PAIR {
-        return pair(text, list, places, e, name, t, i, tables, used, queries);
+
+    fn update(&self, t: &Table, table: u8, updates: u8) -> Result<Statement, Refusal>
+        ensures { compiled result ≡ update_on self.now.text.now self.now.list.now self.now.places.now self.now.e (column_names t.now) table updates }
+    {
+        let e = self.e;
+        let n = e.listed as usize;
+        let scope = Scope::One(t);
+        let names = fetching::names_at(self.text, *self.list, n);
+        let at = names::positions(&names[..n], t);
+        let s = assembling::settings_at(self.text, self.list, &at[..n]);
+        let settings = s.all;
+        let condition = assembling::condition_at(
+            self.text,
+            self.places,
+            e.c.nodes as usize,
+            &scope,
+            s.marks,
+        );
+        let met = Met {
+            unknown: refusals::is_unknown(&at[..n], &condition, scope.width()),
+            taken: names::is_repeated(&names[..n]),
+            full: Update::UPDATES <= usize::from(updates),
+            ..Met::default()
+        };
+        let u = Update {
+            form: Update::UPDATE,
+            table,
+            settings,
+            count: e.listed as u8,
+            parameters: e.c.marks as u8,
+            condition,
+        };
+        met.refuse()?;
+        Ok(Statement::Update(u))
     }
-    form(
-        text,
-        list,
-        places,
-        e,
-        names::scope_of(t),
-        i,
-        queries,
-        updates,
-    )
+
+    fn delete(&self, t: &Table, table: u8, updates: u8) -> Result<Statement, Refusal>
+        ensures { compiled result ≡ delete_on self.now.text.now self.now.places.now self.now.e (column_names t.now) table updates }
+    {
+        let e = self.e;
+        let scope = Scope::One(t);
+        let condition = assembling::condition_at(
+            self.text,
+            self.places,
+            e.c.nodes as usize,
+            &scope,
+            0,
+        );
+        let met = Met {
+            unknown: refusals::is_unknown(&[], &condition, scope.width()),
+            full: Update::UPDATES <= usize::from(updates),
+            ..Met::default()
+        };
+        let u = Update {
+            form: Update::DELETE,
+            table,
+            settings: assembling::no_settings(),
+            count: 0,
+            parameters: e.c.marks as u8,
+            condition,
+        };
+        met.refuse()?;
+        Ok(Statement::Update(u))
+    }
+
+    // A question of the table t of that number alone, or an update of it.
+    fn form(&self, t: &Table, table: u8, beside: &Catalog) -> Result<Statement, Refusal>
+        ensures { compiled result ≡ form_on self.now.text.now self.now.list.now self.now.places.now self.now.e (column_names t.now) table beside.now.queries beside.now.updates }
+    {
+        match self.e.form {
+            Form::Select => self.select(&Scope::One(t), table, 0, beside.queries),
+            Form::Insert => self.insert(t, table, beside.updates),
+            Form::Update => self.update(t, table, beside.updates),
+            _ => self.delete(t, table, beside.updates),
+        }
+    }
+
+    // A question of the table t of that number, and of the one that the text names second.
+    fn pair(&self, t: &Table, table: u8, beside: &Catalog) -> Result<Statement, Refusal>
+        ensures { compiled result ≡ pair_on (name_of_struct t.now.name) (column_names t.now) self.now.text.now self.now.list.now self.now.places.now self.now.e (map schema_of beside.now.tables.now) table beside.now.queries }
+    {
+        let name = fetching::name_at(self.text, self.e.second as usize);
+        let j = beside.find(&name).ok_or(Refusal::Unknown)?;
+        let scope = Scope::Two(t, &beside.tables[usize::from(j)]);
+        self.select(&scope, table, j + 1, beside.queries)
+    }
+
+    // A question or an update of one of the tables.
+    pub fn beside(&self, beside: &Catalog) -> Result<Statement, Refusal>
+        ensures { compiled result ≡ beside_on self.now.text.now self.now.list.now self.now.places.now self.now.e (map schema_of beside.now.tables.now) beside.now.queries beside.now.updates }
+    {
+        let name = fetching::name_at(self.text, self.e.table as usize);
+        let i = beside.find(&name).ok_or(Refusal::Unknown)?;
+        let t = &beside.tables[usize::from(i)];
+        if let Form::Pair = self.e.form {
+            self.pair(t, i, beside)
+        } else {
+            self.form(t, i, beside)
+        }
+    }
 }

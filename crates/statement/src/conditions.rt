@@ -1,18 +1,18 @@
 // Conditions: the readers of OR, AND and single conditions call each other in a cycle, and the text that remains gets shorter. They note each comparison and
 // each AND and OR in an array that is lent down the cycle, in postfix order with NOT pushed to the comparisons; what goes in and out by value is a cursor.
-ghost use Rattle.std.specs.Prelude.{◌≡◌, true, cond, ◌-◌, ◌≤◌, ◌<◌, length};
+ghost use Rattle.std.specs.Prelude.{◌≡◌, true, ◌&&◌, cond, ◌≤◌, ◌<◌, length};
 ghost use Rattle.meaning.specs.Condition.{atom, conjunction, disjunction};
 ghost use Rattle.meaning.specs.Limits.{most_text};
 ghost use Rattle.token.specs.Tokens.{token_at};
 ghost use Rattle.statement.specs.Operators.{opposite_of};
 ghost use Rattle.statement.specs.Places.{comparison_code};
-ghost use Rattle.statement.specs.Reading.{past, is_operand, is_comparison, ReadsDotted, ReadsSide, with_sides, PutsNode, PutsNull, Stands, Reaches, TestsNull, Compares, Reads, Closes};
+ghost use Rattle.statement.specs.Reading.{past, is_operand, operator_in, is_name, is_is, marks_at, ReadsDotted, ReadsSide, with_sides, PutsNode, PutsNull, Stands, Reaches, TestsNull, Compares, Reads, Closes};
 
 use super::{Comparison, Condition, Name, operators};
-use token::Token;
+use token::{Kind, Token};
 
 // Where a reader stands in a text, and what it has counted: nodes of the condition, question marks. `over` says that a limit was passed by a name, a constant or
-// the depth; a reader that failed is not `ok`. Where `dotted`, which no reader changes, columns are dotted: a question over two tables (A.1).
+// the depth; a reader of forms that failed is not `ok` (the readers of conditions give none). Where `dotted`, which no reader changes, columns are dotted: a question over two tables (A.1).
 #[derive(Clone, Copy)]
 pub struct Cursor {
     pub ok: bool,
@@ -36,11 +36,9 @@ impl Cursor {
     pub const OR: u16 = 257;
 }
 
-// A side of a comparison, or a column of a list: whether it was read, whether it is past a limit, its question marks, where its first token starts and where the
-// text goes on after it.
+// A side of a comparison, or a column of a list: whether it is past a limit, its question marks, where its first token starts and where the text goes on after it.
 #[derive(Clone, Copy)]
 pub struct Side {
-    pub ok: bool,
     pub over: bool,
     pub marks: u16,
     pub start: usize,
@@ -49,42 +47,68 @@ pub struct Side {
 
 // ---- tokens
 
-// How many bytes a token has.
-fn span(start: usize, next: usize) -> usize
-    ensures { result ≡ next - start }
-{
-    if start <= next { next - start } else { 0 }
-}
-
 // A name that is too long, or a constant outside 32 bits.
+#[tactic(auto, unfolding(crate::specs::Reading::token_past))]
 pub fn is_past(t: Token) -> bool
     ensures { result ≡ past t }
 {
-    (t.kind == Token::BIG) | ((t.kind == Token::NAME) & (Name::BYTES < span(t.start, t.next)))
+    match t.kind {
+        Kind::Big => true,
+        Kind::Name => Name::BYTES < t.next.saturating_sub(t.start),
+        _ => false,
+    }
 }
 
 // Whether a token is a name, a constant or a question mark.
-fn is_operand(kind: u8) -> bool
+fn is_operand(kind: Kind) -> bool
     ensures { result ≡ is_operand kind }
 {
-    (Token::NAME <= kind) & (kind <= Token::MARK)
+    matches!(
+        kind,
+        Kind::Name | Kind::Constant(_) | Kind::Big | Kind::Mark
+    )
 }
 
-// Whether a token is one of the six operators.
-fn is_comparison(kind: u8) -> bool
-    ensures { result ≡ is_comparison kind }
+// The number of the operator that a token is, one of six.
+fn operator(kind: Kind) -> Option<u8>
+    ensures { result ≡ operator_in kind }
 {
-    (Token::EQ <= kind) & (kind <= Token::GE)
+    match kind {
+        Kind::Eq => Some(Comparison::EQ),
+        Kind::Ne => Some(Comparison::NE),
+        Kind::Lt => Some(Comparison::LT),
+        Kind::Le => Some(Comparison::LE),
+        Kind::Gt => Some(Comparison::GT),
+        Kind::Ge => Some(Comparison::GE),
+        _ => None,
+    }
+}
+
+// Whether a token is the first one of a dotted column.
+fn is_dotted(dotted: bool, kind: Kind) -> bool
+    ensures { result ≡ (dotted && is_name kind) }
+{
+    dotted & matches!(kind, Kind::Name)
+}
+
+// Whether a null test (A.5) stands there: IS behind a column.
+fn tests_null(first: Kind, word: Kind) -> bool
+    ensures { result ≡ (is_is word && is_name first) }
+{
+    matches!(word, Kind::Is) & matches!(first, Kind::Name)
+}
+
+// How many question marks a token is.
+pub fn marks_of(kind: Kind) -> u16
+    ensures { result ≡ marks_at kind }
+{
+    match kind {
+        Kind::Mark => 1,
+        _ => 0,
+    }
 }
 
 // ---- nodes
-
-// How many numbers there is room for.
-fn room(places: [u16; Cursor::PLACES]) -> usize
-    ensures { (result ≡ 45) × (length places ≡ 45) }
-{
-    places.len()
-}
 
 // A node at the end: a comparison by its operator with the places of its sides, or AND or OR. Past the last place none is noted, but it is counted.
 fn put(places: &mut [u16; Cursor::PLACES], c: Cursor, node: u16, left: u16, right: u16) -> Cursor
@@ -94,19 +118,13 @@ fn put(places: &mut [u16; Cursor::PLACES], c: Cursor, node: u16, left: u16, righ
     let mut d = c;
     d.nodes = c.nodes + 1;
     let i = 3 * (c.nodes as usize);
-    if i + 2 < room(*places) {
+    if i + 2 < places.len() {
         places[i] = node;
         places[i + 1] = left;
         places[i + 2] = right;
         return d;
     }
     d
-}
-
-fn either(test: bool, x: u16, y: u16) -> u16
-    ensures { result ≡ cond test x y }
-{
-    if test { x } else { y }
 }
 
 // The comparison `op` of two sides, under so many parentheses and NOTs.
@@ -127,9 +145,19 @@ fn put_comparison(
     d.over = c.over | ((Condition::DEPTH < depth) | (a.over | b.over));
     d.marks = c.marks + (a.marks + b.marks);
     d.at = b.next as u16;
-    let k = either(positive, op as u16, operators::opposite(op) as u16);
-    let bare = either(depth == 0, Cursor::BARE, 0);
-    put(places, d, k + bare, a.start as u16, b.start as u16)
+    let signed = if positive {
+        op
+    } else {
+        operators::opposite(op)
+    };
+    let bare = if depth == 0 { Cursor::BARE } else { 0 };
+    put(
+        places,
+        d,
+        signed as u16 + bare,
+        a.start as u16,
+        b.start as u16,
+    )
 }
 
 // The null test `op` (A.5) of the column a, if the token t is NULL: a comparison of the column with itself.
@@ -141,64 +169,59 @@ fn put_null(
     a: Side,
     op: u8,
     t: Token,
-) -> Cursor
+) -> Option<Cursor>
     requires { (c.nodes < most_text) × (c.marks ≤ most_text) × (a.marks ≤ 1) × (a.start ≤ most_text) × (t.next ≤ most_text) }
     ensures { PutsNull places.old c positive depth a op t places.new result }
 {
-    if t.kind != Token::NULL {
-        let mut d = c;
-        d.ok = false;
-        return d;
-    }
+    let Kind::Null = t.kind else {
+        return None;
+    };
     let mut b = a;
     b.next = t.next;
-    put_comparison(places, c, positive, depth, a, op, b)
+    Some(put_comparison(places, c, positive, depth, a, op, b))
 }
 
 // ---- operands
 
 // A column of a question over two tables, a name, a dot and a name (A.1), whose first token is read.
-pub fn read_dotted(text: &[u8], first: Token) -> Side
+pub fn read_dotted(text: &[u8], first: Token) -> Option<Side>
     ensures { ReadsDotted text.now first result }
 {
-    let mut d = Side {
-        ok: false,
-        over: false,
+    let Kind::Name = first.kind else {
+        return None;
+    };
+    let dot = token::next(text, first.next);
+    let Kind::Dot = dot.kind else {
+        return None;
+    };
+    let t = token::next(text, dot.next);
+    let Kind::Name = t.kind else {
+        return None;
+    };
+    Some(Side {
+        over: is_past(first) | is_past(t),
         marks: 0,
         start: first.start,
-        next: first.next,
-    };
-    if first.kind != Token::NAME {
-        return d;
-    }
-    let mut t = token::next(text, first.next);
-    if t.kind != Token::DOT {
-        return d;
-    }
-    t = token::next(text, t.next);
-    if t.kind != Token::NAME {
-        return d;
-    }
-    d.ok = true;
-    d.over = is_past(first) | is_past(t);
-    d.next = t.next;
-    d
+        next: t.next,
+    })
 }
 
 // An operand whose first token is read: a column, dotted where there are two tables (A.1), a constant or a question mark.
-fn read_operand(text: &[u8], dotted: bool, first: Token) -> Side
+fn read_operand(text: &[u8], dotted: bool, first: Token) -> Option<Side>
     ensures { ReadsSide dotted text.now first result }
 {
-    if dotted & (first.kind == Token::NAME) {
+    if is_dotted(dotted, first.kind) {
         return read_dotted(text, first);
     }
-    Side {
-        ok: is_operand(first.kind),
+    if !is_operand(first.kind) {
+        return None;
+    }
+    Some(Side {
         over: is_past(first),
-        marks: either(first.kind == Token::MARK, 1, 0),
+        marks: marks_of(first.kind),
         start: first.start,
         next: first.next,
-    }
+    })
 }
 
 // ---- the readers
@@ -211,24 +234,19 @@ pub fn read_or(
     c: Cursor,
     positive: bool,
     depth: u16,
-) -> Cursor
+) -> Option<Cursor>
     requires { (Stands text.now c) × (depth ≤ c.at) }
     ensures { Reads disjunction text.now positive depth c places.old result places.new }
 {
-    let mut p = read_and(text, places, c, positive, depth);
-    if !p.ok {
-        return p;
-    }
+    let mut p = read_and(text, places, c, positive, depth)?;
     let t = token::next(text, p.at as usize);
-    if t.kind != Token::OR {
-        return p;
-    }
+    let Kind::Or = t.kind else {
+        return Some(p);
+    };
     p.at = t.next as u16;
-    p = read_or(text, places, p, positive, depth);
-    if !p.ok {
-        return p;
-    }
-    put(places, p, either(positive, Cursor::OR, Cursor::AND), 0, 0)
+    let q = read_or(text, places, p, positive, depth)?;
+    let code = if positive { Cursor::OR } else { Cursor::AND };
+    Some(put(places, q, code, 0, 0))
 }
 
 // A condition of ANDs.
@@ -239,42 +257,33 @@ fn read_and(
     c: Cursor,
     positive: bool,
     depth: u16,
-) -> Cursor
+) -> Option<Cursor>
     requires { (Stands text.now c) × (depth ≤ c.at) }
     ensures { Reads conjunction text.now positive depth c places.old result places.new }
 {
-    let mut p = read_one(text, places, c, positive, depth);
-    if !p.ok {
-        return p;
-    }
+    let mut p = read_one(text, places, c, positive, depth)?;
     let t = token::next(text, p.at as usize);
-    if t.kind != Token::AND {
-        return p;
-    }
+    let Kind::And = t.kind else {
+        return Some(p);
+    };
     p.at = t.next as u16;
-    p = read_and(text, places, p, positive, depth);
-    if !p.ok {
-        return p;
-    }
-    put(places, p, either(positive, Cursor::AND, Cursor::OR), 0, 0)
+    let q = read_and(text, places, p, positive, depth)?;
+    let code = if positive { Cursor::AND } else { Cursor::OR };
+    Some(put(places, q, code, 0, 0))
 }
 
 // A condition in parentheses, whose inside is read: the closing one.
-fn closed(text: &[u8], c: Cursor) -> Cursor
-    requires { c.ok ≡ true → Stands text.now c }
+fn closed(text: &[u8], c: Cursor) -> Option<Cursor>
+    requires { Stands text.now c }
     ensures { Closes text.now c result }
 {
-    let mut d = c;
-    if !c.ok {
-        return d;
-    }
     let t = token::next(text, c.at as usize);
-    if t.kind != Token::CLOSE {
-        d.ok = false;
-        return d;
-    }
+    let Kind::Close = t.kind else {
+        return None;
+    };
+    let mut d = c;
     d.at = t.next as u16;
-    d
+    Some(d)
 }
 
 // A single condition: NOT and a single one, a condition in parentheses, or a comparison.
@@ -285,21 +294,24 @@ fn read_one(
     c: Cursor,
     positive: bool,
     depth: u16,
-) -> Cursor
+) -> Option<Cursor>
     requires { (Stands text.now c) × (depth ≤ c.at) }
     ensures { Reads atom text.now positive depth c places.old result places.new }
 {
     let t = token::next(text, c.at as usize);
     let mut here = c;
-    if t.kind == Token::NOT {
-        here.at = t.next as u16;
-        return read_one(text, places, here, !positive, depth + 1);
+    match t.kind {
+        Kind::Not => {
+            here.at = t.next as u16;
+            read_one(text, places, here, !positive, depth + 1)
+        }
+        Kind::Open => {
+            here.at = t.next as u16;
+            let inside = read_or(text, places, here, positive, depth + 1)?;
+            closed(text, inside)
+        }
+        _ => read_comparison(text, places, c, positive, depth, t),
     }
-    if t.kind == Token::OPEN {
-        here.at = t.next as u16;
-        return closed(text, read_or(text, places, here, positive, depth + 1));
-    }
-    read_comparison(text, places, c, positive, depth, t)
 }
 
 // IS NULL or IS NOT NULL (A.5) behind the column a, where the text goes on at `at` behind IS.
@@ -311,12 +323,12 @@ fn read_null(
     depth: u16,
     a: Side,
     at: usize,
-) -> Cursor
+) -> Option<Cursor>
     requires { (Stands text.now c) × (Reaches text.now c a at) }
     ensures { TestsNull text.now positive depth c places.old a at result places.new }
 {
     let t = token::next(text, at);
-    if t.kind == Token::NOT {
+    if let Kind::Not = t.kind {
         let u = token::next(text, t.next);
         return put_null(places, c, positive, depth, a, Comparison::IS_NOT_NULL, u);
     }
@@ -331,26 +343,16 @@ fn read_comparison(
     positive: bool,
     depth: u16,
     first: Token,
-) -> Cursor
+) -> Option<Cursor>
     requires { (Stands text.now c) × (first ≡ token_at text.now c.at) }
     ensures { Compares text.now positive depth c places.old result places.new }
 {
-    let mut d = c;
-    d.ok = false;
-    let a = read_operand(text, c.dotted, first);
-    if !a.ok {
-        return d;
-    }
+    let a = read_operand(text, c.dotted, first)?;
     let t = token::next(text, a.next);
-    if (t.kind == Token::IS) & (first.kind == Token::NAME) {
+    if tests_null(first.kind, t.kind) {
         return read_null(text, places, c, positive, depth, a, t.next);
     }
-    if !is_comparison(t.kind) {
-        return d;
-    }
-    let b = read_operand(text, c.dotted, token::next(text, t.next));
-    if !b.ok {
-        return d;
-    }
-    put_comparison(places, c, positive, depth, a, t.kind - Token::EQ, b)
+    let op = operator(t.kind)?;
+    let b = read_operand(text, c.dotted, token::next(text, t.next))?;
+    Some(put_comparison(places, c, positive, depth, a, op, b))
 }

@@ -11,11 +11,12 @@ mod refusals; // limits, and refusals by what is there
 mod build; // the five forms, names looked up
 
 ghost use Rattle.std.specs.Prelude.{◌≡◌};
-ghost use Rattle.statement.specs.Compiled.{left_side, right_side, new_value, refused_by, compiled_of};
+ghost use Rattle.statement.specs.Refusals.{number_of};
+ghost use Rattle.statement.specs.Compiled.{left_side, right_side, new_value, compiled, compiled_of};
 
 // A name: its first `len` bytes.
 #[repr(C)]
-#[derive(Clone, Copy)]
+#[derive(Clone, Copy, Default)]
 pub struct Name {
     pub bytes: [u8; Name::BYTES],
     pub len: u8,
@@ -28,7 +29,7 @@ impl Name {
 // A table: what its TABLE text says, how many rows are in use, and the place of the oldest row in the area (A.4: its starting place; 0 but in a ring that is full). `capacity` is
 // its ROWS or its RING, and `ring` says which.
 #[repr(C)]
-#[derive(Clone, Copy)]
+#[derive(Clone, Copy, Default)]
 pub struct Table {
     pub name: Name,
     pub columns: [Name; Table::COLUMNS],
@@ -63,7 +64,7 @@ impl Operand {
 
 // Two operands, by their codes and numbers, and the number of the operator between them. A null test (A.5) has its column on both sides.
 #[repr(C)]
-#[derive(Clone, Copy)]
+#[derive(Clone, Copy, Default)]
 pub struct Comparison {
     pub op: u8,
     pub left: u8,
@@ -144,7 +145,7 @@ impl Step {
 // A condition without NOT: the first `count` comparisons, and for more than none 2 * count - 1 steps (`Step`) in postfix order.
 // None at all is an absent WHERE.
 #[repr(C)]
-#[derive(Clone, Copy)]
+#[derive(Clone, Copy, Default)]
 pub struct Condition {
     pub comparisons: [Comparison; Condition::COMPARISONS],
     pub steps: [u8; Condition::STEPS],
@@ -163,7 +164,7 @@ impl Condition {
 // and columns are counted through both: those of the second from `start` on; and `outer` marks the comparisons that stand outside all OR, NOT and parentheses (A.6), a binary
 // digit each, the last one's last. Over one table `second` is 0, and `start` and `outer` are not read.
 #[repr(C)]
-#[derive(Clone, Copy)]
+#[derive(Clone, Copy, Default)]
 pub struct Query {
     pub table: u8,
     pub selected: [u8; Query::SELECTED],
@@ -191,7 +192,7 @@ pub struct Value {
 
 // A column and its new value, by its mark and number; in an INSERT the column is the value's own place.
 #[repr(C)]
-#[derive(Clone, Copy)]
+#[derive(Clone, Copy, Default)]
 pub struct Setting {
     pub column: u8,
     pub mark: u8,
@@ -211,7 +212,7 @@ impl Setting {
 
 // An update: its form (0 INSERT, 1 UPDATE, 2 DELETE), its table, the first `count` settings, how many parameters it has, its condition.
 #[repr(C)]
-#[derive(Clone, Copy)]
+#[derive(Clone, Copy, Default)]
 pub struct Update {
     pub form: u8,
     pub table: u8,
@@ -233,73 +234,78 @@ impl Update {
     pub const DELETE: u8 = 2;
 }
 
-// The numbers of document 01 for a call not taken. (14, for a row that is not there, is of crate `answer`.)
-#[derive(Clone, Copy)]
-pub struct Refusal {}
-
-impl Refusal {
+// Why a call is not taken. (A row that is not there is of crate `answer`.)
+#[derive(Clone, Copy, PartialEq, Eq)]
+pub enum Refusal {
     // The opening's sizes.
-    pub const OPENING: u8 = 1;
+    Opening,
     // A state that is not sound, or other lengths lent than at the opening.
-    pub const STATE: u8 = 2;
+    State,
     // A text over 256 bytes, one that is no sentence, one past a limit.
-    pub const TEXT: u8 = 3;
-
-    pub const SENTENCE: u8 = 4;
-
-    pub const LIMIT: u8 = 5;
+    Text,
+    Sentence,
+    Limit,
     // A name that is unknown, or taken or repeated; values that are not one a column; no place or too few cells.
-    pub const UNKNOWN: u8 = 6;
-
-    pub const TAKEN: u8 = 7;
-
-    pub const MISCOUNTED: u8 = 8;
-
-    pub const PLACE: u8 = 9;
+    Unknown,
+    Taken,
+    Miscounted,
+    Place,
     // No such question or update; the wrong number of values.
-    pub const NUMBER: u8 = 10;
-
-    pub const VALUES: u8 = 11;
+    Number,
+    Values,
     // A table that is full and no ring; an answer buffer that is too short.
-    pub const FULL: u8 = 12;
-
-    pub const BUFFER: u8 = 13;
-    // A question that names one table twice, looked for after 8; an answer of more rows than a record can hold, after 12.
-    pub const TWICE: u8 = 15;
-
-    pub const ROWS: u8 = 16;
+    Full,
+    Buffer,
+    // A question that names one table twice, looked for after `Miscounted`; an answer of more rows than a record can hold, after `Full`.
+    Twice,
+    Rows,
 }
 
-// What a text compiles to: the number of its refusal (then everything else is empty), or 0, the kind and the thing itself.
+impl Refusal {
+    // The papers' number.
+    pub fn number(self) -> u8
+        ensures { result ≡ number_of self }
+    {
+        match self {
+            Refusal::Opening => 1,
+            Refusal::State => 2,
+            Refusal::Text => 3,
+            Refusal::Sentence => 4,
+            Refusal::Limit => 5,
+            Refusal::Unknown => 6,
+            Refusal::Taken => 7,
+            Refusal::Miscounted => 8,
+            Refusal::Place => 9,
+            Refusal::Number => 10,
+            Refusal::Values => 11,
+            Refusal::Full => 12,
+            Refusal::Buffer => 13,
+            Refusal::Twice => 15,
+            Refusal::Rows => 16,
+        }
+    }
+}
+
+impl From<Refusal> for u8 {
+    ghost from_gives = { λ r n. n ≡ number_of r };
+
+    fn from(r: Refusal) -> u8 {
+        r.number()
+    }
+}
+
+// What a text says.
 #[derive(Clone, Copy)]
-pub struct Statement {
-    pub refusal: u8,
-    pub kind: u8,
-    pub table: Table,
-    pub query: Query,
-    pub update: Update,
+pub enum Statement {
+    Table(Table),
+    Query(Query),
+    Update(Update),
 }
 
 impl Statement {
     pub const TEXT: usize = 256;
 
     pub const MARKS: u16 = 8;
-
-    // The kinds: nothing, where a text is refused, or what it says.
-    pub const NOTHING: u8 = 0;
-
-    pub const TABLE: u8 = 1;
-
-    pub const QUERY: u8 = 2;
-
-    pub const UPDATE: u8 = 3;
-
-    // No table and no statement: what a refused text compiles to, without a number.
-    pub fn none() -> Statement
-        ensures { result ≡ refused_by 0 }
-    {
-        assembling::refused(0)
-    }
 
     // What a text says beside the first `used` tables, where there are so many questions and updates already, and so many cells.
     pub fn compile(
@@ -309,24 +315,36 @@ impl Statement {
         queries: u8,
         updates: u8,
         cells: u32,
-    ) -> Statement
-        ensures { result ≡ compiled_of text.now tables used queries updates cells }
+    ) -> Result<Statement, Refusal>
+        ensures { compiled result ≡ compiled_of text.now tables used queries updates cells }
     {
         if Statement::TEXT < text.len() {
-            return assembling::refused(Refusal::TEXT);
+            return Err(Refusal::Text);
         }
         let mut list = [0u16; sentences::Entry::LIST];
         let mut places = [0u16; conditions::Cursor::PLACES];
         let e = sentences::read_sentence(text, &mut list, &mut places);
         if !e.c.ok {
-            return assembling::refused(Refusal::SENTENCE);
+            return Err(Refusal::Sentence);
         }
         if refusals::is_over(e) {
-            return assembling::refused(Refusal::LIMIT);
+            return Err(Refusal::Limit);
         }
-        if e.form == sentences::Entry::TABLE {
-            return build::table(text, list, e, tables, used, cells);
+        let reading = build::Reading {
+            text,
+            list: &list,
+            places: &places,
+            e,
+        };
+        let beside = names::Catalog {
+            tables: &tables[..usize::from(used).min(Table::TABLES)],
+            queries,
+            updates,
+            cells,
+        };
+        if let sentences::Form::Table = e.form {
+            return reading.table(&beside);
         }
-        build::beside(text, list, places, e, tables, used, queries, updates)
+        reading.beside(&beside)
     }
 }

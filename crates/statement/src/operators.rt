@@ -17,11 +17,12 @@ const OPPOSITES: [u8; Comparison::OPERATORS as usize] = [
 ];
 
 // The comparison that is true where the other is false, and false where it is true.
+#[tactic(auto, unfolding(crate::specs::Operators::opposite_of))]
 pub fn opposite(op: u8) -> u8
     ensures { result ≡ opposite_of op }
 {
     if op < Comparison::OPERATORS {
-        OPPOSITES[op as usize]
+        OPPOSITES[usize::from(op)]
     } else {
         op
     }
@@ -32,7 +33,7 @@ impl Comparison {
     pub fn tests_null(op: u8) -> bool
         ensures { result ≡ is_null_test (predicate_at op) }
     {
-        (Comparison::IS_NULL <= op) & (op < Comparison::OPERATORS)
+        (Comparison::IS_NULL..Comparison::OPERATORS).contains(&op)
     }
 
     // Whether an operator is true of two sides in this order (`Order`). A number past the last operator is read as <>.

@@ -1,14 +1,16 @@
 // Whether a sentence is past a limit, and which of the refusals that look at the tables it meets.
-ghost use Rattle.std.specs.Prelude.{◌≡◌, false, not, ◌&&◌, ◌||◌, ◌-◌, ◌≤◌, ltb, leb, length, take};
-ghost use Rattle.lists.specs.Lists.{all, repeats};
-ghost use Rattle.meaning.specs.Limits.{most_tables, most_items, most_comparisons};
+ghost use Rattle.std.specs.Prelude.{◌≡◌, ◌&&◌, ◌||◌, ◌-◌, map, ltb, leb, length};
+ghost use Rattle.lists.specs.Lists.{repeats};
+ghost use Rattle.meaning.specs.Limits.{most_tables, most_items};
 ghost use Rattle.meaning.specs.Names.{same_name, has, table_names};
 ghost use Rattle.meaning.specs.Cells.{areas_size};
 ghost use Rattle.statement.specs.Sentences.{over_on};
-ghost use Rattle.statement.specs.Catalog.{name_of_struct, names_of, schemas_of};
-ghost use Rattle.statement.specs.Built.{lowest_by, operand_below, sides_below, places_below, condition_below};
+ghost use Rattle.statement.specs.Catalog.{name_of_struct, schema_of};
+ghost use Rattle.statement.specs.Refusals.{number_in};
+ghost use Rattle.statement.specs.Built.{lowest_by, operand_below, sides_below, condition_below, unknown_on};
 
-use super::sentences::Entry;
+use super::names::Catalog;
+use super::sentences::{Entry, Form};
 use super::{
     Comparison, Condition, Name, Operand, Query, Refusal, Statement, Table, Update, names,
 };
@@ -16,14 +18,13 @@ use super::{
 // ---- limits
 
 // The most items that a list may have, by the form of its sentence.
-fn most_listed(form: u8) -> usize
+fn most_listed(form: Form) -> usize
     ensures { result ≡ most_items }
 {
     match form {
-        Entry::TABLE => Table::COLUMNS,
-        Entry::SELECT => Query::SELECTED,
-        Entry::PAIR => Query::SELECTED,
-        _ => Update::SETTINGS,
+        Form::Table => Table::COLUMNS,
+        Form::Select | Form::Pair => Query::SELECTED,
+        Form::Insert | Form::Update | Form::Delete => Update::SETTINGS,
     }
 }
 
@@ -39,28 +40,20 @@ pub fn is_over(e: Entry) -> bool
 
 // ---- tables
 
-// Whether a table of that name is there, or a column twice.
-pub fn is_taken(
-    name: Name,
-    columns: [Name; Table::COLUMNS],
-    n: usize,
-    tables: [Table; Table::TABLES],
-    used: u8,
-) -> bool
-    requires { n ≤ most_items }
-    ensures { result ≡ (has (table_names (schemas_of tables used)) (name_of_struct name) || repeats same_name (names_of columns n)) }
-{
-    let there = (names::find_table(name, tables, used) as usize) < names::table_count(tables, used);
-    there | names::is_repeated(columns, n)
-}
+impl Catalog<'_> {
+    // Whether a table of that name is there, or a column twice.
+    pub fn is_taken(&self, name: &Name, columns: &[Name]) -> bool
+        ensures { result ≡ (has (table_names (map schema_of self.now.tables.now)) (name_of_struct name.now) || repeats same_name (map name_of_struct columns.now)) }
+    {
+        self.find(name).is_some() | names::is_repeated(columns)
+    }
 
-// Whether there is no place for a table of that size.
-pub fn is_full(tables: [Table; Table::TABLES], used: u8, cells: u32, size: u32) -> bool
-    ensures { result ≡ (leb most_tables (length (schemas_of tables used)) || ltb (cells - areas_size (schemas_of tables used)) size) }
-{
-    let taken = names::areas(tables, used);
-    let left = if taken < cells { cells - taken } else { 0 };
-    (Table::TABLES <= names::table_count(tables, used)) | (left < size)
+    // Whether there is no place for a table of that size.
+    pub fn is_full(&self, size: u32) -> bool
+        ensures { result ≡ (leb most_tables (length (map schema_of self.now.tables.now)) || ltb (self.now.cells - areas_size (map schema_of self.now.tables.now)) size) }
+    {
+        (Table::TABLES <= self.tables.len()) | (self.cells.saturating_sub(self.areas()) < size)
+    }
 }
 
 // ---- columns
@@ -69,74 +62,61 @@ pub fn is_full(tables: [Table; Table::TABLES], used: u8, cells: u32, size: u32) 
 fn is_below(side: Operand, limit: usize) -> bool
     ensures { result ≡ operand_below limit side }
 {
-    if side.code % 2 == 1 {
-        return true;
-    }
-    if side.code == 0 {
-        return true;
-    }
-    ((side.code / 2 - 1) as usize) < limit
+    side.code % 2 == 1 || side.code == 0 || usize::from(side.code / 2 - 1) < limit
 }
 
 fn sides_below(c: Comparison, limit: usize) -> bool
     ensures { result ≡ sides_below limit c }
 {
-    let a = c.left_side();
-    let b = c.right_side();
-    is_below(a, limit) & is_below(b, limit)
+    is_below(c.left_side(), limit) & is_below(c.right_side(), limit)
 }
 
 // Whether all columns of a condition are below `limit`.
-fn columns_below(comparisons: [Comparison; Condition::COMPARISONS], count: u8, limit: usize) -> bool
-    requires { count ≤ most_comparisons }
-    ensures { result ≡ all (sides_below limit) (take count comparisons) }
+fn columns_below(condition: &Condition, limit: usize) -> bool
+    ensures { result ≡ condition_below limit condition.now }
 {
-    let n = count as usize;
-    let mut ok = true;
-    let mut i = 0;
-    while i < n {
-        let c = comparisons[i];
-        ok = ok & sides_below(c, limit);
-        i += 1;
-    }
-    ok
+    let n = usize::from(condition.count).min(Condition::COMPARISONS);
+    condition.comparisons[..n]
+        .iter()
+        .all(|c| sides_below(*c, limit))
+}
+
+// Whether one of these places, or a column of the condition, is not below `width`.
+pub fn is_unknown(places: &[u8], condition: &Condition, width: usize) -> bool
+    ensures { result ≡ unknown_on width places.now condition.now }
+{
+    !(names::are_below(places, width) & columns_below(condition, width))
 }
 
 // ---- the lowest
 
-// The first of 6, 7, 8, 15 and 9 whose condition holds, or 0.
-pub fn lowest(unknown: bool, taken: bool, miscounted: bool, twice: bool, full: bool) -> u8
-    ensures { result ≡ lowest_by unknown taken miscounted twice full }
-{
-    if unknown {
-        return Refusal::UNKNOWN;
-    }
-    if taken {
-        return Refusal::TAKEN;
-    }
-    if miscounted {
-        return Refusal::MISCOUNTED;
-    }
-    if twice {
-        return Refusal::TWICE;
-    }
-    if full { Refusal::PLACE } else { 0 }
+// Which of the refusals that look at the tables a sentence meets.
+#[derive(Clone, Copy, Default)]
+pub struct Met {
+    pub unknown: bool,
+    pub taken: bool,
+    pub miscounted: bool,
+    pub twice: bool,
+    pub full: bool,
 }
 
-// The refusal of a statement that names columns: the first n of `at` and those of its condition.
-pub fn refusal_of(
-    at: [u8; Entry::ITEMS],
-    n: usize,
-    condition: Condition,
-    width: usize,
-    taken: bool,
-    twice: bool,
-    full: bool,
-) -> u8
-    requires { (n ≤ most_items) × (condition.count ≤ most_comparisons) }
-    ensures { result ≡ lowest_by (not (places_below width (take n at) && condition_below width condition)) taken false twice full }
-{
-    let comparisons = condition.comparisons;
-    let known = names::are_below(at, n, width) & columns_below(comparisons, condition.count, width);
-    lowest(!known, taken, false, twice, full)
+impl Met {
+    // The first of 6, 7, 8, 15 and 9 that is met.
+    pub fn refuse(self) -> Result<(), Refusal>
+        ensures { number_in result ≡ lowest_by self.unknown self.taken self.miscounted self.twice self.full }
+    {
+        if self.unknown {
+            Err(Refusal::Unknown)
+        } else if self.taken {
+            Err(Refusal::Taken)
+        } else if self.miscounted {
+            Err(Refusal::Miscounted)
+        } else if self.twice {
+            Err(Refusal::Twice)
+        } else if self.full {
+            Err(Refusal::Place)
+        } else {
+            Ok(())
+        }
+    }
 }

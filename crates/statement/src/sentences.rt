@@ -4,12 +4,11 @@ ghost use Rattle.std.specs.Prelude.{◌≡◌, true, false, ◌+◌, ◌≤◌, 
 ghost use Rattle.meaning.specs.Limits.{most_text};
 ghost use Rattle.meaning.specs.Tokens.{tokens};
 ghost use Rattle.meaning.specs.Grammar.{sentence, is_paired, a_table, a_select, a_single, a_pair, an_insert, an_update};
-ghost use Rattle.statement.specs.Reading.{marks_at};
-ghost use Rattle.statement.specs.Sentences.{Ready, Expects, Names, Columns, Gives, Sizes, is_size, CountsRows, is_between, is_rows_past, PutsItem, kind_at, is_comma_second, Within, ReadsItem, ReadsList, ReadsWhere, Starts, ReadsForm, Lists, Deletes, ReadsAny, Noted};
+ghost use Rattle.statement.specs.Sentences.{Ready, Expects, Names, Columns, Gives, Sizes, ring_in, is_value, rows_past, CountsRows, PutsItem, ends_list, is_comma_second, Within, ReadsItem, ReadsList, ReadsWhere, Starts, ReadsForm, Lists, Deletes, ReadsAny, Noted};
 
 use super::conditions::Cursor;
 use super::{Table, conditions};
-use token::Token;
+use token::{Kind, Token};
 
 // A cursor behind a token, and where the token starts.
 #[derive(Clone, Copy)]
@@ -32,12 +31,23 @@ pub struct Sized {
     pub ring: bool,
 }
 
+// The form of a sentence; a pair is SELECT from two tables.
+#[derive(Clone, Copy, PartialEq, Eq)]
+pub enum Form {
+    Table,
+    Select,
+    Insert,
+    Update,
+    Delete,
+    Pair,
+}
+
 // A sentence as it is read: where the reader stands, its form, the place of its table's name, in a question over two tables that of the second one's, that of the
 // constant of ROWS or RING, how many items its list has, and whether it has RING.
 #[derive(Clone, Copy)]
 pub struct Entry {
     pub c: Cursor,
-    pub form: u8,
+    pub form: Form,
     pub table: u16,
     pub second: u16,
     pub rows: u16,
@@ -50,34 +60,22 @@ impl Entry {
     pub const ITEMS: usize = Table::COLUMNS;
 
     pub const LIST: usize = 2 * Entry::ITEMS;
-
-    pub const TABLE: u8 = 0;
-
-    pub const SELECT: u8 = 1;
-
-    pub const INSERT: u8 = 2;
-
-    pub const UPDATE: u8 = 3;
-
-    pub const DELETE: u8 = 4;
-    // SELECT from two tables
-    pub const PAIR: u8 = 5;
 }
 
-// What a list holds.
-const NAMES: u8 = 0;
-
-const VALUES: u8 = 1;
-
-const SETTINGS: u8 = 2;
-
-const COLUMNS: u8 = 3;
+// What a list holds; columns are dotted ones.
+#[derive(Clone, Copy)]
+enum Contents {
+    Names,
+    Values,
+    Settings,
+    Columns,
+}
 
 // ---- tokens
 
 // A token that its kind tells.
-fn expect(text: &[u8], c: Cursor, kind: u8) -> Cursor
-    requires { (Ready text.now c) × (5 ≤ kind) }
+fn expect(text: &[u8], c: Cursor, kind: Kind) -> Cursor
+    requires { Ready text.now c }
     ensures { Expects text.now kind c result }
 {
     let mut p = c;
@@ -103,10 +101,10 @@ fn read_name(text: &[u8], c: Cursor) -> Placed
         return Placed { c: p, place: 0 };
     }
     let t = token::next(text, p.at as usize);
-    if t.kind != Token::NAME {
+    let Kind::Name = t.kind else {
         p.ok = false;
         return Placed { c: p, place: 0 };
-    }
+    };
     p.at = t.next as u16;
     p.over = p.over | conditions::is_past(t);
     Placed {
@@ -124,11 +122,10 @@ fn read_column(text: &[u8], c: Cursor) -> Placed
     if !p.ok {
         return Placed { c: p, place: 0 };
     }
-    let d = conditions::read_dotted(text, token::next(text, p.at as usize));
-    if !d.ok {
+    let Some(d) = conditions::read_dotted(text, token::next(text, p.at as usize)) else {
         p.ok = false;
         return Placed { c: p, place: 0 };
-    }
+    };
     p.at = d.next as u16;
     p.over = p.over | d.over;
     Placed {
@@ -137,17 +134,11 @@ fn read_column(text: &[u8], c: Cursor) -> Placed
     }
 }
 
-// How many question marks a token is.
-fn marks_of(kind: u8) -> u16
-    ensures { result ≡ marks_at kind }
+// Whether a token is a constant or a question mark.
+fn is_value(kind: Kind) -> bool
+    ensures { result ≡ is_value kind }
 {
-    if kind == Token::MARK { 1 } else { 0 }
-}
-
-fn is_between(kind: u8, low: u8, high: u8) -> bool
-    ensures { result ≡ is_between kind low high }
-{
-    (low <= kind) & (kind <= high)
+    matches!(kind, Kind::Constant(_) | Kind::Big | Kind::Mark)
 }
 
 // A constant or a question mark.
@@ -160,23 +151,28 @@ fn read_value(text: &[u8], c: Cursor) -> Placed
         return Placed { c: p, place: 0 };
     }
     let t = token::next(text, p.at as usize);
-    if !is_between(t.kind, Token::CONSTANT, Token::MARK) {
+    if !is_value(t.kind) {
         p.ok = false;
         return Placed { c: p, place: 0 };
     }
     p.at = t.next as u16;
     p.over = p.over | conditions::is_past(t);
-    p.marks = p.marks + marks_of(t.kind);
+    p.marks = p.marks + conditions::marks_of(t.kind);
     Placed {
         c: p,
         place: t.start as u16,
     }
 }
 
-fn is_size(kind: u8) -> bool
-    ensures { result ≡ is_size kind }
+// Whether it is RING, of one of the two words.
+fn ring_in(kind: Kind) -> Option<bool>
+    ensures { result ≡ ring_in kind }
 {
-    (kind == Token::ROWS) | (kind == Token::RING)
+    match kind {
+        Kind::Rows => Some(false),
+        Kind::Ring => Some(true),
+        _ => None,
+    }
 }
 
 // ROWS or RING (A.4).
@@ -189,22 +185,23 @@ fn read_size(text: &[u8], c: Cursor) -> Sized
         return Sized { c: p, ring: false };
     }
     let t = token::next(text, p.at as usize);
-    if !is_size(t.kind) {
+    let Some(ring) = ring_in(t.kind) else {
         p.ok = false;
         return Sized { c: p, ring: false };
-    }
+    };
     p.at = t.next as u16;
-    Sized {
-        c: p,
-        ring: t.kind == Token::RING,
-    }
+    Sized { c: p, ring }
 }
 
-// Whether the constant of ROWS or RING is outside 1 to 512.
-fn is_rows_past(t: Token) -> bool
-    ensures { result ≡ is_rows_past t.kind t.value }
+// Whether a constant of ROWS or RING is outside 1 to 512, if the token is a constant.
+fn rows_past(kind: Kind) -> Option<bool>
+    ensures { result ≡ rows_past kind }
 {
-    (t.kind == Token::BIG) | ((t.value < 1) | ((Table::ROWS as i32) < t.value))
+    match kind {
+        Kind::Constant(z) => Some((z < 1) | (i32::from(Table::ROWS) < z)),
+        Kind::Big => Some(true),
+        _ => None,
+    }
 }
 
 // The constant of ROWS or RING.
@@ -217,12 +214,12 @@ fn read_rows(text: &[u8], c: Cursor) -> Placed
         return Placed { c: p, place: 0 };
     }
     let t = token::next(text, p.at as usize);
-    if !is_between(t.kind, Token::CONSTANT, Token::BIG) {
+    let Some(past) = rows_past(t.kind) else {
         p.ok = false;
         return Placed { c: p, place: 0 };
-    }
+    };
     p.at = t.next as u16;
-    p.over = p.over | is_rows_past(t);
+    p.over = p.over | past;
     Placed {
         c: p,
         place: t.start as u16,
@@ -231,13 +228,6 @@ fn read_rows(text: &[u8], c: Cursor) -> Placed
 
 // ---- lists
 
-// How many numbers there is room for.
-fn room(list: [u16; Entry::LIST]) -> usize
-    ensures { (result ≡ 16) × (length list ≡ 16) }
-{
-    list.len()
-}
-
 // An item at the end of the list, by the places of its name and its value. Past the last place none is noted, but it is counted.
 fn put_item(list: &mut [u16; Entry::LIST], listed: u16, name: u16, value: u16) -> u16
     requires { listed ≤ most_text }
@@ -245,7 +235,7 @@ fn put_item(list: &mut [u16; Entry::LIST], listed: u16, name: u16, value: u16) -
 {
     let more = listed + 1;
     let i = 2 * (listed as usize);
-    if i + 1 < room(*list) {
+    if i + 1 < list.len() {
         list[i] = name;
         list[i + 1] = value;
         return more;
@@ -259,41 +249,45 @@ fn read_item(
     list: &mut [u16; Entry::LIST],
     c: Cursor,
     listed: u16,
-    kind: u8,
+    holds: Contents,
 ) -> Listing
     requires { Within text.now c listed }
-    ensures { ReadsItem (kind_at kind) text.now list.old c listed list.new result }
+    ensures { ReadsItem holds text.now list.old c listed list.new result }
 {
-    if kind == NAMES {
-        let n = read_name(text, c);
-        let d = n.c;
-        return Listing {
-            c: d,
-            listed: put_item(list, listed, n.place, 0),
-        };
-    }
-    if kind == VALUES {
-        let v = read_value(text, c);
-        let d = v.c;
-        return Listing {
-            c: d,
-            listed: put_item(list, listed, 0, v.place),
-        };
-    }
-    if kind == SETTINGS {
-        let n = read_name(text, c);
-        let v = read_value(text, expect(text, n.c, Token::EQ));
-        let d = v.c;
-        return Listing {
-            c: d,
-            listed: put_item(list, listed, n.place, v.place),
-        };
-    }
-    let n = read_column(text, c);
-    let d = n.c;
-    Listing {
-        c: d,
-        listed: put_item(list, listed, n.place, 0),
+    match holds {
+        Contents::Names => {
+            let n = read_name(text, c);
+            let d = n.c;
+            Listing {
+                c: d,
+                listed: put_item(list, listed, n.place, 0),
+            }
+        }
+        Contents::Values => {
+            let v = read_value(text, c);
+            let d = v.c;
+            Listing {
+                c: d,
+                listed: put_item(list, listed, 0, v.place),
+            }
+        }
+        Contents::Settings => {
+            let n = read_name(text, c);
+            let v = read_value(text, expect(text, n.c, Kind::Eq));
+            let d = v.c;
+            Listing {
+                c: d,
+                listed: put_item(list, listed, n.place, v.place),
+            }
+        }
+        Contents::Columns => {
+            let n = read_column(text, c);
+            let d = n.c;
+            Listing {
+                c: d,
+                listed: put_item(list, listed, n.place, 0),
+            }
+        }
     }
 }
 
@@ -303,22 +297,22 @@ fn read_list(
     list: &mut [u16; Entry::LIST],
     c: Cursor,
     listed: u16,
-    kind: u8,
+    holds: Contents,
 ) -> Listing
     requires { Within text.now c listed }
-    ensures { ReadsList (kind_at kind) text.now list.old c listed list.new result }
+    ensures { ReadsList holds text.now list.old c listed list.new result }
 {
-    let one = read_item(text, list, c, listed, kind);
+    let one = read_item(text, list, c, listed, holds);
     let mut p = one.c;
     if !p.ok {
         return one;
     }
     let t = token::next(text, p.at as usize);
-    if t.kind != Token::COMMA {
+    let Kind::Comma = t.kind else {
         return one;
-    }
+    };
     p.at = t.next as u16;
-    read_list(text, list, p, one.listed, kind)
+    read_list(text, list, p, one.listed, holds)
 }
 
 // ---- WHERE
@@ -333,12 +327,17 @@ fn read_where(text: &[u8], places: &mut [u16; Cursor::PLACES], c: Cursor) -> Cur
         return p;
     }
     let t = token::next(text, p.at as usize);
-    if t.kind != Token::WHERE {
+    let Kind::Where = t.kind else {
         return p;
-    }
+    };
     p.at = t.next as u16;
-    p = conditions::read_or(text, places, p, true, 0);
-    p
+    match conditions::read_or(text, places, p, true, 0) {
+        Some(q) => q,
+        None => {
+            p.ok = false;
+            p
+        }
+    }
 }
 
 // ---- the forms, after their first word
@@ -349,13 +348,19 @@ fn read_table(text: &[u8], list: &mut [u16; Entry::LIST], c: Cursor) -> Entry
     ensures { Lists a_table text.now c list.new result }
 {
     let t = read_name(text, c);
-    let l = read_list(text, list, expect(text, t.c, Token::OPEN), 0, NAMES);
-    let w = read_size(text, expect(text, l.c, Token::CLOSE));
+    let l = read_list(
+        text,
+        list,
+        expect(text, t.c, Kind::Open),
+        0,
+        Contents::Names,
+    );
+    let w = read_size(text, expect(text, l.c, Kind::Close));
     let r = read_rows(text, w.c);
     let d = r.c;
     Entry {
         c: d,
-        form: Entry::TABLE,
+        form: Form::Table,
         table: t.place,
         second: 0,
         rows: r.place,
@@ -374,11 +379,11 @@ fn read_single(
     requires { Starts text.now false c }
     ensures { ReadsForm a_single text.now c list.new places.new result }
 {
-    let l = read_list(text, list, c, 0, NAMES);
-    let t = read_name(text, expect(text, l.c, Token::FROM));
+    let l = read_list(text, list, c, 0, Contents::Names);
+    let t = read_name(text, expect(text, l.c, Kind::From));
     Entry {
         c: read_where(text, places, t.c),
-        form: Entry::SELECT,
+        form: Form::Select,
         table: t.place,
         second: 0,
         rows: 0,
@@ -397,12 +402,12 @@ fn read_pair(
     requires { Starts text.now true c }
     ensures { ReadsForm a_pair text.now c list.new places.new result }
 {
-    let l = read_list(text, list, c, 0, COLUMNS);
-    let t = read_name(text, expect(text, l.c, Token::FROM));
-    let u = read_name(text, expect(text, t.c, Token::COMMA));
+    let l = read_list(text, list, c, 0, Contents::Columns);
+    let t = read_name(text, expect(text, l.c, Kind::From));
+    let u = read_name(text, expect(text, t.c, Kind::Comma));
     Entry {
         c: read_where(text, places, u.c),
-        form: Entry::PAIR,
+        form: Form::Pair,
         table: t.place,
         second: u.place,
         rows: 0,
@@ -417,15 +422,23 @@ fn is_comma_second(text: &[u8], from: Token) -> bool
 {
     let one = token::next(text, from.next);
     let two = token::next(text, one.next);
-    (from.kind == Token::FROM) & (two.kind == Token::COMMA)
+    matches!(from.kind, Kind::From) & matches!(two.kind, Kind::Comma)
+}
+
+// Whether the list of a SELECT reaches no further.
+fn ends_list(kind: Kind) -> bool
+    ensures { result ≡ ends_list kind }
+{
+    matches!(kind, Kind::End | Kind::From)
 }
 
 // A.1: whether the question is over two tables: behind its first FROM a token and a comma stand.
+// A loop over tokens, which counts no index: each is read from where the last one ends.
 fn is_paired(text: &[u8], at: usize) -> bool
     ensures { result ≡ is_paired (tokens (drop at text.now)) }
 {
     let mut t = token::next(text, at);
-    while (t.kind != Token::END) & (t.kind != Token::FROM) {
+    while !ends_list(t.kind) {
         t = token::next(text, t.next);
     }
     is_comma_second(text, t)
@@ -454,17 +467,17 @@ fn read_insert(text: &[u8], list: &mut [u16; Entry::LIST], c: Cursor) -> Entry
     requires { Starts text.now false c }
     ensures { Lists an_insert text.now c list.new result }
 {
-    let t = read_name(text, expect(text, c, Token::INTO));
+    let t = read_name(text, expect(text, c, Kind::Into));
     let l = read_list(
         text,
         list,
-        expect(text, expect(text, t.c, Token::VALUES), Token::OPEN),
+        expect(text, expect(text, t.c, Kind::Values), Kind::Open),
         0,
-        VALUES,
+        Contents::Values,
     );
     Entry {
-        c: expect(text, l.c, Token::CLOSE),
-        form: Entry::INSERT,
+        c: expect(text, l.c, Kind::Close),
+        form: Form::Insert,
         table: t.place,
         second: 0,
         rows: 0,
@@ -484,10 +497,16 @@ fn read_update(
     ensures { ReadsForm an_update text.now c list.new places.new result }
 {
     let t = read_name(text, c);
-    let l = read_list(text, list, expect(text, t.c, Token::SET), 0, SETTINGS);
+    let l = read_list(
+        text,
+        list,
+        expect(text, t.c, Kind::Set),
+        0,
+        Contents::Settings,
+    );
     Entry {
         c: read_where(text, places, l.c),
-        form: Entry::UPDATE,
+        form: Form::Update,
         table: t.place,
         second: 0,
         rows: 0,
@@ -501,10 +520,10 @@ fn read_delete(text: &[u8], places: &mut [u16; Cursor::PLACES], c: Cursor) -> En
     requires { Starts text.now false c }
     ensures { Deletes text.now c places.new result }
 {
-    let t = read_name(text, expect(text, c, Token::FROM));
+    let t = read_name(text, expect(text, c, Kind::From));
     Entry {
         c: read_where(text, places, t.c),
-        form: Entry::DELETE,
+        form: Form::Delete,
         table: t.place,
         second: 0,
         rows: 0,
@@ -533,30 +552,24 @@ fn read_form(
         marks: 0,
         at: t.next as u16,
     };
-    if t.kind == Token::TABLE {
-        return read_table(text, list, c);
-    }
-    if t.kind == Token::SELECT {
-        return read_select(text, list, places, c);
-    }
-    if t.kind == Token::INSERT {
-        return read_insert(text, list, c);
-    }
-    if t.kind == Token::UPDATE {
-        return read_update(text, list, places, c);
-    }
-    if t.kind == Token::DELETE {
-        return read_delete(text, places, c);
-    }
-    c.ok = false;
-    Entry {
-        c,
-        form: Entry::TABLE,
-        table: 0,
-        second: 0,
-        rows: 0,
-        listed: 0,
-        ring: false,
+    match t.kind {
+        Kind::Table => read_table(text, list, c),
+        Kind::Select => read_select(text, list, places, c),
+        Kind::Insert => read_insert(text, list, c),
+        Kind::Update => read_update(text, list, places, c),
+        Kind::Delete => read_delete(text, places, c),
+        _ => {
+            c.ok = false;
+            Entry {
+                c,
+                form: Form::Table,
+                table: 0,
+                second: 0,
+                rows: 0,
+                listed: 0,
+                ring: false,
+            }
+        }
     }
 }
 
@@ -575,9 +588,12 @@ pub fn read_sentence(
         return e;
     }
     let t = token::next(text, c.at as usize);
-    if t.kind != Token::END {
-        c.ok = false;
-        e.c = c;
+    match t.kind {
+        Kind::End => e,
+        _ => {
+            c.ok = false;
+            e.c = c;
+            e
+        }
     }
-    e
 }

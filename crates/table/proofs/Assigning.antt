@@ -7,35 +7,28 @@ use native.Mathlib.Numerals.{add-one}
 use native.Mathlib.Omega.{arith}
 use lib.IntN.{ℤ}
 use lib.ListN.{length, take, drop, get_or, set, length-set, length-take, length-map, drop_of_length-le, get_or-map}
-use lib.Seq.{drop-cons, get_or-take, length-take-le}
+use lib.Seq.{paste, drop-cons, get_or-take, length-take-le}
 use Rattle.meaning.specs.Statement as M
 use Rattle.meaning.specs.Meaning.{value_of, assigned}
 use Rattle.statement.specs.declared.Setting.{Setting}
 use Rattle.statement.specs.Compiled.{new_value}
 use Rattle.statement.specs.Sound.{value_read, setting_read}
 use Rattle.table.specs.Changed.{row_of}
+use Rattle.table.proofs.Copied.{pasted, paste-whole}
 
 -- settings made on a row
 abbrev pub made : List ℤ → List Setting → List ℤ → List ℤ
 made vs ss row = assigned (map setting_read ss) vs row
 
-module _ (vs : List ℤ) (settings : List Setting) (n : ℕ) (long : n ≤ length settings) where
-  pub assign-done : (i : ℕ) (row : List ℤ) → n ≤ i → made vs (drop i (take n settings)) row ≡ row
-  assign-done i row h =
-      let len : length (take n settings) ≤ i = simp length-take (omega arith) in
-      ap (λ (l : List Setting). made vs l row) (drop_of_length-le (take n settings) len)
+module _ (vs : List ℤ) (settings : List Setting) where
+  pub assign-done : (i : ℕ) (row : List ℤ) → length settings ≤ i → made vs (drop i settings) row ≡ row
+  assign-done i row h = ap (λ (l : List Setting). made vs l row) (drop_of_length-le settings h)
 
-  pub assign-next : (d : Setting) (i : ℕ) (row row' : List ℤ) (v : ℤ) → i < n → v ≡ value_of vs (value_read (new_value (get_or settings i d))) → row' ≡ set row (get_or settings i d).column v
-      → made vs (drop (i + 1) (take n settings)) row' ≡ made vs (drop i (take n settings)) row
-  assign-next d i row row' v hn ev er =
-      let len : i < length (take n settings) = simp length-take (omega arith) in
-      let e : get_or (take n settings) i d ≡ get_or settings i d = get_or-take n settings i d hn in
-      let m : row' ≡ set row (get_or (take n settings) i d).column (value_of vs (value_read (new_value (get_or (take n settings) i d)))) =
-      er
-      ∙ ap (λ (x : ℤ). set row (get_or settings i d).column x) ev
-      ∙ ap (λ (s : Setting). set row s.column (value_of vs (value_read (new_value s)))) (sym e) in
-      ap₂ (λ (k : ℕ) (r : List ℤ). made vs (drop k (take n settings)) r) (add-one i) m
-      ∙ sym (ap (λ (l : List Setting). made vs l row) (drop-cons (take n settings) i d len))
+  pub assign-next : (d : Setting) (i : ℕ) (row row' : List ℤ) → i < length settings → row' ≡ set row (get_or settings i d).column (value_of vs (value_read (new_value (get_or settings i d))))
+      → made vs (drop (i + 1) settings) row' ≡ made vs (drop i settings) row
+  assign-next d i row row' h er =
+      ap₂ (λ (k : ℕ) (r : List ℤ). made vs (drop k settings) r) (add-one i) er
+      ∙ sym (ap (λ (l : List Setting). made vs l row) (drop-cons settings i d h))
 
 -- the row of an INSERT, value by value
 module _ (vs : List ℤ) where
@@ -50,11 +43,22 @@ module _ (vs : List ℤ) where
     pub row-long : length settings ≡ 8 → n ≤ 8 → length (row_of (take n settings) vs) ≡ n
     row-long e h = ap length (row_is (take n settings)) ∙ length-map (take n settings) value_in ∙ length-take-le n settings (omega arith)
 
-    pub row_at : (i : ℕ) (d : Setting) → i < n → get_or (row_of (take n settings) vs) i (value_in d) ≡ value_in (get_or settings i d)
-    row_at i d h =
-        ap (λ (l : List ℤ). get_or l i (value_in d)) (row_is (take n settings))
-        ∙ get_or-map value_in (take n settings) i d
-        ∙ ap value_in (get_or-take n settings i d h)
+  pub row-wide : (ss : List Setting) → length (row_of ss vs) ≡ length ss
+  row-wide ss = ap length (row_is ss) ∙ length-map ss value_in
+
+  -- a value put at its place
+  pub row-put : (ss : List Setting) (d : Setting) (i : ℕ) (row₀ row : List ℤ) (z : ℤ) → length row₀ ≡ length ss → i < length ss → row ≡ paste row₀ 0 (row_of ss vs) i
+      → z ≡ value_in (get_or ss i d) → set row i z ≡ paste row₀ 0 (row_of ss vs) (i + 1)
+  row-put ss d i row₀ row z el h er ez =
+      let k : i ≡ 0 + i = omega arith in
+      let n : length (row_of ss vs) ≡ length ss = ap length (row_is ss) ∙ length-map ss value_in in
+      let v : z ≡ get_or (row_of ss vs) i (value_in d) = ez ∙ sym (ap (λ (l : List ℤ). get_or l i (value_in d)) (row_is ss) ∙ get_or-map value_in ss i d) in
+      pasted row₀ 0 (row_of ss vs) i (value_in d) row i z (omega arith) (omega arith) er k v
+
+  pub row-done : (ss : List Setting) (i : ℕ) (row₀ row : List ℤ) → length row₀ ≡ length ss → i ≡ length ss → row ≡ paste row₀ 0 (row_of ss vs) i → row ≡ row_of ss vs
+  row-done ss i row₀ row el ei er =
+      let n : length (row_of ss vs) ≡ length row₀ = ap length (row_is ss) ∙ length-map ss value_in ∙ sym el in
+      er ∙ ap (paste row₀ 0 (row_of ss vs)) (ei ∙ sym el) ∙ paste-whole row₀ (row_of ss vs) n
 
 -- settings keep a row's length
 pub assigned-length : (ss : List (ℕ × M.Value)) (vs row : List ℤ) → length (assigned ss vs row) ≡ length row

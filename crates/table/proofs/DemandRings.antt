@@ -25,49 +25,18 @@ use Rattle.statement.specs.declared.Table.{Table}
 use Rattle.statement.specs.declared.Update.{Update}
 use Rattle.statement.specs.Sound.{AgreesCondition, setting_values}
 use Rattle.statement.specs.Compiled.{settings_of_change, where_of_change, form_of_change}
-use Rattle.table.specs.Demand.{place_round, ReadsOldestFirst, Makes, table_after, FullRingPushes, NewRowTakesCells, DeleteLaysOldestFirst, UpdateStaysInPlace}
+use Rattle.table.specs.Scanned.{place_round}
+use Rattle.table.specs.Demand.{ReadsOldestFirst, Makes, table_after, FullRingPushes, NewRowTakesCells, DeleteLaysOldestFirst, UpdateStaysInPlace}
 use Rattle.table.specs.Evaluated.{row_cells, rows_used}
 use Rattle.table.specs.Changed.{settled, laid, oldest_after, is_full_ring, rows_before, changed_of, change_of, cells_after}
 use Rattle.table.specs.declared.changes.Changed.{Changed}
 use Rattle.table.proofs.Assigning.{row-long}
 use Rattle.table.proofs.Fitting.{form_test, value-each, few-settings, oldest-there, set-stored}
-use Rattle.table.proofs.Round.{rows-turned}
+use Rattle.table.proofs.Round.{row-round}
 use Rattle.table.proofs.ChangedMeans.{meets-means, values-are, cells_are, changed-are, form-yes, inside, used-few, rows_back, remaining_rows, change-count, change-used}
 use Rattle.table.proofs.Demand.{used_all}
 
 -- ---- "Rows still read oldest first"
-
-rows_at : (c n i : ℕ) (l : List ℤ) → i < n → get_or (rows_in c n l) i [] ≡ take c (drop (i * c) l)
-rows_at c zero i l h = absurd (omega arith)
-rows_at c (suc n) zero l h = ap (λ (k : ℕ). take c (drop k l)) (sym (zero-mul c))
-rows_at c (suc n) (suc i) l h =
-    let q : c + i * c ≡ suc i * c = omega (arith, suc-mul i c) in
-    rows_at c n i (drop c l) (omega arith) ∙ ap (take c) (drop-drop (i * c) c l) ∙ ap (λ (k : ℕ). take c (drop k l)) q
-
-module _ (c k n i : ℕ) (l : List ℤ) (h : k < n) (m : i < n) where
-  abbrev one : List Row
-  one = rows_in c (n - k) (drop (k * c) l)
-
-  abbrev two : List Row
-  two = rows_in c k l
-
-  row-round : get_or (turned k (rows_in c n l)) i [] ≡ take c (drop (place_round n k i * c) l)
-  row-round = ap (λ (rs : List Row). get_or rs i []) (rows-turned c k n l (omega arith)) ∙ go (ltb (k + i) n) refl
-    where
-      go : (b : Bool) → ltb (k + i) n ≡ b → get_or (one ++ two) i [] ≡ take c (drop (cond b (k + i) (k + i - n) * c) l)
-      go true e =
-          let j : i < n - k = omega (arith, ltb-true (k + i) n e) in
-          let t : i < length one = omega (arith, rows-length c (n - k) (drop (k * c) l)) in
-          get_or-append one two [] i t
-          ∙ rows_at c (n - k) i (drop (k * c) l) j
-          ∙ ap (take c) (drop-drop (i * c) (k * c) l)
-          ∙ ap (λ (x : ℕ). take c (drop x l)) (sym (add-mul k i c))
-      go false e =
-          let g : n ≤ k + i = ltb-false (k + i) n e in
-          let r : i ≡ length one + (k + i - n) = omega (arith, rows-length c (n - k) (drop (k * c) l)) in
-          ap (λ (x : ℕ). get_or (one ++ two) x []) r
-          ∙ get_or-append-add one two (k + i - n) []
-          ∙ rows_at c k (k + i - n) l (omega arith)
 
 module _ (t : Table) (start : ℕ) (cells : List ℤ) (h : start + row_cells t ≤ length cells) where
   used-is : rows_used t start cells ≡ turned t.oldest (rows_in t.count t.rows (drop start cells))
@@ -76,7 +45,7 @@ module _ (t : Table) (start : ℕ) (cells : List ℤ) (h : start + row_cells t �
   row_in : t.oldest < t.rows → (i : ℕ) → i < t.rows → get_or (rows_used t start cells) i [] ≡ area_of (start + place_round t.rows t.oldest i * t.count) t.count cells
   row_in k i m =
       ap (λ (rs : List Row). get_or rs i []) used-is
-      ∙ row-round t.count t.oldest t.rows i (drop start cells) k m
+      ∙ row-round t.count t.oldest t.rows i (drop start cells) (omega arith) m
       ∙ ap (take t.count) (drop-drop (place_round t.rows t.oldest i * t.count) start cells)
 
 pub reads_oldest_first : ReadsOldestFirst

@@ -8,7 +8,7 @@ use Rattle.meaning.specs.Grammar as G
 use Rattle.meaning.specs.Grammar.{Sentence, comparison, items, sentence}
 use Rattle.meaning.specs.Names.{Schema, columns_of, position, pair_place}
 use Rattle.meaning.specs.Statement.{setting_marks, resolved_where, statement_of}
-use Rattle.statement.specs.declared.Statement.{Statement}
+use Rattle.statement.specs.Compiled.{Compiled}
 use Rattle.statement.specs.Catalog.{schemas_of}
 use Rattle.statement.specs.Compiled.{struct_of, compiled_of}
 use Rattle.statement.specs.Sound.{AgreesCondition}
@@ -21,12 +21,12 @@ pub positions_found : PositionsFound
 unfolding struct_of statement_of
 positions_found text tables used queries updates cells h =
     record {
-      selected = λ cs t w e. subst (λ (r : Statement). take r.query.count r.query.selected ≡ map (position (columns_of ts t)) (items cs)) (sym (is _ e)) (query-agrees ts (G.select cs t w) _ refl).selected_are;
-      asked = λ cs t w e. subst (λ (r : Statement). AgreesCondition r.query.condition (resolved_where (position (columns_of ts t)) 0 (mapped_in comparison w))) (sym (is _ e)) (query-agrees ts (G.select cs t w) _ refl).condition_is;
-      pair_selected = λ cs t u w e. subst (λ (r : Statement). take r.query.count r.query.selected ≡ map (pair_place t (columns_of ts t) u (columns_of ts u)) (items cs)) (sym (is _ e)) (query-agrees ts (G.pair cs t u w) _ refl).selected_are;
-      pair_asked = λ cs t u w e. subst (λ (r : Statement). AgreesCondition r.query.condition (resolved_where (pair_place t (columns_of ts t) u (columns_of ts u)) 0 (mapped_in comparison w))) (sym (is _ e)) (query-agrees ts (G.pair cs t u w) _ refl).condition_is;
-      updated = λ t ss w e. subst (λ (r : Statement). AgreesCondition r.update.condition (resolved_where (position (columns_of ts t)) (setting_marks (items ss)) (mapped_in comparison w))) (sym (is _ e)) (update_agrees ts (G.update t ss w) _ refl).condition_is;
-      deleted = λ t w e. subst (λ (r : Statement). AgreesCondition r.update.condition (resolved_where (position (columns_of ts t)) 0 (mapped_in comparison w))) (sym (is _ e)) (update_agrees ts (G.delete t w) _ refl).condition_is;
+      selected = λ cs t w e. subst (λ (r : Compiled). take r.query.count r.query.selected ≡ map (position (columns_of ts t)) (items cs)) (sym (is _ e)) (query-agrees ts (G.select cs t w) _ refl).selected_are;
+      asked = λ cs t w e. subst (λ (r : Compiled). AgreesCondition r.query.condition (resolved_where (position (columns_of ts t)) 0 (mapped_in comparison w))) (sym (is _ e)) (query-agrees ts (G.select cs t w) _ refl).condition_is;
+      pair_selected = λ cs t u w e. subst (λ (r : Compiled). take r.query.count r.query.selected ≡ map (pair_place t (columns_of ts t) u (columns_of ts u)) (items cs)) (sym (is _ e)) (query-agrees ts (G.pair cs t u w) _ refl).selected_are;
+      pair_asked = λ cs t u w e. subst (λ (r : Compiled). AgreesCondition r.query.condition (resolved_where (pair_place t (columns_of ts t) u (columns_of ts u)) 0 (mapped_in comparison w))) (sym (is _ e)) (query-agrees ts (G.pair cs t u w) _ refl).condition_is;
+      updated = λ t ss w e. subst (λ (r : Compiled). AgreesCondition r.update.condition (resolved_where (position (columns_of ts t)) (setting_marks (items ss)) (mapped_in comparison w))) (sym (is _ e)) (update_agrees ts (G.update t ss w) _ refl).condition_is;
+      deleted = λ t w e. subst (λ (r : Compiled). AgreesCondition r.update.condition (resolved_where (position (columns_of ts t)) 0 (mapped_in comparison w))) (sym (is _ e)) (update_agrees ts (G.delete t w) _ refl).condition_is;
     }
   where
     ts : List Schema

@@ -34,18 +34,6 @@ pub area_small : (n k : ℕ) → n ≤ 255 → k ≤ 65535 → n * k ≤ 1671142
 area_small n k h l = mul-le-mul h l
 
 module _ (t : Table) (start len : ℕ) where
-  pub area-late : len < start → false ≡ area_fits t start len
-  unfolding area_fits
-  area-late h = sym (ap (λ (b : Bool). b && leb t.rows t.capacity) (lt-leb (start + t.count * t.capacity) len (omega arith)))
-
-  pub area-long : start ≤ len → len - start < t.count * t.capacity → false ≡ area_fits t start len
-  unfolding area_fits
-  area-long h k = sym (ap (λ (b : Bool). b && leb t.rows t.capacity) (lt-leb (start + t.count * t.capacity) len (omega arith)))
-
-  pub area-there : start ≤ len → t.count * t.capacity ≤ len - start → leb t.rows t.capacity ≡ area_fits t start len
-  unfolding area_fits
-  area-there h k = sym (ap (λ (b : Bool). b && leb t.rows t.capacity) (le-leb (start + t.count * t.capacity) len (omega arith)))
-
   pub area-inside : area_fits t start len ≡ true → start + t.count * t.capacity ≤ len
   unfolding area_fits
   area-inside e = leb-true (start + t.count * t.capacity) len (and_left (leb (start + t.count * t.capacity) len) (leb t.rows t.capacity) e)
@@ -58,25 +46,9 @@ module _ (u : Update) (t : Table) where
   abbrev pub form_test : Bool
   form_test = leb u.count 8 && form_fits u.form u t
 
-  few-then : (b : Bool) → u.count ≤ 8 → b ≡ form_fits u.form u t → b ≡ form_test
-  few-then b h e = e ∙ sym (ap (λ (x : Bool). x && form_fits u.form u t) (le-leb u.count 8 h))
-
-  other : (k : ℕ) → (k ≡ 0 → ⊥) → true ≡ form_fits k u t
-  other zero h = absurd (h refl)
-  other (suc k) h = refl
-
-  pub form-many : 8 < u.count → false ≡ form_test
-  form-many h = sym (ap (λ (x : Bool). x && form_fits u.form u t) (lt-leb u.count 8 h))
-
   -- a row is free, or a ring has an oldest one
   abbrev pub place_free : Bool
   place_free = ltb t.rows t.capacity || (t.ring && ltb t.oldest t.rows)
-
-  pub form-insert : u.count ≤ 8 → u.form ≡ 0 → (place_free && eqb u.count t.count) ≡ form_test
-  form-insert h e = few-then (place_free && eqb u.count t.count) h (ap (λ (k : ℕ). form_fits k u t) (sym e))
-
-  pub form-other : u.count ≤ 8 → (u.form ≡ 0 → ⊥) → true ≡ form_test
-  form-other h n = few-then true h (other u.form n)
 
   pub few-settings : form_test ≡ true → u.count ≤ 8
   few-settings e = leb-true u.count 8 (and_left (leb u.count 8) (form_fits u.form u t) e)

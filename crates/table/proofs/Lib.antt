@@ -2,7 +2,6 @@ pub mod Copied
 pub mod Assigning
 pub mod Work
 pub mod Round
-pub mod Reversing
 pub mod Updating
 pub mod Deleting
 pub mod Fitting
@@ -17,7 +16,6 @@ pub mod Selecting
 pub mod Firsts
 pub mod Pairing
 pub mod Recording
-pub mod Answered
 pub mod Outer
 pub mod Demand
 pub mod DemandRings

@@ -10,6 +10,7 @@ use borrow.Author.Tests.{eq-eqb, ne_eqb, lt-ltb, le-ltb, le-leb, lt-leb, ltb-tru
 use lib.Dec.{eqb, ltb, leb}
 use lib.ListN.{length, get_or, set, take, drop, replicate, length-take, length-set, length-replicate, get_or-replicate, drop_of_length-le, get_or-eq_default}
 use lib.Seq.{drop-cons, get_or-take, get_or-set_same, get_or-set_other}
+use mir.Val.{bool_byte}
 use Rattle.meaning.specs.Postfix.{top, joined}
 use Rattle.table.specs.Evaluated.{if_so}
 use Rattle.table.specs.Tests.{met, unmet, arrives, Forward}
@@ -192,6 +193,11 @@ module _ (ord : ℕ → ℕ) (four : (i : ℕ) → ord i ≤ 3) where
       (parts_same (leads t) (leads r) C.1.1 (λ i l. turned-before a b (exit_of step) t r len R i (omega arith) l) p)
 
 -- ---- the loop
+
+-- a flag as a number
+pub one-of : (b : Bool) → bool_byte b ≡ if_so b 1
+one-of true = refl
+one-of false = refl
 
 abbrev used_steps : List ℕ → ℕ → List ℕ
 used_steps steps n = take (2 * n - 1) steps
@@ -495,6 +501,14 @@ module _ (steps : List ℕ) (n : ℕ) (t : List ℕ) (n8 : n ≤ 8) where
         subst (λ (l : List ℕ). Linking steps n t l targets' depth' (next + more) (i + 1)) (sym es)
         (subst (λ (m : ℕ). Linking steps n t starts targets' depth' (next + m) (i + 1)) (sym none') (link-joined lt depth' targets' z two ed R))
 
+    -- the same of a step s, which is read from those in use
+    pub link-step : (m s : ℕ) → m ≡ 2 * n - 1 → s ≡ get_or (take m steps) i 0 → i < length (take m steps) → (depth' : ℕ) (starts' targets' : List ℕ) (more : ℕ) → more ≡ bool_byte (eqb s 0)
+        → Links n s next depth starts targets depth' starts' targets' → Linking steps n t starts' targets' depth' (next + more) (i + 1)
+    link-step m s em es h depth' starts' targets' more e K =
+        let l : i < m = omega (arith, length-take m steps) in
+        let q : s ≡ get_or steps i 0 = es ∙ get_or-take m steps i 0 l in
+        link-more (omega arith) depth' starts' targets' more (e ∙ one-of (eqb s 0) ∙ ap (λ (k : ℕ). if_so (eqb k 0) 1) q) (subst (λ (k : ℕ). Links n k next depth starts targets depth' starts' targets') q K)
+
     -- all steps are done
     pub link-done : 2 * n ≤ i + 1 → length steps ≡ 15 → Linked steps n t targets (cond (eqb depth 0) met (get_or starts (depth - 1) 0))
     link-done lt l =
@@ -557,29 +571,39 @@ module _ (a b from : ℕ) (t : List ℕ) (len : length t ≡ 32) (a8 : a ≤ 8) 
       before k h m = sym (ap (λ (x : Bool). cond (x && (ltb k (4 * b) && eqb (get_or t k 0) from)) b (get_or t k 0)) (lt-leb (4 * a) k h))
 
   module _ (r : List ℕ) (j : ℕ) (R : Redirecting a b from t r j) where
-    pub redirect-more : j < 4 * b → (x : ℕ) → x ≡ cond (eqb (get_or r j 0) from) b (get_or r j 0) → Redirecting a b from t (set r j x) (j + 1)
-    redirect-more h x e =
+    here : (x : ℕ) → j < 4 * b → x ≡ cond (eqb (get_or r j 0) from) b (get_or r j 0) → x ≡ redirected_at a b from j (get_or t j 0)
+    here x h e =
+        e ∙ ap (λ (y : ℕ). cond (eqb y from) b y) (R.left j (omega arith))
+        ∙ sym (ap₂ (λ (p q : Bool). cond (p && (q && eqb (get_or t j 0) from)) b (get_or t j 0)) (le-leb (4 * a) j R.from_a) (lt-ltb j (4 * b) h))
+
+    -- the target at j is x, and the others are as they were
+    redirected : (r' : List ℕ) (x : ℕ) → j < 4 * b → length r' ≡ 32 → get_or r' j 0 ≡ x → ((k : ℕ) → k ≢ j → get_or r' k 0 ≡ get_or r k 0)
+        → x ≡ cond (eqb (get_or r j 0) from) b (get_or r j 0) → Redirecting a b from t r' (j + 1)
+    redirected r' x h size is others e =
         record {
-          size = simp length-set R.size;
+          size = size;
           size₀ = len;
           from_a = omega (arith, R.from_a);
           within = omega arith;
           done = λ k l m. go k l m (eqb k j) refl;
-          left = λ k l. get_or-set_other r j k x 0 (λ q. omega arith) ∙ R.left k (omega arith);
+          left = λ k l. others k (λ q. omega arith) ∙ R.left k (omega arith);
         }
       where
-        here : x ≡ redirected_at a b from j (get_or t j 0)
-        here =
-            e ∙ ap (λ (y : ℕ). cond (eqb y from) b y) (R.left j (omega arith))
-            ∙ sym (ap₂ (λ (p q : Bool). cond (p && (q && eqb (get_or t j 0) from)) b (get_or t j 0)) (le-leb (4 * a) j R.from_a) (lt-ltb j (4 * b) h))
-
-        go : (k : ℕ) → k < j + 1 → k < 32 → (y : Bool) → eqb k j ≡ y → get_or (set r j x) k 0 ≡ redirected_at a b from k (get_or t k 0)
+        go : (k : ℕ) → k < j + 1 → k < 32 → (y : Bool) → eqb k j ≡ y → get_or r' k 0 ≡ redirected_at a b from k (get_or t k 0)
         go k l m true f =
             let q : k ≡ j = eqb-true k j f in
-            subst (λ (i : ℕ). get_or (set r j x) i 0 ≡ redirected_at a b from i (get_or t i 0)) (sym q) (get_or-set_same r j x 0 (omega (arith, R.size)) ∙ here)
+            subst (λ (i : ℕ). get_or r' i 0 ≡ redirected_at a b from i (get_or t i 0)) (sym q) (is ∙ here x h e)
         go k l m false f =
             let d : k ≡ j → ⊥ = eqb-false k j f in
-            get_or-set_other r j k x 0 d ∙ R.done k (omega arith) m
+            others k d ∙ R.done k (omega arith) m
+
+    pub redirect-met : j < 4 * b → get_or r j 0 ≡ from → Redirecting a b from t (set r j b) (j + 1)
+    redirect-met h e =
+        redirected (set r j b) b h (simp length-set R.size) (get_or-set_same r j b 0 (omega (arith, R.size))) (λ k d. get_or-set_other r j k b 0 d)
+        (sym (ap (λ (y : Bool). cond y b (get_or r j 0)) (eq-eqb (get_or r j 0) from e)))
+
+    pub redirect-stay : j < 4 * b → get_or r j 0 ≢ from → Redirecting a b from t r (j + 1)
+    redirect-stay h e = redirected r (get_or r j 0) h R.size refl (λ k d. refl) (sym (ap (λ (y : Bool). cond y b (get_or r j 0)) (ne_eqb (get_or r j 0) from e)))
 
     pub redirect-done : 4 * b ≤ j → Redirects a b from t r
     redirect-done h = (R.size ∙ sym len, λ k l. go k (omega (arith, len)) (ltb k j) refl)

@@ -7,8 +7,8 @@ use native.Mathlib.Omega.{arith}
 use borrow.Author.Tests.{ltb-true, ltb-false, eqb-true, eqb-false}
 use lib.Dec.{eqb, ltb}
 use lib.IntN.{ℤ, pos}
-use lib.ListN.{length, get_or, set, length-set, get_or-eq_default}
-use lib.Seq.{get_or-set_same, get_or-set_other}
+use lib.ListN.{length, get_or, set, length-set, get_or-eq_default, take, length-take}
+use lib.Seq.{get_or-set_same, get_or-set_other, get_or-take}
 use Rattle.lists.proofs.Places.{get_or-inside}
 use Rattle.meaning.specs.Condition as C
 use Rattle.meaning.specs.Operator.{Predicate}
@@ -241,6 +241,17 @@ module _ (c : Condition) (vs : List ℤ) (targets places : List ℕ) (numbers : 
         (subst (λ (l : List ℕ). Filled c vs (targets_put targets i (get_or c.comparisons i d).op) l numbers' n (i + 1)) (sym p)
         (subst (λ (l : List ℤ). Filled c vs (targets_put targets i (get_or c.comparisons i d).op) (put places x y) l n (i + 1)) (sym q)
         (fill-next d h)))
+
+    -- the same of a comparison that is read from those in use
+    pub fill_read : (x d : Comparison) (list : List Comparison) (a b : Operand) (targets' places₁ places' : List ℕ) (numbers₁ numbers' : List ℤ) → list ≡ take c.count c.comparisons → n ≡ length list → i < n
+        → x ≡ get_or list i d → a ≡ left_side x → b ≡ right_tested x → targets' ≡ targets_put targets i x.op
+        → places₁ ≡ set places (2 * i) (place_of a) → numbers₁ ≡ set numbers (2 * i) (number_of vs a)
+        → places' ≡ set places₁ (2 * i + 1) (place_of b) → numbers' ≡ set numbers₁ (2 * i + 1) (number_of vs b)
+        → Filled c vs targets' places' numbers' n (i + 1)
+    fill_read x d list a b targets' places₁ places' numbers₁ numbers' el en h ex ea eb et =
+        let k : i < c.count = omega (arith, ap length el, length-take c.count c.comparisons) in
+        let q : x ≡ get_or c.comparisons i d = ex ∙ ap (λ (l : List Comparison). get_or l i d) el ∙ get_or-take c.count c.comparisons i d k in
+        fill_more d a b targets' places₁ places' numbers₁ numbers' h (ea ∙ ap left_side q) (eb ∙ ap right_tested q) (et ∙ ap (λ (y : Comparison). targets_put targets i y.op) q)
 
     -- all are prepared, and then linked
     pub fill_done : n ≤ i → (targets' : List ℕ) (start : ℕ) → Linked c.steps n targets targets' start → Prepared c vs targets' places numbers start

@@ -1,21 +1,23 @@
 -- The rows of a ring, read in two parts: those from the oldest on, and then those before it; and its cells turned so that the oldest lies first. Assumes nothing.
 use Prim.Native.Nat.{ℕ, zero, suc, ◌+◌, ◌-◌, ◌*◌, ◌≤◌, ◌<◌}
 use mathlib.Core.Path.{◌≡◌, refl, sym, ap, ap₂, ◌∙◌, subst}
-use mathlib.Core.Bool.{Bool, true, false}
+use mathlib.Core.Bool.{Bool, true, false, cond}
 use mathlib.Core.List.{List, [], ◌∷◌, ◌++◌, map, append_assoc, append-nil}
 use native.Mathlib.Nat.{zero-mul, suc-mul, add-mul, mul-le-mul_right}
 use native.Mathlib.Omega.{arith}
 use borrow.Author.Tests.{ltb-true, ltb-false}
-use lib.Dec.{ltb}
+use lib.Dec.{ltb, leb}
 use lib.IntN.{ℤ}
-use lib.ListN.{length, take, drop, length-append, length-drop}
-use lib.Seq.{take_at, drop_at, drop-drop, length-take-le}
+use lib.ListN.{length, take, drop, get_or, length-append, length-drop, get_or-append}
+use lib.Seq.{take_at, drop_at, drop-drop, get_or-append-add, length-take-le}
 use Rattle.lists.specs.Lists.{turned, pairs}
 use Rattle.lists.proofs.Turned.{turned_zero, turned-past, length-turned}
 use Rattle.meaning.specs.Meaning.{Row}
 use Rattle.meaning.specs.Cells.{rows_in}
 use Rattle.meaning.proofs.Cells.{rows-length, rows-front}
-use Rattle.table.specs.Evaluated.{if_so}
+use Rattle.statement.specs.declared.Table.{Table}
+use Rattle.table.specs.Evaluated.{if_so, row_cells, rows_used}
+use Rattle.table.specs.Scanned.{place_round}
 use Rattle.table.specs.Changed.{TurnsRows}
 
 -- ---- the rows of an area in two parts
@@ -34,71 +36,53 @@ module _ (c : ℕ) where
       ∙ ap (λ (d : List ℤ). take c l ∷ (rows_in c a (drop c l) ++ rows_in c b d)) (drop-drop (a * c) c l)
       ∙ ap (λ (n : ℕ). take c l ∷ (rows_in c a (drop c l) ++ rows_in c b (drop n l))) q
 
-  -- the rows from place k on, and then the first k
-  pub rows-turned : (k n : ℕ) (l : List ℤ) → k ≤ n → turned k (rows_in c n l) ≡ rows_in c (n - k) (drop (k * c) l) ++ rows_in c k l
-  rows-turned k n l h =
+  -- the rows from place k on, and the first k
+  pub rows-late : (k n : ℕ) (l : List ℤ) → k ≤ n → drop k (rows_in c n l) ≡ rows_in c (n - k) (drop (k * c) l)
+  rows-late k n l h =
       let e : n ≡ k + (n - k) = omega arith in
-      let one : List Row = rows_in c k l in
-      let two : List Row = rows_in c (n - k) (drop (k * c) l) in
-      let p : rows_in c n l ≡ one ++ two = ap (λ (m : ℕ). rows_in c m l) e ∙ rows-parts k (n - k) l in
-      ap (turned k) p ∙ ap₂ (λ (x y : List Row). x ++ y) (drop_at one two k (rows-length c k l)) (take_at one two k (rows-length c k l))
+      ap (drop k) (ap (λ (m : ℕ). rows_in c m l) e ∙ rows-parts k (n - k) l) ∙ drop_at (rows_in c k l) (rows_in c (n - k) (drop (k * c) l)) k (rows-length c k l)
 
--- ---- a scan of two parts: `part` rows from cell `at` on, then `later` ones from cell `from` on
+  pub rows-early : (k n : ℕ) (l : List ℤ) → k ≤ n → take k (rows_in c n l) ≡ rows_in c k l
+  rows-early k n l h =
+      let e : n ≡ k + (n - k) = omega arith in
+      ap (take k) (ap (λ (m : ℕ). rows_in c m l) e ∙ rows-parts k (n - k) l) ∙ take_at (rows_in c k l) (rows_in c (n - k) (drop (k * c) l)) k (rows-length c k l)
 
-module _ (w : ℕ) (cells : List ℤ) (from : ℕ) where
-  abbrev pub round_left : ℕ → ℕ → ℕ → List Row
-  round_left at part later = rows_in w part (drop at cells) ++ rows_in w later (drop from cells)
+  pub rows-turned : (k n : ℕ) (l : List ℤ) → k ≤ n → turned k (rows_in c n l) ≡ rows_in c (n - k) (drop (k * c) l) ++ rows_in c k l
+  rows-turned k n l h = ap₂ (λ (x y : List Row). x ++ y) (rows-late k n l h) (rows-early k n l h)
 
-  -- both lie inside the cells, and there are no more than n
-  pub record RoundIn (n at part later : ℕ) : Type 0 where
-    pub here : at + part * w ≤ length cells
-    pub behind : from + later * w ≤ length cells
-    pub few : part + later ≤ n
+-- ---- a row, from the oldest on
 
-  module _ (n k : ℕ) (room : from + n * w ≤ length cells) (h : k ≤ n) where
-    first-inside : from + k * w + (n - k) * w ≤ length cells
-    first-inside =
-        let m : n ≡ k + (n - k) = omega arith in
-        let e : n * w ≡ k * w + (n - k) * w = ap (λ (i : ℕ). i * w) m ∙ add-mul k (n - k) w in
-        omega (arith, room)
+pub rows_at : (c n i : ℕ) (l : List ℤ) → i < n → get_or (rows_in c n l) i [] ≡ take c (drop (i * c) l)
+rows_at c zero i l h = absurd (omega arith)
+rows_at c (suc n) zero l h = ap (λ (k : ℕ). take c (drop k l)) (sym (zero-mul c))
+rows_at c (suc n) (suc i) l h =
+    let q : c + i * c ≡ suc i * c = omega (arith, suc-mul i c) in
+    rows_at c n i (drop c l) (omega arith) ∙ ap (take c) (drop-drop (i * c) c l) ∙ ap (λ (k : ℕ). take c (drop k l)) q
 
-    pub start-inside : from + k * w ≤ length cells
-    start-inside = omega (arith, first-inside)
+module _ (c k n i : ℕ) (l : List ℤ) (h : k ≤ n) (m : i < n) where
+  abbrev one : List Row
+  one = rows_in c (n - k) (drop (k * c) l)
 
-    pub round-start : RoundIn n (from + k * w) (n - k) k
-    round-start = record { here = first-inside; behind = start-inside; few = omega arith }
+  abbrev two : List Row
+  two = rows_in c k l
 
-    pub round-rows : turned k (rows_in w n (drop from cells)) ≡ round_left (from + k * w) (n - k) k
-    round-rows = rows-turned w k n (drop from cells) h ∙ ap (λ (l : List ℤ). rows_in w (n - k) l ++ rows_in w k (drop from cells)) (drop-drop (k * w) from cells)
-
-  -- after a part: the other one, and none behind it
-  pub round-turn : (n at part later : ℕ) → RoundIn n at part later → RoundIn n from later 0
-  round-turn n at part later R =
-      let z : 0 * w ≡ 0 = zero-mul w in
-      record { here = R.behind; behind = omega (arith, R.behind); few = omega (arith, R.few) }
-
-  pub round-rest : (later : ℕ) → rows_in w later (drop from cells) ≡ round_left from later 0
-  round-rest later = sym (append-nil (rows_in w later (drop from cells)))
-
-  pub round-none : (at part later : ℕ) → part + later ≤ 0 → round_left at part later ≡ []
-  round-none at zero zero h = refl
-  round-none at zero (suc m) h = absurd (omega arith)
-  round-none at (suc k) later h = absurd (omega arith)
-
-  -- each turn takes a part: what is left to take
-  pub round-less : (part later : ℕ) → 1 ≤ part + later → later + 2 * 0 < part + 2 * later
-  round-less part later h = omega arith
-
--- a scan that goes on where a later part is left: each turn takes one, and at the end none is left
-pub more-less : (more : Bool) (later : ℕ) → more ≡ true → 0 + if_so (ltb 0 later) 1 < later + if_so more 1
-more-less more later e = subst (λ (b : Bool). 0 + if_so (ltb 0 later) 1 < later + if_so b 1) (sym e) (go (ltb 0 later) refl)
-  where
-    go : (b : Bool) → ltb 0 later ≡ b → 0 + if_so b 1 < later + 1
-    go true t = omega (arith, ltb-true 0 later t)
-    go false f = omega arith
-
-pub more-none : (later : ℕ) → ltb 0 later ≡ false → later + 0 ≤ 0
-more-none later e = omega (arith, ltb-false 0 later e)
+  pub row-round : get_or (turned k (rows_in c n l)) i [] ≡ take c (drop (place_round n k i * c) l)
+  row-round = ap (λ (rs : List Row). get_or rs i []) (rows-turned c k n l h) ∙ go (ltb (k + i) n) refl
+    where
+      go : (b : Bool) → ltb (k + i) n ≡ b → get_or (one ++ two) i [] ≡ take c (drop (cond b (k + i) (k + i - n) * c) l)
+      go true e =
+          let j : i < n - k = omega (arith, ltb-true (k + i) n e) in
+          let t : i < length one = omega (arith, rows-length c (n - k) (drop (k * c) l)) in
+          get_or-append one two [] i t
+          ∙ rows_at c (n - k) i (drop (k * c) l) j
+          ∙ ap (take c) (drop-drop (i * c) (k * c) l)
+          ∙ ap (λ (x : ℕ). take c (drop x l)) (sym (add-mul k i c))
+      go false e =
+          let g : n ≤ k + i = ltb-false (k + i) n e in
+          let r : i ≡ length one + (k + i - n) = omega (arith, rows-length c (n - k) (drop (k * c) l)) in
+          ap (λ (x : ℕ). get_or (one ++ two) x []) r
+          ∙ get_or-append-add one two (k + i - n) []
+          ∙ rows_at c k (k + i - n) l (omega arith)
 
 -- pairs with the rows of two parts
 pub pairs-append : {A : Type 0} (xs ys ds : List (List A)) → pairs (xs ++ ys) ds ≡ pairs xs ds ++ pairs ys ds
@@ -109,13 +93,6 @@ pairs-append {A} (x ∷ xs) ys ds =
 -- ---- the place of the oldest row, past the rows the first one
 
 module _ (k n : ℕ) where
-  pub clamped-in : if_so (ltb k n) k ≤ n
-  clamped-in = go (ltb k n) refl
-    where
-      go : (b : Bool) → ltb k n ≡ b → if_so b k ≤ n
-      go true e = omega (arith, ltb-true k n e)
-      go false e = omega arith
-
   pub clamped-turned : {A : Type 0} (l : List A) → length l ≡ n → turned (if_so (ltb k n) k) l ≡ turned k l
   clamped-turned {A} l e = go (ltb k n) refl
     where
@@ -123,13 +100,20 @@ module _ (k n : ℕ) where
       go true t = refl
       go false f = turned_zero l ∙ sym (turned-past k l (omega (arith, ltb-false k n f)))
 
--- ---- cells turned
+-- ---- the rows of a table, in the cells from its area on
 
--- a part from the first cell on is as long as it says
-pub part-inside : (m k : ℕ) (l : List ℤ) → k ≤ m → m ≤ length l → k ≤ length (take (m - 0) (drop 0 l))
-part-inside m k l h room =
-    let e : m - 0 ≡ m = omega arith in
-    omega (arith, ap (λ (i : ℕ). length (take i l)) e ∙ length-take-le m l room)
+module _ (t : Table) (start : ℕ) (cells : List ℤ) where
+  pub used-from : leb (start + row_cells t) (length cells) ≡ true → (l : List ℤ) (k : ℕ) → l ≡ drop start cells → k ≡ if_so (ltb t.oldest t.rows) t.oldest
+      → turned k (rows_in t.count t.rows l) ≡ rows_used t start cells
+  used-from h l k el ek =
+      ap₂ (λ (i : ℕ) (m : List ℤ). turned i (rows_in t.count t.rows m)) ek el
+      ∙ clamped-turned t.oldest t.rows (rows_in t.count t.rows (drop start cells)) (rows-length t.count t.rows (drop start cells))
+      ∙ sym (ap (λ (b : Bool). cond b (turned t.oldest (rows_in t.count t.rows (drop start cells))) []) h)
+
+  pub used-none : leb (start + row_cells t) (length cells) ≡ false → [] ≡ rows_used t start cells
+  used-none h = sym (ap (λ (b : Bool). cond b (turned t.oldest (rows_in t.count t.rows (drop start cells))) []) h)
+
+-- ---- cells turned
 
 -- an area of n whole rows turned by k rows of cells holds its rows from place k on, round
 rows-turn : (c k n : ℕ) (l : List ℤ) → k ≤ n → length l ≡ n * c → rows_in c n (turned (k * c) l) ≡ turned k (rows_in c n l)
@@ -152,31 +136,22 @@ rows-turn c k n l h e =
     ∙ sym (rows-turned c k n l h)
 
 module _ (c used k : ℕ) (area : List ℤ) where
-  -- where the oldest lies first, or no row there is the oldest, nothing is to be done
-  pub turns-none : k ≡ 0 → TurnsRows c used k area area
-  turns-none e = record { same = refl; rows_are = sym (turned_zero (rows_in c used area)) ∙ ap (λ (i : ℕ). turned i (rows_in c used area)) (sym e); rest_is = refl }
-
   pub turns-past : used ≤ k → TurnsRows c used k area area
   turns-past h = record { same = refl; rows_are = sym (turned-past k (rows_in c used area) (omega (arith, rows-length c used area))); rest_is = refl }
 
   -- the cells of the rows in use, turned in their place
-  pub turns-rows : k ≤ used → used * c ≤ length area → (z : List ℤ) → z ≡ turned (k * c) (take (used * c - 0) (drop 0 area))
-      → TurnsRows c used k area (take 0 area ++ (z ++ drop (used * c - 0) (drop 0 area)))
-  turns-rows h room z e =
-      let n : used * c - 0 ≡ used * c = omega arith in
+  pub turns-rows : k ≤ used → used * c ≤ length area → (z : List ℤ) → z ≡ turned (k * c) (take (used * c) area) → TurnsRows c used k area (z ++ drop (used * c) area)
+  turns-rows h room z is =
       let front : List ℤ = take (used * c) area in
       let rest : List ℤ = drop (used * c) area in
-      let is : z ≡ turned (k * c) front = e ∙ ap (λ (i : ℕ). turned (k * c) (take i area)) n in
       let size : length front ≡ used * c = length-take-le (used * c) area room in
       let long : length z ≡ used * c = ap length is ∙ length-turned (k * c) front ∙ size in
-      let all : take 0 area ++ (z ++ drop (used * c - 0) (drop 0 area)) ≡ z ++ rest = ap (λ (i : ℕ). z ++ drop i area) n in
       let le : used * c ≤ used * c = omega arith in
       record {
-        same = ap length all ∙ length-append z rest ∙ omega (arith, long, length-drop (used * c) area);
-        rows_are = ap (rows_in c used) all
-            ∙ sym (rows-front c used (used * c) (z ++ rest) le)
+        same = length-append z rest ∙ omega (arith, long, length-drop (used * c) area);
+        rows_are = sym (rows-front c used (used * c) (z ++ rest) le)
             ∙ ap (rows_in c used) (take_at z rest (used * c) long ∙ is)
             ∙ rows-turn c k used front h size
             ∙ ap (turned k) (rows-front c used (used * c) area le);
-        rest_is = ap (drop (used * c)) all ∙ drop_at z rest (used * c) long;
+        rest_is = drop_at z rest (used * c) long;
       }

@@ -105,9 +105,6 @@ cells_after u t start cells vs =
 
 -- ---- the cells of a ring turned, so that its oldest row lies first
 
-abbrev pub swapped : ℕ → ℕ → List ℤ → List ℤ
-swapped i j l = set (set l i (get_or l j (pos 0))) j (get_or l i (pos 0))
-
 -- the rows of an area turned by k rows, other cells as they were
 pub record TurnsRows (columns used k : ℕ) (area area' : List ℤ) : Type 0 where
   pub same : length area' ≡ length area

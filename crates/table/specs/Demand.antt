@@ -18,20 +18,20 @@ use Rattle.meaning.specs.Tokens.{Name}
 use Rattle.answer.specs.Answer.{put}
 use Rattle.statement.specs.declared.Condition.{Condition}
 use Rattle.statement.specs.declared.Query.{Query}
-use Rattle.statement.specs.declared.Statement.{Statement}
+use Rattle.statement.specs.Compiled.{Compiled}
 use Rattle.statement.specs.declared.Table.{Table}
 use Rattle.statement.specs.declared.Update.{Update}
 use Rattle.statement.specs.Catalog.{schemas_of}
 use Rattle.statement.specs.Compiled.{compiled_of}
 use Rattle.statement.specs.Sound.{AgreesCondition, AgreesQuery, AgreesUpdate}
-use Rattle.table.specs.Evaluated.{row_cells, rows_used, answer_stored, record_stored, selected_in, passes_stored, pairs_used, pair_says, pair_leaves}
+use Rattle.table.specs.Evaluated.{Said, row_cells, rows_used, answer_stored, record_stored, selected_in, passes_stored, pairs_used, pair_says, pair_leaves}
 use Rattle.table.specs.Tests.{longest, passes, Prepared}
+use Rattle.table.specs.Scanned.{place_round}
 use Rattle.table.specs.Changed.{is_full_ring, fits, rows_before, change_of, cells_after}
 use Rattle.table.specs.declared.changes.Changed.{Changed}
-use Rattle.table.specs.declared.listing.Selected.{Selected}
 
 -- what `select` promises: its result, and the buffer
-abbrev pub says : Query → Table → ℕ → List ℤ → List ℤ → List ℕ → Selected
+abbrev pub says : Query → Table → ℕ → List ℤ → List ℤ → List ℕ → Said
 says q t start cells vs out = selected_in out (rows_used t start cells) (record_stored q vs (rows_used t start cells))
 
 abbrev pub leaves : Query → Table → ℕ → List ℤ → List ℤ → List ℕ → List ℕ
@@ -67,7 +67,7 @@ RowsRead = (q : Query) (t : Table) (start : ℕ) (cells vs : List ℤ) (out : Li
 -- ---- Request A.3: "the position of each operand's column is to be found before the first row is tested, once a question"
 
 -- of what a text compiles to beside these tables: the selected columns are the places of their names among the table's columns, and so are all columns of the WHERE
-pub record Positions (ts : List Schema) (text : List ℕ) (r : Statement) : Type 0 where
+pub record Positions (ts : List Schema) (text : List ℕ) (r : Compiled) : Type 0 where
   pub selected : (cs : Listed Name) (t : Name) (w : Optional (Test Name)) → sentence text ≡ some (G.select cs t w)
       → take r.query.count r.query.selected ≡ map (position (columns_of ts t)) (items cs)
   pub asked : (cs : Listed Name) (t : Name) (w : Optional (Test Name)) → sentence text ≡ some (G.select cs t w)
@@ -144,10 +144,6 @@ PairTestMeans = (c : Condition) (vs : List ℤ) (targets places : List ℕ) (num
     → passes targets places numbers start (row ++ other) ≡ meets_where w vs (row ++ other)
 
 -- ---- Request A.4: "Rows still read oldest first, wherever the first row lies in the area"
-
--- the place of the row i behind place k of n, round
-abbrev pub place_round : ℕ → ℕ → ℕ → ℕ
-place_round n k i = cond (ltb (k + i) n) (k + i) (k + i - n)
 
 -- row i read is the one that many places behind the oldest, and round; there is no other row
 abbrev pub ReadsOldestFirst : Type 0

@@ -15,14 +15,13 @@ use Rattle.meaning.specs.Record.{body, encode}
 use Rattle.answer.specs.Answer.{put}
 use Rattle.statement.specs.declared.Query.{Query}
 use Rattle.statement.specs.declared.Table.{Table}
-use Rattle.statement.specs.declared.Statement.{Statement}
+use Rattle.statement.specs.Compiled.{Compiled}
 use Rattle.statement.specs.Compiled.{name_struct, update_struct, struct_of, compiled_of}
 use Rattle.statement.specs.Sound.{condition_nodes}
 use Rattle.table.specs.Changed.{laid, oldest_after, count_after, area_fits, fits, changed_of, change_of, cells_after, oldest_row, removal_of}
-use Rattle.table.specs.Evaluated.{meets_stored, passes_stored, rows_used, answer_stored, record_stored, selected_in, pairs_used, paired_in, pair_says, pair_leaves}
+use Rattle.table.specs.Evaluated.{Said, meets_stored, passes_stored, rows_used, answer_stored, record_stored, selected_in, pairs_used, paired_in, pair_says, pair_leaves}
 use Rattle.table.specs.Tests.{next_at, passes}
 use Rattle.table.specs.declared.changes.Changed.{Changed}
-use Rattle.table.specs.declared.listing.Selected.{Selected}
 
 -- what the computations open
 computing : Unit {0}
@@ -36,7 +35,7 @@ t = record { name = name_struct (bytes "t"); columns = map name_struct (bytes "a
 abbrev cells : List ℤ
 cells = pos 7 ∷ pos 120 ∷ pos 8 ∷ null ∷ pos 5 ∷ pos 6 ∷ []
 
-abbrev compiled : String → Statement
+abbrev compiled : String → Compiled
 compiled text = compiled_of (bytes text) (t ∷ []) 1 0 0 6
 
 -- the rows that a question lists
@@ -48,7 +47,7 @@ abbrev changed : String → List ℤ
 changed text = cells_after (compiled text).update t 0 cells []
 
 -- what `select` says where the buffer has so many bytes
-abbrev said : String → ℕ → Selected
+abbrev said : String → ℕ → Said
 said text n = selected_in (replicate n 0) (rows_used t 0 cells) (record_stored (compiled text).query [] (rows_used t 0 cells))
 
 -- A.5: -2147483648 "is the null of ISO/IEC 9075": not below another number, and equal to no number, not to itself either
@@ -158,7 +157,7 @@ abbrev pair_listed : Table → Table → String → List Row
 pair_listed s v text = answer_stored (paired text) [] (pairs_used (paired text) [] s 0 v 6 both_cells)
 
 -- what `select_pair` says where the buffer has so many bytes, and what it leaves
-abbrev pair_said : Table → Table → String → ℕ → Selected
+abbrev pair_said : Table → Table → String → ℕ → Said
 pair_said s v text n = pair_says (paired text) s 0 v 6 both_cells [] (replicate n 9)
 
 -- "Rows come in the first table's order, and for each in the second's."
@@ -257,7 +256,7 @@ filled = pos 1 ∷ pos 10 ∷ pos 2 ∷ pos 20 ∷ pos 3 ∷ pos 30 ∷ []
 abbrev wrapped : List ℤ
 wrapped = pos 4 ∷ pos 40 ∷ pos 2 ∷ pos 20 ∷ pos 3 ∷ pos 30 ∷ []
 
-abbrev of_ring : String → Statement
+abbrev of_ring : String → Compiled
 of_ring text = compiled_of (bytes text) (recent 3 0 ∷ []) 1 0 0 6
 
 -- the cells after an update of a full ring whose oldest row lies there, what it counts, and where the oldest lies then

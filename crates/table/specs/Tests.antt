@@ -13,7 +13,6 @@ use Rattle.statement.specs.Compiled.{left_side, right_side}
 use Rattle.statement.specs.Operators.{predicate_at, is_null_test, order_of}
 use Rattle.statement.specs.Sound.{operand_read, AgreesCondition}
 use Rattle.table.specs.Evaluated.{meets_stored, passes_stored}
-use Rattle.table.specs.declared.rows.Test.{Test}
 
 -- ---- the sides of a comparison
 
@@ -84,9 +83,6 @@ TestsRow targets places numbers start row r = (c : Condition) (vs : List ℤ) �
     → (r ≡ meets_stored c vs row) × ((w : Where M.Operand) → AgreesCondition c w → r ≡ meets_where w vs row)
 
 -- ---- A.6: the test of a row of the first table
-
-abbrev pub passes_by : Test → Row → Bool
-passes_by t = passes t.targets t.places t.numbers t.start
 
 -- the steps of comparisons that are joined by AND, each with those before it: of the first one, and of n further ones
 abbrev pub and_steps : ℕ → List ℕ

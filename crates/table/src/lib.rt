@@ -2,10 +2,11 @@
 // What lies above names this crate alone.
 #![tactic(auto)]
 
+mod area; // the rows of a table in the cells
 mod changes; // rows inserted, updated, deleted
 mod listing; // questions: the rows listed, written as a record
 mod pairs; // questions over two tables: the pairs of rows listed
-mod rows; // the test of a row, and the rows of a table
+mod rows; // the test of a row
 
 pub use answer::{row, row_refusal};
 pub use changes::{Changed, change, removal};

@@ -1,43 +1,25 @@
 // The test of a row: a condition prepared once a question as numbers alone, and then run for each row from comparison to comparison, up to the first that decides.
-ghost use Rattle.std.specs.Prelude.{◌≡◌, cond, ◌+◌, ◌-◌, ◌*◌, ◌≤◌, ◌<◌, min, leb, eqb, pos, length, get_or, set, replicate};
+ghost use Rattle.std.specs.Prelude.{◌≡◌, cond, ◌+◌, ◌-◌, ◌*◌, ◌≤◌, ◌<◌, eqb, pos, length, take, get_or, set, replicate};
 ghost use Rattle.statement.specs.Operators.{order_of};
-ghost use Rattle.table.specs.Evaluated.{if_so};
 ghost use Rattle.table.specs.Tests.{met, unmet, right_tested, place_of, number_of, next_at, passes, Forward, Prepared, TestsRow};
 ghost use Rattle.table.specs.Linking.{exit as exit_to, targets_put, entry_of, Redirects, Links, Starts, Unlinked, Linked};
 
 use statement::{Comparison, Condition, Operand, Order, Step};
+use std::cmp::Ordering;
 
-// How many entries of an array of `most` a count says are in use.
-pub fn used(count: u8, most: usize) -> usize
-    ensures { result ≡ min count most }
+// The number at a place; past the end, that other one.
+pub fn number_or(numbers: &[i32], i: usize, other: i32) -> i32
+    ensures { result ≡ get_or numbers.now i other }
 {
-    let n = count as usize;
-    if n < most { n } else { most }
+    if i < numbers.len() { numbers[i] } else { other }
 }
 
-// n, or 0.
-pub fn if_so(b: bool, n: usize) -> usize
-    ensures { result ≡ if_so b n }
+// The entries of an array that a count says are in use.
+pub fn used<T, const N: usize>(entries: &[T; N], count: u8) -> &[T]
+    ensures used { result.now ≡ take count entries.now }
+    ensures all { length entries.now ≡ N }
 {
-    if b { n } else { 0 }
-}
-
-// Whether so many cells lie inside an array of `size`, from a place on.
-pub fn is_inside(size: usize, start: usize, cells: usize) -> bool
-    ensures { result ≡ leb (start + cells) size }
-{
-    if size < cells {
-        return false;
-    }
-    start <= size - cells
-}
-
-// The number at a position; 0 past the end.
-pub fn number_at(numbers: &[i32], i: u8) -> i32
-    ensures { result ≡ get_or numbers.now i (pos 0) }
-{
-    let k = i as usize;
-    if k < numbers.len() { numbers[k] } else { 0 }
+    &entries[..usize::from(count).min(N)]
 }
 
 // ---- prepared, once a question: numbers alone
@@ -47,22 +29,11 @@ pub fn number_at(numbers: &[i32], i: u8) -> i32
 // UNMET.
 #[derive(Clone, Copy)]
 pub struct Test {
-    pub targets: [u8; Test::TARGETS],
-    pub places: [u16; Test::SIDES],
-    pub numbers: [i32; Test::SIDES],
-    pub start: usize,
-}
-
-impl Test {
-    // Two sides and four targets a comparison.
-    pub const SIDES: usize = 2 * Condition::COMPARISONS;
-
-    pub const TARGETS: usize = 4 * Condition::COMPARISONS;
-
-    // Behind the comparisons: the row meets the condition, or does not.
-    pub const MET: u8 = Condition::COMPARISONS as u8;
-
-    pub const UNMET: u8 = Test::MET + 1;
+    targets: [u8; Test::TARGETS],
+    places: [u16; Test::SIDES],
+    numbers: [i32; Test::SIDES],
+    start: u8,
+    ghost forward: { Forward targets },
 }
 
 // A side: a place in the row, and what it is where the row has no such place.
@@ -73,7 +44,7 @@ struct Side {
 }
 
 impl Side {
-    // The place of a side that is no column: no row reaches it.
+    // The place of a side that is no column: no row reaches it. A number, so that the test of a row asks one thing of a side, whether the row reaches it.
     const FIXED: u16 = 65535;
 }
 
@@ -82,10 +53,9 @@ fn side_of(o: Operand, values: &[i32]) -> Side
     ensures number { result.number ≡ number_of values.now o }
 {
     if o.code % 2 == 1 {
-        let number = number_at(values, o.code / 2);
         return Side {
             place: Side::FIXED,
-            number,
+            number: number_or(values, usize::from(o.code / 2), 0),
         };
     }
     if o.code == 0 {
@@ -95,7 +65,7 @@ fn side_of(o: Operand, values: &[i32]) -> Side
         };
     }
     Side {
-        place: (o.code / 2 - 1) as u16,
+        place: u16::from(o.code / 2 - 1),
         number: 0,
     }
 }
@@ -130,9 +100,8 @@ fn put_side(
     ensures number { numbers.new ≡ set numbers.old j (number_of values.now o) }
 {
     let side = side_of(o, values);
-    let number = side.number;
     places[j] = side.place;
-    numbers[j] = number;
+    numbers[j] = side.number;
 }
 
 // Arrays to begin with, made in functions of their own: a loop's goals would print every entry.
@@ -171,25 +140,25 @@ fn right_tested(c: Comparison) -> Operand
 }
 
 // The test of a condition's rows with the question marks' values filled in.
-pub fn prepare(condition: Condition, values: &[i32]) -> Test
-    ensures { Prepared condition values.now result.targets result.places result.numbers result.start }
+pub fn prepare(condition: &Condition, values: &[i32]) -> Test
+    ensures { Prepared condition.now values.now result.targets result.places result.numbers result.start }
 {
-    let steps = condition.steps;
-    let count = used(condition.count, Condition::COMPARISONS);
+    let list = used(&condition.comparisons, condition.count);
     let mut targets = no_targets();
     let mut places = no_places();
     let mut numbers = no_numbers();
-    let mut i: usize = 0;
-    while i < count {
-        let c = condition.comparisons[i];
-        let left = c.left_side();
-        let right = right_tested(c);
+    for (i, c) in list.iter().enumerate() {
         put_targets(&mut targets, i, c.op);
-        put_side(&mut places, &mut numbers, 2 * i, left, values);
-        put_side(&mut places, &mut numbers, 2 * i + 1, right, values);
-        i += 1;
+        put_side(&mut places, &mut numbers, 2 * i, c.left_side(), values);
+        put_side(
+            &mut places,
+            &mut numbers,
+            2 * i + 1,
+            right_tested(*c),
+            values,
+        );
     }
-    let start = link(&mut targets, steps, count);
+    let start = link(&mut targets, &condition.steps, list.len());
     Test {
         targets,
         places,
@@ -208,22 +177,15 @@ fn entry_of(next: usize, n: usize) -> u8
     if next < n { next as u8 } else { Test::MET }
 }
 
-fn redirected(target: u8, from: u8, to: u8) -> u8
-    ensures { result ≡ cond (eqb target from) to target }
-{
-    if target == from { to } else { target }
-}
-
 // Leads the comparisons from a up to b on to b where they led to `from`.
 fn redirect(targets: &mut [u8; Test::TARGETS], a: u8, b: u8, from: u8)
     requires { (a ≤ 8) × (b ≤ 8) × (length targets.old ≡ 32) }
     ensures { Redirects a b from targets.old targets.new }
 {
-    let end = 4 * (b as usize);
-    let mut j = 4 * (a as usize);
-    while j < end {
-        targets[j] = redirected(targets[j], from, b);
-        j += 1;
+    for j in 4 * usize::from(a)..4 * usize::from(b) {
+        if targets[j] == from {
+            targets[j] = b;
+        }
     }
 }
 
@@ -253,96 +215,89 @@ fn link_step(
 }
 
 // Where the part on top begins; where there is none, an absent WHERE is met.
-fn start_of(starts: [u8; Condition::STEPS], depth: usize) -> usize
+fn start_of(starts: &[u8; Condition::STEPS], depth: usize) -> u8
     requires { depth ≤ 15 }
-    ensures { result ≡ cond (eqb depth 0) 8 (get_or starts (depth - 1) 0) }
+    ensures { result ≡ cond (eqb depth 0) 8 (get_or starts.now (depth - 1) 0) }
 {
     if depth == 0 {
-        return Test::MET as usize;
+        Test::MET
+    } else {
+        starts[depth - 1]
     }
-    starts[depth - 1] as usize
 }
 
 // Joins n comparisons by the steps of their condition. Gives where to begin.
-fn link(targets: &mut [u8; Test::TARGETS], steps: [u8; Condition::STEPS], n: usize) -> usize
+fn link(targets: &mut [u8; Test::TARGETS], steps: &[u8; Condition::STEPS], n: usize) -> u8
     requires { (n ≤ 8) × Unlinked targets.old }
-    ensures { Linked steps n targets.old targets.new result }
+    ensures { Linked steps.now n targets.old targets.new result }
 {
     let mut starts = no_starts();
     let mut depth: usize = 0;
     let mut next: usize = 0;
-    let mut i: usize = 0;
-    while i + 1 < 2 * n {
-        let step = steps[i];
-        depth = link_step(targets, &mut starts, depth, next, n, step);
-        next += if_so(step == Step::COMPARISON, 1);
-        i += 1;
+    for step in steps[..(2 * n).saturating_sub(1)].iter() {
+        depth = link_step(targets, &mut starts, depth, next, n, *step);
+        next += usize::from(*step == Step::COMPARISON);
     }
-    start_of(starts, depth)
+    start_of(&starts, depth)
 }
 
 // ---- a row
-
-// The cell at a place, or that number where the row ends before it.
-fn cell_or(row: &[i32], place: u16, number: i32) -> i32
-    ensures { result ≡ get_or row.now place number }
-{
-    let k = place as usize;
-    if k < row.len() { row[k] } else { number }
-}
 
 // How two numbers stand: `Order`. The null is the least number, so one of two is null exactly if the lesser one is.
 fn order(a: i32, b: i32) -> usize
     ensures order { result ≡ order_of a b }
     ensures few { result ≤ 3 }
 {
-    if a == b {
-        if a == Operand::NULL {
-            return Order::UNKNOWN as usize;
+    if a.min(b) == Operand::NULL {
+        return usize::from(Order::UNKNOWN);
+    }
+    match a.cmp(&b) {
+        Ordering::Less => usize::from(Order::LESS),
+        Ordering::Equal => usize::from(Order::EQUAL),
+        Ordering::Greater => usize::from(Order::GREATER),
+    }
+}
+
+impl Test {
+    // Two sides and four targets a comparison.
+    const SIDES: usize = 2 * Condition::COMPARISONS;
+
+    const TARGETS: usize = 4 * Condition::COMPARISONS;
+
+    // Behind the comparisons: the row meets the condition, or does not. Numbers beside those of the comparisons, so that a target is one byte.
+    const MET: u8 = Condition::COMPARISONS as u8;
+
+    const UNMET: u8 = Test::MET + 1;
+
+    // A side of the comparisons, of a row.
+    fn side(&self, row: &[i32], j: usize) -> i32
+        requires { j < 16 }
+        ensures { result ≡ get_or row.now (get_or self.now.places j 0) (get_or self.now.numbers j (pos 0)) }
+    {
+        number_or(row, usize::from(self.places[j]), self.numbers[j])
+    }
+
+    // Where comparison i leads for a row.
+    fn next(&self, row: &[i32], i: u8) -> u8
+        requires { i < 8 }
+        ensures { result ≡ next_at self.now.targets self.now.places self.now.numbers row.now i }
+    {
+        let k = i as usize;
+        let a = self.side(row, 2 * k);
+        let b = self.side(row, 2 * k + 1);
+        self.targets[4 * k + order(a, b)]
+    }
+
+    // Whether a row meets the condition that was prepared. It is given cells, numbers and positions, no name or text.
+    pub fn meets(&self, row: &[i32]) -> bool
+        ensures test { result ≡ passes self.now.targets self.now.places self.now.numbers self.now.start row.now }
+        ensures means { TestsRow self.now.targets self.now.places self.now.numbers self.now.start row.now result }
+    {
+        let mut i = self.start;
+        // A `while`: where to go on is looked up, and comparisons are passed over.
+        while i < Test::MET {
+            i = self.next(row, i);
         }
-        return Order::EQUAL as usize;
+        i == Test::MET
     }
-    let least = if a < b { a } else { b };
-    if least == Operand::NULL {
-        return Order::UNKNOWN as usize;
-    }
-    if a < b {
-        return Order::LESS as usize;
-    }
-    Order::GREATER as usize
-}
-
-// Where comparison i leads for a row.
-fn next_of(
-    i: usize,
-    targets: &[u8; Test::TARGETS],
-    places: &[u16; Test::SIDES],
-    numbers: &[i32; Test::SIDES],
-    row: &[i32],
-) -> u8
-    requires { i < 8 }
-    ensures { result ≡ next_at targets.now places.now numbers.now row.now i }
-{
-    let a = cell_or(row, places[2 * i], numbers[2 * i]);
-    let b = cell_or(row, places[2 * i + 1], numbers[2 * i + 1]);
-    targets[4 * i + order(a, b)]
-}
-
-// Whether a row meets a condition that was prepared. It is given cells, numbers and positions, no name or text.
-pub fn meets(
-    targets: &[u8; Test::TARGETS],
-    places: &[u16; Test::SIDES],
-    numbers: &[i32; Test::SIDES],
-    start: usize,
-    row: &[i32],
-) -> bool
-    requires { Forward targets.now }
-    ensures test { result ≡ passes targets.now places.now numbers.now start row.now }
-    ensures means { TestsRow targets.now places.now numbers.now start row.now result }
-{
-    let mut i = start;
-    while i < (Test::MET as usize) {
-        i = next_of(i, targets, places, numbers, row) as usize;
-    }
-    i == (Test::MET as usize)
 }

@@ -1,7 +1,7 @@
 -- What `next` finds, for its callers: the tokens of a text from a position on are its token and those from the token's end on. Assumes nothing.
 use mathlib.Core.Path.{◌≡◌, refl, sym, ap, ap₂, subst, ◌∙◌}
 use mathlib.Core.Logic.{◌≢◌}
-use mathlib.Core.Bool.{Bool, true, false, cond, not}
+use mathlib.Core.Bool.{Bool, true, false, cond}
 use mathlib.Core.Option.{Option, none, some}
 use mathlib.Core.List.{List, [], ◌∷◌}
 use Prim.Native.Nat.{ℕ, ◌+◌, ◌-◌, ◌≤◌, ◌<◌}
@@ -9,24 +9,24 @@ use Prim.Native.String.{String}
 use native.Mathlib.Nat.{le_refl, le_trans}
 use native.Mathlib.Omega.{arith}
 use native.Mathlib.Decide.{dec_le}
-use borrow.Author.Tests.{eqb-false, not-true}
 use lib.Dec.{eqb}
 use lib.IntN.{ℤ, pos, neg_ℤ}
 use lib.ListN.{length, take, drop, drop_of_length-le, length-drop}
 use lib.Seq.{drop-drop}
 use Rattle.lists.specs.Lists.{bytes, all, take_while, drop_while}
 use Rattle.lists.specs.Tests.{eq_list}
-use Rattle.lists.proofs.Bools.{and_left, and_right}
+use Rattle.lists.proofs.Bools.{and_left, and_right, clash}
 use Rattle.lists.proofs.Runs.{take-yes, drop-yes, drop-short, drop-twice, take-run, drop-run, run_length}
 use Rattle.meaning.specs.Tokens as M
-use Rattle.meaning.specs.Tokens.{Name, keyword, name, constant, other, is_digit, is_word_byte, is_space, is_minus, is_name, folded, decimal, Keyword, keywords, keyword_or, is_keyword, word, negative, signs, behind_prefix, sign_in, token_from, token_here, first_token, tokens}
+use Rattle.meaning.specs.Tokens.{keyword, name, constant, other, is_digit, is_word_byte, is_space, is_minus, is_name, folded, decimal, Keyword, keywords, keyword_or, is_keyword, word, negative, signs, behind_prefix, sign_in, token_from, token_here, first_token, tokens}
 use Rattle.meaning.proofs.Readers.{some-none, some_same}
 use Rattle.meaning.proofs.Stream.{from-word, from-minus, from-sign, sign-here, sign-later, first-shorter, first-spaces, tokens_none, tokens-some}
 use Rattle.token.specs.declared.Token.{Token}
-use Rattle.token.specs.Tokens.{kind_of, value_of, token_of, token_at}
+use Rattle.token.specs.declared.Kind.TheVariants.{End, Name}
+use Rattle.token.specs.Tokens.{kind_of, token_of, token_at}
 use Rattle.token.proofs.Words.{keyword-or}
 use Rattle.token.proofs.Cases.{none_is, some_is, past_end}
-use Rattle.token.proofs.TokenKinds.{kind-some, kind-name}
+use Rattle.token.proofs.TokenKinds.{is_fixed, kind-some, kind-name}
 
 -- ---- what a token leaves is an end of the text
 
@@ -89,21 +89,24 @@ here-ending (b ∷ u) x e = subst (λ (y : M.Token × List ℕ). Ending (b ∷ u
 -- ---- a name's bytes
 
 -- only a word that is a name has a name's kind
-keyword-no-name : (xs : List (String × Keyword)) (w : List ℕ) → kind_of (keyword_or xs other w) ≢ 2
-keyword-no-name [] w e = omega arith
+constant-no-name : (z : ℤ) → kind_of (constant z) ≢ Name
+constant-no-name z e = never (kind-name (constant z) e)
+  where
+    never : (n : M.Name) × (constant z ≡ name n) → ⊥
+    never (n, q) = cc
+
+keyword-no-name : (xs : List (String × Keyword)) (w : List ℕ) → kind_of (keyword_or xs other w) ≢ Name
+keyword-no-name [] w e = cc
 keyword-no-name (x ∷ xs) w e = go (eq_list eqb w (bytes x.0)) e (keyword-no-name xs w)
   where
-    go : (b : Bool) → kind_of (cond b (keyword x.1) (keyword_or xs other w)) ≡ 2 → kind_of (keyword_or xs other w) ≢ 2 → ⊥
-    go true q ih = omega arith
+    never : (k : Keyword) → (n : M.Name) × (keyword k ≡ name n) → ⊥
+    never k (n, q) = cc
+
+    go : (b : Bool) → kind_of (cond b (keyword x.1) (keyword_or xs other w)) ≡ Name → kind_of (keyword_or xs other w) ≢ Name → ⊥
+    go true q ih = never x.1 (kind-name (keyword x.1) q)
     go false q ih = ih q
 
-constant-no-name : (z : ℤ) → kind_of (constant z) ≢ 2
-constant-no-name z e = constant-name z (kind-name (constant z) e)
-  where
-    constant-name : (z : ℤ) → (n : Name) × (constant z ≡ name n) → ⊥
-    constant-name z (n, q) = let r : ◌≡◌ {A = ℕ} 0 1 = cc in omega arith
-
-word-name : (w : List ℕ) → kind_of (word w) ≡ 2 → word w ≡ name (folded w)
+word-name : (w : List ℕ) → kind_of (word w) ≡ Name → word w ≡ name (folded w)
 unfolding word
 word-name w e = by ∙ go (all is_digit w) (is_keyword w) (is_name (folded w)) (sym (ap kind_of by) ∙ e)
   where
@@ -114,40 +117,39 @@ word-name w e = by ∙ go (all is_digit w) (is_keyword w) (is_name (folded w)) (
     by : word w ≡ token (all is_digit w) (is_keyword w) (is_name (folded w))
     by = ap (cond (all is_digit w) (constant (pos (decimal w)))) (keyword-or keywords _ w)
 
-    go : (d k n : Bool) → kind_of (token d k n) ≡ 2 → token d k n ≡ name (folded w)
+    go : (d k n : Bool) → kind_of (token d k n) ≡ Name → token d k n ≡ name (folded w)
     go true k n q = absurd (constant-no-name (pos (decimal w)) q)
     go false true n q = absurd (keyword-no-name keywords w q)
     go false false true q = refl
-    go false false false q = absurd (omega arith)
+    go false false false q = cc
 
-negative-no-name : (w : List ℕ) → kind_of (negative w) ≢ 2
+negative-no-name : (w : List ℕ) → kind_of (negative w) ≢ Name
 unfolding negative
-negative-no-name [] e = omega arith
+negative-no-name [] e = cc
 negative-no-name (b ∷ w) e = go (all is_digit (b ∷ w)) e
   where
-    go : (d : Bool) → kind_of (cond d (constant (neg_ℤ (pos (decimal (b ∷ w))))) other) ≡ 2 → ⊥
+    go : (d : Bool) → kind_of (cond d (constant (neg_ℤ (pos (decimal (b ∷ w))))) other) ≡ Name → ⊥
     go true q = constant-no-name (neg_ℤ (pos (decimal (b ∷ w)))) q
-    go false q = omega arith
+    go false q = cc
 
 -- no sign of a table has a name's kind
 abbrev is_plain : String × M.Token → Bool
-is_plain x = not (eqb (kind_of x.1) 2)
+is_plain x = is_fixed (kind_of x.1)
 
-sign-no-name : (xs : List (String × M.Token)) (b : ℕ) (u : List ℕ) → all is_plain xs ≡ true → kind_of (sign_in xs b u).0 ≢ 2
-sign-no-name [] b u h e = omega arith
+sign-no-name : (xs : List (String × M.Token)) (b : ℕ) (u : List ℕ) → all is_plain xs ≡ true → kind_of (sign_in xs b u).0 ≢ Name
+sign-no-name [] b u h e = cc
 sign-no-name (x ∷ xs) b u h e = go (behind_prefix (bytes x.0) (b ∷ u)) refl (sign-no-name xs b u (and_right (is_plain x) (all is_plain xs) h))
   where
-    go : (o : Option (List ℕ)) → behind_prefix (bytes x.0) (b ∷ u) ≡ o → kind_of (sign_in xs b u).0 ≢ 2 → ⊥
+    go : (o : Option (List ℕ)) → behind_prefix (bytes x.0) (b ∷ u) ≡ o → kind_of (sign_in xs b u).0 ≢ Name → ⊥
     go none q ih = ih (sym (ap (λ (y : M.Token × List ℕ). kind_of y.0) (sign-later x xs b u q)) ∙ e)
     go (some left) q ih =
-        eqb-false (kind_of x.1) 2 (not-true (eqb (kind_of x.1) 2) (and_left (is_plain x) (all is_plain xs) h))
-        (sym (ap (λ (y : M.Token × List ℕ). kind_of y.0) (sign-here x xs b u left q)) ∙ e)
+        clash (and_left (is_plain x) (all is_plain xs) h) (ap is_fixed (sym (ap (λ (y : M.Token × List ℕ). kind_of y.0) (sign-here x xs b u left q)) ∙ e))
 
 -- a name is the run of word bytes from its first byte on, in small letters
-name-run : (b : ℕ) (u : List ℕ) → kind_of (token_from b u).0 ≡ 2 → token_from b u ≡ (name (folded (take_while is_word_byte (b ∷ u))), drop_while is_word_byte (b ∷ u))
+name-run : (b : ℕ) (u : List ℕ) → kind_of (token_from b u).0 ≡ Name → token_from b u ≡ (name (folded (take_while is_word_byte (b ∷ u))), drop_while is_word_byte (b ∷ u))
 name-run b u k = go (is_word_byte b) (is_minus b) refl refl
   where
-    kinds : (x : M.Token × List ℕ) → token_from b u ≡ x → kind_of x.0 ≡ 2
+    kinds : (x : M.Token × List ℕ) → token_from b u ≡ x → kind_of x.0 ≡ Name
     kinds x e = sym (ap (λ (y : M.Token × List ℕ). kind_of y.0) e) ∙ k
 
     go : (w m : Bool) → is_word_byte b ≡ w → is_minus b ≡ m → token_from b u ≡ (name (folded (take_while is_word_byte (b ∷ u))), drop_while is_word_byte (b ∷ u))
@@ -159,7 +161,7 @@ name-run b u k = go (is_word_byte b) (is_minus b) refl refl
     go false false e f = absurd (sign-no-name signs b u refl (kinds (sign_in signs b u) (from-sign b u e f)))
 
 -- its bytes are those from its start up to its end
-name-bytes : (u : List ℕ) (x : M.Token × List ℕ) → token_here u ≡ some x → kind_of x.0 ≡ 2 → x.0 ≡ name (folded (take (length u - length x.1) u))
+name-bytes : (u : List ℕ) (x : M.Token × List ℕ) → token_here u ≡ some x → kind_of x.0 ≡ Name → x.0 ≡ name (folded (take (length u - length x.1) u))
 name-bytes [] x e k = some-none (sym e)
 name-bytes (b ∷ u) x e k =
     let v = b ∷ u in
@@ -210,7 +212,7 @@ module _ (s : List ℕ) (at : ℕ) (x : M.Token × List ℕ) (e : first_token (d
       let d = drop-short is_space (drop at s) in
       omega (arith, length-drop at s)
 
-  name-here : kind_of x.0 ≡ 2 → x.0 ≡ name (folded (take (next - start) (drop start s)))
+  name-here : kind_of x.0 ≡ Name → x.0 ≡ name (folded (take (next - start) (drop start s)))
   unfolding first_token
   name-here k =
       let d = drop-short is_space (drop at s) in
@@ -222,7 +224,6 @@ module _ (s : List ℕ) (at : ℕ) (x : M.Token × List ℕ) (e : first_token (d
 pub record Reads (s : List ℕ) (at : ℕ) (r : Token) : Type 0 where
   pub token : M.Token
   pub kind : kind_of token ≡ r.kind
-  pub value : value_of token ≡ r.value
   -- it is the first of the tokens that are left, and the others are those from its end on
   pub left : tokens (drop at s) ≡ token ∷ tokens (drop r.next s)
   pub from : at ≤ r.start
@@ -230,7 +231,7 @@ pub record Reads (s : List ℕ) (at : ℕ) (r : Token) : Type 0 where
   pub inside : r.next ≤ length s
   -- it starts at `start`, and ends before `next`
   pub here : first_token (drop r.start s) ≡ some (token, drop r.next s)
-  pub named : r.kind ≡ 2 → token ≡ name (folded (take (r.next - r.start) (drop r.start s)))
+  pub named : r.kind ≡ Name → token ≡ name (folded (take (r.next - r.start) (drop r.start s)))
 
 module _ (s : List ℕ) (at : ℕ) where
   reads_at : (x : M.Token × List ℕ) → first_token (drop at s) ≡ some x → Reads s at (token_at s at)
@@ -242,7 +243,6 @@ module _ (s : List ℕ) (at : ℕ) where
       (record {
         token = x.0;
         kind = refl;
-        value = refl;
         left = tokens-some (drop at s) x.0 x.1 e ∙ ap (λ u. x.0 ∷ tokens u) l;
         from = o.0;
         moves = o.1;
@@ -253,26 +253,26 @@ module _ (s : List ℕ) (at : ℕ) where
 
   -- ---- for callers: the end of the text, and a token
 
-  -- the kind 0 says that no token is left
-  pub token_end : (token_at s at).kind ≡ 0 → tokens (drop at s) ≡ []
+  -- the kind `End` says that no token is left
+  pub token_end : (token_at s at).kind ≡ End → tokens (drop at s) ≡ []
   token_end k = go (first_token (drop at s)) refl
     where
       go : (o : Option (M.Token × List ℕ)) → first_token (drop at s) ≡ o → tokens (drop at s) ≡ []
       go none e = tokens_none (drop at s) e
       go (some x) e = absurd (kind-some (reads_at x e).token ((reads_at x e).kind ∙ k))
 
-  pub token-ended : tokens (drop at s) ≡ [] → (token_at s at).kind ≡ 0
+  pub token-ended : tokens (drop at s) ≡ [] → (token_at s at).kind ≡ End
   token-ended k = go (first_token (drop at s)) refl
     where
-      go : (o : Option (M.Token × List ℕ)) → first_token (drop at s) ≡ o → (token_at s at).kind ≡ 0
+      go : (o : Option (M.Token × List ℕ)) → first_token (drop at s) ≡ o → (token_at s at).kind ≡ End
       go none e = ap (λ (r : Token). r.kind) (none_is s at e)
       go (some x) e = absurd (never (sym k ∙ (reads_at x e).left))
         where
           never : {t : M.Token} {ts : List M.Token} → [] ≡ t ∷ ts → ⊥
-          never q = let r : ◌≡◌ {A = ℕ} 0 1 = cc in omega arith
+          never q = cc
 
   -- any other kind is that of the first token
-  pub token-some : (token_at s at).kind ≢ 0 → Reads s at (token_at s at)
+  pub token-some : (token_at s at).kind ≢ End → Reads s at (token_at s at)
   token-some k = go (first_token (drop at s)) refl
     where
       go : (o : Option (M.Token × List ℕ)) → first_token (drop at s) ≡ o → Reads s at (token_at s at)

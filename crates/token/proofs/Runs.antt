@@ -1,12 +1,15 @@
--- The length of a run that starts at a position of a list, one byte after another. Assumes nothing.
-use mathlib.Core.Path.{◌≡◌, refl, ap, ◌∙◌}
+-- The length of a run, by the first byte that does not belong to it. Assumes nothing.
+use mathlib.Core.Path.{◌≡◌, refl, sym, ap, ◌∙◌}
 use mathlib.Core.Bool.{Bool, true, false}
-use mathlib.Core.List.{List, [], ◌∷◌}
+use mathlib.Core.List.{List, ◌∷◌}
 use Prim.Native.Nat.{ℕ, suc, ◌+◌, ◌≤◌, ◌<◌}
 use native.Mathlib.Numerals.{add-one}
-use native.Mathlib.Omega.{arith}
 use lib.ListN.{length, get_or, drop, drop_of_length-le}
 use lib.Seq.{drop-cons}
+use Rattle.std.specs.List.{AllWithin, HoldsAt}
+use Rattle.std.specs.Prelude.{Option}
+use Rattle.std.specs.Option.{MatchOption, unwrap_or}
+use Rattle.std.proofs.lemmas.Iterator.{index_from_first}
 use Rattle.lists.specs.Lists.{take_while}
 use Rattle.lists.proofs.Runs.{take-yes, take_no}
 
@@ -14,9 +17,20 @@ use Rattle.lists.proofs.Runs.{take-yes, take_no}
 pub drop_here : (s : List ℕ) (i : ℕ) → i < length s → drop i s ≡ get_or s i 0 ∷ drop (i + 1) s
 drop_here s i h = rw (add-one i) (drop-cons s i 0 h)
 
-pub length-zero : (u : List ℕ) → length u ≡ 0 → u ≡ []
-length-zero [] h = refl
-length-zero (b ∷ u) h = absurd (omega arith)
+pub run-first : (p : ℕ → Bool) (s : List ℕ) (r : Option ℕ)
+    → MatchOption r (AllWithin (λ b. p b ≡ true) s 0 (length s)) (λ i. (i < length s) × HoldsAt (λ b. p b ≡ false) s i × AllWithin (λ b. p b ≡ true) s 0 i)
+    → length (take_while p s) ≡ unwrap_or r (length s)
+run-first p s r h =
+    index_from_first
+    (λ u. length (take_while p u))
+    (λ b. p b ≡ false)
+    (λ b. p b ≡ true)
+    refl
+    (λ b u e. ap length (take_no p b u e))
+    (λ b u e. ap length (take-yes p b u e) ∙ sym (add-one (length (take_while p u))))
+    s
+    r
+    h
 
 module _ (p : ℕ → Bool) (s : List ℕ) (i : ℕ) where
   pub count-end : length s ≤ i → length (take_while p (drop i s)) ≡ 0

@@ -3,39 +3,40 @@ use Rattle.std.specs.Prelude.{◌≡◌, refl, List, [], ◌∷◌, map, pos, ne
 use Prim.Native.String.{String}
 use Rattle.lists.specs.Lists.{bytes}
 use Rattle.meaning.specs.Tokens.{is_name_byte, is_word_byte, folded_byte, decimal, is_name, word, negative, token_from, first_token}
+use Rattle.token.specs.declared.Kind.TheVariants.{End, Other, Name, Constant, Big, Ne, Lt, Table, Not, Dot, Ring, Is, Null}
 use Rattle.token.specs.declared.Token.{Token}
 use Rattle.token.specs.Tokens.{made, token_of, token_at}
 
--- a text, and its first token: kind, value, start and next
+-- a text, and its first token: kind, start and next
 abbrev table : List (String × Token)
 table =
-    ("  ", made 0 (pos 0) 2 2)
-    ∷ (" a_1<>", made 2 (pos 0) 1 4)
-    ∷ ("aB ", made 2 (pos 0) 0 2)
-    ∷ ("Table", made 2 (pos 0) 0 5)
-    ∷ ("TABLE", made 15 (pos 0) 0 5)
-    ∷ ("RING 3", made 30 (pos 0) 0 4)
-    ∷ ("ring", made 2 (pos 0) 0 4)
-    ∷ ("Ring", made 2 (pos 0) 0 4)
-    ∷ ("RINGS", made 2 (pos 0) 0 5)
-    ∷ ("IS NULL", made 31 (pos 0) 0 2)
-    ∷ (" NULL", made 32 (pos 0) 1 5)
-    ∷ ("Is", made 2 (pos 0) 0 2)
-    ∷ ("null", made 2 (pos 0) 0 4)
-    ∷ ("ISNULL", made 2 (pos 0) 0 6)
-    ∷ ("ROWS3", made 2 (pos 0) 0 5)
-    ∷ ("_A", made 1 (pos 0) 0 2)
-    ∷ ("1A", made 1 (pos 0) 0 2)
-    ∷ ("007)", made 3 (pos 7) 0 3)
-    ∷ ("2147483648", made 4 (pos 0) 0 10)
-    ∷ ("-2147483648", made 3 (neg_ℤ (pos 2147483648)) 0 11)
-    ∷ ("- 1", made 1 (pos 0) 0 1)
-    ∷ ("<>1", made 10 (pos 0) 0 2)
-    ∷ ("<", made 11 (pos 0) 0 1)
-    ∷ ("NOT(", made 28 (pos 0) 0 3)
-    ∷ ("WHEREVER", made 2 (pos 0) 0 8)
-    ∷ (" .a", made 29 (pos 0) 1 2)
-    ∷ ("a.b", made 2 (pos 0) 0 1)
+    ("  ", made End 2 2)
+    ∷ (" a_1<>", made Name 1 4)
+    ∷ ("aB ", made Name 0 2)
+    ∷ ("Table", made Name 0 5)
+    ∷ ("TABLE", made Table 0 5)
+    ∷ ("RING 3", made Ring 0 4)
+    ∷ ("ring", made Name 0 4)
+    ∷ ("Ring", made Name 0 4)
+    ∷ ("RINGS", made Name 0 5)
+    ∷ ("IS NULL", made Is 0 2)
+    ∷ (" NULL", made Null 1 5)
+    ∷ ("Is", made Name 0 2)
+    ∷ ("null", made Name 0 4)
+    ∷ ("ISNULL", made Name 0 6)
+    ∷ ("ROWS3", made Name 0 5)
+    ∷ ("_A", made Other 0 2)
+    ∷ ("1A", made Other 0 2)
+    ∷ ("007)", made (Constant (pos 7)) 0 3)
+    ∷ ("2147483648", made Big 0 10)
+    ∷ ("-2147483648", made (Constant (neg_ℤ (pos 2147483648))) 0 11)
+    ∷ ("- 1", made Other 0 1)
+    ∷ ("<>1", made Ne 0 2)
+    ∷ ("<", made Lt 0 1)
+    ∷ ("NOT(", made Not 0 3)
+    ∷ ("WHEREVER", made Name 0 8)
+    ∷ (" .a", made Dot 1 2)
+    ∷ ("a.b", made Name 0 1)
     ∷ []
 
 pub examples : map (λ (x : String × Token). token_at (bytes x.0) 0) table ≡ map (λ (x : String × Token). x.1) table

@@ -1,14 +1,12 @@
--- What the private functions find: runs, words, signs. Assumes nothing: these are definitions.
-use Rattle.std.specs.Prelude.{Bool, true, false, cond, ◌&&◌, List, [], ◌∷◌, ℕ, ◌+◌, ◌-◌, ◌*◌, eqb, ℤ, pos, neg_ℤ, length, get_or, take, drop}
-use Prim.Native.String.{String}
-use Rattle.lists.specs.Lists.{bytes}
-use Rattle.meaning.specs.Tokens.{Keyword, keyword, is_digit, is_word_byte, is_space, token_from}
+-- What the private functions find. Assumes nothing: these are definitions.
+use Rattle.std.specs.Prelude.{Bool, true, false, ◌&&◌, cond, List, [], ◌∷◌, ℕ, ◌+◌, ◌-◌, eqb, ℤ, pos, neg_ℤ, length, get_or, take, drop}
+use Rattle.lists.specs.Lists.{all}
+use Rattle.meaning.specs.Tokens as M
+use Rattle.meaning.specs.Tokens.{name, other, is_digit, is_name, folded, keywords, keyword_or, token_from}
+use Rattle.token.specs.declared.Kind.{Kind}
+use Rattle.token.specs.declared.Kind.TheVariants.{Other, Mark, Comma, Open, Close, Eq, Ne, Lt, Le, Gt, Ge, Dot}
 use Rattle.token.specs.declared.Token.{Token}
-use Rattle.token.specs.Tokens.{kind_of, token_of}
-
--- the byte b belongs to a run of the kind k: spaces, digits, the bytes of words
-abbrev pub passes : ℕ → ℕ → Bool
-passes k b = cond (eqb k 0) (is_space b) (cond (eqb k 1) (is_digit b) (is_word_byte b))
+use Rattle.token.specs.Tokens.{token_of}
 
 -- the bytes of s from `at` up to `end`
 abbrev pub part : List ℕ → ℕ → ℕ → List ℕ
@@ -19,33 +17,33 @@ abbrev pub signed : Bool → ℕ → ℤ
 signed true n = neg_ℤ (pos n)
 signed false n = pos n
 
--- the bytes of a word as one number, in base 256
-abbrev pub packed_on : ℕ → List ℕ → ℕ
-packed_on n [] = n
-packed_on n (b ∷ w) = packed_on (n * 256 + b) w
+-- digits, one or more
+abbrev pub is_number : List ℕ → Bool
+is_number [] = false
+is_number (b ∷ w) = all is_digit (b ∷ w)
 
-abbrev pub packed_of : List ℕ → ℕ
-packed_of w = packed_on 0 w
+-- a name, if the word is one
+abbrev pub name_of : List ℕ → M.Token
+name_of w = cond (is_name (folded w)) (name (folded w)) other
 
--- the kind of the keyword that has n bytes and the number w; 1 is none of them
-abbrev pub kind_among : List (String × Keyword) → ℕ → ℕ → ℕ
-kind_among [] n w = 1
-kind_among (x ∷ xs) n w = cond (eqb n (length (bytes x.0)) && eqb w (packed_of (bytes x.0))) (kind_of (keyword x.1)) (kind_among xs n w)
+-- the token of a word that is not of digits
+abbrev pub keyword_or_name_of : List ℕ → M.Token
+keyword_or_name_of w = keyword_or keywords (name_of w) w
 
--- the kind of a sign of two bytes, the byte b and then n, and of a sign of one byte; 1 is neither
-abbrev pub pair_of : ℕ → ℕ → ℕ
-pair_of b n = cond (eqb 62 n && eqb 60 b) 10 (cond (eqb 61 n && eqb 60 b) 12 (cond (eqb 61 n && eqb 62 b) 14 1))
-
-abbrev pub single_of : ℕ → ℕ
-single_of b =
-    cond (eqb 61 b) 9
-    (cond (eqb 60 b) 11
-    (cond (eqb 62 b) 13
-    (cond (eqb 63 b) 5
-    (cond (eqb 44 b) 6
-    (cond (eqb 40 b) 7
-    (cond (eqb 41 b) 8
-    (cond (eqb 46 b) 29 1)))))))
+-- the kind and the length of the sign that the byte b begins, before the byte n
+abbrev pub sign_of : ℕ → ℕ → Kind × ℕ
+sign_of b n =
+    cond (eqb 62 n && eqb 60 b) (Ne, 2)
+    (cond (eqb 61 n && eqb 60 b) (Le, 2)
+    (cond (eqb 61 n && eqb 62 b) (Ge, 2)
+    (cond (eqb 61 b) (Eq, 1)
+    (cond (eqb 60 b) (Lt, 1)
+    (cond (eqb 62 b) (Gt, 1)
+    (cond (eqb 63 b) (Mark, 1)
+    (cond (eqb 44 b) (Comma, 1)
+    (cond (eqb 40 b) (Open, 1)
+    (cond (eqb 41 b) (Close, 1)
+    (cond (eqb 46 b) (Dot, 1) (Other, 1)))))))))))
 
 -- the token at a position that holds no space
 unfoldable pub read_at : List ℕ → ℕ → Token

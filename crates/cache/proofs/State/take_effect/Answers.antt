@@ -1,0 +1,20 @@
+-- Refused, or the promises of the calls put into two laws. Assumes nothing.
+use mathlib.Core.Path.{sym, ◌∙◌}
+use Rattle.cache.proofs.Given.{is-refused, is-taken}
+use Rattle.cache.proofs.Settled.{settled-refused}
+use Rattle.cache.proofs.UpdateReturns.{effect-done, cells-done}
+use Rattle.cache.proofs.State.take_effect.Goals as goal
+
+pub returns-then-is_err : goal.returns-then-is_err
+returns-then-is_err c = record { effect = settled-refused _ _ _ (is-refused c.args.taken (sym c.is_err.ensures.value ∙ c.if-is_err.true)); cells = settled-refused _ _ _ (is-refused c.args.taken (sym c.is_err.ensures.value ∙ c.if-is_err.true)) }
+
+pub dropped_by-gone-requires : goal.dropped_by-gone-requires
+dropped_by-gone-requires c = let K = c.requires (is-taken c.args.taken (sym c.is_err.ensures.value ∙ c.if-is_err.false)) in (K.0, K.1)
+
+pub returns : goal.returns
+returns c =
+    let z = (is-taken c.args.taken (sym c.is_err.ensures.value ∙ c.if-is_err.false)) in
+    let es = c.areas-start.ensures in
+    let done = c.change-done.ensures in
+    let e = effect-done _ _ _ _ _ _ _ _ _ _ z _ es _ _ _ c.dropped_by-gone.ensures c.drop.ensures done.counted in
+    record { effect = e; cells = cells-done _ _ _ _ _ z _ _ es _ done.cells }

@@ -1,0 +1,31 @@
+-- `respond_ask` meets its contract: refused or answered; the record lies in the answer buffer. Assumes nothing.
+use mathlib.Core.Path.{refl, sym, ap, ◌∙◌}
+use native.Mathlib.Omega.{arith}
+use lib.ListN.{length-take}
+use Rattle.cache.specs.Calls.{asks}
+use Rattle.cache.specs.Given.{asked_as}
+use Rattle.cache.specs.Run.{ask}
+use Rattle.cache.proofs.Given.{numbered}
+use Rattle.console.proofs.Calling.{call-refused, call-done, ask-is, answer-inside}
+use Rattle.console.proofs.respond_ask.Goals as goal
+
+pub returns-in-Err : goal.returns-in-Err
+returns-in-Err c =
+    let e = sym (ap (λ r. asks (asked_as r c.ask-outcome.result.state) c.ask-outcome.new.memory c.ask-outcome.new.answer) c.in-Err.is) ∙ c.ask-outcome.ensures in
+    call-refused _ _ _ _ _ (ask _ _ _) _ (ask-is _ _ _ _ _ _ _ e) _ _ (numbered c.in-Err.refusal) (c.write_refused-length.ensures.result, c.write_refused-length.ensures.text)
+
+pub slice_bounds-record-end : goal.slice_bounds-record-end
+slice_bounds-record-end c =
+    let e = sym (ap (λ r. asks (asked_as r c.ask-outcome.result.state) c.ask-outcome.new.memory c.ask-outcome.new.answer) c.in-Ok.is) ∙ c.ask-outcome.ensures in
+    answer-inside _ _ _ _ _ _ _ e
+
+pub slice_bounds-record-end-in-Ok : goal.slice_bounds-record-end-in-Ok
+slice_bounds-record-end-in-Ok c =
+    let e = sym (ap (λ r. asks (asked_as r c.ask-outcome.result.state) c.ask-outcome.new.memory c.ask-outcome.new.answer) c.in-Ok.is) ∙ c.ask-outcome.ensures in
+    let inside = answer-inside _ _ _ _ _ _ _ e in
+    omega (arith, inside, length-take c.in-Ok.asked.length c.ask-outcome.new.answer)
+
+pub returns-in-Ok : goal.returns-in-Ok
+returns-in-Ok c =
+    let e = sym (ap (λ r. asks (asked_as r c.ask-outcome.result.state) c.ask-outcome.new.memory c.ask-outcome.new.answer) c.in-Ok.is) ∙ c.ask-outcome.ensures in
+    call-done _ _ _ _ _ (ask _ _ _) _ (ask-is _ _ _ _ _ _ _ e) _ _ refl (c.write_answer-length.ensures.result, c.write_answer-length.ensures.text)

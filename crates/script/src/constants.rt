@@ -1,0 +1,83 @@
+// The constants of a line.
+ghost use Rattle.std.specs.Prelude.{◌≡◌, drop, IfOk};
+ghost use Rattle.std.specs.Iterator.{YieldsFirst, item_count};
+ghost use Rattle.script.specs.Script.{number_at, constants_of};
+
+use std::alloc::{AllocError, Global};
+use token::Kind;
+
+// The constants of a text from a place on, up to the first token that is none.
+#[derive(Clone, Copy)]
+pub struct Constants<'a> {
+    text: &'a [u8],
+    at: usize,
+}
+
+impl<'a> Constants<'a> {
+    ghost use Rattle.script.specs.Script.{constants_left, constants_of};
+
+    pub fn new(text: &'a [u8]) -> Self
+        ensures { constants_left result ≡ constants_of text.now }
+    {
+        Constants { text, at: 0 }
+    }
+}
+
+impl Iterator for Constants<'_> {
+    ghost use Rattle.script.specs.Script.{constants_left};
+
+    type Item = i32;
+
+    ghost next_gives = { YieldsFirst constants_left };
+
+    ghost remaining = { item_count constants_left };
+
+    fn next(&mut self) -> Option<i32> {
+        let t = token::next(self.text, self.at);
+        let Kind::Constant(value) = t.kind else {
+            return None;
+        };
+        self.at = t.next;
+        Some(value)
+    }
+}
+
+// Number i; 0 where there is none or it is negative.
+pub fn number(numbers: &[i32], i: usize) -> usize
+    ensures { result ≡ number_at numbers.now i }
+{
+    numbers
+        .get(i)
+        .and_then(|z| usize::try_from(*z).ok())
+        .unwrap_or(0)
+}
+
+// The number at the start of a text, 0 where there is none or it is negative, and the constants behind it.
+pub fn numbered(alloc: Global, text: &[u8]) -> Result<(usize, Vec<i32>), AllocError>
+    ensures number { IfOk result (λ r. r.0 ≡ number_at (constants_of text.now) 0) }
+    ensures values { IfOk result (λ r. r.1.items ≡ drop 1 (constants_of text.now)) }
+{
+    let mut constants = Constants::new(text);
+    let number = match constants.next() {
+        Some(z) => usize::try_from(z).unwrap_or(0),
+        None => 0,
+    };
+    Ok((number, constants.collect(alloc)?))
+}
+
+#[cfg(test)]
+mod tests {
+    use super::numbered;
+
+    // Memory is there, so the values are.
+    #[test]
+    fn reads_a_number_and_its_values(rt: HostRuntime) {
+        match numbered(rt.alloc(), b"7 -1 20 x 3") {
+            Ok((number, values)) => {
+                assert_eq!(rt; number, 7);
+                assert!(rt; values.as_slice() == [-1, 20].as_slice(), "values");
+            }
+            Err(_) => assert!(rt; false, "no memory"),
+        }
+    }
+}

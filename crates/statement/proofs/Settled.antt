@@ -1,0 +1,23 @@
+-- A call that is not taken, by its refusal. Assumes nothing.
+use Rattle.std.proofs.Common.{◌≡◌, ◌∙◌, refl, ap, ℕ, Option, Some, None, Result, Ok, Err, ok_or}
+use Rattle.std.specs.Result.{IsErrAnd}
+use Rattle.statement.specs.declared.Refusal.{Refusal}
+use Rattle.statement.specs.declared.Refusal.TheVariants.{Opening, Unknown}
+use Rattle.statement.specs.declared.Statement.{Statement}
+use Rattle.statement.specs.Refusals.{number_of}
+use Rattle.statement.specs.Compiled.{Compiled, compiled, refused_by, settled}
+
+settled-by : (r : Refusal) (done : Compiled) → refused_by (number_of r) ≡ settled (number_of r) done
+settled-by Opening done = refl
+settled-by _ done = refl
+
+-- what the exit of a `?` returns
+pub refused-is : (x : Result Statement Refusal) (r : Refusal) (done : Compiled) → IsErrAnd x (λ (y : Refusal). y ≡ r) → compiled x ≡ settled (number_of r) done
+refused-is (Ok s) r done h = absurd h
+refused-is (Err y) r done h = ap (λ (z : Refusal). refused_by (number_of z)) h ∙ settled-by r done
+
+-- that of a table which is not there
+pub unknown-is : (o : Option ℕ) (x : Result Statement Refusal) (r : Refusal) → Err r ≡ ok_or o Unknown → IsErrAnd x (λ (y : Refusal). y ≡ r) → (o ≡ None) × (compiled x ≡ refused_by 6)
+unknown-is (Some i) x r e h = absurd (cc)
+unknown-is None (Ok s) r e h = absurd h
+unknown-is None (Err y) r e h = let k : r ≡ Unknown = cc in (refl, ap (λ (z : Refusal). refused_by (number_of z)) (h ∙ k))

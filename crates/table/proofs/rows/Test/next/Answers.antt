@@ -1,0 +1,16 @@
+-- The sides, and how they stand.
+use Rattle.std.proofs.Common.{◌≡◌, ℕ, ◌+◌, ◌*◌, get_or, ap, ap₂, ◌∙◌, rules}
+use mir.Syntax.{w32}
+use mir.Val.{to_z, of_z}
+use Rattle.statement.specs.Operators.{order_of}
+use Rattle.table.specs.Tests.{next_at, side_at}
+use Rattle.table.proofs.rows.Test.next.Goals as goal
+
+pub returns : goal.returns
+unfolding next_at
+returns c =
+    let t = c.args.self.now in
+    let i = c.args.i in
+    let ea : to_z w32 (of_z w32 c.side-a.result) ≡ side_at t.places t.numbers c.args.row.now (2 * i) = search rules ∙ c.side-a.ensures in
+    let eb : to_z w32 (of_z w32 c.side-b.result) ≡ side_at t.places t.numbers c.args.row.now (2 * i + 1) = search rules ∙ c.side-b.ensures in
+    ap (λ (k : ℕ). get_or t.targets (4 * i + k) 0) (c.order.ensures.order ∙ ap₂ order_of ea eb)
