@@ -5,22 +5,15 @@ use mathlib.Core.List.{List, ◌∷◌, ◌++◌}
 use Prim.Native.Nat.{ℕ, ◌+◌, ◌*◌, ◌≤◌}
 use native.Mathlib.Nat.{mul_comm}
 use native.Mathlib.Omega.{arith}
-use lib.IntN.{ℤ}
 use lib.ListN.{length, drop}
 use Rattle.lists.specs.Lists.{All, flat, written}
 use Rattle.lists.proofs.Places.{flat-length}
-use Rattle.lists.proofs.Written.{written-append}
 use Rattle.meaning.specs.Demand.{ReadsBack, IsRow}
 use Rattle.meaning.specs.Limits.{most_items, most_listed}
 use Rattle.meaning.specs.Meaning.{Row}
-use Rattle.meaning.specs.Record.{bits_of, bytes4, bytes2, number_bytes, body, encode}
+use Rattle.meaning.specs.Record.{bytes4, bytes2, number_bytes, body, encode}
 use Rattle.meaning.proofs.Record.{numbers-length, encode-length, record_reads_back}
 use Rattle.answer.specs.Answer.{record_length, header}
-
--- a value written, and then more values behind it
-pub values-more : (out : List ℕ) (at : ℕ) (z : ℤ) (zs : List ℤ) → at + 4 ≤ length out
-    → written (written out at (bytes4 (bits_of z))) (at + 4) (number_bytes zs) ≡ written out at (number_bytes (z ∷ zs))
-values-more out at z zs h = written-append out at (bytes4 (bits_of z)) h (number_bytes zs)
 
 module _ (columns : ℕ) (rows : List Row) (wide : All (λ r. length r ≡ columns) rows) where
   values-are : length (flat rows) ≡ columns * length rows

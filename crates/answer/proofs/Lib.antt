@@ -1,5 +1,4 @@
 -- What the proofs of several functions use, and the laws for callers.
-pub mod Signed
 pub mod Records
 pub mod Buffers
 pub mod Laws

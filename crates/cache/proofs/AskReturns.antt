@@ -2,8 +2,7 @@
 use mathlib.Core.Path.{◌≡◌, refl, sym, ap, ap₂, subst, ◌∙◌}
 use mathlib.Core.Bool.{Bool, true, false, ◌&&◌, and-false}
 use mathlib.Core.List.{List}
-use Prim.Native.Nat.{ℕ, ◌*◌, ◌%◌, ◌≤◌, ◌<◌}
-use native.Mathlib.Nat.{mod-eq_of_lt}
+use Prim.Native.Nat.{ℕ, ◌*◌, ◌≤◌, ◌<◌}
 use native.Mathlib.Omega.{arith}
 use borrow.Author.Tests.{leb-false, le-leb, lt-ltb, ltb-false, le-ltb}
 use Rattle.std.proofs.lemmas.Bool.{lt-leb}
@@ -14,12 +13,8 @@ use lib.ListN.{length, take, get_or, set}
 use lib.Seq.{length-take-le}
 use Rattle.lists.specs.Lists.{written}
 use Rattle.lists.proofs.Bools.{and_both}
-use Rattle.lists.proofs.Places.{get_or-inside}
 use Rattle.lists.proofs.Written.{length-written, written-there}
-use Rattle.meaning.specs.Limits.{most_queries}
 use Rattle.meaning.specs.Plain.{or_else}
-use Rattle.statement.specs.declared.Query.{Query}
-use Rattle.statement.specs.Compiled.{no_query}
 use Rattle.table.specs.Evaluated.{Said}
 use Rattle.slots.specs.declared.Key.{Key}
 use Rattle.slots.specs.Keys.{Found}
@@ -29,43 +24,17 @@ use Rattle.slots.specs.declared.Taken.{Taken}
 use Rattle.slots.specs.Keys.{key_of, find_of}
 use Rattle.slots.specs.Order.{front_of, is_open, taken_of}
 use Rattle.slots.proofs.Moves.{taken_open, not_open}
-use Rattle.slots.proofs.KeyLaws.{found_below}
 use Rattle.cache.specs.declared.State.{State}
 use Rattle.cache.specs.Calls.{Asked}
-use Rattle.cache.specs.Sound.{query_at}
 use Rattle.cache.specs.Calls.{unfit, Asks, asks, ask_refused, ask_refusal, with_cache, bytes_at, cached_length, ask_cached, kept, kept_memory, settled, record_at, too_many, new_refusal, newly, ask_new, ask_found, ask_of}
 use Rattle.cache.specs.declared.Place.{Place}
 use Rattle.cache.specs.Outcomes.{Outcome}
-use Rattle.cache.specs.Outcomes.{ask_number, no_place, no_answer, placed_in, placed, outcome_of, Last, Room, WorksOut, takes, taking, place_of, place_bytes}
-use Rattle.cache.proofs.Sounds.{sound-is}
+use Rattle.cache.specs.Outcomes.{no_place, no_answer, placed_in, placed, outcome_of, Last, Room, WorksOut, takes, taking, place_of, place_bytes}
 use Rattle.cache.proofs.Settled.{settled-refused, settled-done, Fit, fit_is, or-else-zero}
 
--- ---- the number: 2, 10, 11
+-- ---- a question that is not refused
 
 module _ (s : State) (cells memory query values : ℕ) where
-  -- the query as it is read: where there are so few, its number is its place
-  module _ (d : Query) (long : length s.queries ≡ most_queries) where
-    abbrev parameters : ℕ
-    parameters = (get_or s.queries (query % most_queries) d).parameters
-
-    parameters_are : unfit s cells memory ≡ false → leb s.query_count query ≡ false → parameters ≡ (query_at s query).parameters
-    parameters_are h k =
-        let few = (sound-is s (fit_is s cells memory h).sound).few_queries in
-        let below : query < most_queries = omega (arith, few, leb-false s.query_count query k) in
-        ap (λ (i : ℕ). (get_or s.queries i d).parameters) (mod-eq_of_lt below)
-        ∙ ap (λ (q : Query). q.parameters) (get_or-inside s.queries query d no_query (omega (arith, below, long)))
-
-    number_at : (b : Bool) → unfit s cells memory ≡ b → (m : Bool) → leb s.query_count query ≡ m
-        → ask_number (unfit s cells memory) s.query_count query parameters values ≡ ask_refusal s cells memory query values
-    unfolding ask_refusal
-    number_at true h m k = rw h
-    number_at false h true k = rw k
-    number_at false h false k = ap (λ (p : ℕ). ask_number (unfit s cells memory) s.query_count query p values) (parameters_are h k)
-
-    pub number-told : (bad : Bool) → bad ≡ unfit s cells memory → (n : ℕ) → n ≡ ask_number bad s.query_count query parameters values
-        → n ≡ ask_refusal s cells memory query values
-    number-told bad e n h = h ∙ ap (λ (b : Bool). ask_number b s.query_count query parameters values) e ∙ number_at (unfit s cells memory) refl (leb s.query_count query) refl
-
   pub none-fits : ask_refusal s cells memory query values ≡ 0 → Fit s cells memory × (query < s.query_count)
   unfolding ask_refusal
   none-fits e =
@@ -216,15 +185,6 @@ module _ (s : State) (cells : List ℤ) (memory : List ℕ) (query : ℕ) (value
     accepted = none-fits s (length cells) (length memory) query (length values) (sym e ∙ z)
 
     module _ (key : Key) (q : key ≡ key_of query values) (f : Found) (g : f ≡ find_of s.keys s.slots key) where
-      ask-done : (o : Asks) → o ≡ ask_found f s cells memory answer query values → o ≡ ask_of s cells memory query values answer
+      pub ask-done : (o : Asks) → o ≡ ask_found f s cells memory answer query values → o ≡ ask_of s cells memory query values answer
       unfolding ask_of
       ask-done o h = h ∙ rw (← e, ← q, ← g) (settled-done n _ _ z)
-
-      pub ask-found : (p : ℕ) (o : Asks) → f ≡ Some p → o ≡ ask_cached s memory answer p → o ≡ ask_of s cells memory query values answer
-      ask-found p o m h = ask-done o (h ∙ ap (λ (x : Found). ask_found x s cells memory answer query values) (sym m))
-
-      pub ask-missed : (o : Asks) → f ≡ None → o ≡ ask_new s cells memory answer query values → o ≡ ask_of s cells memory query values answer
-      ask-missed o m h = ask-done o (h ∙ ap (λ (x : Found). ask_found x s cells memory answer query values) (sym m))
-
-      pub found-held : (p : ℕ) → f ≡ Some p → p < s.slots.held
-      found-held p m = found_below s.keys s.slots key p (sym g ∙ m)

@@ -1,19 +1,26 @@
--- What each return of a flush owes. Assumes nothing.
-use mathlib.Core.Path.{◌≡◌, sym, ◌∙◌}
-use mathlib.Core.Bool.{Bool, true, false}
+-- What a flush owes, refused or not. Assumes nothing.
+use Rattle.std.proofs.Common.{Result, Ok, Err, is_ok}
+use mathlib.Core.Path.{◌≡◌}
+use mathlib.Core.Bool.{true, false, cond}
 use Prim.Native.Nat.{ℕ}
+use native.Mathlib.Omega.{arith}
+use Rattle.statement.specs.declared.Refusal.{Refusal}
+use Rattle.statement.specs.Refusals.{number_in}
 use Rattle.slots.specs.declared.SlotList.{SlotList}
 use Rattle.slots.specs.Order.{clear_of}
 use Rattle.cache.specs.declared.State.{State}
-use Rattle.cache.specs.Calls.{Flushed}
 use Rattle.cache.specs.Calls.{unfit, with_cache, flush_of}
+use Rattle.cache.specs.Given.{flushed_as}
+use Rattle.cache.proofs.Checks.{refused_if, passed_if}
 
-module _ (s : State) (cells memory : ℕ) (bad : Bool) (tested : bad ≡ unfit s cells memory) where
-  pub flush-refused : bad ≡ true → ◌≡◌ {A = Flushed} (record { refusal = 2; state = s }) (flush_of s cells memory)
+module _ (s : State) (cells memory : ℕ) where
+  pub flush-refused : (r : Result Unit Refusal) → number_in r ≡ cond (unfit s cells memory) 2 0 → is_ok r ≡ false → flushed_as r s ≡ flush_of s cells memory
   unfolding flush_of
-  flush-refused h = rw (sym tested ∙ h)
+  flush-refused (Ok u) e h = absurd (cc)
+  flush-refused (Err x) e h = let t = refused_if (unfit s cells memory) 2 x e in rw t.0 (λ j. record { refusal = t.1 j; state = s })
 
-  pub flush-done : bad ≡ false → (free : SlotList) → free ≡ clear_of s.slots
-      → ◌≡◌ {A = Flushed} (record { refusal = 0; state = with_cache s free s.keys s.lengths }) (flush_of s cells memory)
+  pub flush-done : (r : Result Unit Refusal) → number_in r ≡ cond (unfit s cells memory) 2 0 → is_ok r ≡ true → (free : SlotList) → free ≡ clear_of s.slots
+      → flushed_as r (with_cache s free s.keys s.lengths) ≡ flush_of s cells memory
   unfolding flush_of
-  flush-done h free e = rw (sym tested ∙ h, e)
+  flush-done (Ok u) e h free f = rw (passed_if (unfit s cells memory) 2 (λ z. omega (arith, z)) e, f)
+  flush-done (Err x) e h free f = absurd (cc)

@@ -1,5 +1,5 @@
 -- Whether a call is taken, by its result. Assumes nothing.
-use Rattle.std.proofs.Common.{◌≡◌, ◌∙◌, refl, sym, ap, ℕ, zero, true, false, Result, Ok, Err, is_err}
+use Rattle.std.proofs.Common.{◌≡◌, ◌∙◌, refl, sym, ap, true, false, Result, Ok, Err, is_err}
 use Rattle.statement.specs.declared.Refusal.{Refusal}
 use Rattle.statement.specs.declared.Refusal.TheVariants.{Opening}
 use Rattle.statement.specs.declared.Statement.{Statement}

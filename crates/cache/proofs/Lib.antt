@@ -5,6 +5,7 @@ pub mod Starts
 pub mod SoundMeans
 pub mod Tested
 pub mod Settled
+pub mod Checks
 pub mod Copies
 pub mod Opening
 pub mod Placing

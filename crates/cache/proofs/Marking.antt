@@ -12,6 +12,7 @@ use borrow.Author.Tests.{eqb-true, eqb-false, eq-eqb, ne_eqb}
 use lib.Dec.{eqb}
 use lib.IntN.{ℤ}
 use lib.ListN.{drop, drop_of_length-le, length, take, get_or, set, replicate, length-set}
+use lib.Seq.{get_or-take, length-take-le}
 use Rattle.lists.specs.Lists.{any, All, from}
 use Rattle.lists.proofs.Bools.{or_assoc}
 use Rattle.lists.proofs.Lists.{All-map, map_same}
@@ -209,29 +210,34 @@ module _ (keys : List Key) (s : SlotList) (queries : List Query) (n : ℕ) (u : 
         ≡ marks_of keys s queries n u us marks₀
     turn-over = ap (λ (qs : List ℕ). marks_over keys s queries u us qs marks) (sym (from_cons n q h)) ∙ Q.left
 
-    pub queries-yes : (j : ℕ) (d : Query) (next : List Bool) → j ≡ q → is_marked found q ≡ true → length queries ≡ 16 → next ≡ query_marks keys s q (get_or queries j d) u us marks → Queries (q + 1) next
-    queries-yes j d next ej t l m =
-        let r : get_or queries j d ≡ get_or queries q no_query = ap (λ (i : ℕ). get_or queries i d) ej ∙ get_or-inside queries q d no_query (omega arith) in
-        record {
-          within = omega arith;
-          left =
-              ap (marks_over keys s queries u us (from (q + 1) (n - (q + 1)))) (m ∙ ap (λ (x : Query). query_marks keys s q x u us marks) r)
-              ∙ (rw (holds true t) at turn-over);
-        }
+    pub queries-yes : (x : Query) (next : List Bool) → x ≡ get_or queries q no_query → is_marked found q ≡ true → next ≡ query_marks keys s q x u us marks → Queries (q + 1) next
+    queries-yes x next r t m = record {
+      within = omega arith;
+      left =
+          ap (marks_over keys s queries u us (from (q + 1) (n - (q + 1)))) (m ∙ ap (λ (x : Query). query_marks keys s q x u us marks) r)
+          ∙ (rw (holds true t) at turn-over);
+    }
 
     -- a query that holds no answer, or reads another table
-    pub queries-no : (j : ℕ) (d : Query) (same : Bool) → j ≡ q → same ≡ reads_of (get_or queries j d) u → length queries ≡ 16 → (is_marked found q && same) ≡ false → Queries (q + 1) marks
-    queries-no j d same ej r l t = record { within = omega arith; left = ap (marks_over keys s queries u us (from (q + 1) (n - (q + 1)))) (sym (go (is_marked found q) refl)) ∙ turn-over }
+    pub queries-no : (x : Query) (same : Bool) → x ≡ get_or queries q no_query → same ≡ reads_of x u → (is_marked found q && same) ≡ false → Queries (q + 1) marks
+    queries-no x same query-is r t = record { within = omega arith; left = ap (marks_over keys s queries u us (from (q + 1) (n - (q + 1)))) (sym (go (is_marked found q) refl)) ∙ turn-over }
       where
-        query-is : get_or queries j d ≡ get_or queries q no_query
-        query-is = ap (λ (i : ℕ). get_or queries i d) ej ∙ get_or-inside queries q d no_query (omega arith)
-
         unlike : is_marked found q ≡ true → reads_of (get_or queries q no_query) u ≡ false
         unlike f = ap (λ (x : Query). reads_of x u) (sym query-is) ∙ sym r ∙ (rw f at t)
 
         go : (b : Bool) → is_marked found q ≡ b → cond (holds_answer keys s q) (query_marks keys s q (get_or queries q no_query) u us marks) marks ≡ marks
         go false f = rw (holds false f)
         go true f = rw (holds true f) (other-marks keys s q (get_or queries q no_query) u us marks (unlike f))
+
+-- the queries in use, as they are lent
+pub used-many : (queries : List Query) (n : ℕ) (used : List Query) (k : ℕ) → length queries ≡ 16 → n ≤ 16 → k ≡ n → used ≡ take k queries → (length used ≡ n) × (used ≡ take n queries)
+used-many queries n used k l f e u =
+    let t : used ≡ take n queries = u ∙ ap (λ (m : ℕ). take m queries) e in
+    (ap length t ∙ length-take-le n queries (omega (arith, l)), t)
+
+-- a query of those in use, read from their slice
+pub query-at : (queries : List Query) (n q : ℕ) (d : Query) → length queries ≡ 16 → n ≤ 16 → q < n → get_or (take n queries) q d ≡ get_or queries q no_query
+query-at queries n q d l k h = get_or-take n queries q d h ∙ get_or-inside queries q d no_query (omega (arith, l))
 
 -- ---- where no slot is held, nothing is marked
 

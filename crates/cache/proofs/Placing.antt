@@ -3,12 +3,12 @@ use mathlib.Core.Path.{◌≡◌, refl, sym, ap, ◌∙◌}
 use mathlib.Core.Bool.{Bool, true, false, not, cond}
 use mathlib.Core.Option.{Option, none, some}
 use mathlib.Core.List.{List}
-use Prim.Native.Nat.{ℕ, zero, suc, ◌≤◌, ◌<◌}
+use Prim.Native.Nat.{ℕ, zero, suc, ◌≤◌, ◌<◌, min}
 use native.Mathlib.Omega.{arith}
 use borrow.Author.Tests.{ltb-true, lt-ltb, leb-false}
 use lib.Dec.{leb}
-use lib.ListN.{length, take, drop, length-map, length-replicate}
-use lib.Seq.{length-take-le}
+use lib.ListN.{length, take, drop, length-map, length-take, length-replicate}
+use lib.Seq.{length-take-le, take_all}
 use Rattle.lists.specs.Lists.{All}
 use Rattle.lists.proofs.Bools.{or_left, not-false, clash}
 use Rattle.lists.proofs.Lists.{All-head, All-tail}
@@ -22,6 +22,13 @@ use Rattle.statement.specs.Compiled.{Compiled}
 use Rattle.statement.specs.Catalog.{schema_of, schemas_of, rowless, catalog}
 use Rattle.statement.specs.Compiled as T
 use Rattle.statement.specs.Compiled.{struct_of, text_conditions, struct_of_text, compiled_of}
+use Rattle.std.proofs.Common.{Result, Ok, Err}
+use Rattle.std.specs.Result.{IsErrAnd}
+use Rattle.statement.specs.declared.Refusal.{Refusal}
+use Rattle.statement.specs.declared.Table.{Table}
+use Rattle.statement.specs.Refusals.{number_of}
+use Rattle.cache.specs.declared.Added as A
+use Rattle.cache.specs.Given.{added_as}
 use Rattle.cache.specs.declared.State.{State}
 use Rattle.cache.specs.Calls.{Added}
 use Rattle.cache.specs.Sound.{sound_state}
@@ -69,6 +76,23 @@ module _ (s : State) (text : List ℕ) (long : length s.tables ≡ 8) (ok : soun
       length-map (schemas_of s.tables s.table_count) rowless ∙ length-map (take s.table_count s.tables) schema_of
       ∙ length-take-le s.table_count s.tables (omega arith) in
       settled-place s p t (length-replicate s.query_count _) (length-replicate s.update_count _) text (lowest_of (text_conditions p text)) refl h
+
+-- ---- a text beside the tables in use, lent as they stand
+
+pub beside-same : (s : State) (text : List ℕ) (used : List Table) (n : ℕ) → length s.tables ≡ 8 → n ≡ s.table_count → used ≡ take n s.tables
+    → compiled_of text used (min (length used) 8) s.query_count s.update_count s.cells ≡ compiled_beside s text
+unfolding compiled_of
+beside-same s text used n long e f =
+    let few : length used ≤ 8 = omega (arith, ap length f, length-take n s.tables) in
+    let k : min (length used) 8 ≡ length used = omega arith in
+    let t : take (min (length used) 8) used ≡ take s.table_count s.tables =
+    ap (λ (m : ℕ). take m used) k ∙ take_all (length used) used (omega arith) ∙ f ∙ ap (λ (m : ℕ). take m s.tables) e in
+    rw t
+
+-- what the exit of a `?` returns
+pub added-exit : (x : Result A.Added Refusal) (r : Refusal) (s : State) → IsErrAnd x (λ (y : Refusal). y ≡ r) → added_as x s ≡ add_refused s (number_of r)
+added-exit (Ok a) r s h = absurd h
+added-exit (Err y) r s h = ap (λ (z : Refusal). add_refused s (number_of z)) h
 
 -- ---- a statement by its kind
 

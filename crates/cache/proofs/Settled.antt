@@ -1,5 +1,5 @@
 -- A call settled by its number, and what is known where the first number does not apply. Assumes nothing.
-use mathlib.Core.Path.{◌≡◌, refl, ap, ◌∙◌}
+use mathlib.Core.Path.{◌≡◌, refl}
 use mathlib.Core.Bool.{Bool, true, false, not, ◌&&◌}
 use Prim.Native.Nat.{ℕ, zero, suc, ◌<◌}
 use native.Mathlib.Omega.{arith}
@@ -10,7 +10,6 @@ use Rattle.meaning.specs.Plain.{or_else}
 use Rattle.cache.specs.declared.State.{State}
 use Rattle.cache.specs.Sound.{sound_state}
 use Rattle.cache.specs.Calls.{settled, unfit}
-use Rattle.cache.specs.Outcomes.{unfit_if}
 
 module _ {X : Type 0} where
   pub settled-refused : (n : ℕ) (done refused : X) → (n ≡ 0 → ⊥) → refused ≡ settled n done refused
@@ -21,12 +20,6 @@ module _ {X : Type 0} where
   pub settled-done : (n : ℕ) (done refused : X) → n ≡ 0 → done ≡ settled n done refused
   unfolding settled
   settled-done n done refused e = rw e
-
--- 2, as the code decides it
-pub unfit-is : (s : State) (cells memory : ℕ) (sound bad : Bool) → sound ≡ sound_state s → bad ≡ unfit_if sound s.cells s.memory cells memory
-    → bad ≡ unfit s cells memory
-unfolding unfit
-unfit-is s cells memory sound bad e h = h ∙ ap (λ (b : Bool). unfit_if b s.cells s.memory cells memory) e
 
 -- where the state and the lengths are the opening's
 pub record Fit (s : State) (cells memory : ℕ) : Type 0 where

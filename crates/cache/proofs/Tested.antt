@@ -4,17 +4,23 @@ use mathlib.Core.Bool.{Bool, true, false, not, ◌&&◌, ◌||◌, and-true, and
 use mathlib.Core.List.{List, [], ◌∷◌}
 use Prim.Native.Nat.{ℕ, ◌*◌, ◌≤◌}
 use native.Mathlib.Nat.{mul-le-mul}
-use borrow.Author.Tests.{leb-true}
-use lib.Dec.{leb, ltb}
+use native.Mathlib.Omega.{arith}
+use borrow.Author.Tests.{leb-true, ltb-true}
+use lib.Dec.{eqb, leb, ltb}
+use lib.ListN.{length, take, get_or}
+use lib.Seq.{length-take-le, get_or-take}
 use Rattle.std.specs.List.{list_all}
 use Rattle.lists.specs.Lists.{all}
 use Rattle.lists.proofs.Bools.{and_left, and_right, leb-not}
 use Rattle.meaning.specs.Plain.{opening_refused}
 use Rattle.statement.proofs.Stored.{all_map}
+use Rattle.statement.specs.declared.Query.{Query}
+use Rattle.statement.specs.Compiled.{no_query}
+use Rattle.slots.specs.declared.Key.{Key}
 use Rattle.slots.specs.Keys.{slot_key, held_keys, held_twice}
 use Rattle.slots.specs.Order.{held_slots, sound_slots}
 use Rattle.cache.specs.declared.State.{State}
-use Rattle.cache.specs.Sound.{opening, sound_sizes, sound_counts, length_at, length_fits, sound_lengths, sound_key, sound_keys, slot_fits, sound_tables, sound_answers, sound_state}
+use Rattle.cache.specs.Sound.{opening, sound_sizes, sound_counts, length_at, length_fits, sound_lengths, sound_key, sound_keys, key_fits, slot_fits, sound_tables, sound_answers, sound_state}
 
 -- ---- sizes
 
@@ -70,6 +76,27 @@ module _ {A : Type 0} (p q : A → Bool) where
       apart true true c d = refl
       apart true false c d = sym (and-false c)
       apart false b c d = refl
+
+-- a key by the queries in use
+module _ (s : State) (n : ℕ) (queries : List Query) (long : length s.queries ≡ 16) (few : s.query_count ≤ 16) (e : n ≡ s.query_count) (f : queries ≡ take n s.queries) where
+  key-fit : (k : Key) → key_fits queries k ≡ sound_key s k
+  key-fit k = go (ltb k.query s.query_count) refl
+    where
+      used : queries ≡ take s.query_count s.queries
+      used = f ∙ ap (λ (m : ℕ). take m s.queries) e
+
+      count : length queries ≡ s.query_count
+      count = ap length used ∙ length-take-le s.query_count s.queries (omega (arith, long))
+
+      go : (b : Bool) → ltb k.query s.query_count ≡ b → key_fits queries k ≡ sound_key s k
+      go true h =
+          ap₂ (λ (a : ℕ) (q : Query). ltb k.query a && eqb k.count q.parameters) count
+          (ap (λ (l : List Query). get_or l k.query no_query) used ∙ get_or-take s.query_count s.queries k.query no_query (ltb-true k.query s.query_count h))
+      go false h = rw (count, h)
+
+  pub all-fit : (l : List ℕ) → all (λ (x : ℕ). length_fits (length_at s x) s.slot_bytes && key_fits queries (slot_key s.keys x)) l ≡ all (slot_fits s) l
+  all-fit [] = refl
+  all-fit (x ∷ l) = ap₂ ◌&&◌ (ap (λ (b : Bool). length_fits (length_at s x) s.slot_bytes && b) (key-fit (slot_key s.keys x))) (all-fit l)
 
 module _ (s : State) where
   answers-are : (k l t : Bool) → sound_slots s.slots ≡ true → ((l && k) && not t) ≡ (l && ((k && not t) && sound_slots s.slots))

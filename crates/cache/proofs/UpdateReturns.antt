@@ -1,12 +1,11 @@
 -- What each return of an update owes, over plain variables. Assumes nothing.
 use mathlib.Core.Path.{◌≡◌, refl, sym, ap, ap₂, subst, ◌∙◌}
-use mathlib.Core.Bool.{Bool, true, not, ◌&&◌}
+use mathlib.Core.Bool.{Bool, true}
 use mathlib.Core.List.{List}
 use Prim.Native.Nat.{ℕ, zero, suc, ◌-◌, ◌%◌, ◌≤◌, ◌<◌}
 use native.Mathlib.Nat.{mod-eq_of_lt}
 use native.Mathlib.Omega.{arith}
 use borrow.Author.Tests.{leb-false}
-use lib.Dec.{eqb, leb}
 use lib.IntN.{ℤ}
 use lib.ListN.{length, take, get_or, length-map}
 use lib.Seq.{length-take-le, set-get_or}
@@ -14,7 +13,6 @@ use Rattle.lists.specs.Lists.{All, count}
 use Rattle.lists.proofs.Lists.{All-head, All-tail}
 use Rattle.lists.proofs.Places.{get_or-inside}
 use Rattle.meaning.specs.Limits.{most_tables, most_updates, most_slots}
-use Rattle.meaning.specs.Plain.{or_else}
 use Rattle.meaning.proofs.Accepted.{clear}
 use Rattle.statement.specs.declared.Table.{Table}
 use Rattle.statement.specs.declared.Query.{Query}
@@ -33,11 +31,10 @@ use Rattle.cache.specs.declared.State.{State}
 use Rattle.cache.specs.declared.Effect.{Effect}
 use Rattle.cache.specs.Sound.{areas_of, used_tables, sound_state, schemas_in}
 use Rattle.cache.specs.Marks.{marks_both}
-use Rattle.cache.specs.Outcomes.{update_number, Effective, no_effect, effect_of}
-use Rattle.cache.specs.Calls.{settled, unfit, table_at, start_of, update_at, is_full, Updates, updates, update_conditions, update_refusal, is_matched, with_rows, with_change, update_refused, update_done, update_of}
+use Rattle.cache.specs.Outcomes.{Effective, no_effect, effect_of}
+use Rattle.cache.specs.Calls.{settled, table_at, start_of, update_at, Updates, updates, update_conditions, update_refusal, is_matched, with_rows, with_change, update_refused, update_done, update_of}
 use Rattle.cache.proofs.Sounds.{Sound, sound-is, All-first}
 use Rattle.cache.proofs.Settled.{settled-refused, settled-done, fit_is}
-use Rattle.cache.proofs.Refused.{same-else}
 use Rattle.cache.proofs.Pushing.{first-row}
 use Rattle.cache.proofs.DropsMarked.{drop-marked, drop-fewer, drop-count, marks-matched}
 
@@ -51,7 +48,7 @@ pub record Long (s : State) : Type 0 where
 pub table_below : (s : State) → sound_state s ≡ true → (i : ℕ) → i < s.table_count → i < most_tables
 table_below s h i k = omega (arith, (sound-is s h).few_tables)
 
-table-read : (s : State) → sound_state s ≡ true → length s.tables ≡ most_tables → (i : ℕ) (d : Table) → i < s.table_count → get_or s.tables i d ≡ table_at s i
+pub table-read : (s : State) → sound_state s ≡ true → length s.tables ≡ most_tables → (i : ℕ) (d : Table) → i < s.table_count → get_or s.tables i d ≡ table_at s i
 table-read s h l i d k = get_or-inside s.tables i d no_table (omega (arith, table_below s h i k))
 
 module _ (s : State) (h : sound_state s ≡ true) (L : Long s) (i : ℕ) (k : i < s.update_count) where
@@ -94,9 +91,6 @@ update_read s update d = get_or s.updates (update % most_updates) d
 abbrev pub table_read : State → Update → Table → Table
 table_read s u d = get_or s.tables (u.table % most_tables) d
 
-abbrev full_for : Update → Table → Bool
-full_for u t = eqb u.form 0 && (not t.ring && leb t.capacity t.rows)
-
 module _ (s : State) (L : Long s) (update : ℕ) (d : Update) where
   abbrev u : Update
   u = update_read s update d
@@ -116,20 +110,6 @@ module _ (s : State) (L : Long s) (update : ℕ) (d : Update) where
 
     table_is : (e : Table) → table_read s u e ≡ table_at s u.table
     table_is e = ap (λ (i : ℕ). get_or s.tables i e) number_is ∙ table-read s h L.tables u.table e read-there
-
-    full_is : (e : Table) → full_for u (table_read s u e) ≡ is_full s (update_at s update)
-    full_is e = ap (full_for u) (table_is e) ∙ ap (is_full s) read_is
-
-  pub update-told : (e : Table) (cells memory values : ℕ) (bad full : Bool) → bad ≡ unfit s cells memory → full ≡ full_for u (table_read s u e) → (n : ℕ)
-      → n ≡ update_number bad s.update_count update u.parameters values full → n ≡ update_refusal s cells memory update values
-  unfolding update_refusal
-  update-told e cells memory values bad full b f n q =
-      q ∙ same-else 2 bad (unfit s cells memory) _ _ b
-      (λ fit. same-else 10 (leb s.update_count update) (leb s.update_count update) _ _ refl
-      (λ there.
-      let h = (fit_is s cells memory fit).sound in
-      let k = leb-false s.update_count update there in
-      ap₂ (λ (v : Update) (b : Bool). or_else (not (eqb values v.parameters)) 11 (or_else b 12 0)) (read_is h k) (f ∙ full_is h k e)))
 
 -- ---- what is left of the table and the slots
 
@@ -229,7 +209,7 @@ module _ (s : State) (L : Long s) (long : length s.slots.order ≡ most_slots) (
         })
         after
 
-    pub fewer : o.slots.held ≤ s.slots.held
+    fewer : o.slots.held ≤ s.slots.held
     fewer = go n refl
       where
         go : (k : ℕ) → n ≡ k → o.slots.held ≤ s.slots.held
@@ -277,7 +257,7 @@ module _ (s : State) (L : Long s) (long : length s.slots.order ≡ most_slots) (
               omega (arith, (none q).1, ap (λ (x : Effect). x.slots.held) f),
             )
 
-    pub update-given : (number rows gone : ℕ) → number ≡ n → (n ≡ 0 → (rows ≡ o.count) × (gone ≡ s.slots.held - o.slots.held)) → ((n ≡ 0 → ⊥) → (rows ≡ 0) × (gone ≡ 0))
+    update-given : (number rows gone : ℕ) → number ≡ n → (n ≡ 0 → (rows ≡ o.count) × (gone ≡ s.slots.held - o.slots.held)) → ((n ≡ 0 → ⊥) → (rows ≡ 0) × (gone ≡ 0))
         → updates
         (record {
           refusal = number;
@@ -289,3 +269,32 @@ module _ (s : State) (L : Long s) (long : length s.slots.order ≡ most_slots) (
     update-given number rows gone e some none =
         let d = counts rows gone some none in
         (λ j. updates (record { refusal = e j; rows = d.0 j; invalidated = d.1 j; state = with_change s (v.table % most_tables) (with_rows w o.rows o.oldest) o.slots }) after) ∙ update-is
+
+  -- the same, where the number of the table is read as i
+  module _ (i : ℕ) (ei : i ≡ v.table) (e : Table) (o : Effect) (after : List ℤ) where
+    abbrev at : ℕ → Table
+    at i = get_or s.tables (i % most_tables) e
+
+    module _ (eo : o ≡ settled n (effect_of s.tables s.keys s.slots s.queries s.query_count v (at i) cells values) (no_effect (at i) s.slots))
+        (ea : after ≡ settled n (cells_after v (at i) (start_of s v.table) cells values) cells) where
+      eo' : o ≡ settled n (effect_of s.tables s.keys s.slots s.queries s.query_count v (at v.table) cells values) (no_effect (at v.table) s.slots)
+      eo' = subst (λ (k : ℕ). o ≡ settled n (effect_of s.tables s.keys s.slots s.queries s.query_count v (at k) cells values) (no_effect (at k) s.slots)) ei eo
+
+      ea' : after ≡ settled n (cells_after v (at v.table) (start_of s v.table) cells values) cells
+      ea' = subst (λ (k : ℕ). after ≡ settled n (cells_after v (at k) (start_of s v.table) cells values) cells) ei ea
+
+      pub fewer-at : o.slots.held ≤ s.slots.held
+      fewer-at = fewer e o after eo' ea'
+
+      pub given-at : (number rows gone : ℕ) → number ≡ n → (n ≡ 0 → (rows ≡ o.count) × (gone ≡ s.slots.held - o.slots.held)) → ((n ≡ 0 → ⊥) → (rows ≡ 0) × (gone ≡ 0))
+          → updates
+          (record {
+            refusal = number;
+            rows = rows;
+            invalidated = gone;
+            state = with_change s (i % most_tables) (with_rows (at i) o.rows o.oldest) o.slots;
+          })
+          after ≡ update_of s cells memory update values
+      given-at number rows gone q some none =
+          ap (λ (k : ℕ). updates (record { refusal = number; rows = rows; invalidated = gone; state = with_change s (k % most_tables) (with_rows (at k) o.rows o.oldest) o.slots }) after) ei
+          ∙ update-given e o after eo' ea' number rows gone q some none

@@ -1,8 +1,7 @@
 -- What a question gives, without the state, as the code hands it on; and the state with it. What an update leaves, in the same way. Assumes nothing: these are definitions.
-use Rattle.std.specs.Prelude.{◌≡◌, Bool, true, not, ◌&&◌, ◌||◌, cond, List, [], ◌∷◌, ℕ, ◌+◌, ◌*◌, ◌≤◌, ◌<◌, eqb, leb, ℤ, length, take, set, Option, Some, None}
+use Rattle.std.specs.Prelude.{◌≡◌, Bool, true, ◌&&◌, cond, List, ℕ, ◌+◌, ◌*◌, ◌≤◌, ◌<◌, leb, ℤ, length, take, set, Option, Some, None}
 use Rattle.lists.specs.Lists.{written}
 use Rattle.meaning.specs.Limits.{most_tables, most_queries, most_memory, most_slots, most_slot_bytes}
-use Rattle.meaning.specs.Plain.{lowest_of}
 use Rattle.statement.specs.declared.Table.{Table}
 use Rattle.statement.specs.declared.Query.{Query}
 use Rattle.statement.specs.declared.Update.{Update}
@@ -18,14 +17,6 @@ use Rattle.cache.specs.declared.Effect.{Effect}
 use Rattle.cache.specs.Sound.{areas_of, query_at}
 use Rattle.cache.specs.Marks.{marks_both}
 use Rattle.cache.specs.Calls.{Asked, asks, with_cache, ask_cached, read_for, record_at, new_refusal}
-
--- 2, from what decides it: whether the state is sound, its opening's lengths, and the lengths lent
-abbrev pub unfit_if : Bool → ℕ → ℕ → ℕ → ℕ → Bool
-unfit_if sound cells memory lent lent_memory = not sound || not (eqb lent cells && eqb lent_memory memory)
-
--- 2, 10, 11, from the numbers that decide them
-abbrev pub ask_number : Bool → ℕ → ℕ → ℕ → ℕ → ℕ
-ask_number unfit count query parameters values = lowest_of ((2, unfit) ∷ (10, leb count query) ∷ (11, not (eqb values parameters)) ∷ [])
 
 -- what a question gives: as `Asked`, without the state
 pub record Outcome : Type 0 where
@@ -93,11 +84,6 @@ unfoldable pub place_bytes : SlotList → ℕ → List ℕ → List ℕ → List
 place_bytes slots bytes r memory = cond (takes slots bytes r) (written memory ((last_taken slots).slot * bytes) r) memory
 
 -- ---- an update
-
--- 2, 10, 11, 12, from the numbers and the test that decide them
-abbrev pub update_number : Bool → ℕ → ℕ → ℕ → ℕ → Bool → ℕ
-update_number unfit count update parameters values full =
-    lowest_of ((2, unfit) ∷ (10, leb count update) ∷ (11, not (eqb values parameters)) ∷ (12, full) ∷ [])
 
 -- what is known of an update of a table where it is not refused
 abbrev pub Effective : ℕ → SlotList → ℕ → ℕ → Type 0

@@ -1,7 +1,7 @@
 -- When a state is sound: document 01, "The store and its calls", "A state is sound when ..", and requests A.1 and A.4. First the sentence, half sentence by half sentence (`IsSound`): this is the
 -- definition. Then one test, which the code computes for any state; that it is true exactly if the sentence holds is a claim (`Demand.SoundExactlyIf`). Entries past the
 -- counts do not matter. Assumes nothing: these are definitions.
-use Rattle.std.specs.Prelude.{◌≡◌, Bool, true, not, ◌&&◌, ◌||◌, List, [], ◌∷◌, ◌++◌, map, ℕ, ◌+◌, ◌*◌, ◌≤◌, ◌<◌, eqb, leb, ltb, get_or, take}
+use Rattle.std.specs.Prelude.{◌≡◌, Bool, true, not, ◌&&◌, ◌||◌, List, [], ◌∷◌, ◌++◌, map, ℕ, ◌+◌, ◌*◌, ◌≤◌, ◌<◌, eqb, leb, ltb, length, get_or, take}
 use Rattle.lists.specs.Lists.{All, all, Distinct}
 use Rattle.meaning.specs.Key as M
 use Rattle.meaning.specs.Limits.{most_tables, most_queries, most_updates, least_slot_bytes}
@@ -154,6 +154,10 @@ sound_key s k = ltb k.query s.query_count && eqb k.count (query_at s k.query).pa
 
 abbrev pub sound_keys : State → Bool
 sound_keys s = all (sound_key s) (held_keys s.keys s.slots) && not (held_twice s.keys s.slots)
+
+-- a key by the queries, for the code
+abbrev pub key_fits : List Query → Key → Bool
+key_fits queries k = ltb k.query (length queries) && eqb k.count (get_or queries k.query no_query).parameters
 
 -- both of a slot, for the code
 abbrev pub slot_fits : State → ℕ → Bool

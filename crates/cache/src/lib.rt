@@ -4,16 +4,16 @@
 mod matching; // which cached answers an update invalidates
 mod sound; // the test of a state
 
-ghost use Rattle.std.specs.Prelude.{◌≡◌, Ok, true, not, ◌&&◌, ◌≤◌, ◌<◌, ◌%◌, eqb, leb, length, take};
+ghost use Rattle.std.specs.Prelude.{◌≡◌, Ok, true, not, cond, ◌&&◌, ◌+◌, ◌≤◌, ◌<◌, eqb, leb, length, take, set};
 ghost use Rattle.statement.specs.Compiled.{compiled};
 ghost use Rattle.statement.specs.Refusals.{number_of, number_in};
 ghost use Rattle.table.specs.Evaluated.{said};
 ghost use Rattle.table.specs.Changed.{cells_after};
-ghost use Rattle.slots.specs.Keys.{key_of};
+ghost use Rattle.slots.specs.Keys.{key_of, find_of};
 ghost use Rattle.cache.specs.Sound.{opening, areas_of, sound_counts, sound_tables, sound_answers, sound_state};
-ghost use Rattle.cache.specs.Outcomes.{no_place, no_answer, placed, outcome_of, unfit_if, ask_number, Caches, WorksOut, Room, place_of, place_bytes, update_number, Effective, no_effect, effect_of};
+ghost use Rattle.cache.specs.Outcomes.{no_place, no_answer, placed, outcome_of, Caches, WorksOut, Room, place_of, place_bytes, Effective, no_effect, effect_of};
 ghost use Rattle.cache.specs.Given.{opened_as, added_as, asked_as, updated_as, flushed_as, told, rows_in, invalidated_in};
-ghost use Rattle.cache.specs.Calls.{empty_state, opens, open_of, add_refused, added_table, added_query, added_update, has_place, added_by, add_of, asks, ask_refusal, ask_new, ask_of, settled, updates, update_of, flush_of};
+ghost use Rattle.cache.specs.Calls.{unfit, empty_state, opens, open_of, has_place, added_by, add_of, asks, ask_refusal, ask_new, ask_found, ask_of, settled, updates, update_refusal, update_of, flush_of};
 
 use slots::{Key, SlotList};
 use table::{Query, Refusal, Selected, Statement, Table, Update};
@@ -98,6 +98,21 @@ struct Reply {
     place: Place,
 }
 
+// A question that is taken: the state that it asks, its number, its values and their key. (The lengths of arrays are not known behind a reference in a struct. The memory
+// is lent to be changed and stands in no struct of shared borrows, so each method asks for its length.)
+#[derive(Clone, Copy)]
+struct Question<'a> {
+    state: &'a State,
+    number: usize,
+    values: &'a [i32],
+    key: &'a Key,
+    ghost sound: { sound_state state.now ≡ true },
+    ghost there: { number < state.now.query_count },
+    ghost keyed: { key.now ≡ key_of number values.now },
+    ghost all_tables: { length state.now.tables ≡ 8 },
+    ghost all_queries: { length state.now.queries ≡ 16 },
+}
+
 // What an update leaves: the rows that it inserted, matched or deleted, those in use then and the place of the oldest, and the order of use.
 #[derive(Clone, Copy)]
 struct Effect {
@@ -133,13 +148,14 @@ fn keep(slots: SlotList, slot_bytes: u16, size: usize, bytes: &[u8], memory: &mu
     ensures place { result ≡ place_of slots slot_bytes (take size bytes.now) }
     ensures memory { memory.new ≡ place_bytes slots slot_bytes (take size bytes.now) memory.old }
 {
-    if (slot_bytes as usize) < size {
+    let most = usize::from(slot_bytes);
+    if most < size {
         return nowhere(slots);
     }
     let Some(taken) = slots.take_last() else {
         return nowhere(slots);
     };
-    let at = (taken.slot as usize) * (slot_bytes as usize);
+    let at = usize::from(taken.slot) * most;
     memory[at..at + size].copy_from_slice(&bytes[..size]);
     Place {
         slot: Some(taken.slot),
@@ -148,67 +164,34 @@ fn keep(slots: SlotList, slot_bytes: u16, size: usize, bytes: &[u8], memory: &mu
     }
 }
 
-// Whether a state is not sound, or the lengths lent are not those of its opening.
-fn is_unfit(sound: bool, cells: u32, memory: u32, lent: usize, lent_memory: usize) -> bool
-    ensures { result ≡ unfit_if sound cells memory lent lent_memory }
+// Refuses by 11: not as many values as parameters.
+fn check_values(parameters: u8, values: usize) -> Result<(), Refusal>
+    ensures { number_in result ≡ cond (eqb values parameters) 0 11 }
 {
-    let same = (lent == cells as usize) & (lent_memory == memory as usize);
-    !sound | !same
-}
-
-// Refuses by 2, 10 or 11, the lowest that applies: of `count` queries this one, which has so many parameters.
-fn ask_refusal(
-    unfit: bool,
-    count: u8,
-    query: usize,
-    parameters: u8,
-    values: usize,
-) -> Result<(), Refusal>
-    ensures { number_in result ≡ ask_number unfit count query parameters values }
-{
-    if unfit {
-        return Err(Refusal::State);
-    }
-    if (count as usize) <= query {
-        return Err(Refusal::Number);
-    }
-    if values != (parameters as usize) {
+    if values != usize::from(parameters) {
         return Err(Refusal::Values);
     }
     Ok(())
 }
 
-// Whether the table has no place for the row of an INSERT.
-fn is_full(form: u8, ring: bool, capacity: u16, rows: u16) -> bool
-    ensures { result ≡ (eqb form 0 && (not ring && leb capacity rows)) }
+// Whether an update is an INSERT into a full table: refused, or in a ring the oldest row goes.
+fn fills(update: &Update, table: &Table) -> bool
+    ensures { result ≡ (eqb update.now.form 0 && leb table.now.capacity table.now.rows) }
 {
-    (form == Update::INSERT) & (!ring & (capacity <= rows))
+    update.form == Update::INSERT && table.capacity <= table.rows
 }
 
-// Refuses by 2, 10, 11 or 12, the lowest that applies: of `count` updates this one, which has so many parameters.
-fn update_refusal(
-    unfit: bool,
-    count: u8,
-    update: usize,
-    parameters: u8,
-    values: usize,
-    full: bool,
-) -> Result<(), Refusal>
-    ensures { number_in result ≡ update_number unfit count update parameters values full }
+// Puts an item behind the first `count` of an array; its place is given.
+fn put_behind<T: Copy, const N: usize>(all: &mut [T; N], count: &mut u8, item: T) -> u8
+    requires { (count.old < N) × (N ≤ 255) }
+    ensures all { all.new ≡ set all.old count.old item }
+    ensures count { count.new ≡ count.old + 1 }
+    ensures place { result ≡ count.old }
 {
-    if unfit {
-        return Err(Refusal::State);
-    }
-    if (count as usize) <= update {
-        return Err(Refusal::Number);
-    }
-    if values != (parameters as usize) {
-        return Err(Refusal::Values);
-    }
-    if full {
-        return Err(Refusal::Full);
-    }
-    Ok(())
+    let place = *count;
+    all[usize::from(place)] = item;
+    *count = place + 1;
+    place
 }
 
 // What an update gives, where it is taken.
@@ -233,8 +216,8 @@ impl State {
     pub fn is_sound(&self) -> bool
         ensures { result ≡ sound_state self.now }
     {
-        let count = self.slots.count as usize;
-        let bytes = self.slot_bytes as usize;
+        let count = usize::from(self.slots.count);
+        let bytes = usize::from(self.slot_bytes);
         let sizes = sound::sizes_fit(self.cells as usize, self.memory as usize, count, bytes);
         let counts = sound::counts_fit(self.table_count, self.query_count, self.update_count);
         if !(sizes & counts) {
@@ -248,18 +231,14 @@ impl State {
         requires { sound_counts self.now ≡ true }
         ensures { result ≡ sound_tables self.now }
     {
-        let n = self.table_count;
-        let used = &self.tables[..n as usize];
+        let used = lists::in_use(&self.tables, usize::from(self.table_count));
         let areas = sound::areas(used) <= self.cells as usize;
         let rows = sound::rows_fit(used);
-        let named = soundness::tables_are_sound(&self.tables, n);
-        let asked = soundness::queries_are_sound(&self.tables, n, &self.queries, self.query_count);
-        let changing = soundness::updates_are_sound(
-            &self.tables,
-            n,
-            &self.updates,
-            self.update_count,
-        );
+        let named = soundness::tables_are_sound(used);
+        let queries = lists::in_use(&self.queries, usize::from(self.query_count));
+        let asked = soundness::queries_are_sound(used, queries);
+        let updates = lists::in_use(&self.updates, usize::from(self.update_count));
+        let changing = soundness::updates_are_sound(used, updates);
         areas & (rows & (named & (asked & changing)))
     }
 
@@ -273,6 +252,18 @@ impl State {
         }
         let fit = sound::held_fit(self);
         fit && !slots::held_twice(&self.keys, &self.slots)
+    }
+
+    // Refuses by 2: a state that is not sound, or lent lengths that are not those of its opening.
+    fn check(&self, cells: usize, memory: usize) -> Result<(), Refusal>
+        ensures { number_in result ≡ cond (unfit self.now cells memory) 2 0 }
+    {
+        let same = (cells == self.cells as usize) & (memory == self.memory as usize);
+        let fit = self.is_sound() & same;
+        if !fit {
+            return Err(Refusal::State);
+        }
+        Ok(())
     }
 
     // ---- open
@@ -332,88 +323,44 @@ impl State {
     // ---- add
 
     // Adds the table, query or update that the text says. The memories are lent to be measured.
-    pub fn add(self, cells: &[i32], memory: &[u8], text: &[u8]) -> Outcome<Added>
+    pub fn add(mut self, cells: &[i32], memory: &[u8], text: &[u8]) -> Outcome<Added>
         ensures { added_as result.result result.state ≡ add_of self (length cells.now) (length memory.now) text.now }
     {
-        let sound = self.is_sound();
-        if is_unfit(sound, self.cells, self.memory, cells.len(), memory.len()) {
-            return self.not_added(Refusal::State);
-        }
-        let tables = self.tables;
-        let queries = self.query_count;
-        let updates = self.update_count;
-        match Statement::compile(text, tables, self.table_count, queries, updates, self.cells) {
-            Err(refusal) => self.not_added(refusal),
-            Ok(statement) => self.with_statement(statement),
-        }
-    }
-
-    fn not_added(self, refusal: Refusal) -> Outcome<Added>
-        ensures { added_as result.result result.state ≡ add_refused self (number_of refusal) }
-    {
+        let result = self.add_text(cells.len(), memory.len(), text);
         Outcome {
-            result: Err(refusal),
+            result,
             state: self,
         }
     }
 
-    // The state with what a text says, where there is a place for it.
-    fn with_statement(self, statement: Statement) -> Outcome<Added>
-        requires { has_place (compiled (Ok statement)).kind self ≡ true }
-        ensures { added_as result.result result.state ≡ added_by self (compiled (Ok statement)) }
+    fn add_text(&mut self, cells: usize, memory: usize, text: &[u8]) -> Result<Added, Refusal>
+        ensures { added_as result self.new ≡ add_of self.old cells memory text.now }
+    {
+        self.check(cells, memory)?;
+        let tables = lists::in_use(&self.tables, usize::from(self.table_count));
+        let (queries, updates) = (self.query_count, self.update_count);
+        let statement = Statement::compile(text, tables, queries, updates, self.cells)?;
+        Ok(self.put(statement))
+    }
+
+    // Puts what a text says behind the others of its kind, where there is a place for it.
+    fn put(&mut self, statement: Statement) -> Added
+        requires { has_place (compiled (Ok statement)).kind self.old ≡ true }
+        ensures { added_as (Ok result) self.new ≡ added_by self.old (compiled (Ok statement)) }
     {
         match statement {
-            Statement::Table(table) => self.with_table(table),
-            Statement::Query(query) => self.with_query(query),
-            Statement::Update(update) => self.with_update(update),
-        }
-    }
-
-    fn with_table(mut self, table: Table) -> Outcome<Added>
-        requires { self.table_count < 8 }
-        ensures { added_as result.result result.state ≡ added_table self table }
-    {
-        let number = self.table_count;
-        self.tables[number as usize] = table;
-        self.table_count = number + 1;
-        Outcome {
-            result: Ok(Added {
+            Statement::Table(table) => Added {
                 kind: Kind::Table,
-                number,
-            }),
-            state: self,
-        }
-    }
-
-    fn with_query(mut self, query: Query) -> Outcome<Added>
-        requires { self.query_count < 16 }
-        ensures { added_as result.result result.state ≡ added_query self query }
-    {
-        let number = self.query_count;
-        self.queries[number as usize] = query;
-        self.query_count = number + 1;
-        Outcome {
-            result: Ok(Added {
+                number: put_behind(&mut self.tables, &mut self.table_count, table),
+            },
+            Statement::Query(query) => Added {
                 kind: Kind::Query,
-                number,
-            }),
-            state: self,
-        }
-    }
-
-    fn with_update(mut self, update: Update) -> Outcome<Added>
-        requires { self.update_count < 16 }
-        ensures { added_as result.result result.state ≡ added_update self update }
-    {
-        let number = self.update_count;
-        self.updates[number as usize] = update;
-        self.update_count = number + 1;
-        Outcome {
-            result: Ok(Added {
+                number: put_behind(&mut self.queries, &mut self.query_count, query),
+            },
+            Statement::Update(update) => Added {
                 kind: Kind::Update,
-                number,
-            }),
-            state: self,
+                number: put_behind(&mut self.updates, &mut self.update_count, update),
+            },
         }
     }
 
@@ -431,13 +378,20 @@ impl State {
     ) -> Outcome<Answer>
         ensures { asks (asked_as result.result result.state) memory.new answer.new ≡ ask_of self cells.now memory.old query values.now answer.old }
     {
-        let sound = self.is_sound();
-        let unfit = is_unfit(sound, self.cells, self.memory, cells.len(), memory.len());
-        let number = query % Query::QUERIES;
-        let parameters = self.queries[number].parameters;
-        let taken = ask_refusal(unfit, self.query_count, query, parameters, values.len());
-        let key = Key::of(number as u8, values);
-        let reply = self.answered(taken, cells, memory, query, values, &key, answer);
+        let taken = self.check_ask(cells.len(), memory.len(), query, values.len());
+        let key = Key::of((query % Query::QUERIES) as u8, values);
+        let reply = match taken {
+            Err(refusal) => not_answered(refusal, self.slots),
+            Ok(()) => {
+                let question = Question {
+                    state: &self,
+                    number: query,
+                    values,
+                    key: &key,
+                };
+                question.answered(cells, memory, answer)
+            }
+        };
         self.settle(key, reply.place);
         Outcome {
             result: reply.result,
@@ -445,103 +399,20 @@ impl State {
         }
     }
 
-    // What becomes of a question: refused, or answered where it is taken.
-    fn answered(
+    // Refuses by 2, 10 or 11, the lowest that applies.
+    fn check_ask(
         &self,
-        taken: Result<(), Refusal>,
-        cells: &[i32],
-        memory: &mut [u8],
+        cells: usize,
+        memory: usize,
         query: usize,
-        values: &[i32],
-        key: &Key,
-        answer: &mut [u8],
-    ) -> Reply
-        requires { (number_in taken ≡ ask_refusal self.now (length cells.now) (length memory.old) query (length values.now)) × (key.now ≡ key_of (query % 16) values.now) }
-        ensures { asks (outcome_of self.now key.now (told result)) memory.new answer.new ≡ ask_of self.now cells.now memory.old query values.now answer.old }
+        values: usize,
+    ) -> Result<(), Refusal>
+        ensures { number_in result ≡ ask_refusal self.now cells memory query values }
     {
-        if let Err(refusal) = taken {
-            return not_answered(refusal, self.slots);
-        }
-        match slots::find(&self.keys, &self.slots, key) {
-            Some(p) => self.ask_cached(memory, answer, p),
-            None => self.ask_new(cells, memory, answer, query, values, key),
-        }
-    }
-
-    // The answer in the slot at place p of the order, which moves to the front.
-    fn ask_cached(&self, memory: &[u8], answer: &mut [u8], p: u8) -> Reply
-        requires { (sound_state self.now ≡ true) × (p < self.now.slots.held) × (length memory.now ≡ self.now.memory) }
-        ensures { Caches self.now memory.now answer.old p (told result) answer.new }
-    {
-        let x = self.slots.order[p as usize] as usize;
-        let length = self.lengths[x] as usize;
-        if answer.len() < length {
-            return not_answered(Refusal::Buffer, self.slots);
-        }
-        let at = x * (self.slot_bytes as usize);
-        let record = &memory[at..at + length];
-        answer[..length].copy_from_slice(record);
-        Reply {
-            result: Ok(Answer {
-                source: Source::Cached,
-                scanned: 0,
-                length,
-            }),
-            place: nowhere(self.slots.move_to_front(p)),
-        }
-    }
-
-    // The answer worked out; its record takes the last slot if it fits one.
-    fn ask_new(
-        &self,
-        cells: &[i32],
-        memory: &mut [u8],
-        answer: &mut [u8],
-        query: usize,
-        values: &[i32],
-        key: &Key,
-    ) -> Reply
-        requires { (sound_state self.now ≡ true) × (query < self.now.query_count) × (length memory.old ≡ self.now.memory) × (key.now ≡ key_of query values.now) }
-        ensures { asks (outcome_of self.now key.now (told result)) memory.new answer.new ≡ ask_new self.now cells.now memory.old answer.old query values.now }
-    {
-        match self.work_out(cells, answer, query, values) {
-            Err(refusal) => not_answered(refusal, self.slots),
-            Ok(done) => {
-                let place = keep(self.slots, self.slot_bytes, done.length, answer, memory);
-                Reply {
-                    result: Ok(Answer {
-                        source: Source::New,
-                        scanned: done.scanned,
-                        length: done.length,
-                    }),
-                    place,
-                }
-            }
-        }
-    }
-
-    // The record of a question over its table, or over its two.
-    fn work_out(
-        &self,
-        cells: &[i32],
-        answer: &mut [u8],
-        query: usize,
-        values: &[i32],
-    ) -> Result<Selected, Refusal>
-        requires { (sound_state self.now ≡ true) × (query < self.now.query_count) }
-        ensures { WorksOut self.now cells.now query values.now answer.old (said result) answer.new }
-    {
-        let q = self.queries[query];
-        let i = q.table as usize;
-        let t = self.tables[i];
-        let start = sound::areas(&self.tables[..i]);
-        if q.second == 0 {
-            return table::select(q, t, start, cells, values, answer);
-        }
-        let j = (q.second - 1) as usize;
-        let u = self.tables[j];
-        let beside = sound::areas(&self.tables[..j]);
-        table::select_pair(q, t, start, u, beside, cells, values, answer)
+        self.check(cells, memory)?;
+        let queries = lists::in_use(&self.queries, usize::from(self.query_count));
+        let q = queries.get(query).ok_or(Refusal::Number)?;
+        check_values(q.parameters, values)
     }
 
     // The order of use is the one after the question, and the key and the length stand in the slot, if there is one.
@@ -559,6 +430,28 @@ impl State {
     }
 
     // ---- update
+
+    // Refuses by 2, 10, 11 or 12, the lowest that applies.
+    fn check_update(
+        &self,
+        cells: usize,
+        memory: usize,
+        update: usize,
+        values: usize,
+    ) -> Result<(), Refusal>
+        ensures { number_in result ≡ update_refusal self.now cells memory update values }
+    {
+        self.check(cells, memory)?;
+        let updates = lists::in_use(&self.updates, usize::from(self.update_count));
+        let u = updates.get(update).ok_or(Refusal::Number)?;
+        check_values(u.parameters, values)?;
+        let table = &self.tables[usize::from(u.table)];
+        let full = fills(u, table) & !table.ring;
+        if full {
+            return Err(Refusal::Full);
+        }
+        Ok(())
+    }
 
     // The rows of the update's table t changed, and the slots of the answers that it matches dropped; nothing where it is refused.
     fn take_effect(
@@ -582,24 +475,14 @@ impl State {
                 slots,
             };
         }
-        let start = sound::areas(&self.tables[..u.table as usize]);
-        let gone = matching::dropped_by(
-            &self.keys,
-            &slots,
-            &self.queries,
-            self.query_count,
-            &u,
-            &t,
-            start,
-            cells,
-            values,
-        );
+        let start = sound::areas(&self.tables[..usize::from(u.table)]);
+        let gone = matching::dropped_by(self, &u, &t, start, cells, values);
         let done = table::change(u, t, start, cells, values);
         Effect {
             count: done.count,
             rows: done.rows,
             oldest: done.oldest,
-            slots: slots.drop(gone),
+            slots: slots.drop(&gone),
         }
     }
 
@@ -614,14 +497,10 @@ impl State {
     ) -> Outcome<Changed>
         ensures { updates (updated_as result.result result.state) cells.new ≡ update_of self cells.old (length memory.now) update values.now }
     {
-        let sound = self.is_sound();
-        let unfit = is_unfit(sound, self.cells, self.memory, cells.len(), memory.len());
+        let taken = self.check_update(cells.len(), memory.len(), update, values.len());
         let u = self.updates[update % Update::UPDATES];
-        let i = (u.table as usize) % Table::TABLES;
+        let i = usize::from(u.table) % Table::TABLES;
         let mut t = self.tables[i];
-        let full = is_full(u.form, t.ring, t.capacity, t.rows);
-        let count = self.update_count;
-        let taken = update_refusal(unfit, count, update, u.parameters, values.len(), full);
         let effect = self.take_effect(taken, u, t, cells, values);
         let invalidated = self.slots.held - effect.slots.held;
         t.rows = effect.rows;
@@ -640,18 +519,89 @@ impl State {
     pub fn flush(mut self, cells: &[i32], memory: &[u8]) -> Outcome<()>
         ensures { flushed_as result.result result.state ≡ flush_of self (length cells.now) (length memory.now) }
     {
-        let sound = self.is_sound();
-        if is_unfit(sound, self.cells, self.memory, cells.len(), memory.len()) {
-            return Outcome {
-                result: Err(Refusal::State),
-                state: self,
-            };
+        let result = self.check(cells.len(), memory.len());
+        if result.is_ok() {
+            self.slots = self.slots.clear();
         }
-        let free = self.slots.clear();
-        self.slots = free;
         Outcome {
-            result: Ok(()),
+            result,
             state: self,
         }
+    }
+}
+
+impl Question<'_> {
+    // Its answer, from the cache or worked out.
+    fn answered(&self, cells: &[i32], memory: &mut [u8], answer: &mut [u8]) -> Reply
+        requires { length memory.old ≡ self.now.state.now.memory }
+        ensures { asks (outcome_of self.now.state.now self.now.key.now (told result)) memory.new answer.new ≡ ask_found (find_of self.now.state.now.keys self.now.state.now.slots self.now.key.now) self.now.state.now cells.now memory.old answer.old self.now.number self.now.values.now }
+    {
+        match slots::find(&self.state.keys, &self.state.slots, self.key) {
+            Some(p) => self.cached(memory, answer, p),
+            None => self.worked_out(cells, memory, answer),
+        }
+    }
+
+    // The answer in the slot at place p of the order, which moves to the front.
+    fn cached(&self, memory: &[u8], answer: &mut [u8], p: u8) -> Reply
+        requires { (p < self.now.state.now.slots.held) × (length memory.now ≡ self.now.state.now.memory) }
+        ensures { Caches self.now.state.now memory.now answer.old p (told result) answer.new }
+    {
+        let s = self.state;
+        let x = usize::from(s.slots.order[usize::from(p)]);
+        let length = usize::from(s.lengths[x]);
+        if answer.len() < length {
+            return not_answered(Refusal::Buffer, s.slots);
+        }
+        let at = x * usize::from(s.slot_bytes);
+        let record = &memory[at..at + length];
+        answer[..length].copy_from_slice(record);
+        Reply {
+            result: Ok(Answer {
+                source: Source::Cached,
+                scanned: 0,
+                length,
+            }),
+            place: nowhere(s.slots.move_to_front(p)),
+        }
+    }
+
+    // The answer worked out; its record takes the last slot if it fits one.
+    fn worked_out(&self, cells: &[i32], memory: &mut [u8], answer: &mut [u8]) -> Reply
+        requires { length memory.old ≡ self.now.state.now.memory }
+        ensures { asks (outcome_of self.now.state.now self.now.key.now (told result)) memory.new answer.new ≡ ask_new self.now.state.now cells.now memory.old answer.old self.now.number self.now.values.now }
+    {
+        let s = self.state;
+        match self.put_record(cells, answer) {
+            Err(refusal) => not_answered(refusal, s.slots),
+            Ok(done) => Reply {
+                result: Ok(Answer {
+                    source: Source::New,
+                    scanned: done.scanned,
+                    length: done.length,
+                }),
+                place: keep(s.slots, s.slot_bytes, done.length, answer, memory),
+            },
+        }
+    }
+
+    // Its record over its table, or over its two.
+    fn put_record(&self, cells: &[i32], answer: &mut [u8]) -> Result<Selected, Refusal>
+        ensures { WorksOut self.now.state.now cells.now self.now.number self.now.values.now answer.old (said result) answer.new }
+    {
+        let s = self.state;
+        let number = self.number;
+        let q = s.queries[number];
+        // Casts: by `From` the proof has to carry an equation for each place.
+        let i = q.table as usize;
+        let t = s.tables[i];
+        let start = sound::areas(&s.tables[..i]);
+        if q.second == 0 {
+            return table::select(q, t, start, cells, self.values, answer);
+        }
+        let j = (q.second - 1) as usize;
+        let u = s.tables[j];
+        let beside = sound::areas(&s.tables[..j]);
+        table::select_pair(q, t, start, u, beside, cells, self.values, answer)
     }
 }

@@ -4,7 +4,7 @@ ghost use Rattle.lists.specs.Lists.{all};
 ghost use Rattle.meaning.specs.Plain.{opening_refused};
 ghost use Rattle.slots.specs.Keys.{slot_key};
 ghost use Rattle.slots.specs.Order.{held_slots};
-ghost use Rattle.cache.specs.Sound.{opening, areas_of, rows_fit, length_at, length_fits, sound_key, slot_fits};
+ghost use Rattle.cache.specs.Sound.{opening, areas_of, rows_fit, length_at, length_fits, key_fits, slot_fits};
 
 use super::State;
 use slots::{Key, SlotList};
@@ -25,15 +25,15 @@ pub fn sizes_fit(cells: usize, memory: usize, slots: usize, bytes: usize) -> boo
 pub fn counts_fit(tables: u8, queries: u8, updates: u8) -> bool
     ensures { result ≡ (leb tables 8 && (leb queries 16 && leb updates 16)) }
 {
-    let few = ((queries as usize) <= Query::QUERIES) & ((updates as usize) <= Update::UPDATES);
-    ((tables as usize) <= Table::TABLES) & few
+    let few = (usize::from(queries) <= Query::QUERIES) & (usize::from(updates) <= Update::UPDATES);
+    (usize::from(tables) <= Table::TABLES) & few
 }
 
 // The cells of a table's area.
 fn area(table: &Table) -> usize
     ensures { (result ≡ table.now.count * table.now.capacity) × (result ≤ 16711425) }
 {
-    (table.count as usize) * (table.capacity as usize)
+    usize::from(table.count) * usize::from(table.capacity)
 }
 
 // The cells of the areas of tables, one behind the other.
@@ -41,11 +41,7 @@ pub fn areas(tables: &[Table]) -> usize
     requires { length tables.now ≤ 8 }
     ensures { result ≡ areas_of tables.now }
 {
-    let mut cells = 0;
-    for table in tables {
-        cells += area(table);
-    }
-    cells
+    tables.iter().map(area).sum()
 }
 
 // Whether a table holds no more rows than its ROWS, and the oldest lies where it may: first, or anywhere in a ring that is full.
@@ -63,30 +59,27 @@ pub fn rows_fit(tables: &[Table]) -> bool
     tables.iter().all(fits)
 }
 
-// Whether a key has an existing query and its number of values.
-fn key_fits(state: &State, key: &Key) -> bool
-    requires { state.now.query_count ≤ 16 }
-    ensures { result ≡ sound_key state.now key.now }
+// Whether a key has one of these queries, and its number of values.
+fn key_fits(queries: &[Query], key: &Key) -> bool
+    ensures { result ≡ key_fits queries.now key.now }
 {
-    let queries = &state.queries[..state.query_count as usize];
-    match queries.get(key.query as usize) {
+    match queries.get(usize::from(key.query)) {
         Some(query) => key.count == query.parameters,
         None => false,
     }
 }
 
 // Whether a slot has such a key, and a length from 8 to the slot's bytes.
-fn slot_fits(state: &State, slot: u8) -> bool
-    requires { state.now.query_count ≤ 16 }
-    ensures { result ≡ slot_fits state.now slot }
+fn slot_fits(state: &State, queries: &[Query], slot: u8) -> bool
+    ensures { result ≡ (length_fits (length_at state.now slot) state.now.slot_bytes && key_fits queries.now (slot_key state.now.keys slot)) }
 {
-    let x = slot as usize;
+    let x = usize::from(slot);
     if SlotList::SLOTS <= x {
         return false;
     }
     let length = state.lengths[x];
-    let sized = (SlotList::LEAST_BYTES <= (length as usize)) & (length <= state.slot_bytes);
-    sized && key_fits(state, &state.keys[x])
+    let sized = (SlotList::LEAST_BYTES <= usize::from(length)) & (length <= state.slot_bytes);
+    sized && key_fits(queries, &state.keys[x])
 }
 
 // Whether each held slot does.
@@ -94,9 +87,10 @@ pub fn held_fit(state: &State) -> bool
     requires { state.now.query_count ≤ 16 }
     ensures { result ≡ all (slot_fits state.now) (held_slots state.now.slots) }
 {
+    let queries = lists::in_use(&state.queries, usize::from(state.query_count));
     state
         .slots
         .held_slots()
         .iter()
-        .all(|x| slot_fits(state, *x))
+        .all(|x| slot_fits(state, queries, *x))
 }

@@ -7,12 +7,12 @@ use Prim.Native.Nat.{ℕ, suc, ◌-◌, ◌^◌, ◌≤◌, ◌<◌}
 use Prim.Native.String.{String}
 use native.Mathlib.Omega.{arith}
 use borrow.Author.Tests.{eq-eqb, ne_eqb, eqb-true}
-use lib.Dec.{T, eqb, leb, lit<}
-use lib.IntN.{ℤ, pos, nat_abs}
-use lib.Signed.{non_neg}
-use mir.Syntax.{w32, w64}
-use mir.Val.{Fits, SFits}
-use lib.ListN.{length, get_or}
+use lib.Dec.{eqb, leb}
+use lib.IntN.{ℤ, pos}
+use mir.Syntax.{w32}
+use mir.Val.{SFits}
+use lib.Pointwise.{pointwise}
+use lib.ListN.{length, take}
 use Rattle.lists.specs.Lists.{bytes, all, All, nil, cons, take_while, drop_while}
 use Rattle.lists.specs.Tests.{eq_list}
 use Rattle.lists.proofs.Bools.{and_left, and_right, clash}
@@ -30,6 +30,8 @@ use Rattle.token.specs.Tokens.{operator_kind, keyword_kind, kind_of, token_of, t
 use Rattle.token.proofs.Cases.{none_is, some_is}
 use Rattle.token.proofs.Words.{digit-word}
 use Rattle.std.specs.Prelude as P
+use Rattle.std.specs.Int.{FitsUnsignedBits}
+use Rattle.std.specs.Result.{result_ok}
 use Rattle.console.specs.Parts.{given}
 use Rattle.console.specs.Lines.{most_number, number_in, constant_in, whole_token, value_in}
 
@@ -213,19 +215,16 @@ module _ (b : ℕ) (s : List ℕ) where
           turn true = refl
           turn false = refl
 
-pub number-found : (w : List ℕ) → 0 < length w → (get_or w 0 0 ≡ 45 → ⊥) → value_in w ≡ positive (number_in w)
-number-found [] h k = absurd (omega arith)
-number-found (b ∷ s) h k = number-value b s k
+-- by whether the word begins with a minus
+pub number-found : (w : List ℕ) {m : Bool} → m ≡ pointwise eqb (45 ∷ []) (take 1 w) → m ≡ false → value_in w ≡ positive (number_in w)
+unfolding value_in number_in
+number-found [] k h = refl
+number-found (b ∷ s) k h = number-value b s (λ e. clash (ap (λ (x : Bool). x && true) (eq-eqb 45 b (sym e))) (sym k ∙ h))
 
-pub number-minus : (w : List ℕ) → get_or w 0 0 ≡ 45 → number_in w ≡ none
+pub number-minus : (w : List ℕ) {m : Bool} → m ≡ pointwise eqb (45 ∷ []) (take 1 w) → m ≡ true → number_in w ≡ none
 unfolding number_in
-number-minus [] h = refl
-number-minus (b ∷ s) h = ap (λ (c : ℕ). number_in (c ∷ s)) h
-
-pub number-empty : (w : List ℕ) → length w ≤ 0 → number_in w ≡ none
-unfolding number_in
-number-empty [] h = refl
-number-empty (b ∷ s) h = absurd (omega arith)
+number-minus [] k h = refl
+number-minus (b ∷ s) k h = ap (λ (c : ℕ). number_in (c ∷ s)) (sym (eqb-true 45 b (and_left (eqb 45 b) true (sym k ∙ h))))
 
 -- ---- as the program has them
 
@@ -250,13 +249,20 @@ module _ (w : List ℕ) (t : Token) (e : t ≡ token_at w 0) where
   found-other h = found_none (value-none (length w) t h)
 
 -- a value of digits is no negative number
-pub found_number : (o : Option ℕ) (z : ℤ) → P.Some z ≡ given (positive o) → SFits w32 z → (P.Some (nat_abs z) ≡ given o) × (T (non_neg z) × Fits w64 (nat_abs z))
-found_number none z e h = absurd (let q : ⊥ = cc in q)
-found_number (some n) z e h =
-    let q : pos n ≡ z = cc in
-    subst (λ (y : ℤ). (P.Some (nat_abs y) ≡ P.Some n) × (T (non_neg y) × Fits w64 (nat_abs y))) q
-    (refl, (tt, record { fits = let k : SFits w32 (pos n) = subst (SFits w32) (sym q) h in let l : n < 2 ^ 31 = k.sfits in omega arith }))
+pub found_number : (o : Option ℕ) (z : ℤ) → P.Some z ≡ given (positive o) → (n : ℕ) × (z ≡ pos n) × (given o ≡ P.Some n)
+found_number none z e = absurd (let q : ⊥ = cc in q)
+found_number (some n) z e = let q : z ≡ pos n = cc in (n, q, refl)
 
 pub found-no : (o : Option ℕ) → P.None ≡ given (positive o) → P.None ≡ given o
 found-no none e = refl
 found-no (some n) e = absurd (let q : ⊥ = cc in q)
+
+pub ok-is : {E : Type 0} (r : P.Result ℕ E) {F : Type 0} (n : ℕ) → P.OkIff r F n → F → result_ok r ≡ P.Some n
+ok-is (P.Ok x) n h f = ap P.Some h.1
+ok-is (P.Err e) n h f = absurd (h f)
+
+pub fits-usize : (z : ℤ) (n : ℕ) → z ≡ pos n → SFits w32 z → FitsUnsignedBits 64 z
+fits-usize z n e h =
+    let k : SFits w32 (pos n) = subst (SFits w32) e h in
+    let l : n < 2 ^ 31 = k.sfits in
+    subst (FitsUnsignedBits 64) (sym e) (omega arith)

@@ -1,13 +1,13 @@
 -- The place of the first byte that passes a test, against the run of those before it. Assumes nothing.
-use mathlib.Core.Path.{◌≡◌, refl, sym, ap, ap₂, ◌∙◌}
+use mathlib.Core.Path.{◌≡◌, refl, sym, ap, ◌∙◌}
 use mathlib.Core.Bool.{Bool, true, false, not, cond}
 use mathlib.Core.List.{List, [], ◌∷◌}
-use Prim.Native.Nat.{ℕ, suc, ◌+◌, ◌≤◌, ◌<◌}
+use Prim.Native.Nat.{ℕ, suc, ◌+◌, ◌≤◌}
 use native.Mathlib.Omega.{arith}
 use borrow.Author.Tests.{ltb-false, lt-ltb}
 use lib.Dec.{ltb}
-use lib.ListN.{length, take}
-use Rattle.std.specs.Prelude.{Option, Some, None, position, unwrap_or}
+use lib.ListN.{length}
+use Rattle.std.specs.Prelude.{Option, Some, None, is_some, position, unwrap_or}
 use Rattle.std.specs.List.{position_or_len}
 use Rattle.std.proofs.lemmas.Bool.Decides.{nat_tests}
 use Rattle.std.proofs.lemmas.List.Recursion.{is_position_or_len}
@@ -56,19 +56,10 @@ module _ (p : ℕ → Bool) where
           both : (i n : ℕ) → ltb i n ≡ ltb (suc i) (suc n)
           both i n = grind (arith, nat_tests)
 
-  -- by the place that was found, or none
-  pub found-at : (l : List ℕ) (n : ℕ) → Some n ≡ position p l → (n ≡ run l) × (has_newline (drop_while (λ (b : ℕ). not (p b)) l) ≡ true)
-  found-at l n e = go (ltb (run l) (length l)) (e ∙ place l) (ends l)
+  -- whether one passes
+  pub found-is : (l : List ℕ) → is_some (position p l) ≡ has_newline (drop_while (λ (b : ℕ). not (p b)) l)
+  found-is l = ap is_some (place l) ∙ go (ltb (run l) (length l)) ∙ sym (ends l)
     where
-      go : (b : Bool) → Some n ≡ cond b (Some (run l)) None → has_newline (drop_while (λ (b : ℕ). not (p b)) l) ≡ b
-          → (n ≡ run l) × (has_newline (drop_while (λ (b : ℕ). not (p b)) l) ≡ true)
-      go true e h = let q : n ≡ run l = cc in (q, h)
-      go false e h = absurd (let q : ⊥ = cc in q)
-
-  pub found-nowhere : (l : List ℕ) → None ≡ position p l → (length l ≡ run l) × (has_newline (drop_while (λ (b : ℕ). not (p b)) l) ≡ false)
-  found-nowhere l e = go (ltb (run l) (length l)) refl (e ∙ place l) (ends l)
-    where
-      go : (b : Bool) → ltb (run l) (length l) ≡ b → None ≡ cond b (Some (run l)) None → has_newline (drop_while (λ (b : ℕ). not (p b)) l) ≡ b
-          → (length l ≡ run l) × (has_newline (drop_while (λ (b : ℕ). not (p b)) l) ≡ false)
-      go true k e h = absurd (let q : ⊥ = cc in q)
-      go false k e h = (omega (arith, ltb-false (run l) (length l) k, run-few l), h)
+      go : (b : Bool) → is_some (cond b (Some (run l)) None) ≡ b
+      go true = refl
+      go false = refl

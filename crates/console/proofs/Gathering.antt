@@ -1,43 +1,34 @@
 -- A line gathered: what stands before the newline, as far as there is room. Assumes nothing.
-use mathlib.Core.Path.{◌≡◌, refl, sym, ap, ap₂, ◌∙◌}
+use mathlib.Core.Path.{◌≡◌, refl, ap, ◌∙◌}
 use mathlib.Core.Bool.{Bool, true, false, not, cond}
 use mathlib.Core.List.{List}
 use Prim.Native.Nat.{ℕ, ◌+◌}
-use native.Mathlib.Omega.{arith}
+use mir.Val.{bool_byte}
 use lib.ListN.{length, take, drop}
-use lib.Seq.{take-length}
-use Rattle.std.specs.Prelude.{Some, None, position}
+use Rattle.std.specs.Prelude.{is_some, position, unwrap_or}
 use Rattle.lists.proofs.Runs.{take-run}
-use Rattle.console.specs.Room.{filled, filled_to}
-use Rattle.console.specs.Lines.{is_newline, line_from, line_ends, gathered_of}
-use Rattle.console.specs.Pieces.{Puts}
-use Rattle.console.proofs.Finding.{found-at, found-nowhere}
-use Rattle.console.proofs.Puttings.{puts-as}
+use Rattle.console.specs.Lines.{is_newline, line_from, gathered_of}
+use Rattle.console.specs.Room.{filled_to}
+use Rattle.console.proofs.Finding.{run-found, found-is}
 
-module _ (input : List ℕ) (from : ℕ) (line : List ℕ) (held h : ℕ) (out : List ℕ) where
+one : (b : Bool) → bool_byte b ≡ cond b 1 0
+one true = refl
+one false = refl
+
+module _ (input : List ℕ) (from : ℕ) (line : List ℕ) (held : ℕ) where
   abbrev left : List ℕ
   left = drop from input
 
-  gathered : (n k : ℕ) (b : Bool) → n ≡ length (line_from input from) → line_ends input from ≡ b → k ≡ cond b 1 0 → Puts line held (take n left) out h
-      → (record { next = from + n + k; held = h; ended = b } ≡ gathered_of input from line held) × (out ≡ filled line held (line_from input from))
-  unfolding gathered_of
-  gathered n k b e f g P =
-      let put : Puts line held (line_from input from) out h = puts-as (ap (λ (j : ℕ). take j left) e ∙ take-run (λ (b : ℕ). not (is_newline b)) left) P in (
-        λ i. record {
-          next = from + e i + (g ∙ ap (λ (x : Bool). cond x 1 0) (sym f)) i;
-          held = put.ends i;
-          ended = sym f i;
-        },
-        put.text,
-      )
+  -- by the place of the line's end, or else the length of what is left
+  module _ (n : ℕ) (e : n ≡ unwrap_or (position is_newline left) (length left)) where
+    pub piece_is : take n left ≡ line_from input from
+    piece_is = ap (λ (k : ℕ). take k left) (e ∙ run-found is_newline left) ∙ take-run (λ (b : ℕ). not (is_newline b)) left
 
-  pub gathered-line : (n : ℕ) → Some n ≡ position is_newline left → Puts line held (take n left) out h
-      → (record { next = from + n + 1; held = h; ended = true } ≡ gathered_of input from line held) × (out ≡ filled line held (line_from input from))
-  gathered-line n e P = let q = found-at is_newline left n e in gathered n 1 true q.0 q.1 refl P
-
-  pub gathered-all : None ≡ position is_newline left → Puts line held left out h
-      → (record { next = from + length left; held = h; ended = false } ≡ gathered_of input from line held) × (out ≡ filled line held (line_from input from))
-  gathered-all e P =
-      let q = found-nowhere is_newline left e in
-      let z : from + length left + 0 ≡ from + length left = omega arith in
-      rw z at (gathered (length left) 0 false q.0 q.1 refl (puts-as (sym (take-length left)) P))
+    pub gathered : (h k : ℕ) (b : Bool) → h ≡ filled_to line held (line_from input from) → b ≡ is_some (position is_newline left) → k ≡ bool_byte b
+        → record { next = from + n + k; held = h; ended = b } ≡ gathered_of input from line held
+    unfolding gathered_of
+    gathered h k b f g q = λ i. record {
+      next = from + (e ∙ run-found is_newline left) i + (q ∙ one b ∙ ap (λ (x : Bool). cond x 1 0) (g ∙ found-is is_newline left)) i;
+      held = f i;
+      ended = (g ∙ found-is is_newline left) i;
+    }

@@ -23,7 +23,7 @@ first_count : (b : ℕ) (ws : List (List ℕ)) → length (on_first b ws) ≤ su
 first_count b [] = omega arith
 first_count b (w ∷ ws) = omega arith
 
-words_count : (s : List ℕ) → length (words s) ≤ suc (length s)
+pub words_count : (s : List ℕ) → length (words s) ≤ suc (length s)
 words_count [] = omega arith
 words_count (b ∷ s) = go (is_space b) (words_count s)
   where

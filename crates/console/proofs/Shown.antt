@@ -1,85 +1,69 @@
 -- Numbers and rows as they are shown: a number by its 32 bits, a row by four bytes a value, and the rows of a record one after another. Assumes nothing.
 use mathlib.Core.Path.{◌≡◌, refl, sym, ap, ◌∙◌}
-use mathlib.Core.Bool.{Bool, true, false, ◌&&◌, cond}
+use mathlib.Core.Bool.{Bool, true, false, ◌&&◌, cond, true≢false}
 use mathlib.Core.List.{List, [], ◌∷◌, ◌++◌, map}
-use Prim.Native.Nat.{ℕ, suc, ◌+◌, ◌*◌, ◌-◌, ◌^◌, ◌≤◌, ◌<◌}
+use Prim.Native.Nat.{ℕ, suc, ◌+◌, ◌*◌, ◌-◌, ◌/◌, ◌≤◌, ◌<◌}
 use native.Mathlib.Omega.{arith}
-use borrow.Author.Tests.{eq-eqb, ne_eqb, lt-ltb, le-ltb, eqb-true, ltb-true, ltb-false, leb-true}
+use borrow.Author.Tests.{eqb-true, ltb-true, ltb-false, leb-true}
 use lib.Dec.{leb, ltb, eqb}
-use lib.ListN.{length, drop, get_or, length-drop}
+use lib.IntN.{ℤ, pos, negsuc, nat_abs}
+use lib.Signed.{lt_z}
+use Rattle.std.specs.Simd.{first_chunks}
+use Rattle.std.specs.Int.{from_be_bytes}
+use mir.Syntax.{w32}
+use mir.Val.{to_z}
+use lib.ListN.{length, get_or}
 use Rattle.lists.specs.Lists.{bytes, from}
 use Rattle.lists.proofs.Bools.{and_left, and_right}
 use Rattle.lists.proofs.Walks.{from_cons, from-none}
 use Rattle.meaning.specs.Limits.{most_items}
 use Rattle.meaning.specs.Record.{number_of, numbers_of, four_at, columns_in, row_count, row_bytes, is_record, has_row, row_part, row_refusal}
-use Rattle.token.proofs.Runs.{drop_here}
-use Rattle.console.specs.Printed.{source_word, line, item, added_text, decimal_text, number_text, row_text, further_text, rows_text, rows_there, rows_shown}
-use Rattle.console.specs.Pieces.{rows_from}
+use Rattle.console.specs.Printed.{line, item, added_text, decimal_text, number_text, row_text, further_text, rows_text, rows_there, rows_shown}
+use Rattle.console.specs.Pieces.{rows_from, kind_word}
 
-module _ (n : ℕ) where
-  pub number-low : n < 2 ^ 31 → number_text (number_of n) ≡ decimal_text n
-  unfolding number_text
-  number-low h = rw (lt-ltb n (2 ^ 31) h)
+-- ---- numbers
 
-  pub number-high : 2 ^ 31 ≤ n → n < 2 ^ 32 → number_text (number_of n) ≡ 45 ∷ decimal_text (4294967296 - n)
-  unfolding number_text
-  number-high h k =
-      let e : suc (2 ^ 32 - suc n) ≡ 4294967296 - n = omega arith in
-      rw (le-ltb n (2 ^ 31) h) (ap (λ (m : ℕ). 45 ∷ decimal_text m) e)
+-- a number is a minus, if it is negative, and its magnitude
+pub number-negative : (z : ℤ) → lt_z z (pos 0) ≡ true → 45 ∷ decimal_text (nat_abs z) ≡ number_text z
+unfolding number_text
+number-negative (pos n) h = absurd (omega (arith, ltb-true n 0 h))
+number-negative (negsuc n) h = refl
+
+pub number-positive : (z : ℤ) → lt_z z (pos 0) ≡ false → decimal_text (nat_abs z) ≡ number_text z
+unfolding number_text
+number-positive (pos n) h = refl
+number-positive (negsuc n) h = absurd (true≢false h)
 
 -- ---- a line by a kind
 
-module _ (kind n : ℕ) where
-  pub added-table : kind ≡ 1 → added_text kind n ≡ line (item "table" n)
-  unfolding added_text
-  added-table e = rw (eq-eqb kind 1 e)
-
-  pub added-query : kind ≡ 2 → added_text kind n ≡ line (item "query" n)
-  unfolding added_text
-  added-query e = ap (λ (k : ℕ). added_text k n) e
-
-  pub added-update : kind ≡ 3 → added_text kind n ≡ line (item "update" n)
-  unfolding added_text
-  added-update e = ap (λ (k : ℕ). added_text k n) e
-
--- ---- where an answer is from
-
-module _ (kept : ℕ) where
-  pub source-new : kept ≡ 0 → source_word kept ≡ bytes "new "
-  source-new e = rw (eq-eqb kept 0 e)
-
-  pub source-kept : (kept ≡ 0 → ⊥) → source_word kept ≡ bytes "kept "
-  source-kept e = rw (ne_eqb kept 0 e)
+pub added-is : (kind n : ℕ) → line (kind_word kind ++ (32 ∷ decimal_text n)) ≡ added_text kind n
+unfolding added_text
+added-is kind n = go (eqb kind 1) (eqb kind 2)
+  where
+    go : (a b : Bool) → line (cond a (bytes "table") (cond b (bytes "query") (bytes "update")) ++ (32 ∷ decimal_text n)) ≡ line (cond a (item "table" n) (cond b (item "query" n) (item "update" n)))
+    go true b = refl
+    go false true = refl
+    go false false = refl
 
 -- ---- a row
 
-module _ (l : List ℕ) (i : ℕ) where
-  four-more : i + 4 ≤ length l → drop i l ≡ get_or l i 0 ∷ get_or l (i + 1) 0 ∷ get_or l (i + 2) 0 ∷ get_or l (i + 3) 0 ∷ drop (i + 4) l
-  four-more h =
-      let p : i + 1 + 1 ≡ i + 2 = omega arith in
-      let q : i + 2 + 1 ≡ i + 3 = omega arith in
-      let r : i + 3 + 1 ≡ i + 4 = omega arith in
-      drop_here l i (omega arith)
-      ∙ ap (λ (t : List ℕ). get_or l i 0 ∷ t)
-      (drop_here l (i + 1) (omega arith)
-      ∙ ap (λ (k : ℕ). get_or l (i + 1) 0 ∷ drop k l) p
-      ∙ ap (λ (t : List ℕ). get_or l (i + 1) 0 ∷ t)
-      (drop_here l (i + 2) (omega arith)
-      ∙ ap (λ (k : ℕ). get_or l (i + 2) 0 ∷ drop k l) q
-      ∙ ap (λ (t : List ℕ). get_or l (i + 2) 0 ∷ t) (drop_here l (i + 3) (omega arith) ∙ ap (λ (k : ℕ). get_or l (i + 3) 0 ∷ drop k l) r)))
+-- the numbers of arrays of four bytes
+abbrev pub values_in : List (List ℕ) → List ℤ
+values_in cs = map (λ (c : List ℕ). number_of (four_at c 0)) cs
 
-  pub row_more : i + 4 ≤ length l → row_text (numbers_of (drop i l)) ≡ (32 ∷ number_text (number_of (four_at l i))) ++ row_text (numbers_of (drop (i + 4) l))
-  row_more h = ap (λ (t : List ℕ). row_text (numbers_of t)) (four-more h)
+-- as `i32::from_be_bytes` reads them
+pub value-is : (c : List ℕ) → to_z w32 (from_be_bytes w32 c) ≡ number_of (four_at c 0)
+value-is c = let e : from_be_bytes w32 c ≡ four_at c 0 = omega arith in ap (to_z w32) e
 
-  pub row-end : length l - i < 4 → row_text (numbers_of (drop i l)) ≡ []
-  row-end h = ap row_text (short (drop i l) (simp length-drop h))
-    where
-      short : (t : List ℕ) → length t < 4 → numbers_of t ≡ []
-      short [] k = refl
-      short (a ∷ []) k = refl
-      short (a ∷ b ∷ []) k = refl
-      short (a ∷ b ∷ c ∷ []) k = refl
-      short (a ∷ b ∷ c ∷ d ∷ t) k = absurd (omega arith)
+-- a row, four bytes a value
+pub values-of : (l : List ℕ) → values_in (first_chunks 4 (length l / 4) l) ≡ numbers_of l
+values-of [] = refl
+values-of (a ∷ []) = refl
+values-of (a ∷ b ∷ []) = refl
+values-of (a ∷ b ∷ c ∷ []) = refl
+values-of (a ∷ b ∷ c ∷ d ∷ l) =
+    let e : length (a ∷ b ∷ c ∷ d ∷ l) / 4 ≡ suc (length l / 4) = omega arith in
+    ap (λ (k : ℕ). values_in (first_chunks 4 k (a ∷ b ∷ c ∷ d ∷ l))) e ∙ ap (λ (zs : List ℤ). number_of (four_at (a ∷ b ∷ c ∷ d ∷ []) 0) ∷ zs) (values-of l)
 
 -- ---- the rows of a record
 
@@ -134,7 +118,7 @@ module _ (bs : List ℕ) where
     rows_more : i < rows_there bs → rows_from bs i ≡ numbers_of (row_part bs i) ∷ rows_from bs (i + 1)
     rows_more h = ap (map (λ (k : ℕ). numbers_of (row_part bs k))) (from_cons (rows_there bs) i h)
 
-    rows_end : rows_there bs ≤ i → rows_from bs i ≡ []
+    pub rows_end : rows_there bs ≤ i → rows_from bs i ≡ []
     rows_end h = ap (map (λ (k : ℕ). numbers_of (row_part bs k))) (from-none (rows_there bs) i h)
 
     pub further-more : row_refusal bs i ≡ 0 → further_text (rows_from bs i) ≡ ((32 ∷ 47 ∷ []) ++ row_text (numbers_of (row_part bs i))) ++ further_text (rows_from bs (i + 1))

@@ -1,19 +1,10 @@
--- What the private functions of `lines` find: words behind a space, numbers and values that are good or not, counts of values, commands. Assumes nothing: these are definitions.
+-- What the private functions of `lines` find: numbers and values that are good or not, counts of values, commands. Assumes nothing: these are definitions.
 use Rattle.std.specs.Prelude as P
-use Rattle.std.specs.Prelude.{Bool, not, cond, List, [], ◌∷◌, map, ℕ, ◌+◌, ℤ, pos, length, unwrap_or}
+use Rattle.std.specs.Prelude.{cond, List, [], ◌∷◌, map, ℕ, ◌+◌, ℤ, pos, length, unwrap_or}
 use Rattle.std.proofs.Math.Option.{Option, none, some}
-use Rattle.meaning.specs.Tokens.{is_space}
 use Rattle.console.specs.declared.Line.{Line}
-use Rattle.console.specs.declared.Line.TheVariants.{Ask, Do, Bad}
-use Rattle.console.specs.Lines.{words, is_word, value_in}
-
-abbrev pub not_space : ℕ → Bool
-not_space b = not (is_space b)
-
--- the words behind a byte
-abbrev pub words_behind : List ℕ → List (List ℕ)
-words_behind [] = []
-words_behind (b ∷ s) = words s
+use Rattle.console.specs.declared.Line.TheVariants.{Ask, Do}
+use Rattle.console.specs.Lines.{is_word, number_in, value_in, values_in}
 
 -- as the program has what may be missing
 abbrev pub given : {A : Type 0} → Option A → P.Option A
@@ -32,8 +23,18 @@ abbrev pub count_on : ℕ → Option (List ℤ) → P.Option ℕ
 count_on n none = P.None
 count_on n (some zs) = P.Some (n + length zs)
 
--- what a word, a number and a count of values say, if they are good
-abbrev pub numbered_line : List ℕ → P.Option ℕ → P.Option ℕ → Line
-numbered_line w (P.Some n) (P.Some k) = cond (is_word "ASK" w) (Ask n k) (cond (is_word "DO" w) (Do n k) Bad)
-numbered_line w (P.Some n) P.None = Bad
-numbered_line w P.None k = Bad
+-- ASK or DO, by their word
+abbrev pub named_line : List ℕ → ℕ → ℕ → P.Option Line
+named_line w n k = cond (is_word "ASK" w) (P.Some (Ask n k)) (cond (is_word "DO" w) (P.Some (Do n k)) P.None)
+
+-- the same, where the number and the count may be missing
+abbrev pub counted_line : List ℕ → P.Option ℕ → P.Option ℕ → P.Option Line
+counted_line w (P.Some n) (P.Some k) = named_line w n k
+counted_line w (P.Some n) P.None = P.None
+counted_line w P.None k = P.None
+
+-- what two words or more say
+abbrev pub numbered_line : List (List ℕ) → P.Option Line
+numbered_line [] = P.None
+numbered_line (w ∷ []) = P.None
+numbered_line (w ∷ n ∷ vs) = counted_line w (given (number_in n)) (count_on 0 (values_in vs))

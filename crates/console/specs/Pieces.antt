@@ -1,15 +1,21 @@
--- A piece of text put at a place of lent memory, as far as there is room: what a function that does so leaves, and where the piece ends.
--- Assumes nothing: these are definitions.
-use Rattle.std.specs.Prelude.{◌≡◌, List, map, ℕ, ◌-◌, ℤ}
-use Rattle.lists.specs.Lists.{from}
+-- Pieces put at a writer's place, as far as there is room: what a method that does so leaves. Assumes nothing: these are definitions.
+use Rattle.std.specs.Prelude.{◌≡◌, cond, List, map, ℕ, ◌-◌, eqb, ℤ}
+use Rattle.lists.specs.Lists.{bytes, from}
 use Rattle.meaning.specs.Record.{row_part, numbers_of}
+use Rattle.console.specs.declared.writer.Writer.{Writer}
 use Rattle.console.specs.Room.{filled, filled_to}
 use Rattle.console.specs.Printed.{rows_there}
 
-pub record Puts (before : List ℕ) (at : ℕ) (piece after : List ℕ) (end : ℕ) : Type 0 where
-  pub ends : end ≡ filled_to before at piece
-  pub text : after ≡ filled before at piece
+-- the buffer is the same, the piece stands from the old place on, and the new place is behind it
+pub record Puts {A : Type 0} (before : Writer A) (piece : List A) (after : Writer A) : Type 0 where
+  pub same : after.out.ghost_name ≡ before.out.ghost_name
+  pub place : after.place ≡ filled_to before.out.now before.place piece
+  pub items : after.out.now ≡ filled before.out.now before.place piece
 
 -- the rows that the bytes show, from row i on
 abbrev pub rows_from : List ℕ → ℕ → List (List ℤ)
 rows_from bs i = map (λ (k : ℕ). numbers_of (row_part bs k)) (from i (rows_there bs - i))
+
+-- by the kind: 1 a table, 2 a question, else an update
+abbrev pub kind_word : ℕ → List ℕ
+kind_word kind = cond (eqb kind 1) (bytes "table") (cond (eqb kind 2) (bytes "query") (bytes "update"))

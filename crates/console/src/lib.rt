@@ -3,6 +3,7 @@
 
 mod lines; // a line of the input, and what it says
 mod text; // what is printed
+mod writer; // a lent buffer that is filled from a place on
 
 ghost use Rattle.std.specs.Prelude.{◌≡◌, []};
 ghost use Rattle.cache.specs.Run.{add, ask, update, flush};
@@ -31,7 +32,7 @@ impl Line {
     pub const TEXT: usize = 4;
 }
 
-// How far a line was gathered: where the input goes on, also where the line has not ended, the bytes held, and whether it has.
+// How far a line was gathered: where the input goes on, the bytes held, and whether the line has ended. `next` and `held` hold either way, so no Option takes their place.
 #[derive(Clone, Copy)]
 pub struct Gathered {
     pub next: usize,

@@ -1,6 +1,6 @@
 -- Lists whose members are changed, dropped or joined: what stays the same. Assumes nothing.
 use mathlib.Core.Path.{◌≡◌, refl, sym, ap, ap₂, subst, ◌∙◌}
-use mathlib.Core.Bool.{Bool, true, false, not, ◌&&◌, ◌||◌, true≢false, false≢true}
+use mathlib.Core.Bool.{Bool, true, false, not, ◌||◌, false≢true}
 use mathlib.Core.List.Memᴰ.{head}
 use mathlib.Core.List.Memᴰ.{tail}
 use mathlib.Core.List.{List, [], ◌∷◌, ◌++◌, map, Memᴰ as Member}
@@ -111,29 +111,3 @@ module _ {A : Type 0} (same : A → A → Bool) where
       let h = length-keep (λ (y : A). not (same x y)) (distinct same xs) in
       let k = length-distinct xs in
       omega arith
-
--- ---- members changed or dropped where this shows nowhere
-
-module _ {A B : Type 0} (p : A → Bool) (f : A → B) where
-  -- each member passes the test after the change if it does before, and then it has the same f
-  pub quiet-map : (h : A → A) {xs : List A} → All (λ x. (p (h x) ≡ p x) × (p x ≡ true → f (h x) ≡ f x)) xs
-      → map f (keep p (map h xs)) ≡ map f (keep p xs)
-  quiet-map h nil = refl
-  quiet-map h (cons {x = x} {xs = xs} q k) = ap (λ (b : Bool). map f (cons_if b (h x) (keep p (map h xs)))) q.0 ∙ go (p x) q.1 (quiet-map h k)
-    where
-      go : (b : Bool) → (b ≡ true → f (h x) ≡ f x) → map f (keep p (map h xs)) ≡ map f (keep p xs)
-          → map f (cons_if b (h x) (keep p (map h xs))) ≡ map f (cons_if b x (keep p xs))
-      go true e ih = ap₂ ◌∷◌ (e refl) ih
-      go false e ih = ih
-
--- no member that is dropped passes the test
-pub quiet-keep : {A : Type 0} (p g : A → Bool) {xs : List A} → All (λ x. (g x && p x) ≡ false) xs
-    → keep p (keep (λ (x : A). not (g x)) xs) ≡ keep p xs
-quiet-keep p g nil = refl
-quiet-keep p g (cons {x = x} {xs = xs} q k) = go (g x) (p x) refl q (quiet-keep p g k)
-  where
-    go : (a b : Bool) → p x ≡ b → (a && b) ≡ false → keep p (keep (λ (x : _). not (g x)) xs) ≡ keep p xs
-        → keep p (cons_if (not a) x (keep (λ (x : _). not (g x)) xs)) ≡ cons_if b x (keep p xs)
-    go true true e k ih = absurd (true≢false k)
-    go true false e k ih = ih
-    go false b e k ih = ap₂ (λ (c : Bool) (l : List _). cons_if c x l) e ih

@@ -9,3 +9,4 @@ pub mod Stacks
 pub mod Walks
 pub mod Repeats
 pub mod Turned
+pub mod Chains

@@ -233,10 +233,6 @@ module _ {A : Type 0} where
       go none e = ap (λ r. x ∷ r) e
       go (some c) e = ap (λ r. x ∷ r) e
 
-  pub unsnoc-last : (a : List A) (x : A) → unsnoc (a ++ x ∷ []) ≡ some (a, x)
-  unsnoc-last [] x = refl
-  unsnoc-last (y ∷ a) x = ap (behind y) (unsnoc-last a x)
-
 pub All-source : {A B : Type 0} {P : B → Type 0} (f : A → B) (l : List A) → All P (map f l) → All (λ x. P (f x)) l
 All-source f [] h = nil
 All-source f (x ∷ l) h = cons (All-head h) (All-source f l (All-tail h))

@@ -1,5 +1,5 @@
 -- A list in another order, and numbers counted from one on. Assumes nothing.
-use mathlib.Core.Path.{◌≡◌, refl, sym, ap, subst, ◌∙◌}
+use mathlib.Core.Path.{◌≡◌, refl, sym, ap, subst}
 use mathlib.Core.Logic.{◌≢◌}
 use mathlib.Core.Bool.{Bool, true, false, not}
 use mathlib.Core.List.{List, [], ◌∷◌, ◌++◌, map, map-id}
@@ -7,8 +7,8 @@ use Prim.Native.Nat.{ℕ, zero, suc, ◌+◌, ◌≤◌, ◌<◌}
 use native.Mathlib.Nat.{le_refl}
 use native.Mathlib.Omega.{arith}
 use lib.ListN.{length, take, length-append}
-use Rattle.lists.specs.Lists.{All, nil, cons, DistinctBy, Distinct, cons_if, keep, count, from}
-use Rattle.lists.proofs.Lists.{All-head, All-tail, All-map, All-append, All-left, All-right, keep_append}
+use Rattle.lists.specs.Lists.{All, nil, cons, DistinctBy, Distinct, cons_if, keep, from}
+use Rattle.lists.proofs.Lists.{All-head, All-tail, All-map, All-append, All-left, All-right}
 
 module _ {A : Type 0} where
   -- the second list is the first in another order
@@ -40,18 +40,6 @@ module _ {A : Type 0} where
   pub moved_length : {l r : List A} → Moved l r → length l ≡ length r
   moved_length still = refl
   moved_length (to {x = x} {l = l} a b m) = omega (arith, moved_length m, length-append a b, length-append a (x ∷ b))
-
-  -- as many pass a test
-  count-append : (p : A → Bool) (a b : List A) → count p (a ++ b) ≡ count p a + count p b
-  count-append p a b = ap length (keep_append p a b) ∙ length-append (keep p a) (keep p b)
-
-  pub moved-count : (p : A → Bool) {l r : List A} → Moved l r → count p l ≡ count p r
-  moved-count p still = refl
-  moved-count p (to {x = x} {l = l} a b m) = go (p x) (moved-count p m ∙ count-append p a b) ∙ sym (count-append p a (x ∷ b))
-    where
-      go : (t : Bool) → count p l ≡ count p a + count p b → length (cons_if t x (keep p l)) ≡ count p a + length (cons_if t x (keep p b))
-      go true ih = omega arith
-      go false ih = ih
 
   module _ {B : Type 0} (f : A → B) where
     insert-distinct : (x : A) (a b : List A) → DistinctBy f (a ++ b) → All (λ y. f y ≢ f x) (a ++ b) → DistinctBy f (a ++ x ∷ b)

@@ -1,5 +1,5 @@
 -- The row that an INSERT into a full ring removes first, and the rows that the change finds. Assumes nothing.
-use mathlib.Core.Path.{◌≡◌, refl, ap, ◌∙◌}
+use mathlib.Core.Path.{◌≡◌, refl}
 use mathlib.Core.Bool.{Bool, true, false, not, ◌&&◌, cond, true≢false}
 use mathlib.Core.List.{List, [], ◌∷◌, ◌++◌}
 use Prim.Native.Nat.{◌≤◌, ◌<◌}
@@ -22,17 +22,6 @@ module _ (t : Table) (c : Change) where
       go true [] = refl
       go true (r ∷ rows) = refl
       go false rows = refl
-
-  -- all rows, or all but the oldest
-  pub remaining-all : is_pushing t.schema (length t.rows) c ≡ false → remaining t c ≡ t.rows
-  remaining-all e = ap (λ (b : Bool). drop (length (cond b (take 1 t.rows) [])) t.rows) e
-
-  pub remaining-rest : is_pushing t.schema (length t.rows) c ≡ true → remaining t c ≡ drop 1 t.rows
-  remaining-rest e = ap (λ (b : Bool). drop (length (cond b (take 1 t.rows) [])) t.rows) e ∙ go t.rows
-    where
-      go : (rows : List Row) → drop (length (take 1 rows)) rows ≡ drop 1 rows
-      go [] = refl
-      go (r ∷ rows) = refl
 
   pub remaining-has : {P : Row → Type 0} → All P t.rows → All P (remaining t c)
   remaining-has h = All-drop (length (pushed t c)) h

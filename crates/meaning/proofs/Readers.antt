@@ -2,7 +2,7 @@
 -- of its parts. Assumes nothing.
 use mathlib.Core.Path.{◌≡◌, refl, sym, ap, subst, ◌∙◌}
 use mathlib.Core.Logic.{◌≢◌}
-use mathlib.Core.Bool.{Bool, true, false, false≢true}
+use mathlib.Core.Bool.{Bool, true, false}
 use mathlib.Core.Option.{Option, none, some}
 use mathlib.Core.List.{List, [], ◌∷◌}
 use Prim.Native.Nat.{ℕ}
@@ -39,10 +39,6 @@ abbrev pub begins : Token → List Token → Bool
 begins t [] = false
 begins t (u ∷ us) = same_token u t
 
-pub begins-with : (t : Token) (ts : List Token) → begins t ts ≡ true → (us : List Token) × (ts ≡ t ∷ us)
-begins-with t [] e = absurd (false≢true e)
-begins-with t (u ∷ us) e = (us, ap (λ v. v ∷ us) (same-is u t e))
-
 module _ {A : Type 0} where
   module _ (t : Token) (on off : Reader A) where
     pub passing-yes : (ts : List Token) → passing t on off (t ∷ ts) ≡ on ts
@@ -50,9 +46,6 @@ module _ {A : Type 0} where
 
     pub passing-other : (u : Token) (ts : List Token) → same_token u t ≡ false → passing t on off (u ∷ ts) ≡ off (u ∷ ts)
     passing-other u ts e = rw (e, passing)
-
-    pub passing-no : (u : Token) (ts : List Token) → u ≢ t → passing t on off (u ∷ ts) ≡ off (u ∷ ts)
-    passing-no u ts n = passing-other u ts (same_not u t n)
 
     pub passing-stops : (ts : List Token) → begins t ts ≡ false → passing t on off ts ≡ off ts
     passing-stops [] e = refl
@@ -86,9 +79,6 @@ module _ {A : Type 0} where
 pub expect-here : (t : Token) (ts : List Token) → expect t (t ∷ ts) ≡ some (tt, ts)
 expect-here t ts = passing-yes t (done tt) fails ts
 
-pub expect-other : (t u : Token) (ts : List Token) → u ≢ t → expect t (u ∷ ts) ≡ none
-expect-other t u ts n = passing-no t (done tt) fails u ts n
-
 -- ---- one reader after another
 
 module _ {A B : Type 0} (k : A → Reader B) where
@@ -97,12 +87,6 @@ module _ {A B : Type 0} (k : A → Reader B) where
 
   pub then-none : {o : Option (A × List Token)} → o ≡ none → then o k ≡ none
   then-none e = ap (λ o. then o k) e
-
-  -- where the second succeeds the first did
-  pub then-read : (o : Option (A × List Token)) (y : B × List Token) → then o k ≡ some y
-      → (x : A) × (more : List Token) × (o ≡ some (x, more)) × (k x more ≡ some y)
-  then-read none y e = some-none (sym e)
-  then-read (some x) y e = (x.0, x.1, refl, e)
 
 -- ---- soundness: what is read from some tokens is spelled by them
 

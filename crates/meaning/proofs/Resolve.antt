@@ -51,9 +51,6 @@ marks-after m (any_of ∷ ns) = marks-after m ns
 pub marks-nodes : {C : Type 0} {l : Level} (m : ℕ) (p : Bool) (c : Condition (Term C) l) → marks_after m (nodes p c) ≡ m + mark_count (term_givens (sides (comparisons c)))
 marks-nodes m p c = marks-after m (nodes p c) ∙ ap (λ os. m + mark_count (term_givens os)) (sides-nodes p c)
 
-pub marks-in : {C : Type 0} (m : ℕ) (w : Where (Term C)) → marks_after m (nodes_in w) ≡ m + mark_count (term_givens (operands_in w))
-marks-in m w = marks-after m (nodes_in w) ∙ ap (λ os. m + mark_count (term_givens os)) (sides-in w)
-
 -- nodes of which as much may be outer, with one more of a kind before each
 module _ {O P : Type 0} (xs : List (Node O)) (ys : List (Node P)) (same : (e : Bool) (k : ℕ) → chained e k xs ≡ chained e k ys) where
   leaf-chained : (c : Comparison O) (d : Comparison P) (e : Bool) (k : ℕ) → chained e k (leaf c ∷ xs) ≡ chained e k (leaf d ∷ ys)

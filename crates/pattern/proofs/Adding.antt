@@ -8,7 +8,7 @@ use native.Mathlib.Numerals.{add-one}
 use native.Mathlib.Omega.{arith}
 use lib.Dec.{eqb}
 use borrow.Author.Tests.{eqb-true, eqb-false}
-use lib.ListN.{length, take, drop, get_or, set, length-set, length-map, length-take, drop_of_length-le}
+use lib.ListN.{length, take, drop, get_or, set, length-set, drop_of_length-le}
 use lib.Seq.{drop-cons, take-suc, take_all, get_or-set_same, get_or-set_other, drop-set-lt}
 use Rattle.lists.specs.Lists.{All, nil, cons, cons_if, from}
 use Rattle.lists.proofs.Lists.{All-map, All-append, map-append, map_same}
@@ -18,11 +18,9 @@ use Rattle.meaning.specs.Condition as C
 use Rattle.meaning.specs.Condition.{renamed, sides}
 use Rattle.meaning.specs.Statement as M
 use Rattle.meaning.specs.Pattern.{Joint}
-use Rattle.statement.specs.declared.Condition.{Condition}
 use Rattle.statement.specs.Operators.{predicate_at}
-use Rattle.statement.specs.Sound.{comparison_read, used_comparisons}
 use Rattle.pattern.specs.Least.{Coded, code_of, coded}
-use Rattle.pattern.specs.Masks.{select, comparisons_read}
+use Rattle.pattern.specs.Masks.{select}
 use Rattle.pattern.specs.Flat.{comparison_at, clause_at, Narrow, Readable, Coding, Extended}
 use Rattle.pattern.proofs.Mapped.{from_last}
 use Rattle.pattern.proofs.Numbering.{coding-readable}
@@ -158,9 +156,3 @@ module _ (g : M.Operand → Joint) where
           readable = A.readable;
           marks_stay = A.marks_stay;
         }
-
--- ---- the comparisons of a condition
-
-module _ (c : Condition) (long : length c.comparisons ≡ 8) (few : c.count ≤ 8) where
-  pub read_length : length (comparisons_read c) ≡ c.count
-  read_length = length-map (used_comparisons c) comparison_read ∙ length-take c.count c.comparisons ∙ omega arith

@@ -3,29 +3,20 @@ use Rattle.std.specs.Prelude.{Some, None}
 use mathlib.Core.Path.{◌≡◌, refl, sym, ap, ap₂, ◌∙◌}
 use mathlib.Core.Bool.{Bool, true, false, ◌&&◌, cond}
 use mathlib.Core.List.{List, [], ◌∷◌, map}
-use Prim.Native.Nat.{ℕ, suc, ◌+◌, ◌≤◌, ◌<◌}
+use Prim.Native.Nat.{ℕ, suc, ◌≤◌, ◌<◌}
 use native.Mathlib.Omega.{arith}
-use lib.IntN.{ℤ, pos}
-use lib.ListN.{length, take, get_or, replicate, length-map, get_or-eq_default}
+use lib.IntN.{ℤ}
+use lib.ListN.{length, take, get_or, replicate, length-map}
 use borrow.Author.Tests.{lt-ltb, le-ltb}
+use Rattle.std.specs.List.{zip}
+use Rattle.lists.specs.Lists.{all}
 use Rattle.meaning.specs.Pattern as P
 use Rattle.meaning.specs.Pattern.{agrees_at, agrees, anything}
 use Rattle.statement.specs.declared.Query.{Query}
 use Rattle.statement.specs.declared.Update.{Update}
 use Rattle.pattern.specs.declared.Entry.{Entry}
-use Rattle.pattern.specs.declared.Entry.TheVariants.{Constant, Parameter}
 use Rattle.pattern.specs.declared.Pattern.{Pattern}
-use Rattle.pattern.specs.Stored.{relevant, joint, all_any, entry_count, clause_count, clause_total, pattern_struct, clause_pattern, pattern_at, filled_entry, entry_read, agrees_stored}
-use Rattle.pattern.proofs.Mapped.{get_or-map-in, get_or-any}
-use Rattle.pattern.proofs.Searching.{Pairwise, pair-more, pair-done}
-
--- ---- entries
-
-pub filled-there : (us : List ℤ) (e : Entry) (k : ℕ) (z : ℤ) → e ≡ Parameter k → z ≡ get_or us k (pos 0) → Constant z ≡ filled_entry us e
-filled-there us e k z q h = ap Constant h ∙ sym (ap (filled_entry us) q)
-
-pub filled-past : (us : List ℤ) (e : Entry) (k : ℕ) → e ≡ Parameter k → length us ≤ k → Constant (pos 0) ≡ filled_entry us e
-filled-past us e k q h = filled-there us e k (pos 0) q (sym (get_or-eq_default us (pos 0) h))
+use Rattle.pattern.specs.Stored.{relevant, joint, all_any, entry_count, clause_count, clause_total, pattern_struct, clause_pattern, pattern_at, entry_read, agrees_stored}
 
 -- ---- patterns
 
@@ -40,31 +31,19 @@ agrees-short (z ∷ qs) (e ∷ es) ne = ap (λ (b : Bool). agrees_at [] e z && b
     go true = refl
     go false = refl
 
+-- a value beside its entry
+abbrev pub pair_agrees : ℤ × Entry → Bool
+pair_agrees p = agrees_at [] (entry_read p.1) p.0
+
 -- the entries in use, beside the values
-module _ (values : List ℤ) (entries : List Entry) where
-  abbrev es : List P.Entry
-  es = map entry_read entries
+pub other-count : (values : List ℤ) (entries : List Entry) → (length values ≡ length entries → ⊥) → false ≡ agrees [] values (map entry_read entries)
+other-count values entries ne = sym (agrees-short values (map entry_read entries) (λ q. ne (q ∙ length-map entries entry_read)))
 
-  es-length : length es ≡ length entries
-  es-length = length-map entries entry_read
-
-  -- those before the i-th agree
-  abbrev pub Agreeing : Bool → ℕ → Type 0
-  Agreeing good i = Pairwise (agrees []) values es good i
-
-  pub other-count : (length values ≡ length entries → ⊥) → false ≡ agrees [] values es
-  other-count ne = sym (agrees-short values es (λ q. ne (q ∙ es-length)))
-
-  module _ (vl : length values ≡ length entries) where
-    pub agree-more : (b : Bool) (i : ℕ) (z : ℤ) (e d : Entry) → i < length values → z ≡ get_or values i (pos 0) → e ≡ get_or entries i d → b ≡ agrees_at [] (entry_read e) z
-        → Agreeing true i → Agreeing b (i + 1)
-    agree-more b i z e d h ez ee eb inv =
-        let q : get_or values i z ≡ z = get_or-any values i z (pos 0) h ∙ sym ez in
-        let r : get_or es i (entry_read e) ≡ entry_read e = get_or-map-in entry_read entries i d (entry_read e) (omega arith) ∙ ap entry_read (sym ee) in
-        pair-more (agrees []) values es (λ x y. agrees_at [] y x) (λ x y l m. refl) true b i z (entry_read e) h (omega (arith, es-length)) q r eb inv
-
-    pub agree-all : (i : ℕ) → length values ≤ i → Agreeing true i → true ≡ agrees [] values es
-    agree-all i h inv = pair-done (agrees []) values es refl true i h (omega (arith, es-length)) inv
+pub pairs-agree : (values : List ℤ) (entries : List Entry) → length values ≡ length entries → all pair_agrees (zip values entries) ≡ agrees [] values (map entry_read entries)
+pairs-agree [] [] e = refl
+pairs-agree [] (y ∷ ys) e = absurd (omega arith)
+pairs-agree (x ∷ xs) [] e = absurd (omega arith)
+pairs-agree (x ∷ xs) (y ∷ ys) e = ap (λ (b : Bool). agrees_at [] (entry_read y) x && b) (pairs-agree xs ys (omega arith))
 
 pub stored_is : (p : Pattern) (values : List ℤ) (entries : List Entry) → entries ≡ take p.count p.entries → agrees [] values (map entry_read entries) ≡ agrees_stored p values
 unfolding agrees_stored

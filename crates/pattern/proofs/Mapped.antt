@@ -37,12 +37,6 @@ get_or-map-in f [] i d e h = absurd (not-suc-le-zero h)
 get_or-map-in f (x ∷ xs) zero d e h = refl
 get_or-map-in f (x ∷ xs) (suc i) d e h = get_or-map-in f xs i d e (le_of_suc-le-suc h)
 
--- what stands at a place inside the list does not hang on what stands in past its end
-pub get_or-any : {A : Type 0} (l : List A) (i : ℕ) (d e : A) → i < length l → get_or l i d ≡ get_or l i e
-get_or-any [] i d e h = absurd (not-suc-le-zero h)
-get_or-any (x ∷ l) zero d e h = refl
-get_or-any (x ∷ l) (suc i) d e h = get_or-any l i d e (le_of_suc-le-suc h)
-
 pub map-drop : {A B : Type 0} (f : A → B) (n : ℕ) (l : List A) → drop n (map f l) ≡ map f (drop n l)
 map-drop f zero l = refl
 map-drop f (suc n) [] = refl

@@ -8,19 +8,17 @@ use native.Mathlib.Omega.{arith}
 use lib.Dec.{eqb}
 use lib.IntN.{pos}
 use borrow.Author.Tests.{eq-eqb, ne_eqb}
-use lib.ListN.{length, drop, get_or, set, replicate, length-map, drop_of_length-le}
-use lib.Seq.{drop-cons, paste}
-use Rattle.lists.specs.Lists.{from}
+use lib.ListN.{length, drop, get_or, length-map, drop_of_length-le}
+use lib.Seq.{drop-cons}
 use Rattle.meaning.specs.Statement as M
 use Rattle.meaning.specs.Pattern.{Joint, column, constant, asked, given, of_value, set_column, moved, placed_from, replacing}
 use Rattle.statement.specs.declared.Setting.{Setting}
 use Rattle.statement.specs.Compiled.{new_value}
 use Rattle.statement.specs.Sound.{value_read, setting_read}
-use Rattle.table.proofs.Copied.{pasted}
-use Rattle.pattern.specs.Least.{asked_from, columns_from}
-use Rattle.pattern.specs.Flat.{values_of, Coding, SetOnce, Readable, no_clause}
+use Rattle.pattern.specs.Least.{columns_from}
+use Rattle.pattern.specs.Flat.{values_of, Coding, SetOnce, Readable}
 use Rattle.pattern.proofs.OperandCodes.{constant-below}
-use Rattle.pattern.proofs.Mapped.{get_or-map-in, from_at}
+use Rattle.pattern.proofs.Mapped.{get_or-map-in}
 
 -- ---- numbers that are computed
 
@@ -108,17 +106,3 @@ coding-readable (column i) n c = record { some = λ e. omega (arith, c.is); few 
 coding-readable (constant z) n c = let h = constant-below z c.narrow in record { some = λ e. omega (arith, c.is); few = λ l. omega (arith, c.is) }
 coding-readable (asked k) n c = record { some = λ e. omega (arith, c.is); few = λ h. omega (arith, c.is) }
 coding-readable (given k) n c = record { some = λ e. omega (arith, c.is, c.narrow.0); few = λ h. omega (arith, c.is, c.narrow.1) }
-
--- ---- the query's question marks, one after another behind the sides
-
-abbrev pub asked_codes : List ℕ
-asked_codes = map (λ (k : ℕ). asked_from + k) (from 1 8)
-
-pub mark-more : (k n : ℕ) (codes : List ℕ) → k < 8 → n ≡ asked_from + k + 1 → codes ≡ paste (replicate 40 0) 32 asked_codes k → set codes (32 + k) n ≡ paste (replicate 40 0) 32 asked_codes (k + 1)
-mark-more k n codes h e inv =
-    let q : n ≡ asked_from + (1 + k) = omega arith in
-    pasted (replicate 40 0) 32 asked_codes k 0 codes (32 + k) n (omega arith) h inv refl
-    (q ∙ sym (get_or-map-in (λ (j : ℕ). asked_from + j) (from 1 8) k 0 0 h ∙ ap (λ (j : ℕ). asked_from + j) (from_at 1 8 k 0 h)))
-
-pub mark-done : (k : ℕ) (codes : List ℕ) → k ≡ 8 → codes ≡ paste (replicate 40 0) 32 asked_codes k → codes ≡ no_clause.codes
-mark-done k codes e inv = inv ∙ ap (paste (replicate 40 0) 32 asked_codes) e

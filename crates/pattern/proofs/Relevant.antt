@@ -2,12 +2,13 @@
 use mathlib.Core.Path.{◌≡◌, refl, sym, ap, ap₂, ◌∙◌}
 use mathlib.Core.Bool.{Bool, true, false, ◌&&◌, ◌||◌, cond, or-false}
 use mathlib.Core.List.{List, [], ◌∷◌, map}
-use Prim.Native.Nat.{ℕ, zero, suc, ◌+◌}
+use Prim.Native.Nat.{ℕ, zero, suc, ◌+◌, ◌≤◌, min}
+use native.Mathlib.Decide.{dec_le}
 use native.Mathlib.Omega.{arith}
 use lib.Dec.{eqb}
 use borrow.Author.Tests.{eq-eqb, ne_eqb, eqb-true, eqb-false}
-use lib.ListN.{length, take}
-use lib.Seq.{take-nil}
+use lib.ListN.{length, take, length-take}
+use lib.Seq.{take-nil, take-take, take_all}
 use Rattle.lists.specs.Lists.{any, keep, cons_if}
 use Rattle.lists.proofs.Bools.{or_assoc}
 use Rattle.lists.proofs.Lists.{any_append, any-map, map-take}
@@ -54,6 +55,17 @@ tests-are columns (c ∷ cs) =
     ap₂ ◌||◌ (ap₂ ◌||◌ (names-is columns c.left) (names-is columns c.right)) (tests-are columns cs) ∙ sym (sides_first (is_among columns) c cs)
 
 -- ---- the comparisons that the steps take
+
+pub take-both : {A : Type 0} (m n : ℕ) (l : List A) → take (min m n) l ≡ take m (take n l)
+take-both m n l = go (dec_le m n)
+  where
+    go : Dec (m ≤ n) → take (min m n) l ≡ take m (take n l)
+    go (yes h) =
+        let z : min m n ≡ m = omega arith in
+        rw z (sym (take-take m n l h))
+    go (no h) =
+        let z : min m n ≡ n = omega arith in
+        rw z (sym (take_all m (take n l) (omega (arith, length-take n l))))
 
 side-more : (o : M.Operand) (xs ys : List M.Operand) → operand_columns xs ≡ operand_columns ys → operand_columns (o ∷ xs) ≡ operand_columns (o ∷ ys)
 side-more (M.column i) xs ys e = ap (λ (l : List ℕ). i ∷ l) e

@@ -23,6 +23,7 @@ use Rattle.pattern.specs.Masks.{select, sums, balanced, no_stack, stepped_of, St
 use Rattle.pattern.proofs.Selecting.{select-one, and-clauses, most-18}
 use Rattle.pattern.proofs.Stacking.{Stacked, stacked-few, stacked-push, stacked-either, stacked-both, upper, Holds, pushes, push-holds, joins, either-holds, both-holds}
 use Rattle.pattern.proofs.Formed.{balanced-few, steps-length, steps_next}
+use Rattle.pattern.proofs.Mapped.{map-drop}
 
 -- ---- the clauses of a stack
 
@@ -108,18 +109,13 @@ module _ (c : Condition) where
         drop-cons used q none_such (omega (arith, next-below e, length-take c.count c.comparisons))
         ∙ ap (λ (n : ℕ). get_or used q none_such ∷ drop n used) (sym (add-one q))
 
-    map-drop : (n : ℕ) (l : List Comparison) → drop n (map comparison_read l) ≡ map comparison_read (drop n l)
-    map-drop zero l = refl
-    map-drop (suc n) [] = refl
-    map-drop (suc n) (x ∷ l) = map-drop n l
-
     push-more : get_or c.steps i 0 ≡ 0 → Running (stepped_of 0 s) (i + 1)
     push-more e =
         let l : q < c.count = next-below e in
         let d : s.depth < 8 = omega (arith, shallow) in
         let x : C.Comparison M.Operand = comparison_read (get_or used q none_such) in
         let one : select (comparisons_read c) (2 ^ q) ≡ x ∷ [] =
-        select-one (comparisons_read c) q x (map comparison_read (drop (q + 1) used)) (map-drop q used ∙ ap (map comparison_read) (next-is e)) in
+        select-one (comparisons_read c) q x (map comparison_read (drop (q + 1) used)) (map-drop comparison_read q used ∙ ap (map comparison_read) (next-is e)) in
         record {
           stack = (2 ^ q ∷ []) ∷ st;
           next = q + 1;

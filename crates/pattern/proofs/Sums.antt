@@ -9,7 +9,7 @@ use lib.ListN.{length, take, drop, get_or, set, length-append, length-map, get_o
 use lib.Seq.{take-suc, take_all, length-take-le, paste}
 use Rattle.lists.specs.Lists.{All, written}
 use Rattle.lists.proofs.Places.{All-at}
-use Rattle.lists.proofs.Written.{written-append, length-written, written-nil}
+use Rattle.lists.proofs.Written.{written-append, length-written}
 use Rattle.table.proofs.Copied.{pasted}
 use Rattle.pattern.specs.Masks.{sums}
 
@@ -53,9 +53,6 @@ module _ (masks : List ℕ) (start : ℕ) (ls rs : List ℕ) where
     pub place : at ≡ start + i * length rs
     pub long : length next ≡ length masks
     pub rows_are : next ≡ written masks start (sums (take i ls) rs)
-
-  pub rows_start : Rows masks start 0
-  rows_start = record { some = omega arith; place = omega (arith, zero-mul (length rs)); long = refl; rows_are = sym (written-nil masks start) }
 
   module _ (room : start + length ls * length rs ≤ length masks) where
     done : (i : ℕ) → i ≤ length ls → length (sums (take i ls) rs) ≡ i * length rs

@@ -8,8 +8,10 @@ ghost use Rattle.statement.specs.Sound.{value_read, operand_read, setting_read};
 ghost use Rattle.pattern.specs.Least.{constant_code};
 ghost use Rattle.pattern.specs.Flat.{column_of, operand_of, values_of, Coding, Readable, chosen_of, no_clause, Extended, SetOnce, mark_of};
 
-use super::{Pattern, in_use};
-use table::{Condition, Operand, Setting, Value};
+use super::Pattern;
+use lists::in_use;
+use std::array;
+use table::{Condition, Given, Operand, Setting, Term, Value};
 
 // Whose an operand is: the update's, the query's, the query's with columns as INSERT or UPDATE gives them.
 #[derive(Clone, Copy, PartialEq, Eq)]
@@ -62,10 +64,11 @@ impl Joined {
     pub fn empty() -> Joined
         ensures { result ≡ no_clause }
     {
+        let marks: [u64; Pattern::ENTRIES] = array::from_fn(|k| Joined::FROM_ASKED
+            + (k as u64)
+            + 1);
         let mut codes = [0u64; Joined::OPERANDS];
-        for k in 0..Pattern::ENTRIES {
-            codes[Joined::ASKED + k] = Joined::FROM_ASKED + (k as u64) + 1;
-        }
+        codes[Joined::ASKED..].copy_from_slice(&marks);
         Joined {
             codes,
             ops: [0; Joined::COMPARISONS],
@@ -104,10 +107,10 @@ fn constant_code(z: i32) -> u64
 fn value_code(value: Value) -> u64
     ensures { Coding (of_value (value_read value)) result }
 {
-    if value.mark == 0 {
-        return constant_code(value.number);
+    match value.read() {
+        Given::Constant(z) => constant_code(z),
+        Given::Parameter(k) => Joined::FROM_MARKS + u64::from(k) + 1,
     }
-    Joined::FROM_MARKS + u64::from(value.mark)
 }
 
 // A column's number, or the one given, where a setting is of another column.
@@ -174,12 +177,10 @@ impl Reading<'_> {
     fn operand(self, o: Operand) -> u64
         ensures { Coding (operand_of self.entry.role self.entry.from (map setting_read self.entry.settings.now) (operand_read o)) result }
     {
-        if o.code % 2 == 1 {
-            return self.mark(o.code / 2);
+        match o.read() {
+            Term::Constant(z) => constant_code(z),
+            Term::Parameter(k) => self.mark(k),
+            Term::Column(i) => self.column(i),
         }
-        if o.code == 0 {
-            return constant_code(o.number);
-        }
-        self.column(o.code / 2 - 1)
     }
 }

@@ -5,12 +5,13 @@ ghost use Rattle.lists.specs.Lists.{All, any};
 ghost use Rattle.meaning.specs.Operator.{truth};
 ghost use Rattle.meaning.specs.Pattern.{strict as strict_of};
 ghost use Rattle.statement.specs.Operators.{predicate_at, order_of};
-ghost use Rattle.pattern.specs.Least.{rename_code, join_least, clashes as clash_of, never_code, fails as fail_of, code_constant, entry_of_code};
+ghost use Rattle.pattern.specs.Least.{rename_code, join_least, clashes as clash_of, never_code, is_constant, fails as fail_of, code_constant, entry_of_code};
 ghost use Rattle.pattern.specs.Stored.{entry_struct};
 ghost use Rattle.pattern.specs.Flat.{is_join, failing, clause_at, Readable, Ready, Labelled, entries_of, coded_pattern};
 
 use super::joint::Joined;
 use super::{Entry, Pattern};
+use std::cmp::Ordering;
 use table::{Comparison, Order};
 
 // ---- labels
@@ -30,28 +31,95 @@ fn relabel(labels: &mut [u64; Joined::OPERANDS], from: u64, to: u64)
     }
 }
 
-// Whether a comparison by this number is `=`.
-fn is_join(op: u8) -> bool
-    ensures { result ≡ is_join (predicate_at op) }
-{
-    op == Comparison::EQ
+// ---- comparisons
+
+// A comparison of a clause: its operator, by its number in the state, and the labels of its sides.
+#[derive(Clone, Copy)]
+struct Compared {
+    op: u8,
+    left: u64,
+    right: u64,
 }
 
-// What a comparison whose sides have the labels a and b does to the labels.
-fn join(labels: &mut [u64; Joined::OPERANDS], op: u8, a: u64, b: u64)
-    ensures { labels.new ≡ map (join_least (predicate_at op) a b) labels.old }
+// Whether a comparison by this number is false of equal sides, whatever they are.
+fn strict(op: u8) -> bool
+    ensures { result ≡ strict_of (predicate_at op) }
 {
-    if is_join(op) {
-        relabel(labels, a.max(b), a.min(b));
+    (op != Comparison::IS_NULL) & !Comparison::truth(op, Order::Equal)
+}
+
+// How two constants stand, by their numbers.
+fn order(a: u64, b: u64) -> Order
+    ensures { result ≡ order_of (code_constant a) (code_constant b) }
+{
+    if a.min(b) == Joined::NULL {
+        return Order::Unknown;
+    }
+    match a.cmp(&b) {
+        Ordering::Less => Order::Less,
+        Ordering::Equal => Order::Equal,
+        Ordering::Greater => Order::Greater,
     }
 }
 
-// Whether an `=` of these labels joins two different constants.
-fn clashes(op: u8, a: u64, b: u64) -> bool
-    ensures { result ≡ clash_of (predicate_at op) a b }
-{
-    is_join(op) & (a.max(b) < Joined::FROM_MARKS) & (a != b)
+impl Compared {
+    // Whether it is by `=`.
+    fn joins(self) -> bool
+        ensures { result ≡ is_join (predicate_at self.op) }
+    {
+        self.op == Comparison::EQ
+    }
+
+    // Whether both labels are constants.
+    fn is_constant(self) -> bool
+        ensures { result ≡ is_constant (max self.left self.right) }
+    {
+        self.left.max(self.right) < Joined::FROM_MARKS
+    }
+
+    // What it does to the labels.
+    fn join(self, labels: &mut [u64; Joined::OPERANDS])
+        ensures { labels.new ≡ map (join_least (predicate_at self.op) self.left self.right) labels.old }
+    {
+        if self.joins() {
+            relabel(labels, self.left.max(self.right), self.left.min(self.right));
+        }
+    }
+
+    // Whether it joins two different constants.
+    fn clashes(self) -> bool
+        ensures { result ≡ clash_of (predicate_at self.op) self.left self.right }
+    {
+        self.joins() & self.is_constant() & (self.left != self.right)
+    }
+
+    // Whether it is true of two constants. A null test (A.5) looks at the left one alone.
+    fn holds(self) -> bool
+        ensures { result ≡ truth (predicate_at self.op) (code_constant self.left) (code_constant self.right) }
+    {
+        if Comparison::tests_null(self.op) {
+            return Comparison::truth(self.op, order(self.left, self.left));
+        }
+        Comparison::truth(self.op, order(self.left, self.right))
+    }
+
+    // Whether it is never true, since the class of a side holds the null constant (A.5); null tests aside.
+    fn never_holds(self) -> bool
+        ensures { result ≡ (never_code (predicate_at self.op) self.left || never_code (predicate_at self.op) self.right) }
+    {
+        (self.left.min(self.right) == Joined::NULL) & !Comparison::tests_null(self.op)
+    }
+
+    // Whether it cannot be true of its sides' labels.
+    fn fails(self) -> bool
+        ensures { result ≡ fail_of (predicate_at self.op) self.left self.right }
+    {
+        (strict(self.op) & (self.left == self.right))
+            | (self.never_holds() | (self.is_constant() & !self.holds()))
+    }
 }
+
+// ---- the labels of a clause
 
 // The labels of the operands of a clause, unless two different constants are in one class.
 fn label_all(clause: &Joined) -> Option<[u64; Joined::OPERANDS]>
@@ -61,65 +129,17 @@ fn label_all(clause: &Joined) -> Option<[u64; Joined::OPERANDS]>
     let mut labels = clause.codes;
     // An index loop: a turn reads two of the labels that it then changes.
     for i in 0..clause.count {
-        let op = clause.ops[i];
-        let a = labels[2 * i];
-        let b = labels[2 * i + 1];
-        if clashes(op, a, b) {
+        let comparison = Compared {
+            op: clause.ops[i],
+            left: labels[2 * i],
+            right: labels[2 * i + 1],
+        };
+        if comparison.clashes() {
             return None;
         }
-        join(&mut labels, op, a, b);
+        comparison.join(&mut labels);
     }
     Some(labels)
-}
-
-// ---- contradictions
-
-// Whether a comparison by this number is false of equal sides, whatever they are.
-fn strict(op: u8) -> bool
-    ensures { result ≡ strict_of (predicate_at op) }
-{
-    (op != Comparison::IS_NULL) & !Comparison::truth(op, Order::EQUAL)
-}
-
-// How two constants stand, by their numbers.
-fn order(a: u64, b: u64) -> u8
-    ensures { result ≡ order_of (code_constant a) (code_constant b) }
-{
-    if a.min(b) == Joined::NULL {
-        return Order::UNKNOWN;
-    }
-    if a < b {
-        return Order::LESS;
-    }
-    if a == b {
-        return Order::EQUAL;
-    }
-    Order::GREATER
-}
-
-// Whether two constants compare so, by their numbers. A null test (A.5) looks at the left one alone.
-fn compare(op: u8, a: u64, b: u64) -> bool
-    ensures { result ≡ truth (predicate_at op) (code_constant a) (code_constant b) }
-{
-    if Comparison::tests_null(op) {
-        return Comparison::truth(op, order(a, a));
-    }
-    Comparison::truth(op, order(a, b))
-}
-
-// Whether a comparison is never true, since the class of a side holds the null constant (A.5); null tests aside.
-fn never(op: u8, a: u64, b: u64) -> bool
-    ensures { result ≡ (never_code (predicate_at op) a || never_code (predicate_at op) b) }
-{
-    (a.min(b) == Joined::NULL) & !Comparison::tests_null(op)
-}
-
-// Whether a comparison cannot be true of its sides' labels.
-fn fails(op: u8, a: u64, b: u64) -> bool
-    ensures { result ≡ fail_of (predicate_at op) a b }
-{
-    let constants = a.max(b) < Joined::FROM_MARKS;
-    (strict(op) & (a == b)) | (never(op, a, b) | (constants & !compare(op, a, b)))
 }
 
 // Whether some comparison by these numbers cannot hold of its sides' labels.
@@ -128,7 +148,12 @@ fn some_fails(labels: &[u64; Joined::OPERANDS], ops: &[u8]) -> bool
     ensures { result ≡ any failing (clause_at labels.now ops.now (length ops.now)) }
 {
     for (i, op) in ops.iter().enumerate() {
-        if fails(*op, labels[2 * i], labels[2 * i + 1]) {
+        let comparison = Compared {
+            op: *op,
+            left: labels[2 * i],
+            right: labels[2 * i + 1],
+        };
+        if comparison.fails() {
             return true;
         }
     }
@@ -137,7 +162,7 @@ fn some_fails(labels: &[u64; Joined::OPERANDS], ops: &[u8]) -> bool
 
 // ---- patterns
 
-// The constant of a number.
+// The constant of a number. (A difference; `TryFrom` would test what is asked.)
 fn constant_of(code: u64) -> i32
     requires { code < 4294967296 }
     ensures { result ≡ code_constant code }
@@ -171,8 +196,8 @@ fn entries_of(labels: &[u64]) -> [Entry; Pattern::ENTRIES]
     entries
 }
 
-// The pattern of a clause, if it has one, for so many question marks.
-pub fn clause_pattern(clause: &Joined, marks: usize) -> Option<Pattern>
+// The pattern of a clause in arrays, if it has one, for so many question marks.
+pub fn pattern_of(clause: &Joined, marks: usize) -> Option<Pattern>
     requires { Ready clause.now.codes clause.now.count × (marks ≤ 8) }
     ensures { result ≡ coded_pattern marks (clause_at clause.now.codes clause.now.ops clause.now.count) }
 {

@@ -9,18 +9,12 @@ mod masks; // the clauses of a condition
 mod pairing; // the joint clauses of a query and an update
 mod relevance; // rules 1 and 2
 
-ghost use Rattle.std.specs.Prelude.{◌≡◌, take};
+ghost use Rattle.std.specs.Prelude.{◌≡◌};
 ghost use Rattle.pattern.specs.Stored.{clause_total, pattern_at, pattern_list, filled_of, agrees_stored};
 
+use lists::in_use;
 pub use relevance::reads;
 use table::{Query, Update};
-
-// The first of the entries of an array, of which so many are in use.
-fn in_use<T>(all: &[T], count: usize) -> &[T]
-    ensures { result.now ≡ take count all.now }
-{
-    &all[..count.min(all.len())]
-}
 
 // What a pattern asks of a value of a key: that it is this constant, or the update's parameter of this number (counted from 0), or nothing.
 #[derive(Clone, Copy, PartialEq, Eq)]
@@ -57,15 +51,11 @@ impl Pattern {
         ensures { result ≡ agrees_stored self.now values.now }
     {
         let entries = in_use(&self.entries, usize::from(self.count));
-        if values.len() != entries.len() {
-            return false;
-        }
-        for (i, value) in values.iter().enumerate() {
-            if !filling::agrees(entries[i], *value) {
-                return false;
-            }
-        }
-        true
+        values.len() == entries.len()
+            && values
+                .iter()
+                .zip(entries)
+                .all(|(value, entry)| filling::agrees(*entry, *value))
     }
 }
 

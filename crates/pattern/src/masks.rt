@@ -4,7 +4,7 @@ ghost use Rattle.lists.specs.Lists.{All, written};
 ghost use Rattle.pattern.specs.Stored.{is_formed};
 ghost use Rattle.pattern.specs.Masks.{sums, no_stack, pushed_of, either_of, both_of, stepped_of, Pushes, Joins, Steps, Masked};
 
-use super::in_use;
+use lists::in_use;
 use table::{Condition, Step};
 
 // The masks of a condition's clauses, the first `count`. (An array and a count: there is no heap.)
@@ -134,7 +134,7 @@ impl Stack {
         self.total = start + left * right;
     }
 
-    // Takes a step: a comparison, AND or OR.
+    // Takes a step: a comparison, AND or OR. (Steps are numbers of the state.)
     fn step(&mut self, step: u8)
         requires { Steps step self.old }
         ensures { self.new ≡ stepped_of step self.old }

@@ -3,14 +3,16 @@ ghost use Rattle.std.specs.Prelude.{◌≡◌, true, [], ◌++◌, ◌*◌, ◌�
 ghost use Rattle.meaning.specs.Pattern.{anything};
 ghost use Rattle.statement.specs.Sound.{settings_read};
 ghost use Rattle.pattern.specs.Stored.{entry_count, pattern_struct, clause_pattern, joint as joint_of};
-ghost use Rattle.pattern.specs.Flat.{chosen_of};
+ghost use Rattle.lists.specs.Lists.{All};
+ghost use Rattle.pattern.specs.Flat.{chosen_of, Extended, Readable};
 ghost use Rattle.pattern.specs.declared.joint.Role.TheVariants.{Given, Inserted};
 ghost use Rattle.pattern.specs.Pairs.{total_of, pair_at, Worked, Paired};
 
 use super::joint::{Joined, Reading, Role};
 use super::masks::Clauses;
-use super::{Entry, Pattern, Patterns, in_use, labels, masks, relevance};
-use table::{Query, Update};
+use super::{Entry, Pattern, Patterns, labels, masks, relevance};
+use lists::in_use;
+use table::{Condition, Query, Update};
 
 // The clauses of both conditions, and how many joint clauses they make.
 #[derive(Clone, Copy)]
@@ -20,7 +22,7 @@ pub struct Pairing {
     pub total: u16,
 }
 
-// How many joint clauses there are, by the form of the update and how many clauses query and update have.
+// How many joint clauses there are, by the form of the update (a number of the state) and how many clauses query and update have.
 fn total_of(form: u8, f: u8, g: u8) -> u16
     requires { (f ≤ 18) × (g ≤ 18) }
     ensures { result ≡ total_of form f g }
@@ -60,81 +62,77 @@ pub fn paired(query: &Query, update: &Update) -> Option<Pairing>
     })
 }
 
+// How many entries a pattern of the query has.
+fn entry_count(query: &Query) -> u8
+    ensures { result ≡ entry_count query.now }
+{
+    query.parameters.min(Pattern::ENTRIES as u8)
+}
+
 // The pattern of all any.
 pub fn all_any(query: &Query) -> Pattern
     ensures { result ≡ pattern_struct (replicate (entry_count query.now) anything) }
 {
     Pattern {
         entries: [Entry::Any; Pattern::ENTRIES],
-        count: query.parameters.min(Pattern::ENTRIES as u8),
+        count: entry_count(query),
     }
 }
 
-// The pattern of a clause of an INSERT: the comparisons of the query that a mask selects. `from` columns of the query stand before those of the updated table (A.1).
-fn inserted(query: &Query, update: &Update, from: u8, mask: u8) -> Option<Pattern>
-    requires { query.now.condition.count ≤ 8 }
-    ensures { result ≡ clause_pattern (entry_count query.now) (chosen_of Inserted from (settings_read update.now) query.now.condition mask) }
-{
-    let mut clause = Joined::empty();
-    let role = Role::Inserted;
-    let settings = in_use(&update.settings, usize::from(update.count));
-    clause.add(
-        &query.condition,
-        mask,
-        Reading {
+// A query and an update, and how many columns of the query stand before those of the updated table (A.1).
+#[derive(Clone, Copy)]
+struct Pair<'a> {
+    query: &'a Query,
+    update: &'a Update,
+    from: u8,
+}
+
+impl Pair<'_> {
+    // Adds the comparisons of a condition that a mask selects, its operands in a role.
+    fn add(self, clause: &mut Joined, condition: &Condition, mask: u8, role: Role)
+        requires { (clause.old.count ≤ 8) × (condition.now.count ≤ 8) × All Readable clause.old.codes }
+        ensures { Extended clause.old.codes clause.old.ops clause.old.count (chosen_of role self.entry.from (settings_read self.entry.update.now) condition.now mask) clause.new }
+    {
+        let settings = in_use(&self.update.settings, usize::from(self.update.count));
+        let reading = Reading {
             role,
-            from,
+            from: self.from,
             settings,
-        },
-    );
-    labels::clause_pattern(&clause, usize::from(query.parameters).min(Pattern::ENTRIES))
-}
+        };
+        clause.add(condition, mask, reading);
+    }
 
-// The pattern of a clause of the update and one of the query.
-fn joined(
-    query: &Query,
-    update: &Update,
-    from: u8,
-    given: u8,
-    asked: u8,
-    role: Role,
-) -> Option<Pattern>
-    requires { (query.now.condition.count ≤ 8) × (update.now.condition.count ≤ 8) }
-    ensures { result ≡ clause_pattern (entry_count query.now) (chosen_of Given from (settings_read update.now) update.now.condition given ++ chosen_of role from (settings_read update.now) query.now.condition asked) }
-{
-    let mut clause = Joined::empty();
-    let settings = in_use(&update.settings, usize::from(update.count));
-    let first = Reading {
-        role: Role::Given,
-        from,
-        settings,
-    };
-    clause.add(&update.condition, given, first);
-    let second = Reading {
-        role,
-        from,
-        settings,
-    };
-    clause.add(&query.condition, asked, second);
-    labels::clause_pattern(&clause, usize::from(query.parameters).min(Pattern::ENTRIES))
-}
+    // The pattern of a clause of an INSERT: the comparisons of the query that a mask selects.
+    fn inserted(self, mask: u8) -> Option<Pattern>
+        requires { self.query.now.condition.count ≤ 8 }
+        ensures { result ≡ clause_pattern (entry_count self.entry.query.now) (chosen_of Inserted self.entry.from (settings_read self.entry.update.now) self.entry.query.now.condition mask) }
+    {
+        let mut clause = Joined::empty();
+        self.add(&mut clause, &self.query.condition, mask, Role::Inserted);
+        labels::pattern_of(&clause, usize::from(entry_count(self.query)))
+    }
 
-// The pattern of pair k, the update's clause outer.
-fn pair_at(
-    query: &Query,
-    update: &Update,
-    from: u8,
-    p: &Pairing,
-    k: u16,
-    role: Role,
-) -> Option<Pattern>
-    requires { Worked query.now update.now p.now × (k < p.now.update.count * p.now.query.count) }
-    ensures { result ≡ clause_pattern (entry_count query.now) (pair_at role from query.now update.now k) }
-{
-    let size = u16::from(p.query.count);
-    let given = p.update.masks[usize::from(k / size)];
-    let asked = p.query.masks[usize::from(k % size)];
-    joined(query, update, from, given, asked, role)
+    // The pattern of a clause of the update and one of the query.
+    fn joined(self, given: u8, asked: u8, role: Role) -> Option<Pattern>
+        requires { (self.query.now.condition.count ≤ 8) × (self.update.now.condition.count ≤ 8) }
+        ensures { result ≡ clause_pattern (entry_count self.entry.query.now) (chosen_of Given self.entry.from (settings_read self.entry.update.now) self.entry.update.now.condition given ++ chosen_of role self.entry.from (settings_read self.entry.update.now) self.entry.query.now.condition asked) }
+    {
+        let mut clause = Joined::empty();
+        self.add(&mut clause, &self.update.condition, given, Role::Given);
+        self.add(&mut clause, &self.query.condition, asked, role);
+        labels::pattern_of(&clause, usize::from(entry_count(self.query)))
+    }
+
+    // The pattern of pair k, the update's clause outer.
+    fn at(self, p: &Pairing, k: u16, role: Role) -> Option<Pattern>
+        requires { Worked self.query.now self.update.now p.now × (k < p.now.update.count * p.now.query.count) }
+        ensures { result ≡ clause_pattern (entry_count self.entry.query.now) (pair_at role self.entry.from self.entry.query.now self.entry.update.now k) }
+    {
+        let size = u16::from(p.query.count);
+        let given = p.update.masks[usize::from(k / size)];
+        let asked = p.query.masks[usize::from(k % size)];
+        self.joined(given, asked, role)
+    }
 }
 
 // The pattern of joint clause i.
@@ -143,13 +141,18 @@ pub fn clause_at(query: &Query, update: &Update, p: &Pairing, i: u8) -> Option<P
     ensures { result ≡ clause_pattern (entry_count query.now) (get_or (joint_of query.now update.now) i []) }
 {
     let from = relevance::start_of(query, update);
+    let pair = Pair {
+        query,
+        update,
+        from,
+    };
     if update.form == Update::INSERT {
-        return inserted(query, update, from, p.query.masks[usize::from(i)]);
+        return pair.inserted(p.query.masks[usize::from(i)]);
     }
     let size = u16::from(p.update.count) * u16::from(p.query.count);
     let k = u16::from(i);
     if k < size {
-        return pair_at(query, update, from, p, k, Role::Asked);
+        return pair.at(p, k, Role::Asked);
     }
-    pair_at(query, update, from, p, k - size, Role::Set)
+    pair.at(p, k - size, Role::Set)
 }

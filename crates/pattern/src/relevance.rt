@@ -5,8 +5,8 @@ ghost use Rattle.statement.specs.Sound.{comparison_read, operand_read, used_step
 ghost use Rattle.pattern.specs.Stored.{start_read, relevant as relevant_to};
 ghost use Rattle.pattern.specs.Relevance.{is_read, is_among, names_any, tests_any, comparison_steps, sets_used};
 
-use super::in_use;
-use table::{Comparison, Condition, Operand, Query, Setting, Step, Update};
+use lists::in_use;
+use table::{Comparison, Condition, Operand, Query, Setting, Step, Term, Update};
 
 // A.1: whether a query of these tables reads the updated one. The second is given by its number and 1, 0 for none.
 pub fn reads(table: u8, second: u8, updated: u8) -> bool
@@ -57,13 +57,10 @@ fn selects(selected: &[u8], columns: &[u16]) -> bool
 fn names(o: Operand, columns: &[u16]) -> bool
     ensures { result ≡ names_any columns.now (operand_read o) }
 {
-    if o.code % 2 == 1 {
-        return false;
+    match o.read() {
+        Term::Column(i) => is_among(columns, i),
+        _ => false,
     }
-    if o.code == 0 {
-        return false;
-    }
-    is_among(columns, o.code / 2 - 1)
 }
 
 // Whether a side of one of these comparisons is.
@@ -93,9 +90,8 @@ fn touches(query: &Query, update: &Update, from: u8) -> bool
         return true;
     }
     let condition = &query.condition;
-    let there = in_use(&condition.comparisons, usize::from(condition.count));
-    let asked = comparison_steps(condition);
-    tests(in_use(there, asked), columns)
+    let asked = comparison_steps(condition).min(usize::from(condition.count));
+    tests(in_use(&condition.comparisons, asked), columns)
 }
 
 // Rules 1 and 2: whether the update can change an answer of the query.

@@ -1,10 +1,7 @@
 -- The constants of a text, and numbers that are not negative. Assumes nothing: these are definitions.
-use Rattle.std.specs.Prelude.{cond, List, [], ◌∷◌, ℕ, ℤ, pos, negsuc, replicate, take, drop, get_or}
-use Rattle.lists.specs.Lists.{written}
+use Rattle.std.specs.Prelude.{cond, List, [], ◌∷◌, ℕ, ℤ, pos, negsuc, drop, get_or}
 use Rattle.meaning.specs.Tokens.{Token, constant, tokens}
 use Rattle.meaning.specs.Limits.{is_within32}
-use Rattle.statement.specs.declared.Table.{Table}
-use Rattle.statement.specs.Compiled.{no_table}
 use Rattle.script.specs.declared.constants.Constants.{Constants}
 
 -- the constants at the start of a list of tokens, up to the first that is none of 32 bits
@@ -28,7 +25,3 @@ natural_of (negsuc n) = 0
 
 abbrev pub number_at : List ℤ → ℕ → ℕ
 number_at zs i = natural_of (get_or zs i (pos 0))
-
--- the places of a store's tables, with the first tables of a list in them
-abbrev pub in_places : List Table → List Table
-in_places tables = written (replicate 8 no_table) 0 (take 8 tables)

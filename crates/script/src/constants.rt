@@ -42,7 +42,7 @@ impl Iterator for Constants<'_> {
     }
 }
 
-// Number i; 0 where there is none or it is negative.
+// Number i; 0 where there is none or it is negative: so scripts are read.
 pub fn number(numbers: &[i32], i: usize) -> usize
     ensures { result ≡ number_at numbers.now i }
 {

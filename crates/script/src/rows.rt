@@ -39,6 +39,7 @@ impl Rows<'_> {
 
 impl fmt::Display for Rows<'_> {
     fn fmt<W: fmt::Write>(&self, f: &mut fmt::Formatter<W>) -> fmt::Result {
+        // By number: `answer` gives a row by that, and there is no list to go through.
         for i in 0..usize::from(self.counted()) {
             if answer::row_refusal(self.0, i) == 0 {
                 let stroke = if i == 0 { "" } else { " /" };

@@ -7,12 +7,15 @@ use native.Mathlib.Omega.{arith}
 use borrow.Author.Tests.{eqb-true}
 use lib.IntN.{ℤ}
 use lib.ListN.{length, take, drop, length-append, length-take, length-drop}
-use lib.Seq.{take_all, take-take, take_at, take-add, length-take-le}
+use lib.Seq.{take_all, take_at, length-take-le}
+use Rattle.std.specs.Prelude.{Option, None, Some, Result, Ok, Err, OnErr}
+use Rattle.std.specs.Io.KnownBytes.{Appends, Consumes}
+use Rattle.std.proofs.lemmas.List.{take-append-drop}
 use Rattle.lists.specs.Lists.{all, take_while, drop_while}
 use Rattle.lists.proofs.Bools.{and_left, and_right}
 use Rattle.lists.proofs.Runs.{run_length, run-all}
 use Rattle.cache.specs.declared.State.{State}
-use Rattle.cache.specs.Run.{Store, Start, opened}
+use Rattle.cache.specs.Run.{Start, opened}
 use Rattle.console.specs.declared.Reply.{Reply}
 use Rattle.console.specs.declared.Gathered.{Gathered}
 use Rattle.console.specs.Room.{fitting, filled, filled_to}
@@ -21,14 +24,55 @@ use Rattle.console.specs.Desk.{Replies, replies, reply_of}
 use Rattle.console.proofs.Rooms.{take-both}
 use Rattle.console.proofs.Prints.{text-short, all-printed}
 use Rattle.console.proofs.Bounds.{gather-moves, gather-within, reply-within}
-use Rattle.serve.specs.Input.{Session, most_held, holding, answering, behind, fed, printed_in, finished, beginning}
-use Rattle.serve.specs.Turns.{most_lent, most_printed, store_of, session_of, between, ending, Gathers, Answers, Feeds, Finishes, Whole, Reads, Ends, Runs}
-use Rattle.serve.proofs.Feeding.{pieces-join, take-held, fed_by, text_by}
+use Rattle.serve.specs.Input.{Session, most_held, holding, answering, behind, fed, printed_in, finished, printed_last, printed_of, beginning}
+use Rattle.serve.specs.Turns.{most_lent, most_printed, session_of, Feeds, Reads, Runs}
+use Rattle.serve.proofs.Feeding.{pieces-join, take-held, fed_by, text_by, prints-the-lines}
+
+-- ---- bytes that are known grow and are used up, step by step
+
+pub appends-none : (a : Option (List ℕ)) → Appends a a []
+appends-none None = tt
+appends-none (Some xs) = sym (append-nil xs)
+
+pub appends-both : (a b c : Option (List ℕ)) (x y : List ℕ) → Appends a b x → Appends b c y → Appends a c (x ++ y)
+appends-both None b c x y h k = tt
+appends-both (Some p) None c x y h k = absurd h
+appends-both (Some p) (Some q) None x y h k = absurd k
+appends-both (Some p) (Some q) (Some r) x y h k = k ∙ ap (λ (z : List ℕ). z ++ y) h ∙ append_assoc p x y
+
+pub consumes-none : (a : Option (List ℕ)) → Consumes a a []
+consumes-none None = tt
+consumes-none (Some xs) = refl
+
+pub consumes-both : (a b c : Option (List ℕ)) (x y : List ℕ) → Consumes a b x → Consumes b c y → Consumes a c (x ++ y)
+consumes-both None b c x y h k = tt
+consumes-both (Some p) None c x y h k = absurd h
+consumes-both (Some p) (Some q) None x y h k = absurd k
+consumes-both (Some p) (Some q) (Some r) x y h k = h ∙ ap (λ (z : List ℕ). x ++ z) k ∙ sym (append_assoc x y r)
+
+-- and stay where nothing is
+pub consumes-nothing : (a b c : Option (List ℕ)) (x piece : List ℕ) (n : ℕ) → n ≡ 0 → Consumes a b x → Consumes b c (take n piece) → Consumes a c x
+consumes-nothing a b c x piece n z h k =
+    subst (λ (y : List ℕ). Consumes a c y) (ap (λ (m : ℕ). x ++ take m piece) z ∙ append-nil x) (consumes-both a b c x (take n piece) h k)
+
+-- what holds at all events holds where there is an error
+pub at-error : {T E P : Type 0} (r : Result T E) → P → OnErr r P
+at-error (Ok x) p = tt
+at-error (Err e) p = p
+
+-- ---- what is gathered of a piece
+
+-- the bytes of a line that were used up, its end among them
+abbrev ending : Bool → List ℕ
+ending ended = cond ended (10 ∷ []) []
+
+-- are held
+pub record Gathers (piece : List ℕ) (held : List ℕ) (next : ℕ) (after : List ℕ) (ended : Bool) : Type 0 where
+  pub used : take next piece ≡ line_from piece 0 ++ ending ended
+  pub bytes : after ≡ take most_held (held ++ line_from piece 0)
 
 abbrev within : ℕ → Bool
 within b = not (is_newline b)
-
--- ---- the bytes that are used up
 
 run-used : (s : List ℕ)
     → take (length (take_while within s) + cond (has_newline (drop_while within s)) 1 0) s ≡ take_while within s ++ ending (has_newline (drop_while within s))
@@ -50,24 +94,24 @@ some_left : (s : List ℕ) → cond (has_newline s) 1 0 ≤ length s
 some_left [] = omega arith
 some_left (b ∷ s) = omega arith
 
-module _ (piece : List ℕ) (from : ℕ) (line : List ℕ) (held : ℕ) where
+module _ (piece : List ℕ) (line : List ℕ) (held : ℕ) where
   abbrev next : ℕ
-  next = from + length (line_from piece from) + cond (line_ends piece from) 1 0
+  next = 0 + length (line_from piece 0) + cond (line_ends piece 0) 1 0
 
-  used : between from next piece ≡ line_from piece from ++ ending (line_ends piece from)
+  used : take next piece ≡ line_from piece 0 ++ ending (line_ends piece 0)
   used =
-      let z : next - from ≡ length (line_from piece from) + cond (line_ends piece from) 1 0 = omega arith in
-      ap (λ (k : ℕ). take k (drop from piece)) z ∙ run-used (drop from piece)
+      let z : next ≡ length (line_from piece 0) + cond (line_ends piece 0) 1 0 = omega arith in
+      ap (λ (k : ℕ). take k piece) z ∙ run-used piece
 
-  inside : from ≤ length piece → next ≤ length piece
-  inside h = omega (arith, run_length within (drop from piece), some_left (drop_while within (drop from piece)), length-drop from piece)
+  inside : next ≤ length piece
+  inside = omega (arith, run_length within piece, some_left (drop_while within piece))
 
   -- ---- the bytes that are held
 
   held-are : held ≤ length line → length line ≡ most_held
-      → take (filled_to line held (line_from piece from)) (filled line held (line_from piece from)) ≡ take most_held (take held line ++ line_from piece from)
+      → take (filled_to line held (line_from piece 0)) (filled line held (line_from piece 0)) ≡ take most_held (take held line ++ line_from piece 0)
   held-are h long =
-      let w = line_from piece from in
+      let w = line_from piece 0 in
       let front = take held line ++ fitting line held w in
       let a : length (take held line) ≡ held = length-take-le held line h in
       let n : length front ≡ filled_to line held w = length-append (take held line) (fitting line held w) ∙ ap (λ (k : ℕ). k + length (fitting line held w)) a in
@@ -76,21 +120,25 @@ module _ (piece : List ℕ) (from : ℕ) (line : List ℕ) (held : ℕ) where
       ∙ ap₂ (λ (x : List ℕ) (k : ℕ). x ++ take k w) (sym (take_all most_held (take held line) (omega (arith, a, long, h)))) z
       ∙ sym (take-both most_held (take held line) w)
 
-  module _ (g : Gathered) (new : List ℕ) (e : g ≡ gathered_of piece from line held) (f : new ≡ filled line held (line_from piece from)) (h : held ≤ length line) (long : length line ≡ most_held) where
-    pub gathers-line : Gathers piece from (take held line) g.next (take g.held new) g.ended
+  module _ (g : Gathered) (new : List ℕ) (e : g ≡ gathered_of piece 0 line held) (f : new ≡ filled line held (line_from piece 0)) (h : held ≤ most_held) (long : length line ≡ most_held) where
+    pub gathers-line : Gathers piece (take held line) g.next (take g.held new) g.ended
     unfolding gathered_of
     gathers-line = record {
-      used = subst (λ (x : Gathered). between from x.next piece ≡ line_from piece from ++ ending x.ended) (sym e) used;
-      bytes = ap₂ take (ap (λ (x : Gathered). x.held) e) f ∙ held-are h long;
+      used = subst (λ (x : Gathered). take x.next piece ≡ line_from piece 0 ++ ending x.ended) (sym e) used;
+      bytes = ap₂ take (ap (λ (x : Gathered). x.held) e) f ∙ held-are (omega (arith, h, long)) long;
     }
 
-    pub gathers-numbers : from < length piece → (from < g.next) × (g.next ≤ length piece) × (g.held ≤ length line)
+    pub gathers-moves : 0 < length piece → 0 < g.next
+    gathers-moves k = subst (λ (x : Gathered). 0 < x.next) (sym e) (gather-moves piece 0 line held k)
+
+    pub gathers-inside : g.next ≤ length piece
     unfolding gathered_of
-    gathers-numbers k =
-        subst
-        (λ (x : Gathered). (from < x.next) × (x.next ≤ length piece) × (x.held ≤ length line))
-        (sym e)
-        (gather-moves piece from line held k, inside (omega arith), gather-within piece from line held h)
+    gathers-inside = subst (λ (x : Gathered). x.next ≤ length piece) (sym e) inside
+
+    pub gathers-within : g.held ≤ most_held
+    gathers-within =
+        let w : g.held ≤ length line = subst (λ (x : Gathered). x.held ≤ length line) (sym e) (gather-within piece 0 line held (omega (arith, h, long))) in
+        omega (arith, w, long)
 
 -- ---- what they do
 
@@ -111,128 +159,134 @@ run-fed (b ∷ w) s h a = go (is_newline b) (and_left (within b) (all within w) 
         take-held most_held (s.held ++ (b ∷ [])) w ∙ ap (take most_held) (append_assoc s.held (b ∷ []) w) in
         (r.0 ∙ ap (λ (x : List ℕ). record { store = s.store; buffer = s.buffer; held = x }) j, r.1)
 
-module _ (s : Session) (piece : List ℕ) (from next : ℕ) (after : List ℕ) (ended : Bool) (k : length s.held ≤ most_held) (G : Gathers piece from s.held next after ended) where
+module _ (s : Session) (piece : List ℕ) (next : ℕ) (after : List ℕ) (ended : Bool) (k : length s.held ≤ most_held) (G : Gathers piece s.held next after ended) where
   abbrev gathered : Session
   gathered = record { store = s.store; buffer = s.buffer; held = after }
 
-  run : (fed s (line_from piece from) ≡ holding s (line_from piece from)) × (printed_in s (line_from piece from) ≡ [])
-  run = run-fed (line_from piece from) s k (run-all within (drop from piece))
+  run : (fed s (line_from piece 0) ≡ holding s (line_from piece 0)) × (printed_in s (line_from piece 0) ≡ [])
+  run = run-fed (line_from piece 0) s k (run-all within piece)
 
-  gathered-fed : gathered ≡ fed s (line_from piece from)
+  gathered-fed : gathered ≡ fed s (line_from piece 0)
   gathered-fed = ap (λ (x : List ℕ). record { store = s.store; buffer = s.buffer; held = x }) G.bytes ∙ sym run.0
 
   -- the line goes on
-  pub turn_on : ended ≡ false → Feeds s (between from next piece) gathered []
-  turn_on e =
-      let u : between from next piece ≡ line_from piece from = G.used ∙ ap (λ (b : Bool). line_from piece from ++ ending b) e ∙ append-nil (line_from piece from) in
-      record { session = gathered-fed ∙ ap (fed s) (sym u); printed = sym (ap (printed_in s) u ∙ run.1) }
-
-  -- the line ends, and is answered
-  pub turn-ends : ended ≡ true → (t : Session) (text : List ℕ) → Answers gathered t text → Feeds s (between from next piece) t text
-  unfolding fed printed_in
-  turn-ends e t text A =
-      let w = line_from piece from in
-      let u : between from next piece ≡ w ++ (10 ∷ []) = G.used ∙ ap (λ (b : Bool). w ++ ending b) e in
-      let j = pieces-join s w (10 ∷ []) in
+  pub turn_on : ended ≡ false → (before : Option (List ℕ)) → Feeds s (take next piece) gathered before before
+  turn_on e before =
+      let u : take next piece ≡ line_from piece 0 = G.used ∙ ap (λ (b : Bool). line_from piece 0 ++ ending b) e ∙ append-nil (line_from piece 0) in
       record {
-        session = A.session ∙ ap (λ (x : Session). behind (answering x)) gathered-fed ∙ sym (ap (fed s) u ∙ j.0);
-        printed =
-            A.printed ∙ ap (λ (x : Session). (answering x).text) gathered-fed
-            ∙ sym
-            (ap (printed_in s) u ∙ j.1 ∙ ap (λ (x : List ℕ). x ++ ((answering (fed s w)).text ++ [])) run.1
-            ∙ append-nil (answering (fed s w)).text);
+        session = gathered-fed ∙ ap (fed s) (sym u);
+        printed = subst (λ (x : List ℕ). Appends before before x) (sym (ap (printed_in s) u ∙ run.1)) (appends-none before);
       }
 
--- ---- as the functions have it
+  module _ (e : ended ≡ true) where
+    ended-used : take next piece ≡ line_from piece 0 ++ (10 ∷ [])
+    ended-used = G.used ∙ ap (λ (b : Bool). line_from piece 0 ++ ending b) e
 
-module _ (state : State) (cells : List ℤ) (memory answer : List ℕ) where
-  -- a part that starts at 0
-  part-answered : (line : List ℕ) (n : ℕ) (t : Session) (text : List ℕ) → Answers (session_of state cells memory answer (take (n - 0) line)) t text
-      → Answers (session_of state cells memory answer (take n line)) t text
-  part-answered line n t text A =
-      let z : n - 0 ≡ n = omega arith in
-      subst (λ (k : ℕ). Answers (session_of state cells memory answer (take k line)) t text) z A
+    -- the line ends, and is answered
+    pub turn-fed : behind (answering gathered) ≡ fed s (take next piece)
+    unfolding fed
+    turn-fed =
+        ap (λ (x : Session). behind (answering x)) gathered-fed
+        ∙ sym (ap (fed s) ended-used ∙ (pieces-join s (line_from piece 0) (10 ∷ [])).0)
 
-  module _ (piece : List ℕ) (from : ℕ) (line : List ℕ) (held next : ℕ) (new : List ℕ) (n : ℕ) (ended : Bool) (long : length line ≡ most_held)
-      (G : Gathers piece from (take held line) next (take n new) ended) where
-    abbrev before : Session
-    before = session_of state cells memory answer (take held line)
+    pub turn-printed : (answering gathered).text ≡ printed_in s (take next piece)
+    unfolding fed printed_in
+    turn-printed =
+        ap (λ (x : Session). (answering x).text) gathered-fed
+        ∙ sym
+        (ap (printed_in s) ended-used ∙ (pieces-join s (line_from piece 0) (10 ∷ [])).1
+        ∙ ap (λ (x : List ℕ). x ++ ((answering (fed s (line_from piece 0))).text ++ [])) run.1
+        ∙ append-nil (answering (fed s (line_from piece 0))).text)
 
-    short : length (take held line) ≤ most_held
-    short = omega (arith, length-take held line, long)
+-- ---- as the functions have it: the line of a store that stands for s is gathered on
 
-    pub feeds-ended : ended ≡ true → (state' : State) (cells' : List ℤ) (memory' answer' : List ℕ) (left to : ℕ) (text : List ℕ) → left ≡ 0 → to ≡ next
-        → Answers (session_of state cells memory answer (take (n - 0) new)) (session_of state' cells' memory' answer' []) text
-        → Feeds before (between from to piece) (session_of state' cells' memory' answer' (take left new)) text
-    feeds-ended e state' cells' memory' answer' left to text z y A =
-        subst (λ (k : ℕ). Feeds before (between from to piece) (session_of state' cells' memory' answer' (take k new)) text) (sym z)
-        (subst (λ (k : ℕ). Feeds before (between from k piece) (session_of state' cells' memory' answer' []) text) (sym y)
-        (turn-ends before piece from next (take n new) ended short G e (session_of state' cells' memory' answer' []) text (part-answered new n _ text A)))
+module _ (state : State) (cells : List ℤ) (memory answer line : List ℕ) (n : ℕ) (s : Session) (v : session_of state cells memory answer (take n line) ≡ s) (piece : List ℕ)
+    (g : Gathered) (new : List ℕ) (e : g ≡ gathered_of piece 0 line n) (f : new ≡ filled line n (line_from piece 0)) (h : n ≤ most_held) (long : length line ≡ most_held) where
+  abbrev first : Session
+  first = session_of state cells memory answer (take n line)
 
-    pub feeds-on : ended ≡ false → Feeds before (between from next piece) (session_of state cells memory answer (take n new)) []
-    feeds-on e = turn_on before piece from next (take n new) ended short G e
+  abbrev second : Session
+  second = session_of state cells memory answer (take g.held new)
 
-  -- the input's end
-  some-finishes : (held : List ℕ) (t : Session) (text : List ℕ) → 0 < length held → Answers (session_of state cells memory answer held) t text
-      → Finishes (session_of state cells memory answer held) t text
-  some-finishes [] t text h A = absurd (omega arith)
-  some-finishes (b ∷ held) t text h A = record { session = A.session; printed = A.printed }
+  short : length (take n line) ≤ most_held
+  short = omega (arith, length-take n line, h)
 
-  pub finishes-some : (line : List ℕ) (n : ℕ) (t : Session) (text : List ℕ) → 0 < n → n ≤ length line → Answers (session_of state cells memory answer (take (n - 0) line)) t text
-      → Finishes (session_of state cells memory answer (take n line)) t text
-  finishes-some line n t text h k A = some-finishes (take n line) t text (omega (arith, h, length-take-le n line k)) (part-answered line n t text A)
+  G : Gathers piece (take n line) g.next (take g.held new) g.ended
+  G = gathers-line piece line n g new e f h long
 
-  pub finishes-none : (line : List ℕ) (n : ℕ) → n ≤ 0 → Finishes (session_of state cells memory answer (take n line)) (session_of state cells memory answer []) []
-  finishes-none line n h =
-      let z : 0 ≡ n = omega arith in
-      subst (λ (k : ℕ). Finishes (session_of state cells memory answer (take k line)) (session_of state cells memory answer []) []) z
-      (record { session = refl; printed = refl })
+  -- it goes on
+  pub line-goes_on : g.ended ≡ false → (p : Option (List ℕ)) → Feeds s (take g.next piece) second p p
+  line-goes_on z p = subst (λ (x : Session). Feeds x (take g.next piece) second p p) v (turn_on first piece g.next (take g.held new) g.ended short G z p)
 
--- as many bytes were handed on as the text has
-bytes-are : (out : List ℕ) (n bytes : ℕ) → n ≤ length out → bytes ≡ length (take (n - 0) out) → n ≡ bytes
-bytes-are out n bytes h e = omega (arith, h, e, length-take (n - 0) out)
+  -- it ends, and is answered
+  module _ (z : g.ended ≡ true) (t : Session) (y : t ≡ behind (answering second)) where
+    pub line-fed : t ≡ fed s (take g.next piece)
+    line-fed = y ∙ turn-fed first piece g.next (take g.held new) g.ended short G z ∙ ap (λ (x : Session). fed x (take g.next piece)) v
 
-pub feeds-printed : (s : Session) (bytes : List ℕ) (t : Session) (out : List ℕ) (n put : ℕ) → n ≤ length out → put ≡ length (take (n - 0) out) → Feeds s bytes t (take n out)
-    → Feeds s bytes t (take put out)
-feeds-printed s bytes t out n put h e F = subst (λ (k : ℕ). Feeds s bytes t (take k out)) (bytes-are out n put h e) F
+    pub line-ends : (p q : Option (List ℕ)) → Appends p q (answering second).text → Feeds s (take g.next piece) t p q
+    line-ends p q a = record {
+      session = line-fed;
+      printed =
+          subst (λ (x : List ℕ). Appends p q x)
+          (turn-printed first piece g.next (take g.held new) g.ended short G z ∙ ap (λ (x : Session). printed_in x (take g.next piece)) v) a;
+    }
 
-pub finishes-printed : (s t : Session) (out : List ℕ) (n put : ℕ) → n ≤ length out → put ≡ length (take (n - 0) out) → Finishes s t (take n out) → Finishes s t (take put out)
-finishes-printed s t out n put h e F = subst (λ (k : ℕ). Finishes s t (take k out)) (bytes-are out n put h e) F
+-- ---- the input's end
+
+some-finished : (s : Session) → 0 < length s.held → (behind (answering s) ≡ finished s) × ((answering s).text ≡ printed_last s)
+some-finished s h = go s.held h
+  where
+    go : (held : List ℕ) → 0 < length held
+        → let x : Session = record { store = s.store; buffer = s.buffer; held = held } in (behind (answering x) ≡ finished x) × ((answering x).text ≡ printed_last x)
+    go [] h = absurd (omega arith)
+    go (b ∷ held) h = (refl, refl)
+
+pub held-finished : (s : Session) (n : ℕ) (line : List ℕ) → take n line ≡ s.held → 0 < n → length line ≡ most_held
+    → (behind (answering s) ≡ finished s) × ((answering s).text ≡ printed_last s)
+held-finished s n line e h l = some-finished s (omega (arith, h, l, ap length e, length-take n line))
 
 -- ---- one turn after another
 
-pub piece-start : (s : Session) → s ≡ fed s []
-unfolding fed
-piece-start s = refl
+pub feeds-none : (s : Session) (a : Option (List ℕ)) → Feeds s [] s a a
+unfolding fed printed_in
+feeds-none s a = record { session = refl; printed = appends-none a }
 
-pub piece-turn : (s x t : Session) (piece : List ℕ) (from next : ℕ) (text : List ℕ) → from ≤ next → x ≡ fed s (take from piece) → Feeds x (between from next piece) t text
-    → t ≡ fed s (take next piece)
-piece-turn s x t piece from next text h e F =
-    let n : from + (next - from) ≡ next = omega arith in
-    F.session ∙ ap (λ (y : Session). fed y (between from next piece)) e
-    ∙ sym (ap (fed s) (sym (ap (λ (k : ℕ). take k piece) n) ∙ take-add from (next - from) piece) ∙ (pieces-join s (take from piece) (between from next piece)).0)
+pub feeds-both : (s x t : Session) (a b : List ℕ) (p q r : Option (List ℕ)) → Feeds s a x p q → Feeds x b t q r → Feeds s (a ++ b) t p r
+feeds-both s x t a b p q r F G =
+    let j = pieces-join s a b in record {
+      session = G.session ∙ ap (λ (y : Session). fed y b) F.session ∙ sym j.0;
+      printed =
+          subst (λ (z : List ℕ). Appends p r z) (ap (λ (y : Session). printed_in s a ++ printed_in y b) F.session ∙ sym j.1)
+          (appends-both p q r (printed_in s a) (printed_in x b) F.printed G.printed);
+    }
 
--- ---- what is read
+-- a part of what is left, and what is left then
+pub taken-on : (n : ℕ) (rest : List ℕ) → take n rest ++ take (length rest - n) (drop n rest) ≡ rest
+taken-on n rest =
+    ap (λ (x : List ℕ). take n rest ++ x) (take_all (length rest - n) (drop n rest) (omega (arith, length-drop n rest))) ∙ take-append-drop n rest
 
--- the piece is the first bytes of a buffer
-pub read-part : (s t : Session) (buffer : List ℕ) (n next : ℕ) → next ≤ length (take (n - 0) buffer) → t ≡ fed s (take next (take (n - 0) buffer)) → t ≡ fed s (take next buffer)
-read-part s t buffer n next h e = e ∙ ap (fed s) (take-take next (n - 0) buffer (omega (arith, h, length-take (n - 0) buffer)))
+-- nothing is left
+pub feeds-whole : (s t : Session) (piece used rest : List ℕ) (p q : Option (List ℕ)) → piece ≡ used ++ rest → length rest ≡ 0 → Feeds s used t p q → Feeds s piece t p q
+feeds-whole s t piece used [] p q e z F = subst (λ (x : List ℕ). Feeds s x t p q) (sym (e ∙ append-nil used)) F
+feeds-whole s t piece used (b ∷ rest) p q e z F = absurd (omega arith)
 
-pub read_whole : (buffer : List ℕ) (n next : ℕ) (written : Bool) → n ≤ length buffer → Whole written next (length (take (n - 0) buffer)) → Whole written next n
-read_whole buffer n next written h f e = omega (arith, h, f e, length-take (n - 0) buffer)
+pub reads_more : (s x t : Session) (bytes : List ℕ) → Reads x t → x ≡ fed s bytes → Reads s t
+reads_more s x t bytes r e = (bytes ++ r.0, r.1 ∙ ap (λ (y : Session). fed y r.0) e ∙ sym (pieces-join s bytes r.0).0)
 
-pub reads_more : (s x t : Session) (bytes : List ℕ) → Reads s x → t ≡ fed x bytes → Reads s t
-reads_more s x t bytes r f = (r.0 ++ bytes, f ∙ ap (λ (y : Session). fed y bytes) r.1 ∙ sym (pieces-join s r.0 bytes).0)
+-- from the opening to the end
+pub runs-to_end : (s x t : Session) (input : List ℕ) (p q r : Option (List ℕ)) → Feeds s input x p q → t ≡ finished x → Appends q r (printed_last x) → Runs s input t p r
+runs-to_end s x t input p q r F e h = record {
+  session = e ∙ ap finished F.session;
+  printed =
+      subst (λ (y : Session). Appends p r (printed_in s input ++ printed_last y)) F.session
+      (appends-both p q r (printed_in s input) (printed_last x) F.printed h);
+}
 
--- to the end
-pub runs-all : (s : Session) (before after : Bool) (x t : Session) → Reads s x → Ends before x after t → Runs s after t
-runs-all s before after x t r E = (r.0, λ w. E.session (E.written w) ∙ ap finished r.1)
-
--- from the opening on
-pub opening_on : (o : Start) (state : State) (cells : List ℤ) (memory buffer line : List ℕ) (held : ℕ) → held ≡ 0 → store_of state cells memory ≡ opened o
-    → (written : Bool) (t : Session) → Runs (session_of state cells memory buffer (take held line)) written t → Runs (beginning (opened o) buffer) written t
-opening_on o state cells memory buffer line held z e written t r =
-    subst (λ (s : Session). Runs s written t) (ap₂ (λ (k : ℕ) (y : Store). record { store = y; buffer = buffer; held = take k line }) z e) r
+pub serves-lines : (o : Start) (buffer : List ℕ) (s t : Session) (input : List ℕ) (p r : Option (List ℕ)) → s ≡ beginning (opened o) buffer → Runs s input t p r
+    → Appends p r (printed_of (opened o) buffer input)
+serves-lines o buffer s t input p r e R =
+    subst (λ (x : List ℕ). Appends p r x)
+    (ap (λ (y : Session). printed_in y input ++ printed_last (fed y input)) e ∙ prints-the-lines (opened o) buffer input) R.printed
 
 -- ---- a line answered
 
@@ -241,12 +295,13 @@ module _ (r : Reply) (cells' : List ℤ) (memory' answer' out' : List ℕ) (stat
   pub reply-inside : r.length ≤ length out
   reply-inside = omega (arith, ap (λ (x : Replies). x.result.length) e, reply-within state cells memory answer line out)
 
-  pub reply-answers : length answer ≤ most_lent → most_printed ≤ length out → Answers (session_of state cells memory answer line) (session_of r.state cells' memory' answer' []) (take r.length out')
+  pub reply-session : session_of r.state cells' memory' answer' [] ≡ behind (answering (session_of state cells memory answer line))
   unfolding reply_of
-  reply-answers l h =
+  reply-session = ap (λ (x : Replies). session_of x.result.state x.cells x.memory x.answer []) e
+
+  pub reply-text : length answer ≤ most_lent → most_printed ≤ length out → take r.length out' ≡ (answering (session_of state cells memory answer line)).text
+  unfolding reply_of
+  reply-text l h =
       let a = answering (session_of state cells memory answer line) in
       let p = all-printed out a.text (omega (arith, h, text-short (record { state = state; cells = cells; memory = memory }) answer line l)) in
-      record {
-        session = ap (λ (x : Replies). session_of x.result.state x.cells x.memory x.answer []) e;
-        printed = ap (λ (x : Replies). take x.result.length x.out) e ∙ ap (λ (k : ℕ). take k (filled out 0 a.text)) p.0 ∙ p.1;
-      }
+      ap (λ (x : Replies). take x.result.length x.out) e ∙ ap (λ (k : ℕ). take k (filled out 0 a.text)) p.0 ∙ p.1

@@ -1,3 +1,4 @@
 pub mod Input
 pub mod Turns
+pub mod Served
 pub mod Examples

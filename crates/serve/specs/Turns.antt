@@ -1,9 +1,10 @@
--- What the functions of the loop promise, in terms of `Input`. Assumes nothing: these are definitions.
-use Rattle.std.specs.Prelude.{◌≡◌, Bool, true, ◌&&◌, cond, List, [], ◌∷◌, ◌++◌, ℕ, ◌-◌, ltb, ℤ, take, drop}
+-- What the functions of the loop promise, in terms of `Input`. Of an input and an output these speak of the bytes that their types know. Assumes nothing: these are
+-- definitions.
+use Rattle.std.specs.Prelude.{◌≡◌, List, ◌++◌, ℕ, ℤ, Option}
+use Rattle.std.specs.Io.KnownBytes.{Appends, Consumes}
 use Rattle.cache.specs.declared.State.{State}
 use Rattle.cache.specs.Run.{Store, Start, opened}
-use Rattle.console.specs.Lines.{line_from}
-use Rattle.serve.specs.Input.{Opening, Session, most_held, answering, behind, fed, printed_in, finished, printed_last, beginning}
+use Rattle.serve.specs.Input.{Opening, Session, fed, printed_in, finished, printed_last, printed_of, beginning}
 
 -- the bytes that are lent for answers; and no line prints more bytes, with an answer in those
 abbrev pub most_lent : ℕ
@@ -23,54 +24,26 @@ session_of state cells memory answer held = record { store = store_of state cell
 abbrev pub start_of : List ℤ → List ℕ → Start
 start_of cells memory = record { cells = cells; memory = memory; slots = 4; slot_bytes = 64 }
 
--- the bytes of a piece from `from` up to `to`
-abbrev pub between : ℕ → ℕ → List ℕ → List ℕ
-between from to piece = take (to - from) (drop from piece)
+-- a session begins with that
+abbrev pub Opens : Session → Type 0
+Opens s = (o : Start) × (buffer : List ℕ) × Opening o buffer × (s ≡ beginning (opened o) buffer)
 
--- the bytes of a line that were used up, its end among them, are held
-abbrev pub ending : Bool → List ℕ
-ending ended = cond ended (10 ∷ []) []
-
-pub record Gathers (piece : List ℕ) (from : ℕ) (held : List ℕ) (next : ℕ) (after : List ℕ) (ended : Bool) : Type 0 where
-  pub used : between from next piece ≡ line_from piece from ++ ending ended
-  pub bytes : after ≡ take most_held (held ++ line_from piece from)
-
--- the line that is held was answered: the session then, and its text
-pub record Answers (s t : Session) (text : List ℕ) : Type 0 where
-  pub session : t ≡ behind (answering s)
-  pub printed : text ≡ (answering s).text
-
--- some bytes of the input were used up: the session then, and what is printed for them
-pub record Feeds (s : Session) (bytes : List ℕ) (t : Session) (text : List ℕ) : Type 0 where
+-- some bytes of the input were used up: the session then, and what the output grows by is what is printed for them
+pub record Feeds (s : Session) (bytes : List ℕ) (t : Session) (before after : Option (List ℕ)) : Type 0 where
   pub session : t ≡ fed s bytes
-  pub printed : text ≡ printed_in s bytes
-
--- the input has ended
-pub record Finishes (s t : Session) (text : List ℕ) : Type 0 where
-  pub session : t ≡ finished s
-  pub printed : text ≡ printed_last s
-
--- as long as all could be written, nothing of a piece is left out
-abbrev pub Whole : Bool → ℕ → ℕ → Type 0
-Whole written next count = written ≡ true → next ≡ count
-
--- how many reads are left after one: one less, but none at the end of the input, nor if nothing more can be written
-abbrev pub reads_left : ℕ → ℕ → Bool → ℕ
-reads_left left got written = cond (written && ltb 0 got) (left - 1) 0
+  pub printed : Appends before after (printed_in s bytes)
 
 -- the session after what was read
 abbrev pub Reads : Session → Session → Type 0
 Reads s t = (input : List ℕ) × (t ≡ fed s input)
 
--- the session after the input's end, if all could be written before it
-pub record Ends (before : Bool) (s : Session) (after : Bool) (t : Session) : Type 0 where
-  pub session : before ≡ true → t ≡ finished s
-  pub written : after ≡ true → before ≡ true
+-- all of the input was: the session after its end
+pub record Runs (s : Session) (input : List ℕ) (t : Session) (before after : Option (List ℕ)) : Type 0 where
+  pub session : t ≡ finished (fed s input)
+  pub printed : Appends before after (printed_in s input ++ printed_last (fed s input))
 
--- the session after all of the input, if all could be written
-abbrev pub Runs : Session → Bool → Session → Type 0
-Runs s written t = (input : List ℕ) × (written ≡ true → t ≡ finished (fed s input))
-
--- and that from the opening of document 01 on
-abbrev pub Serves : Start → List ℕ → Bool → Session → Type 0
-Serves o buffer written t = Opening o buffer × Runs (beginning (opened o) buffer) written t
+-- and that from the opening of document 01 on: the output grows by what is printed for the lines of what was read
+abbrev pub Serves : Option (List ℕ) → Option (List ℕ) → Option (List ℕ) → Option (List ℕ) → Type 0
+Serves unread left before after =
+    (o : Start) × (buffer : List ℕ) × (input : List ℕ)
+    × Opening o buffer × Consumes unread left input × Appends before after (printed_of (opened o) buffer input)

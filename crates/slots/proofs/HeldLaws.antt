@@ -1,5 +1,5 @@
 -- Laws for callers: no key is held twice after a call, if none was before it; and a new key is put where none is the same. Assumes nothing.
-use mathlib.Core.Path.{◌≡◌, refl, sym, ap, ap₂, subst, ◌∙◌}
+use mathlib.Core.Path.{◌≡◌, sym, ap, ap₂, subst, ◌∙◌}
 use mathlib.Core.Logic.{◌≢◌}
 use mathlib.Core.Bool.{Bool, false, ◌||◌}
 use mathlib.Core.List.{List, [], ◌∷◌, map}
@@ -16,14 +16,10 @@ use Rattle.lists.proofs.Repeats.{distinct-repeats, distinct-map}
 use Rattle.meaning.specs.Limits.{most_slots}
 use Rattle.slots.specs.declared.Key.{Key}
 use Rattle.slots.specs.declared.SlotList.{SlotList}
-use Rattle.slots.specs.Order.{held_slots, open_of, front_of, last_taken, drop_by}
+use Rattle.slots.specs.Order.{held_slots, front_of, last_taken, drop_by}
 use Rattle.slots.specs.Keys.{key_read, same_key, no_key, slot_key, held_keys, held_twice}
 use Rattle.slots.proofs.KeyLaws.{read-other, not-twice, twice-not}
 use Rattle.slots.proofs.Laws.{Sound, held-front, drop-held, taken-below, taken_free, taken-held}
-
-pub open-once : (keys : List Key) (n : ℕ) → held_twice keys (open_of n) ≡ false
-unfolding held_twice open_of
-open-once keys n = refl
 
 pub front-once : (keys : List Key) (s : SlotList) (p : ℕ) → p < s.held → held_twice keys s ≡ false → held_twice keys (front_of s p) ≡ false
 front-once keys s p h t =

@@ -20,7 +20,7 @@ use Rattle.lists.proofs.Repeats.{repeats-distinct, distinct-repeats}
 use Rattle.meaning.specs.Limits.{most_slots}
 use Rattle.slots.specs.declared.SlotList.{SlotList}
 use Rattle.slots.specs.Order.{slots_of, held_slots, free_slots, sound_slots, open_of, front, front_of, is_open, last_taken, drop_by, clear_of}
-use Rattle.slots.proofs.Fronts.{front_at, take-front, drop-front, front-moved, front_length}
+use Rattle.slots.proofs.Fronts.{front_at, take-front, drop-front, front-moved}
 use Rattle.slots.proofs.KeyLaws.{FoundAt, found_inside}
 
 -- ---- what the test of a slot list says
@@ -78,9 +78,6 @@ module _ (s : SlotList) (S : Sound s) (long : length s.order ≡ most_slots) whe
   pub held-length : length (held_slots s) ≡ s.held
   held-length = length-take-le s.held s.order (omega (arith, S.few, S.within))
 
-  pub free-length : length (free_slots s) ≡ s.count - s.held
-  free-length = length-drop s.held (slots_of s) ∙ ap (λ (n : ℕ). n - s.held) slots_length
-
 -- every held slot is below the count
 pub held_below : (s : SlotList) → Sound s → All (λ x. x < s.count) (held_slots s)
 held_below s S = subst (All (λ x. x < s.count)) (held_first s S.within) (All-take s.held S.below)
@@ -99,10 +96,6 @@ pub open_free : (n : ℕ) → n ≤ most_slots → free_slots (open_of n) ≡ fr
 unfolding open_of
 open_free n h = open-slots n h
 
-pub open-size : (n : ℕ) → length (open_of n).order ≡ most_slots
-unfolding open_of
-open-size n = refl
-
 pub open-sound : (n : ℕ) → n ≤ most_slots → Sound (open_of n)
 unfolding open_of
 open-sound n h = record {
@@ -115,10 +108,6 @@ open-sound n h = record {
 -- ---- a slot moved to the front
 
 module _ (s : SlotList) (p : ℕ) where
-  pub front-size : length (front_of s p).order ≡ length s.order
-  unfolding front_of
-  front-size = front_length p s.order
-
   pub front-slots : p < s.count → slots_of (front_of s p) ≡ front p (slots_of s)
   unfolding front_of
   front-slots h = take-front p s.count s.order h
@@ -208,15 +197,8 @@ module _ (s : SlotList) (S : Sound s) (long : length s.order ≡ most_slots) (so
   after-within : min (s.held + 1) s.count ≤ s.count
   after-within = omega arith
 
-  pub taken-slots : slots_of (last_taken s).slots ≡ (last_taken s).slot ∷ others
-  taken-slots = after-slots
-
   pub slots-taken : Moved (slots_of s) (slots_of (last_taken s).slots)
   slots-taken = subst (λ (l : List ℕ). Moved (slots_of s) l) (sym after-slots) (subst (λ (l : List ℕ). Moved l (last ∷ others)) (sym slots-last) (moved-last others last))
-
-  pub taken-size : length (last_taken s).slots.order ≡ most_slots
-  unfolding front_of
-  taken-size = front_length (s.count - 1) s.order ∙ long
 
   pub taken-sound : Sound (last_taken s).slots
   taken-sound = sound-moved s after S refl after-within slots-taken

@@ -7,5 +7,4 @@ pub mod Named
 pub mod Noted
 pub mod Parts
 pub mod Repeated
-pub mod Signed
 pub mod SlotReads

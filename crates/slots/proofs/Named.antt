@@ -5,9 +5,9 @@ use mathlib.Core.List.{List, [], ◌∷◌}
 use Prim.Native.Nat.{ℕ, zero, suc, ◌+◌, ◌≤◌, ◌<◌}
 use native.Mathlib.Numerals.{add-one}
 use native.Mathlib.Omega.{arith}
-use borrow.Author.Tests.{lt-ltb, le-ltb, eqb-true, eqb-false}
+use borrow.Author.Tests.{lt-ltb, eqb-true, eqb-false}
 use lib.Dec.{ltb, eqb}
-use lib.ListN.{length, drop, get_or, set, replicate, drop_of_length-le}
+use lib.ListN.{length, drop, get_or, set, replicate}
 use lib.Seq.{drop-cons, get_or-set_same, get_or-set_other}
 use Rattle.lists.specs.Lists.{any, all, repeats}
 
@@ -69,22 +69,12 @@ module _ (l : List ℕ) where
     left = ap (λ (b : Bool). all (λ (x : ℕ). ltb x n) l && (b && not (repeats eqb l))) (none_seen k l);
   }
 
-  pub naming-end : (seen : List Bool) (i : ℕ) → n ≤ i → Naming seen i → true ≡ named
-  naming-end seen i h N = ap (fresh n seen) (sym (drop_of_length-le l h)) ∙ N.left
-
   module _ (seen : List Bool) (i : ℕ) (k : i < n) (N : Naming seen i) where
     abbrev here : ℕ
     here = get_or l i 0
 
     step : fresh n seen (here ∷ drop (i + 1) l) ≡ named
     step = ap (λ (m : ℕ). fresh n seen (here ∷ drop m l)) (add-one i) ∙ ap (fresh n seen) (sym (drop-cons l i 0 k)) ∙ N.left
-
-    -- a number that is no slot, and one that was seen
-    pub naming-past : n ≤ here → false ≡ named
-    naming-past e = rw (le-ltb here n e) at step
-
-    pub naming-seen : here < n → get_or seen here false ≡ true → false ≡ named
-    naming-seen b e = sym (and-false (all (λ (x : ℕ). ltb x n) (drop (i + 1) l))) ∙ (rw (lt-ltb here n b, e) at step)
 
     pub naming-more : here < n → n ≤ length seen → get_or seen here false ≡ false → Naming (set seen here true) (i + 1)
     naming-more b s e =

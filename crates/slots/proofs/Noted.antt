@@ -5,14 +5,15 @@ use mathlib.Core.List.{List, [], ◌∷◌, ◌++◌, map}
 use Prim.Native.Nat.{ℕ, ◌+◌, ◌%◌, ◌≤◌, ◌<◌}
 use native.Mathlib.Numerals.{add-one}
 use native.Mathlib.Omega.{arith}
-use borrow.Author.Tests.{eqb-true, eqb-false, eq-eqb, ne_eqb}
+use borrow.Author.Tests.{eqb-true, eqb-false}
 use lib.Dec.{eqb}
 use lib.ListN.{length, take, get_or, set}
 use lib.Seq.{take_all, take-suc, take-suc-set, get_or-set_same, get_or-set_other}
 use Rattle.std.specs.List.{list_any}
 use Rattle.lists.specs.Lists.{All, nil, cons, any, repeats}
-use Rattle.lists.proofs.Bools.{or_left, or_right, clash}
-use Rattle.lists.proofs.Lists.{All-map, All-append, any_append, map-append}
+use Rattle.lists.proofs.Bools.{clash}
+use Rattle.lists.proofs.Lists.{All-map, All-append, map-append}
+use Rattle.lists.proofs.Chains.{eqb-turned, any-turned, repeats-last}
 
 -- ---- numbers, no two of them equal, with a mark for the remainder of each
 
@@ -43,23 +44,6 @@ is-new seen h l a e = go (any (eqb h) l) refl
     go true q = sym (ap₂ ◌&&◌ (has-mark seen h a q) q) ∙ e
     go false q = refl
 
-repeats-last : (l : List ℕ) (h : ℕ) → any (eqb h) l ≡ false → repeats eqb l ≡ false → repeats eqb (l ++ (h ∷ [])) ≡ false
-repeats-last [] h a r = refl
-repeats-last (x ∷ l) h a r =
-    let k : eqb x h ≡ false = ne_eqb x h (λ e. eqb-false h x (or_left (eqb h x) (any (eqb h) l) a) (sym e)) in
-    ap₂ ◌||◌
-    (any_append (eqb x) l (h ∷ []) ∙ ap₂ ◌||◌ (or_left (any (eqb x) l) (repeats eqb l) r) (ap (λ (b : Bool). b || false) k))
-    (repeats-last l h (or_right (eqb h x) (any (eqb h) l) a) (or_right (any (eqb x) l) (repeats eqb l) r))
-
--- the library's test of some member, of an equal number
-any_equal : (h : ℕ) (l : List ℕ) → list_any (λ (x : ℕ). eqb x h) l ≡ any (eqb h) l
-any_equal h [] = refl
-any_equal h (x ∷ l) = ap₂ ◌||◌ (turned (eqb h x) refl) (any_equal h l)
-  where
-    turned : (b : Bool) → eqb h x ≡ b → eqb x h ≡ eqb h x
-    turned true e = eq-eqb x h (sym (eqb-true h x e)) ∙ sym e
-    turned false e = ne_eqb x h (λ q. eqb-false h x e (sym q)) ∙ sym e
-
 module _ (f : ℕ → ℕ) (l : List ℕ) where
   -- of the first i: their numbers are noted, each has its mark, and no two are equal
   pub record Noted (prints : List ℕ) (seen : List Bool) (i : ℕ) : Type 0 where
@@ -87,7 +71,7 @@ module _ (f : ℕ → ℕ) (l : List ℕ) where
           noted = s ∙ ap₂ (λ (xs : List ℕ) (y : ℕ). xs ++ (y ∷ [])) N.noted e ∙ sym m;
           marked = subst (All (Marked (set seen (h % 1024) true))) (sym s)
               (All-append (All-map (λ x a. still_marked seen (h % 1024) x ls a) N.marked) (cons (get_or-set_same seen (h % 1024) true false ls) nil));
-          apart = ap (repeats eqb) s ∙ repeats-last (take i prints) h (is-new seen h (take i prints) N.marked q) N.apart;
+          apart = ap (repeats eqb) s ∙ repeats-last eqb eqb-turned (take i prints) h ∙ ap₂ ◌||◌ N.apart (is-new seen h (take i prints) N.marked q);
         }
 
     -- with no mark, or looked for and not found
@@ -96,4 +80,4 @@ module _ (f : ℕ → ℕ) (l : List ℕ) where
 
     pub noted-apart : h ≡ f (get_or l i 0) → list_any (λ (x : ℕ). eqb x h) (take i prints) ≡ false → Noted prints seen i → Noted (set prints i h) (set seen (h % 1024) true) (i + 1)
     noted-apart e q N =
-        noted_more e (ap (λ (b : Bool). get_or seen (h % 1024) false && b) (sym (any_equal h (take i prints)) ∙ q) ∙ and-false (get_or seen (h % 1024) false)) N
+        noted_more e (ap (λ (b : Bool). get_or seen (h % 1024) false && b) (sym (any-turned eqb eqb-turned h (take i prints)) ∙ q) ∙ and-false (get_or seen (h % 1024) false)) N

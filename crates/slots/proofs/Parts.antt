@@ -1,5 +1,5 @@
 -- The loop of `drop`, which parts a list: those that fail a test stand at the front of an array, those that pass it in another. Assumes nothing.
-use mathlib.Core.Path.{◌≡◌, refl, sym, ap, ap₂, ◌∙◌}
+use mathlib.Core.Path.{◌≡◌, sym, ap, ap₂, ◌∙◌}
 use mathlib.Core.Bool.{Bool, true, false, not}
 use mathlib.Core.List.{List, [], ◌∷◌, ◌++◌, append-nil, append_assoc}
 use Prim.Native.Nat.{ℕ, ◌+◌, ◌-◌, ◌≤◌, ◌<◌, min}
@@ -42,9 +42,6 @@ module _ (p : ℕ → Bool) (l order₀ : List ℕ) where
     pub stay : take kept order ≡ keep other (take i l)
     pub leave : take dropped free ≡ keep p (take i l)
     pub behind : drop (length l) order ≡ drop (length l) order₀
-
-  pub parting-start : (free : List ℕ) → length l ≤ 64 → length order₀ ≡ 64 → length free ≡ 64 → Parting 0 order₀ free 0 0
-  parting-start free f o w = record { few = f; long = o; wide = w; counted = refl; stay = refl; leave = refl; behind = refl }
 
   module _ (i : ℕ) (order free : List ℕ) (kept dropped : ℕ) (h : i < length l) (P : Parting i order free kept dropped) where
     pub parting-leave : p (get_or l i 0) ≡ true → Parting (i + 1) order (set free dropped (get_or l i 0)) kept (dropped + 1)

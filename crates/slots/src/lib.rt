@@ -12,7 +12,7 @@ ghost use Rattle.slots.specs.Same.{same_laws};
 use std::array;
 pub use twice::held_twice;
 
-// A question's number with its values: the first `count`. What stands behind them is not looked at.
+// A question's number with its values: the first `count`. What stands behind them is not looked at. (Part of the state, and the slots too: plain numbers, arrays with counts.)
 #[repr(C)]
 #[derive(Clone, Copy)]
 pub struct Key {
@@ -55,11 +55,10 @@ impl Key {
     }
 
     // The values in use.
-    fn used(&self) -> &[i32]
+    pub fn used(&self) -> &[i32]
         ensures { result.now ≡ values_of self.now }
     {
-        let n = usize::from(self.count).min(Self::VALUES);
-        &self.values[..n]
+        lists::in_use(&self.values, usize::from(self.count))
     }
 }
 
@@ -98,8 +97,7 @@ impl SlotList {
     pub fn held_slots(&self) -> &[u8]
         ensures { result.now ≡ held_slots self.now }
     {
-        let n = usize::from(self.held).min(Self::SLOTS);
-        &self.order[..n]
+        lists::in_use(&self.order, usize::from(self.held))
     }
 
     // The slot at place p moves to the front; with no such place the list stays.
@@ -127,15 +125,15 @@ impl SlotList {
     }
 
     // Of the held slots those that `gone` does not mark come first and stay held; the marked ones come behind them and are free. Each in the order they had.
-    pub fn drop(mut self, gone: [bool; SlotList::SLOTS]) -> Self
-        ensures { result ≡ drop_of self gone }
+    pub fn drop(mut self, gone: &[bool; SlotList::SLOTS]) -> Self
+        ensures { result ≡ drop_of self gone.now }
     {
         let mut free = [0u8; Self::SLOTS];
         let mut kept = 0;
         let mut dropped = 0;
         let from = self;
         for x in from.held_slots() {
-            if is_marked(&gone, *x) {
+            if is_marked(gone, *x) {
                 free[dropped] = *x;
                 dropped += 1;
             } else {

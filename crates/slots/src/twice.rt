@@ -1,6 +1,6 @@
 // Fingerprints of keys, and whether a key is held twice.
 ghost use Rattle.std.specs.Prelude.{◌≡◌, map};
-ghost use Rattle.lists.specs.Lists.{repeats};
+ghost use Rattle.lists.specs.Lists.{any, repeats};
 ghost use Rattle.slots.specs.Keys.{key_read, same_key, slot_key, mixed, fingerprint, slot_print, held_twice};
 
 use super::{Key, SlotList};
@@ -49,19 +49,22 @@ fn key_at(keys: &[Key; SlotList::SLOTS], x: u8) -> Key
     }
 }
 
+// Whether one of the slots has the key of the slot x.
+fn has_same(keys: &[Key; SlotList::SLOTS], slots: &[u8], x: u8) -> bool
+    ensures { result ≡ any (same_key (slot_key keys.now x)) (map (slot_key keys.now) slots.now) }
+{
+    let key = key_at(keys, x);
+    slots.iter().any(|y| key == key_at(keys, *y))
+}
+
 // Whether two of the slots have the same key.
 fn any_same(keys: &[Key; SlotList::SLOTS], slots: &[u8]) -> bool
     ensures { result ≡ repeats same_key (map (slot_key keys.now) slots.now) }
 {
-    let mut left = slots;
-    while let Some((x, rest)) = left.split_first() {
-        let key = key_at(keys, *x);
-        if rest.iter().any(|y| key == key_at(keys, *y)) {
-            return true;
-        }
-        left = rest;
-    }
-    false
+    slots
+        .iter()
+        .enumerate()
+        .any(|(i, x)| has_same(keys, &slots[..i], *x))
 }
 
 // Whether a key is held twice. Keys with different fingerprints differ, so that keys are compared only where two fingerprints are equal.

@@ -1,45 +1,24 @@
 -- Numbers of sound members noted one after another: whether one stands among those before it, and whether two are equal. Assumes nothing.
-use mathlib.Core.Path.{◌≡◌, refl, sym, ap, ap₂, ◌∙◌}
+use mathlib.Core.Path.{◌≡◌, sym, ap, ap₂, ◌∙◌}
 use mathlib.Core.Bool.{Bool, true, false, ◌||◌}
 use mathlib.Core.List.{List, [], ◌∷◌, ◌++◌, map}
 use Prim.Native.Nat.{ℕ, ◌+◌, ◌≤◌, ◌<◌}
 use native.Mathlib.Numerals.{add-one}
 use native.Mathlib.Omega.{arith}
-use borrow.Author.Tests.{eqb-true, eqb-false, eq-eqb, ne_eqb}
 use lib.Dec.{eqb}
 use lib.ListN.{length, get_or, take, set}
 use lib.Seq.{take_all, take-suc, take-suc-set}
 use Rattle.std.specs.List.{list_any}
 use Rattle.lists.specs.Lists.{any, all, repeats}
-use Rattle.lists.proofs.Lists.{any_append, map-append}
-use Rattle.soundness.proofs.Tests.{shuffled, all-more, all-stop, all-end}
-
--- ---- one looked for
-
-eqb-turned : (x y : ℕ) → eqb x y ≡ eqb y x
-eqb-turned x y = go (eqb x y) refl
-  where
-    go : (b : Bool) → eqb x y ≡ b → b ≡ eqb y x
-    go true e = sym (eq-eqb y x (sym (eqb-true x y e)))
-    go false e = sym (ne_eqb y x (λ q. eqb-false x y e (sym q)))
-
-pub found : (l : List ℕ) (x : ℕ) → list_any (λ (y : ℕ). eqb y x) l ≡ any (eqb x) l
-found [] x = refl
-found (y ∷ l) x = ap₂ ◌||◌ (eqb-turned y x) (found l x)
-
--- ---- two that are equal
-
-repeats-last : (l : List ℕ) (x : ℕ) → repeats eqb (l ++ (x ∷ [])) ≡ (repeats eqb l || any (eqb x) l)
-repeats-last [] x = refl
-repeats-last (y ∷ l) x =
-    ap₂ ◌||◌ (any_append (eqb y) l (x ∷ []) ∙ ap (λ (b : Bool). any (eqb y) l || (b || false)) (eqb-turned y x)) (repeats-last l x)
-    ∙ shuffled (any (eqb y) l) (eqb x y) (repeats eqb l) (any (eqb x) l)
+use Rattle.lists.proofs.Lists.{map-append}
+use Rattle.lists.proofs.Chains.{eqb-turned, any-turned, repeats-last}
+use Rattle.soundness.proofs.Tests.{all-more, all-stop, all-end}
 
 -- one more is noted
 noted : (codes : List ℕ) (i x : ℕ) (same b : Bool) → i < length codes → same ≡ repeats eqb (take i codes) → b ≡ any (eqb x) (take i codes)
     → (same || b) ≡ repeats eqb (take (i + 1) (set codes i x))
 noted codes i x same b h e f =
-    ap₂ ◌||◌ e f ∙ sym (repeats-last (take i codes) x) ∙ ap (repeats eqb) (sym (ap (λ (j : ℕ). take j (set codes i x)) (add-one i) ∙ take-suc-set codes i x h))
+    ap₂ ◌||◌ e f ∙ sym (repeats-last eqb eqb-turned (take i codes) x) ∙ ap (repeats eqb) (sym (ap (λ (j : ℕ). take j (set codes i x)) (add-one i) ∙ take-suc-set codes i x h))
 
 -- ---- the loop: the members passed are sound, their numbers are noted, and whether two of these are equal
 
@@ -72,7 +51,7 @@ module _ {A : Type 0} (f : A → ℕ) (p : A → Bool) (xs : List A) where
           ap (λ (j : ℕ). take j (set codes i c)) (add-one i) ∙ take-suc-set codes i c k
           ∙ ap₂ (λ (l : List ℕ) (y : ℕ). l ++ (y ∷ [])) N.numbers e.0
           ∙ sym (map-append f (take i xs) (x ∷ [])) ∙ ap (map f) (sym step);
-      twice = noted codes i c same b k N.twice (q ∙ found (take i codes) c);
+      twice = noted codes i c same b k N.twice (q ∙ any-turned eqb eqb-turned c (take i codes));
     }
 
     pub noted-stop : p x ≡ false → false ≡ all p xs

@@ -8,6 +8,8 @@ use borrow.Author.Tests.{le-leb, lt-leb, leb-true}
 use lib.Dec.{eqb, leb, ltb}
 use lib.ListN.{length, take}
 use lib.Seq.{length-take-le}
+use Rattle.std.specs.Prelude.{Option, Some}
+use Rattle.std.specs.Option.{option_and_then, option_eq}
 use Rattle.lists.specs.Lists.{all}
 use Rattle.lists.proofs.Bools.{and_assoc, and_left, and_right}
 use Rattle.meaning.specs.Condition.{sides}
@@ -20,7 +22,7 @@ use Rattle.statement.specs.Sound.{operand_read, comparison_read, used_steps, use
 use Rattle.statement.specs.declared.Comparison.{Comparison}
 use Rattle.statement.specs.declared.Condition.{Condition}
 use Rattle.statement.proofs.Stored.{read_length, read-leaves, postfix-leaves}
-use Rattle.soundness.specs.Parts.{steps_on, Ordered, comparison_fits, comparison_marks, comparisons_on}
+use Rattle.soundness.specs.Parts.{some_if, steps_on, Ordered, comparison_fits, comparison_marks, after_comparison, after_all}
 use Rattle.soundness.proofs.Tests.{interchange}
 use Rattle.soundness.proofs.Steps.{steps-postfix}
 
@@ -36,6 +38,10 @@ operands cs = sides (map comparison_read cs)
 abbrev asked : ℕ → ℕ → ℕ → List Comparison → Bool
 asked columns m p cs =
     operators cs && (all (is_below columns) (operands cs) && (numbered_on m (operands cs) && eqb p (m + parameter_count (operands cs))))
+
+passed : (b : Bool) (p n : ℕ) (f : ℕ → Option ℕ) → option_eq eqb (Some p) (option_and_then f (some_if b n)) ≡ (b && option_eq eqb (Some p) (f n))
+passed true p n f = refl
+passed false p n f = refl
 
 module _ (columns : ℕ) where
   fits-is : (m : ℕ) (c : Comparison)
@@ -54,7 +60,9 @@ module _ (columns : ℕ) where
       interchange o (w && k) o' (w' && (k' && e))
       ∙ ap (λ (x : Bool). (o && o') && x) (interchange w k w' (k' && e) ∙ ap (λ (x : Bool). (w && w') && x) (and_assoc k k' e))
 
-  comparisons-asked : (m p : ℕ) (cs : List Comparison) → comparisons_on columns m p cs ≡ asked columns m p cs
+  -- the number behind them tells
+  comparisons-asked : (m p : ℕ) (cs : List Comparison) → option_eq eqb (Some p) (after_all columns m cs) ≡ asked columns m p cs
+  unfolding after_comparison
   comparisons-asked m p [] = let e : m ≡ m + 0 = omega arith in ap (eqb p) e
   comparisons-asked m p (c ∷ cs) =
       let a : M.Operand = operand_read (left_side c) in
@@ -64,7 +72,8 @@ module _ (columns : ℕ) where
       let os : List M.Operand = operands cs in
       let e : m + comparison_marks c ≡ m'' = omega arith in
       let f : m'' + parameter_count os ≡ m + (mark_in_operand a + (mark_in_operand b + parameter_count os)) = omega arith in
-      ap₂ ◌&&◌ (fits-is m c) (ap (λ (k : ℕ). comparisons_on columns k p cs) e ∙ comparisons-asked m'' p cs)
+      passed (comparison_fits columns m c) p (m + comparison_marks c) (λ (k : ℕ). after_all columns k cs)
+      ∙ ap₂ ◌&&◌ (fits-is m c) (ap (λ (k : ℕ). option_eq eqb (Some p) (after_all columns k cs)) e ∙ comparisons-asked m'' p cs)
       ∙ grouped (sound_predicate c) (is_below columns a && is_below columns b) (is_numbered m a && is_numbered m' b)
       (operators cs) (all (is_below columns) os) (numbered_on m'' os) (eqb p (m'' + parameter_count os))
       ∙ ap (λ (x : Bool). (sound_predicate c && operators cs) && x)
@@ -137,7 +146,7 @@ module _ (columns m p : ℕ) (c : Condition) where
     unfolding condition_nodes
     steps-tell = steps-postfix ss cs
 
-    pub condition-short : ((leb p most_marks && steps_on 0 ss) && comparisons_on columns m p cs) ≡ sound_condition_on columns m p c
+    pub condition-short : ((leb p most_marks && steps_on 0 ss) && option_eq eqb (Some p) (after_all columns m cs)) ≡ sound_condition_on columns m p c
     unfolding sound_condition_on sound_condition
     condition-short =
         ap₂ (λ (x y : Bool). (leb p most_marks && x) && y) steps-tell (comparisons-asked columns m p cs)
@@ -153,5 +162,5 @@ module _ (columns m p : ℕ) (c : Condition) where
     pub condition-none : c.count ≡ 0 → (leb p most_marks && eqb p m) ≡ sound_condition_on columns m p c
     condition-none e =
         ap (λ (b : Bool). b && eqb p m) (sym (and-true (leb p most_marks)))
-        ∙ ap (λ (n : ℕ). (leb p most_marks && steps_on 0 (take (2 * n - 1) c.steps)) && comparisons_on columns m p (take n c.comparisons)) (sym e)
+        ∙ ap (λ (n : ℕ). (leb p most_marks && steps_on 0 (take (2 * n - 1) c.steps)) && option_eq eqb (Some p) (after_all columns m (take n c.comparisons))) (sym e)
         ∙ condition-short

@@ -1,6 +1,5 @@
 pub mod Tests
 pub mod Codes
-pub mod Numbering
 pub mod Packed
 pub mod Tables
 pub mod Steps

@@ -19,10 +19,12 @@ use Rattle.meaning.specs.Limits.{most_name}
 use Rattle.meaning.specs.Names.{same_name}
 use Rattle.meaning.proofs.Names.{same-is}
 use Rattle.meaning.proofs.Resolve.{same-name}
+use Rattle.meaning.proofs.Folding.{small-name}
 use Rattle.statement.specs.Catalog.{name_of_struct}
 use Rattle.statement.specs.Sound.{sound_name}
 use Rattle.statement.specs.declared.Name.{Name}
-use Rattle.soundness.specs.Parts.{some_if, digit_of, digit_table, packed, packed_name, code_of}
+use Rattle.soundness.specs.Parts.{some_if, digit_of, digit_table, packed, packed_name, number_of, code_of}
+use Rattle.soundness.proofs.Tests.{some-no, some-yes}
 
 -- ---- digits
 
@@ -48,10 +50,6 @@ from_at : (f : ℕ → ℕ) (i n k : ℕ) → k < n → get_or (map f (from i n)
 from_at f i zero k h = absurd (omega arith)
 from_at f i (suc n) zero h = let e : i ≡ i + 0 = omega arith in ap f e
 from_at f i (suc n) (suc k) h = let e : suc i + k ≡ i + suc k = omega arith in from_at f (suc i) n k (omega arith) ∙ ap f e
-
-from-length : (f : ℕ → ℕ) (i n : ℕ) → length (map f (from i n)) ≡ n
-from-length f i zero = refl
-from-length f i (suc n) = ap suc (from-length f (suc i) n)
 
 pub table-at : (b : ℕ) → b < 256 → get_or digit_table b 0 ≡ digit_of b
 unfolding digit_table
@@ -84,10 +82,6 @@ digit-yes b = go (byte b)
     go (digit h k) n = refl
     go (line f) n = refl
     go other n = absurd (n refl)
-
-small-name : (b : ℕ) → is_small b ≡ true → is_name_byte b ≡ true
-unfolding is_name_byte
-small-name b e = ap (λ (t : Bool). t || (is_digit b || eqb b 95)) e
 
 digit-some : (b : ℕ) → is_name_byte b ≡ true → 1 ≤ digit_of b
 digit-some b h = go (byte b) h
@@ -209,10 +203,7 @@ unfolding is_name
 name-long zero l e = clash e refl
 name-long (suc k) l e = omega arith
 
--- the number of a name
-abbrev pub number_of : Name → ℕ
-number_of n = packed (name_of_struct n)
-
+-- ---- the number of a name
 module _ (n : Name) where
   abbrev begins : Bool
   begins = (leb 1 n.len && leb n.len 12) && is_small (get_or n.bytes 0 0)
@@ -233,32 +224,20 @@ module _ (n : Name) where
           (started-small (is_small (get_or n.bytes 0 0)) (λ f. clash named (not-started n.len n.bytes f)))
 
   pub code-packed : begins ≡ true → packed_name (take n.len n.bytes) ≡ code_of n
-  unfolding code_of
   code-packed e =
       let fits : (leb 1 n.len && leb n.len 12) ≡ true = and_left (leb 1 n.len && leb n.len 12) _ e in
       started n.len n.bytes (leb-true 1 n.len (and_left (leb 1 n.len) _ fits)) (and_right (leb 1 n.len && leb n.len 12) _ e)
       ∙ ap (λ (t : Bool). some_if (t && is_name (name_of_struct n)) (number_of n)) (sym (and_right (leb 1 n.len) _ fits))
 
   pub code-none : begins ≡ false → None ≡ code_of n
-  unfolding code_of
   code-none e = ap (λ (t : Bool). some_if t (number_of n)) (sym (begins-sound e))
 
   -- its number tells whether a name is sound
   pub code-no : None ≡ code_of n → sound_name n ≡ false
-  unfolding code_of
-  code-no e = go (sound_name n) e
-    where
-      go : (t : Bool) → None ≡ some_if t (number_of n) → t ≡ false
-      go true e = cc
-      go false e = refl
+  code-no e = some-no (sound_name n) (number_of n) e
 
   pub code-yes : (k : ℕ) → Some k ≡ code_of n → (k ≡ number_of n) × (sound_name n ≡ true)
-  unfolding code_of
-  code-yes k e = go (sound_name n) e
-    where
-      go : (t : Bool) → Some k ≡ some_if t (number_of n) → (k ≡ number_of n) × (t ≡ true)
-      go true e = (cc, refl)
-      go false e = (cc, cc)
+  code-yes k e = some-yes (sound_name n) (number_of n) k e
 
 -- sound names are the same exactly if their numbers are
 pub number_same : (m n : Name) → sound_name m ≡ true → sound_name n ≡ true → eqb (number_of m) (number_of n) ≡ same_name (name_of_struct m) (name_of_struct n)

@@ -1,6 +1,6 @@
 -- Tables: what the tests of single tables and of the numbers of their names say together. Assumes nothing.
 use mathlib.Core.Path.{◌≡◌, refl, sym, ap, ap₂, ◌∙◌}
-use mathlib.Core.Bool.{Bool, true, false, not, ◌&&◌, ◌||◌, and-true, and-false, and_comm}
+use mathlib.Core.Bool.{Bool, true, false, not, ◌&&◌, ◌||◌, and-true, and_comm}
 use mathlib.Core.List.{List, [], ◌∷◌, ◌++◌, map}
 use Prim.Native.Nat.{ℕ}
 use lib.Dec.{eqb, leb}
@@ -13,11 +13,12 @@ use Rattle.statement.specs.Catalog.{name_of_struct, schema_of}
 use Rattle.statement.specs.Sound.{used_columns, sound_name, sound_table, sound_tables}
 use Rattle.statement.specs.declared.Name.{Name}
 use Rattle.statement.specs.declared.Table.{Table}
-use Rattle.statement.proofs.Found.{same-sym}
-use Rattle.soundness.specs.Parts.{code_of, columns_on, table_on}
-use Rattle.soundness.proofs.Packed.{number_of, code-no, code-yes, number_same}
+use Rattle.lists.proofs.Chains.{shuffled}
+use Rattle.statement.specs.Same.{same-sym}
+use Rattle.soundness.specs.Parts.{some_if, number_of, code_of, columns_on, table_on, single}
+use Rattle.soundness.proofs.Packed.{code-no, code-yes, number_same}
 use Rattle.std.specs.Prelude.{Some, None}
-use Rattle.soundness.proofs.Tests.{shuffled, counted}
+use Rattle.soundness.proofs.Tests.{counted}
 
 -- ---- names by their numbers
 
@@ -31,15 +32,18 @@ repeats-same {P} f g same same' k (cons {x = x} {xs = l} p a) = ap₂ ◌||◌ (
     later nil = refl
     later (cons {x = y} {xs = r} q b) = ap₂ ◌||◌ (k x y p q) (later b)
 
-pub columns-no : (ns : List Name) → false ≡ all sound_name ns → false ≡ columns_on ns
-unfolding columns_on
-columns-no ns h = ap (λ (b : Bool). b && not (repeats same_name (map name_of_struct ns))) h
+-- members told apart by their numbers
+apart : {A : Type 0} (p : A → Bool) (f : A → ℕ) (g : A → List ℕ) → ((x y : A) → p x ≡ true → p y ≡ true → eqb (f x) (f y) ≡ same_name (g x) (g y))
+    → (xs : List A) → (all p xs && not (repeats eqb (map f xs))) ≡ (all p xs && not (repeats same_name (map g xs)))
+apart p f g k xs = go (all p xs) refl
+  where
+    go : (b : Bool) → all p xs ≡ b → (b && not (repeats eqb (map f xs))) ≡ (b && not (repeats same_name (map g xs)))
+    go true h = ap not (repeats-same f g eqb same_name k (all_true p xs h))
+    go false h = refl
 
-pub columns-yes : (ns : List Name) → all sound_name ns ≡ true → not (repeats eqb (map number_of ns)) ≡ columns_on ns
+pub columns-told : (ns : List Name) → (all sound_name ns && not (repeats eqb (map number_of ns))) ≡ columns_on ns
 unfolding columns_on
-columns-yes ns h =
-    ap not (repeats-same number_of name_of_struct eqb same_name (λ m n p q. number_same m n p q) (all_true sound_name ns h))
-    ∙ ap (λ (b : Bool). b && not (repeats same_name (map name_of_struct ns))) (sym h)
+columns-told ns = apart sound_name number_of name_of_struct (λ m n p q. number_same m n p q) ns
 
 -- ---- tables
 
@@ -49,18 +53,12 @@ table_name t = name_of_struct t.name
 abbrev pub table_number : Table → ℕ
 table_number t = number_of t.name
 
--- a table by itself
-abbrev pub single : Table → Bool
-single t = sound_name t.name && table_on t
+-- its number, if it is sound by itself
+pub single-unnamed : (t : Table) → None ≡ code_of t.name → None ≡ some_if (single t) (number_of t.name)
+single-unnamed t e = ap (λ (b : Bool). some_if (b && table_on t) (number_of t.name)) (sym (code-no t.name e))
 
-pub single-unnamed : (t : Table) → None ≡ code_of t.name → single t ≡ false
-single-unnamed t e = ap (λ (b : Bool). b && table_on t) (code-no t.name e)
-
-pub single-unfit : (t : Table) → table_on t ≡ false → single t ≡ false
-single-unfit t e = ap (λ (b : Bool). sound_name t.name && b) e ∙ and-false (sound_name t.name)
-
-pub single-yes : (t : Table) (k : ℕ) → Some k ≡ code_of t.name → table_on t ≡ true → (k ≡ table_number t) × (single t ≡ true)
-single-yes t k e f = let y = code-yes t.name k e in (y.0, ap₂ ◌&&◌ y.1 f)
+pub single-named : (t : Table) (k : ℕ) (b : Bool) → Some k ≡ code_of t.name → b ≡ table_on t → some_if b k ≡ some_if (single t) (number_of t.name)
+single-named t k b e f = let y = code-yes t.name k e in ap₂ some_if (f ∙ ap (λ (s : Bool). s && table_on t) (sym y.1)) y.0
 
 pub table-no : (t : Table) → (leb 1 t.count && leb t.count 8) ≡ false → false ≡ table_on t
 unfolding table_on
@@ -71,20 +69,20 @@ unfolding table_on
 table-yes t h = counted t.count true _ h
 
 module _ (before : List Schema) where
-  apart : (a b s l r h c : Bool) → (a && (b && (s && (l && (r && (h && c)))))) ≡ ((s && (a && (b && ((l && r) && c)))) && h)
-  apart false b true l r h c = refl
-  apart false b false l r h c = refl
-  apart true false true l r h c = refl
-  apart true false false l r h c = refl
-  apart true true false l r h c = refl
-  apart true true true false r h c = refl
-  apart true true true true false h c = refl
-  apart true true true true true h c = and_comm h c
+  parted : (a b s l r h c : Bool) → (a && (b && (s && (l && (r && (h && c)))))) ≡ ((s && (a && (b && ((l && r) && c)))) && h)
+  parted false b true l r h c = refl
+  parted false b false l r h c = refl
+  parted true false true l r h c = refl
+  parted true false false l r h c = refl
+  parted true true false l r h c = refl
+  parted true true true false r h c = refl
+  parted true true true true false h c = refl
+  parted true true true true true h c = and_comm h c
 
   table-apart : (t : Table) → sound_table before t ≡ (single t && not (has (table_names before) (table_name t)))
   unfolding sound_table table_on columns_on
   table-apart t =
-      apart (leb 1 t.count) (leb t.count most_items) (sound_name t.name) (all sound_name (used_columns t))
+      parted (leb 1 t.count) (leb t.count most_items) (sound_name t.name) (all sound_name (used_columns t))
       (not (repeats same_name (map name_of_struct (used_columns t)))) (not (has (table_names before) (table_name t)))
       (leb 1 t.capacity && leb t.capacity most_rows)
 
@@ -130,11 +128,6 @@ sound-tables ts =
     ∙ ap (λ (b : Bool). (all single ts && not b) && not (repeats same_name (map table_name ts))) (none-met ts)
     ∙ ap (λ (b : Bool). b && not (repeats same_name (map table_name ts))) (and-true (all single ts))
 
-pub tables-no : (ts : List Table) → false ≡ all single ts → false ≡ sound_tables [] ts
-tables-no ts h = ap (λ (b : Bool). b && not (repeats same_name (map table_name ts))) h ∙ sym (sound-tables ts)
-
-pub tables-yes : (ts : List Table) → all single ts ≡ true → not (repeats eqb (map table_number ts)) ≡ sound_tables [] ts
-tables-yes ts h =
-    ap not (repeats-same table_number table_name eqb same_name (λ t u p q. number_same t.name u.name (and_left (sound_name t.name) _ p) (and_left (sound_name u.name) _ q)) (all_true single ts h))
-    ∙ ap (λ (b : Bool). b && not (repeats same_name (map table_name ts))) (sym h)
-    ∙ sym (sound-tables ts)
+pub tables-told : (ts : List Table) → (all single ts && not (repeats eqb (map table_number ts))) ≡ sound_tables [] ts
+tables-told ts =
+    apart single table_number table_name (λ t u p q. number_same t.name u.name (and_left (sound_name t.name) _ p) (and_left (sound_name u.name) _ q)) ts ∙ sym (sound-tables ts)

@@ -1,6 +1,6 @@
 -- Laws of tests that several proofs use. Assumes nothing.
 use mathlib.Core.Path.{◌≡◌, refl, sym, ap, ap₂, ◌∙◌}
-use mathlib.Core.Bool.{Bool, true, false, ◌&&◌, ◌||◌, and_assoc, and-false}
+use mathlib.Core.Bool.{Bool, true, false, ◌&&◌, and_assoc, and-false}
 use mathlib.Core.List.{List, [], ◌∷◌}
 use Prim.Native.Nat.{ℕ, ◌+◌, ◌≤◌, ◌<◌}
 use native.Mathlib.Numerals.{add-one}
@@ -8,9 +8,10 @@ use lib.Dec.{leb}
 use lib.ListN.{length, get_or, take, drop, take-append-drop}
 use lib.Seq.{take_all, take-suc}
 use Rattle.std.proofs.lemmas.List.{at_drop_more}
-use Rattle.std.specs.List.{list_all, list_any}
-use Rattle.lists.specs.Lists.{any, all}
+use Rattle.std.specs.Prelude.{Some, None}
+use Rattle.lists.specs.Lists.{all}
 use Rattle.lists.proofs.Lists.{all_append}
+use Rattle.soundness.specs.Parts.{some_if}
 
 pub interchange : (a b c d : Bool) → ((a && b) && (c && d)) ≡ ((a && c) && (b && d))
 interchange true true c d = refl
@@ -18,15 +19,26 @@ interchange true false true d = refl
 interchange true false false d = refl
 interchange false b c d = refl
 
-pub shuffled : (a b c d : Bool) → ((a || (b || false)) || (c || d)) ≡ ((a || c) || (b || d))
-shuffled true b c d = refl
-shuffled false true true d = refl
-shuffled false true false d = refl
-shuffled false false c d = refl
-
 -- 1 to 8 of them, and then b
 pub counted : (n : ℕ) (t b : Bool) → (leb 1 n && leb n 8) ≡ t → (t && b) ≡ (leb 1 n && (leb n 8 && b))
 counted n t b h = ap (λ (t : Bool). t && b) (sym h) ∙ and_assoc (leb 1 n) (leb n 8) b
+
+-- ---- what a value that is there under a test tells of the test
+
+module _ {A : Type 0} (b : Bool) (x : A) where
+  pub some-no : None ≡ some_if b x → b ≡ false
+  some-no e = go b e
+    where
+      go : (b : Bool) → None ≡ some_if b x → b ≡ false
+      go true e = cc
+      go false e = refl
+
+  pub some-yes : (y : A) → Some y ≡ some_if b x → (y ≡ x) × (b ≡ true)
+  some-yes y e = go b e
+    where
+      go : (b : Bool) → Some y ≡ some_if b x → (y ≡ x) × (b ≡ true)
+      go true e = (cc, refl)
+      go false e = (cc, cc)
 
 -- ---- a loop that tests the members of a list
 
@@ -45,12 +57,3 @@ module _ {A : Type 0} (p : A → Bool) (xs : List A) (i : ℕ) (d : A) (h : i < 
 
 pub all-end : {A : Type 0} (p : A → Bool) (xs : List A) (i : ℕ) → length xs ≤ i → all p (take i xs) ≡ true → true ≡ all p xs
 all-end p xs i h a = sym a ∙ ap (all p) (take_all i xs h)
-
--- as the library's tests of all members and of one
-pub listed : {A : Type 0} (p : A → Bool) (xs : List A) → list_all p xs ≡ all p xs
-listed p [] = refl
-listed p (x ∷ xs) = ap (λ (b : Bool). p x && b) (listed p xs)
-
-pub listed_any : {A : Type 0} (p : A → Bool) (xs : List A) → list_any p xs ≡ any p xs
-listed_any p [] = refl
-listed_any p (x ∷ xs) = ap (λ (b : Bool). p x || b) (listed_any p xs)

@@ -1,51 +1,23 @@
 -- How many columns the tables have; questions and updates by the number of columns of their table. Assumes nothing.
 use mathlib.Core.Path.{◌≡◌, refl, sym, ap, ap₂, ◌∙◌}
 use mathlib.Core.Bool.{Bool, true, false, not, ◌&&◌, cond}
-use mathlib.Core.List.{List, [], ◌∷◌, ◌++◌, map}
-use Prim.Native.Nat.{ℕ, zero, suc, ◌+◌, ◌-◌, ◌≤◌, ◌<◌, min}
-use native.Mathlib.Numerals.{add-one}
+use mathlib.Core.List.{List, [], ◌∷◌, map}
+use Prim.Native.Nat.{ℕ, zero, suc, ◌+◌, ◌-◌}
 use native.Mathlib.Omega.{arith}
 use borrow.Author.Tests.{ne_eqb, le-ltb, lt-ltb}
 use lib.Dec.{eqb, leb, ltb}
-use lib.ListN.{length, get_or, take, set, replicate, length-map}
-use lib.Seq.{take-suc, take-suc-set}
+use lib.ListN.{length, take, length-map}
 use Rattle.std.specs.Prelude.{Option, Some, None, option_map, option_and_then, slice_get}
-use Rattle.std.proofs.lemmas.List.{take-map}
 use Rattle.std.proofs.lemmas.Bool.Decides.{nat_tests}
-use Rattle.lists.specs.Lists.{All, nil, cons, all}
-use Rattle.lists.proofs.Lists.{map-append}
-use Rattle.statement.specs.Catalog.{schema_of, schemas_of}
+use Rattle.lists.specs.Lists.{all}
+use Rattle.statement.specs.Catalog.{schema_of}
 use Rattle.statement.specs.Sound.{second_by, second_read, columns_at, columns_with, sound_second, sound_condition_on, sound_outer, sound_query, sound_update, sound_update_on}
 use Rattle.statement.specs.declared.Table.{Table}
 use Rattle.statement.specs.declared.Query.{Query}
 use Rattle.statement.specs.declared.Update.{Update}
-use Rattle.statement.proofs.Walks.{take_min}
-use Rattle.soundness.specs.Parts.{passes, some_if, width_of, Widths, fits_second, width_beside, outer_fits, query_on, query_at, update_at}
+use Rattle.soundness.specs.Parts.{passes, some_if, width_of, fits_second, width_beside, outer_fits, query_on, query_at, update_at}
 use Rattle.soundness.proofs.Tests.{counted}
 use Rattle.soundness.proofs.Outer.{marks-unread, marks-read}
-
--- ---- the loop: one width more is written
-
-pub widths-more : (ts : List Table) (out : List ℕ) (i : ℕ) (d : Table) (w : ℕ) → i < length out → i < length ts → w ≡ width_of (get_or ts i d)
-    → take i out ≡ map width_of (take i ts) → take (i + 1) (set out i w) ≡ map width_of (take (i + 1) ts)
-widths-more ts out i d w h k e P =
-    ap (λ (j : ℕ). take j (set out i w)) (add-one i) ∙ take-suc-set out i w h
-    ∙ ap₂ (λ (l : List ℕ) (x : ℕ). l ++ (x ∷ [])) P e
-    ∙ sym (map-append width_of (take i ts) (get_or ts i d ∷ []))
-    ∙ ap (map width_of) (sym (ap (λ (j : ℕ). take j ts) (add-one i) ∙ take-suc ts i d k))
-
-zeros : (n : ℕ) → All (λ w. w ≤ 8) (replicate n 0)
-zeros zero = nil
-zeros (suc n) = cons {x = 0} (omega arith) (zeros n)
-
-pub no_widths : All (λ w. w ≤ 8) (replicate 8 0)
-no_widths = zeros 8
-
--- a width that is there
-pub width-few : (l : List ℕ) (i w : ℕ) → All (λ w. w ≤ 8) l → slice_get l i ≡ Some w → w ≤ 8
-width-few l i w nil e = absurd (let q : ⊥ = cc in q)
-width-few l zero w (cons {x = x} p a) e = let q : x ≡ w = cc in omega (arith, p)
-width-few l (suc i) w (cons {xs = xs} p a) e = width-few xs i w a e
 
 -- ---- statements beside the tables
 
@@ -103,18 +75,11 @@ module _ (ts : List Table) where
       there true = refl
       there false = refl
 
--- what the loops tell: those of the tables in use
-module _ (tables : List Table) (used m : ℕ) (eight : length tables ≡ 8) (e : m ≡ min 8 used) (widths : List ℕ) (W : Widths tables widths) where
-  in-use : take m widths ≡ map width_of (take used tables)
-  in-use =
-      let s : m ≡ min used 8 = omega arith in
-      ap (take m) W.0 ∙ take-map width_of m tables ∙ ap (map width_of) (ap (λ (j : ℕ). take j tables) s ∙ take_min used 8 tables eight)
+  pub queries-beside : (qs : List Query) → all (query_at (map width_of ts)) qs ≡ all (sound_query (map schema_of ts)) qs
+  queries-beside qs = ap (λ (p : Query → Bool). all p qs) (λ i q. query-beside q i)
 
-  pub queries-beside : (qs : List Query) → all (query_at (take m widths)) qs ≡ all (sound_query (schemas_of tables used)) qs
-  queries-beside qs = ap (λ (l : List ℕ). all (query_at l) qs) in-use ∙ ap (λ (p : Query → Bool). all p qs) (λ i q. query-beside (take used tables) q i)
-
-  pub updates-beside : (us : List Update) → all (update_at (take m widths)) us ≡ all (sound_update (schemas_of tables used)) us
-  updates-beside us = ap (λ (l : List ℕ). all (update_at l) us) in-use ∙ ap (λ (p : Update → Bool). all p us) (λ i u. update-beside (take used tables) u i)
+  pub updates-beside : (us : List Update) → all (update_at (map width_of ts)) us ≡ all (sound_update (map schema_of ts)) us
+  updates-beside us = ap (λ (p : Update → Bool). all p us) (λ i u. update-beside u i)
 
 -- ---- a question
 

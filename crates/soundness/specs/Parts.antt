@@ -2,7 +2,7 @@
 -- parameter, tables by how many columns they have. proofs/Tables, Comparisons, Outer, Widths and Settings show that they are the tests of crate `statement`.
 -- Assumes nothing: these are definitions.
 use Rattle.std.specs.Prelude.{◌≡◌, Bool, true, false, not, ◌&&◌, ◌||◌, cond, List, [], ◌∷◌, map, reverse, Option, Some, None, option_map, option_and_then, slice_get, ℕ, ◌+◌, ◌-◌, ◌*◌, ◌/◌, ◌%◌, ◌≤◌, eqb, leb, ltb, length}
-use Rattle.lists.specs.Lists.{All, all, repeats, from}
+use Rattle.lists.specs.Lists.{all, repeats, from}
 use Rattle.meaning.specs.Tokens.{is_digit, is_small, is_name_byte}
 use Rattle.meaning.specs.Limits.{most_items, most_rows}
 use Rattle.meaning.specs.Names.{same_name}
@@ -49,8 +49,11 @@ packed (b ∷ bs) = digit_of b + 38 * packed bs
 abbrev pub packed_name : List ℕ → Option ℕ
 packed_name bs = some_if (all is_name_byte bs) (packed bs)
 
-unfoldable pub code_of : Name → Option ℕ
-code_of n = some_if (sound_name n) (packed (name_of_struct n))
+abbrev pub number_of : Name → ℕ
+number_of n = packed (name_of_struct n)
+
+abbrev pub code_of : Name → Option ℕ
+code_of n = some_if (sound_name n) (number_of n)
 
 -- ---- a table but for its name
 
@@ -60,12 +63,13 @@ columns_on ns = all sound_name ns && not (repeats same_name (map name_of_struct 
 unfoldable pub table_on : Table → Bool
 table_on t = leb 1 t.count && (leb t.count most_items && (columns_on (used_columns t) && (leb 1 t.capacity && leb t.capacity most_rows)))
 
--- how many columns a table has; those of all tables
+-- a table by itself
+abbrev pub single : Table → Bool
+single t = sound_name t.name && table_on t
+
+-- how many columns a table has
 abbrev pub width_of : Table → ℕ
 width_of t = length (schema_of t).columns
-
-abbrev pub Widths : List Table → List ℕ → Type 0
-Widths tables r = (r ≡ map width_of tables) × All (λ w. w ≤ 8) r
 
 -- A.1: the columns of the tables of a question, by the code of the second (0 none, else its number and 1), if they fit
 abbrev pub fits_second : ℕ → ℕ → ℕ → ℕ → Bool
@@ -142,24 +146,16 @@ comparison_fits columns m c = (sound_predicate c && side_fits columns m (left_si
 abbrev pub comparison_marks : Comparison → ℕ
 comparison_marks c = mark_in_side (left_side c) + mark_in_side (right_side c)
 
--- each fits, and with their parameters there are p
-abbrev pub comparisons_on : ℕ → ℕ → ℕ → List Comparison → Bool
-comparisons_on columns m p [] = eqb p m
-comparisons_on columns m p (c ∷ cs) = comparison_fits columns m c && comparisons_on columns (m + comparison_marks c) p cs
+-- the number of the next parameter behind a part, where m is the next before, if the part fits
+abbrev pub after_side : ℕ → ℕ → Operand → Option ℕ
+after_side columns m o = some_if (side_fits columns m o) (m + mark_in_side o)
 
--- the number of the next parameter, where m is the next before: 64 more, which is past all, where a part does not fit
-abbrev pub after_side : ℕ → ℕ → Operand → ℕ
-after_side columns m o = cond (side_fits columns m o) (m + mark_in_side o) (m + 64)
+unfoldable pub after_comparison : ℕ → ℕ → Comparison → Option ℕ
+after_comparison columns m c = some_if (comparison_fits columns m c) (m + comparison_marks c)
 
-abbrev pub after_sides : ℕ → ℕ → Comparison → ℕ
-after_sides columns m c = after_side columns (after_side columns m (left_side c)) (right_side c)
-
-unfoldable pub after_comparison : ℕ → ℕ → Comparison → ℕ
-after_comparison columns m c = cond (sound_predicate c) (after_sides columns m c) (after_sides columns m c + 64)
-
-abbrev pub after_all : ℕ → ℕ → List Comparison → ℕ
-after_all columns m [] = m
-after_all columns m (c ∷ cs) = after_all columns (after_comparison columns m c) cs
+abbrev pub after_all : ℕ → ℕ → List Comparison → Option ℕ
+after_all columns m [] = Some m
+after_all columns m (c ∷ cs) = option_and_then (λ (k : ℕ). after_all columns k cs) (after_comparison columns m c)
 
 -- ---- settings, where the table has so many columns
 

@@ -3,10 +3,10 @@ ghost use Rattle.std.specs.Prelude.{◌≡◌, true, reverse, ◌-◌, ◌*◌, 
 ghost use Rattle.statement.specs.Sound.{sound_predicate, sound_condition_on};
 ghost use Rattle.soundness.specs.Parts.{depth_after, steps_on, mark_fits, marks_after, need_after, outer_on, Ordered, outer_fits, after_side, after_comparison, after_all};
 
-use super::whole;
+use lists::in_use;
 use table::{Comparison, Condition, Operand, Statement, Step};
 
-// ---- steps
+// ---- steps (steps and operators are numbers of the state, which any caller may fill in)
 
 // How many values are on the stack after a step, if it fits: AND and OR find two values.
 fn stepped(depth: u8, step: u8) -> Option<u8>
@@ -105,31 +105,21 @@ pub fn outer_is_sound(c: &Condition, outer: u8) -> bool
     marks_fit(&c.steps[..n.saturating_sub(1)], outer)
 }
 
-// ---- comparisons, by the number of the next parameter: where one does not fit, it is more than there can be
+// ---- comparisons, by the number of the next parameter, if they fit
 
-// What is added where a part does not fit.
-const MISFIT: u32 = 64;
-
-// The next number behind a side: it is a column of the table, a constant, or the parameter m.
-fn after_side(o: Operand, columns: u8, m: u32) -> u32
-    requires { m ≤ 8192 }
+// The next number behind a side, if it is a column of the table, a constant, or the parameter m.
+fn after_side(o: Operand, columns: u8, m: u8) -> Option<u8>
     ensures { result ≡ after_side columns m o }
 {
+    // By its code: read as a `Term` the test of a state takes 5 to 8 percent more instructions (11,173 and 41,327 against 10,604 and 38,196).
+    let place = o.code / 2;
     if o.code % 2 == 1 {
-        return if u32::from(o.code) == 2 * m + 1 {
-            m + 1
-        } else {
-            m + MISFIT
-        };
+        return (place == m).then_some(place + 1);
     }
-    if u32::from(o.code) <= 2 * u32::from(columns) {
-        m
-    } else {
-        m + MISFIT
-    }
+    (place <= columns).then_some(m)
 }
 
-// Whether a comparison's operator fits its sides: one of the six, or a null test (A.5) with one column on both sides.
+// Whether a comparison's operator fits its sides: one of the six, or a null test (A.5) with one column on both sides. (By codes, as above: a column's is even and not 0.)
 fn operator_fits(c: &Comparison) -> bool
     ensures { result ≡ sound_predicate c.now }
 {
@@ -139,30 +129,24 @@ fn operator_fits(c: &Comparison) -> bool
     (c.op < Comparison::OPERATORS) & (c.left == c.right) & (c.left != 0) & (c.left % 2 == 0)
 }
 
-// The next number behind a comparison.
-fn after_comparison(c: &Comparison, columns: u8, m: u32) -> u32
-    requires { m ≤ 4096 }
+// The next number behind a comparison, if it fits.
+fn after_comparison(c: &Comparison, columns: u8, m: u8) -> Option<u8>
     ensures { result ≡ after_comparison columns m c.now }
 {
-    let left = after_side(c.left_side(), columns, m);
-    let right = after_side(c.right_side(), columns, left);
-    if operator_fits(c) {
-        right
-    } else {
-        right + MISFIT
-    }
+    let left = after_side(c.left_side(), columns, m)?;
+    let right = after_side(c.right_side(), columns, left)?;
+    operator_fits(c).then_some(right)
 }
 
-// The next number behind comparisons.
-fn after_comparisons(comparisons: &[Comparison], columns: u8, m: u8) -> u32
-    requires { length comparisons.now ≤ 8 }
+// The next number behind comparisons, if each fits.
+fn after_comparisons(comparisons: &[Comparison], columns: u8, m: u8) -> Option<u8>
     ensures { result ≡ after_all columns m comparisons.now }
 {
-    let mut next = u32::from(m);
+    let mut next = m;
     for c in comparisons {
-        next = after_comparison(c, columns, next);
+        next = after_comparison(c, columns, next)?;
     }
-    next
+    Some(next)
 }
 
 // Whether a condition is sound, where m parameters stand before it and there are so many in all.
@@ -171,7 +155,7 @@ pub fn is_sound(c: &Condition, columns: u8, m: u8, parameters: u8) -> bool
     ensures ordered { result ≡ true → Ordered c.now }
 {
     let n = usize::from(c.count);
-    let comparisons = whole(&c.comparisons);
+    let comparisons = in_use(&c.comparisons, n);
     if comparisons.len() < n {
         return false;
     }
@@ -180,5 +164,5 @@ pub fn is_sound(c: &Condition, columns: u8, m: u8, parameters: u8) -> bool
         return few & (parameters == m);
     }
     few & steps_are_sound(&c.steps[..2 * n - 1])
-        & (u32::from(parameters) == after_comparisons(&comparisons[..n], columns, m))
+        & (Some(parameters) == after_comparisons(comparisons, columns, m))
 }

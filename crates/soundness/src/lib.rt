@@ -6,83 +6,31 @@ mod conditions; // steps and comparisons
 mod names; // names, and tables by themselves
 mod statements; // questions and updates by themselves
 
-ghost use Rattle.std.specs.Prelude.{◌≡◌, [], ◌≤◌, length};
-ghost use Rattle.statement.specs.Sound.{sound_tables};
-ghost use Rattle.soundness.specs.Soundness.{tables_sound, queries_sound, updates_sound};
+ghost use Rattle.std.specs.Prelude.{◌≡◌, [], ◌&&◌, map, leb, length};
+ghost use Rattle.lists.specs.Lists.{all};
+ghost use Rattle.statement.specs.Catalog.{schema_of};
+ghost use Rattle.statement.specs.Sound.{sound_tables, sound_query, sound_update};
 
 use names::Digits;
 use table::{Query, Table, Update};
 
-// An array as a slice, with the length that it is known to have.
-fn whole<T, const N: usize>(array: &[T; N]) -> &[T]
-    ensures same { result.now ≡ array.now }
-    ensures long { length array.now ≡ N }
+// Whether tables are sound beside each other: not more than a store has places for, each sound by itself, no two of one name.
+pub fn tables_are_sound(tables: &[Table]) -> bool
+    ensures { result ≡ (leb (length tables.now) 8 && sound_tables [] tables.now) }
 {
-    array
+    tables.len() <= Table::TABLES && Digits::new().are_apart(tables, Digits::table_code)
 }
 
-// Whether tables are sound beside each other.
-fn are_sound(tables: &[Table]) -> bool
-    requires { length tables.now ≤ 8 }
-    ensures { result ≡ sound_tables [] tables.now }
+// Whether questions are sound beside these tables.
+pub fn queries_are_sound(tables: &[Table], queries: &[Query]) -> bool
+    ensures { result ≡ all (sound_query (map schema_of tables.now)) queries.now }
 {
-    let digits = Digits::new();
-    let mut codes = [0u64; Table::TABLES];
-    let mut same = false;
-    for (i, t) in tables.iter().enumerate() {
-        let Some(code) = digits.code(&t.name) else {
-            return false;
-        };
-        if !names::table_fits(t, &digits) {
-            return false;
-        }
-        same |= codes[..i].contains(&code);
-        codes[i] = code;
-    }
-    !same
+    queries.iter().all(|q| statements::query_fits(q, tables))
 }
 
-// Whether the first `used` tables are sound beside each other.
-pub fn tables_are_sound(tables: &[Table; Table::TABLES], used: u8) -> bool
-    ensures { result ≡ tables_sound tables.now used }
+// Whether updates are sound beside these tables.
+pub fn updates_are_sound(tables: &[Table], updates: &[Update]) -> bool
+    ensures { result ≡ all (sound_update (map schema_of tables.now)) updates.now }
 {
-    are_sound(&tables[..Table::TABLES.min(usize::from(used))])
-}
-
-// Whether the first n questions are sound beside the first `used` tables.
-pub fn queries_are_sound(
-    tables: &[Table; Table::TABLES],
-    used: u8,
-    queries: &[Query; Query::QUERIES],
-    n: u8,
-) -> bool
-    ensures { result ≡ queries_sound tables.now used queries.now n }
-{
-    let all = statements::widths(tables);
-    let widths = &all[..Table::TABLES.min(usize::from(used))];
-    for q in queries[..Query::QUERIES.min(usize::from(n))].iter() {
-        if !statements::query_fits(q, widths) {
-            return false;
-        }
-    }
-    true
-}
-
-// Whether the first n updates are sound beside the first `used` tables.
-pub fn updates_are_sound(
-    tables: &[Table; Table::TABLES],
-    used: u8,
-    updates: &[Update; Update::UPDATES],
-    n: u8,
-) -> bool
-    ensures { result ≡ updates_sound tables.now used updates.now n }
-{
-    let all = statements::widths(tables);
-    let widths = &all[..Table::TABLES.min(usize::from(used))];
-    for u in updates[..Update::UPDATES.min(usize::from(n))].iter() {
-        if !statements::update_fits(u, widths) {
-            return false;
-        }
-    }
-    true
+    updates.iter().all(|u| statements::update_fits(u, tables))
 }

@@ -1,24 +1,15 @@
 // Names as numbers: two sound names are the same exactly if their numbers are, so that names are compared in one step. And what a table is but for its name.
-ghost use Rattle.std.specs.Prelude.{◌≡◌, ◌+◌, ◌-◌, ◌≤◌, length};
-ghost use Rattle.lists.specs.Lists.{from, written};
-ghost use Rattle.soundness.specs.Parts.{digit_of, digit_table, packed_name, code_of, columns_on, table_on};
+ghost use Rattle.std.specs.Prelude.{◌≡◌, Bool, not, ◌&&◌, Option, ℕ, ◌≤◌, eqb, map, length};
+ghost use Rattle.lists.specs.Lists.{all, repeats};
+ghost use Rattle.soundness.specs.Parts.{some_if, digit_of, digit_table, packed_name, number_of, code_of, columns_on, table_on, single};
 
+use std::array;
 use table::{Name, Table};
 
 // ---- the number of a name
 
 // How many digits there are: 1 to 26 for small letters, 27 to 36 for 0 to 9, 37 for the underscore; 0 for any other byte.
 const BASE: u64 = 38;
-
-// Writes the digits from `first` to before `end` for the bytes from `at` on.
-fn write_digits(digits: &mut [u8; 256], at: u8, first: u8, end: u8)
-    requires { at + (end - first) ≤ 256 }
-    ensures { digits.new ≡ written digits.old at (from first (end - first)) }
-{
-    for d in first..end {
-        digits[usize::from(at) + usize::from(d - first)] = d;
-    }
-}
 
 // The digit of each byte. The table is made once a test and lent: a constant would be laid out anew wherever it is read.
 #[derive(Drop)]
@@ -29,10 +20,12 @@ pub struct Digits {
 
 impl Digits {
     pub fn new() -> Digits {
+        let letters: [u8; 26] = array::from_fn(|k| k as u8 + 1);
+        let numerals: [u8; 10] = array::from_fn(|k| k as u8 + 27);
         let mut by_byte = [0u8; 256];
-        write_digits(&mut by_byte, b'a', 1, 27);
-        write_digits(&mut by_byte, b'0', 27, 37);
-        write_digits(&mut by_byte, b'_', 37, 38);
+        by_byte[b'a' as usize..=b'z' as usize].copy_from_slice(&letters);
+        by_byte[b'0' as usize..=b'9' as usize].copy_from_slice(&numerals);
+        by_byte[b'_' as usize] = 37;
         Digits { by_byte }
     }
 
@@ -68,35 +61,56 @@ impl Digits {
         }
         None
     }
+
+    // Whether each of these items passes a test and no two have the same number; `code` gives the number of one that passes. (`means`: the test and the number.)
+    pub fn are_apart<T, F: Fn(&Digits, &T) -> Option<u64>>(&self, items: &[T], code: F) -> bool
+        ghost means: { (T → Bool) × (T → ℕ) }
+        requires few { length items.now ≤ 8 }
+        requires callable { F.IsAlwaysCallable code }
+        requires told { (d : _) (x : _) (r : Option ℕ) → F.post code d x r → r ≡ some_if (means.0 x.now) (means.1 x.now) }
+        ensures { result ≡ (all means.0 items.now && not (repeats eqb (map means.1 items.now))) }
+    {
+        let mut codes = [0u64; Table::TABLES];
+        let mut same = false;
+        for (i, item) in items.iter().enumerate() {
+            let Some(number) = code(self, item) else {
+                return false;
+            };
+            same |= codes[..i].contains(&number);
+            codes[i] = number;
+        }
+        !same
+    }
 }
 
 // ---- tables
 
-// Whether the names are sound and no two are the same.
-fn columns_are_sound(names: &[Name], digits: &Digits) -> bool
-    requires { length names.now ≤ 8 }
-    ensures { result ≡ columns_on names.now }
-{
-    let mut codes = [0u64; Table::COLUMNS];
-    let mut same = false;
-    for (i, name) in names.iter().enumerate() {
-        let Some(code) = digits.code(name) else {
-            return false;
-        };
-        same |= codes[..i].contains(&code);
-        codes[i] = code;
+impl Digits {
+    // Whether the names are sound and no two are the same.
+    fn columns_are_sound(&self, names: &[Name]) -> bool
+        requires { length names.now ≤ 8 }
+        ensures { result ≡ columns_on names.now }
+    {
+        self.are_apart(names, Digits::code)
     }
-    !same
-}
 
-// Whether a table's columns and ROWS are sound.
-pub fn table_fits(t: &Table, digits: &Digits) -> bool
-    ensures { result ≡ table_on t.now }
-{
-    let n = usize::from(t.count);
-    if (1 <= n) & (n <= Table::COLUMNS) {
-        return columns_are_sound(&t.columns[..n], digits)
-            & ((1 <= t.capacity) & (t.capacity <= Table::ROWS));
+    // Whether a table's columns and ROWS are sound.
+    fn table_fits(&self, t: &Table) -> bool
+        ensures { result ≡ table_on t.now }
+    {
+        let n = usize::from(t.count);
+        if (1 <= n) & (n <= Table::COLUMNS) {
+            return self.columns_are_sound(&t.columns[..n])
+                & ((1 <= t.capacity) & (t.capacity <= Table::ROWS));
+        }
+        false
     }
-    false
+
+    // The number of a table's name, if the table is sound by itself.
+    pub fn table_code(&self, t: &Table) -> Option<u64>
+        ensures { result ≡ some_if (single t.now) (number_of t.now.name) }
+    {
+        let code = self.code(&t.name)?;
+        self.table_fits(t).then_some(code)
+    }
 }

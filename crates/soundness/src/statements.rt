@@ -1,10 +1,11 @@
 // Questions and updates, by how many columns their table has.
-ghost use Rattle.std.specs.Prelude.{◌≡◌, not, ℕ, ◌≤◌, ltb, length, slice_get};
-ghost use Rattle.lists.specs.Lists.{All, any, all, repeats};
+ghost use Rattle.std.specs.Prelude.{◌≡◌, not, Some, ℕ, ◌≤◌, ltb, map, length, slice_get};
+ghost use Rattle.lists.specs.Lists.{any, all, repeats};
 ghost use Rattle.statement.specs.Sound.{sound_update_on};
-ghost use Rattle.soundness.specs.Parts.{width_of, Widths, width_with, query_on, query_at, update_at, same_column, form_fits, column_fits, value_fits, settings_on};
+ghost use Rattle.soundness.specs.Parts.{width_of, width_with, query_on, query_at, update_at, same_column, form_fits, column_fits, value_fits, settings_on};
 
-use super::{conditions, whole};
+use super::conditions;
+use lists::in_use;
 use table::{Query, Setting, Table, Update, Value};
 
 // ---- how many columns the tables have
@@ -12,33 +13,23 @@ use table::{Query, Setting, Table, Update, Value};
 fn width(t: &Table) -> u8
     ensures { (result ≡ width_of t.now) × (result ≤ 8) }
 {
-    t.count.min(whole(&t.columns).len() as u8)
-}
-
-// Of all tables, also of those that are not in use: a loop of always eight turns is laid out flat.
-pub fn widths(tables: &[Table; Table::TABLES]) -> [u8; Table::TABLES]
-    ensures { Widths tables.now result }
-{
-    let mut widths = [0u8; Table::TABLES];
-    for (i, t) in tables.iter().enumerate() {
-        widths[i] = width(t);
-    }
-    widths
+    in_use(&t.columns, usize::from(t.count)).len() as u8
 }
 
 // Of a table, if it is there.
-fn width_at(widths: &[u8], table: u8) -> Option<u8>
-    ensures { result ≡ slice_get widths.now table }
+fn width_at(tables: &[Table], table: u8) -> Option<u8>
+    ensures there { result ≡ slice_get (map width_of tables.now) table }
+    ensures few { (w : ℕ) → result ≡ Some w → w ≤ 8 }
 {
-    widths.get(usize::from(table)).copied()
+    let t = tables.get(usize::from(table))?;
+    Some(width(t))
 }
 
 // Of the tables of a question, if they are there. A.1: a second one is another than the first, and begins behind the first's columns.
-fn width_with(widths: &[u8], table: u8, second: u8, start: u8) -> Option<u8>
-    requires { All (λ w. w ≤ 8) widths.now }
-    ensures { result ≡ width_with widths.now table second start }
+fn width_with(tables: &[Table], table: u8, second: u8, start: u8) -> Option<u8>
+    ensures { result ≡ width_with (map width_of tables.now) table second start }
 {
-    let columns = width_at(widths, table)?;
+    let columns = width_at(tables, table)?;
     if second == 0 {
         return Some(columns);
     }
@@ -46,7 +37,7 @@ fn width_with(widths: &[u8], table: u8, second: u8, start: u8) -> Option<u8>
     if (other == table) | (start != columns) {
         return None;
     }
-    Some(columns + width_at(widths, other)?)
+    Some(columns + width_at(tables, other)?)
 }
 
 // ---- questions
@@ -74,18 +65,17 @@ fn query_is_sound(q: &Query, columns: u8) -> bool
     sound
 }
 
-// Whether a question is sound beside tables of so many columns.
-pub fn query_fits(q: &Query, widths: &[u8]) -> bool
-    requires { All (λ w. w ≤ 8) widths.now }
-    ensures { result ≡ query_at widths.now q.now }
+// Whether a question is sound beside these tables.
+pub fn query_fits(q: &Query, tables: &[Table]) -> bool
+    ensures { result ≡ query_at (map width_of tables.now) q.now }
 {
-    match width_with(widths, q.table, q.second, q.start) {
+    match width_with(tables, q.table, q.second, q.start) {
         Some(columns) => query_is_sound(q, columns),
         None => false,
     }
 }
 
-// ---- updates
+// ---- updates (their forms are numbers of the state, which any caller may fill in)
 
 // Whether an update of this form may have so many settings and comparisons.
 fn form_fits(form: u8, count: u8, columns: u8, comparisons: u8) -> bool
@@ -142,14 +132,10 @@ fn is_set(s: &Setting, settings: &[Setting]) -> bool
 fn are_distinct(settings: &[Setting]) -> bool
     ensures { result ≡ not (repeats same_column settings.now) }
 {
-    let mut left = settings;
-    while let Some((s, after)) = left.split_first() {
-        if is_set(s, after) {
-            return false;
-        }
-        left = after;
-    }
-    true
+    !settings
+        .iter()
+        .enumerate()
+        .any(|(i, s)| is_set(s, &settings[..i]))
 }
 
 // Whether an update is sound, where its table has so many columns.
@@ -160,7 +146,7 @@ fn update_is_sound(u: &Update, columns: u8) -> bool
     if !form_fits(u.form, u.count, columns, u.condition.count) {
         return false;
     }
-    let settings = &whole(&u.settings)[..usize::from(u.count)];
+    let settings = in_use(&u.settings, usize::from(u.count));
     let Some(next) = after_settings(settings, u.form, columns) else {
         return false;
     };
@@ -169,12 +155,11 @@ fn update_is_sound(u: &Update, columns: u8) -> bool
         & conditions::is_sound(&u.condition, columns, next, u.parameters)
 }
 
-// Whether an update is sound beside tables of so many columns.
-pub fn update_fits(u: &Update, widths: &[u8]) -> bool
-    requires { All (λ w. w ≤ 8) widths.now }
-    ensures { result ≡ update_at widths.now u.now }
+// Whether an update is sound beside these tables.
+pub fn update_fits(u: &Update, tables: &[Table]) -> bool
+    ensures { result ≡ update_at (map width_of tables.now) u.now }
 {
-    match width_at(widths, u.table) {
+    match width_at(tables, u.table) {
         Some(columns) => update_is_sound(u, columns),
         None => false,
     }

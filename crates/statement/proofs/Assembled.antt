@@ -1,4 +1,4 @@
--- Statements put together of their parts: what the functions of the five forms make, from what those that they call make. Assumes nothing.
+-- Statements put together of their parts: what the functions of the six forms make, from what those that they call make. Assumes nothing.
 use mathlib.Core.Path.{◌≡◌, refl, sym, ap, ap₂, ◌∙◌}
 use mathlib.Core.Bool.{Bool, true, false, not, ◌&&◌, ◌||◌, cond}
 use mathlib.Core.List.{List, [], ◌∷◌, map}
@@ -6,14 +6,14 @@ use Prim.Native.Nat.{ℕ, zero, suc, ◌+◌, ◌-◌, ◌*◌, ◌≤◌, ◌<�
 use native.Mathlib.Nat.{le_of_suc-le-suc, not-suc-le-zero}
 use native.Mathlib.Numerals.{add-one}
 use native.Mathlib.Omega.{arith}
-use borrow.Author.Tests.{ltb-true, eq-eqb, ne_eqb}
+use borrow.Author.Tests.{ltb-true}
 use lib.Dec.{eqb, ltb, leb}
-use lib.ListN.{length, get_or, take, replicate, length-take, length-map}
+use lib.ListN.{length, get_or, take, replicate, length-map}
 use lib.Seq.{take_at}
 use Rattle.lists.specs.Lists.{repeats, from}
 use Rattle.meaning.specs.Grammar.{Given}
 use Rattle.meaning.specs.Limits.{mark_count}
-use Rattle.meaning.specs.Names.{Schema, no_schema, same_name, has, position, table_names, pair_place}
+use Rattle.meaning.specs.Names.{Schema, no_schema, same_name, has, position, table_names, columns_of, pair_place}
 use Rattle.meaning.specs.Cells.{areas_size}
 use Rattle.statement.specs.declared.Name.{Name}
 use Rattle.statement.specs.declared.Table.{Table}
@@ -21,19 +21,20 @@ use Rattle.statement.specs.declared.Condition.{Condition}
 use Rattle.statement.specs.declared.Setting.{Setting}
 use Rattle.statement.specs.Compiled.{Compiled}
 use Rattle.statement.specs.declared.sentences.Form.{Form}
-use Rattle.statement.specs.declared.sentences.Form.TheVariants.{Select, Insert, Update, Pair}
+use Rattle.statement.specs.declared.sentences.Form.TheVariants.{Pair}
 use Rattle.statement.specs.declared.sentences.Entry.{Entry}
+use Rattle.statement.specs.declared.sentences.Item.{Item}
+use Rattle.statement.specs.declared.conditions.Node.{Node}
 use Rattle.statement.specs.declared.assembling.Settings.{Settings}
 use Rattle.statement.specs.Places.{name_on, given_on, Column, column_on, bare_marks_on}
-use Rattle.statement.specs.Sentences.{items_on, givens_on}
+use Rattle.statement.specs.Sentences.{givens_on}
 use Rattle.statement.specs.Catalog.{name_of_struct, names_of, column_names, schema_of}
 use Rattle.statement.specs.Compiled.{padded, name_struct, no_name, no_setting, condition_struct, created, asked, changing, refused_by, settled}
-use Rattle.statement.specs.Built.{lowest_by, places_of, number_in, short_name, short_column, rows_on, settings_on, outer_in, condition_below, places_below, Fits, listed_on, condition_on, unknown_on, table_on, select_on, insert_on, sets_on, update_on, delete_on, form_as, form_on, is_pair, number_on, columns_at, pair_with, pair_on, beside_on}
-use Rattle.statement.proofs.Left.{length-items}
+use Rattle.statement.specs.Built.{lowest_by, places_of, number_in, short_name, short_column, columns_on, rows_on, settings_on, outer_in, condition_below, places_below, Fits, condition_on, unknown_on, table_on, select_on, insert_on, sets_on, update_on, delete_on, form_as, form_on, number_on, pair_with, pair_on, beside_as, beside_on}
 use Rattle.statement.proofs.Values.{name_back}
 use Rattle.statement.proofs.Parts.{mark-one}
 use Rattle.statement.proofs.Sets.{marks-count}
-use Rattle.std.proofs.Common.{Option, Some, None}
+use Rattle.std.proofs.Common.{Option as Maybe, Some, None}
 use Rattle.meaning.proofs.Names.{same-is}
 
 -- ---- arrays read back
@@ -55,138 +56,108 @@ marks_few (v ∷ vs) = omega (arith, mark-one v, marks_few vs)
 
 -- ---- the list of a sentence
 
-pub listed-count : (d : Bool) (s ls : List ℕ) (e : Entry) → length (listed_on d s ls e) ≡ e.listed
-listed-count d s ls e = length-map (items_on (λ p q. column_on d s p) e.listed ls) (short_column d) ∙ length-items (λ p q. column_on d s p) e.listed ls
+module _ (d : Bool) (s : List ℕ) (ls : List Item) where
+  pub listed-count : length (columns_on d s ls) ≡ length ls
+  listed-count = length-map (map (λ (i : Item). column_on d s i.name) ls) (short_column d) ∙ length-map ls (λ (i : Item). column_on d s i.name)
 
--- the places of its columns, in an array
-pub places-first : (d : Bool) (place : Column d → ℕ) (s ls : List ℕ) (e : Entry) (at : List ℕ) → at ≡ padded 8 0 (map place (listed_on d s ls e))
-    → take e.listed at ≡ map place (listed_on d s ls e)
-places-first d place s ls e at h =
-    ap (take e.listed) h ∙ take-padded 8 0 (map place (listed_on d s ls e)) e.listed (length-map (listed_on d s ls e) place ∙ listed-count d s ls e)
+  -- the places of its columns, in an array
+  pub places-first : (place : Column d → ℕ) (at : List ℕ) → at ≡ padded 8 0 (map place (columns_on d s ls)) → take (length ls) at ≡ map place (columns_on d s ls)
+  places-first place at h = ap (take (length ls)) h ∙ take-padded 8 0 (map place (columns_on d s ls)) (length ls) (length-map (columns_on d s ls) place ∙ listed-count)
 
-module _ (s ls : List ℕ) (e : Entry) where
-  pub sets-few : e.listed ≤ 8 → (cs : List ℕ) → (settings_on cs (givens_on s e.listed ls)).marks ≤ 8
-  sets-few h cs = omega (arith, marks_few (givens_on s e.listed ls), length-items (λ a b. given_on s b) e.listed ls)
+module _ (s : List ℕ) (ls : List Item) where
+  pub sets-few : length ls ≤ 8 → (cs : List ℕ) → (settings_on cs (givens_on s ls)).marks ≤ 8
+  sets-few h cs = omega (arith, marks_few (givens_on s ls), length-map ls (λ (i : Item). given_on s i.value))
 
-  -- the settings of as many columns as the list has items
-  pub sets-listed : (cs : List ℕ) → e.listed ≤ length cs → settings_on (take e.listed cs) (givens_on s (length (take e.listed cs)) ls) ≡ settings_on (take e.listed cs) (givens_on s e.listed ls)
-  sets-listed cs h = let l : length (take e.listed cs) ≡ e.listed = omega (arith, length-take e.listed cs) in ap (λ (k : ℕ). settings_on (take e.listed cs) (givens_on s k ls)) l
+  module _ (columns : List (List ℕ)) (names : List Name) (en : names ≡ padded 8 no_name (map name_struct (columns_on false s ls))) where
+    pub names-are : map name_of_struct (take (length ls) names) ≡ columns_on false s ls
+    names-are = ap (λ (x : List Name). map name_of_struct (take (length ls) x)) en ∙ names-of (columns_on false s ls) (length ls) (listed-count false s ls)
 
-  module _ (columns : List (List ℕ)) (names : List Name) (en : names ≡ padded 8 no_name (map name_struct (listed_on false s ls e))) where
-    pub names-are : names_of names e.listed ≡ listed_on false s ls e
-    names-are = ap (λ (x : List Name). names_of x e.listed) en ∙ names-of (listed_on false s ls e) e.listed (listed-count false s ls e)
-
-    pub places-are : (at : List ℕ) → at ≡ padded 8 0 (places_of columns (names_of names e.listed)) → at ≡ padded 8 0 (places_of columns (listed_on false s ls e))
+    pub places-are : (at : List ℕ) → at ≡ padded 8 0 (places_of columns (map name_of_struct (take (length ls) names))) → at ≡ padded 8 0 (places_of columns (columns_on false s ls))
     places-are at ea = ea ∙ ap (λ (x : List (List ℕ)). padded 8 0 (places_of columns x)) names-are
 
 -- and how many marks its comparisons have
-pub marks-few-noted : (s ps : List ℕ) (e : Entry) → Fits s ps e → length (bare_marks_on e.c.nodes ps) ≤ 8
-marks-few-noted s ps e f = omega (arith, marks-count false s e.c.nodes ps, f.comparisons false)
+pub marks-few-noted : (s : List ℕ) (ls : List Item) (ps : List Node) (e : Entry) → Fits s ls ps e → length (bare_marks_on ps) ≤ 8
+marks-few-noted s ls ps e f = omega (arith, marks-count false s ps, f.comparisons false)
 
 -- ---- the forms
 
-module _ (d : Bool) (place : Column d → ℕ) (width : ℕ) (s ls ps : List ℕ) (e : Entry) (i second start : ℕ) (twice : Bool) where
+module _ (d : Bool) (place : Column d → ℕ) (width : ℕ) (s : List ℕ) (ls : List Item) (ps : List Node) (e : Entry) (i second start : ℕ) (twice : Bool) where
   pub select-made : (queries : ℕ) (at : List ℕ) (c : Condition) (w : ℕ) (t : Bool) (k o number : ℕ) (r : Compiled)
-      → at ≡ padded 8 0 (map place (listed_on d s ls e)) → c ≡ condition_on d place s ps e 0 → w ≡ width → t ≡ twice → k ≡ start → o ≡ outer_in d e.c.nodes ps
-      → number ≡ lowest_by (not (places_below w (take e.listed at) && condition_below w c)) false false t (leb 16 queries)
-      → r ≡ settled number (asked (record { table = i; selected = at; count = e.listed; parameters = e.c.marks; second = second; start = k; outer = o; condition = c }))
+      → at ≡ padded 8 0 (map place (columns_on d s ls)) → c ≡ condition_on d place s ps 0 → w ≡ width → t ≡ twice → k ≡ start → o ≡ outer_in d ps
+      → number ≡ lowest_by (not (places_below w (take (length ls) at) && condition_below w c)) false false t (leb 16 queries)
+      → r ≡ settled number (asked (record { table = i; selected = at; count = length ls; parameters = e.c.marks; second = second; start = k; outer = o; condition = c }))
       → r ≡ select_on d place width s ls ps e i second start twice queries
   unfolding select_on
   select-made queries at c w t k o number r ea ec ew et ek eo em er =
-      let p : take e.listed at ≡ map place (listed_on d s ls e) = places-first d place s ls e at ea in
+      let p : take (length ls) at ≡ map place (columns_on d s ls) = places-first d s ls place at ea in
       er
       ∙ (λ j. settled
       ((em ∙ (λ x. lowest_by (not (places_below (ew x) (p x) && condition_below (ew x) (ec x))) false false (et x) (leb 16 queries))) j)
-      (asked (record { table = i; selected = ea j; count = e.listed; parameters = e.c.marks; second = second; start = ek j; outer = eo j; condition = ec j })))
+      (asked (record { table = i; selected = ea j; count = length ls; parameters = e.c.marks; second = second; start = ek j; outer = eo j; condition = ec j })))
 
-module _ (s ls ps : List ℕ) (e : Entry) (columns : List (List ℕ)) (i : ℕ) where
+module _ (s : List ℕ) (ls : List Item) (ps : List Node) (e : Entry) (columns : List (List ℕ)) (i : ℕ) where
   pub update-made : (updates : ℕ) (names : List Name) (at : List ℕ) (sets : Settings) (settings : List Setting) (c : Condition) (w : ℕ) (twice : Bool) (number : ℕ) (r : Compiled)
-      → names ≡ padded 8 no_name (map name_struct (listed_on false s ls e)) → at ≡ padded 8 0 (places_of columns (names_of names e.listed))
-      → sets ≡ settings_on (take e.listed at) (givens_on s e.listed ls) → settings ≡ sets.all
-      → c ≡ condition_on false (position columns) s ps e sets.marks → w ≡ length columns → twice ≡ repeats same_name (names_of names e.listed)
-      → number ≡ lowest_by (not (places_below w (take e.listed at) && condition_below w c)) twice false false (leb 16 updates)
-      → r ≡ settled number (changing (record { form = 1; table = i; settings = settings; count = e.listed; parameters = e.c.marks; condition = c }))
+      → names ≡ padded 8 no_name (map name_struct (columns_on false s ls)) → at ≡ padded 8 0 (places_of columns (map name_of_struct (take (length ls) names)))
+      → sets ≡ settings_on (take (length ls) at) (givens_on s ls) → settings ≡ sets.all
+      → c ≡ condition_on false (position columns) s ps sets.marks → w ≡ length columns → twice ≡ repeats same_name (map name_of_struct (take (length ls) names))
+      → number ≡ lowest_by (not (places_below w (take (length ls) at) && condition_below w c)) twice false false (leb 16 updates)
+      → r ≡ settled number (changing (record { form = 1; table = i; settings = settings; count = length ls; parameters = e.c.marks; condition = c }))
       → r ≡ update_on s ls ps e columns i updates
   unfolding update_on
   update-made updates names at sets settings c w twice number r en ea es el ec ew et em er =
-      let p : take e.listed at ≡ places_of columns (listed_on false s ls e) = places-first false (position columns) s ls e at (places-are s ls e columns names en at ea) in
-      let x : sets ≡ sets_on s ls e columns = es ∙ ap (λ (y : List ℕ). settings_on y (givens_on s e.listed ls)) p in
-      let q : settings ≡ (sets_on s ls e columns).all = el ∙ ap (λ (y : Settings). y.all) x in
-      let d : c ≡ condition_on false (position columns) s ps e (sets_on s ls e columns).marks = ec ∙ ap (λ (y : Settings). condition_on false (position columns) s ps e y.marks) x in
-      let t : twice ≡ repeats same_name (listed_on false s ls e) = et ∙ ap (repeats same_name) (names-are s ls e columns names en) in
+      let p : take (length ls) at ≡ places_of columns (columns_on false s ls) = places-first false s ls (position columns) at (places-are s ls columns names en at ea) in
+      let x : sets ≡ sets_on s ls columns = es ∙ ap (λ (y : List ℕ). settings_on y (givens_on s ls)) p in
+      let q : settings ≡ (sets_on s ls columns).all = el ∙ ap (λ (y : Settings). y.all) x in
+      let d : c ≡ condition_on false (position columns) s ps (sets_on s ls columns).marks = ec ∙ ap (λ (y : Settings). condition_on false (position columns) s ps y.marks) x in
+      let t : twice ≡ repeats same_name (columns_on false s ls) = et ∙ ap (repeats same_name) (names-are s ls columns names en) in
       er
       ∙ (λ j. settled
       ((em ∙ (λ y. lowest_by (not (places_below (ew y) (p y) && condition_below (ew y) (d y))) (t y) false false (leb 16 updates))) j)
-      (changing (record { form = 1; table = i; settings = q j; count = e.listed; parameters = e.c.marks; condition = d j })))
+      (changing (record { form = 1; table = i; settings = q j; count = length ls; parameters = e.c.marks; condition = d j })))
 
-module _ (s ls : List ℕ) (e : Entry) (columns : List (List ℕ)) (i : ℕ) where
+module _ (s : List ℕ) (ls : List Item) (e : Entry) (columns : List (List ℕ)) (i : ℕ) where
   pub insert-made : (updates : ℕ) (sets : Settings) (settings : List Setting) (c : Condition) (w number : ℕ) (r : Compiled)
-      → sets ≡ settings_on (take e.listed (from 0 8)) (givens_on s e.listed ls) → settings ≡ sets.all → c ≡ condition_struct [] → w ≡ length columns
-      → number ≡ lowest_by false false (not (eqb e.listed w)) false (leb 16 updates)
-      → r ≡ settled number (changing (record { form = 0; table = i; settings = settings; count = e.listed; parameters = e.c.marks; condition = c }))
+      → sets ≡ settings_on (take (length ls) (from 0 8)) (givens_on s ls) → settings ≡ sets.all → c ≡ condition_struct [] → w ≡ length columns
+      → number ≡ lowest_by false false (not (eqb (length ls) w)) false (leb 16 updates)
+      → r ≡ settled number (changing (record { form = 0; table = i; settings = settings; count = length ls; parameters = e.c.marks; condition = c }))
       → r ≡ insert_on s ls e columns i updates
   unfolding insert_on
   insert-made updates sets settings c w number r es ea ec ew em er =
-      let q : settings ≡ (settings_on (take e.listed (from 0 8)) (givens_on s e.listed ls)).all = ea ∙ ap (λ (x : Settings). x.all) es in
-      let m : number ≡ lowest_by false false (not (eqb e.listed (length columns))) false (leb 16 updates) =
-      em ∙ ap (λ (k : ℕ). lowest_by false false (not (eqb e.listed k)) false (leb 16 updates)) ew in
-      er ∙ λ j. settled (m j) (changing (record { form = 0; table = i; settings = q j; count = e.listed; parameters = e.c.marks; condition = ec j }))
+      let q : settings ≡ (settings_on (take (length ls) (from 0 8)) (givens_on s ls)).all = ea ∙ ap (λ (x : Settings). x.all) es in
+      let m : number ≡ lowest_by false false (not (eqb (length ls) (length columns))) false (leb 16 updates) =
+      em ∙ ap (λ (k : ℕ). lowest_by false false (not (eqb (length ls) k)) false (leb 16 updates)) ew in
+      er ∙ λ j. settled (m j) (changing (record { form = 0; table = i; settings = q j; count = length ls; parameters = e.c.marks; condition = ec j }))
 
-module _ (s ps : List ℕ) (e : Entry) (columns : List (List ℕ)) (i : ℕ) where
+module _ (s : List ℕ) (ps : List Node) (e : Entry) (columns : List (List ℕ)) (i : ℕ) where
   pub delete-made : (updates : ℕ) (c : Condition) (settings : List Setting) (w number : ℕ) (r : Compiled)
-      → c ≡ condition_on false (position columns) s ps e 0 → settings ≡ replicate 8 no_setting → w ≡ length columns
+      → c ≡ condition_on false (position columns) s ps 0 → settings ≡ replicate 8 no_setting → w ≡ length columns
       → number ≡ lowest_by (not (places_below w [] && condition_below w c)) false false false (leb 16 updates)
       → r ≡ settled number (changing (record { form = 2; table = i; settings = settings; count = 0; parameters = e.c.marks; condition = c }))
       → r ≡ delete_on s ps e columns i updates
   unfolding delete_on
   delete-made updates c settings w number r ec es ew em er =
-      let m : number ≡ lowest_by (unknown_on (length columns) [] (condition_on false (position columns) s ps e 0)) false false false (leb 16 updates) =
+      let m : number ≡ lowest_by (unknown_on (length columns) [] (condition_on false (position columns) s ps 0)) false false false (leb 16 updates) =
       em ∙ ap₂ (λ (k : ℕ) (x : Condition). lowest_by (not (places_below k [] && condition_below k x)) false false false (leb 16 updates)) ew ec in
       er ∙ λ j. settled (m j) (changing (record { form = 2; table = i; settings = es j; count = 0; parameters = e.c.marks; condition = ec j }))
 
-module _ (s ls : List ℕ) (e : Entry) (ts : List Schema) (cells : ℕ) where
+module _ (s : List ℕ) (ls : List Item) (place rows : ℕ) (ring : Bool) (ts : List Schema) (cells : ℕ) where
   pub table-made : (name : Name) (columns : List Name) (capacity : ℕ) (taken full : Bool) (size number : ℕ) (r : Compiled)
-      → name ≡ name_struct (short_name (name_on s e.table)) → columns ≡ padded 8 no_name (map name_struct (listed_on false s ls e)) → capacity ≡ rows_on s e.rows
-      → taken ≡ (has (table_names ts) (name_of_struct name) || repeats same_name (names_of columns e.listed))
-      → size ≡ e.listed * capacity → full ≡ (leb 8 (length ts) || ltb (cells - areas_size ts) size)
+      → name ≡ name_struct (short_name (name_on s place)) → columns ≡ padded 8 no_name (map name_struct (columns_on false s ls)) → capacity ≡ rows_on s rows
+      → taken ≡ (has (table_names ts) (name_of_struct name) || repeats same_name (map name_of_struct (take (length ls) columns)))
+      → size ≡ length ls * capacity → full ≡ (leb 8 (length ts) || ltb (cells - areas_size ts) size)
       → number ≡ lowest_by false taken false false full
-      → r ≡ settled number (created (record { name = name; columns = columns; count = e.listed; capacity = capacity; rows = 0; oldest = 0; ring = e.ring }))
-      → r ≡ table_on s ls e ts cells
+      → r ≡ settled number (created (record { name = name; columns = columns; count = length ls; capacity = capacity; rows = 0; oldest = 0; ring = ring }))
+      → r ≡ table_on s ls place rows ring ts cells
   unfolding table_on
   table-made name columns capacity taken full size number r ea ec ek et ez ef em er =
-      let n : name_of_struct name ≡ short_name (name_on s e.table) = ap name_of_struct ea ∙ name_back (short_name (name_on s e.table)) in
-      let t : taken ≡ (has (table_names ts) (short_name (name_on s e.table)) || repeats same_name (listed_on false s ls e)) =
-      et ∙ ap₂ (λ (x : List ℕ) (xs : List (List ℕ)). has (table_names ts) x || repeats same_name xs) n (names-are s ls e [] columns ec) in
-      let f : full ≡ (leb 8 (length ts) || ltb (cells - areas_size ts) (e.listed * rows_on s e.rows)) =
-      ef ∙ ap (λ (k : ℕ). leb 8 (length ts) || ltb (cells - areas_size ts) k) (ez ∙ ap (λ (k : ℕ). e.listed * k) ek) in
-      let c : e.listed ≡ length (listed_on false s ls e) = sym (listed-count false s ls e) in
+      let n : name_of_struct name ≡ short_name (name_on s place) = ap name_of_struct ea ∙ name_back (short_name (name_on s place)) in
+      let t : taken ≡ (has (table_names ts) (short_name (name_on s place)) || repeats same_name (columns_on false s ls)) =
+      et ∙ ap₂ (λ (x : List ℕ) (xs : List (List ℕ)). has (table_names ts) x || repeats same_name xs) n (names-are s ls [] columns ec) in
+      let f : full ≡ (leb 8 (length ts) || ltb (cells - areas_size ts) (length ls * rows_on s rows)) =
+      ef ∙ ap (λ (k : ℕ). leb 8 (length ts) || ltb (cells - areas_size ts) k) (ez ∙ ap (λ (k : ℕ). length ls * k) ek) in
+      let c : length ls ≡ length (columns_on false s ls) = sym (listed-count false s ls) in
       er ∙ λ j. settled ((em ∙ ap₂ (λ (x y : Bool). lowest_by false x false false y) t f) j)
-      (created (record { name = ea j; columns = ec j; count = c j; capacity = ek j; rows = 0; oldest = 0; ring = e.ring }))
-
--- ---- by the form
-
-module _ (s ls ps : List ℕ) (e : Entry) (columns : List (List ℕ)) (i queries updates : ℕ) where
-  pub form-select : (r : Compiled) → r ≡ select_on false (position columns) (length columns) s ls ps e i 0 0 false queries → e.form ≡ Select → r ≡ form_on s ls ps e columns i queries updates
-  form-select r h k = h ∙ sym (ap (λ f. form_as f s ls ps e columns i queries updates) k)
-
-  pub form-insert : (r : Compiled) → r ≡ insert_on s ls e columns i updates → e.form ≡ Insert → r ≡ form_on s ls ps e columns i queries updates
-  form-insert r h k = h ∙ sym (ap (λ f. form_as f s ls ps e columns i queries updates) k)
-
-  pub form-update : (r : Compiled) → r ≡ update_on s ls ps e columns i updates → e.form ≡ Update → r ≡ form_on s ls ps e columns i queries updates
-  form-update r h k = h ∙ sym (ap (λ f. form_as f s ls ps e columns i queries updates) k)
-
-  pub form-delete : (r : Compiled) → r ≡ delete_on s ps e columns i updates → (e.form ≡ Select → ⊥) → (e.form ≡ Insert → ⊥) → (e.form ≡ Update → ⊥) → r ≡ form_on s ls ps e columns i queries updates
-  form-delete r h a b c = h ∙ go e.form a b c
-    where
-      go : (f : Form) → (f ≡ Select → ⊥) → (f ≡ Insert → ⊥) → (f ≡ Update → ⊥) → delete_on s ps e columns i updates ≡ form_as f s ls ps e columns i queries updates
-      go Select a b c = absurd (a refl)
-      go Insert a b c = absurd (b refl)
-      go Update a b c = absurd (c refl)
-      go _ a b c = refl
-
-not_pair : (f : Form) → (f ≡ Pair → ⊥) → is_pair f ≡ false
-not_pair Pair h = absurd (h refl)
-not_pair _ h = refl
+      (created (record { name = ea j; columns = ec j; count = c j; capacity = ek j; rows = 0; oldest = 0; ring = ring }))
 
 -- ---- the table of a sentence
 
@@ -219,7 +190,7 @@ abbrev pub blank : Table
 blank = record { name = record { bytes = []; len = 0 }; columns = []; count = 0; capacity = 0; rows = 0; oldest = 0; ring = false }
 
 -- the tables, and the one that the text names at p
-module _ (s : List ℕ) (p : ℕ) (tables : List Table) (name : Name) (o : Option ℕ)
+module _ (s : List ℕ) (p : ℕ) (tables : List Table) (name : Name) (o : Maybe ℕ)
     (en : name ≡ name_struct (short_name (name_on s p))) (eo : o ≡ number_in (map schema_of tables) (name_of_struct name)) where
   abbrev S : List Schema
   S = map schema_of tables
@@ -249,7 +220,7 @@ module _ (s : List ℕ) (p : ℕ) (tables : List Table) (name : Name) (o : Optio
     pub one-inside : i < length tables
     one-inside = omega (arith, inside, one-number, length-map tables schema_of)
 
-    pub one-columns : (k : ℕ) (d : Table) → k ≡ i → column_names (get_or tables k d) ≡ columns_at S j
+    pub one-columns : (k : ℕ) (d : Table) → k ≡ i → column_names (get_or tables k d) ≡ columns_of S (short_name (name_on s p))
     one-columns k d q =
         ap (λ (n : ℕ). column_names (get_or tables n d)) q
         ∙ ap (λ (t : Schema). t.columns) (sym (get_or-inside schema_of tables i d no_schema one-inside) ∙ ap (λ (n : ℕ). get_or S n no_schema) one-number)
@@ -264,37 +235,46 @@ module _ (s : List ℕ) (p : ℕ) (tables : List Table) (name : Name) (o : Optio
     pub one-name : (k : ℕ) (d : Table) → k ≡ i → name_of_struct (get_or tables k d).name ≡ short_name (name_on s p)
     one-name k d q = ap (λ (n : ℕ). name_of_struct (get_or tables n d).name) q ∙ named d
 
-module _ (s ls ps : List ℕ) (e : Entry) (ts : List Schema) (queries updates : ℕ) where
+module _ (s : List ℕ) (ls : List Item) (ps : List Node) (e : Entry) (ts : List Schema) (queries updates : ℕ) where
+  abbrev name : List ℕ
+  name = short_name (name_on s e.table)
+
   abbrev first : ℕ
   first = number_on s e.table ts
 
   pub beside-none : (r : Compiled) → ltb first (length ts) ≡ false → r ≡ refused_by 6 → r ≡ beside_on s ls ps e ts queries updates
   beside-none r h q = rw h q
 
-  pub beside-some : (r : Compiled) (t : Table) (i : ℕ) → r ≡ form_on s ls ps e (column_names t) i queries updates → (e.form ≡ Pair → ⊥)
-      → ltb first (length ts) ≡ true → i ≡ first → column_names t ≡ columns_at ts first
-      → r ≡ beside_on s ls ps e ts queries updates
-  beside-some r t i q x h k c = rw (h, not_pair e.form x) (q ∙ ap₂ (λ (y : List (List ℕ)) (m : ℕ). form_on s ls ps e y m queries updates) c k)
+  module _ (t : Table) (i : ℕ) (h : ltb first (length ts) ≡ true) (k : i ≡ first) (c : column_names t ≡ columns_of ts name) where
+    there : beside_as e.form name s ls ps e ts queries updates ≡ beside_on s ls ps e ts queries updates
+    there = sym (ap (λ (b : Bool). cond b (beside_as e.form name s ls ps e ts queries updates) (refused_by 6)) h)
 
-  pub beside-pair : (r : Compiled) (t : Table) (i : ℕ) → r ≡ pair_on (name_of_struct t.name) (column_names t) s ls ps e ts i queries → e.form ≡ Pair
-      → ltb first (length ts) ≡ true → i ≡ first → column_names t ≡ columns_at ts first → name_of_struct t.name ≡ short_name (name_on s e.table)
-      → r ≡ beside_on s ls ps e ts queries updates
-  beside-pair r t i q x h k c n = rw (h, ap is_pair x) (q ∙ (λ y. pair_on (n y) (c y) s ls ps e ts (k y) queries))
+    pub beside-some : (r : Compiled) → r ≡ form_on s ls ps e (column_names t) i queries updates → ((p : ℕ) → e.form ≡ Pair p → ⊥) → r ≡ beside_on s ls ps e ts queries updates
+    beside-some r q x = q ∙ ap₂ (λ (y : List (List ℕ)) (m : ℕ). form_on s ls ps e y m queries updates) c k ∙ go e.form x ∙ there
+      where
+        go : (f : Form) → ((p : ℕ) → f ≡ Pair p → ⊥) → form_as f s ls ps e (columns_of ts name) first queries updates ≡ beside_as f name s ls ps e ts queries updates
+        go (Pair p) x = absurd (x p refl)
+        go _ x = refl
+
+    pub beside-pair : (r : Compiled) (second : ℕ) → r ≡ pair_on (name_of_struct t.name) (column_names t) second s ls ps e ts i queries → e.form ≡ Pair second → name_of_struct t.name ≡ name
+        → r ≡ beside_on s ls ps e ts queries updates
+    beside-pair r second q x n =
+        q ∙ (λ y. pair_on (n y) (c y) second s ls ps e ts (k y) queries) ∙ sym (ap (λ (f : Form). beside_as f name s ls ps e ts queries updates) x) ∙ there
 
 -- the second table
-module _ (s ls ps : List ℕ) (e : Entry) (ts : List Schema) (queries : ℕ) (t : Table) (i : ℕ) where
+module _ (s : List ℕ) (ls : List Item) (ps : List Node) (e : Entry) (ts : List Schema) (queries : ℕ) (t : Table) (p i : ℕ) where
   abbrev second : ℕ
-  second = number_on s e.second ts
+  second = number_on s p ts
 
   abbrev goal : Compiled
-  goal = pair_on (name_of_struct t.name) (column_names t) s ls ps e ts i queries
+  goal = pair_on (name_of_struct t.name) (column_names t) p s ls ps e ts i queries
 
   pub pair-none : (r : Compiled) → ltb second (length ts) ≡ false → r ≡ refused_by 6 → r ≡ goal
   pair-none r h q = rw h q
 
   pub pair-some : (r : Compiled) (u : Table) (j k : ℕ)
       → r ≡ select_on true (pair_place (name_of_struct t.name) (column_names t) (name_of_struct u.name) (column_names u)) (length (column_names t) + length (column_names u)) s ls ps e i k (length (column_names t)) (same_name (name_of_struct t.name) (name_of_struct u.name)) queries
-      → k ≡ j + 1 → ltb second (length ts) ≡ true → j ≡ second → column_names u ≡ columns_at ts second → name_of_struct u.name ≡ short_name (name_on s e.second)
+      → k ≡ j + 1 → ltb second (length ts) ≡ true → j ≡ second → column_names u ≡ columns_of ts (short_name (name_on s p)) → name_of_struct u.name ≡ short_name (name_on s p)
       → r ≡ goal
   pair-some r u j k q g h m c n =
       let z : k ≡ suc j = g ∙ add-one j in

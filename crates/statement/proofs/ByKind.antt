@@ -1,16 +1,15 @@
 -- What an operand and a value read as, by their codes. For callers. Assumes nothing.
-use mathlib.Core.Path.{◌≡◌, refl, ap, sym, ◌∙◌}
+use mathlib.Core.Path.{◌≡◌, refl, ap, ◌∙◌}
 use mathlib.Core.Logic.{◌≢◌}
 use mathlib.Core.Bool.{Bool, true, false, cond}
 use Prim.Native.Nat.{ℕ, zero, suc, ◌+◌, ◌*◌, ◌-◌, ◌/◌, ◌%◌, ◌≤◌}
 use native.Mathlib.Omega.{arith}
-use borrow.Author.Tests.{eqb-true, eqb-false, eq-eqb, ne_eqb}
+use borrow.Author.Tests.{eq-eqb, ne_eqb}
 use lib.Dec.{eqb}
 use mathlib.Core.List.{List, [], ◌∷◌}
 use lib.IntN.{ℤ, pos}
 use lib.ListN.{length}
 use Rattle.meaning.specs.Names.{same_name, position}
-use Rattle.meaning.specs.Resolve.{mark_in_operand}
 use Rattle.meaning.specs.Statement as M
 use Rattle.meaning.specs.Statement.{column, value, constant, parameter}
 use Rattle.statement.specs.Sound.{value_by, operand_by, value_read, operand_read}
@@ -18,26 +17,11 @@ use Rattle.statement.specs.declared.Operand.{Operand}
 use Rattle.statement.specs.declared.Value.{Value}
 
 module _ (n : ℕ) (z : ℤ) where
-  pub code-constant : n ≡ 0 → operand_by n z ≡ value (constant z)
-  code-constant h = ap (λ (k : ℕ). operand_by k z) h
-
   pub code-mark : n % 2 ≡ 1 → operand_by n z ≡ value (parameter (suc (n / 2)))
   code-mark h = rw (ne_eqb n 0 (λ e. omega arith), eq-eqb (n % 2) 1 h) refl
 
   pub code-column : n % 2 ≢ 1 → n ≢ 0 → operand_by n z ≡ column (n / 2 - 1)
   code-column h k = rw (ne_eqb n 0 k, ne_eqb (n % 2) 1 h) refl
-
--- what is in an operand, by its code
-pub mark_code : (n : ℕ) (z : ℤ) → mark_in_operand (operand_by n z) ≡ n % 2
-mark_code n z = go (eqb n 0) refl (eqb (n % 2) 1) refl
-  where
-    go : (x : Bool) → eqb n 0 ≡ x → (y : Bool) → eqb (n % 2) 1 ≡ y → mark_in_operand (cond x (value (constant z)) (cond y (value (parameter (suc (n / 2)))) (column (n / 2 - 1)))) ≡ n % 2
-    go true e y f = let q : n ≡ 0 = eqb-true n 0 e in omega arith
-    go false e true f = sym (eqb-true (n % 2) 1 f)
-    go false e false f = let q : n % 2 ≢ 1 = eqb-false (n % 2) 1 f in omega arith
-
-pub even-some : (n : ℕ) → n % 2 ≢ 1 → n ≢ 0 → 1 ≤ n / 2
-even-some n h k = omega arith
 
 pub position-most : (ns : List (List ℕ)) (n : List ℕ) → position ns n ≤ length ns
 position-most [] n = omega arith
@@ -67,15 +51,6 @@ module _ (o : Operand) where
       go false true = b
       go false false = c
 
-  pub is-constant : o.code ≡ 0 → operand_read o ≡ value (constant o.number)
-  is-constant h = code-constant o.code o.number h
-
-  pub is-mark : o.code % 2 ≡ 1 → operand_read o ≡ value (parameter (suc (o.code / 2)))
-  is-mark h = code-mark o.code o.number h
-
-  pub is-column : o.code % 2 ≢ 1 → o.code ≢ 0 → operand_read o ≡ column (o.code / 2 - 1)
-  is-column h k = code-column o.code o.number h k
-
 module _ (v : Value) where
   pub by-kind-value : (P : M.Value → Type 0) → P (constant v.number) → ((k : ℕ) → v.mark ≡ suc k → P (parameter (suc k))) → P (value_read v)
   by-kind-value P a b = go v.mark refl
@@ -83,13 +58,3 @@ module _ (v : Value) where
       go : (n : ℕ) → v.mark ≡ n → P (value_by n v.number)
       go zero e = a
       go (suc k) e = b k e
-
-  pub value-constant : v.mark ≡ 0 → value_read v ≡ constant v.number
-  value-constant h = ap (λ (n : ℕ). value_by n v.number) h
-
-  pub value-mark : v.mark ≢ 0 → value_read v ≡ parameter (suc (v.mark - 1))
-  value-mark a = go v.mark a
-    where
-      go : (n : ℕ) → n ≢ 0 → value_by n v.number ≡ parameter (suc (n - 1))
-      go zero a = absurd (a refl)
-      go (suc k) a = let e : k ≡ suc k - 1 = omega arith in ap (λ (j : ℕ). parameter (suc j)) e

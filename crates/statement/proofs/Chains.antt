@@ -1,27 +1,20 @@
 -- What the library's iterators answer, in the words of the definitions. Assumes nothing.
-use Rattle.std.proofs.Common.{◌≡◌, Bool, true, false, cond, ◌&&◌, ◌||◌, List, [], ◌∷◌, map, ℕ, suc, ◌+◌, ◌≤◌, ltb, Option, Some, None, length, refl, sym, ap, ◌∙◌, arith}
+use Rattle.std.proofs.Common.{◌≡◌, Bool, true, false, cond, List, [], ◌∷◌, map, ℕ, suc, ◌+◌, ◌≤◌, ltb, Option as Maybe, Some, None, length, refl, sym, ap, ◌∙◌, arith}
 use Rattle.std.proofs.lemmas.List.{length-map}
 use Rattle.std.proofs.lemmas.List.Sums.{sum-map}
 use borrow.Author.Tests.{ltb-false}
-use Rattle.std.specs.List.{list_all, list_any, sum, position_or_len}
+use Rattle.std.specs.List.{sum, position_or_len}
 use Rattle.std.specs.Option.{unwrap_or}
-use Rattle.std.proofs.lemmas.List.Recursion.{same_from_clauses, is_position_or_len, is_sum_by}
-use Rattle.lists.specs.Lists.{all, any}
+use Rattle.std.proofs.lemmas.List.Recursion.{is_position_or_len, is_sum_by}
 use Rattle.meaning.specs.Names.{same_name, position}
 use Rattle.statement.proofs.ByKind.{position-most}
 
 module _ {A : Type 0} where
-  pub all-is : (p : A → Bool) (xs : List A) → list_all p xs ≡ all p xs
-  all-is p = same_from_clauses (list_all p) (all p) (λ x b. p x && b) refl (λ _ _. refl) (λ _ _. refl)
-
-  pub any-is : (p : A → Bool) (xs : List A) → list_any p xs ≡ any p xs
-  any-is p = same_from_clauses (list_any p) (any p) (λ x b. p x || b) refl (λ _ _. refl) (λ _ _. refl)
-
   -- the place of a name, by the names of the members
   pub position-is : (f : A → List ℕ) (n : List ℕ) (xs : List A) → position_or_len (λ x. same_name n (f x)) xs ≡ position (map f xs) n
   position-is f n xs = sym (is_position_or_len (λ ys. position (map f ys) n) (λ x. same_name n (f x)) refl (λ x ys. ap (cond (same_name n (f x)) 0) (let e : suc (position (map f ys) n) ≡ 1 + position (map f ys) n = omega arith in e)) xs)
 
-  pub position-or : (f : A → List ℕ) (n : List ℕ) (xs : List A) (r : Option ℕ)
+  pub position-or : (f : A → List ℕ) (n : List ℕ) (xs : List A) (r : Maybe ℕ)
       → r ≡ cond (ltb (position_or_len (λ x. same_name n (f x)) xs) (length xs)) (Some (position_or_len (λ x. same_name n (f x)) xs)) None
       → unwrap_or r (length xs) ≡ position (map f xs) n
   position-or f n xs r e =
@@ -35,7 +28,7 @@ module _ {A : Type 0} where
       go k m h false e = let l : m ≤ k = ltb-false k m e in omega arith
 
   -- the number of a table by its name
-  pub number-is : (f : A → List ℕ) (n : List ℕ) (xs : List A) (r : Option ℕ)
+  pub number-is : (f : A → List ℕ) (n : List ℕ) (xs : List A) (r : Maybe ℕ)
       → r ≡ cond (ltb (position_or_len (λ x. same_name n (f x)) xs) (length xs)) (Some (position_or_len (λ x. same_name n (f x)) xs)) None
       → r ≡ cond (ltb (position (map f xs) n) (length xs)) (Some (position (map f xs) n)) None
   number-is f n xs r e = e ∙ ap (λ k. cond (ltb k (length xs)) (Some k) None) (position-is f n xs)

@@ -5,7 +5,6 @@ use mathlib.Core.Option.{Option, none, some}
 use Rattle.std.specs.Prelude.{Option as Maybe, Some, None}
 use mathlib.Core.List.{List, [], ◌∷◌}
 use Prim.Native.Nat.{ℕ, ◌-◌, ◌≤◌, ◌<◌}
-use native.Mathlib.Nat.{add-zero}
 use native.Mathlib.Omega.{arith}
 use lib.Dec.{ltb}
 use lib.ListN.{length, drop}
@@ -22,16 +21,11 @@ use Rattle.token.specs.declared.Kind.TheVariants.{Name as Named, Dot}
 use Rattle.token.specs.Tokens.{kind_of, token_at}
 use Rattle.token.proofs.Laws.{Reads, token-again}
 use Rattle.token.proofs.TokenKinds.{kind-name}
-use Rattle.statement.specs.declared.conditions.Cursor.{Cursor}
 use Rattle.statement.specs.declared.conditions.Side.{Side}
-use Rattle.statement.specs.declared.sentences.Placed.{Placed}
 use Rattle.statement.specs.Places.{first, token_on, or_empty, name_on, given_on, behind_dot, column_on, or_given}
-use Rattle.statement.specs.Reading.{token_past, past, is_operand, is_name, marks_at, a_column, Stands, IsDotted, IsOperand, Sides}
-use Rattle.statement.specs.Sentences.{Columns}
+use Rattle.statement.specs.Reading.{token_past, past, is_operand, is_name, marks_at, a_column, IsDotted, IsOperand, Sides}
 use Rattle.statement.proofs.Operands.{term_of, Single, term-reader, no-term, term-none, is-term}
 use Rattle.statement.proofs.Steps.{Look, ended, seen, look, stands-there, name_length, goes, stops}
-use Rattle.statement.proofs.Comparisons.{Reached, side-none, side}
-use Rattle.statement.proofs.SentenceReaders.{failed-before, finds-none, finds}
 use Rattle.statement.proofs.SentenceTokens.{no_name_lem, token-none, token-found}
 
 -- ---- a name
@@ -219,43 +213,3 @@ module _ (s : List ℕ) (at : ℕ) (u : Token) (e : u ≡ token_at s at) where
               marks = em ∙ ap marks_at (sym v.kind) ∙ k.marks;
             },
           )
-
--- ---- a column of a list
-
-module _ (s : List ℕ) (c : Cursor) where
-  pub column-failed : (r : Placed) → c.ok ≡ false → r.c.ok ≡ false → Columns s c r
-  column-failed r e f = failed-before s a_dotted _ c r.c e f
-
-  pub column-none : Sides s c.at None (IsDotted s) (a_dotted (tokens (drop c.at s))) → (r : Placed) → r.c.ok ≡ false → Columns s c r
-  column-none k r f = finds-none s a_dotted _ c r.c (side-none s c.at (IsDotted s) (a_dotted (tokens (drop c.at s))) k) f
-
-  module _ (d : Side) (k : Sides s c.at (Some d) (IsDotted s) (a_dotted (tokens (drop c.at s)))) where
-    reached : Reached s c.at d (IsDotted s d) (a_dotted (tokens (drop c.at s)))
-    reached = side s c.at (IsDotted s) d (a_dotted (tokens (drop c.at s))) k
-
-    pub column-inside : (d.start < d.next) × (d.next ≤ length s)
-    column-inside = (reached.spans.begun, reached.spans.within)
-
-    -- the cursor behind the column
-    abbrev pub behind : Cursor
-    behind = record { ok = c.ok; over = c.over || d.over; dotted = c.dotted; nodes = c.nodes; marks = c.marks; at = d.next }
-
-    pub column-found : c.ok ≡ true → Stands s c → Columns s c (record { c = behind; place = d.start })
-    column-found i st =
-        let m = reached in
-        let w = m.spans in
-        finds s a_dotted _ c behind m.value (tokens (drop d.next s)) i m.found
-        (record {
-          ok = i;
-          stands = record { short = st.short; inside = w.within; few_nodes = omega (arith, st.few_nodes, w.on); few_marks = omega (arith, st.few_marks, w.on) };
-          left = refl;
-        }) (
-          record {
-            dotted = refl;
-            moved = w.on;
-            over = ap (λ b. c.over || b) m.is.over;
-            marks_are = sym (add-zero c.marks);
-            nodes_are = refl;
-          },
-          m.is.here,
-        )

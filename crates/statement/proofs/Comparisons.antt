@@ -5,12 +5,11 @@ use mathlib.Core.Bool.{Bool, true, false, cond, ◌&&◌, ◌||◌}
 use mathlib.Core.Option.{Option, none, some}
 use Rattle.std.specs.Prelude.{Option as Maybe, Some, None}
 use mathlib.Core.List.{List, [], ◌∷◌, ◌++◌}
-use Prim.Native.Nat.{ℕ, ◌+◌, ◌%◌, ◌≤◌, ◌<◌}
+use Prim.Native.Nat.{ℕ, ◌+◌, ◌≤◌, ◌<◌}
 use native.Mathlib.Nat.{le_refl}
 use native.Mathlib.Omega.{arith}
-use borrow.Author.Tests.{lt-ltb}
-use lib.Dec.{eqb, ltb}
-use lib.ListN.{length, drop}
+use lib.Dec.{ltb}
+use lib.ListN.{length, take, drop}
 use Rattle.lists.proofs.Bools.{clash, and_left, and_right, and_both}
 use Rattle.meaning.specs.Operator.{Operator, Predicate, opposite}
 use Rattle.meaning.specs.Condition.{compare}
@@ -25,13 +24,14 @@ use Rattle.token.specs.declared.Kind.{Kind}
 use Rattle.token.specs.declared.Kind.TheVariants.{Not, Is, Null}
 use Rattle.token.specs.Tokens.{token_at}
 use Rattle.token.proofs.Laws.{next-inside}
-use Rattle.statement.specs.Operators.{operator_number, predicate_at, predicate_number, opposite_of}
-use Rattle.statement.specs.Places.{Column, term_on, comparison_code, node_on, nodes_on, codes_on, bare_mark, code_marks}
+use Rattle.statement.specs.Operators.{operator_number, predicate_number, opposite_of}
+use Rattle.statement.specs.declared.conditions.Node.{Node}
+use Rattle.statement.specs.Places.{Column, term_on, comparison_node, node_on, nodes_on, bare_marks_on}
 use Rattle.statement.specs.Reading.{operator_in, is_name, is_is, Operand, a_column, with_sides, with_node, PutsNode, ended_at, PutsNull, Stands, Spans, IsOperand, Sides, ReadsSide, Found, Meets, Reaches, TestsNull}
 use Rattle.statement.specs.declared.conditions.Cursor.{Cursor}
 use Rattle.statement.specs.declared.conditions.Side.{Side}
-use Rattle.statement.proofs.OperatorLaws.{predicate-back, predicate-few, opposite-is, opposite-few}
-use Rattle.statement.proofs.Nodes.{code-few, code-back, code-bare, marks-put}
+use Rattle.statement.proofs.OperatorLaws.{predicate-back, predicate-few, opposite-is}
+use Rattle.statement.proofs.Nodes.{nodes-put, marks-put}
 use Rattle.statement.proofs.Operands.{append-marks, is_column, column-is, first-column, no-operator, is-operator}
 use Rattle.statement.proofs.Steps.{Look, ended, seen, look, Goes, goes, stops}
 
@@ -96,26 +96,11 @@ module _ (s : List ℕ) (at : ℕ) (u : Token) (e : u ≡ token_at s at) where
 
 -- ---- a comparison's node
 
--- the node of the number k is a comparison
-leaf-at : (d : Bool) (s : List ℕ) (k a b : ℕ) (o : Predicate) (x y : Operand d) → k < 16 → predicate_at (k % 8) ≡ o → term_on d s a ≡ x → term_on d s b ≡ y
-    → node_on d s k a b ≡ leaf (record { left = x; op = o; right = y })
-leaf-at d s k a b o x y h p q r = rw (lt-ltb k 16 h) (λ i. leaf (record { left = q i; op = p i; right = r i }))
-
-module _ (depth : ℕ) where
-  code_at : (d : Bool) (s : List ℕ) (k a b : ℕ) (o : Predicate) (x y : Operand d) → k < 8 → predicate_at k ≡ o → term_on d s a ≡ x → term_on d s b ≡ y
-      → node_on d s (comparison_code depth k) a b ≡ leaf (record { left = x; op = o; right = y })
-  code_at d s k a b o x y h p = leaf-at d s (comparison_code depth k) a b o x y (code-few depth k h) (ap predicate_at (code-back depth k h) ∙ p)
-
-  node_is : (d : Bool) (s : List ℕ) (positive : Bool) (a b : ℕ) (o : Predicate) (x y : Operand d) → term_on d s a ≡ x → term_on d s b ≡ y
-      → node_on d s (comparison_code depth (cond positive (predicate_number o) (opposite_of (predicate_number o)))) a b ≡ leaf (signed positive (record { left = x; op = o; right = y }))
-  node_is d s true a b o x y q r = code_at d s (predicate_number o) a b o x y (predicate-few o) (predicate-back o) q r
-  node_is d s false a b o x y q r =
-      code_at d s (opposite_of (predicate_number o)) a b (opposite o) x y (opposite-few (predicate_number o) (predicate-few o))
-      (opposite-is (predicate_number o) (predicate-few o) ∙ ap opposite (predicate-back o)) q r
-
-  node-bare : (positive : Bool) (k : ℕ) → k < 8 → bare_mark (comparison_code depth (cond positive k (opposite_of k))) ≡ eqb depth 0 ∷ []
-  node-bare true k h = code-bare depth k h
-  node-bare false k h = code-bare depth (opposite_of k) (opposite-few k h)
+node_is : (depth : ℕ) (d : Bool) (s : List ℕ) (positive : Bool) (a b : ℕ) (o : Predicate) (x y : Operand d) → term_on d s a ≡ x → term_on d s b ≡ y
+    → node_on d s (comparison_node depth (cond positive (predicate_number o) (opposite_of (predicate_number o))) a b) ≡ leaf (signed positive (record { left = x; op = o; right = y }))
+node_is depth d s true a b o x y q r i = leaf (record { left = q i; op = predicate-back o i; right = r i })
+node_is depth d s false a b o x y q r i =
+    leaf (record { left = q i; op = (opposite-is (predicate_number o) (predicate-few o) ∙ ap opposite (predicate-back o)) i; right = r i })
 
 few_marks : {C : Type 0} (x : Term C) → mark_count (term_givens (x ∷ [])) ≤ 1
 few_marks (column n) = omega arith
@@ -123,10 +108,10 @@ few_marks (given (constant z)) = omega arith
 few_marks (given mark) = omega arith
 
 -- the sides u and w of the test t were read, up to w's end, and its node was put, with the number k
-module _ (d : Bool) (s : List ℕ) (positive : Bool) (depth : ℕ) (c : Cursor) (eq : c.dotted ≡ d) (xs ys : List ℕ) (u w : Side) (t : Test (Column d))
+module _ (d : Bool) (s : List ℕ) (positive : Bool) (depth : ℕ) (c : Cursor) (eq : c.dotted ≡ d) (xs ys : List Node) (u w : Side) (t : Test (Column d))
     (p : IsOperand d s u (comparison t).left) (q : IsOperand d s w (comparison t).right) (far : c.at + 2 ≤ w.next) (within : w.next ≤ length s) where
   found : Stands s c → (r : Cursor) (k : ℕ) → k ≡ predicate_number (comparison t).op
-      → PutsNode xs (with_sides depth u w c) (comparison_code depth (cond positive k (opposite_of k))) u.start w.start ys r
+      → PutsNode xs (with_sides depth u w c) (comparison_node depth (cond positive k (opposite_of k)) u.start w.start) ys r
       → Found d s positive depth c xs r ys (compare t) (tokens (drop w.next s))
   found st r k number put = subst (λ z. Found d s positive depth c xs z ys (compare t) (tokens (drop w.next s))) (sym put.counted) here
     where
@@ -136,15 +121,14 @@ module _ (d : Bool) (s : List ℕ) (positive : Bool) (depth : ℕ) (c : Cursor) 
       y : Operand d
       y = (comparison t).right
 
-      node : node_on d s (comparison_code depth (cond positive k (opposite_of k))) u.start w.start ≡ leaf (signed positive (comparison t))
+      node : node_on d s (comparison_node depth (cond positive k (opposite_of k)) u.start w.start) ≡ leaf (signed positive (comparison t))
       node =
-          ap (λ j. node_on d s (comparison_code depth (cond positive j (opposite_of j))) u.start w.start) number
+          ap (λ j. node_on d s (comparison_node depth (cond positive j (opposite_of j)) u.start w.start)) number
           ∙ node_is depth d s positive u.start w.start (comparison t).op x y p.here q.here
 
       here : Found d s positive depth c xs (with_node (with_sides depth u w c)) ys (compare t) (tokens (drop w.next s))
       here =
           record {
-            ok = refl;
             dotted = eq;
             moved = omega arith;
             stands = record {
@@ -157,10 +141,8 @@ module _ (d : Bool) (s : List ℕ) (positive : Bool) (depth : ℕ) (c : Cursor) 
             over = ap₂ (λ (m n : Bool). c.over || (ltb most_depth depth || (m || n))) p.over q.over;
             nodes_are = refl;
             marks_are = omega (arith, p.marks, q.marks, append-marks (x ∷ []) (y ∷ []));
-            noted = λ h. put.noted d s (omega arith) ∙ ap (λ n. nodes_on d s c.nodes xs ++ (n ∷ [])) node;
-            bare = λ h. ap code_marks (put.coded (omega arith))
-                ∙ marks-put (codes_on c.nodes xs) (comparison_code depth (cond positive k (opposite_of k))) (eqb depth 0 ∷ [])
-                (node-bare depth positive k (omega (arith, number, predicate-few (comparison t).op)));
+            noted = λ h. ap (nodes_on d s) (put.noted (omega arith)) ∙ nodes-put (take c.nodes xs) _ d s ∙ ap (λ n. nodes_on d s (take c.nodes xs) ++ (n ∷ [])) node;
+            bare = λ h. ap bare_marks_on (put.noted (omega arith)) ∙ marks-put (take c.nodes xs) _;
             spread = omega arith;
           }
 
@@ -172,12 +154,11 @@ null-or _ = no (λ e. cc)
 
 -- what `put_null` asks, of any token
 pub null-fits : (s : List ℕ) (c : Cursor) (a : Side) (at : ℕ) → Stands s c → Reaches s c a at → (from : ℕ) (u : Token) → u ≡ token_at s from
-    → (c.nodes < 256) × (c.marks ≤ 256) × (a.marks ≤ 1) × (a.start ≤ 256) × (u.next ≤ 256)
-null-fits s c a at st R from u e =
-    omega (arith, st.short, st.few_nodes, st.few_marks, R.on, R.within, R.begun, R.unmarked, ap (λ (v : Token). v.next) e, next-inside s from)
+    → (a.marks ≤ 1) × (a.start ≤ 256) × (u.next ≤ 256)
+null-fits s c a at st R from u e = omega (arith, st.short, R.within, R.begun, R.unmarked, ap (λ (v : Token). v.next) e, next-inside s from)
 
-module _ (d : Bool) (s : List ℕ) (positive : Bool) (depth : ℕ) (c : Cursor) (eq : c.dotted ≡ d) (xs : List ℕ) (a : Side) (at : ℕ)
-    (st : Stands s c) (R : Reaches s c a at) (x : Column d) (p : IsOperand d s a (column x)) (r : Maybe Cursor) (ys : List ℕ) where
+module _ (d : Bool) (s : List ℕ) (positive : Bool) (depth : ℕ) (c : Cursor) (eq : c.dotted ≡ d) (xs : List Node) (a : Side) (at : ℕ)
+    (st : Stands s c) (R : Reaches s c a at) (x : Column d) (p : IsOperand d s a (column x)) (r : Maybe Cursor) (ys : List Node) where
   abbrev Answers : Option (Test (Column d) × List T.Token) → Type 0
   Answers o = Meets d s positive depth c xs r ys (then o (λ t. done (compare t)))
 
@@ -232,7 +213,7 @@ behind-rest : {C : Type 0} (a_column : Reader C) (x : Term C) (ts : List T.Token
 behind-rest a_column (column n) ts h = passing-stops (keyword IS) (a_null a_column n) (a_rest a_column (column n)) ts (h refl)
 behind-rest a_column (given v) ts h = refl
 
-module _ (d : Bool) (s : List ℕ) (positive : Bool) (depth : ℕ) (c : Cursor) (eq : c.dotted ≡ d) (xs : List ℕ) (r : Maybe Cursor) (ys : List ℕ) where
+module _ (d : Bool) (s : List ℕ) (positive : Bool) (depth : ℕ) (c : Cursor) (eq : c.dotted ≡ d) (xs : List Node) (r : Maybe Cursor) (ys : List Node) where
   abbrev Answer : Type 0
   Answer = Meets d s positive depth c xs r ys (a_comparison (a_column d) (tokens (drop c.at s)))
 
@@ -308,7 +289,7 @@ module _ (d : Bool) (s : List ℕ) (positive : Bool) (depth : ℕ) (c : Cursor) 
             abbrev right : Reached s v.next w (IsOperand d s w) (a_term (a_column d) (tokens (drop v.next s)))
             right = side s v.next (IsOperand d s) w (a_term (a_column d) (tokens (drop v.next s))) k₃
 
-            pub fits : (c.nodes < 256) × (c.marks ≤ 256) × (a.marks ≤ 1) × (w.marks ≤ 1) × (a.start ≤ 256) × (w.start ≤ 256) × (w.next ≤ 256)
+            pub fits : (a.marks ≤ 1) × (w.marks ≤ 1) × (a.start ≤ 256) × (w.start ≤ 256) × (w.next ≤ 256)
             fits =
                 let m = left in
                 let n = right in
@@ -330,7 +311,7 @@ module _ (d : Bool) (s : List ℕ) (positive : Bool) (depth : ℕ) (c : Cursor) 
                   st.few_marks,
                 )
 
-            pub compared : (e : Cursor) → r ≡ Some e → PutsNode xs (with_sides depth a w c) (comparison_code depth (cond positive op (opposite_of op))) a.start w.start ys e → Answer
+            pub compared : (e : Cursor) → r ≡ Some e → PutsNode xs (with_sides depth a w c) (comparison_node depth (cond positive op (opposite_of op)) a.start w.start) ys e → Answer
             compared e q put =
                 let m = left in
                 let n = right in

@@ -48,7 +48,7 @@ abbrev EmptyUpdate : Update → Type 0
 EmptyUpdate u = (u.form ≡ 0) × ((u.table ≡ 0) × (AllOfLen EmptySetting u.settings 8 × ((u.count ≡ 0) × ((u.parameters ≡ 0) × EmptyCondition u.condition))))
 
 -- so it is the empty one
-name-empty : (n : Name) → EmptyName n → n ≡ no_name
+pub name-empty : (n : Name) → EmptyName n → n ≡ no_name
 name-empty n h = λ j. record { bytes = zeros n.bytes 12 h.0 j; len = h.1 j }
 
 pub table-empty : (t : Table) → EmptyTable t → t ≡ no_table
@@ -62,7 +62,7 @@ table-empty t h = λ j. record {
   ring = h.1.1.1.1.1.1 j;
 }
 
-comparison-empty : (c : Comparison) → EmptyComparison c → c ≡ no_comparison
+pub comparison-empty : (c : Comparison) → EmptyComparison c → c ≡ no_comparison
 comparison-empty c h = λ j. record { op = h.0 j; left = h.1.0 j; right = h.1.1.0 j; left_number = h.1.1.1.0 j; right_number = h.1.1.1.1 j }
 
 pub condition-empty : (c : Condition) → EmptyCondition c → c ≡ condition_struct []
@@ -80,7 +80,7 @@ query-empty q h = λ j. record {
   condition = condition-empty q.condition h.1.1.1.1.1.1.1 j;
 }
 
-setting-empty : (s : Setting) → EmptySetting s → s ≡ no_setting
+pub setting-empty : (s : Setting) → EmptySetting s → s ≡ no_setting
 setting-empty s h = λ j. record { column = h.0 j; mark = h.1.0 j; number = h.1.1 j }
 
 pub update-empty : (u : Update) → EmptyUpdate u → u ≡ no_update

@@ -1,15 +1,16 @@
 -- The operators by their numbers: there and back, opposites, and comparisons by the order of their sides. Assumes nothing.
 use mathlib.Core.Path.{◌≡◌, refl, sym, ap, ap₂, ◌∙◌}
-use mathlib.Core.Bool.{Bool, true, false, not, cond, ◌&&◌, ◌||◌, and-false}
+use mathlib.Core.Bool.{Bool, true, false, not, cond, ◌||◌}
 use Prim.Native.Nat.{ℕ, zero, suc, ◌≤◌, ◌<◌}
 use native.Mathlib.Omega.{arith}
 use borrow.Author.Tests.{ne_eqb, lt-ltb, le-ltb, le-leb, lt-leb, ltb-true, ltb-false, eqb-true, eqb-false}
-use lib.Dec.{eqb, ltb, leb}
+use lib.Dec.{eqb, ltb}
 use lib.IntN.{ℤ, pos, negsuc}
 use lib.Signed.{lt_z, le_z}
 use Rattle.lists.specs.Tests.{eq_z}
 use Rattle.lists.proofs.Bools.{clash}
 use Rattle.meaning.specs.Operator.{Operator, eq, ne, lt, le, gt, ge, related, is_null, known, unknown, is_true, Predicate, by, is-null, is-not-null, truth, opposite}
+use Rattle.statement.specs.declared.Order.TheVariants.{Less, Equal, Greater, Unknown}
 use Rattle.statement.specs.Operators.{operator_number, predicate_at, predicate_number, is_null_test, opposite_of, order_of, truth_by}
 
 -- ---- numbers
@@ -48,31 +49,6 @@ predicate-number (suc (suc (suc (suc (suc (suc zero)))))) h = refl
 predicate-number (suc (suc (suc (suc (suc (suc (suc zero))))))) h = refl
 predicate-number (suc (suc (suc (suc (suc (suc (suc (suc k)))))))) h = absurd (omega arith)
 
--- the first six are the operators of two sides
-pub first-six : (k : ℕ) → k < 6 → (o : Operator) × (predicate_at k ≡ by o)
-first-six zero h = (eq, refl)
-first-six (suc zero) h = (ne, refl)
-first-six (suc (suc zero)) h = (lt, refl)
-first-six (suc (suc (suc zero))) h = (le, refl)
-first-six (suc (suc (suc (suc zero)))) h = (gt, refl)
-first-six (suc (suc (suc (suc (suc zero))))) h = (ge, refl)
-first-six (suc (suc (suc (suc (suc (suc k)))))) h = absurd (omega arith)
-
--- and the last two the null tests
-pub null-number : (k : ℕ) → (leb 6 k && ltb k 8) ≡ is_null_test (predicate_at k)
-null-number zero = refl
-null-number (suc zero) = refl
-null-number (suc (suc zero)) = refl
-null-number (suc (suc (suc zero))) = refl
-null-number (suc (suc (suc (suc zero)))) = refl
-null-number (suc (suc (suc (suc (suc zero))))) = refl
-null-number (suc (suc (suc (suc (suc (suc zero)))))) = refl
-null-number (suc (suc (suc (suc (suc (suc (suc zero))))))) = refl
-null-number (suc (suc (suc (suc (suc (suc (suc (suc k)))))))) = past (suc (suc (suc (suc (suc (suc (suc (suc k)))))))) (omega arith)
-  where
-    past : (j : ℕ) → 8 ≤ j → (leb 6 j && ltb j 8) ≡ false
-    past j h = ap (λ (b : Bool). leb 6 j && b) (le-ltb j 8 h) ∙ and-false (leb 6 j)
-
 -- the array of opposites agrees with the table of rule 4
 pub opposite-is : (k : ℕ) → k < 8 → predicate_at (opposite_of k) ≡ opposite (predicate_at k)
 unfolding opposite_of
@@ -85,18 +61,6 @@ opposite-is (suc (suc (suc (suc (suc zero))))) h = refl
 opposite-is (suc (suc (suc (suc (suc (suc zero)))))) h = refl
 opposite-is (suc (suc (suc (suc (suc (suc (suc zero))))))) h = refl
 opposite-is (suc (suc (suc (suc (suc (suc (suc (suc k)))))))) h = absurd (omega arith)
-
-pub opposite-few : (k : ℕ) → k < 8 → opposite_of k < 8
-unfolding opposite_of
-opposite-few zero h = omega arith
-opposite-few (suc zero) h = omega arith
-opposite-few (suc (suc zero)) h = omega arith
-opposite-few (suc (suc (suc zero))) h = omega arith
-opposite-few (suc (suc (suc (suc zero)))) h = omega arith
-opposite-few (suc (suc (suc (suc (suc zero))))) h = omega arith
-opposite-few (suc (suc (suc (suc (suc (suc zero)))))) h = omega arith
-opposite-few (suc (suc (suc (suc (suc (suc (suc zero))))))) h = omega arith
-opposite-few (suc (suc (suc (suc (suc (suc (suc (suc k)))))))) h = absurd (omega arith)
 
 -- ---- what `truth` says of each operator
 
@@ -137,21 +101,12 @@ ordered (negsuc a) (negsuc b) = go (ltb b a) refl (eqb a b) refl
         let d : a ≡ b → ⊥ = eqb-false a b q in
         more p q (lt-leb b a (omega arith)) (lt-ltb a b (omega arith)) (le-leb a b (omega arith))
 
-pub order_small : (a b : ℤ) → order_of a b ≤ 3
-order_small a b = go (is_null a || is_null b) (lt_z a b) (eq_z a b)
-  where
-    go : (n s t : Bool) → cond n 3 (cond s 0 (cond t 1 2)) ≤ 3
-    go true s t = omega arith
-    go false true t = omega arith
-    go false false true = omega arith
-    go false false false = omega arith
-
 -- neither is null: a comparison by an operator is true of two numbers where it is true of their order
-known-order : (o : Operator) (a b : ℤ) → truth_by (by o) (cond (lt_z a b) 0 (cond (eq_z a b) 1 2)) ≡ related o a b
+known-order : (o : Operator) (a b : ℤ) → truth_by (by o) (cond (lt_z a b) Less (cond (eq_z a b) Equal Greater)) ≡ related o a b
 known-order o a b = go (ordered a b)
   where
-    at : (l e : Bool) → lt_z a b ≡ l → eq_z a b ≡ e → truth_by (by o) (cond (lt_z a b) 0 (cond (eq_z a b) 1 2)) ≡ truth_by (by o) (cond l 0 (cond e 1 2))
-    at l e f g = ap₂ (λ (s t : Bool). truth_by (by o) (cond s 0 (cond t 1 2))) f g
+    at : (l e : Bool) → lt_z a b ≡ l → eq_z a b ≡ e → truth_by (by o) (cond (lt_z a b) Less (cond (eq_z a b) Equal Greater)) ≡ truth_by (by o) (cond l Less (cond e Equal Greater))
+    at l e f g = ap₂ (λ (s t : Bool). truth_by (by o) (cond s Less (cond t Equal Greater))) f g
 
     is-less : (o : Operator) → lt_z a b ≡ true → eq_z a b ≡ false → le_z a b ≡ true → lt_z b a ≡ false → le_z b a ≡ false → related o (pos 0) (pos 1) ≡ related o a b
     is-less eq l e m g k = sym e
@@ -177,7 +132,7 @@ known-order o a b = go (ordered a b)
     is-more gt l e m g k = sym g
     is-more ge l e m g k = sym k
 
-    go : Ordered a b → truth_by (by o) (cond (lt_z a b) 0 (cond (eq_z a b) 1 2)) ≡ related o a b
+    go : Ordered a b → truth_by (by o) (cond (lt_z a b) Less (cond (eq_z a b) Equal Greater)) ≡ related o a b
     go (less l e m g k) = at true false l e ∙ is-less o l e m g k
     go (same l e m g k) = at false true l e ∙ is_same o l e m g k
     go (more l e m g k) = at false false l e ∙ is-more o l e m g k
@@ -186,8 +141,8 @@ known-order o a b = go (ordered a b)
 pub by_order : (p : Predicate) → is_null_test p ≡ false → (a b : ℤ) → truth_by p (order_of a b) ≡ truth p a b
 by_order (by o) h a b = go (is_null a || is_null b) (known-order o a b)
   where
-    go : (n : Bool) → truth_by (by o) (cond (lt_z a b) 0 (cond (eq_z a b) 1 2)) ≡ related o a b
-        → truth_by (by o) (cond n 3 (cond (lt_z a b) 0 (cond (eq_z a b) 1 2))) ≡ is_true (cond n unknown (known (related o a b)))
+    go : (n : Bool) → truth_by (by o) (cond (lt_z a b) Less (cond (eq_z a b) Equal Greater)) ≡ related o a b
+        → truth_by (by o) (cond n Unknown (cond (lt_z a b) Less (cond (eq_z a b) Equal Greater))) ≡ is_true (cond n unknown (known (related o a b)))
     go true e = refl
     go false e = e
 by_order is-null h a b = clash refl h
@@ -198,14 +153,14 @@ pub null_order : (p : Predicate) → is_null_test p ≡ true → (a b : ℤ) →
 null_order (by o) h a b = clash h refl
 null_order is-null h a b = go (is_null a) (lt_z a a) (eq_z a a)
   where
-    go : (n s t : Bool) → truth_by is-null (cond (n || n) 3 (cond s 0 (cond t 1 2))) ≡ n
+    go : (n s t : Bool) → truth_by is-null (cond (n || n) Unknown (cond s Less (cond t Equal Greater))) ≡ n
     go true s t = refl
     go false true t = refl
     go false false true = refl
     go false false false = refl
 null_order is-not-null h a b = go (is_null a) (lt_z a a) (eq_z a a)
   where
-    go : (n s t : Bool) → truth_by is-not-null (cond (n || n) 3 (cond s 0 (cond t 1 2))) ≡ not n
+    go : (n s t : Bool) → truth_by is-not-null (cond (n || n) Unknown (cond s Less (cond t Equal Greater))) ≡ not n
     go true s t = refl
     go false true t = refl
     go false false true = refl

@@ -2,21 +2,23 @@
 use mathlib.Core.Path.{◌≡◌, refl, sym, ap, ap₂, ◌∙◌}
 use mathlib.Core.Bool.{Bool, true, false, cond}
 use mathlib.Core.List.{List, [], ◌∷◌, ◌++◌, map, append-nil, append_assoc, reverse, reverse-cons, reverse-reverse}
-use Prim.Native.Nat.{ℕ, zero, suc, ◌+◌, ◌*◌, ◌/◌, ◌%◌, ◌≤◌, ◌<◌}
+use Prim.Native.Nat.{ℕ, zero, suc, ◌+◌, ◌-◌, ◌*◌, ◌/◌, ◌%◌, ◌≤◌, ◌<◌}
 use native.Mathlib.Nat.{zero-add, add-zero}
 use native.Mathlib.Omega.{arith}
 use borrow.Author.Tests.{eq-eqb, ne_eqb}
 use lib.Dec.{eqb}
-use lib.ListN.{length, get_or, replicate, replicate-append-replicate}
+use lib.ListN.{length, drop, replicate, replicate-append-replicate, drop_of_length-le}
 use Rattle.meaning.specs.Condition.{Level, atom, conjunction, disjunction, Tree, Condition, Where, always, under, compare, negate, group, alone, both, single, either}
 use Rattle.meaning.specs.Postfix.{Node, join_all, join_any, nodes, nodes_in, size, outer_marks, outer_marks_in}
-use Rattle.statement.specs.Places.{codes_on, bare_mark, code_marks, bare_marks_on}
+use Rattle.std.specs.Prelude.{Some, None}
+use Rattle.std.specs.List.{slice_get}
+use Rattle.statement.specs.declared.conditions.Node.{Node as Noted}
+use Rattle.statement.specs.Places.{bare_mark, bare_marks_on}
 use Rattle.statement.specs.Reading.{bare_marks}
 use Rattle.statement.specs.Sentences.{bare_marks_in}
 use Rattle.statement.specs.Compiled.{step_of, digit, marks_number}
 use Rattle.statement.specs.Sound.{digits_back}
 use Rattle.statement.specs.Built.{step_in, last_of, outer_by, outer_on}
-use Rattle.statement.proofs.Left.{threes_left, threes-all, threes-cons, threes-none}
 
 -- ---- bare and outer
 
@@ -114,55 +116,47 @@ module _ {O : Type 0} where
 
 -- ---- the loop of `outer_marks`: the nodes left are still to be marked
 
-module _ (n : ℕ) (ps : List ℕ) where
-  abbrev codes_left : ℕ → List ℕ
-  codes_left i = threes_left (λ k a b. k) n i ps
+module _ (ns : List Noted) where
+  abbrev pub Marking : ℕ → ℕ → Type 0
+  Marking marks i = marks_number marks (bare_marks_on (drop i ns)) ≡ marks_number 0 (bare_marks_on ns)
 
-  pub record Marking (marks last i : ℕ) : Type 0 where
-    pub within : i ≤ n
-    pub numbered : marks_number marks (code_marks (codes_left i)) ≡ marks_number 0 (bare_marks_on n ps)
-    pub ended : last_of last (map step_in (codes_left i)) ≡ last_of 0 (map step_in (codes_on n ps))
-
-  pub marking-start : Marking 0 0 0
-  marking-start =
-      let e : codes_left 0 ≡ codes_on n ps = threes-all (λ k a b. k) n ps in
-      record { within = omega arith; numbered = ap (λ (ks : List ℕ). marks_number 0 (code_marks ks)) e; ended = ap (λ (ks : List ℕ). last_of 0 (map step_in ks)) e }
-
-  module _ (marks last i : ℕ) (M : Marking marks last i) (h : i < n) where
-    abbrev code : ℕ
-    code = get_or ps (3 * i) 0
-
-    left_is : codes_left i ≡ code ∷ codes_left (i + 1)
-    left_is = threes-cons (λ k a b. k) n i ps h
-
-    numbered_next : marks_number (marks_number marks (bare_mark code)) (code_marks (codes_left (i + 1))) ≡ marks_number 0 (bare_marks_on n ps)
-    numbered_next =
-        sym (number_append marks (bare_mark code) (code_marks (codes_left (i + 1)))) ∙ ap (λ (ks : List ℕ). marks_number marks (code_marks ks)) (sym left_is) ∙ M.numbered
+  module _ (marks i : ℕ) (x : Noted) (M : Marking marks i) (q : drop i ns ≡ x ∷ drop (i + 1) ns) where
+    pub marking-more : Marking (marks_number marks (bare_mark x)) (i + 1)
+    marking-more = sym (number_append marks (bare_mark x) (bare_marks_on (drop (i + 1) ns))) ∙ ap (λ (ks : List Noted). marks_number marks (bare_marks_on ks)) (sym q) ∙ M
 
     -- there is room for it
-    pub marking-room : length (bare_marks_on n ps) ≤ 8 → marks_number marks (bare_mark code) ≤ 255
-    marking-room few =
-        omega (arith, number_more (marks_number marks (bare_mark code)) (code_marks (codes_left (i + 1))), numbered_next, number_fits (bare_marks_on n ps) few)
+    pub marking-room : length (bare_marks_on ns) ≤ 8 → marks_number marks (bare_mark x) ≤ 255
+    marking-room few = omega (arith, number_more (marks_number marks (bare_mark x)) (bare_marks_on (drop (i + 1) ns)), marking-more, number_fits (bare_marks_on ns) few)
 
-    pub marking-more : (m k : ℕ) → m ≡ marks_number marks (bare_mark code) → k ≡ step_in code → Marking m k (i + 1)
-    marking-more m k em ek =
-        rw (em, ek)
-        (record {
-          within = omega arith;
-          numbered = numbered_next;
-          ended = ap (λ (ks : List ℕ). last_of last (map step_in ks)) (sym left_is) ∙ M.ended;
-        })
+  pub marking-end : (marks i : ℕ) → length ns ≤ i → Marking marks i → marks ≡ marks_number 0 (bare_marks_on ns)
+  marking-end marks i h M = ap (λ (ks : List Noted). marks_number marks (bare_marks_on ks)) (sym (drop_of_length-le ns h)) ∙ M
 
-  module _ (marks last i : ℕ) (M : Marking marks last i) (h : n ≤ i) where
-    none_left : codes_left i ≡ []
-    none_left = threes-none (λ k a b. k) n i ps h
+-- the last node
+pub last-step : (k : ℕ) (ns : List Noted) (x : Noted) → slice_get ns (length ns - 1) ≡ Some x → last_of k (map step_in ns) ≡ step_in x
+last-step k [] x e = cc
+last-step k (y ∷ []) x e = ap step_in (first-is (length (y ∷ []) - 1) (omega arith) e)
+  where
+    first-is : (i : ℕ) → i ≡ 0 → slice_get (y ∷ []) i ≡ Some x → y ≡ x
+    first-is zero q e = cc
+    first-is (suc i) q e = absurd (omega arith)
+last-step k (y ∷ z ∷ ns) x e = last-step (step_in y) (z ∷ ns) x (next (length (y ∷ z ∷ ns) - 1) (omega arith) e)
+  where
+    next : (i : ℕ) → i ≡ suc (length (z ∷ ns) - 1) → slice_get (y ∷ z ∷ ns) i ≡ Some x → slice_get (z ∷ ns) (length (z ∷ ns) - 1) ≡ Some x
+    next i q e = let f : slice_get (y ∷ z ∷ ns) (suc (length (z ∷ ns) - 1)) ≡ Some x = ap (slice_get (y ∷ z ∷ ns)) (sym q) ∙ e in f
 
-    pub marking-end : outer_by last marks ≡ outer_on n ps
-    unfolding outer_on
-    marking-end =
-        ap₂ outer_by
-        (ap (λ (ks : List ℕ). last_of last (map step_in ks)) (sym none_left) ∙ M.ended)
-        (ap (λ (ks : List ℕ). marks_number marks (code_marks ks)) (sym none_left) ∙ M.numbered)
+pub last-none : (ns : List Noted) → slice_get ns (length ns - 1) ≡ None → false ≡ eqb (last_of 0 (map step_in ns)) 2
+last-none [] e = refl
+last-none (y ∷ ns) e = absurd (there (y ∷ ns) (length (y ∷ ns) - 1) (omega arith) e)
+  where
+    there : (xs : List Noted) (i : ℕ) → i < length xs → slice_get xs i ≡ None → ⊥
+    there [] i h e = omega arith
+    there (x ∷ xs) zero h e = cc
+    there (x ∷ xs) (suc i) h e = there xs i (omega arith) e
+
+-- the bare ones, or none of them where OR is the last node
+pub outer-as : (ns : List Noted) (b : Bool) (m : ℕ) → b ≡ eqb (last_of 0 (map step_in ns)) 2 → m ≡ marks_number 0 (bare_marks_on ns) → cond b 0 m ≡ outer_on ns
+unfolding outer_on
+outer-as ns b m e h = ap₂ (λ (x : Bool) (n : ℕ). cond x 0 n) e h
 
 -- ---- the marks read back
 

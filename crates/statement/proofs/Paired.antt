@@ -2,6 +2,7 @@
 use mathlib.Core.Path.{◌≡◌, refl, sym, ap, subst, ◌∙◌}
 use mathlib.Core.Bool.{Bool, true, false, ◌&&◌}
 use mathlib.Core.Option.{Option, none, some}
+use Rattle.std.specs.Prelude.{Option as Maybe}
 use mathlib.Core.List.{List, [], ◌∷◌}
 use Prim.Native.Nat.{ℕ, ◌+◌, ◌-◌, ◌≤◌, ◌<◌}
 use native.Mathlib.Nat.{le_refl}
@@ -21,9 +22,13 @@ use Rattle.token.proofs.Cases.{none_is, past_end}
 use Rattle.token.proofs.Laws.{next-from}
 use Rattle.token.proofs.TokenKinds.{kind-some, kind-fixed}
 use Rattle.statement.specs.declared.conditions.Cursor.{Cursor}
+use Rattle.statement.specs.declared.conditions.Node.{Node}
+use Rattle.statement.specs.declared.sentences.Item.{Item}
 use Rattle.statement.specs.declared.sentences.Entry.{Entry}
-use Rattle.statement.specs.Sentences.{is_from, is_comma, ends_list, is_comma_second, Takes, Entered, Starts, ReadsForm}
+use Rattle.statement.specs.Reading.{Stands}
+use Rattle.statement.specs.Sentences.{is_from, is_comma, ends_list, is_comma_second, Starts, ReadsForm}
 use Rattle.statement.proofs.Steps.{Look, ended, seen, look, goes}
+use Rattle.statement.proofs.SentenceReaders.{reads_as}
 
 -- ---- behind FROM
 
@@ -151,28 +156,19 @@ module _ (s : List ℕ) (at : ℕ) (t : Token) (k : Looks s at t) where
 
 -- ---- SELECT, by what stands behind FROM
 
-module _ (s : List ℕ) (c : Cursor) (d : Cursor) (e : d.at ≡ c.at) (ls ps : List ℕ) (r : Entry) where
-  pub of-pair-form : is_paired (tokens (drop c.at s)) ≡ true → ReadsForm a_pair s d ls ps r → ReadsForm a_select s c ls ps r
-  of-pair-form h f n l =
-      subst (Takes s r.c (Entered s ls ps r))
-      (ap (λ p. a_pair n (tokens (drop p s))) e ∙ sym (ap (λ b. elim b [ true ↦ a_pair n (tokens (drop c.at s)) | false ↦ a_single n (tokens (drop c.at s)) ]) h)) (f n l)
+module _ (s : List ℕ) (c : Cursor) (ls : List Item) (ps : List Node) (r : Maybe Entry) where
+  pub of-pair-form : is_paired (tokens (drop c.at s)) ≡ true → ReadsForm a_pair s c ls ps r → ReadsForm a_select s c ls ps r
+  of-pair-form h f n l = reads_as (ap (λ b. elim b [ true ↦ a_pair n (tokens (drop c.at s)) | false ↦ a_single n (tokens (drop c.at s)) ]) h) (f n l)
 
-  pub of-single-form : is_paired (tokens (drop c.at s)) ≡ false → ReadsForm a_single s d ls ps r → ReadsForm a_select s c ls ps r
-  of-single-form h f n l =
-      subst (Takes s r.c (Entered s ls ps r))
-      (ap (λ p. a_single n (tokens (drop p s))) e ∙ sym (ap (λ b. elim b [ true ↦ a_pair n (tokens (drop c.at s)) | false ↦ a_single n (tokens (drop c.at s)) ]) h)) (f n l)
+  pub of-single-form : is_paired (tokens (drop c.at s)) ≡ false → ReadsForm a_single s c ls ps r → ReadsForm a_select s c ls ps r
+  of-single-form h f n l = reads_as (ap (λ b. elim b [ true ↦ a_pair n (tokens (drop c.at s)) | false ↦ a_single n (tokens (drop c.at s)) ]) h) (f n l)
 
 abbrev pub dotted_from : Cursor → Cursor
-dotted_from c = record { ok = c.ok; over = c.over; dotted = true; nodes = c.nodes; marks = c.marks; at = c.at }
+dotted_from c = record { over = c.over; dotted = true; nodes = c.nodes; marks = c.marks; at = c.at }
 
-pub starts-dotted : (s : List ℕ) (c : Cursor) → Starts s false c → Starts s true (dotted_from c)
-starts-dotted s c st =
-    let a = st.stands in
-    record {
-      ok = st.ok;
-      dotted = refl;
-      stands = record { short = a.short; inside = a.inside; few_nodes = a.few_nodes; few_marks = a.few_marks };
-      over = st.over;
-      nodes = st.nodes;
-      marks = st.marks;
-    }
+pub starts-dotted : (c : Cursor) → Starts false c → Starts true (dotted_from c)
+starts-dotted c st = record { dotted = refl; over = st.over; nodes = st.nodes; marks = st.marks }
+
+-- it stands where that one does
+pub stands-dotted : (s : List ℕ) (c : Cursor) → Stands s c → Stands s (dotted_from c)
+stands-dotted s c st = record { short = st.short; inside = st.inside; few_nodes = st.few_nodes; few_marks = st.few_marks }

@@ -1,8 +1,8 @@
 -- The parts of statements: a number of rows, and the marks, operators and steps of what stands at places. Assumes nothing.
-use mathlib.Core.Path.{◌≡◌, refl, sym, ap, ◌∙◌}
+use mathlib.Core.Path.{◌≡◌, refl, ap, ◌∙◌}
 use mathlib.Core.Bool.{Bool, true, false, ◌||◌}
 use mathlib.Core.List.{List}
-use Prim.Native.Nat.{ℕ, ◌+◌, ◌≤◌, ◌<◌}
+use Prim.Native.Nat.{ℕ, ◌+◌, ◌≤◌}
 use native.Mathlib.Omega.{arith}
 use borrow.Author.Tests.{ltb-false}
 use lib.Dec.{T}
@@ -19,9 +19,8 @@ use Rattle.meaning.specs.Condition.{renamed}
 use Rattle.meaning.specs.Statement.{column, value, constant, parameter, numbered, mark_in_term, operand_of, comparison_of}
 use Rattle.meaning.specs.Resolve.{mark_in_operand}
 use Rattle.statement.specs.declared.Operand.{Operand}
-use Rattle.statement.specs.declared.Value.{Value}
-use Rattle.statement.specs.Sound.{value_read, operand_read}
-use Rattle.statement.proofs.OperatorLaws.{predicate-number}
+use Rattle.statement.specs.Sound.{operand_read}
+use Rattle.statement.specs.Operators.{predicate_at, predicate_number}
 use Rattle.statement.proofs.ByKind.{column-read, parameter-read}
 use Rattle.statement.specs.Places.{Column}
 use Rattle.statement.specs.Compiled.{value_struct, operand_struct, comparison_with, comparison_struct}
@@ -57,9 +56,6 @@ mark-read (value (parameter k)) = omega arith
 pub mark-few : (o : Operand) → mark_in_side o ≤ 1
 mark-few o = mark-read (operand_read o)
 
-pub mark-value-few : (v : Value) → mark_in_value v ≤ 1
-mark-value-few v = mark-read (value (value_read v))
-
 pub mark-one : (v : Given) → mark_in v ≤ 1
 mark-one (G.constant z) = omega arith
 mark-one G.mark = omega arith
@@ -80,12 +76,12 @@ short-mark G.mark = refl
 -- ---- comparisons
 
 -- a comparison of sides made one after the other
-pub comparison-made : (d : Bool) (s : List ℕ) (place : Column d → ℕ) (op left right m n : ℕ) (a b : Operand) → op < 8
+pub comparison-made : (d : Bool) (s : List ℕ) (place : Column d → ℕ) (op left right m n k : ℕ) (a b : Operand) → k ≡ predicate_number (predicate_at op)
     → a ≡ operand_struct (operand_of place m (side_on d s left)) → n ≡ m + mark_in_side a
     → b ≡ operand_struct (operand_of place n (side_on d s right))
-    → comparison_with a op b ≡ comparison_struct (comparison_of place m (renamed (short_term (short_column d)) (comparison_on d s op left right)))
-comparison-made d s place op left right m n a b h ea en eb =
+    → comparison_with a k b ≡ comparison_struct (comparison_of place m (renamed (short_term (short_column d)) (comparison_on d s op left right)))
+comparison-made d s place op left right m n k a b ek ea en eb =
     let t = side_on d s left in
-    let q : n ≡ m + mark_in_term t = en ∙ ap (λ (k : ℕ). m + k) (ap mark_in_side ea ∙ mark-side place m t) in
-    let r : b ≡ operand_struct (operand_of place (m + mark_in_term t) (side_on d s right)) = eb ∙ ap (λ (k : ℕ). operand_struct (operand_of place k (side_on d s right))) q in
-    λ i. comparison_with (ea i) (sym (predicate-number op h) i) (r i)
+    let q : n ≡ m + mark_in_term t = en ∙ ap (λ (j : ℕ). m + j) (ap mark_in_side ea ∙ mark-side place m t) in
+    let r : b ≡ operand_struct (operand_of place (m + mark_in_term t) (side_on d s right)) = eb ∙ ap (λ (j : ℕ). operand_struct (operand_of place j (side_on d s right))) q in
+    λ i. comparison_with (ea i) (ek i) (r i)

@@ -7,7 +7,7 @@ use mathlib.Core.List.{List, [], ◌∷◌, ◌++◌, append-nil, append_assoc}
 use Prim.Native.Nat.{ℕ, zero, suc, ◌+◌, ◌-◌, ◌*◌, ◌≤◌, ◌<◌}
 use native.Mathlib.Nat.{le_refl}
 use native.Mathlib.Omega.{arith}
-use lib.ListN.{length, drop, length-append}
+use lib.ListN.{length, take, drop, length-append}
 use Rattle.lists.proofs.Bools.{or_assoc}
 use Rattle.meaning.specs.Condition.{Level, atom, conjunction, disjunction, mapped, negate, group, alone, both, single, either, comparisons}
 use Rattle.meaning.specs.Postfix.{Node, nodes, join_all, join_any}
@@ -16,59 +16,62 @@ use Rattle.meaning.specs.Tokens.{tokens, keyword, lparen, rparen, NOT, AND, OR}
 use Rattle.meaning.specs.Grammar.{comparison, Reader, then, ◌>>=◌, ◌>>◌, done, fails, passing, expect, a_condition}
 use Rattle.meaning.proofs.Readers.{begins, passing-yes, passing-stops, expect-here}
 use Rattle.meaning.proofs.Decides.{reads-not, reads-open, reads-compare, reads-and, reads-or}
-use Rattle.statement.specs.Places.{and_code, or_code, node_on, nodes_on, codes_on, bare_mark, code_marks, bare_marks_on}
+use Rattle.statement.specs.declared.conditions.Node.{Node as Noted}
+use Rattle.statement.specs.declared.conditions.Node.TheVariants.{And, Or}
+use Rattle.statement.specs.Places.{node_on, nodes_on, bare_mark, bare_marks_on}
 use Rattle.statement.specs.Reading.{moved_to, with_node, PutsNode, Stands, Operand, Written, a_column, condition_past, bare_marks, marks_in, Found, Meets, rank, Compares, Reads, Passed, Passes, Closes}
 use Rattle.statement.specs.declared.conditions.Cursor.{Cursor}
-use Rattle.statement.proofs.Nodes.{marks-put}
+use Rattle.statement.proofs.Nodes.{nodes-put, marks-put}
 use Rattle.statement.proofs.Operands.{marks-of-both}
 use Rattle.statement.proofs.Steps.{Goes}
 
 -- ---- what was found, as another condition
 
-module _ (b : Bool) (s : List ℕ) (positive : Bool) (depth : ℕ) (c : Cursor) (xs : List ℕ) where
+module _ (b : Bool) (s : List ℕ) (positive : Bool) (depth : ℕ) (c : Cursor) (xs : List Noted) where
   -- t and then d were read, with the token between them, and the node that joins them was put: u is what they make
-  module _ {lo hi : Level} (t : Written b lo) (d u : Written b hi) (p : Cursor) (ys : List ℕ) (q : Cursor) (zs : List ℕ) (next : ℕ) (node : ℕ) (join : Node (Operand b))
+  module _ {lo hi : Level} (t : Written b lo) (d u : Written b hi) (p : Cursor) (ys : List Noted) (q : Cursor) (zs : List Noted) (next : ℕ) (node : Noted) (join : Node (Operand b))
       (over-is : condition_past b depth (mapped comparison u) ≡ (condition_past b depth (mapped comparison t) || condition_past b depth (mapped comparison d)))
       (marks-is : marks_in (mapped comparison u) ≡ marks_in (mapped comparison t) + marks_in (mapped comparison d))
       (nodes-is : nodes positive (mapped comparison u) ≡ nodes positive (mapped comparison t) ++ (nodes positive (mapped comparison d) ++ (join ∷ [])))
       (bare_is : bare_marks depth (mapped comparison u) ≡ bare_marks depth (mapped comparison t) ++ bare_marks depth (mapped comparison d))
-      (node_is : node_on b s node 0 0 ≡ join) (unmarked : bare_mark node ≡ []) where
+      (node_is : node_on b s node ≡ join) (unmarked : bare_mark node ≡ []) where
     joined : (more left : List T.Token) → Found b s positive depth c xs p ys t more → p.at < next → Found b s positive depth (moved_to next p) ys q zs d left
-        → (r : Cursor) (ws : List ℕ) → PutsNode zs q node 0 0 ws r → Found b s positive depth c xs r ws u left
+        → (r : Cursor) (ws : List Noted) → PutsNode zs q node ws r → Found b s positive depth c xs r ws u left
     joined more left f on g r ws put = subst (λ z. Found b s positive depth c xs z ws u left) (sym put.counted) here
       where
         many : length (nodes positive (mapped comparison u)) ≡ length (nodes positive (mapped comparison t)) + length (nodes positive (mapped comparison d)) + 1
         many = ap length nodes-is ∙ simp length-append (omega arith)
 
-        regrouped : ((nodes_on b s c.nodes xs ++ nodes positive (mapped comparison t)) ++ nodes positive (mapped comparison d)) ++ (join ∷ [])
-            ≡ nodes_on b s c.nodes xs ++ (nodes positive (mapped comparison t) ++ (nodes positive (mapped comparison d) ++ (join ∷ [])))
+        regrouped : ((nodes_on b s (take c.nodes xs) ++ nodes positive (mapped comparison t)) ++ nodes positive (mapped comparison d)) ++ (join ∷ [])
+            ≡ nodes_on b s (take c.nodes xs) ++ (nodes positive (mapped comparison t) ++ (nodes positive (mapped comparison d) ++ (join ∷ [])))
         regrouped = simp append_assoc
 
         st : Stands s q
         st = g.stands
 
-        notes : q.nodes + 1 ≤ 15 → nodes_on b s (q.nodes + 1) ws ≡ nodes_on b s c.nodes xs ++ nodes positive (mapped comparison u)
+        notes : q.nodes + 1 ≤ 15 → nodes_on b s (take (q.nodes + 1) ws) ≡ nodes_on b s (take c.nodes xs) ++ nodes positive (mapped comparison u)
         notes h =
-            put.noted b s (omega arith)
-            ∙ ap (λ ns. ns ++ (node_on b s node 0 0 ∷ [])) (g.noted (omega arith) ∙ ap (λ ns. ns ++ nodes positive (mapped comparison d)) (f.noted (omega (arith, g.nodes_are))))
-            ∙ ap (λ n. ((nodes_on b s c.nodes xs ++ nodes positive (mapped comparison t)) ++ nodes positive (mapped comparison d)) ++ (n ∷ [])) node_is
+            ap (nodes_on b s) (put.noted (omega arith))
+            ∙ nodes-put (take q.nodes zs) node b s
+            ∙ ap (λ ns. ns ++ (node_on b s node ∷ [])) (g.noted (omega arith) ∙ ap (λ ns. ns ++ nodes positive (mapped comparison d)) (f.noted (omega (arith, g.nodes_are))))
+            ∙ ap (λ n. ((nodes_on b s (take c.nodes xs) ++ nodes positive (mapped comparison t)) ++ nodes positive (mapped comparison d)) ++ (n ∷ [])) node_is
             ∙ regrouped
-            ∙ ap (λ ns. nodes_on b s c.nodes xs ++ ns) (sym nodes-is)
+            ∙ ap (λ ns. nodes_on b s (take c.nodes xs) ++ ns) (sym nodes-is)
 
-        marks : q.nodes + 1 ≤ 15 → bare_marks_on (q.nodes + 1) ws ≡ bare_marks_on c.nodes xs ++ bare_marks depth (mapped comparison u)
+        marks : q.nodes + 1 ≤ 15 → bare_marks_on (take (q.nodes + 1) ws) ≡ bare_marks_on (take c.nodes xs) ++ bare_marks depth (mapped comparison u)
         marks h =
-            ap code_marks (put.coded (omega arith))
-            ∙ marks-put (codes_on q.nodes zs) node [] unmarked
-            ∙ append-nil (bare_marks_on q.nodes zs)
+            ap bare_marks_on (put.noted (omega arith))
+            ∙ marks-put (take q.nodes zs) node
+            ∙ ap (λ bs. bare_marks_on (take q.nodes zs) ++ bs) unmarked
+            ∙ append-nil (bare_marks_on (take q.nodes zs))
             ∙ g.bare (omega arith)
             ∙ ap (λ bs. bs ++ bare_marks depth (mapped comparison d)) (f.bare (omega (arith, g.nodes_are)))
-            ∙ append_assoc (bare_marks_on c.nodes xs) (bare_marks depth (mapped comparison t)) (bare_marks depth (mapped comparison d))
-            ∙ ap (λ bs. bare_marks_on c.nodes xs ++ bs) (sym bare_is)
+            ∙ append_assoc (bare_marks_on (take c.nodes xs)) (bare_marks depth (mapped comparison t)) (bare_marks depth (mapped comparison d))
+            ∙ ap (λ bs. bare_marks_on (take c.nodes xs) ++ bs) (sym bare_is)
 
         here : Found b s positive depth c xs (with_node q) ws u left
         here =
             record {
-              ok = g.ok;
               dotted = g.dotted;
               moved = omega (arith, f.moved, g.moved);
               stands = record { short = st.short; inside = st.inside; few_nodes = omega (arith, g.spread, f.stands.few_nodes); few_marks = st.few_marks };
@@ -91,11 +94,10 @@ Same b p d t q e u =
     × (bare_marks d (mapped comparison t) ≡ bare_marks e (mapped comparison u))
 
 -- what was found under p and d, from a later place on, is found under q and e, from an earlier one on
-found_as : (b : Bool) {lo hi : Level} (s : List ℕ) (p : Bool) (d : ℕ) (q : Bool) (e : ℕ) (c : Cursor) (at : ℕ) (xs : List ℕ) (r : Cursor) (ys : List ℕ)
+found_as : (b : Bool) {lo hi : Level} (s : List ℕ) (p : Bool) (d : ℕ) (q : Bool) (e : ℕ) (c : Cursor) (at : ℕ) (xs : List Noted) (r : Cursor) (ys : List Noted)
     (t : Written b lo) (u : Written b hi) (more : List T.Token) → Same b p d t q e u → c.at ≤ at → Found b s p d (moved_to at c) xs r ys t more → Found b s q e c xs r ys u more
 found_as b s p d q e c at xs r ys t u more same le f =
     record {
-      ok = f.ok;
       dotted = f.dotted;
       moved = omega (arith, f.moved);
       stands = f.stands;
@@ -103,13 +105,13 @@ found_as b s p d q e c at xs r ys t u more same le f =
       over = f.over ∙ ap (λ z. c.over || z) same.0;
       nodes_are = f.nodes_are ∙ ap (λ ns. c.nodes + length ns) same.2;
       marks_are = f.marks_are ∙ ap (λ n. c.marks + n) same.1;
-      noted = λ h. f.noted h ∙ ap (λ ns. nodes_on b s c.nodes xs ++ ns) same.2;
-      bare = λ h. f.bare h ∙ ap (λ bs. bare_marks_on c.nodes xs ++ bs) same.3;
+      noted = λ h. f.noted h ∙ ap (λ ns. nodes_on b s (take c.nodes xs) ++ ns) same.2;
+      bare = λ h. f.bare h ∙ ap (λ bs. bare_marks_on (take c.nodes xs) ++ bs) same.3;
       spread = omega (arith, f.spread);
     }
 
 -- what a reader found moved on, and stands; columns are dotted as before
-found-more : (l : Level) (s : List ℕ) (positive : Bool) (depth : ℕ) (c : Cursor) (xs : List ℕ) (r : Cursor) (ys : List ℕ) → Reads l s positive depth c xs (Some r) ys
+found-more : (l : Level) (s : List ℕ) (positive : Bool) (depth : ℕ) (c : Cursor) (xs : List Noted) (r : Cursor) (ys : List Noted) → Reads l s positive depth c xs (Some r) ys
     → (Stands s r × (c.at < r.at) × (r.nodes + c.at ≤ c.nodes + r.at)) × (r.dotted ≡ c.dotted)
 found-more l s positive depth c xs r ys m = go (a_condition (a_column c.dotted) (3 * (length s - c.at) + rank l) l (tokens (drop c.at s))) (m c.dotted refl _ (le_refl _))
   where
@@ -118,7 +120,7 @@ found-more l s positive depth c xs r ys m = go (a_condition (a_column c.dotted) 
     go none n = absurd n
     go (some x) n = ((n.stands, n.moved, n.spread), n.dotted)
 
-pub found-on : (l : Level) (s : List ℕ) (positive : Bool) (depth : ℕ) (c : Cursor) (xs : List ℕ) (r : Cursor) (ys : List ℕ) → Reads l s positive depth c xs (Some r) ys
+pub found-on : (l : Level) (s : List ℕ) (positive : Bool) (depth : ℕ) (c : Cursor) (xs : List Noted) (r : Cursor) (ys : List Noted) → Reads l s positive depth c xs (Some r) ys
     → Stands s r × (c.at < r.at) × (r.nodes + c.at ≤ c.nodes + r.at)
 found-on l s positive depth c xs r ys m = (found-more l s positive depth c xs r ys m).0
 
@@ -128,7 +130,7 @@ module _ (b : Bool) {lo hi : Level} (k : T.Token) (wrap : Written b lo → Writt
   abbrev rest : Written b lo → Reader (Written b hi)
   rest t = passing k (again >>= λ d. done (join t d)) (done (wrap t))
 
-  module _ (s : List ℕ) (positive : Bool) (depth : ℕ) (c : Cursor) (xs : List ℕ) (ys : List ℕ) where
+  module _ (s : List ℕ) (positive : Bool) (depth : ℕ) (c : Cursor) (xs : List Noted) (ys : List Noted) where
     -- the first failed
     chain-fails : (x : Option (Written b lo × List T.Token)) → Meets b s positive depth c xs None ys x → Meets b s positive depth c xs None ys (then x rest)
     chain-fails none m = tt
@@ -145,7 +147,7 @@ module _ (b : Bool) {lo hi : Level} (k : T.Token) (wrap : Written b lo → Writt
           (found_as b s positive depth positive depth c c.at xs p ys y.0 (wrap y.0) y.1 (w y.0) (le_refl c.at) m)
 
       -- the second is read from `next` on, which leaves q; r is the answer
-      module _ (q : Maybe Cursor) (zs : List ℕ) (next : ℕ) (t : Goes s p.at next k) (r : Maybe Cursor) (ws : List ℕ) where
+      module _ (q : Maybe Cursor) (zs : List Noted) (next : ℕ) (t : Goes s p.at next k) (r : Maybe Cursor) (ws : List Noted) where
         chain-goes : ((x : Written b lo) (more : List T.Token) → Found b s positive depth c xs p ys x more → (o : Option (Written b hi × List T.Token))
             → Meets b s positive depth (moved_to next p) ys q zs o → Meets b s positive depth c xs r ws (then o (λ d. done (join x d))))
             → (x : Option (Written b lo × List T.Token)) → Meets b s positive depth c xs (Some p) ys x
@@ -158,7 +160,7 @@ module _ (b : Bool) {lo hi : Level} (k : T.Token) (wrap : Written b lo → Writt
 
 -- a level that joins conditions of the one below by the token k: how the grammar reads it, and what the joined condition is
 pub record Chain (lo hi : Level) (k : T.Token) (wrap : (b : Bool) → Written b lo → Written b hi) (join : (b : Bool) → Written b lo → Written b hi → Written b hi)
-    (number : Bool → ℕ) (node : (b : Bool) → Bool → Node (Operand b)) : Type 0 where
+    (noted : Bool → Noted) (node : (b : Bool) → Bool → Node (Operand b)) : Type 0 where
   pub unrolls : (b : Bool) (n : ℕ) (ts : List T.Token) → a_condition (a_column b) (suc n) hi ts ≡ then (a_condition (a_column b) n lo ts) (rest b k (wrap b) (join b) (a_condition (a_column b) n hi))
   pub higher : rank hi ≡ suc (rank lo)
   pub same : (b : Bool) (p : Bool) (d : ℕ) (t : Written b lo) → Same b p d t p d (wrap b t)
@@ -169,16 +171,16 @@ pub record Chain (lo hi : Level) (k : T.Token) (wrap : (b : Bool) → Written b 
       → nodes p (mapped comparison (join b t u)) ≡ nodes p (mapped comparison t) ++ (nodes p (mapped comparison u) ++ (node b p ∷ []))
   pub bare_is : (b : Bool) (d : ℕ) (t : Written b lo) (u : Written b hi)
       → bare_marks d (mapped comparison (join b t u)) ≡ bare_marks d (mapped comparison t) ++ bare_marks d (mapped comparison u)
-  pub node_is : (b : Bool) (s : List ℕ) (p : Bool) → node_on b s (number p) 0 0 ≡ node b p
-  pub unmarked : (p : Bool) → bare_mark (number p) ≡ []
+  pub node_is : (b : Bool) (s : List ℕ) (p : Bool) → node_on b s (noted p) ≡ node b p
+  pub unmarked : (p : Bool) → bare_mark (noted p) ≡ []
 
-abbrev pub and_number : Bool → ℕ
-and_number p = cond p and_code or_code
+abbrev pub and_noted : Bool → Noted
+and_noted p = cond p And Or
 
-abbrev pub or_number : Bool → ℕ
-or_number p = cond p or_code and_code
+abbrev pub or_noted : Bool → Noted
+or_noted p = cond p Or And
 
-pub ands : Chain atom conjunction (keyword AND) (λ b. alone) (λ b. both) and_number (λ b. join_all)
+pub ands : Chain atom conjunction (keyword AND) (λ b. alone) (λ b. both) and_noted (λ b. join_all)
 ands =
     record {
       unrolls = λ b. reads-and (a_column b);
@@ -192,15 +194,15 @@ ands =
       unmarked = none;
     }
   where
-    go : (b : Bool) (s : List ℕ) (p : Bool) → node_on b s (and_number p) 0 0 ≡ join_all p
+    go : (b : Bool) (s : List ℕ) (p : Bool) → node_on b s (and_noted p) ≡ join_all p
     go b s true = refl
     go b s false = refl
 
-    none : (p : Bool) → bare_mark (and_number p) ≡ []
+    none : (p : Bool) → bare_mark (and_noted p) ≡ []
     none true = refl
     none false = refl
 
-pub ors : Chain conjunction disjunction (keyword OR) (λ b. single) (λ b. either) or_number (λ b. join_any)
+pub ors : Chain conjunction disjunction (keyword OR) (λ b. single) (λ b. either) or_noted (λ b. join_any)
 ors =
     record {
       unrolls = λ b. reads-or (a_column b);
@@ -214,20 +216,20 @@ ors =
       unmarked = none;
     }
   where
-    go : (b : Bool) (s : List ℕ) (p : Bool) → node_on b s (or_number p) 0 0 ≡ join_any p
+    go : (b : Bool) (s : List ℕ) (p : Bool) → node_on b s (or_noted p) ≡ join_any p
     go b s true = refl
     go b s false = refl
 
-    none : (p : Bool) → bare_mark (or_number p) ≡ []
+    none : (p : Bool) → bare_mark (or_noted p) ≡ []
     none true = refl
     none false = refl
 
 -- ---- the answers of `read_and` and `read_or`: n is at least 1 call, since each asks for calls of its own
 
 module _ {lo hi : Level} {k : T.Token} {wrap : (b : Bool) → Written b lo → Written b hi} {join : (b : Bool) → Written b lo → Written b hi → Written b hi}
-    {number : Bool → ℕ} {node : (b : Bool) → Bool → Node (Operand b)}
-    (𝓒 : Chain lo hi k wrap join number node) (s : List ℕ) (positive : Bool) (depth : ℕ) (c : Cursor) (xs : List ℕ) (ys : List ℕ) where
-  unrolled : (v : Maybe Cursor) (m : Reads lo s positive depth c xs v ys) (r : Maybe Cursor) (ws : List ℕ)
+    {noted : Bool → Noted} {node : (b : Bool) → Bool → Node (Operand b)}
+    (𝓒 : Chain lo hi k wrap join noted node) (s : List ℕ) (positive : Bool) (depth : ℕ) (c : Cursor) (xs : List Noted) (ys : List Noted) where
+  unrolled : (v : Maybe Cursor) (m : Reads lo s positive depth c xs v ys) (r : Maybe Cursor) (ws : List Noted)
       → ((b : Bool) → c.dotted ≡ b → (n : ℕ) → 3 * (length s - c.at) + rank lo ≤ n
       → Meets b s positive depth c xs r ws (then (a_condition (a_column b) n lo (tokens (drop c.at s))) (rest b k (wrap b) (join b) (a_condition (a_column b) n hi))))
       → Reads hi s positive depth c xs r ws
@@ -243,8 +245,8 @@ module _ {lo hi : Level} {k : T.Token} {wrap : (b : Bool) → Written b lo → W
         unrolled (Some p) m (Some p) ys (λ b eb n h.
         chain-stops b k (wrap b) (join b) (a_condition (a_column b) n hi) s positive depth c xs ys p (𝓒.same b positive depth) (a_condition (a_column b) n lo (tokens (drop c.at s))) (m b eb n h) i)
 
-    module _ (next : ℕ) (t : Goes s p.at next k) (q : Maybe Cursor) (zs : List ℕ) (w : Reads hi s positive depth (moved_to next p) ys q zs) where
-      second-goes : (r : Maybe Cursor) (ws : List ℕ)
+    module _ (next : ℕ) (t : Goes s p.at next k) (q : Maybe Cursor) (zs : List Noted) (w : Reads hi s positive depth (moved_to next p) ys q zs) where
+      second-goes : (r : Maybe Cursor) (ws : List Noted)
           → ((b : Bool) (x : Written b lo) (more : List T.Token) → Found b s positive depth c xs p ys x more → (o : Option (Written b hi × List T.Token))
           → Meets b s positive depth (moved_to next p) ys q zs o → Meets b s positive depth c xs r ws (then o (λ d. done (join b x d))))
           → Reads hi s positive depth c xs r ws
@@ -254,7 +256,7 @@ module _ {lo hi : Level} {k : T.Token} {wrap : (b : Bool) → Written b lo → W
           chain-goes b k (wrap b) (join b) (a_condition (a_column b) n hi) s positive depth c xs ys p q zs next t r ws (j b) (a_condition (a_column b) n lo (tokens (drop c.at s))) (m b eb n h)
           (w b (on.1 ∙ eb) n (omega (arith, 𝓒.higher, on.0.1, t.on, t.within))))
 
-    module _ (next : ℕ) (t : Goes s p.at next k) (zs : List ℕ) where
+    module _ (next : ℕ) (t : Goes s p.at next k) (zs : List Noted) where
       pub second-fails : (v : Maybe Cursor) → v ≡ None → Reads hi s positive depth (moved_to next p) ys None zs → Reads hi s positive depth c xs v zs
       second-fails v e w = subst (λ r. Reads hi s positive depth c xs r zs) (sym e) (second-goes next t None zs w None zs go)
         where
@@ -263,7 +265,7 @@ module _ {lo hi : Level} {k : T.Token} {wrap : (b : Bool) → Written b lo → W
           go b x more g none n = tt
           go b x more g (some d) n = absurd n
 
-      pub second-joins : (q : Cursor) → Reads hi s positive depth (moved_to next p) ys (Some q) zs → (r : Cursor) (ws : List ℕ) (i : ℕ) → i ≡ number positive → PutsNode zs q i 0 0 ws r
+      pub second-joins : (q : Cursor) → Reads hi s positive depth (moved_to next p) ys (Some q) zs → (r : Cursor) (ws : List Noted) (n : Noted) → n ≡ noted positive → PutsNode zs q n ws r
           → Reads hi s positive depth c xs (Some r) ws
       second-joins q w r ws i ei put = second-goes next t (Some q) zs w (Some r) ws go
         where
@@ -271,14 +273,14 @@ module _ {lo hi : Level} {k : T.Token} {wrap : (b : Bool) → Written b lo → W
               → Meets b s positive depth (moved_to next p) ys (Some q) zs o → Meets b s positive depth c xs (Some r) ws (then o (λ d. done (join b x d)))
           go b x more g none n = absurd n
           go b x more g (some y) n =
-              joined b s positive depth c xs x y.0 (join b x y.0) p ys q zs next (number positive) (node b positive) (𝓒.over b depth x y.0) (𝓒.marks b x y.0) (𝓒.nodes_are b positive x y.0)
+              joined b s positive depth c xs x y.0 (join b x y.0) p ys q zs next (noted positive) (node b positive) (𝓒.over b depth x y.0) (𝓒.marks b x y.0) (𝓒.nodes_are b positive x y.0)
               (𝓒.bare_is b depth x y.0) (𝓒.node_is b s positive) (𝓒.unmarked positive)
-              more y.1 g t.on n r ws (subst (λ z. PutsNode zs q z 0 0 ws r) ei put)
+              more y.1 g t.on n r ws (subst (λ z. PutsNode zs q z ws r) ei put)
 
 -- ---- the closing parenthesis
 
 -- what was found before it is found behind it
-passed-found : (b : Bool) {l : Level} (s : List ℕ) (positive : Bool) (depth : ℕ) (c : Cursor) (xs : List ℕ) (p : Cursor) (ys : List ℕ)
+passed-found : (b : Bool) {l : Level} (s : List ℕ) (positive : Bool) (depth : ℕ) (c : Cursor) (xs : List Noted) (p : Cursor) (ys : List Noted)
     (t : Written b l) (more : List T.Token) (q : Cursor) (left : List T.Token)
     → Found b s positive depth c xs p ys t more → Passed s p q left → Found b s positive depth c xs q ys t left
 passed-found b s positive depth c xs p ys t more q left f k = subst (λ z. Found b s positive depth c xs z ys t left) (sym k.is) here
@@ -286,7 +288,6 @@ passed-found b s positive depth c xs p ys t more q left f k = subst (λ z. Found
     here : Found b s positive depth c xs (moved_to q.at p) ys t left
     here =
         record {
-          ok = f.ok;
           dotted = f.dotted;
           moved = omega (arith, f.moved, k.moved);
           stands = record { short = f.stands.short; inside = k.inside; few_nodes = omega (arith, f.stands.few_nodes, k.moved); few_marks = omega (arith, f.stands.few_marks, k.moved) };
@@ -310,7 +311,7 @@ closes_here s c next g =
 
 -- ---- the answers of `read_one`
 
-module _ (s : List ℕ) (positive : Bool) (depth : ℕ) (c : Cursor) (xs : List ℕ) (ys : List ℕ) (next : ℕ) where
+module _ (s : List ℕ) (positive : Bool) (depth : ℕ) (c : Cursor) (xs : List Noted) (ys : List Noted) (next : ℕ) where
   pub one-negates : (p : Maybe Cursor) → Goes s c.at next (keyword NOT) → Reads atom s (not positive) (depth + 1) (moved_to next c) xs p ys → Reads atom s positive depth c xs p ys
   one-negates p g m b eb zero h = absurd (omega arith)
   one-negates p g m b eb (suc n) h =
@@ -359,19 +360,8 @@ module _ (s : List ℕ) (positive : Bool) (depth : ℕ) (c : Cursor) (xs : List 
       go none f = absurd f
       go (some y) f = shut y.0 y.1 f q (expect rparen y.1) (subst (λ ts. Passes s p q (expect rparen ts)) f.left k)
 
-pub one-compares : (s : List ℕ) (positive : Bool) (depth : ℕ) (c : Cursor) (xs : List ℕ) (p : Maybe Cursor) (ys : List ℕ)
+pub one-compares : (s : List ℕ) (positive : Bool) (depth : ℕ) (c : Cursor) (xs : List Noted) (p : Maybe Cursor) (ys : List Noted)
     → begins (keyword NOT) (tokens (drop c.at s)) ≡ false → begins lparen (tokens (drop c.at s)) ≡ false
     → Compares s positive depth c xs p ys → Reads atom s positive depth c xs p ys
 one-compares s positive depth c xs p ys i j m b eb zero h = absurd (omega arith)
 one-compares s positive depth c xs p ys i j m b eb (suc n) h = subst (Meets b s positive depth c xs p ys) (sym (reads-compare (a_column b) n (tokens (drop c.at s)) i j)) (m b eb)
-
--- ---- what the calls of the cycle ask
-
-module _ {s : List ℕ} {at next : ℕ} {k : T.Token} (g : Goes s at next k) where
-  -- past a token a reader may go on
-  pub may : (c : Cursor) (depth : ℕ) → c.at ≡ at → Stands s c → depth ≤ at → Stands s (moved_to next c) × (depth < next) × (at < next) × (next ≤ length s)
-  may c depth e st d = omega (arith, g.on, g.within, st.short, st.few_nodes, st.few_marks)
-
--- a node may be counted behind the second condition
-pub may-put : (s : List ℕ) (p : Cursor) (next : ℕ) (q : Cursor) → Stands s p → p.at < next → Stands s q × (next < q.at) × (q.nodes + next ≤ p.nodes + q.at) → q.nodes < 256
-may-put s p next q sp on f = omega (arith, sp.few_nodes, f.0.short, f.0.inside, f.2)

@@ -1,12 +1,12 @@
 -- A sentence from its first word, and to the end of the text. Assumes nothing.
 use mathlib.Core.Path.{◌≡◌, refl, sym, ap, subst, ◌∙◌}
-use mathlib.Core.Bool.{true, false}
+use mathlib.Core.Bool.{false}
 use mathlib.Core.Option.{Option, none, some}
+use Rattle.std.specs.Prelude.{Option as Maybe, Some, None}
 use mathlib.Core.List.{List, [], ◌∷◌}
 use Prim.Native.Nat.{ℕ, ◌+◌, ◌*◌, ◌≤◌}
 use native.Mathlib.Omega.{arith}
 use lib.ListN.{length, drop}
-use Rattle.lists.proofs.Bools.{clash}
 use Rattle.meaning.specs.Tokens.{Token, Keyword, keyword, TABLE, SELECT, INSERT, UPDATE, DELETE, tokens}
 use Rattle.meaning.specs.Grammar.{Sentence, Reader, a_table, a_select, an_insert, an_update, a_delete, a_sentence, passing, fails, whole, read, sentence}
 use Rattle.meaning.proofs.Readers.{some-none, begins, passing-stops}
@@ -16,26 +16,22 @@ use Rattle.token.specs.declared.Kind.TheVariants.{End}
 use Rattle.token.specs.Tokens.{token_at}
 use Rattle.token.proofs.Laws.{token_end, token-ended}
 use Rattle.statement.specs.declared.conditions.Cursor.{Cursor}
+use Rattle.statement.specs.declared.conditions.Node.{Node}
+use Rattle.statement.specs.declared.sentences.Item.{Item}
 use Rattle.statement.specs.declared.sentences.Entry.{Entry}
-use Rattle.statement.specs.Sentences.{Takes, calls, Entered, Noted, Starts, ReadsForm, ReadsAny}
+use Rattle.statement.specs.Reading.{Stands}
+use Rattle.statement.specs.Sentences.{Before, calls, Entered, Noted, ReadsForm, ReadsAny}
 use Rattle.statement.proofs.Steps.{Goes}
+use Rattle.statement.proofs.SentenceReaders.{finds-none, reads_as, found, found-none}
 
 -- ---- the first word
 
 -- nothing is counted behind it
 abbrev pub fresh : ℕ → Cursor
-fresh next = record { ok = true; over = false; dotted = false; nodes = 0; marks = 0; at = next }
+fresh next = record { over = false; dotted = false; nodes = 0; marks = 0; at = next }
 
-pub starts-here : (s : List ℕ) (next : ℕ) → length s ≤ 256 → next ≤ length s → Starts s false (fresh next)
-starts-here s next h l =
-    record {
-      ok = refl;
-      dotted = refl;
-      stands = record { short = h; inside = l; few_nodes = omega arith; few_marks = omega arith };
-      over = refl;
-      nodes = refl;
-      marks = refl;
-    }
+pub stands-here : (s : List ℕ) (next : ℕ) → length s ≤ 256 → next ≤ length s → Stands s (fresh next)
+stands-here s next h l = record { short = h; inside = l; few_nodes = omega arith; few_marks = omega arith }
 
 module _ (n : ℕ) (ts : List Token) where
   pub first-table : a_sentence n (keyword TABLE ∷ ts) ≡ a_table n ts
@@ -58,25 +54,24 @@ module _ (n : ℕ) (ts : List Token) where
   unfolding a_sentence
   first-delete = refl
 
-module _ (s ls ps : List ℕ) (r : Entry) where
+module _ (s : List ℕ) (ls : List Item) (ps : List Node) (r : Maybe Entry) where
   -- a form, behind its word
   pub starts_with : (k : Keyword) (reader : ℕ → Reader Sentence) → ((n : ℕ) (ts : List Token) → a_sentence n (keyword k ∷ ts) ≡ reader n ts)
       → (next : ℕ) → Goes s 0 next (keyword k) → ReadsForm reader s (fresh next) ls ps r → ReadsAny s ls ps r
   starts_with k reader f next g h n l =
-      subst (Takes s r.c (Entered s ls ps r)) (sym (ap (a_sentence n) g.after ∙ f n (tokens (drop next s)))) (h n l)
+      reads_as (ap (a_sentence n) g.after ∙ f n (tokens (drop next s))) (h n l)
 
   -- no form's word
   pub starts-not : begins (keyword TABLE) (tokens s) ≡ false → begins (keyword SELECT) (tokens s) ≡ false → begins (keyword INSERT) (tokens s) ≡ false
-      → begins (keyword UPDATE) (tokens s) ≡ false → begins (keyword DELETE) (tokens s) ≡ false → r.c.ok ≡ false → ReadsAny s ls ps r
+      → begins (keyword UPDATE) (tokens s) ≡ false → begins (keyword DELETE) (tokens s) ≡ false → r ≡ None → ReadsAny s ls ps r
   unfolding a_sentence
   starts-not h₁ h₂ h₃ h₄ h₅ f n l =
-      subst (Takes s r.c (Entered s ls ps r))
-      (sym (
+      finds-none f (
       passing-stops (keyword TABLE) (a_table n) from-select (tokens s) h₁
       ∙ passing-stops (keyword SELECT) (a_select n) from-insert (tokens s) h₂
       ∙ passing-stops (keyword INSERT) (an_insert n) from-update (tokens s) h₃
       ∙ passing-stops (keyword UPDATE) (an_update n) from-delete (tokens s) h₄
-      ∙ passing-stops (keyword DELETE) (a_delete n) fails (tokens s) h₅)) f
+      ∙ passing-stops (keyword DELETE) (a_delete n) fails (tokens s) h₅)
     where
       from-delete : Reader Sentence
       from-delete = passing (keyword DELETE) (a_delete n) fails
@@ -101,51 +96,38 @@ read-with n ts h = go (read ts) (whole (a_sentence n ts)) refl refl
     go none (some x) e f = some-none (sym ((decides ts x).1 ((decides-from n ts x h).0 f)) ∙ e)
     go (some x) q e f = sym f ∙ (decides-from n ts x h).1 ((decides ts x).0 e)
 
-module _ (s ls ps : List ℕ) (e : Entry) (m : ReadsAny s ls ps e) where
+noted-none : (s : List ℕ) (ls : List Item) (ps : List Node) (r : Maybe Entry) (o : Option Sentence) → r ≡ None → o ≡ none → Noted s ls ps r o
+noted-none s ls ps r o e f = rw (e, f) tt
+
+module _ (s : List ℕ) (ls : List Item) (ps : List Node) where
   enough : ℕ
   enough = calls s + 3 * length (tokens s)
 
-  found : Takes s e.c (Entered s ls ps e) (a_sentence enough (tokens s))
+  read-enough : whole (a_sentence enough (tokens s)) ≡ sentence s
   unfolding enough
-  found = m enough (omega arith)
+  read-enough = read-with enough (tokens s) (omega arith)
 
-  pub where-it-stands : e.c.ok ≡ true → e.c.at ≤ length s
-  where-it-stands k = go (a_sentence enough (tokens s)) found
-    where
-      go : (o : Option (Sentence × List Token)) → Takes s e.c (Entered s ls ps e) o → e.c.at ≤ length s
-      go none q = clash k q
-      go (some x) q = q.0.stands.inside
-
-  -- r is noted by what was read and what is left
-  noted-by : (r : Entry) → ((o : Option (Sentence × List Token)) → Takes s e.c (Entered s ls ps e) o → Noted s ls ps r (whole o)) → Noted s ls ps r (sentence s)
+  pub no-sentence : (r : Maybe Entry) → ReadsAny s ls ps None → r ≡ None → Noted s ls ps r (sentence s)
   unfolding enough
-  noted-by r f = subst (Noted s ls ps r) (read-with enough (tokens s) (omega arith)) (f (a_sentence enough (tokens s)) found)
+  no-sentence r m f = noted-none s ls ps r (sentence s) f (sym read-enough ∙ ap whole (found-none (m enough (omega arith))))
 
-  pub no-sentence : e.c.ok ≡ false → Noted s ls ps e (sentence s)
-  no-sentence f = noted-by e go
-    where
-      go : (o : Option (Sentence × List Token)) → Takes s e.c (Entered s ls ps e) o → Noted s ls ps e (whole o)
-      go none q = q
-      go (some x) q = clash q.0.ok f
+  -- a sentence was read, and the token u follows
+  module _ (e : Entry) (m : ReadsAny s ls ps (Some e)) (u : Read) (h : u ≡ token_at s e.c.at) where
+    read-found : (x : Sentence) × (more : List Token) × (a_sentence enough (tokens s) ≡ some (x, more)) × Before s e.c more × Entered s ls ps e x
+    unfolding enough
+    read-found = found (m enough (omega arith))
 
-  module _ (u : Read) (h : u ≡ token_at s e.c.at) where
-    pub more-follows : (r : Entry) → (u.kind ≡ End → ⊥) → r.c.ok ≡ false → Noted s ls ps r (sentence s)
-    more-follows r k f = noted-by r go
+    is_read : whole (some (read-found.0, tokens (drop e.c.at s))) ≡ sentence s
+    is_read = let f = read-found in ap (λ ts. whole (some (f.0, ts))) f.3.left ∙ sym (ap whole f.2) ∙ read-enough
+
+    pub more-follows : (r : Maybe Entry) → (u.kind ≡ End → ⊥) → r ≡ None → Noted s ls ps r (sentence s)
+    more-follows r k f = noted-none s ls ps r (sentence s) f (sym is_read ∙ by (tokens (drop e.c.at s)) refl)
       where
-        go : (o : Option (Sentence × List Token)) → Takes s e.c (Entered s ls ps e) o → Noted s ls ps r (whole o)
-        go none q = f
-        go (some x) q = by x.1 q.0.left
-          where
-            by : (ts : List Token) → tokens (drop e.c.at s) ≡ ts → Noted s ls ps r (whole (some (x.0, ts)))
-            by [] z = absurd (k (ap (λ (v : Read). v.kind) h ∙ token-ended s e.c.at z))
-            by (t ∷ ts) z = f
+        by : (ts : List Token) → tokens (drop e.c.at s) ≡ ts → whole (some (read-found.0, ts)) ≡ none
+        by [] z = absurd (k (ap (λ (v : Read). v.kind) h ∙ token-ended s e.c.at z))
+        by (t ∷ ts) z = refl
 
-    pub all_read : e.c.ok ≡ true → u.kind ≡ End → Noted s ls ps e (sentence s)
-    all_read i k = noted-by e go
-      where
-        nothing : tokens (drop e.c.at s) ≡ []
-        nothing = token_end s e.c.at (sym (ap (λ (v : Read). v.kind) h) ∙ k)
-
-        go : (o : Option (Sentence × List Token)) → Takes s e.c (Entered s ls ps e) o → Noted s ls ps e (whole o)
-        go none q = clash i q
-        go (some x) q = subst (λ ts. Noted s ls ps e (whole (some (x.0, ts)))) (sym nothing ∙ q.0.left) q.1
+    pub all_read : u.kind ≡ End → Noted s ls ps (Some e) (sentence s)
+    all_read k =
+        let nothing : tokens (drop e.c.at s) ≡ [] = token_end s e.c.at (sym (ap (λ (v : Read). v.kind) h) ∙ k) in
+        subst (Noted s ls ps (Some e)) (ap (λ ts. whole (some (read-found.0, ts))) (sym nothing) ∙ is_read) read-found.4

@@ -1,10 +1,10 @@
 -- The readers of one token: a token that its kind tells, a name, a value, ROWS or RING and the constant behind it. Assumes nothing.
 use mathlib.Core.Path.{◌≡◌, refl, sym, ap, ap₂, ◌∙◌}
-use mathlib.Core.Bool.{Bool, true, false, not, cond, ◌&&◌, ◌||◌, or-false}
+use mathlib.Core.Bool.{Bool, true, false, not, cond, ◌&&◌, ◌||◌}
 use mathlib.Core.Option.{Option, none, some}
-use Rattle.std.specs.Prelude.{Some, None}
+use Rattle.std.specs.Prelude.{Option as Maybe, Some, None}
 use mathlib.Core.List.{List, [], ◌∷◌}
-use Prim.Native.Nat.{ℕ, ◌+◌, ◌-◌, ◌≤◌, ◌<◌}
+use Prim.Native.Nat.{ℕ, ◌+◌, ◌-◌, ◌≤◌}
 use native.Mathlib.Nat.{add-zero, le_trans}
 use native.Mathlib.Omega.{arith}
 use borrow.Author.Tests.{leb-true, le-leb}
@@ -15,7 +15,7 @@ use lib.Signed.{lt_z}
 use Rattle.lists.proofs.Bools.{and_right, clash, le_z-not, not-and, not-not}
 use Rattle.meaning.specs.Tokens as T
 use Rattle.meaning.specs.Tokens.{Name, keyword, name, operator, comma, lparen, rparen, dot, other, ROWS, RING, tokens}
-use Rattle.meaning.specs.Grammar.{Given, constant, mark, Reader, then, ◌>>◌, done, fails, expect, a_token, name_of, constant_of, a_name, a_given, a_size_word}
+use Rattle.meaning.specs.Grammar.{Given, constant, mark, Reader, then, ◌>>◌, done, fails, expect, a_token, name_of, constant_of, a_given, a_size_word}
 use Rattle.meaning.specs.Limits.{is_within32, outside32, mark_count}
 use Rattle.meaning.proofs.Readers.{a_token-some, a_token-none, passing-stops, passing-yes, expect-here}
 use Rattle.token.specs.declared.Token.{Token}
@@ -24,15 +24,13 @@ use Rattle.token.specs.declared.Kind.TheVariants.{Name as Named, Constant, Big, 
 use Rattle.token.specs.Tokens.{kind_of, token_at}
 use Rattle.token.proofs.Laws.{Reads, start-next, next-inside}
 use Rattle.token.proofs.TokenKinds.{kind-name}
-use Rattle.statement.proofs.Tells.{Told, told, expected-fixed}
+use Rattle.statement.proofs.Tells.{Told, told, asked_fixed}
 use Rattle.statement.specs.declared.conditions.Cursor.{Cursor}
-use Rattle.statement.specs.declared.sentences.Placed.{Placed}
-use Rattle.statement.specs.declared.sentences.Sized.{Sized}
 use Rattle.statement.specs.Places.{token_on, given_on}
-use Rattle.statement.specs.Reading.{is_expected, Stands, token_past, past, marks_at, moved_to}
-use Rattle.statement.specs.Sentences.{Ready, Before, Counts, Expects, ExpectsToken, is_long_name, Names, Gives, Sizes, ring_in, is_value, outside_rows, rows_past, CountsRows}
-use Rattle.statement.proofs.Steps.{Look, ended, seen, look, stands-there, name_length, Goes, goes, stops}
-use Rattle.statement.proofs.SentenceReaders.{failed-before, finds-none, finds, ready-after, stands-moved}
+use Rattle.statement.specs.Reading.{Stands, token_past, past, marks_at, moved_to}
+use Rattle.statement.specs.Sentences.{Before, Takes, Counts, asked, ExpectsToken, Expects, is_long_name, Names, Gives, Sizes, ring_in, is_value, outside_rows, rows_past, CountsRows}
+use Rattle.statement.proofs.Steps.{Look, ended, seen, look, stands-there, name_length, Goes, goes, stops, stands-past}
+use Rattle.statement.proofs.SentenceReaders.{finds-none, finds, reads_as, counts-moved}
 
 -- ---- what the token u says that was read at a place
 
@@ -155,25 +153,34 @@ is-constant t past h = go (kind_of t) h (told t)
     go Big e r = let q : past ≡ true = cc in (r.0, r.1, q ∙ sym (far r.0 r.2))
     go _ e r = absurd (cc)
 
+-- ---- the token t was passed: nothing else is counted
+
+module _ (s : List ℕ) (c : Cursor) (next : ℕ) (t : T.Token) (st : Stands s c) (g : Goes s c.at next t) where
+  pub passed-before : Before s (moved_to next c) (tokens (drop next s))
+  passed-before = record { stands = stands-past c st g; left = refl }
+
+  passed-counts : Counts c (moved_to next c) false 0
+  passed-counts = counts-moved c next g.on
+
 -- ---- a token that its kind tells
 
-module _ (s : List ℕ) (k : Kind) (c : Cursor) where
-  pub expect-failed : c.ok ≡ false → Expects s k c c
-  expect-failed e t q f = failed-before s (expect t) (λ u. Counts c c false 0) c c e e
+module _ (s : List ℕ) (k : Kind) (c : Cursor) (u : Token) (e : u ≡ token_at s c.at) where
+  pub expect-none : (u.kind ≡ k → ⊥) → Expects s k c None
+  expect-none h = go (asked k) refl
+    where
+      go : (o : Option T.Token) → asked k ≡ o → ExpectsToken s o c None
+      go none q = tt
+      go (some t) q = finds-none refl (passing-stops t (done tt) fails (tokens (drop c.at s)) (stops s c.at u e t (λ z. h (z ∙ (asked_fixed k t q).0))))
 
-  module _ (u : Token) (e : u ≡ token_at s c.at) where
-    pub expect-none : (r : Cursor) → (u.kind ≡ k → ⊥) → r.ok ≡ false → Expects s k c r
-    expect-none r h f t q x =
-        finds-none s (expect t) (λ v. Counts c r false 0) c r
-        (passing-stops t (done tt) fails (tokens (drop c.at s)) (stops s c.at u e t (λ z. h (z ∙ q)))) f
-
-    pub expect-found : c.ok ≡ true → Stands s c → (is_expected k ≡ true → u.kind ≡ k) → Expects s k c (moved_to u.next c)
-    expect-found i st h t q x =
-        let g = goes s c.at u e t (expected-fixed (kind_of t) (ap is_expected q ∙ x)) (h x ∙ sym q) in
-        finds s (expect t) (λ v. Counts c (moved_to u.next c) false 0) c (moved_to u.next c) tt (tokens (drop u.next s)) i
-        (ap (expect t) g.after ∙ expect-here t (tokens (drop u.next s)))
-        (record { ok = i; stands = stands-moved s c u.next st (omega (arith, g.on)) g.within; left = refl })
-        (record { dotted = refl; moved = g.on; over = sym (or-false c.over); marks_are = sym (add-zero c.marks); nodes_are = refl })
+  pub expect-found : Stands s c → ((t : T.Token) → asked k ≡ some t → u.kind ≡ k) → Expects s k c (Some (moved_to u.next c))
+  expect-found st h = go (asked k) refl
+    where
+      go : (o : Option T.Token) → asked k ≡ o → ExpectsToken s o c (Some (moved_to u.next c))
+      go none q = tt
+      go (some t) q =
+          let f = asked_fixed k t q in
+          let g = goes s c.at u e t f.1 (h t q ∙ sym f.0) in
+          finds tt (tokens (drop u.next s)) (ap (expect t) g.after ∙ expect-here t (tokens (drop u.next s))) (passed-before s c u.next t st g) (passed-counts s c u.next t st g)
 
 -- ---- ROWS or RING
 
@@ -181,160 +188,119 @@ module _ (s : List ℕ) (k : Kind) (c : Cursor) where
 ring_word : Reader Bool
 ring_word = expect (keyword RING) >> done true
 
-module _ (s : List ℕ) (c : Cursor) where
-  pub size-failed : (r : Sized) → c.ok ≡ false → r.c.ok ≡ false → Sizes s c r
-  size-failed r e f = failed-before s a_size_word _ c r.c e f
+module _ (s : List ℕ) (c : Cursor) (u : Token) (e : u ≡ token_at s c.at) where
+  no_rows : (u.kind ≡ Rows → ⊥) → a_size_word (tokens (drop c.at s)) ≡ ring_word (tokens (drop c.at s))
+  unfolding ring_word
+  no_rows h = passing-stops (keyword ROWS) (done false) ring_word (tokens (drop c.at s)) (stops s c.at u e (keyword ROWS) h)
 
-  module _ (u : Token) (e : u ≡ token_at s c.at) where
-    no_rows : (u.kind ≡ Rows → ⊥) → a_size_word (tokens (drop c.at s)) ≡ ring_word (tokens (drop c.at s))
+  no-ring : (u.kind ≡ Ring → ⊥) → ring_word (tokens (drop c.at s)) ≡ none
+  unfolding ring_word
+  no-ring h = ap (λ o. then o (λ x. done true)) (passing-stops (keyword RING) (done tt) fails (tokens (drop c.at s)) (stops s c.at u e (keyword RING) h))
+
+  pub size_none : (r : Maybe (Cursor × Bool)) → ring_in u.kind ≡ None → r ≡ None → Sizes s c r
+  size_none r h f =
+      let not_rows : u.kind ≡ Rows → ⊥ = λ q. let e = ap ring_in q in cc in
+      let not_ring : u.kind ≡ Ring → ⊥ = λ q. let e = ap ring_in q in cc in
+      finds-none f (no_rows not_rows ∙ no-ring not_ring)
+
+  module _ (st : Stands s c) where
+    -- the word w, which says b
+    sized : (w : T.Token) (b ring : Bool) → ring ≡ b → Goes s c.at u.next w → a_size_word (tokens (drop c.at s)) ≡ some (b, tokens (drop u.next s))
+        → Sizes s c (Some (moved_to u.next c, ring))
+    sized w b ring p g q =
+        finds b (tokens (drop u.next s)) q (passed-before s c u.next w st g) (passed-counts s c u.next w st g, p)
+
+    pub size-found : (b : Bool) → ring_in u.kind ≡ Some b → Sizes s c (Some (moved_to u.next c, b))
     unfolding ring_word
-    no_rows h = passing-stops (keyword ROWS) (done false) ring_word (tokens (drop c.at s)) (stops s c.at u e (keyword ROWS) h)
-
-    no-ring : (u.kind ≡ Ring → ⊥) → ring_word (tokens (drop c.at s)) ≡ none
-    unfolding ring_word
-    no-ring h = ap (λ o. then o (λ x. done true)) (passing-stops (keyword RING) (done tt) fails (tokens (drop c.at s)) (stops s c.at u e (keyword RING) h))
-
-    pub size_none : (r : Sized) → ring_in u.kind ≡ None → r.c.ok ≡ false → Sizes s c r
-    size_none r h f =
-        let not_rows : u.kind ≡ Rows → ⊥ = λ q. let e = ap ring_in q in cc in
-        let not_ring : u.kind ≡ Ring → ⊥ = λ q. let e = ap ring_in q in cc in
-        finds-none s a_size_word _ c r.c (no_rows not_rows ∙ no-ring not_ring) f
-
-    module _ (k : c.ok ≡ true) (st : Stands s c) where
-      -- the word w, which says b
-      sized : (w : T.Token) (b ring : Bool) → ring ≡ b → Goes s c.at u.next w → a_size_word (tokens (drop c.at s)) ≡ some (b, tokens (drop u.next s))
-          → Sizes s c (record { c = moved_to u.next c; ring = ring })
-      sized w b ring p g q =
-          finds s a_size_word _ c (moved_to u.next c) b (tokens (drop u.next s)) k q
-          (record { ok = k; stands = stands-moved s c u.next st (omega (arith, g.on)) g.within; left = refl })
-          (record { dotted = refl; moved = g.on; over = sym (or-false c.over); marks_are = sym (add-zero c.marks); nodes_are = refl }, p)
-
-      pub size-found : (b : Bool) → ring_in u.kind ≡ Some b → Sizes s c (record { c = moved_to u.next c; ring = b })
-      unfolding ring_word
-      size-found b h = go u.kind refl h
-        where
-          go : (k : Kind) → u.kind ≡ k → ring_in k ≡ Some b → Sizes s c (record { c = moved_to u.next c; ring = b })
-          go Rows i h =
-              let g : Goes s c.at u.next (keyword ROWS) = goes s c.at u e (keyword ROWS) refl i in
-              sized (keyword ROWS) false b (cc) g
-              (ap a_size_word g.after ∙ passing-yes (keyword ROWS) (done false) ring_word (tokens (drop u.next s)))
-          go Ring i h =
-              let g : Goes s c.at u.next (keyword RING) = goes s c.at u e (keyword RING) refl i in
-              let not_rows : u.kind ≡ Rows → ⊥ = λ q. cc in
-              sized (keyword RING) true b (cc) g
-              (no_rows not_rows ∙ ap ring_word g.after ∙ ap (λ o. then o (λ x. done true)) (expect-here (keyword RING) (tokens (drop u.next s))))
-          go _ i h = absurd (cc)
+    size-found b h = go u.kind refl h
+      where
+        go : (k : Kind) → u.kind ≡ k → ring_in k ≡ Some b → Sizes s c (Some (moved_to u.next c, b))
+        go Rows i h =
+            let g : Goes s c.at u.next (keyword ROWS) = goes s c.at u e (keyword ROWS) refl i in
+            sized (keyword ROWS) false b (cc) g
+            (ap a_size_word g.after ∙ passing-yes (keyword ROWS) (done false) ring_word (tokens (drop u.next s)))
+        go Ring i h =
+            let g : Goes s c.at u.next (keyword RING) = goes s c.at u e (keyword RING) refl i in
+            let not_rows : u.kind ≡ Rows → ⊥ = λ q. cc in
+            sized (keyword RING) true b (cc) g
+            (no_rows not_rows ∙ ap ring_word g.after ∙ ap (λ o. then o (λ x. done true)) (expect-here (keyword RING) (tokens (drop u.next s))))
+        go _ i h = absurd (cc)
 
 -- ---- a name, a value, the constant of ROWS or RING
 
--- behind the token u, with b passed and m question marks more
+-- behind the token u, with b passed and m question marks
 abbrev pub stepped : Cursor → Token → Bool → ℕ → Cursor
-stepped c u b m = record { ok = c.ok; over = c.over || b; dotted = c.dotted; nodes = c.nodes; marks = m; at = u.next }
+stepped c u b m = record { over = c.over || b; dotted = c.dotted; nodes = c.nodes; marks = m; at = u.next }
 
-module _ (s : List ℕ) (c : Cursor) (u : Token) (k : c.ok ≡ true) (st : Stands s c) (v : Reads s c.at u) where
-  on : c.at < u.next
-  on = omega (arith, v.from, v.moves)
+-- a token was read that the grammar's reader takes for x
+module _ {A : Type 0} (f : T.Token → Option A) (s : List ℕ) (c : Cursor) (u : Token) (st : Stands s c) (v : Reads s c.at u) (b : Bool) (m k : ℕ) (q : m ≡ c.marks + k) (l : k ≤ 1) where
+  one-counts : (p : Bool) → b ≡ p → Counts c (stepped c u b m) p k
+  one-counts p e = record { dotted = refl; moved = omega (arith, v.from, v.moves); over = ap (λ z. c.over || z) e; marks_are = q; nodes_are = refl }
 
-  stepped-before : (b : Bool) (m : ℕ) → m ≤ u.next → Before s (stepped c u b m) (tokens (drop u.next s))
-  stepped-before b m l =
-      let a = st.few_nodes in
-      let d = on in
-      record { ok = k; stands = record { short = st.short; inside = v.inside; few_nodes = omega arith; few_marks = l }; left = refl }
+  one-found : {Q : Cursor × ℕ → A → Type 0} (x : A) → f v.token ≡ some x → Q (stepped c u b m, u.start) x
+      → Takes s (λ (d : Cursor × ℕ). d.0) Q (Some (stepped c u b m, u.start)) (a_token f (tokens (drop c.at s)))
+  one-found x e h =
+      let few = st.few_nodes in
+      let less = st.few_marks in
+      let from = v.from in
+      let moves = v.moves in
+      finds x (tokens (drop u.next s)) (token-found f s c.at u v x e)
+      (record { stands = record { short = st.short; inside = v.inside; few_nodes = omega arith; few_marks = omega arith }; left = refl }) h
 
-module _ (s : List ℕ) (c : Cursor) where
-  pub name-failed : (r : Placed) → c.ok ≡ false → r.c.ok ≡ false → Names s c r
-  name-failed r e f = failed-before s a_name _ c r.c e f
+module _ (s : List ℕ) (c : Cursor) (u : Token) (e : u ≡ token_at s c.at) where
+  pub name-none : (u.kind ≡ Named → ⊥) → Names s c None
+  name-none h = finds-none refl (token-none name_of s c.at u (look s c.at u e) (λ t q. no_name_lem t (λ z. h (sym q ∙ z))))
 
-  pub value-failed : (r : Placed) → c.ok ≡ false → r.c.ok ≡ false → Gives s c r
-  value-failed r e f = failed-before s a_given _ c r.c e f
+  pub value_none : is_value u.kind ≡ false → Gives s c None
+  value_none h =
+      finds-none refl
+      (given-reader (tokens (drop c.at s)) ∙ token-none given_of s c.at u (look s c.at u e) (λ t q. no-given t (ap is_value q ∙ h)))
 
-  pub rows-failed : (r : Placed) → c.ok ≡ false → r.c.ok ≡ false → CountsRows s c r
-  rows-failed r e f = failed-before s (a_token constant_of) _ c r.c e f
+  pub rows_none : (r : Maybe (Cursor × ℕ)) → rows_past u.kind ≡ None → r ≡ None → CountsRows s c r
+  rows_none r h f =
+      finds-none f
+      (token-none constant_of s c.at u (look s c.at u e) (λ t q. no_constant t (ap rows_past q ∙ h)))
 
-  module _ (u : Token) (e : u ≡ token_at s c.at) where
-    pub name-none : (r : Placed) → (u.kind ≡ Named → ⊥) → r.c.ok ≡ false → Names s c r
-    name-none r h f = finds-none s a_name _ c r.c (token-none name_of s c.at u (look s c.at u e) (λ t q. no_name_lem t (λ z. h (sym q ∙ z)))) f
+  module _ (st : Stands s c) where
+    long : (n : Name) → u.kind ≡ Named → u.next - u.start ≡ length n → past u ≡ is_long_name n
+    unfolding token_past
+    long n h l = rw (h, l)
 
-    pub value_none : (r : Placed) → is_value u.kind ≡ false → r.c.ok ≡ false → Gives s c r
-    value_none r h f =
-        finds-none s a_given _ c r.c
-        (given-reader (tokens (drop c.at s)) ∙ token-none given_of s c.at u (look s c.at u e) (λ t q. no-given t (ap is_value q ∙ h))) f
+    pub name-found : u.kind ≡ Named → Names s c (Some (stepped c u (past u) c.marks, u.start))
+    name-found h = go (look s c.at u e)
+      where
+        go : Look s c.at u → Names s c (Some (stepped c u (past u) c.marks, u.start))
+        go (ended z q) = absurd (cc)
+        go (seen v) =
+            let i = kind-name v.token (v.kind ∙ h) in
+            let z : c.marks ≡ c.marks + 0 = sym (add-zero c.marks) in
+            one-found name_of s c u st v (past u) c.marks 0 z (omega arith) i.0 (ap name_of i.1)
+            (one-counts name_of s c u st v (past u) c.marks 0 z (omega arith) (is_long_name i.0) (long i.0 h (name_length v i.0 i.1)), rw (stands-there v ∙ i.1))
 
-    pub rows_none : (r : Placed) → rows_past u.kind ≡ None → r.c.ok ≡ false → CountsRows s c r
-    rows_none r h f =
-        finds-none s (a_token constant_of) _ c r.c
-        (token-none constant_of s c.at u (look s c.at u e) (λ t q. no_constant t (ap rows_past q ∙ h))) f
+    pub value_found : is_value u.kind ≡ true → Gives s c (Some (stepped c u (past u) (c.marks + marks_at u.kind), u.start))
+    value_found h = go (look s c.at u e)
+      where
+        go : Look s c.at u → Gives s c (Some (stepped c u (past u) (c.marks + marks_at u.kind), u.start))
+        go (ended z q) = let x = ap is_value z in absurd (cc)
+        go (seen v) =
+            let i = is-given v.token (ap is_value v.kind ∙ h) in
+            let w = i.1 in
+            let m : marks_at u.kind ≡ mark_count (i.0 ∷ []) = ap marks_at (sym v.kind) ∙ w.marks in
+            let q : c.marks + marks_at u.kind ≡ c.marks + mark_count (i.0 ∷ []) = ap (λ n. c.marks + n) m in
+            let l : mark_count (i.0 ∷ []) ≤ 1 = omega (arith, few_marks u.kind, m) in
+            reads_as (given-reader (tokens (drop c.at s)))
+            (one-found given_of s c u st v (past u) (c.marks + marks_at u.kind) (mark_count (i.0 ∷ [])) q l i.0 w.is (
+              one-counts given_of s c u st v (past u) (c.marks + marks_at u.kind) (mark_count (i.0 ∷ [])) q l (outside32 i.0) (ap (λ n. token_past n u.start u.next) (sym v.kind) ∙ w.over u.start u.next),
+              w.here s u.start (stands-there v),
+            ))
 
-    module _ (k : c.ok ≡ true) (st : Stands s c) where
-      long : (n : Name) → u.kind ≡ Named → u.next - u.start ≡ length n → past u ≡ is_long_name n
-      unfolding token_past
-      long n h l = rw (h, l)
-
-      pub name-found : u.kind ≡ Named → Names s c (record { c = stepped c u (past u) c.marks; place = u.start })
-      name-found h = go (look s c.at u e)
-        where
-          go : Look s c.at u → Names s c (record { c = stepped c u (past u) c.marks; place = u.start })
-          go (ended z q) = absurd (cc)
-          go (seen v) =
-              let i = kind-name v.token (v.kind ∙ h) in
-              let n = i.0 in
-              finds s a_name _ c (stepped c u (past u) c.marks) n (tokens (drop u.next s)) k (token-found name_of s c.at u v n (ap name_of i.1))
-              (stepped-before s c u k st v (past u) c.marks (omega (arith, st.few_marks, on s c u k st v))) (
-                record {
-                  dotted = refl;
-                  moved = on s c u k st v;
-                  over = ap (λ b. c.over || b) (long n h (name_length v n i.1));
-                  marks_are = sym (add-zero c.marks);
-                  nodes_are = refl;
-                },
-                rw (stands-there v ∙ i.1),
-              )
-
-      pub value_found : is_value u.kind ≡ true → Gives s c (record { c = stepped c u (past u) (c.marks + marks_at u.kind); place = u.start })
-      value_found h = go (look s c.at u e)
-        where
-          go : Look s c.at u → Gives s c (record { c = stepped c u (past u) (c.marks + marks_at u.kind); place = u.start })
-          go (ended z q) = let x = ap is_value z in absurd (cc)
-          go (seen v) =
-              let i = is-given v.token (ap is_value v.kind ∙ h) in
-              let g = i.0 in
-              let w = i.1 in
-              finds s a_given _ c (stepped c u (past u) (c.marks + marks_at u.kind)) g (tokens (drop u.next s)) k
-              (given-reader (tokens (drop c.at s)) ∙ token-found given_of s c.at u v g w.is)
-              (stepped-before s c u k st v (past u) (c.marks + marks_at u.kind) (omega (arith, st.few_marks, on s c u k st v, few_marks u.kind))) (
-                record {
-                  dotted = refl;
-                  moved = on s c u k st v;
-                  over = ap (λ b. c.over || b) (ap (λ n. token_past n u.start u.next) (sym v.kind) ∙ w.over u.start u.next);
-                  marks_are = ap (λ m. c.marks + m) (ap marks_at (sym v.kind) ∙ w.marks);
-                  nodes_are = refl;
-                },
-                w.here s u.start (stands-there v),
-              )
-
-      pub rows-found : (b : Bool) → rows_past u.kind ≡ Some b → CountsRows s c (record { c = stepped c u b c.marks; place = u.start })
-      rows-found b h = go (look s c.at u e)
-        where
-          go : Look s c.at u → CountsRows s c (record { c = stepped c u b c.marks; place = u.start })
-          go (ended z q) = let x = ap rows_past z in absurd (cc)
-          go (seen v) =
-              let i = is-constant v.token b (ap rows_past v.kind ∙ h) in
-              let z = i.0 in
-              finds s (a_token constant_of) _ c (stepped c u b c.marks) z (tokens (drop u.next s)) k
-              (token-found constant_of s c.at u v z (ap constant_of i.1))
-              (stepped-before s c u k st v b c.marks (omega (arith, st.few_marks, on s c u k st v))) (
-                record { dotted = refl; moved = on s c u k st v; over = ap (λ a. c.over || a) i.2; marks_are = sym (add-zero c.marks); nodes_are = refl },
-                stands-there v ∙ i.1,
-              )
-
--- ---- the next reader may be called
-
-module _ (s : List ℕ) (h : length s ≤ 256) (c : Cursor) where
-  pub ready-expect : (t : T.Token) (r : Cursor) → ExpectsToken s t c r → Ready s r
-  ready-expect t r a = ready-after s (expect t) _ c r h a
-
-  pub ready-size : (r : Sized) → Sizes s c r → Ready s r.c
-  ready-size r a = ready-after s a_size_word _ c r.c h a
-
-  pub ready-name : (r : Placed) → Names s c r → Ready s r.c
-  ready-name r a = ready-after s a_name _ c r.c h a
+    pub rows-found : (b : Bool) → rows_past u.kind ≡ Some b → CountsRows s c (Some (stepped c u b c.marks, u.start))
+    rows-found b h = go (look s c.at u e)
+      where
+        go : Look s c.at u → CountsRows s c (Some (stepped c u b c.marks, u.start))
+        go (ended z q) = let x = ap rows_past z in absurd (cc)
+        go (seen v) =
+            let i = is-constant v.token b (ap rows_past v.kind ∙ h) in
+            let z : c.marks ≡ c.marks + 0 = sym (add-zero c.marks) in
+            one-found constant_of s c u st v b c.marks 0 z (omega arith) i.0 (ap constant_of i.1)
+            (one-counts constant_of s c u st v b c.marks 0 z (omega arith) (outside_rows i.0) i.2, stands-there v ∙ i.1)

@@ -1,8 +1,8 @@
 -- A call that is not taken, by its refusal. Assumes nothing.
-use Rattle.std.proofs.Common.{◌≡◌, ◌∙◌, refl, ap, ℕ, Option, Some, None, Result, Ok, Err, ok_or}
+use Rattle.std.proofs.Common.{◌≡◌, ◌∙◌, refl, ap, Option as Maybe, Some, None, Result, Ok, Err, ok_or}
 use Rattle.std.specs.Result.{IsErrAnd}
 use Rattle.statement.specs.declared.Refusal.{Refusal}
-use Rattle.statement.specs.declared.Refusal.TheVariants.{Opening, Unknown}
+use Rattle.statement.specs.declared.Refusal.TheVariants.{Opening}
 use Rattle.statement.specs.declared.Statement.{Statement}
 use Rattle.statement.specs.Refusals.{number_of}
 use Rattle.statement.specs.Compiled.{Compiled, compiled, refused_by, settled}
@@ -16,8 +16,8 @@ pub refused-is : (x : Result Statement Refusal) (r : Refusal) (done : Compiled) 
 refused-is (Ok s) r done h = absurd h
 refused-is (Err y) r done h = ap (λ (z : Refusal). refused_by (number_of z)) h ∙ settled-by r done
 
--- that of a table which is not there
-pub unknown-is : (o : Option ℕ) (x : Result Statement Refusal) (r : Refusal) → Err r ≡ ok_or o Unknown → IsErrAnd x (λ (y : Refusal). y ≡ r) → (o ≡ None) × (compiled x ≡ refused_by 6)
-unknown-is (Some i) x r e h = absurd (cc)
-unknown-is None (Ok s) r e h = absurd h
-unknown-is None (Err y) r e h = let k : r ≡ Unknown = cc in (refl, ap (λ (z : Refusal). refused_by (number_of z)) (h ∙ k))
+-- that of what is not there, by the refusal k
+pub none-is : {A : Type 0} (k : Refusal) (o : Maybe A) (x : Result Statement Refusal) (r : Refusal) → Err r ≡ ok_or o k → IsErrAnd x (λ (y : Refusal). y ≡ r) → (o ≡ None) × (compiled x ≡ refused_by (number_of k))
+none-is k (Some i) x r e h = absurd (cc)
+none-is k None (Ok s) r e h = absurd h
+none-is k None (Err y) r e h = let q : r ≡ k = cc in (refl, ap (λ (z : Refusal). refused_by (number_of z)) (h ∙ q))

@@ -27,7 +27,7 @@ use Rattle.statement.specs.Catalog.{name_of_struct, schema_of}
 use Rattle.statement.specs.Sound.{used_columns, sound_name, sound_table, Passes, AgreesTable, FromTable, TableFits, NameFits, TableStructFits}
 use Rattle.statement.specs.declared.Name.{Name}
 use Rattle.statement.specs.declared.Table.{Table}
-use Rattle.statement.proofs.Stored.{all-of, all_map}
+use Rattle.statement.proofs.Stored.{all_both, all-of, all_map}
 use Rattle.statement.proofs.SoundNames.{or-none, listed, Limits, limits-kept, limits_of}
 
 -- ---- the test and its parts
@@ -197,12 +197,6 @@ rows-between : (z : ℤ) → le_z (pos 1) z ≡ true → le_z z (pos most_rows) 
 rows-between (pos n) h k = (leb-true 1 n h, leb-true n most_rows k)
 rows-between (negsuc n) h k = clash h refl
 
-all_two : {A : Type 0} (p q : A → Bool) (l : List A) → all p l ≡ true → all q l ≡ true → all (λ (x : A). p x && q x) l ≡ true
-all_two p q [] h k = refl
-all_two p q (x ∷ l) h k =
-    and_both (p x && q x) _ (and_both (p x) (q x) (and_left (p x) _ h) (and_left (q x) _ k))
-    (all_two p q l (and_right (p x) _ h) (and_right (q x) _ k))
-
 few_bytes : (ns : List T.Name) → any (λ (n : T.Name). ltb most_name (length n)) ns ≡ false → all (λ (k : ℕ). leb k most_name) (map length ns) ≡ true
 few_bytes [] h = refl
 few_bytes (n ∷ ns) h =
@@ -230,7 +224,7 @@ module _ (others : List Schema) (t : Table) where
         name_sound = and_both (leb t.name.len most_name) _ (le-leb t.name.len most_name (omega (arith, A.name_length)))
             (ap is_name A.name_is ∙ and_left (is_name n) _ named);
         columns_sound =
-            all_two (λ (m : Name). leb m.len most_name) (λ (m : Name). is_name (name_of_struct m)) (used_columns t)
+            all_both (λ (m : Name). leb m.len most_name) (λ (m : Name). is_name (name_of_struct m)) (used_columns t)
             (sym (all_map (λ (m : Name). m.len) (λ (k : ℕ). leb k most_name) (used_columns t)) ∙ ap (all (λ (k : ℕ). leb k most_name)) A.column_lengths
             ∙ few_bytes ns (or_right (ltb most_name (length n)) _ long))
             (sym (all_map name_of_struct is_name (used_columns t)) ∙ ap (all is_name) A.columns_are ∙ and_right (is_name n) _ named);

@@ -524,8 +524,3 @@ module _ (ts : List Schema) (u : Update) where
 -- an update passes the test exactly if it is the compiled form of a sentence that passes
 pub update_sound : (ts : List Schema) → TablesFit ts → (u : Update) → UpdateFits u → (sound_update ts u ≡ true) ↔ FromUpdate ts u
 update_sound ts T u F = ((λ h. update-from ts T u F (update-parts ts u h)), source-update ts u)
-
--- ---- what an INSERT that agrees gives
-
-pub agrees-values : (u : Update) (t n : ℕ) (vs : List M.Value) → AgreesUpdate u (record { table = t; change = insert vs; parameters = n }) → setting_values u ≡ vs
-agrees-values u t n vs A = ap (map (λ (s : ℕ × M.Value). s.1)) A.settings_are ∙ placed-values 0 vs

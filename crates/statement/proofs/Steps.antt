@@ -15,7 +15,9 @@ use Rattle.token.specs.Tokens.{kind_of, token_of, token_at}
 use Rattle.token.proofs.Cases.{none_is, some_is}
 use Rattle.token.proofs.Laws.{Reads, token_end, token-some}
 use Rattle.token.proofs.TokenKinds.{is_fixed, kind-some, kind-fixed}
+use Rattle.statement.specs.declared.conditions.Cursor.{Cursor}
 use Rattle.statement.specs.Places.{first, token_on}
+use Rattle.statement.specs.Reading.{Stands, moved_to}
 
 -- no token is left, or one stands first
 pub data Look (s : List ℕ) (at : ℕ) (u : Token) : Type 0 where
@@ -51,6 +53,11 @@ pub record Goes (s : List ℕ) (at next : ℕ) (t : T.Token) : Type 0 where
   pub on : at < next
   pub within : next ≤ length s
   pub after : tokens (drop at s) ≡ t ∷ tokens (drop next s)
+
+-- behind it a cursor stands that stood before it
+pub stands-past : {s : List ℕ} {next : ℕ} {t : T.Token} (c : Cursor) → Stands s c → Goes s c.at next t → Stands s (moved_to next c)
+stands-past c st g =
+    record { short = st.short; inside = g.within; few_nodes = omega (arith, st.few_nodes, g.on); few_marks = omega (arith, st.few_marks, g.on) }
 
 module _ (s : List ℕ) (at : ℕ) (u : Token) (e : u ≡ token_at s at) (t : T.Token) where
   pub goes : is_fixed (kind_of t) ≡ true → u.kind ≡ kind_of t → Goes s at u.next t

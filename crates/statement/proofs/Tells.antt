@@ -1,6 +1,7 @@
 -- What a token's kind says of it, by cases on the kind: a name, a constant, a question mark, one of the six operators. Assumes nothing.
-use mathlib.Core.Path.{◌≡◌, refl}
+use mathlib.Core.Path.{◌≡◌, refl, sym}
 use mathlib.Core.Bool.{true, false}
+use mathlib.Core.Option.{some}
 use lib.IntN.{ℤ}
 use Rattle.meaning.specs.Operator.{eq, ne, lt, le, gt, ge}
 use Rattle.meaning.specs.Tokens as T
@@ -11,7 +12,8 @@ use Rattle.token.specs.declared.Kind.TheVariants.{Name, Constant, Big, Mark, Com
 use Rattle.token.specs.contracts.KindPartialEq.TheImpl.{ghosts}
 use Rattle.token.specs.Tokens.{kind_of}
 use Rattle.lists.proofs.Bools.{clash}
-use Rattle.statement.specs.Reading.{is_expected}
+use Rattle.meaning.proofs.Readers.{some-none}
+use Rattle.statement.specs.Sentences.{asked}
 use Rattle.token.proofs.TokenKinds.{is_fixed, kind-name, kind-within, kind-big, kind-fixed}
 
 abbrev pub Told : T.Token → Kind → Type 0
@@ -44,16 +46,16 @@ told t = go (kind_of t) refl
     go _ e = tt
 
 -- the tokens that a form asks for hold nothing
-pub expected-fixed : (k : Kind) → is_expected k ≡ true → is_fixed k ≡ true
-expected-fixed Comma e = refl
-expected-fixed Open e = refl
-expected-fixed Close e = refl
-expected-fixed Eq e = refl
-expected-fixed From e = refl
-expected-fixed Into e = refl
-expected-fixed Values e = refl
-expected-fixed Set e = refl
-expected-fixed _ e = clash e refl
+pub asked_fixed : (k : Kind) (t : T.Token) → asked k ≡ some t → (kind_of t ≡ k) × (is_fixed (kind_of t) ≡ true)
+asked_fixed Comma t e = (cc, cc)
+asked_fixed Open t e = (cc, cc)
+asked_fixed Close t e = (cc, cc)
+asked_fixed Eq t e = (cc, cc)
+asked_fixed From t e = (cc, cc)
+asked_fixed Into t e = (cc, cc)
+asked_fixed Values t e = (cc, cc)
+asked_fixed Set t e = (cc, cc)
+asked_fixed _ t e = some-none (sym e)
 
 -- where `==` says so of one of them, it is that one
 is-Comma : (a : Kind) → ghosts.eq a Comma ≡ true → a ≡ Comma
@@ -88,13 +90,13 @@ is-Set : (a : Kind) → ghosts.eq a Set ≡ true → a ≡ Set
 is-Set Set e = refl
 is-Set _ e = clash e refl
 
-pub expected-same : (a k : Kind) → is_expected k ≡ true → ghosts.eq a k ≡ true → a ≡ k
-expected-same a Comma f e = is-Comma a e
-expected-same a Open f e = is-Open a e
-expected-same a Close f e = is-Close a e
-expected-same a Eq f e = is-Eq a e
-expected-same a From f e = is-From a e
-expected-same a Into f e = is-Into a e
-expected-same a Values f e = is-Values a e
-expected-same a Set f e = is-Set a e
-expected-same a _ f e = clash f refl
+pub asked-same : (a k : Kind) (t : T.Token) → asked k ≡ some t → ghosts.eq a k ≡ true → a ≡ k
+asked-same a Comma t f e = is-Comma a e
+asked-same a Open t f e = is-Open a e
+asked-same a Close t f e = is-Close a e
+asked-same a Eq t f e = is-Eq a e
+asked-same a From t f e = is-From a e
+asked-same a Into t f e = is-Into a e
+asked-same a Values t f e = is-Values a e
+asked-same a Set t f e = is-Set a e
+asked-same a _ t f e = some-none (sym f)

@@ -1,17 +1,16 @@
 -- Values, operands and names as they are made of the token at a place. Assumes nothing.
 use mathlib.Core.Path.{◌≡◌, refl, sym, ap, ap₂, ◌∙◌}
 use mathlib.Core.Logic.{◌≢◌}
-use mathlib.Core.Bool.{true, false}
 use mathlib.Core.Option.{Option, none, some}
 use Rattle.std.specs.Prelude.{Some, None}
-use mathlib.Core.List.{List, ◌∷◌}
-use Prim.Native.Nat.{ℕ, ◌+◌, ◌*◌, ◌-◌, ◌≤◌, ◌<◌, min}
+use mathlib.Core.List.{List}
+use Prim.Native.Nat.{ℕ, ◌+◌, ◌*◌, ◌-◌, ◌≤◌, min}
 use native.Mathlib.Decide.{dec_le}
 use native.Mathlib.Omega.{arith}
 use native.Mathlib.Numerals.{add-one}
 use lib.IntN.{ℤ, pos}
-use lib.ListN.{length, get_or, replicate, take, drop, length-take, length-drop}
-use lib.Seq.{take-append_seam, take-take, take_all, get_or-drop}
+use lib.ListN.{length, replicate, take, drop, length-map, length-take, length-drop}
+use lib.Seq.{take-append_seam, take-take, take_all}
 use Rattle.lists.proofs.Lists.{map-take}
 use Rattle.meaning.specs.Tokens.{folded_byte, folded}
 use Rattle.meaning.specs.Grammar as G
@@ -30,7 +29,6 @@ use Rattle.statement.specs.Compiled.{padded, name_struct, no_name, value_struct,
 use Rattle.statement.specs.Built.{dotted, place_in, place_named, short_name, short_given, short_column, short_term, side_on, constant_in, rows_as, rows_on}
 use Rattle.statement.specs.declared.names.Scope.{Scope}
 use Rattle.statement.specs.declared.names.Scope.TheVariants.{One, Two}
-use Rattle.statement.proofs.Walks.{rest, length-first, map-rest}
 use Rattle.statement.proofs.Standing.{named-there, unnamed-there, given-there, mark-there, rows_there}
 
 -- a name's struct read back
@@ -120,7 +118,7 @@ module _ (s : List ℕ) (p : ℕ) (r : Token) (e : r ≡ token_at s p) where
 -- ---- the bytes of a name, at most twelve
 
 pub part_length : (s : List ℕ) (start n k : ℕ) → n ≡ min k 12 → start + k ≤ length s → length (folded (take n (drop start s))) ≡ n
-part_length s start n k e h = length-first folded_byte n (drop start s) (omega (arith, length-drop start s))
+part_length s start n k e h = omega (arith, length-map (take n (drop start s)) folded_byte, length-take n (drop start s), length-drop start s)
 
 take_short : (k n : ℕ) (l : List ℕ) → n ≡ min k 12 → take n l ≡ short_name (take k l)
 take_short k n l e = go (dec_le k 12)
@@ -135,11 +133,6 @@ take_short k n l e = go (dec_le k 12)
 
 pub folded-short : (k n : ℕ) (l : List ℕ) → n ≡ min k 12 → folded (take n l) ≡ short_name (folded (take k l))
 folded-short k n l e = ap folded (take_short k n l e) ∙ map-take folded_byte 12 (take k l)
-
-pub rest-byte : (s : List ℕ) (start n i b : ℕ) → start + n ≤ length s → i < n → b ≡ folded_byte (get_or s (start + i) 0)
-    → folded (rest n i (drop start s)) ≡ b ∷ folded (rest n (i + 1) (drop start s))
-rest-byte s start n i b h k e =
-    map-rest folded_byte n i (drop start s) 0 b (omega (arith, length-drop start s)) k (e ∙ ap folded_byte (sym (get_or-drop start s i 0)))
 
 pub name-of : (bytes : List ℕ) (n : ℕ) (x : List ℕ) → bytes ≡ padded 12 0 x → n ≡ length x → record { bytes = bytes; len = n } ≡ name_struct x
 name-of bytes n x e h i = record { bytes = e i; len = h i }

@@ -1,5 +1,5 @@
 -- What the functions that put statements together make of noted places. Assumes nothing: these are definitions.
-use Rattle.std.specs.Prelude.{◌≡◌, Bool, true, false, not, ◌&&◌, ◌||◌, cond, List, [], ◌∷◌, map, ℕ, suc, ◌+◌, ◌-◌, ◌*◌, ◌≤◌, eqb, ltb, leb, ℤ, pos, nat_abs, length, get_or, take, Option as Maybe, Some, None}
+use Rattle.std.specs.Prelude.{Bool, true, false, not, ◌&&◌, ◌||◌, cond, List, [], ◌∷◌, map, ℕ, suc, ◌+◌, ◌-◌, ◌*◌, ◌≤◌, eqb, ltb, leb, ℤ, pos, nat_abs, length, take, Option as Maybe, Some, None}
 use Rattle.std.specs.Int.Signed.{lt_z}
 use Rattle.lists.specs.Lists.{all, repeats, from}
 use Rattle.meaning.specs.Condition as C
@@ -7,7 +7,7 @@ use Rattle.meaning.specs.Condition.{renamed}
 use Rattle.meaning.specs.Postfix.{Node, leaf, all_of, any_of, leaves}
 use Rattle.meaning.specs.Grammar.{Given, constant, mark, Term, column, given, Dotted}
 use Rattle.meaning.specs.Limits.{most_items, most_marks, most_comparisons, is_within32, mark_in, mark_count}
-use Rattle.meaning.specs.Names.{Schema, no_schema, same_name, has, position, table_names, pair_place}
+use Rattle.meaning.specs.Names.{Schema, same_name, has, position, table_names, columns_of, pair_place}
 use Rattle.meaning.specs.Statement.{numbered, value}
 use Rattle.meaning.specs.Resolve.{resolve_nodes, mark_in_operand, is_below}
 use Rattle.meaning.specs.Cells.{areas_size}
@@ -16,10 +16,10 @@ use Rattle.token.specs.declared.Kind.{Kind}
 use Rattle.token.specs.declared.Kind.TheVariants.{Constant, Big}
 use Rattle.token.specs.Tokens.{kind_of}
 use Rattle.statement.specs.Operators.{predicate_at}
-use Rattle.statement.specs.Places.{token_on, name_on, Column, column_on, term_on, and_code, nodes_on, codes_on, bare_marks_on}
-use Rattle.statement.specs.Sentences.{items_on, givens_on}
+use Rattle.statement.specs.Places.{token_on, name_on, Column, column_on, term_on, nodes_on, bare_marks_on}
+use Rattle.statement.specs.Sentences.{givens_on}
 use Rattle.statement.specs.Catalog.{name_of_struct, column_names}
-use Rattle.statement.specs.Compiled.{padded, table_struct, value_struct, left_side, right_side, setting_with, no_setting, step_of, condition_struct, marks_number, created, asked, changing, refused_by, settled}
+use Rattle.statement.specs.Compiled.{padded, table_struct, value_struct, left_side, right_side, setting_with, no_setting, condition_struct, marks_number, created, asked, changing, refused_by, settled}
 use Rattle.statement.specs.Sound.{value_read, operand_read}
 use Rattle.statement.specs.declared.Operand.{Operand}
 use Rattle.statement.specs.declared.Comparison.{Comparison}
@@ -27,6 +27,9 @@ use Rattle.statement.specs.declared.Condition.{Condition}
 use Rattle.statement.specs.declared.Value.{Value}
 use Rattle.statement.specs.declared.Setting.{Setting}
 use Rattle.statement.specs.Compiled.{Compiled}
+use Rattle.statement.specs.declared.conditions.Node.{Node as Noted}
+use Rattle.statement.specs.declared.conditions.Node.TheVariants as N
+use Rattle.statement.specs.declared.sentences.Item.{Item}
 use Rattle.statement.specs.declared.names.Scope.{Scope}
 use Rattle.statement.specs.declared.names.Scope.TheVariants.{One, Two}
 use Rattle.statement.specs.declared.sentences.Form.{Form}
@@ -112,12 +115,12 @@ module _ {C : Type 0} (short : C → C) where
 abbrev pub side_on : (b : Bool) → List ℕ → ℕ → Term (Column b)
 side_on b s p = short_term (short_column b) (term_on b s p)
 
-abbrev pub kept_on : (b : Bool) → List ℕ → ℕ → List ℕ → List (Node (Term (Column b)))
-kept_on b s n ps = short_nodes (short_column b) (nodes_on b s n ps)
+abbrev pub kept_on : (b : Bool) → List ℕ → List Noted → List (Node (Term (Column b)))
+kept_on b s ps = short_nodes (short_column b) (nodes_on b s ps)
 
--- the columns of the first n items of a list
-abbrev pub columns_on : (b : Bool) → List ℕ → ℕ → List ℕ → List (Column b)
-columns_on b s n ls = map (short_column b) (items_on (λ p q. column_on b s p) n ls)
+-- the columns of the items of a list
+abbrev pub columns_on : (b : Bool) → List ℕ → List Item → List (Column b)
+columns_on b s ls = map (short_column b) (map (λ i. column_on b s i.name) ls)
 
 -- ---- tokens
 
@@ -160,12 +163,10 @@ mark_in_side o = mark_in_operand (operand_read o)
 abbrev pub comparison_on : (d : Bool) → List ℕ → ℕ → ℕ → ℕ → C.Comparison (Term (Column d))
 comparison_on d s k a b = record { left = term_on d s a; op = predicate_at k; right = term_on d s b }
 
-abbrev pub step_in : ℕ → ℕ
-step_in k = cond (ltb k 16) 0 (cond (eqb k and_code) 1 2)
-
--- the steps of the nodes that are noted, in a text or another, with bare columns or dotted
-abbrev pub StepsAre : ℕ → List ℕ → List ℕ → Type 0
-StepsAre n places r = (b : Bool) (s : List ℕ) → r ≡ padded 15 0 (map step_of (nodes_on b s n places))
+abbrev pub step_in : Noted → ℕ
+step_in (N.Comparison op bare a b) = 0
+step_in N.And = 1
+step_in N.Or = 2
 
 -- A.6: the marks of the outer comparisons as a number: those that are bare, but none if the last node is OR
 abbrev pub last_of : ℕ → List ℕ → ℕ
@@ -175,13 +176,13 @@ last_of k (x ∷ xs) = last_of x xs
 abbrev pub outer_by : ℕ → ℕ → ℕ
 outer_by last marks = cond (eqb last 2) 0 marks
 
-unfoldable pub outer_on : ℕ → List ℕ → ℕ
-outer_on n places = outer_by (last_of 0 (map step_in (codes_on n places))) (marks_number 0 (bare_marks_on n places))
+unfoldable pub outer_on : List Noted → ℕ
+outer_on nodes = outer_by (last_of 0 (map step_in nodes)) (marks_number 0 (bare_marks_on nodes))
 
 -- of a question over two tables; over one it is 0
-abbrev pub outer_in : Bool → ℕ → List ℕ → ℕ
-outer_in false n places = 0
-outer_in true n places = outer_on n places
+abbrev pub outer_in : Bool → List Noted → ℕ
+outer_in false nodes = 0
+outer_in true nodes = outer_on nodes
 
 -- columns below a limit
 abbrev pub operand_below : ℕ → Operand → Bool
@@ -196,135 +197,126 @@ condition_below n c = all (sides_below n) (take c.count c.comparisons)
 abbrev pub places_below : ℕ → List ℕ → Bool
 places_below n at = all (λ (i : ℕ). ltb i n) at
 
--- ---- the five forms, of a sentence as it was read
+-- ---- the six forms, of a sentence as it was read
 
 -- what was noted is within the limits
-pub record Fits (s ps : List ℕ) (e : Entry) : Type 0 where
-  pub listed : e.listed ≤ most_items
+pub record Fits (s : List ℕ) (ls : List Item) (ps : List Noted) (e : Entry) : Type 0 where
+  pub listed : length ls ≤ most_items
   pub marks : e.c.marks ≤ most_marks
-  pub nodes : e.c.nodes ≤ 15
-  pub comparisons : (b : Bool) → length (leaves (nodes_on b s e.c.nodes ps)) ≤ most_comparisons
+  pub nodes : length ps ≤ 15
+  pub comparisons : (b : Bool) → length (leaves (nodes_on b s ps)) ≤ most_comparisons
 
--- the columns of its list, and its condition where m marks stand before it
-abbrev pub listed_on : (b : Bool) → List ℕ → List ℕ → Entry → List (Column b)
-listed_on b s ls e = columns_on b s e.listed ls
-
-abbrev pub condition_on : (b : Bool) → (Column b → ℕ) → List ℕ → List ℕ → Entry → ℕ → Condition
-condition_on b place s ps e m = condition_struct (resolve_nodes place m (kept_on b s e.c.nodes ps))
+-- its condition where m marks stand before it
+abbrev pub condition_on : (b : Bool) → (Column b → ℕ) → List ℕ → List Noted → ℕ → Condition
+condition_on b place s ps m = condition_struct (resolve_nodes place m (kept_on b s ps))
 
 -- places or columns of its condition that are not there
 abbrev pub unknown_on : ℕ → List ℕ → Condition → Bool
 unknown_on width at condition = not (places_below width at && condition_below width condition)
 
-abbrev pub schema_on : List ℕ → List ℕ → Entry → Schema
-schema_on s ls e = record { name = short_name (name_on s e.table); columns = listed_on false s ls e; capacity = rows_on s e.rows; ring = e.ring }
+-- a TABLE by the places of its name and of the constant of its ROWS or RING
+abbrev pub schema_on : List ℕ → List Item → ℕ → ℕ → Bool → Schema
+schema_on s ls table rows ring = record { name = short_name (name_on s table); columns = columns_on false s ls; capacity = rows_on s rows; ring = ring }
 
 -- beside the tables ts
-unfoldable pub table_on : List ℕ → List ℕ → Entry → List Schema → ℕ → Compiled
-table_on s ls e ts cells =
+unfoldable pub table_on : List ℕ → List Item → ℕ → ℕ → Bool → List Schema → ℕ → Compiled
+table_on s ls table rows ring ts cells =
     settled
     (lowest_by false
-    (has (table_names ts) (short_name (name_on s e.table)) || repeats same_name (listed_on false s ls e))
+    (has (table_names ts) (short_name (name_on s table)) || repeats same_name (columns_on false s ls))
     false
     false
-    (leb 8 (length ts) || ltb (cells - areas_size ts) (e.listed * rows_on s e.rows)))
-    (created (table_struct (schema_on s ls e)))
+    (leb 8 (length ts) || ltb (cells - areas_size ts) (length ls * rows_on s rows)))
+    (created (table_struct (schema_on s ls table rows ring)))
 
 -- of the table of number i, and of a second one by its code, whose columns start there; `place` is where a column stands among so many
-unfoldable pub select_on : (b : Bool) → (Column b → ℕ) → ℕ → List ℕ → List ℕ → List ℕ → Entry → ℕ → ℕ → ℕ → Bool → ℕ → Compiled
+unfoldable pub select_on : (b : Bool) → (Column b → ℕ) → ℕ → List ℕ → List Item → List Noted → Entry → ℕ → ℕ → ℕ → Bool → ℕ → Compiled
 select_on b place width s ls ps e i second start twice queries =
-    settled (lowest_by (unknown_on width (map place (listed_on b s ls e)) (condition_on b place s ps e 0)) false false twice (leb 16 queries))
+    settled (lowest_by (unknown_on width (map place (columns_on b s ls)) (condition_on b place s ps 0)) false false twice (leb 16 queries))
     (asked (record {
       table = i;
-      selected = padded 8 0 (map place (listed_on b s ls e));
-      count = e.listed;
+      selected = padded 8 0 (map place (columns_on b s ls));
+      count = length ls;
       parameters = e.c.marks;
       second = second;
       start = start;
-      outer = outer_in b e.c.nodes ps;
-      condition = condition_on b place s ps e 0;
+      outer = outer_in b ps;
+      condition = condition_on b place s ps 0;
     }))
 
 -- of one table, which has these columns
-unfoldable pub insert_on : List ℕ → List ℕ → Entry → List (List ℕ) → ℕ → ℕ → Compiled
+unfoldable pub insert_on : List ℕ → List Item → Entry → List (List ℕ) → ℕ → ℕ → Compiled
 insert_on s ls e columns i updates =
-    settled (lowest_by false false (not (eqb e.listed (length columns))) false (leb 16 updates))
+    settled (lowest_by false false (not (eqb (length ls) (length columns))) false (leb 16 updates))
     (changing (record {
       form = 0;
       table = i;
-      settings = (settings_on (take e.listed (from 0 8)) (givens_on s e.listed ls)).all;
-      count = e.listed;
+      settings = (settings_on (take (length ls) (from 0 8)) (givens_on s ls)).all;
+      count = length ls;
       parameters = e.c.marks;
       condition = condition_struct [];
     }))
 
 -- the settings of an UPDATE
-abbrev pub sets_on : List ℕ → List ℕ → Entry → List (List ℕ) → Settings
-sets_on s ls e columns = settings_on (places_of columns (listed_on false s ls e)) (givens_on s e.listed ls)
+abbrev pub sets_on : List ℕ → List Item → List (List ℕ) → Settings
+sets_on s ls columns = settings_on (places_of columns (columns_on false s ls)) (givens_on s ls)
 
-unfoldable pub update_on : List ℕ → List ℕ → List ℕ → Entry → List (List ℕ) → ℕ → ℕ → Compiled
+unfoldable pub update_on : List ℕ → List Item → List Noted → Entry → List (List ℕ) → ℕ → ℕ → Compiled
 update_on s ls ps e columns i updates =
     settled
-    (lowest_by (unknown_on (length columns) (places_of columns (listed_on false s ls e)) (condition_on false (position columns) s ps e (sets_on s ls e columns).marks))
-    (repeats same_name (listed_on false s ls e)) false false (leb 16 updates))
+    (lowest_by (unknown_on (length columns) (places_of columns (columns_on false s ls)) (condition_on false (position columns) s ps (sets_on s ls columns).marks))
+    (repeats same_name (columns_on false s ls)) false false (leb 16 updates))
     (changing (record {
       form = 1;
       table = i;
-      settings = (sets_on s ls e columns).all;
-      count = e.listed;
+      settings = (sets_on s ls columns).all;
+      count = length ls;
       parameters = e.c.marks;
-      condition = condition_on false (position columns) s ps e (sets_on s ls e columns).marks;
+      condition = condition_on false (position columns) s ps (sets_on s ls columns).marks;
     }))
 
-unfoldable pub delete_on : List ℕ → List ℕ → Entry → List (List ℕ) → ℕ → ℕ → Compiled
+unfoldable pub delete_on : List ℕ → List Noted → Entry → List (List ℕ) → ℕ → ℕ → Compiled
 delete_on s ps e columns i updates =
-    settled (lowest_by (unknown_on (length columns) [] (condition_on false (position columns) s ps e 0)) false false false (leb 16 updates))
+    settled (lowest_by (unknown_on (length columns) [] (condition_on false (position columns) s ps 0)) false false false (leb 16 updates))
     (changing (record {
       form = 2;
       table = i;
       settings = padded 8 no_setting [];
       count = 0;
       parameters = e.c.marks;
-      condition = condition_on false (position columns) s ps e 0;
+      condition = condition_on false (position columns) s ps 0;
     }))
 
 -- a question of one table or an update, by its form
-abbrev pub form_as : Form → List ℕ → List ℕ → List ℕ → Entry → List (List ℕ) → ℕ → ℕ → ℕ → Compiled
+abbrev pub form_as : Form → List ℕ → List Item → List Noted → Entry → List (List ℕ) → ℕ → ℕ → ℕ → Compiled
 form_as Select s ls ps e columns i queries updates = select_on false (position columns) (length columns) s ls ps e i 0 0 false queries
 form_as Insert s ls ps e columns i queries updates = insert_on s ls e columns i updates
 form_as Update s ls ps e columns i queries updates = update_on s ls ps e columns i updates
 form_as _ s ls ps e columns i queries updates = delete_on s ps e columns i updates
 
-abbrev pub form_on : List ℕ → List ℕ → List ℕ → Entry → List (List ℕ) → ℕ → ℕ → ℕ → Compiled
+abbrev pub form_on : List ℕ → List Item → List Noted → Entry → List (List ℕ) → ℕ → ℕ → ℕ → Compiled
 form_on s ls ps e columns i queries updates = form_as e.form s ls ps e columns i queries updates
 
 -- the number of the table that the text names at a place
 abbrev pub number_on : List ℕ → ℕ → List Schema → ℕ
 number_on s p ts = position (table_names ts) (short_name (name_on s p))
 
-abbrev pub columns_at : List Schema → ℕ → List (List ℕ)
-columns_at ts i = (get_or ts i no_schema).columns
-
--- a question of table i, which the text names t, and of the one that it names second
-abbrev pub pair_with : List ℕ → List (List ℕ) → List ℕ → List (List ℕ) → List ℕ → List ℕ → List ℕ → Entry → ℕ → ℕ → ℕ → Compiled
+-- a question of table i, which the text names t, and of the one that it names at the place `second`
+abbrev pub pair_with : List ℕ → List (List ℕ) → List ℕ → List (List ℕ) → List ℕ → List Item → List Noted → Entry → ℕ → ℕ → ℕ → Compiled
 pair_with t cs u ds s ls ps e i j queries =
     select_on true (pair_place t cs u ds) (length cs + length ds) s ls ps e i (suc j) (length cs) (same_name t u) queries
 
-abbrev pub pair_on : List ℕ → List (List ℕ) → List ℕ → List ℕ → List ℕ → Entry → List Schema → ℕ → ℕ → Compiled
-pair_on t cs s ls ps e ts i queries =
-    cond (ltb (number_on s e.second ts) (length ts))
-    (pair_with t cs (short_name (name_on s e.second)) (columns_at ts (number_on s e.second ts)) s ls ps e i (number_on s e.second ts) queries)
+abbrev pub pair_on : List ℕ → List (List ℕ) → ℕ → List ℕ → List Item → List Noted → Entry → List Schema → ℕ → ℕ → Compiled
+pair_on t cs second s ls ps e ts i queries =
+    cond (ltb (number_on s second ts) (length ts))
+    (pair_with t cs (short_name (name_on s second)) (columns_of ts (short_name (name_on s second))) s ls ps e i (number_on s second ts) queries)
     (refused_by 6)
 
-abbrev pub is_pair : Form → Bool
-is_pair Pair = true
-is_pair _ = false
+-- of the table of ts that is named t
+abbrev pub beside_as : Form → List ℕ → List ℕ → List Item → List Noted → Entry → List Schema → ℕ → ℕ → Compiled
+beside_as (Pair second) t s ls ps e ts queries updates = pair_on t (columns_of ts t) second s ls ps e ts (position (table_names ts) t) queries
+beside_as f t s ls ps e ts queries updates = form_as f s ls ps e (columns_of ts t) (position (table_names ts) t) queries updates
 
--- of a table of ts
-abbrev pub beside_on : List ℕ → List ℕ → List ℕ → Entry → List Schema → ℕ → ℕ → Compiled
+abbrev pub beside_on : List ℕ → List Item → List Noted → Entry → List Schema → ℕ → ℕ → Compiled
 beside_on s ls ps e ts queries updates =
-    cond (ltb (number_on s e.table ts) (length ts))
-    (cond (is_pair e.form)
-    (pair_on (short_name (name_on s e.table)) (columns_at ts (number_on s e.table ts)) s ls ps e ts (number_on s e.table ts) queries)
-    (form_on s ls ps e (columns_at ts (number_on s e.table ts)) (number_on s e.table ts) queries updates))
-    (refused_by 6)
+    cond (ltb (number_on s e.table ts) (length ts)) (beside_as e.form (short_name (name_on s e.table)) s ls ps e ts queries updates) (refused_by 6)

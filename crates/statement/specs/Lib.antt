@@ -10,3 +10,4 @@ pub mod Sound
 pub mod Demand
 pub mod Examples
 pub mod Same
+pub mod Terms

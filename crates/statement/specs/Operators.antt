@@ -1,8 +1,10 @@
 -- The operators by their numbers: the opposite of each, and what it says of two sides by their order. Null tests (A.5) are the last two.
 -- Assumes nothing: these are definitions.
-use Rattle.std.specs.Prelude.{Bool, true, false, ◌||◌, cond, List, [], ◌∷◌, ℕ, zero, suc, ltb, ℤ, pos, get_or}
+use Rattle.std.specs.Prelude.{Bool, true, false, ◌||◌, cond, List, [], ◌∷◌, ℕ, ltb, ℤ, pos, get_or}
 use Rattle.std.specs.Int.Signed.{lt_z}
 use Rattle.lists.specs.Tests.{eq_z}
+use Rattle.statement.specs.declared.Order.{Order}
+use Rattle.statement.specs.declared.Order.TheVariants.{Less, Equal, Greater, Unknown}
 use Rattle.meaning.specs.Operator.{Operator, eq, ne, lt, le, gt, ge, null, is_null, Predicate, by, is-null, is-not-null, truth}
 
 -- the six operators in their order
@@ -35,13 +37,13 @@ is_null_test is-not-null = true
 unfoldable pub opposite_of : ℕ → ℕ
 opposite_of k = cond (ltb k 8) (get_or (1 ∷ 0 ∷ 5 ∷ 4 ∷ 3 ∷ 2 ∷ 7 ∷ 6 ∷ []) k 0) k
 
--- the order of two numbers: 0 the left one is less, 1 equal, 2 greater, 3 unknown, since one is null
-abbrev pub order_of : ℤ → ℤ → ℕ
-order_of a b = cond (is_null a || is_null b) 3 (cond (lt_z a b) 0 (cond (eq_z a b) 1 2))
+-- the order of two numbers: unknown if one is null
+abbrev pub order_of : ℤ → ℤ → Order
+order_of a b = cond (is_null a || is_null b) Unknown (cond (lt_z a b) Less (cond (eq_z a b) Equal Greater))
 
 -- whether a comparison is true of two sides in this order; a null test has its column on both
-abbrev pub truth_by : Predicate → ℕ → Bool
-truth_by p zero = truth p (pos 0) (pos 1)
-truth_by p (suc zero) = truth p (pos 0) (pos 0)
-truth_by p (suc (suc zero)) = truth p (pos 1) (pos 0)
-truth_by p (suc (suc (suc k))) = truth p null null
+abbrev pub truth_by : Predicate → Order → Bool
+truth_by p Less = truth p (pos 0) (pos 1)
+truth_by p Equal = truth p (pos 0) (pos 0)
+truth_by p Greater = truth p (pos 1) (pos 0)
+truth_by p Unknown = truth p null null

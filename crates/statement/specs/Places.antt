@@ -1,12 +1,14 @@
 -- What stands at a place of a text: the code notes where the tokens of a sentence start, and these definitions say what it has noted.
 -- Assumes nothing: these are definitions.
-use Rattle.std.specs.Prelude.{Bool, true, false, cond, List, [], ◌∷◌, ◌++◌, ℕ, zero, suc, ◌+◌, ◌%◌, ltb, leb, eqb, ℤ, drop, get_or}
+use Rattle.std.specs.Prelude.{Bool, true, false, List, [], ◌∷◌, ◌++◌, map, ℕ, eqb, ℤ, drop}
 use Rattle.std.proofs.Math.Option.{Option, none, some}
 use Rattle.meaning.specs.Postfix.{Node, leaf, all_of, any_of}
 use Rattle.meaning.specs.Tokens.{Name, Token, other, first_token}
 use Rattle.meaning.specs.Grammar.{Given, constant, mark, Term, column, given, Dotted, name_of, constant_of}
 use Rattle.token.specs.Tokens.{token_at}
 use Rattle.statement.specs.Operators.{predicate_at}
+use Rattle.statement.specs.declared.conditions.Node.{Node as Noted}
+use Rattle.statement.specs.declared.conditions.Node.TheVariants.{Comparison, And, Or}
 
 -- the token that starts at a place, or `other`
 abbrev pub first : Option (Token × List ℕ) → Token
@@ -51,39 +53,25 @@ or_given v c (some n) = column c
 abbrev pub term_on : (b : Bool) → List ℕ → ℕ → Term (Column b)
 term_on b s p = or_given (given_on s p) (column_on b s p) (name_of (token_on s p))
 
--- a comparison's code, where it stands under so many parentheses and NOTs: its operator's number, and 8 more if it is bare, under none (A.6)
-abbrev pub comparison_code : ℕ → ℕ → ℕ
-comparison_code depth op = op + cond (eqb depth 0) 8 0
+-- a comparison as it is noted, where it stands under so many parentheses and NOTs: bare under none (A.6)
+abbrev pub comparison_node : ℕ → ℕ → ℕ → ℕ → Noted
+comparison_node depth op a b = Comparison op (eqb depth 0) a b
 
--- the codes of AND and OR, far from those
-abbrev pub and_code : ℕ
-and_code = 256
+-- nodes that are noted; a null test notes its column twice
+abbrev pub node_on : (d : Bool) → List ℕ → Noted → Node (Term (Column d))
+node_on d s (Comparison op bare a b) = leaf (record { left = term_on d s a; op = predicate_at op; right = term_on d s b })
+node_on d s And = all_of
+node_on d s Or = any_of
 
-abbrev pub or_code : ℕ
-or_code = 257
+abbrev pub nodes_on : (d : Bool) → List ℕ → List Noted → List (Node (Term (Column d)))
+nodes_on d s = map (node_on d s)
 
--- a node by its code and the places of its sides: a comparison, AND, or OR; a null test notes its column twice
-abbrev pub node_on : (d : Bool) → List ℕ → ℕ → ℕ → ℕ → Node (Term (Column d))
-node_on d s k a b = cond (ltb k 16) (leaf (record { left = term_on d s a; op = predicate_at (k % 8); right = term_on d s b })) (cond (eqb k and_code) all_of any_of)
+-- A.6: for each comparison among them, whether it is noted as a bare one
+abbrev pub bare_mark : Noted → List Bool
+bare_mark (Comparison op bare a b) = bare ∷ []
+bare_mark And = []
+bare_mark Or = []
 
--- the first n nodes that are noted, three numbers a node, and their codes
-abbrev pub threes_on : {A : Type 0} → (ℕ → ℕ → ℕ → A) → ℕ → List ℕ → List A
-threes_on f zero xs = []
-threes_on f (suc n) xs = f (get_or xs 0 0) (get_or xs 1 0) (get_or xs 2 0) ∷ threes_on f n (drop 3 xs)
-
-abbrev pub nodes_on : (d : Bool) → List ℕ → ℕ → List ℕ → List (Node (Term (Column d)))
-nodes_on d s = threes_on (node_on d s)
-
-abbrev pub codes_on : ℕ → List ℕ → List ℕ
-codes_on = threes_on (λ k a b. k)
-
--- A.6: for each comparison among these codes, whether it is noted as a bare one
-abbrev pub bare_mark : ℕ → List Bool
-bare_mark k = cond (ltb k 16) (leb 8 k ∷ []) []
-
-abbrev pub code_marks : List ℕ → List Bool
-code_marks [] = []
-code_marks (k ∷ ks) = bare_mark k ++ code_marks ks
-
-abbrev pub bare_marks_on : ℕ → List ℕ → List Bool
-bare_marks_on n xs = code_marks (codes_on n xs)
+abbrev pub bare_marks_on : List Noted → List Bool
+bare_marks_on [] = []
+bare_marks_on (x ∷ xs) = bare_mark x ++ bare_marks_on xs

@@ -1,5 +1,5 @@
 -- What a reader of conditions has found, as against what the grammar's reader finds: the contracts of the cycle. Assumes nothing: these are definitions.
-use Rattle.std.specs.Prelude.{◌≡◌, ◌≢◌, Bool, true, false, ◌||◌, cond, List, [], ◌∷◌, ◌++◌, ℕ, ◌+◌, ◌-◌, ◌*◌, ◌≤◌, ◌<◌, ltb, eqb, length, drop, Option as Maybe, Some, None}
+use Rattle.std.specs.Prelude.{◌≡◌, ◌≢◌, Bool, true, false, ◌||◌, cond, List, [], ◌∷◌, ◌++◌, ℕ, ◌+◌, ◌-◌, ◌*◌, ◌≤◌, ◌<◌, ltb, eqb, length, take, drop, Option as Maybe, Some, None}
 use Rattle.std.proofs.Math.Option.{Option, none, some}
 use Rattle.meaning.specs.Condition.{Level, atom, conjunction, disjunction, Tree, Condition, compare, negate, group, alone, both, single, either, mapped, comparisons, sides}
 use Rattle.meaning.specs.Postfix.{nodes}
@@ -8,27 +8,16 @@ use Rattle.meaning.specs.Tokens.{tokens, rparen}
 use Rattle.meaning.specs.Grammar.{Term, column, given, Test, comparison, Dotted, Reader, then, done, expect, a_name, a_dotted, a_term, a_null, a_comparison, a_condition, name_of}
 use Rattle.meaning.specs.Limits.{most_name, most_depth, outside32, term_givens, mark_count}
 use Rattle.token.specs.declared.Kind.{Kind}
-use Rattle.token.specs.declared.Kind.TheVariants.{Name, Constant, Big, Mark, Comma, Open, Close, From, Into, Values, Set, Eq, Ne, Lt, Le, Gt, Ge, Is, Null}
+use Rattle.token.specs.declared.Kind.TheVariants.{Name, Constant, Big, Mark, Eq, Ne, Lt, Le, Gt, Ge, Is, Null}
 use Rattle.token.specs.declared.Token.{Token}
 use Rattle.token.specs.Tokens.{token_at}
 use Rattle.statement.specs.Operators.{opposite_of}
-use Rattle.statement.specs.Places.{token_on, Column, column_on, term_on, comparison_code, node_on, nodes_on, codes_on, bare_marks_on}
+use Rattle.statement.specs.Places.{token_on, Column, column_on, term_on, comparison_node, nodes_on, bare_marks_on}
 use Rattle.statement.specs.declared.conditions.Cursor.{Cursor}
+use Rattle.statement.specs.declared.conditions.Node.{Node as Noted}
 use Rattle.statement.specs.declared.conditions.Side.{Side}
 
 -- ---- tokens by their kinds
-
--- the words and signs that a form asks for at their place
-abbrev pub is_expected : Kind → Bool
-is_expected Comma = true
-is_expected Open = true
-is_expected Close = true
-is_expected Eq = true
-is_expected From = true
-is_expected Into = true
-is_expected Values = true
-is_expected Set = true
-is_expected _ = false
 
 -- a name of more than 12 bytes, or a constant outside 32 bits
 unfoldable pub token_past : Kind → ℕ → ℕ → Bool
@@ -75,17 +64,16 @@ marks_at _ = 0
 
 -- the same, at another place
 abbrev pub moved_to : ℕ → Cursor → Cursor
-moved_to at c = record { ok = c.ok; over = c.over; dotted = c.dotted; nodes = c.nodes; marks = c.marks; at = at }
+moved_to at c = record { over = c.over; dotted = c.dotted; nodes = c.nodes; marks = c.marks; at = at }
 
 -- one node more
 abbrev pub with_node : Cursor → Cursor
-with_node c = record { ok = c.ok; over = c.over; dotted = c.dotted; nodes = c.nodes + 1; marks = c.marks; at = c.at }
+with_node c = record { over = c.over; dotted = c.dotted; nodes = c.nodes + 1; marks = c.marks; at = c.at }
 
 -- a comparison of the sides a and b read under `depth` parentheses and NOTs, before its node is noted
 abbrev pub with_sides : ℕ → Side → Side → Cursor → Cursor
 with_sides depth a b c =
     record {
-      ok = true;
       over = c.over || (ltb most_depth depth || (a.over || b.over));
       dotted = c.dotted;
       nodes = c.nodes;
@@ -93,21 +81,20 @@ with_sides depth a b c =
       at = b.next;
     }
 
--- the node with these numbers is counted, and noted if there is room
-pub record PutsNode (xs : List ℕ) (c : Cursor) (node left right : ℕ) (ys : List ℕ) (r : Cursor) : Type 0 where
+-- the node is counted, and noted if there is room
+pub record PutsNode (xs : List Noted) (c : Cursor) (node : Noted) (ys : List Noted) (r : Cursor) : Type 0 where
   pub counted : r ≡ with_node c
-  pub noted : (b : Bool) (s : List ℕ) → c.nodes < 15 → nodes_on b s (c.nodes + 1) ys ≡ nodes_on b s c.nodes xs ++ (node_on b s node left right ∷ [])
-  pub coded : c.nodes < 15 → codes_on (c.nodes + 1) ys ≡ codes_on c.nodes xs ++ (node ∷ [])
+  pub noted : c.nodes < 15 → take (c.nodes + 1) ys ≡ take c.nodes xs ++ (node ∷ [])
 
 -- a side that ends at another place
 abbrev pub ended_at : ℕ → Side → Side
 ended_at next a = record { over = a.over; marks = a.marks; start = a.start; next = next }
 
 -- A.5: the null test `op` of the column a was put if the token t is NULL
-abbrev pub PutsNull : List ℕ → Cursor → Bool → ℕ → Side → ℕ → Token → List ℕ → Maybe Cursor → Type 0
+abbrev pub PutsNull : List Noted → Cursor → Bool → ℕ → Side → ℕ → Token → List Noted → Maybe Cursor → Type 0
 PutsNull xs c positive depth a op t ys None = t.kind ≢ Null
 PutsNull xs c positive depth a op t ys (Some r) =
-    (t.kind ≡ Null) × PutsNode xs (with_sides depth a (ended_at t.next a) c) (comparison_code depth (cond positive op (opposite_of op))) a.start a.start ys r
+    (t.kind ≡ Null) × PutsNode xs (with_sides depth a (ended_at t.next a) c) (comparison_node depth (cond positive op (opposite_of op)) a.start a.start) ys r
 
 -- a place inside a text of at most 256 bytes, with no more counted than there are bytes before it
 pub record Stands (s : List ℕ) (c : Cursor) : Type 0 where
@@ -199,8 +186,7 @@ ReadsSide b s first r = (at : ℕ) → first ≡ token_at s at → Sides s at r 
 -- ---- conditions
 
 -- a condition t was read from c on, up to r, before the tokens `more`: counted, and noted if there was room; each node takes a byte or more
-pub record Found (b : Bool) {l : Level} (s : List ℕ) (positive : Bool) (depth : ℕ) (c : Cursor) (xs : List ℕ) (r : Cursor) (ys : List ℕ) (t : Written b l) (more : List T.Token) : Type 0 where
-  pub ok : r.ok ≡ true
+pub record Found (b : Bool) {l : Level} (s : List ℕ) (positive : Bool) (depth : ℕ) (c : Cursor) (xs : List Noted) (r : Cursor) (ys : List Noted) (t : Written b l) (more : List T.Token) : Type 0 where
   pub dotted : r.dotted ≡ b
   pub moved : c.at < r.at
   pub stands : Stands s r
@@ -208,12 +194,12 @@ pub record Found (b : Bool) {l : Level} (s : List ℕ) (positive : Bool) (depth 
   pub over : r.over ≡ (c.over || condition_past b depth (mapped comparison t))
   pub nodes_are : r.nodes ≡ c.nodes + length (nodes positive (mapped comparison t))
   pub marks_are : r.marks ≡ c.marks + marks_in (mapped comparison t)
-  pub noted : r.nodes ≤ 15 → nodes_on b s r.nodes ys ≡ nodes_on b s c.nodes xs ++ nodes positive (mapped comparison t)
-  pub bare : r.nodes ≤ 15 → bare_marks_on r.nodes ys ≡ bare_marks_on c.nodes xs ++ bare_marks depth (mapped comparison t)
+  pub noted : r.nodes ≤ 15 → nodes_on b s (take r.nodes ys) ≡ nodes_on b s (take c.nodes xs) ++ nodes positive (mapped comparison t)
+  pub bare : r.nodes ≤ 15 → bare_marks_on (take r.nodes ys) ≡ bare_marks_on (take c.nodes xs) ++ bare_marks depth (mapped comparison t)
   pub spread : r.nodes + c.at ≤ c.nodes + r.at
 
 -- r and ys are what the grammar's reader finds
-abbrev pub Meets : (b : Bool) {l : Level} → List ℕ → Bool → ℕ → Cursor → List ℕ → Maybe Cursor → List ℕ → Option (Written b l × List T.Token) → Type 0
+abbrev pub Meets : (b : Bool) {l : Level} → List ℕ → Bool → ℕ → Cursor → List Noted → Maybe Cursor → List Noted → Option (Written b l × List T.Token) → Type 0
 Meets b s positive depth c xs None ys none = Unit {0}
 Meets b s positive depth c xs None ys (some x) = ⊥
 Meets b s positive depth c xs (Some r) ys none = ⊥
@@ -227,12 +213,12 @@ pub record Reaches (s : List ℕ) (c : Cursor) (a : Side) (at : ℕ) : Type 0 wh
   pub unmarked : a.marks ≡ 0
 
 -- what follows IS makes a null test of that column
-abbrev pub TestsNull : List ℕ → Bool → ℕ → Cursor → List ℕ → Side → ℕ → Maybe Cursor → List ℕ → Type 0
+abbrev pub TestsNull : List ℕ → Bool → ℕ → Cursor → List Noted → Side → ℕ → Maybe Cursor → List Noted → Type 0
 TestsNull s positive depth c xs a at r ys =
     (b : Bool) → c.dotted ≡ b → (x : Column b) → IsOperand b s a (column x)
     → Meets b s positive depth c xs r ys (then (a_null (a_column b) x (tokens (drop at s))) (λ t. done (compare t)))
 
-abbrev pub Compares : List ℕ → Bool → ℕ → Cursor → List ℕ → Maybe Cursor → List ℕ → Type 0
+abbrev pub Compares : List ℕ → Bool → ℕ → Cursor → List Noted → Maybe Cursor → List Noted → Type 0
 Compares s positive depth c xs r ys = (b : Bool) → c.dotted ≡ b → Meets b s positive depth c xs r ys (a_comparison (a_column b) (tokens (drop c.at s)))
 
 abbrev pub rank : Level → ℕ
@@ -241,7 +227,7 @@ rank conjunction = 2
 rank disjunction = 3
 
 -- with calls enough for the text that is left
-abbrev pub Reads : Level → List ℕ → Bool → ℕ → Cursor → List ℕ → Maybe Cursor → List ℕ → Type 0
+abbrev pub Reads : Level → List ℕ → Bool → ℕ → Cursor → List Noted → Maybe Cursor → List Noted → Type 0
 Reads l s positive depth c xs r ys =
     (b : Bool) → c.dotted ≡ b → (n : ℕ) → 3 * (length s - c.at) + rank l ≤ n → Meets b s positive depth c xs r ys (a_condition (a_column b) n l (tokens (drop c.at s)))
 

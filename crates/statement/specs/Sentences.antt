@@ -1,68 +1,64 @@
--- What the readers of the forms have found, as against what the grammar's readers find: their contracts. A reader takes a cursor that may have
--- failed already, and then fails too, so that a form is read by a row of calls. Assumes nothing: these are definitions.
-use Rattle.std.specs.Prelude.{◌≡◌, Bool, true, false, not, ◌&&◌, ◌||◌, List, [], ◌∷◌, ◌++◌, map, ℕ, zero, suc, ◌+◌, ◌-◌, ◌*◌, ◌/◌, ◌≤◌, ◌<◌, ltb, ℤ, pos, length, drop, get_or, set, Option as Maybe, Some, None}
+-- What the readers of the forms have found, as against what the grammar's readers find: their contracts. Assumes nothing: these are definitions.
+use Rattle.std.specs.Prelude.{◌≡◌, Bool, true, false, not, ◌&&◌, ◌||◌, List, [], ◌∷◌, ◌++◌, map, ℕ, ◌+◌, ◌-◌, ◌*◌, ◌/◌, ◌≤◌, ◌<◌, ltb, ℤ, pos, length, take, drop, Option as Maybe, Some, None}
 use Rattle.std.proofs.Math.Option.{Option, none, some}
 use Rattle.std.specs.Int.Signed.{le_z, lt_z}
 use Rattle.lists.specs.Lists.{any}
 use Rattle.meaning.specs.Condition.{Optional, Where, always, under, mapped_in, operands_in}
 use Rattle.meaning.specs.Postfix.{nodes_in}
 use Rattle.meaning.specs.Tokens as T
-use Rattle.meaning.specs.Tokens.{Name, Token, tokens}
+use Rattle.meaning.specs.Operator.{eq}
+use Rattle.meaning.specs.Tokens.{Name, Token, Keyword, FROM, INTO, VALUES, SET, keyword, operator, comma, lparen, rparen, tokens}
 use Rattle.meaning.specs.Grammar.{Given, comparison, Dotted, items, Sentence, table, select, pair, insert, update, delete, Reader, expect, constant_of, a_token, a_name, a_dotted, a_given, a_setting, a_list, a_size_word, a_where, a_delete, a_sentence}
 use Rattle.meaning.specs.Limits.{most_name, most_rows, most_items, most_marks, most_comparisons, table_named, where_of, term_givens, mark_count, givens, outside32, past_limit}
 use Rattle.token.specs.declared.Kind.{Kind}
-use Rattle.token.specs.declared.Kind.TheVariants.{End, Constant, Big, Mark, Comma, Rows, From, Ring}
+use Rattle.token.specs.declared.Kind.TheVariants.{End, Constant, Big, Mark, Comma, Open, Close, Eq, Rows, From, Into, Values, Set, Ring}
 use Rattle.token.specs.declared.Token.{Token as Read}
-use Rattle.token.specs.Tokens.{kind_of, token_at}
+use Rattle.token.specs.Tokens.{token_at}
 use Rattle.statement.specs.Places.{token_on, name_on, given_on, column_on, nodes_on, bare_marks_on}
-use Rattle.statement.specs.Reading.{is_expected, Stands, Operand, a_column, long_column, condition_past, bare_marks}
+use Rattle.statement.specs.Reading.{Stands, Operand, a_column, long_column, condition_past, bare_marks}
 use Rattle.statement.specs.declared.conditions.Cursor.{Cursor}
-use Rattle.statement.specs.declared.sentences.Placed.{Placed}
-use Rattle.statement.specs.declared.sentences.Listing.{Listing}
-use Rattle.statement.specs.declared.sentences.Sized.{Sized}
+use Rattle.statement.specs.declared.conditions.Node.{Node}
+use Rattle.statement.specs.declared.sentences.Item.{Item}
 use Rattle.statement.specs.declared.sentences.Contents.{Contents}
 use Rattle.statement.specs.declared.sentences.Contents.TheVariants.{Names as names, Values as values, Settings as settings, Columns as columns}
 use Rattle.statement.specs.declared.sentences.Form.{Form}
 use Rattle.statement.specs.declared.sentences.Form.TheVariants.{Table, Select, Insert, Update, Delete, Pair}
 use Rattle.statement.specs.declared.sentences.Entry.{Entry}
 
--- ---- what is noted of a list: two numbers an item, the place of its name and that of its value
+-- ---- what is noted of a list
 
-abbrev pub items_on : {A : Type 0} → (ℕ → ℕ → A) → ℕ → List ℕ → List A
-items_on f zero xs = []
-items_on f (suc n) xs = f (get_or xs 0 0) (get_or xs 1 0) ∷ items_on f n (drop 2 xs)
+abbrev pub names_on : List ℕ → List Item → List Name
+names_on s = map (λ i. name_on s i.name)
 
-abbrev pub names_on : List ℕ → ℕ → List ℕ → List Name
-names_on s = items_on (λ a b. name_on s a)
+abbrev pub dotted_on : List ℕ → List Item → List Dotted
+dotted_on s = map (λ i. column_on true s i.name)
 
-abbrev pub dotted_on : List ℕ → ℕ → List ℕ → List Dotted
-dotted_on s = items_on (λ a b. column_on true s a)
-
-abbrev pub givens_on : List ℕ → ℕ → List ℕ → List Given
-givens_on s = items_on (λ a b. given_on s b)
+abbrev pub givens_on : List ℕ → List Item → List Given
+givens_on s = map (λ i. given_on s i.value)
 
 -- ---- a reader in the code beside one of the grammar
 
--- what a reader asks of the cursor that it is given
-pub record Ready (s : List ℕ) (c : Cursor) : Type 0 where
-  pub short : length s ≤ 256
-  pub stands : c.ok ≡ true → Stands s c
-
 -- r stands before the tokens `more`
 pub record Before (s : List ℕ) (r : Cursor) (more : List Token) : Type 0 where
-  pub ok : r.ok ≡ true
   pub stands : Stands s r
   pub left : tokens (drop r.at s) ≡ more
 
--- r is where the grammar's reader ends, and Q holds of what it finds
-abbrev pub Takes : {A : Type 0} → List ℕ → Cursor → (A → Type 0) → Option (A × List Token) → Type 0
-Takes s r Q none = r.ok ≡ false
-Takes s r Q (some x) = Before s r x.1 × Q x.0
+-- the code's reader finds nothing where the grammar's finds nothing; else it ends where that ends, and Q holds of what both find
+abbrev pub Agree : {A B : Type 0} → List ℕ → (B → Cursor) → (B → A → Type 0) → Maybe B → Option (A × List Token) → Type 0
+Agree s place Q None none = Unit {0}
+Agree s place Q None (some x) = ⊥
+Agree s place Q (Some r) none = ⊥
+Agree s place Q (Some r) (some x) = Before s (place r) x.1 × Q r x.0
 
--- a reader was given c and gave r: it fails where c had failed, and else takes what the grammar's reader finds from there on
-pub record After {A : Type 0} (s : List ℕ) (reader : Reader A) (Q : A → Type 0) (c r : Cursor) : Type 0 where
-  pub fails : c.ok ≡ false → r.ok ≡ false
-  pub takes : c.ok ≡ true → Takes s r Q (reader (tokens (drop c.at s)))
+pub record Takes {A B : Type 0} (s : List ℕ) (place : B → Cursor) (Q : B → A → Type 0) (r : Maybe B) (o : Option (A × List Token)) : Type 0 where
+  pub agrees : Agree s place Q r o
+
+-- the same of readers that are given c; what the code's finds is a cursor, or a cursor and something with it
+abbrev pub Passes : {A : Type 0} → List ℕ → Reader A → Cursor → (Cursor → A → Type 0) → Maybe Cursor → Type 0
+Passes s reader c Q r = Takes s (λ d. d) Q r (reader (tokens (drop c.at s)))
+
+abbrev pub After : {A B : Type 0} → List ℕ → Reader A → Cursor → (Cursor → B → A → Type 0) → Maybe (Cursor × B) → Type 0
+After {B = B} s reader c Q r = Takes s (λ (d : Cursor × B). d.0) (λ d. Q d.0 d.1) r (reader (tokens (drop c.at s)))
 
 -- from c to r: whether a limit was passed, and how many question marks there were; no node is counted
 pub record Counts (c r : Cursor) (past : Bool) (marks : ℕ) : Type 0 where
@@ -74,30 +70,43 @@ pub record Counts (c r : Cursor) (past : Bool) (marks : ℕ) : Type 0 where
 
 -- ---- tokens
 
--- the token t
-abbrev pub ExpectsToken : List ℕ → Token → Cursor → Cursor → Type 0
-ExpectsToken s t c r = After s (expect t) (λ u. Counts c r false 0) c r
+-- the token of a kind that a form asks for at its place: a word or a sign
+abbrev pub asked : Kind → Option Token
+asked Comma = some comma
+asked Open = some lparen
+asked Close = some rparen
+asked Eq = some (operator eq)
+asked From = some (keyword FROM)
+asked Into = some (keyword INTO)
+asked Values = some (keyword VALUES)
+asked Set = some (keyword SET)
+asked _ = none
 
--- the token that the kind k tells
-abbrev pub Expects : List ℕ → Kind → Cursor → Cursor → Type 0
-Expects s k c r = (t : Token) → kind_of t ≡ k → is_expected k ≡ true → ExpectsToken s t c r
+-- the token t
+abbrev pub ExpectsToken : List ℕ → Option Token → Cursor → Maybe Cursor → Type 0
+ExpectsToken s none c r = Unit {0}
+ExpectsToken s (some t) c r = Passes s (expect t) c (λ d u. Counts c d false 0) r
+
+-- the token that the kind k tells; of the kinds that no form asks for nothing is said, since what `==` says of two kinds is by cases on both
+abbrev pub Expects : List ℕ → Kind → Cursor → Maybe Cursor → Type 0
+Expects s k c r = ExpectsToken s (asked k) c r
 
 abbrev pub is_long_name : Name → Bool
 is_long_name n = ltb most_name (length n)
 
-abbrev pub Names : List ℕ → Cursor → Placed → Type 0
-Names s c r = After s a_name (λ n. Counts c r.c (is_long_name n) 0 × (name_on s r.place ≡ n)) c r.c
+abbrev pub Names : List ℕ → Cursor → Maybe (Cursor × ℕ) → Type 0
+Names s c r = After s a_name c (λ d p n. Counts c d (is_long_name n) 0 × (name_on s p ≡ n)) r
 
 -- A.1: a dotted column
-abbrev pub Columns : List ℕ → Cursor → Placed → Type 0
-Columns s c r = After s a_dotted (λ x. Counts c r.c (long_column true x) 0 × (column_on true s r.place ≡ x)) c r.c
+abbrev pub Columns : List ℕ → Cursor → Maybe (Cursor × ℕ) → Type 0
+Columns s c r = After s a_dotted c (λ d p x. Counts c d (long_column true x) 0 × (column_on true s p ≡ x)) r
 
-abbrev pub Gives : List ℕ → Cursor → Placed → Type 0
-Gives s c r = After s a_given (λ v. Counts c r.c (outside32 v) (mark_count (v ∷ [])) × (given_on s r.place ≡ v)) c r.c
+abbrev pub Gives : List ℕ → Cursor → Maybe (Cursor × ℕ) → Type 0
+Gives s c r = After s a_given c (λ d p v. Counts c d (outside32 v) (mark_count (v ∷ [])) × (given_on s p ≡ v)) r
 
--- A.4: ROWS, or RING, which `ring` tells
-abbrev pub Sizes : List ℕ → Cursor → Sized → Type 0
-Sizes s c r = After s a_size_word (λ b. Counts c r.c false 0 × (r.ring ≡ b)) c r.c
+-- A.4: ROWS, or RING, and which
+abbrev pub Sizes : List ℕ → Cursor → Maybe (Cursor × Bool) → Type 0
+Sizes s c r = After s a_size_word c (λ d ring b. Counts c d false 0 × (ring ≡ b)) r
 
 -- the kinds of the two words
 abbrev pub ring_in : Kind → Maybe Bool
@@ -109,8 +118,8 @@ ring_in _ = None
 abbrev pub outside_rows : ℤ → Bool
 outside_rows z = not (le_z (pos 1) z && le_z z (pos most_rows))
 
-abbrev pub CountsRows : List ℕ → Cursor → Placed → Type 0
-CountsRows s c r = After s (a_token constant_of) (λ z. Counts c r.c (outside_rows z) 0 × (token_on s r.place ≡ T.constant z)) c r.c
+abbrev pub CountsRows : List ℕ → Cursor → Maybe (Cursor × ℕ) → Type 0
+CountsRows s c r = After s (a_token constant_of) c (λ d p z. Counts c d (outside_rows z) 0 × (token_on s p ≡ T.constant z)) r
 
 -- by the kind of its token, a constant
 abbrev pub rows_past : Kind → Maybe Bool
@@ -139,11 +148,11 @@ item_reader values = a_given
 item_reader settings = a_setting
 item_reader columns = a_dotted
 
-abbrev pub item_on : (k : Contents) → List ℕ → ℕ → ℕ → Content k
-item_on names s a b = name_on s a
-item_on values s a b = given_on s b
-item_on settings s a b = (name_on s a, given_on s b)
-item_on columns s a b = column_on true s a
+abbrev pub item_on : (k : Contents) → List ℕ → Item → Content k
+item_on names s i = name_on s i.name
+item_on values s i = given_on s i.value
+item_on settings s i = (name_on s i.name, given_on s i.value)
+item_on columns s i = column_on true s i.name
 
 -- both names of each dotted column
 abbrev pub parts_of : List Dotted → List Name
@@ -166,28 +175,25 @@ values_in columns xs = []
 abbrev pub list_past : List Name → List Given → Bool
 list_past cs vs = any is_long_name cs || any outside32 vs
 
--- an item at the end, by the places of its name and its value: noted if it is one of the first eight, for which there is room
-pub record PutsItem (xs : List ℕ) (n a b : ℕ) (ys : List ℕ) : Type 0 where
-  pub size : length xs ≡ 2 * most_items
-  pub noted : n < most_items → ys ≡ set (set xs (2 * n) a) (2 * n + 1) b
+-- an item at the end: noted if it is one of the first eight, for which there is room
+abbrev pub PutsItem : List Item → ℕ → Item → List Item → Type 0
+PutsItem xs n i ys = n < most_items → take (n + 1) ys ≡ take n xs ++ (i ∷ [])
 
--- what a list asks that is read on after l items
-pub record Within (s : List ℕ) (c : Cursor) (l : ℕ) : Type 0 where
-  pub ready : Ready s c
-  pub small : l ≤ 256
-  pub few : c.ok ≡ true → l ≤ c.at
+-- from c to d items were read that are `found`
+abbrev pub CountsItems : (k : Contents) → Cursor → Cursor → List (Content k) → Type 0
+CountsItems k c d found = Counts c d (list_past (columns_in k found) (values_in k found)) (mark_count (values_in k found))
 
--- the items `found` were read from c on, up to r, after l others: counted, and noted if there was room
-pub record Holds (k : Contents) (s xs : List ℕ) (c : Cursor) (l : ℕ) (ys : List ℕ) (r : Listing) (found : List (Content k)) : Type 0 where
-  pub counts : Counts c r.c (list_past (columns_in k found) (values_in k found)) (mark_count (values_in k found))
-  pub listed_are : r.listed ≡ l + length found
-  pub noted : r.listed ≤ most_items → items_on (item_on k s) r.listed ys ≡ items_on (item_on k s) l xs ++ found
+abbrev pub ReadsItem : Contents → List ℕ → Cursor → Maybe (Cursor × Item) → Type 0
+ReadsItem k s c r = After s (item_reader k) c (λ d i x. CountsItems k c d (x ∷ []) × (item_on k s i ≡ x)) r
 
-abbrev pub ReadsItem : Contents → List ℕ → List ℕ → Cursor → ℕ → List ℕ → Listing → Type 0
-ReadsItem k s xs c l ys r = After s (item_reader k) (λ x. Holds k s xs c l ys r (x ∷ [])) c r.c
+-- the items `found` were read from c on, up to d, after l others: counted, and noted if there was room
+pub record Holds (k : Contents) (s : List ℕ) (xs : List Item) (c : Cursor) (l : ℕ) (ys : List Item) (d : Cursor) (listed : ℕ) (found : List (Content k)) : Type 0 where
+  pub counts : CountsItems k c d found
+  pub listed_are : listed ≡ l + length found
+  pub noted : listed ≤ most_items → map (item_on k s) (take listed ys) ≡ map (item_on k s) (take l xs) ++ found
 
-abbrev pub ReadsList : Contents → List ℕ → List ℕ → Cursor → ℕ → List ℕ → Listing → Type 0
-ReadsList k s xs c l ys r = (n : ℕ) → length s - c.at < n → After s (a_list (item_reader k) n) (λ x. Holds k s xs c l ys r (items x)) c r.c
+abbrev pub ReadsList : Contents → List ℕ → List Item → Cursor → ℕ → List Item → Maybe (Cursor × ℕ) → Type 0
+ReadsList k s xs c l ys r = (n : ℕ) → length s - c.at < n → After s (a_list (item_reader k) n) c (λ d listed x. Holds k s xs c l ys d listed (items x)) r
 
 -- ---- WHERE
 
@@ -199,19 +205,19 @@ abbrev pub bare_marks_in : {A : Type 0} → Optional A → List Bool
 bare_marks_in always = []
 bare_marks_in (under t) = bare_marks 0 t
 
-pub record Filters (b : Bool) (s : List ℕ) (c : Cursor) (xs : List ℕ) (r : Cursor) (ys : List ℕ) (w : Where (Operand b)) : Type 0 where
+pub record Filters (b : Bool) (s : List ℕ) (c : Cursor) (xs : List Node) (r : Cursor) (ys : List Node) (w : Where (Operand b)) : Type 0 where
   pub over : r.over ≡ (c.over || where_past b w)
   pub marks_are : r.marks ≡ c.marks + mark_count (term_givens (operands_in w))
   pub nodes_are : r.nodes ≡ c.nodes + length (nodes_in w)
-  pub noted : r.nodes ≤ 15 → nodes_on b s r.nodes ys ≡ nodes_on b s c.nodes xs ++ nodes_in w
-  pub bare : r.nodes ≤ 15 → bare_marks_on r.nodes ys ≡ bare_marks_on c.nodes xs ++ bare_marks_in w
+  pub noted : r.nodes ≤ 15 → nodes_on b s (take r.nodes ys) ≡ nodes_on b s (take c.nodes xs) ++ nodes_in w
+  pub bare : r.nodes ≤ 15 → bare_marks_on (take r.nodes ys) ≡ bare_marks_on (take c.nodes xs) ++ bare_marks_in w
 
 -- calls enough for the text s
 abbrev pub calls : List ℕ → ℕ
 calls s = 3 * length s + 3
 
-abbrev pub ReadsWhere : List ℕ → Cursor → List ℕ → Cursor → List ℕ → Type 0
-ReadsWhere s c xs r ys = (b : Bool) → c.dotted ≡ b → (n : ℕ) → calls s ≤ n → After s (a_where (a_column b) n) (λ w. Filters b s c xs r ys (mapped_in comparison w)) c r
+abbrev pub ReadsWhere : List ℕ → Cursor → List Node → Maybe Cursor → List Node → Type 0
+ReadsWhere s c xs r ys = (b : Bool) → c.dotted ≡ b → (n : ℕ) → calls s ≤ n → Passes s (a_where (a_column b) n) c (λ d w. Filters b s c xs d ys (mapped_in comparison w)) r
 
 -- ---- FROM
 
@@ -235,15 +241,6 @@ is_comma_second s t = is_from t.kind && is_comma (token_at s (token_at s t.next)
 
 -- ---- sentences
 
--- the forms
-abbrev pub form_of : Sentence → Form
-form_of (table t cs ring z) = Table
-form_of (select cs t w) = Select
-form_of (insert t vs) = Insert
-form_of (update t ss w) = Update
-form_of (delete t w) = Delete
-form_of (pair cs t u w) = Pair
-
 -- how many items the list has
 abbrev pub list_length : Sentence → ℕ
 list_length (table t cs ring z) = length (items cs)
@@ -257,109 +254,88 @@ list_length (delete t w) = 0
 abbrev pub over_on : Entry → Bool
 over_on r = r.c.over || (ltb most_items r.listed || (ltb most_marks r.c.marks || ltb most_comparisons ((r.c.nodes + 1) / 2)))
 
--- A.4: whether a TABLE has RING
-abbrev pub ring_of : Sentence → Bool
-ring_of (table t cs ring z) = ring
-ring_of (select cs t w) = false
-ring_of (pair cs t u w) = false
-ring_of (insert t vs) = false
-ring_of (update t ss w) = false
-ring_of (delete t w) = false
+-- the form of x, with what only it has: the constant of ROWS or RING, and whether it is RING (A.4); the second table's name (A.1)
+abbrev pub FormIs : List ℕ → Form → Sentence → Type 0
+FormIs s (Table p ring) (table t cs b z) = (token_on s p ≡ T.constant z) × (ring ≡ b)
+FormIs s Select (select cs t w) = Unit {0}
+FormIs s Insert (insert t vs) = Unit {0}
+FormIs s Update (update t ss w) = Unit {0}
+FormIs s Delete (delete t w) = Unit {0}
+FormIs s (Pair p) (pair cs t u w) = name_on s p ≡ u
+FormIs s _ _ = ⊥
 
--- the constant of a TABLE's ROWS or RING stands at p
-abbrev pub RowsAt : List ℕ → ℕ → Sentence → Type 0
-RowsAt s p (table t cs ring z) = token_on s p ≡ T.constant z
-RowsAt s p (select cs t w) = Unit {0}
-RowsAt s p (pair cs t u w) = Unit {0}
-RowsAt s p (insert t vs) = Unit {0}
-RowsAt s p (update t ss w) = Unit {0}
-RowsAt s p (delete t w) = Unit {0}
-
--- the first n items that are noted name the columns of the list, in the forms that name columns
-abbrev pub NamesAt : List ℕ → ℕ → List ℕ → Sentence → Type 0
-NamesAt s n ls (table t cs ring z) = n ≤ most_items → names_on s n ls ≡ items cs
-NamesAt s n ls (select cs t w) = n ≤ most_items → names_on s n ls ≡ items cs
-NamesAt s n ls (pair cs t u w) = n ≤ most_items → dotted_on s n ls ≡ items cs
-NamesAt s n ls (insert t vs) = Unit {0}
-NamesAt s n ls (update t ss w) = n ≤ most_items → names_on s n ls ≡ map (λ (x : Name × Given). x.0) (items ss)
-NamesAt s n ls (delete t w) = Unit {0}
+-- the items that are noted name the columns of the list, in the forms that name columns
+abbrev pub NamesAt : List ℕ → List Item → Sentence → Type 0
+NamesAt s ls (table t cs ring z) = names_on s ls ≡ items cs
+NamesAt s ls (select cs t w) = names_on s ls ≡ items cs
+NamesAt s ls (pair cs t u w) = dotted_on s ls ≡ items cs
+NamesAt s ls (insert t vs) = Unit {0}
+NamesAt s ls (update t ss w) = names_on s ls ≡ map (λ (x : Name × Given). x.0) (items ss)
+NamesAt s ls (delete t w) = Unit {0}
 
 -- they give the values of the list, in the forms that give values
-abbrev pub GivensAt : List ℕ → ℕ → List ℕ → Sentence → Type 0
-GivensAt s n ls (table t cs ring z) = Unit {0}
-GivensAt s n ls (select cs t w) = Unit {0}
-GivensAt s n ls (pair cs t u w) = Unit {0}
-GivensAt s n ls (insert t vs) = n ≤ most_items → givens_on s n ls ≡ items vs
-GivensAt s n ls (update t ss w) = n ≤ most_items → givens_on s n ls ≡ map (λ (x : Name × Given). x.1) (items ss)
-GivensAt s n ls (delete t w) = Unit {0}
+abbrev pub GivensAt : List ℕ → List Item → Sentence → Type 0
+GivensAt s ls (table t cs ring z) = Unit {0}
+GivensAt s ls (select cs t w) = Unit {0}
+GivensAt s ls (pair cs t u w) = Unit {0}
+GivensAt s ls (insert t vs) = givens_on s ls ≡ items vs
+GivensAt s ls (update t ss w) = givens_on s ls ≡ map (λ (x : Name × Given). x.1) (items ss)
+GivensAt s ls (delete t w) = Unit {0}
 
--- A.1: its second table's name stands at p
-abbrev pub SecondAt : List ℕ → ℕ → Sentence → Type 0
-SecondAt s p (table t cs ring z) = Unit {0}
-SecondAt s p (select cs t w) = Unit {0}
-SecondAt s p (pair cs t u w) = name_on s p ≡ u
-SecondAt s p (insert t vs) = Unit {0}
-SecondAt s p (update t ss w) = Unit {0}
-SecondAt s p (delete t w) = Unit {0}
-
--- the first n nodes that are noted are those of its WHERE
-abbrev pub NodesAt : List ℕ → ℕ → List ℕ → Sentence → Type 0
-NodesAt s n ps (table t cs ring z) = Unit {0}
-NodesAt s n ps (select cs t w) = n ≤ 15 → nodes_on false s n ps ≡ nodes_in (mapped_in comparison w)
-NodesAt s n ps (pair cs t u w) = n ≤ 15 → nodes_on true s n ps ≡ nodes_in (mapped_in comparison w)
-NodesAt s n ps (insert t vs) = Unit {0}
-NodesAt s n ps (update t ss w) = n ≤ 15 → nodes_on false s n ps ≡ nodes_in (mapped_in comparison w)
-NodesAt s n ps (delete t w) = n ≤ 15 → nodes_on false s n ps ≡ nodes_in (mapped_in comparison w)
+-- the nodes that are noted are those of its WHERE
+abbrev pub NodesAt : List ℕ → List Node → Sentence → Type 0
+NodesAt s ps (table t cs ring z) = Unit {0}
+NodesAt s ps (select cs t w) = nodes_on false s ps ≡ nodes_in (mapped_in comparison w)
+NodesAt s ps (pair cs t u w) = nodes_on true s ps ≡ nodes_in (mapped_in comparison w)
+NodesAt s ps (insert t vs) = Unit {0}
+NodesAt s ps (update t ss w) = nodes_on false s ps ≡ nodes_in (mapped_in comparison w)
+NodesAt s ps (delete t w) = nodes_on false s ps ≡ nodes_in (mapped_in comparison w)
 
 -- A.6: of a question over two tables they say which comparisons are bare
-abbrev pub BareAt : ℕ → List ℕ → Sentence → Type 0
-BareAt n ps (table t cs ring z) = Unit {0}
-BareAt n ps (select cs t w) = Unit {0}
-BareAt n ps (pair cs t u w) = n ≤ 15 → bare_marks_on n ps ≡ bare_marks_in (mapped_in comparison w)
-BareAt n ps (insert t vs) = Unit {0}
-BareAt n ps (update t ss w) = Unit {0}
-BareAt n ps (delete t w) = Unit {0}
+abbrev pub BareAt : List Node → Sentence → Type 0
+BareAt ps (table t cs ring z) = Unit {0}
+BareAt ps (select cs t w) = Unit {0}
+BareAt ps (pair cs t u w) = bare_marks_on ps ≡ bare_marks_in (mapped_in comparison w)
+BareAt ps (insert t vs) = Unit {0}
+BareAt ps (update t ss w) = Unit {0}
+BareAt ps (delete t w) = Unit {0}
 
 -- the sentence x was read: counted, and noted in the arrays ls and ps where there was room
-pub record Entered (s ls ps : List ℕ) (r : Entry) (x : Sentence) : Type 0 where
-  pub ok : r.c.ok ≡ true
-  pub form : r.form ≡ form_of x
+pub record Entered (s : List ℕ) (ls : List Item) (ps : List Node) (r : Entry) (x : Sentence) : Type 0 where
+  pub form : FormIs s r.form x
   pub past : past_limit x ≡ over_on r
   pub table : name_on s r.table ≡ table_named x
-  pub rows : RowsAt s r.rows x
-  pub ring : r.ring ≡ ring_of x
   pub listed_are : r.listed ≡ list_length x
   pub marks_are : r.c.marks ≡ mark_count (givens x)
   pub nodes_are : r.c.nodes ≡ length (nodes_in (where_of x))
-  pub noted : NodesAt s r.c.nodes ps x
-  pub bare : BareAt r.c.nodes ps x
-  pub second : SecondAt s r.second x
-  pub names : NamesAt s r.listed ls x
-  pub givens : GivensAt s r.listed ls x
+  pub noted : r.c.nodes ≤ 15 → NodesAt s (take r.c.nodes ps) x
+  pub bare : r.c.nodes ≤ 15 → BareAt (take r.c.nodes ps) x
+  pub names : r.listed ≤ most_items → NamesAt s (take r.listed ls) x
+  pub givens : r.listed ≤ most_items → GivensAt s (take r.listed ls) x
 
 -- r is what the text says, if it is a sentence
-abbrev pub Noted : List ℕ → List ℕ → List ℕ → Entry → Option Sentence → Type 0
-Noted s ls ps r none = r.c.ok ≡ false
-Noted s ls ps r (some x) = Entered s ls ps r x
+abbrev pub Noted : List ℕ → List Item → List Node → Maybe Entry → Option Sentence → Type 0
+Noted s ls ps None none = Unit {0}
+Noted s ls ps None (some x) = ⊥
+Noted s ls ps (Some r) none = ⊥
+Noted s ls ps (Some r) (some x) = Entered s ls ps r x
 
 -- what a form asks, after its first word: nothing was counted yet, and b says whether its columns are dotted
-pub record Starts (s : List ℕ) (b : Bool) (c : Cursor) : Type 0 where
-  pub ok : c.ok ≡ true
+pub record Starts (b : Bool) (c : Cursor) : Type 0 where
   pub dotted : c.dotted ≡ b
-  pub stands : Stands s c
   pub over : c.over ≡ false
   pub nodes : c.nodes ≡ 0
   pub marks : c.marks ≡ 0
 
-abbrev pub ReadsForm : (ℕ → Reader Sentence) → List ℕ → Cursor → List ℕ → List ℕ → Entry → Type 0
-ReadsForm reader s c ls ps r = (n : ℕ) → calls s ≤ n → Takes s r.c (Entered s ls ps r) (reader n (tokens (drop c.at s)))
+abbrev pub ReadsForm : (ℕ → Reader Sentence) → List ℕ → Cursor → List Item → List Node → Maybe Entry → Type 0
+ReadsForm reader s c ls ps r = (n : ℕ) → calls s ≤ n → Takes s (λ (e : Entry). e.c) (Entered s ls ps) r (reader n (tokens (drop c.at s)))
 
 -- TABLE and INSERT note no condition, and DELETE no list: what stands in the other array does not matter
-abbrev pub Lists : (ℕ → Reader Sentence) → List ℕ → Cursor → List ℕ → Entry → Type 0
-Lists reader s c ls r = (ps : List ℕ) → ReadsForm reader s c ls ps r
+abbrev pub Lists : (ℕ → Reader Sentence) → List ℕ → Cursor → List Item → Maybe Entry → Type 0
+Lists reader s c ls r = (ps : List Node) → ReadsForm reader s c ls ps r
 
-abbrev pub Deletes : List ℕ → Cursor → List ℕ → Entry → Type 0
-Deletes s c ps r = (ls : List ℕ) → ReadsForm a_delete s c ls ps r
+abbrev pub Deletes : List ℕ → Cursor → List Node → Maybe Entry → Type 0
+Deletes s c ps r = (ls : List Item) → ReadsForm a_delete s c ls ps r
 
-abbrev pub ReadsAny : List ℕ → List ℕ → List ℕ → Entry → Type 0
-ReadsAny s ls ps r = (n : ℕ) → calls s ≤ n → Takes s r.c (Entered s ls ps r) (a_sentence n (tokens s))
+abbrev pub ReadsAny : List ℕ → List Item → List Node → Maybe Entry → Type 0
+ReadsAny s ls ps r = (n : ℕ) → calls s ≤ n → Takes s (λ (e : Entry). e.c) (Entered s ls ps) r (a_sentence n (tokens s))

@@ -1,26 +1,29 @@
 // Settings, conditions and statements put together from their parts.
-ghost use Rattle.std.specs.Prelude.{◌≡◌, [], ◌+◌, ◌≤◌, ◌<◌, length, replicate};
+ghost use Rattle.std.specs.Prelude.{◌≡◌, ◌+◌, ◌≤◌, ◌<◌, eqb, map, length};
 ghost use Rattle.meaning.specs.Condition.{renamed};
-ghost use Rattle.meaning.specs.Postfix.{leaves};
-ghost use Rattle.meaning.specs.Limits.{most_items, most_marks, most_comparisons};
+ghost use Rattle.meaning.specs.Limits.{most_marks, most_comparisons};
 ghost use Rattle.meaning.specs.Statement.{comparison_of};
 ghost use Rattle.meaning.specs.Resolve.{resolve_nodes};
-ghost use Rattle.statement.specs.Places.{nodes_on, bare_mark, bare_marks_on};
+ghost use Rattle.statement.specs.Operators.{predicate_at, predicate_number};
+ghost use Rattle.statement.specs.Places.{bare_mark, bare_marks_on};
 ghost use Rattle.statement.specs.Sentences.{givens_on};
-ghost use Rattle.statement.specs.Compiled.{left_side, right_side, comparison_struct, condition_struct, marks_number, no_setting, no_comparison, no_table, no_query, no_update};
-ghost use Rattle.statement.specs.Built.{place_in, dotted, short_column, short_term, kept_on, mark_in_value, mark_in_side, comparison_on, step_in, settings_on, StepsAre, outer_on, outer_in};
+ghost use Rattle.statement.specs.Compiled.{padded, left_side, right_side, comparison_struct, condition_struct, marks_number};
+ghost use Rattle.statement.specs.Built.{place_in, dotted, short_column, short_term, kept_on, mark_in_value, mark_in_side, comparison_on, step_in, last_of, settings_on, outer_on, outer_in};
 
-use super::conditions::Cursor;
+use super::build::Reading;
+use super::conditions::Node;
 use super::names::Scope;
-use super::sentences::Entry;
-use super::{Comparison, Condition, Operand, Query, Setting, Step, Table, Update, Value, fetching};
+use super::{Comparison, Condition, Given, Operand, Setting, Step, Term, Update, Value, fetching};
 
 // ---- settings
 
 fn mark_in(v: Value) -> u8
     ensures { result ≡ mark_in_value v }
 {
-    u8::from(v.mark != 0)
+    match v.read() {
+        Given::Constant(_) => 0,
+        Given::Parameter(_) => 1,
+    }
 }
 
 // Settings, and how many question marks they have.
@@ -30,29 +33,25 @@ pub struct Settings {
     pub marks: u8,
 }
 
-pub fn no_settings() -> [Setting; Update::SETTINGS]
-    ensures { result ≡ replicate most_items no_setting }
-{
-    [Setting::default(); Update::SETTINGS]
-}
-
-// The values of the first items of a list, one for each of these columns.
-pub fn settings_at(text: &[u8], list: &[u16; Entry::LIST], columns: &[u8]) -> Settings
-    requires { length columns.now ≤ most_items }
-    ensures { result ≡ settings_on columns.now (givens_on text.now (length columns.now) list.now) }
-{
-    let mut all = no_settings();
-    let mut marks: u8 = 0;
-    for (i, column) in columns.iter().enumerate() {
-        let value = fetching::value_at(text, usize::from(list[2 * i + 1]), marks);
-        all[i] = Setting {
-            column: *column,
-            mark: value.mark,
-            number: value.number,
-        };
-        marks += mark_in(value);
+impl Reading<'_> {
+    // The values of the items of its list, one for each of these columns. An item, its column and its setting stand at one place of three arrays, so that the place is counted.
+    pub fn listed_settings(&self, columns: &[u8]) -> Settings
+        requires { length columns.now ≡ length self.now.items.now }
+        ensures { result ≡ settings_on columns.now (givens_on self.now.text.now self.now.items.now) }
+    {
+        let mut all = [Setting::default(); Update::SETTINGS];
+        let mut marks: u8 = 0;
+        for (i, item) in self.items.iter().enumerate() {
+            let value = fetching::value_at(self.text, usize::from(item.value), marks);
+            all[i] = Setting {
+                column: columns[i],
+                mark: value.mark,
+                number: value.number,
+            };
+            marks += mark_in(value);
+        }
+        Settings { all, marks }
     }
-    Settings { all, marks }
 }
 
 // ---- conditions
@@ -60,25 +59,32 @@ pub fn settings_at(text: &[u8], list: &[u16; Entry::LIST], columns: &[u8]) -> Se
 fn mark_of(side: Operand) -> u8
     ensures { result ≡ mark_in_side side }
 {
-    side.code % 2
+    match side.read() {
+        Term::Parameter(_) => 1,
+        _ => 0,
+    }
+}
+
+// The number by which an operator is stored: a number past the last one is read as <>.
+fn operator(op: u8) -> u8
+    ensures { result ≡ predicate_number (predicate_at op) }
+{
+    if op < Comparison::OPERATORS {
+        op
+    } else {
+        Comparison::NE
+    }
 }
 
 // A comparison, by its operator and the places of its sides.
-fn comparison_at(
-    text: &[u8],
-    op: u16,
-    left: u16,
-    right: u16,
-    scope: &Scope,
-    marks: u8,
-) -> Comparison
-    requires { (op < 8) × (marks < 126) }
+fn comparison_at(text: &[u8], op: u8, left: u16, right: u16, scope: &Scope, marks: u8) -> Comparison
+    requires { marks < 126 }
     ensures { result ≡ comparison_struct (comparison_of (place_in scope.now) marks (renamed (short_term (short_column (dotted scope.now))) (comparison_on (dotted scope.now) text.now op left right))) }
 {
-    let a = fetching::operand_at(text, left as usize, scope, marks);
-    let b = fetching::operand_at(text, right as usize, scope, marks + mark_of(a));
+    let a = fetching::operand_at(text, usize::from(left), scope, marks);
+    let b = fetching::operand_at(text, usize::from(right), scope, marks + mark_of(a));
     Comparison {
-        op: op as u8,
+        op: operator(op),
         left: a.code,
         right: b.code,
         left_number: a.number,
@@ -92,109 +98,101 @@ fn marks_of(c: Comparison) -> u8
     mark_of(c.left_side()) + mark_of(c.right_side())
 }
 
-fn no_comparisons() -> [Comparison; Condition::COMPARISONS]
-    ensures { result ≡ replicate most_comparisons no_comparison }
+fn step_in(node: &Node) -> u8
+    ensures { result ≡ step_in node.now }
 {
-    [Comparison::default(); Condition::COMPARISONS]
-}
-
-fn step_in(node: u16) -> u8
-    ensures { result ≡ step_in node }
-{
-    if node < Cursor::COMPARISONS {
-        Step::COMPARISON
-    } else if node == Cursor::AND {
-        Step::AND
-    } else {
-        Step::OR
+    match node {
+        Node::Comparison { .. } => Step::COMPARISON,
+        Node::And => Step::AND,
+        Node::Or => Step::OR,
     }
 }
 
-// Nodes are noted three numbers each, in one array: the loops over them go by index.
-fn steps_at(places: &[u16; Cursor::PLACES], nodes: usize) -> [u8; Condition::STEPS]
-    requires { nodes ≤ 15 }
-    ensures { StepsAre nodes places.now result }
+fn steps_at(nodes: &[Node]) -> [u8; Condition::STEPS]
+    requires { length nodes.now ≤ 15 }
+    ensures { result ≡ padded 15 0 (map step_in nodes.now) }
 {
     let mut steps = [0u8; Condition::STEPS];
-    for i in 0..nodes {
-        steps[i] = step_in(places[3 * i]);
+    for (i, node) in nodes.iter().enumerate() {
+        steps[i] = step_in(node);
     }
     steps
 }
 
-// The condition of the nodes that are noted, with columns of these names, where so many question marks stand before it.
-pub fn condition_at(
-    text: &[u8],
-    places: &[u16; Cursor::PLACES],
-    nodes: usize,
-    scope: &Scope,
-    marks: u8,
-) -> Condition
-    requires { (nodes ≤ 15) × (marks ≤ most_marks) × (length (leaves (nodes_on (dotted scope.now) text.now nodes places.now)) ≤ most_comparisons) }
-    ensures { result ≡ condition_struct (resolve_nodes (place_in scope.now) marks (kept_on (dotted scope.now) text.now nodes places.now)) }
-{
-    let mut comparisons = no_comparisons();
-    let mut found: usize = 0;
-    let mut m = marks;
-    for i in 0..nodes {
-        let node = places[3 * i];
-        if node < Cursor::COMPARISONS {
-            let op = node % Cursor::BARE;
-            let c = comparison_at(text, op, places[3 * i + 1], places[3 * i + 2], scope, m);
-            comparisons[found] = c;
-            found += 1;
-            m += marks_of(c);
+impl Reading<'_> {
+    // Its condition, with columns of these tables, where so many question marks stand before it.
+    pub fn noted_condition(&self, scope: &Scope, marks: u8) -> Condition
+        requires { marks ≤ most_marks }
+        ensures { result ≡ condition_struct (resolve_nodes (place_in scope.now) marks (kept_on (dotted scope.now) self.now.text.now self.now.nodes.now)) }
+    {
+        let mut comparisons = [Comparison::default(); Condition::COMPARISONS];
+        let mut found: usize = 0;
+        let mut m = marks;
+        for node in self.nodes {
+            if let Node::Comparison {
+                op,
+                left,
+                right,
+                ..
+            } = node
+            {
+                let c = comparison_at(self.text, *op, *left, *right, scope, m);
+                comparisons[found] = c;
+                found += 1;
+                m += marks_of(c);
+            }
+        }
+        Condition {
+            comparisons,
+            steps: steps_at(self.nodes),
+            count: found as u8,
         }
     }
-    Condition {
-        comparisons,
-        steps: steps_at(places, nodes),
-        count: found as u8,
-    }
-}
-
-pub fn no_condition() -> Condition
-    ensures { result ≡ condition_struct [] }
-{
-    Condition::default()
 }
 
 // ---- outer comparisons (A.6)
 
 // One mark more behind these, if the node is a comparison.
-fn with_mark(marks: u8, node: u16) -> u8
-    requires { marks_number marks (bare_mark node) ≤ 255 }
-    ensures { result ≡ marks_number marks (bare_mark node) }
+fn with_mark(marks: u8, node: &Node) -> u8
+    requires { marks_number marks (bare_mark node.now) ≤ 255 }
+    ensures { result ≡ marks_number marks (bare_mark node.now) }
 {
-    if node < Cursor::COMPARISONS {
-        2 * marks + (node / Cursor::BARE) as u8
-    } else {
-        marks
+    match node {
+        Node::Comparison { bare, .. } => 2 * marks + u8::from(*bare),
+        _ => marks,
+    }
+}
+
+// Whether OR is the last node.
+fn ends_in_or(nodes: &[Node]) -> bool
+    ensures { result ≡ eqb (last_of 0 (map step_in nodes.now)) 2 }
+{
+    match nodes.last() {
+        Some(node) => step_in(node) == Step::OR,
+        None => false,
     }
 }
 
 // The marks of the outer comparisons among the nodes that are noted: the bare ones, but none under OR. Where OR is the last node, it joins them all, or none is bare.
-fn outer_marks(places: &[u16; Cursor::PLACES], nodes: usize) -> u8
-    requires { (nodes ≤ 15) × (length (bare_marks_on nodes places.now) ≤ most_comparisons) }
-    ensures { result ≡ outer_on nodes places.now }
+fn outer_marks(nodes: &[Node]) -> u8
+    requires { length (bare_marks_on nodes.now) ≤ most_comparisons }
+    ensures { result ≡ outer_on nodes.now }
 {
     let mut marks: u8 = 0;
-    let mut last = Step::COMPARISON;
-    for i in 0..nodes {
-        let node = places[3 * i];
+    for node in nodes {
         marks = with_mark(marks, node);
-        last = step_in(node);
     }
-    if last == Step::OR { 0 } else { marks }
+    if ends_in_or(nodes) { 0 } else { marks }
 }
 
-// Those of a question over two tables; over one they are not needed.
-pub fn outer_of(scope: &Scope, places: &[u16; Cursor::PLACES], nodes: usize) -> u8
-    requires { (nodes ≤ 15) × (length (bare_marks_on nodes places.now) ≤ most_comparisons) }
-    ensures { result ≡ outer_in (dotted scope.now) nodes places.now }
-{
-    match scope {
-        Scope::One(_) => 0,
-        Scope::Two(_, _) => outer_marks(places, nodes),
+impl Reading<'_> {
+    // Those of a question over two tables; over one they are not needed.
+    pub fn outer_of(&self, scope: &Scope) -> u8
+        ensures { result ≡ outer_in (dotted scope.now) self.now.nodes.now }
+    {
+        match scope {
+            Scope::One(_) => 0,
+            Scope::Two(_, _) => outer_marks(self.nodes),
+        }
     }
 }

@@ -1,52 +1,52 @@
 // The forms: statements from what was read, with names looked up in the tables that there are.
-ghost use Rattle.std.specs.Prelude.{◌≡◌, suc, ◌≤◌, map};
-ghost use Rattle.meaning.specs.Limits.{most_items};
+ghost use Rattle.std.specs.Prelude.{◌≡◌, map};
 ghost use Rattle.statement.specs.Catalog.{name_of_struct, column_names, schema_of};
 ghost use Rattle.statement.specs.Compiled.{compiled};
 ghost use Rattle.statement.specs.Built.{place_in, width_in, start_in, twice_in, dotted, Fits, table_on, select_on, insert_on, update_on, delete_on, form_on, pair_on, beside_on};
 
-use super::conditions::Cursor;
+use super::conditions::Node;
 use super::names::{Catalog, Scope};
 use super::refusals::Met;
-use super::sentences::{Entry, Form};
-use super::{Query, Refusal, Statement, Table, Update, assembling, fetching, names, refusals};
+use super::sentences::{Entry, Form, Item};
+use super::{
+    Condition, Query, Refusal, Setting, Statement, Table, Update, fetching, names, refusals,
+};
 
 // An INSERT's values stand in the order of the columns.
 const PLACES: [u8; Update::SETTINGS] = [0, 1, 2, 3, 4, 5, 6, 7];
 
-// A sentence within the limits, as it was read: its text, where the items of its list and the nodes of its condition stand there, and what was counted.
+// A sentence within the limits, as it was read: its text, where the items of its list and the nodes of its condition stand there, and its form.
 #[derive(Clone, Copy)]
 pub struct Reading<'a> {
     pub text: &'a [u8],
-    pub list: &'a [u16; Entry::LIST],
-    pub places: &'a [u16; Cursor::PLACES],
+    pub items: &'a [Item],
+    pub nodes: &'a [Node],
     pub e: Entry,
-    ghost fits: { Fits text.now places.now e },
+    ghost fits: { Fits text.now items.now nodes.now e },
 }
 
 impl Reading<'_> {
-    // TABLE: a new table.
-    pub fn table(&self, beside: &Catalog) -> Result<Statement, Refusal>
-        ensures { compiled result ≡ table_on self.now.text.now self.now.list.now self.now.e (map schema_of beside.now.tables.now) beside.now.cells }
+    // TABLE: a new table, by the place of the constant of its ROWS or RING.
+    pub fn table(&self, rows: u16, ring: bool, beside: &Catalog) -> Result<Statement, Refusal>
+        ensures { compiled result ≡ table_on self.now.text.now self.now.items.now self.now.e.table rows ring (map schema_of beside.now.tables.now) beside.now.cells }
     {
-        let e = self.e;
-        let n = e.listed as usize;
-        let name = fetching::name_at(self.text, e.table as usize);
-        let columns = fetching::names_at(self.text, *self.list, n);
-        let capacity = fetching::rows_at(self.text, e.rows as usize);
+        let n = self.items.len();
+        let name = fetching::name_at(self.text, usize::from(self.e.table));
+        let columns = self.listed_names();
+        let capacity = fetching::rows_at(self.text, usize::from(rows));
         let met = Met {
             taken: beside.is_taken(&name, &columns[..n]),
-            full: beside.is_full(u32::from(e.listed) * u32::from(capacity)),
+            full: beside.has_no_place(n as u32 * u32::from(capacity)),
             ..Met::default()
         };
         let t = Table {
             name,
             columns,
-            count: e.listed as u8,
+            count: n as u8,
             capacity,
             rows: 0,
             oldest: 0,
-            ring: e.ring,
+            ring,
         };
         met.refuse()?;
         Ok(Statement::Table(t))
@@ -60,13 +60,11 @@ impl Reading<'_> {
         second: u8,
         queries: u8,
     ) -> Result<Statement, Refusal>
-        ensures { compiled result ≡ select_on (dotted scope.now) (place_in scope.now) (width_in scope.now) self.now.text.now self.now.list.now self.now.places.now self.now.e table second (start_in scope.now) (twice_in scope.now) queries }
+        ensures { compiled result ≡ select_on (dotted scope.now) (place_in scope.now) (width_in scope.now) self.now.text.now self.now.items.now self.now.nodes.now self.now.e table second (start_in scope.now) (twice_in scope.now) queries }
     {
-        let e = self.e;
-        let n = e.listed as usize;
-        let nodes = e.c.nodes as usize;
-        let selected = fetching::columns_at(self.text, *self.list, n, scope);
-        let condition = assembling::condition_at(self.text, self.places, nodes, scope, 0);
+        let n = self.items.len();
+        let selected = self.listed_places(scope);
+        let condition = self.noted_condition(scope, 0);
         let met = Met {
             unknown: refusals::is_unknown(&selected[..n], &condition, scope.width()),
             twice: scope.is_twice(),
@@ -76,11 +74,11 @@ impl Reading<'_> {
         let q = Query {
             table,
             selected,
-            count: e.listed as u8,
-            parameters: e.c.marks as u8,
+            count: n as u8,
+            parameters: self.e.c.marks as u8,
             second,
             start: scope.start(),
-            outer: assembling::outer_of(scope, self.places, nodes),
+            outer: self.outer_of(scope),
             condition,
         };
         met.refuse()?;
@@ -89,11 +87,10 @@ impl Reading<'_> {
 
     // INSERT into, UPDATE and DELETE of the table t of that number.
     fn insert(&self, t: &Table, table: u8, updates: u8) -> Result<Statement, Refusal>
-        ensures { compiled result ≡ insert_on self.now.text.now self.now.list.now self.now.e (column_names t.now) table updates }
+        ensures { compiled result ≡ insert_on self.now.text.now self.now.items.now self.now.e (column_names t.now) table updates }
     {
-        let e = self.e;
-        let n = e.listed as usize;
-        let s = assembling::settings_at(self.text, self.list, &PLACES[..n]);
+        let n = self.items.len();
+        let s = self.listed_settings(&PLACES[..n]);
         let settings = s.all;
         let met = Met {
             miscounted: n != Scope::One(t).width(),
@@ -104,31 +101,24 @@ impl Reading<'_> {
             form: Update::INSERT,
             table,
             settings,
-            count: e.listed as u8,
-            parameters: e.c.marks as u8,
-            condition: assembling::no_condition(),
+            count: n as u8,
+            parameters: self.e.c.marks as u8,
+            condition: Condition::default(),
         };
         met.refuse()?;
         Ok(Statement::Update(u))
     }
 
     fn update(&self, t: &Table, table: u8, updates: u8) -> Result<Statement, Refusal>
-        ensures { compiled result ≡ update_on self.now.text.now self.now.list.now self.now.places.now self.now.e (column_names t.now) table updates }
+        ensures { compiled result ≡ update_on self.now.text.now self.now.items.now self.now.nodes.now self.now.e (column_names t.now) table updates }
     {
-        let e = self.e;
-        let n = e.listed as usize;
+        let n = self.items.len();
         let scope = Scope::One(t);
-        let names = fetching::names_at(self.text, *self.list, n);
+        let names = self.listed_names();
         let at = names::positions(&names[..n], t);
-        let s = assembling::settings_at(self.text, self.list, &at[..n]);
+        let s = self.listed_settings(&at[..n]);
         let settings = s.all;
-        let condition = assembling::condition_at(
-            self.text,
-            self.places,
-            e.c.nodes as usize,
-            &scope,
-            s.marks,
-        );
+        let condition = self.noted_condition(&scope, s.marks);
         let met = Met {
             unknown: refusals::is_unknown(&at[..n], &condition, scope.width()),
             taken: names::is_repeated(&names[..n]),
@@ -139,8 +129,8 @@ impl Reading<'_> {
             form: Update::UPDATE,
             table,
             settings,
-            count: e.listed as u8,
-            parameters: e.c.marks as u8,
+            count: n as u8,
+            parameters: self.e.c.marks as u8,
             condition,
         };
         met.refuse()?;
@@ -148,17 +138,10 @@ impl Reading<'_> {
     }
 
     fn delete(&self, t: &Table, table: u8, updates: u8) -> Result<Statement, Refusal>
-        ensures { compiled result ≡ delete_on self.now.text.now self.now.places.now self.now.e (column_names t.now) table updates }
+        ensures { compiled result ≡ delete_on self.now.text.now self.now.nodes.now self.now.e (column_names t.now) table updates }
     {
-        let e = self.e;
         let scope = Scope::One(t);
-        let condition = assembling::condition_at(
-            self.text,
-            self.places,
-            e.c.nodes as usize,
-            &scope,
-            0,
-        );
+        let condition = self.noted_condition(&scope, 0);
         let met = Met {
             unknown: refusals::is_unknown(&[], &condition, scope.width()),
             full: Update::UPDATES <= usize::from(updates),
@@ -167,9 +150,9 @@ impl Reading<'_> {
         let u = Update {
             form: Update::DELETE,
             table,
-            settings: assembling::no_settings(),
+            settings: [Setting::default(); Update::SETTINGS],
             count: 0,
-            parameters: e.c.marks as u8,
+            parameters: self.e.c.marks as u8,
             condition,
         };
         met.refuse()?;
@@ -178,7 +161,7 @@ impl Reading<'_> {
 
     // A question of the table t of that number alone, or an update of it.
     fn form(&self, t: &Table, table: u8, beside: &Catalog) -> Result<Statement, Refusal>
-        ensures { compiled result ≡ form_on self.now.text.now self.now.list.now self.now.places.now self.now.e (column_names t.now) table beside.now.queries beside.now.updates }
+        ensures { compiled result ≡ form_on self.now.text.now self.now.items.now self.now.nodes.now self.now.e (column_names t.now) table beside.now.queries beside.now.updates }
     {
         match self.e.form {
             Form::Select => self.select(&Scope::One(t), table, 0, beside.queries),
@@ -188,11 +171,17 @@ impl Reading<'_> {
         }
     }
 
-    // A question of the table t of that number, and of the one that the text names second.
-    fn pair(&self, t: &Table, table: u8, beside: &Catalog) -> Result<Statement, Refusal>
-        ensures { compiled result ≡ pair_on (name_of_struct t.now.name) (column_names t.now) self.now.text.now self.now.list.now self.now.places.now self.now.e (map schema_of beside.now.tables.now) table beside.now.queries }
+    // A question of the table t of that number, and of the one that the text names at that place.
+    fn pair(
+        &self,
+        t: &Table,
+        table: u8,
+        second: u16,
+        beside: &Catalog,
+    ) -> Result<Statement, Refusal>
+        ensures { compiled result ≡ pair_on (name_of_struct t.now.name) (column_names t.now) second self.now.text.now self.now.items.now self.now.nodes.now self.now.e (map schema_of beside.now.tables.now) table beside.now.queries }
     {
-        let name = fetching::name_at(self.text, self.e.second as usize);
+        let name = fetching::name_at(self.text, usize::from(second));
         let j = beside.find(&name).ok_or(Refusal::Unknown)?;
         let scope = Scope::Two(t, &beside.tables[usize::from(j)]);
         self.select(&scope, table, j + 1, beside.queries)
@@ -200,15 +189,14 @@ impl Reading<'_> {
 
     // A question or an update of one of the tables.
     pub fn beside(&self, beside: &Catalog) -> Result<Statement, Refusal>
-        ensures { compiled result ≡ beside_on self.now.text.now self.now.list.now self.now.places.now self.now.e (map schema_of beside.now.tables.now) beside.now.queries beside.now.updates }
+        ensures { compiled result ≡ beside_on self.now.text.now self.now.items.now self.now.nodes.now self.now.e (map schema_of beside.now.tables.now) beside.now.queries beside.now.updates }
     {
-        let name = fetching::name_at(self.text, self.e.table as usize);
+        let name = fetching::name_at(self.text, usize::from(self.e.table));
         let i = beside.find(&name).ok_or(Refusal::Unknown)?;
         let t = &beside.tables[usize::from(i)];
-        if let Form::Pair = self.e.form {
-            self.pair(t, i, beside)
-        } else {
-            self.form(t, i, beside)
+        match self.e.form {
+            Form::Pair { second } => self.pair(t, i, second, beside),
+            _ => self.form(t, i, beside),
         }
     }
 }

@@ -5,17 +5,16 @@ ghost use Rattle.meaning.specs.Condition.{atom, conjunction, disjunction};
 ghost use Rattle.meaning.specs.Limits.{most_text};
 ghost use Rattle.token.specs.Tokens.{token_at};
 ghost use Rattle.statement.specs.Operators.{opposite_of};
-ghost use Rattle.statement.specs.Places.{comparison_code};
+ghost use Rattle.statement.specs.Places.{comparison_node};
 ghost use Rattle.statement.specs.Reading.{past, is_operand, operator_in, is_name, is_is, marks_at, ReadsDotted, ReadsSide, with_sides, PutsNode, PutsNull, Stands, Reaches, TestsNull, Compares, Reads, Closes};
 
 use super::{Comparison, Condition, Name, operators};
 use token::{Kind, Token};
 
-// Where a reader stands in a text, and what it has counted: nodes of the condition, question marks. `over` says that a limit was passed by a name, a constant or
-// the depth; a reader of forms that failed is not `ok` (the readers of conditions give none). Where `dotted`, which no reader changes, columns are dotted: a question over two tables (A.1).
+// Where a reader stands in a text, and what it has counted: nodes of the condition, question marks. `over` says that a limit was passed by a name, a constant or the depth: a flag,
+// since reading goes on (a text that is no sentence is refused by 4, before 5). Where `dotted`, which no reader changes, columns are dotted: a question over two tables (A.1).
 #[derive(Clone, Copy)]
 pub struct Cursor {
-    pub ok: bool,
     pub over: bool,
     pub dotted: bool,
     pub nodes: u16,
@@ -23,20 +22,44 @@ pub struct Cursor {
     pub at: u16,
 }
 
-impl Cursor {
-    // The numbers that are noted of a condition: three a node.
-    pub const PLACES: usize = 3 * Condition::STEPS;
-    // A node's code: that of a comparison is its operator, and so much more if it is bare, outside all parentheses and NOT (A.6).
-    pub const BARE: u16 = Comparison::OPERATORS as u16;
-    // Those of comparisons lie below this, and those of AND and OR far from them.
-    pub const COMPARISONS: u16 = 2 * Cursor::BARE;
-
-    pub const AND: u16 = 256;
-
-    pub const OR: u16 = 257;
+// A text and where it is read. The readers are its methods, and give the cursor behind what they read, without the text: of numbers alone they promise that one cursor is another
+// with some changed (`with_node`, `with_sides`, `moved_to`); with the text in it each would have to promise too that it is the same text.
+#[derive(Clone, Copy)]
+pub struct Parser<'a> {
+    pub text: &'a [u8],
+    pub c: Cursor,
+    ghost stands: { Stands text.now c },
 }
 
-// A side of a comparison, or a column of a list: whether it is past a limit, its question marks, where its first token starts and where the text goes on after it.
+// A condition to be read, under so many parentheses and NOTs, each of which is a token before it; `positive` under an even number of NOTs.
+#[derive(Clone, Copy)]
+pub struct Nested<'a> {
+    pub p: Parser<'a>,
+    pub positive: bool,
+    pub depth: u16,
+    ghost few: { depth ≤ p.c.at },
+}
+
+// A node of a condition as it is noted: a comparison by its operator and the places of its sides, `bare` if it stands outside all parentheses and NOT (A.6); or AND or OR.
+#[derive(Clone, Copy)]
+pub enum Node {
+    Comparison {
+        op: u8,
+        bare: bool,
+        left: u16,
+        right: u16,
+    },
+    And,
+    Or,
+}
+
+impl Node {
+    // Room for the nodes of a condition.
+    pub const NODES: usize = Condition::STEPS;
+}
+
+// A side of a comparison, or a column of a list: whether it is past a limit (it is there all the same), its question marks, where its first token starts and where the text goes on
+// after it.
 #[derive(Clone, Copy)]
 pub struct Side {
     pub over: bool,
@@ -110,75 +133,65 @@ pub fn marks_of(kind: Kind) -> u16
 
 // ---- nodes
 
-// A node at the end: a comparison by its operator with the places of its sides, or AND or OR. Past the last place none is noted, but it is counted.
-fn put(places: &mut [u16; Cursor::PLACES], c: Cursor, node: u16, left: u16, right: u16) -> Cursor
-    requires { c.nodes < most_text }
-    ensures { PutsNode places.old c node left right places.new result }
-{
-    let mut d = c;
-    d.nodes = c.nodes + 1;
-    let i = 3 * (c.nodes as usize);
-    if i + 2 < places.len() {
-        places[i] = node;
-        places[i + 1] = left;
-        places[i + 2] = right;
-        return d;
+impl Parser<'_> {
+    // The token that stands there.
+    pub fn next(self) -> Token
+        ensures { result ≡ token_at self.entry.text.now self.entry.c.at }
+    {
+        token::next(self.text, usize::from(self.c.at))
     }
-    d
+
+    // A node at the end. Past the last place none is noted, but it is counted.
+    fn put(self, nodes: &mut [Node; Node::NODES], node: Node) -> Cursor
+        ensures { PutsNode nodes.old self.entry.c node nodes.new result }
+    {
+        let i = usize::from(self.c.nodes);
+        if i < nodes.len() {
+            nodes[i] = node;
+        }
+        Cursor {
+            nodes: self.c.nodes + 1,
+            ..self.c
+        }
+    }
 }
 
-// The comparison `op` of two sides, under so many parentheses and NOTs.
-fn put_comparison(
-    places: &mut [u16; Cursor::PLACES],
-    c: Cursor,
-    positive: bool,
-    depth: u16,
-    a: Side,
-    op: u8,
-    b: Side,
-) -> Cursor
-    requires { (c.nodes < most_text) × (c.marks ≤ most_text) × (a.marks ≤ 1) × (b.marks ≤ 1) × (a.start ≤ most_text) × (b.start ≤ most_text) × (b.next ≤ most_text) }
-    ensures { PutsNode places.old (with_sides depth a b c) (comparison_code depth (cond positive op (opposite_of op))) a.start b.start places.new result }
-{
-    let mut d = c;
-    d.ok = true;
-    d.over = c.over | ((Condition::DEPTH < depth) | (a.over | b.over));
-    d.marks = c.marks + (a.marks + b.marks);
-    d.at = b.next as u16;
-    let signed = if positive {
-        op
-    } else {
-        operators::opposite(op)
-    };
-    let bare = if depth == 0 { Cursor::BARE } else { 0 };
-    put(
-        places,
-        d,
-        signed as u16 + bare,
-        a.start as u16,
-        b.start as u16,
-    )
-}
+impl Nested<'_> {
+    // The comparison `op` of two sides.
+    fn put_comparison(&self, nodes: &mut [Node; Node::NODES], a: Side, op: u8, b: Side) -> Cursor
+        requires { (a.marks ≤ 1) × (b.marks ≤ 1) × (a.start ≤ most_text) × (b.start ≤ most_text) × (b.next ≤ most_text) }
+        ensures { PutsNode nodes.old (with_sides self.now.depth a b self.now.p.c) (comparison_node self.now.depth (cond self.now.positive op (opposite_of op)) a.start b.start) nodes.new result }
+    {
+        let node = Node::Comparison {
+            op: if self.positive {
+                op
+            } else {
+                operators::opposite(op)
+            },
+            bare: self.depth == 0,
+            left: a.start as u16,
+            right: b.start as u16,
+        };
+        let d = self.p.put(nodes, node);
+        Cursor {
+            over: d.over | ((Condition::DEPTH < self.depth) | (a.over | b.over)),
+            marks: d.marks + (a.marks + b.marks),
+            at: b.next as u16,
+            ..d
+        }
+    }
 
-// The null test `op` (A.5) of the column a, if the token t is NULL: a comparison of the column with itself.
-fn put_null(
-    places: &mut [u16; Cursor::PLACES],
-    c: Cursor,
-    positive: bool,
-    depth: u16,
-    a: Side,
-    op: u8,
-    t: Token,
-) -> Option<Cursor>
-    requires { (c.nodes < most_text) × (c.marks ≤ most_text) × (a.marks ≤ 1) × (a.start ≤ most_text) × (t.next ≤ most_text) }
-    ensures { PutsNull places.old c positive depth a op t places.new result }
-{
-    let Kind::Null = t.kind else {
-        return None;
-    };
-    let mut b = a;
-    b.next = t.next;
-    Some(put_comparison(places, c, positive, depth, a, op, b))
+    // The null test `op` (A.5) of the column a, if the token t is NULL: a comparison of the column with itself.
+    fn put_null(&self, nodes: &mut [Node; Node::NODES], a: Side, op: u8, t: Token) -> Option<Cursor>
+        requires { (a.marks ≤ 1) × (a.start ≤ most_text) × (t.next ≤ most_text) }
+        ensures { PutsNull nodes.old self.now.p.c self.now.positive self.now.depth a op t nodes.new result }
+    {
+        let Kind::Null = t.kind else {
+            return None;
+        };
+        let b = Side { next: t.next, ..a };
+        Some(self.put_comparison(nodes, a, op, b))
+    }
 }
 
 // ---- operands
@@ -206,153 +219,144 @@ pub fn read_dotted(text: &[u8], first: Token) -> Option<Side>
     })
 }
 
-// An operand whose first token is read: a column, dotted where there are two tables (A.1), a constant or a question mark.
-fn read_operand(text: &[u8], dotted: bool, first: Token) -> Option<Side>
-    ensures { ReadsSide dotted text.now first result }
-{
-    if is_dotted(dotted, first.kind) {
-        return read_dotted(text, first);
+impl Parser<'_> {
+    // An operand whose first token is read: a column, dotted where there are two tables (A.1), a constant or a question mark.
+    fn read_operand(self, first: Token) -> Option<Side>
+        ensures { ReadsSide self.entry.c.dotted self.entry.text.now first result }
+    {
+        if is_dotted(self.c.dotted, first.kind) {
+            return read_dotted(self.text, first);
+        }
+        if !is_operand(first.kind) {
+            return None;
+        }
+        Some(Side {
+            over: is_past(first),
+            marks: marks_of(first.kind),
+            start: first.start,
+            next: first.next,
+        })
     }
-    if !is_operand(first.kind) {
-        return None;
+
+    // The closing parenthesis of a condition whose inside is read.
+    fn closed(self) -> Option<Cursor>
+        ensures { Closes self.entry.text.now self.entry.c result }
+    {
+        let t = self.next();
+        let Kind::Close = t.kind else {
+            return None;
+        };
+        Some(Cursor {
+            at: t.next as u16,
+            ..self.c
+        })
     }
-    Some(Side {
-        over: is_past(first),
-        marks: marks_of(first.kind),
-        start: first.start,
-        next: first.next,
-    })
 }
 
 // ---- the readers
 
-// A condition of ORs. Under an odd number of NOTs it is not `positive`.
-#[cycle(read_and_read_one_read_or)]
-pub fn read_or(
-    text: &[u8],
-    places: &mut [u16; Cursor::PLACES],
-    c: Cursor,
-    positive: bool,
-    depth: u16,
-) -> Option<Cursor>
-    requires { (Stands text.now c) × (depth ≤ c.at) }
-    ensures { Reads disjunction text.now positive depth c places.old result places.new }
-{
-    let mut p = read_and(text, places, c, positive, depth)?;
-    let t = token::next(text, p.at as usize);
-    let Kind::Or = t.kind else {
-        return Some(p);
-    };
-    p.at = t.next as u16;
-    let q = read_or(text, places, p, positive, depth)?;
-    let code = if positive { Cursor::OR } else { Cursor::AND };
-    Some(put(places, q, code, 0, 0))
-}
+impl Nested<'_> {
+    // A condition of ORs.
+    #[cycle(read_and_read_one_read_or)]
+    pub fn read_or(&self, nodes: &mut [Node; Node::NODES]) -> Option<Cursor>
+        ensures { Reads disjunction self.now.p.text.now self.now.positive self.now.depth self.now.p.c nodes.old result nodes.new }
+    {
+        let text = self.p.text;
+        let mut p = self.read_and(nodes)?;
+        let t = Parser { text, c: p }.next();
+        let Kind::Or = t.kind else {
+            return Some(p);
+        };
+        p.at = t.next as u16;
+        let rest = Nested {
+            p: Parser { text, c: p },
+            positive: self.positive,
+            depth: self.depth,
+        };
+        let q = rest.read_or(nodes)?;
+        let node = if self.positive { Node::Or } else { Node::And };
+        Some(Parser { text, c: q }.put(nodes, node))
+    }
 
-// A condition of ANDs.
-#[cycle(read_and_read_one_read_or)]
-fn read_and(
-    text: &[u8],
-    places: &mut [u16; Cursor::PLACES],
-    c: Cursor,
-    positive: bool,
-    depth: u16,
-) -> Option<Cursor>
-    requires { (Stands text.now c) × (depth ≤ c.at) }
-    ensures { Reads conjunction text.now positive depth c places.old result places.new }
-{
-    let mut p = read_one(text, places, c, positive, depth)?;
-    let t = token::next(text, p.at as usize);
-    let Kind::And = t.kind else {
-        return Some(p);
-    };
-    p.at = t.next as u16;
-    let q = read_and(text, places, p, positive, depth)?;
-    let code = if positive { Cursor::AND } else { Cursor::OR };
-    Some(put(places, q, code, 0, 0))
-}
+    // A condition of ANDs.
+    #[cycle(read_and_read_one_read_or)]
+    fn read_and(&self, nodes: &mut [Node; Node::NODES]) -> Option<Cursor>
+        ensures { Reads conjunction self.now.p.text.now self.now.positive self.now.depth self.now.p.c nodes.old result nodes.new }
+    {
+        let text = self.p.text;
+        let mut p = self.read_one(nodes)?;
+        let t = Parser { text, c: p }.next();
+        let Kind::And = t.kind else {
+            return Some(p);
+        };
+        p.at = t.next as u16;
+        let rest = Nested {
+            p: Parser { text, c: p },
+            positive: self.positive,
+            depth: self.depth,
+        };
+        let q = rest.read_and(nodes)?;
+        let node = if self.positive { Node::And } else { Node::Or };
+        Some(Parser { text, c: q }.put(nodes, node))
+    }
 
-// A condition in parentheses, whose inside is read: the closing one.
-fn closed(text: &[u8], c: Cursor) -> Option<Cursor>
-    requires { Stands text.now c }
-    ensures { Closes text.now c result }
-{
-    let t = token::next(text, c.at as usize);
-    let Kind::Close = t.kind else {
-        return None;
-    };
-    let mut d = c;
-    d.at = t.next as u16;
-    Some(d)
-}
-
-// A single condition: NOT and a single one, a condition in parentheses, or a comparison.
-#[cycle(read_and_read_one_read_or)]
-fn read_one(
-    text: &[u8],
-    places: &mut [u16; Cursor::PLACES],
-    c: Cursor,
-    positive: bool,
-    depth: u16,
-) -> Option<Cursor>
-    requires { (Stands text.now c) × (depth ≤ c.at) }
-    ensures { Reads atom text.now positive depth c places.old result places.new }
-{
-    let t = token::next(text, c.at as usize);
-    let mut here = c;
-    match t.kind {
-        Kind::Not => {
-            here.at = t.next as u16;
-            read_one(text, places, here, !positive, depth + 1)
+    // A single condition: NOT and a single one, a condition in parentheses, or a comparison.
+    #[cycle(read_and_read_one_read_or)]
+    fn read_one(&self, nodes: &mut [Node; Node::NODES]) -> Option<Cursor>
+        ensures { Reads atom self.now.p.text.now self.now.positive self.now.depth self.now.p.c nodes.old result nodes.new }
+    {
+        let text = self.p.text;
+        let t = self.p.next();
+        let mut here = self.p.c;
+        match t.kind {
+            Kind::Not => {
+                here.at = t.next as u16;
+                let negated = Nested {
+                    p: Parser { text, c: here },
+                    positive: !self.positive,
+                    depth: self.depth + 1,
+                };
+                negated.read_one(nodes)
+            }
+            Kind::Open => {
+                here.at = t.next as u16;
+                let inner = Nested {
+                    p: Parser { text, c: here },
+                    positive: self.positive,
+                    depth: self.depth + 1,
+                };
+                let inside = inner.read_or(nodes)?;
+                Parser { text, c: inside }.closed()
+            }
+            _ => self.read_comparison(nodes, t),
         }
-        Kind::Open => {
-            here.at = t.next as u16;
-            let inside = read_or(text, places, here, positive, depth + 1)?;
-            closed(text, inside)
+    }
+
+    // IS NULL or IS NOT NULL (A.5) behind the column a, where the text goes on at `at` behind IS.
+    fn read_null(&self, nodes: &mut [Node; Node::NODES], a: Side, at: usize) -> Option<Cursor>
+        requires { Reaches self.now.p.text.now self.now.p.c a at }
+        ensures { TestsNull self.now.p.text.now self.now.positive self.now.depth self.now.p.c nodes.old a at result nodes.new }
+    {
+        let t = token::next(self.p.text, at);
+        if let Kind::Not = t.kind {
+            let u = token::next(self.p.text, t.next);
+            return self.put_null(nodes, a, Comparison::IS_NOT_NULL, u);
         }
-        _ => read_comparison(text, places, c, positive, depth, t),
+        self.put_null(nodes, a, Comparison::IS_NULL, t)
     }
-}
 
-// IS NULL or IS NOT NULL (A.5) behind the column a, where the text goes on at `at` behind IS.
-fn read_null(
-    text: &[u8],
-    places: &mut [u16; Cursor::PLACES],
-    c: Cursor,
-    positive: bool,
-    depth: u16,
-    a: Side,
-    at: usize,
-) -> Option<Cursor>
-    requires { (Stands text.now c) × (Reaches text.now c a at) }
-    ensures { TestsNull text.now positive depth c places.old a at result places.new }
-{
-    let t = token::next(text, at);
-    if let Kind::Not = t.kind {
-        let u = token::next(text, t.next);
-        return put_null(places, c, positive, depth, a, Comparison::IS_NOT_NULL, u);
+    // A comparison, whose first token is read.
+    fn read_comparison(&self, nodes: &mut [Node; Node::NODES], first: Token) -> Option<Cursor>
+        requires { first ≡ token_at self.now.p.text.now self.now.p.c.at }
+        ensures { Compares self.now.p.text.now self.now.positive self.now.depth self.now.p.c nodes.old result nodes.new }
+    {
+        let a = self.p.read_operand(first)?;
+        let t = token::next(self.p.text, a.next);
+        if tests_null(first.kind, t.kind) {
+            return self.read_null(nodes, a, t.next);
+        }
+        let op = operator(t.kind)?;
+        let b = self.p.read_operand(token::next(self.p.text, t.next))?;
+        Some(self.put_comparison(nodes, a, op, b))
     }
-    put_null(places, c, positive, depth, a, Comparison::IS_NULL, t)
-}
-
-// A comparison, whose first token is read.
-fn read_comparison(
-    text: &[u8],
-    places: &mut [u16; Cursor::PLACES],
-    c: Cursor,
-    positive: bool,
-    depth: u16,
-    first: Token,
-) -> Option<Cursor>
-    requires { (Stands text.now c) × (first ≡ token_at text.now c.at) }
-    ensures { Compares text.now positive depth c places.old result places.new }
-{
-    let a = read_operand(text, c.dotted, first)?;
-    let t = token::next(text, a.next);
-    if tests_null(first.kind, t.kind) {
-        return read_null(text, places, c, positive, depth, a, t.next);
-    }
-    let op = operator(t.kind)?;
-    let b = read_operand(text, c.dotted, token::next(text, t.next))?;
-    Some(put_comparison(places, c, positive, depth, a, op, b))
 }

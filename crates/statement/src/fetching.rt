@@ -1,5 +1,5 @@
 // What stands at a place of a text: names, values, sides of comparisons, a number of rows.
-ghost use Rattle.std.specs.Prelude.{◌≡◌, map, ◌-◌, ◌*◌, ◌≤◌, ◌<◌, length, take, drop, replicate};
+ghost use Rattle.std.specs.Prelude.{◌≡◌, map, ◌-◌, ◌*◌, ◌≤◌, ◌<◌, length, take, drop};
 ghost use Rattle.meaning.specs.Tokens.{folded};
 ghost use Rattle.meaning.specs.Limits.{most_items};
 ghost use Rattle.token.specs.Tokens.{token_at};
@@ -10,8 +10,9 @@ ghost use Rattle.statement.specs.Catalog.{name_of_struct};
 ghost use Rattle.statement.specs.Compiled.{padded, name_struct, no_name, value_struct, operand_struct};
 ghost use Rattle.statement.specs.Built.{dotted, place_in, place_named, short_name, short_names, short_given, short_column, side_on, columns_on, constant_in, rows_in, rows_on};
 
+use super::build::Reading;
 use super::names::Scope;
-use super::sentences::Entry;
+use super::sentences::Item;
 use super::{Name, Operand, Table, Value, names};
 use token::Kind;
 
@@ -31,15 +32,6 @@ fn name_from(text: &[u8], start: usize, end: usize) -> Name
     }
 }
 
-pub fn no_name() -> Name
-    ensures { result ≡ no_name }
-{
-    Name {
-        bytes: [0u8; Name::BYTES],
-        len: 0,
-    }
-}
-
 pub fn name_at(text: &[u8], place: usize) -> Name
     ensures { result ≡ name_struct (short_name (name_on text.now place)) }
 {
@@ -47,7 +39,7 @@ pub fn name_at(text: &[u8], place: usize) -> Name
     if let Kind::Name = t.kind {
         return name_from(text, t.start, t.next);
     }
-    no_name()
+    Name::default()
 }
 
 // The constant that a token is, 0 for one outside 32 bits.
@@ -97,7 +89,7 @@ fn column_at(text: &[u8], place: usize, scope: &Scope) -> u8
     if let Kind::Name = t.kind {
         return column_of(text, name_from(text, t.start, t.next), t.next, scope);
     }
-    column_of(text, no_name(), t.next, scope)
+    column_of(text, Name::default(), t.next, scope)
 }
 
 // A side of a comparison.
@@ -122,7 +114,7 @@ pub fn operand_at(text: &[u8], place: usize, scope: &Scope, marks: u8) -> Operan
     }
 }
 
-// A number of rows: 1 to 512, or 0.
+// A number of rows: 1 to 512, or 0. A sentence with another number is past a limit and refused, so that 0 is never stored.
 fn rows_in(z: i32) -> u16
     ensures { result ≡ rows_in z }
 {
@@ -142,37 +134,28 @@ pub fn rows_at(text: &[u8], place: usize) -> u16
     }
 }
 
-pub fn no_names() -> [Name; Entry::ITEMS]
-    ensures { result ≡ replicate most_items no_name }
-{
-    [no_name(); Entry::ITEMS]
-}
+// ---- the list of a sentence
 
-// The names of the first n items of a list.
-pub fn names_at(text: &[u8], list: [u16; Entry::LIST], n: usize) -> [Name; Entry::ITEMS]
-    requires { n ≤ most_items }
-    ensures { result ≡ padded most_items no_name (map name_struct (short_names (names_on text.now n list))) }
-{
-    let mut names = no_names();
-    for i in 0..n {
-        names[i] = name_at(text, list[2 * i] as usize);
+impl Reading<'_> {
+    // The names of its items.
+    pub fn listed_names(&self) -> [Name; Item::ITEMS]
+        ensures { result ≡ padded most_items no_name (map name_struct (short_names (names_on self.now.text.now self.now.items.now))) }
+    {
+        let mut names = [Name::default(); Item::ITEMS];
+        for (i, item) in self.items.iter().enumerate() {
+            names[i] = name_at(self.text, usize::from(item.name));
+        }
+        names
     }
-    names
-}
 
-// The places of the columns of the first n items of a list.
-pub fn columns_at(
-    text: &[u8],
-    list: [u16; Entry::LIST],
-    n: usize,
-    scope: &Scope,
-) -> [u8; Entry::ITEMS]
-    requires { n ≤ most_items }
-    ensures { result ≡ padded most_items 0 (map (place_in scope.now) (columns_on (dotted scope.now) text.now n list)) }
-{
-    let mut places = [0u8; Entry::ITEMS];
-    for i in 0..n {
-        places[i] = column_at(text, list[2 * i] as usize, scope);
+    // The places of its columns.
+    pub fn listed_places(&self, scope: &Scope) -> [u8; Item::ITEMS]
+        ensures { result ≡ padded most_items 0 (map (place_in scope.now) (columns_on (dotted scope.now) self.now.text.now self.now.items.now)) }
+    {
+        let mut places = [0u8; Item::ITEMS];
+        for (i, item) in self.items.iter().enumerate() {
+            places[i] = column_at(self.text, usize::from(item.name), scope);
+        }
+        places
     }
-    places
 }

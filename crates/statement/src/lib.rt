@@ -3,16 +3,23 @@
 
 mod operators; // opposites, and comparisons by the order of their sides
 mod conditions; // the readers of OR, AND and single conditions
-mod sentences; // the five forms: where each token of a sentence stands
+mod sentences; // the six forms: where each token of a sentence stands
 mod names; // names compared and found
 mod fetching; // what stands at a place of a text
 mod assembling; // settings, conditions and statements from their parts
 mod refusals; // limits, and refusals by what is there
-mod build; // the five forms, names looked up
+mod build; // the six forms, names looked up
 
-ghost use Rattle.std.specs.Prelude.{◌≡◌};
+ghost use Rattle.std.specs.Prelude.{◌≡◌, min, length};
 ghost use Rattle.statement.specs.Refusals.{number_of};
+ghost use Rattle.statement.specs.Sound.{operand_read, value_read};
+ghost use Rattle.statement.specs.Terms.{term_read, given_read};
 ghost use Rattle.statement.specs.Compiled.{left_side, right_side, new_value, compiled, compiled_of};
+
+// The state of a store is made of the types below, and any caller may fill one in; what it says is tested (crate `soundness`), and a state that is not sound is refused. So all
+// of it is plain numbers and flags: no enum stands in it, and an array has a count beside it. Numbers for kinds are a comparison's operator (`Comparison::EQ` ..), a side's code
+// (`Operand`), a step (`Step`), a value's mark (`Value`), an update's form (`Update::INSERT` ..), and of a question `second`, `start` and `outer`; of a table `rows`, `oldest`
+// and `ring`. What a code or a mark says is read by `Operand::read` and `Value::read`.
 
 // A name: its first `len` bytes.
 #[repr(C)]
@@ -57,9 +64,30 @@ pub struct Operand {
     pub number: i32,
 }
 
+// What an operand is.
+#[derive(Clone, Copy, PartialEq, Eq)]
+pub enum Term {
+    Constant(i32),
+    Parameter(u8),
+    Column(u8),
+}
+
 impl Operand {
     // The null (A.5).
     pub const NULL: i32 = -2147483648;
+
+    // By its code.
+    pub fn read(self) -> Term
+        ensures { term_read result ≡ operand_read self }
+    {
+        if self.code == 0 {
+            Term::Constant(self.number)
+        } else if self.code % 2 == 1 {
+            Term::Parameter(self.code / 2)
+        } else {
+            Term::Column(self.code / 2 - 1)
+        }
+    }
 }
 
 // Two operands, by their codes and numbers, and the number of the operator between them. A null test (A.5) has its column on both sides.
@@ -74,7 +102,7 @@ pub struct Comparison {
 }
 
 impl Comparison {
-    // The operators: = <> < <= > >= IS NULL, IS NOT NULL
+    // The operators, numbers of the state: = <> < <= > >= IS NULL, IS NOT NULL
     pub const EQ: u8 = 0;
 
     pub const NE: u8 = 1;
@@ -113,21 +141,16 @@ impl Comparison {
     }
 }
 
-// How two sides of a comparison stand: the left one is less, equal or greater, or one is null. (Any other number is as the last.)
-#[derive(Clone, Copy)]
-pub struct Order {}
-
-impl Order {
-    pub const LESS: u8 = 0;
-
-    pub const EQUAL: u8 = 1;
-
-    pub const GREATER: u8 = 2;
-
-    pub const UNKNOWN: u8 = 3;
+// How two sides of a comparison stand: the left one is less, equal or greater, or one is null.
+#[derive(Clone, Copy, PartialEq, Eq)]
+pub enum Order {
+    Less,
+    Equal,
+    Greater,
+    Unknown,
 }
 
-// What a step of a condition does: it takes the next comparison, or joins the two conditions before it.
+// What a step of a condition does: it takes the next comparison, or joins the two conditions before it. Steps are numbers of the state.
 #[derive(Clone, Copy)]
 pub struct Step {}
 
@@ -190,6 +213,25 @@ pub struct Value {
     pub number: i32,
 }
 
+// What VALUES or SET gives.
+#[derive(Clone, Copy, PartialEq, Eq)]
+pub enum Given {
+    Constant(i32),
+    Parameter(u8),
+}
+
+impl Value {
+    // By its mark.
+    pub fn read(self) -> Given
+        ensures { given_read result ≡ value_read self }
+    {
+        match self.mark.checked_sub(1) {
+            None => Given::Constant(self.number),
+            Some(k) => Given::Parameter(k),
+        }
+    }
+}
+
 // A column and its new value, by its mark and number; in an INSERT the column is the value's own place.
 #[repr(C)]
 #[derive(Clone, Copy, Default)]
@@ -210,7 +252,7 @@ impl Setting {
     }
 }
 
-// An update: its form (0 INSERT, 1 UPDATE, 2 DELETE), its table, the first `count` settings, how many parameters it has, its condition.
+// An update: its form (a number of the state: 0 INSERT, 1 UPDATE, 2 DELETE), its table, the first `count` settings, how many parameters it has, its condition.
 #[repr(C)]
 #[derive(Clone, Copy, Default)]
 pub struct Update {
@@ -307,44 +349,40 @@ impl Statement {
 
     pub const MARKS: u16 = 8;
 
-    // What a text says beside the first `used` tables, where there are so many questions and updates already, and so many cells.
+    // What a text says beside these tables, of which a store has at most eight, where there are so many questions and updates already, and so many cells.
     pub fn compile(
         text: &[u8],
-        tables: [Table; Table::TABLES],
-        used: u8,
+        tables: &[Table],
         queries: u8,
         updates: u8,
         cells: u32,
     ) -> Result<Statement, Refusal>
-        ensures { compiled result ≡ compiled_of text.now tables used queries updates cells }
+        ensures { compiled result ≡ compiled_of text.now tables.now (min (length tables.now) 8) queries updates cells }
     {
         if Statement::TEXT < text.len() {
             return Err(Refusal::Text);
         }
-        let mut list = [0u16; sentences::Entry::LIST];
-        let mut places = [0u16; conditions::Cursor::PLACES];
-        let e = sentences::read_sentence(text, &mut list, &mut places);
-        if !e.c.ok {
-            return Err(Refusal::Sentence);
-        }
+        let mut items = [sentences::Item::default(); sentences::Item::ITEMS];
+        let mut nodes = [conditions::Node::And; conditions::Node::NODES];
+        let e = sentences::read_sentence(text, &mut items, &mut nodes).ok_or(Refusal::Sentence)?;
         if refusals::is_over(e) {
             return Err(Refusal::Limit);
         }
         let reading = build::Reading {
             text,
-            list: &list,
-            places: &places,
+            items: lists::in_use(&items, usize::from(e.listed)),
+            nodes: lists::in_use(&nodes, usize::from(e.c.nodes)),
             e,
         };
         let beside = names::Catalog {
-            tables: &tables[..usize::from(used).min(Table::TABLES)],
+            tables: &tables[..tables.len().min(Table::TABLES)],
             queries,
             updates,
             cells,
         };
-        if let sentences::Form::Table = e.form {
-            return reading.table(&beside);
+        match e.form {
+            sentences::Form::Table { rows, ring } => reading.table(rows, ring, &beside),
+            _ => reading.beside(&beside),
         }
-        reading.beside(&beside)
     }
 }

@@ -9,7 +9,7 @@ ghost use Rattle.statement.specs.Compiled.{padded};
 ghost use Rattle.statement.specs.Built.{places_of, place_of, number_in, width_in, start_in, twice_in};
 ghost use Rattle.statement.specs.Same.{same_laws};
 
-use super::sentences::Entry;
+use super::sentences::Item;
 use super::{Name, Table};
 
 // Where a statement's columns are looked up: in one table, or, dotted, in two.
@@ -26,7 +26,7 @@ impl Name {
     fn text(&self) -> &[u8]
         ensures { result.now ≡ name_of_struct self.now }
     {
-        &self.bytes[..usize::from(self.len).min(Name::BYTES)]
+        lists::in_use(&self.bytes, usize::from(self.len))
     }
 }
 
@@ -46,7 +46,7 @@ impl Table {
         ensures are { result.now ≡ take self.now.count self.now.columns }
         ensures few { length result.now ≤ most_items }
     {
-        &self.columns[..usize::from(self.count).min(Table::COLUMNS)]
+        lists::in_use(&self.columns, usize::from(self.count))
     }
 }
 
@@ -80,7 +80,7 @@ pub fn are_below(places: &[u8], limit: usize) -> bool
 
 // ---- columns
 
-// The place of a column in a table, or how many columns that has.
+// The place of a column in a table, or how many columns that has, as `find` gives it.
 pub fn find_column(name: &Name, t: &Table) -> u8
     ensures is { result ≡ position (column_names t.now) (name_of_struct name.now) }
     ensures few { result ≤ most_items }
@@ -88,7 +88,7 @@ pub fn find_column(name: &Name, t: &Table) -> u8
     find(name, t.names()) as u8
 }
 
-// The place of a column if `table` is its table's name, or how many columns that has.
+// The same if `table` is its table's name, else how many columns that has.
 fn find_in(table: &Name, name: &Name, t: &Table) -> u8
     ensures is { result ≡ place_of (name_of_struct t.now.name) (column_names t.now) (name_of_struct table.now, name_of_struct name.now) }
     ensures few { result ≤ most_items }
@@ -101,18 +101,18 @@ fn find_in(table: &Name, name: &Name, t: &Table) -> u8
 }
 
 // The places of these names among a table's columns.
-pub fn positions(names: &[Name], t: &Table) -> [u8; Entry::ITEMS]
+pub fn positions(names: &[Name], t: &Table) -> [u8; Item::ITEMS]
     requires { length names.now ≤ most_items }
     ensures { result ≡ padded most_items 0 (places_of (column_names t.now) (map name_of_struct names.now)) }
 {
-    let mut places = [0u8; Entry::ITEMS];
+    let mut places = [0u8; Item::ITEMS];
     for (i, name) in names.iter().enumerate() {
         places[i] = find_column(name, t);
     }
     places
 }
 
-// The place of a dotted column in a pair of rows, or how many columns both tables have.
+// The place of a dotted column in a pair of rows, or how many columns both tables have: stored, and refused afterwards.
 pub fn find_dotted(table: &Name, name: &Name, t: &Table, u: &Table) -> u8
     ensures is { result ≡ pair_place (name_of_struct t.now.name) (column_names t.now) (name_of_struct u.now.name) (column_names u.now) (name_of_struct table.now, name_of_struct name.now) }
     ensures few { result ≤ 2 * most_items }
@@ -137,7 +137,7 @@ impl Scope<'_> {
         }
     }
 
-    // The position of the second table's first column, or 0.
+    // The position of the second table's first column; of one table 0, which is not read.
     pub fn start(&self) -> u8
         ensures { result ≡ start_in self.now }
     {

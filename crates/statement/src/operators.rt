@@ -36,19 +36,19 @@ impl Comparison {
         (Comparison::IS_NULL..Comparison::OPERATORS).contains(&op)
     }
 
-    // Whether an operator is true of two sides in this order (`Order`). A number past the last operator is read as <>.
-    pub fn truth(op: u8, order: u8) -> bool
+    // Whether an operator is true of two sides in this order. A number past the last operator is read as <>.
+    pub fn truth(op: u8, order: Order) -> bool
         ensures { result ≡ truth_by (predicate_at op) order }
     {
         match op {
-            Comparison::EQ => order == Order::EQUAL,
-            Comparison::LT => order == Order::LESS,
-            Comparison::LE => order <= Order::EQUAL,
-            Comparison::GT => order == Order::GREATER,
-            Comparison::GE => (order == Order::EQUAL) | (order == Order::GREATER),
-            Comparison::IS_NULL => Order::UNKNOWN <= order,
-            Comparison::IS_NOT_NULL => order < Order::UNKNOWN,
-            _ => (order == Order::LESS) | (order == Order::GREATER),
+            Comparison::EQ => order == Order::Equal,
+            Comparison::LT => order == Order::Less,
+            Comparison::LE => matches!(order, Order::Less | Order::Equal),
+            Comparison::GT => order == Order::Greater,
+            Comparison::GE => matches!(order, Order::Equal | Order::Greater),
+            Comparison::IS_NULL => order == Order::Unknown,
+            Comparison::IS_NOT_NULL => order != Order::Unknown,
+            _ => matches!(order, Order::Less | Order::Greater),
         }
     }
 }

@@ -1,5 +1,5 @@
 // Whether a sentence is past a limit, and which of the refusals that look at the tables it meets.
-ghost use Rattle.std.specs.Prelude.{◌≡◌, ◌&&◌, ◌||◌, ◌-◌, map, ltb, leb, length};
+ghost use Rattle.std.specs.Prelude.{◌≡◌, ◌||◌, ◌-◌, map, ltb, leb, length};
 ghost use Rattle.lists.specs.Lists.{repeats};
 ghost use Rattle.meaning.specs.Limits.{most_tables, most_items};
 ghost use Rattle.meaning.specs.Names.{same_name, has, table_names};
@@ -12,7 +12,7 @@ ghost use Rattle.statement.specs.Built.{lowest_by, operand_below, sides_below, c
 use super::names::Catalog;
 use super::sentences::{Entry, Form};
 use super::{
-    Comparison, Condition, Name, Operand, Query, Refusal, Statement, Table, Update, names,
+    Comparison, Condition, Name, Operand, Query, Refusal, Statement, Table, Term, Update, names,
 };
 
 // ---- limits
@@ -22,8 +22,8 @@ fn most_listed(form: Form) -> usize
     ensures { result ≡ most_items }
 {
     match form {
-        Form::Table => Table::COLUMNS,
-        Form::Select | Form::Pair => Query::SELECTED,
+        Form::Table { .. } => Table::COLUMNS,
+        Form::Select | Form::Pair { .. } => Query::SELECTED,
         Form::Insert | Form::Update | Form::Delete => Update::SETTINGS,
     }
 }
@@ -32,9 +32,9 @@ fn most_listed(form: Form) -> usize
 pub fn is_over(e: Entry) -> bool
     ensures { result ≡ over_on e }
 {
-    let comparisons = ((e.c.nodes as usize) + 1) / 2;
+    let comparisons = (usize::from(e.c.nodes) + 1) / 2;
     e.c.over
-        | ((most_listed(e.form) < (e.listed as usize))
+        | ((most_listed(e.form) < usize::from(e.listed))
             | ((Statement::MARKS < e.c.marks) | (Condition::COMPARISONS < comparisons)))
 }
 
@@ -49,7 +49,7 @@ impl Catalog<'_> {
     }
 
     // Whether there is no place for a table of that size.
-    pub fn is_full(&self, size: u32) -> bool
+    pub fn has_no_place(&self, size: u32) -> bool
         ensures { result ≡ (leb most_tables (length (map schema_of self.now.tables.now)) || ltb (self.now.cells - areas_size (map schema_of self.now.tables.now)) size) }
     {
         (Table::TABLES <= self.tables.len()) | (self.cells.saturating_sub(self.areas()) < size)
@@ -62,7 +62,10 @@ impl Catalog<'_> {
 fn is_below(side: Operand, limit: usize) -> bool
     ensures { result ≡ operand_below limit side }
 {
-    side.code % 2 == 1 || side.code == 0 || usize::from(side.code / 2 - 1) < limit
+    match side.read() {
+        Term::Column(i) => usize::from(i) < limit,
+        _ => true,
+    }
 }
 
 fn sides_below(c: Comparison, limit: usize) -> bool
@@ -75,8 +78,7 @@ fn sides_below(c: Comparison, limit: usize) -> bool
 fn columns_below(condition: &Condition, limit: usize) -> bool
     ensures { result ≡ condition_below limit condition.now }
 {
-    let n = usize::from(condition.count).min(Condition::COMPARISONS);
-    condition.comparisons[..n]
+    lists::in_use(&condition.comparisons, usize::from(condition.count))
         .iter()
         .all(|c| sides_below(*c, limit))
 }
@@ -90,7 +92,7 @@ pub fn is_unknown(places: &[u8], condition: &Condition, width: usize) -> bool
 
 // ---- the lowest
 
-// Which of the refusals that look at the tables a sentence meets.
+// Which of the refusals that look at the tables a sentence meets: facts beside each other, of which `refuse` tells the lowest.
 #[derive(Clone, Copy, Default)]
 pub struct Met {
     pub unknown: bool,

@@ -1,65 +1,46 @@
-// Sentences: each of the forms is a row of calls. A reader takes a cursor that may have failed, and then fails too. What is read is noted as places of the
-// text: of the items of the list in one lent array, two numbers an item, and of the condition in another; names are not looked up here.
+// Sentences: each of the forms is a row of calls with `?`. What is read is noted as places of the text: of the items of the list in one lent array, and of the nodes of
+// the condition in another; names are not looked up here.
 ghost use Rattle.std.specs.Prelude.{◌≡◌, true, false, ◌+◌, ◌≤◌, ◌<◌, length, drop};
 ghost use Rattle.meaning.specs.Limits.{most_text};
 ghost use Rattle.meaning.specs.Tokens.{tokens};
-ghost use Rattle.meaning.specs.Grammar.{sentence, is_paired, a_table, a_select, a_single, a_pair, an_insert, an_update};
-ghost use Rattle.statement.specs.Sentences.{Ready, Expects, Names, Columns, Gives, Sizes, ring_in, is_value, rows_past, CountsRows, PutsItem, ends_list, is_comma_second, Within, ReadsItem, ReadsList, ReadsWhere, Starts, ReadsForm, Lists, Deletes, ReadsAny, Noted};
+ghost use Rattle.meaning.specs.Grammar.{sentence, is_paired, a_table, a_select, a_single, a_pair, an_insert, an_update, a_delete};
+ghost use Rattle.statement.specs.Sentences.{Expects, Names, Columns, Gives, Sizes, ring_in, is_value, rows_past, CountsRows, PutsItem, ends_list, is_comma_second, ReadsItem, ReadsList, ReadsWhere, Starts, ReadsForm, Lists, Deletes, ReadsAny, Noted};
 
-use super::conditions::Cursor;
+use super::conditions::{Cursor, Nested, Node, Parser};
 use super::{Table, conditions};
 use token::{Kind, Token};
 
-// A cursor behind a token, and where the token starts.
+// The form of a sentence, with what only it has: the place of the constant of ROWS or RING, and whether it is RING (A.4); of a question over two tables (A.1) the place of the
+// second one's name.
 #[derive(Clone, Copy)]
-pub struct Placed {
-    pub c: Cursor,
-    pub place: u16,
-}
-
-// A cursor, and how many items of the list are read.
-#[derive(Clone, Copy)]
-pub struct Listing {
-    pub c: Cursor,
-    pub listed: u16,
-}
-
-// A cursor behind ROWS or RING, and whether it was RING.
-#[derive(Clone, Copy)]
-pub struct Sized {
-    pub c: Cursor,
-    pub ring: bool,
-}
-
-// The form of a sentence; a pair is SELECT from two tables.
-#[derive(Clone, Copy, PartialEq, Eq)]
 pub enum Form {
-    Table,
+    Table { rows: u16, ring: bool },
     Select,
     Insert,
     Update,
     Delete,
-    Pair,
+    Pair { second: u16 },
 }
 
-// A sentence as it is read: where the reader stands, its form, the place of its table's name, in a question over two tables that of the second one's, that of the
-// constant of ROWS or RING, how many items its list has, and whether it has RING.
+// A sentence as it is read: where the reader stands, its form, the place of its table's name, and how many items its list has.
 #[derive(Clone, Copy)]
 pub struct Entry {
     pub c: Cursor,
     pub form: Form,
     pub table: u16,
-    pub second: u16,
-    pub rows: u16,
     pub listed: u16,
-    pub ring: bool,
 }
 
-impl Entry {
-    // Room for the items of a list, whichever of the limits is its own, and for the numbers that are noted of it: two an item.
-    pub const ITEMS: usize = Table::COLUMNS;
+// An item of a list as it is noted: the place of its name, and that of its value; 0 for what it has not, which is not read.
+#[derive(Clone, Copy, Default)]
+pub struct Item {
+    pub name: u16,
+    pub value: u16,
+}
 
-    pub const LIST: usize = 2 * Entry::ITEMS;
+impl Item {
+    // Room for the items of a list, whichever of the limits is its own.
+    pub const ITEMS: usize = Table::COLUMNS;
 }
 
 // What a list holds; columns are dotted ones.
@@ -71,97 +52,13 @@ enum Contents {
     Columns,
 }
 
-// ---- tokens
-
-// A token that its kind tells.
-fn expect(text: &[u8], c: Cursor, kind: Kind) -> Cursor
-    requires { Ready text.now c }
-    ensures { Expects text.now kind c result }
-{
-    let mut p = c;
-    if !p.ok {
-        return p;
-    }
-    let t = token::next(text, p.at as usize);
-    if t.kind != kind {
-        p.ok = false;
-        return p;
-    }
-    p.at = t.next as u16;
-    p
-}
-
-// A name.
-fn read_name(text: &[u8], c: Cursor) -> Placed
-    requires { Ready text.now c }
-    ensures { Names text.now c result }
-{
-    let mut p = c;
-    if !p.ok {
-        return Placed { c: p, place: 0 };
-    }
-    let t = token::next(text, p.at as usize);
-    let Kind::Name = t.kind else {
-        p.ok = false;
-        return Placed { c: p, place: 0 };
-    };
-    p.at = t.next as u16;
-    p.over = p.over | conditions::is_past(t);
-    Placed {
-        c: p,
-        place: t.start as u16,
-    }
-}
-
-// A dotted column (A.1).
-fn read_column(text: &[u8], c: Cursor) -> Placed
-    requires { Ready text.now c }
-    ensures { Columns text.now c result }
-{
-    let mut p = c;
-    if !p.ok {
-        return Placed { c: p, place: 0 };
-    }
-    let Some(d) = conditions::read_dotted(text, token::next(text, p.at as usize)) else {
-        p.ok = false;
-        return Placed { c: p, place: 0 };
-    };
-    p.at = d.next as u16;
-    p.over = p.over | d.over;
-    Placed {
-        c: p,
-        place: d.start as u16,
-    }
-}
+// ---- tokens (a place is `as u16`: a text has at most 256 bytes, and u16 has no From of usize)
 
 // Whether a token is a constant or a question mark.
 fn is_value(kind: Kind) -> bool
     ensures { result ≡ is_value kind }
 {
     matches!(kind, Kind::Constant(_) | Kind::Big | Kind::Mark)
-}
-
-// A constant or a question mark.
-fn read_value(text: &[u8], c: Cursor) -> Placed
-    requires { Ready text.now c }
-    ensures { Gives text.now c result }
-{
-    let mut p = c;
-    if !p.ok {
-        return Placed { c: p, place: 0 };
-    }
-    let t = token::next(text, p.at as usize);
-    if !is_value(t.kind) {
-        p.ok = false;
-        return Placed { c: p, place: 0 };
-    }
-    p.at = t.next as u16;
-    p.over = p.over | conditions::is_past(t);
-    p.marks = p.marks + conditions::marks_of(t.kind);
-    Placed {
-        c: p,
-        place: t.start as u16,
-    }
 }
 
 // Whether it is RING, of one of the two words.
@@ -175,24 +72,6 @@ fn ring_in(kind: Kind) -> Option<bool>
     }
 }
 
-// ROWS or RING (A.4).
-fn read_size(text: &[u8], c: Cursor) -> Sized
-    requires { Ready text.now c }
-    ensures { Sizes text.now c result }
-{
-    let mut p = c;
-    if !p.ok {
-        return Sized { c: p, ring: false };
-    }
-    let t = token::next(text, p.at as usize);
-    let Some(ring) = ring_in(t.kind) else {
-        p.ok = false;
-        return Sized { c: p, ring: false };
-    };
-    p.at = t.next as u16;
-    Sized { c: p, ring }
-}
-
 // Whether a constant of ROWS or RING is outside 1 to 512, if the token is a constant.
 fn rows_past(kind: Kind) -> Option<bool>
     ensures { result ≡ rows_past kind }
@@ -204,217 +83,183 @@ fn rows_past(kind: Kind) -> Option<bool>
     }
 }
 
-// The constant of ROWS or RING.
-fn read_rows(text: &[u8], c: Cursor) -> Placed
-    requires { Ready text.now c }
-    ensures { CountsRows text.now c result }
-{
-    let mut p = c;
-    if !p.ok {
-        return Placed { c: p, place: 0 };
+impl Parser<'_> {
+    // A token that its kind tells.
+    fn expect(self, kind: Kind) -> Option<Cursor>
+        ensures { Expects self.entry.text.now kind self.entry.c result }
+    {
+        let t = self.next();
+        if t.kind != kind {
+            return None;
+        }
+        Some(Cursor {
+            at: t.next as u16,
+            ..self.c
+        })
     }
-    let t = token::next(text, p.at as usize);
-    let Some(past) = rows_past(t.kind) else {
-        p.ok = false;
-        return Placed { c: p, place: 0 };
-    };
-    p.at = t.next as u16;
-    p.over = p.over | past;
-    Placed {
-        c: p,
-        place: t.start as u16,
+
+    // A name, and where it starts.
+    fn read_name(self) -> Option<(Cursor, u16)>
+        ensures { Names self.entry.text.now self.entry.c result }
+    {
+        let t = self.next();
+        let Kind::Name = t.kind else {
+            return None;
+        };
+        let behind = Cursor {
+            over: self.c.over | conditions::is_past(t),
+            at: t.next as u16,
+            ..self.c
+        };
+        Some((behind, t.start as u16))
+    }
+
+    // A dotted column (A.1), and where it starts.
+    fn read_column(self) -> Option<(Cursor, u16)>
+        ensures { Columns self.entry.text.now self.entry.c result }
+    {
+        let d = conditions::read_dotted(self.text, self.next())?;
+        let behind = Cursor {
+            over: self.c.over | d.over,
+            at: d.next as u16,
+            ..self.c
+        };
+        Some((behind, d.start as u16))
+    }
+
+    // A constant or a question mark, and where it starts.
+    fn read_value(self) -> Option<(Cursor, u16)>
+        ensures { Gives self.entry.text.now self.entry.c result }
+    {
+        let t = self.next();
+        if !is_value(t.kind) {
+            return None;
+        }
+        let behind = Cursor {
+            over: self.c.over | conditions::is_past(t),
+            marks: self.c.marks + conditions::marks_of(t.kind),
+            at: t.next as u16,
+            ..self.c
+        };
+        Some((behind, t.start as u16))
+    }
+
+    // ROWS or RING (A.4), and whether it is RING.
+    fn read_size(self) -> Option<(Cursor, bool)>
+        ensures { Sizes self.entry.text.now self.entry.c result }
+    {
+        let t = self.next();
+        let ring = ring_in(t.kind)?;
+        let behind = Cursor {
+            at: t.next as u16,
+            ..self.c
+        };
+        Some((behind, ring))
+    }
+
+    // The constant of ROWS or RING, and where it starts.
+    fn read_rows(self) -> Option<(Cursor, u16)>
+        ensures { CountsRows self.entry.text.now self.entry.c result }
+    {
+        let t = self.next();
+        let past = rows_past(t.kind)?;
+        let behind = Cursor {
+            over: self.c.over | past,
+            at: t.next as u16,
+            ..self.c
+        };
+        Some((behind, t.start as u16))
     }
 }
 
 // ---- lists
 
-// An item at the end of the list, by the places of its name and its value. Past the last place none is noted, but it is counted.
-fn put_item(list: &mut [u16; Entry::LIST], listed: u16, name: u16, value: u16) -> u16
+// An item at the end of the list. Past the last place none is noted, but it is counted.
+fn put_item(items: &mut [Item; Item::ITEMS], listed: u16, item: Item) -> u16
     requires { listed ≤ most_text }
-    ensures { (result ≡ listed + 1) × PutsItem list.old listed name value list.new }
+    ensures { (result ≡ listed + 1) × PutsItem items.old listed item items.new }
 {
-    let more = listed + 1;
-    let i = 2 * (listed as usize);
-    if i + 1 < list.len() {
-        list[i] = name;
-        list[i + 1] = value;
-        return more;
+    let i = usize::from(listed);
+    if i < items.len() {
+        items[i] = item;
     }
-    more
+    listed + 1
 }
 
-// An item: a name, a value, a setting, or a dotted column.
-fn read_item(
-    text: &[u8],
-    list: &mut [u16; Entry::LIST],
-    c: Cursor,
-    listed: u16,
-    holds: Contents,
-) -> Listing
-    requires { Within text.now c listed }
-    ensures { ReadsItem holds text.now list.old c listed list.new result }
-{
-    match holds {
-        Contents::Names => {
-            let n = read_name(text, c);
-            let d = n.c;
-            Listing {
-                c: d,
-                listed: put_item(list, listed, n.place, 0),
+impl Parser<'_> {
+    // An item: a name, a value, a setting, or a dotted column.
+    #[tactic(auto, using(crate::proofs::SentenceReaders::stands))]
+    fn read_item(self, holds: Contents) -> Option<(Cursor, Item)>
+        ensures { ReadsItem holds self.entry.text.now self.entry.c result }
+    {
+        let text = self.text;
+        match holds {
+            Contents::Names => {
+                let (c, name) = self.read_name()?;
+                Some((c, Item { name, value: 0 }))
             }
-        }
-        Contents::Values => {
-            let v = read_value(text, c);
-            let d = v.c;
-            Listing {
-                c: d,
-                listed: put_item(list, listed, 0, v.place),
+            Contents::Values => {
+                let (c, value) = self.read_value()?;
+                Some((c, Item { name: 0, value }))
             }
-        }
-        Contents::Settings => {
-            let n = read_name(text, c);
-            let v = read_value(text, expect(text, n.c, Kind::Eq));
-            let d = v.c;
-            Listing {
-                c: d,
-                listed: put_item(list, listed, n.place, v.place),
+            Contents::Settings => {
+                let (c, name) = self.read_name()?;
+                let c = Parser { text, c }.expect(Kind::Eq)?;
+                let (c, value) = Parser { text, c }.read_value()?;
+                Some((c, Item { name, value }))
             }
-        }
-        Contents::Columns => {
-            let n = read_column(text, c);
-            let d = n.c;
-            Listing {
-                c: d,
-                listed: put_item(list, listed, n.place, 0),
+            Contents::Columns => {
+                let (c, name) = self.read_column()?;
+                Some((c, Item { name, value: 0 }))
             }
         }
     }
-}
 
-// Items, parted by commas. The text that is left gets shorter.
-fn read_list(
-    text: &[u8],
-    list: &mut [u16; Entry::LIST],
-    c: Cursor,
-    listed: u16,
-    holds: Contents,
-) -> Listing
-    requires { Within text.now c listed }
-    ensures { ReadsList holds text.now list.old c listed list.new result }
-{
-    let one = read_item(text, list, c, listed, holds);
-    let mut p = one.c;
-    if !p.ok {
-        return one;
+    // Items, parted by commas, behind so many: how many those are then. The text that is left gets shorter.
+    fn read_list(
+        self,
+        items: &mut [Item; Item::ITEMS],
+        listed: u16,
+        holds: Contents,
+    ) -> Option<(Cursor, u16)>
+        requires { listed ≤ self.c.at }
+        ensures { ReadsList holds self.entry.text.now items.old self.entry.c listed items.new result }
+    {
+        let text = self.text;
+        let (mut c, item) = self.read_item(holds)?;
+        let more = put_item(items, listed, item);
+        let t = Parser { text, c }.next();
+        let Kind::Comma = t.kind else {
+            return Some((c, more));
+        };
+        c.at = t.next as u16;
+        Parser { text, c }.read_list(items, more, holds)
     }
-    let t = token::next(text, p.at as usize);
-    let Kind::Comma = t.kind else {
-        return one;
-    };
-    p.at = t.next as u16;
-    read_list(text, list, p, one.listed, holds)
-}
 
-// ---- WHERE
+    // ---- WHERE
 
-// An optional WHERE.
-fn read_where(text: &[u8], places: &mut [u16; Cursor::PLACES], c: Cursor) -> Cursor
-    requires { Ready text.now c }
-    ensures { ReadsWhere text.now c places.old result places.new }
-{
-    let mut p = c;
-    if !p.ok {
-        return p;
-    }
-    let t = token::next(text, p.at as usize);
-    let Kind::Where = t.kind else {
-        return p;
-    };
-    p.at = t.next as u16;
-    match conditions::read_or(text, places, p, true, 0) {
-        Some(q) => q,
-        None => {
-            p.ok = false;
-            p
-        }
+    // An optional WHERE.
+    fn read_where(self, nodes: &mut [Node; Node::NODES]) -> Option<Cursor>
+        ensures { ReadsWhere self.entry.text.now self.entry.c nodes.old result nodes.new }
+    {
+        let t = self.next();
+        let Kind::Where = t.kind else {
+            return Some(self.c);
+        };
+        let c = Cursor {
+            at: t.next as u16,
+            ..self.c
+        };
+        let condition = Nested {
+            p: Parser { text: self.text, c },
+            positive: true,
+            depth: 0,
+        };
+        condition.read_or(nodes)
     }
 }
 
-// ---- the forms, after their first word
-
-// TABLE name ( names ) ROWS constant, or RING in place of ROWS (A.4)
-fn read_table(text: &[u8], list: &mut [u16; Entry::LIST], c: Cursor) -> Entry
-    requires { Starts text.now false c }
-    ensures { Lists a_table text.now c list.new result }
-{
-    let t = read_name(text, c);
-    let l = read_list(
-        text,
-        list,
-        expect(text, t.c, Kind::Open),
-        0,
-        Contents::Names,
-    );
-    let w = read_size(text, expect(text, l.c, Kind::Close));
-    let r = read_rows(text, w.c);
-    let d = r.c;
-    Entry {
-        c: d,
-        form: Form::Table,
-        table: t.place,
-        second: 0,
-        rows: r.place,
-        listed: l.listed,
-        ring: w.ring,
-    }
-}
-
-// SELECT names FROM name [WHERE condition]
-fn read_single(
-    text: &[u8],
-    list: &mut [u16; Entry::LIST],
-    places: &mut [u16; Cursor::PLACES],
-    c: Cursor,
-) -> Entry
-    requires { Starts text.now false c }
-    ensures { ReadsForm a_single text.now c list.new places.new result }
-{
-    let l = read_list(text, list, c, 0, Contents::Names);
-    let t = read_name(text, expect(text, l.c, Kind::From));
-    Entry {
-        c: read_where(text, places, t.c),
-        form: Form::Select,
-        table: t.place,
-        second: 0,
-        rows: 0,
-        listed: l.listed,
-        ring: false,
-    }
-}
-
-// SELECT columns FROM name , name [WHERE condition], where columns are dotted (A.1)
-fn read_pair(
-    text: &[u8],
-    list: &mut [u16; Entry::LIST],
-    places: &mut [u16; Cursor::PLACES],
-    c: Cursor,
-) -> Entry
-    requires { Starts text.now true c }
-    ensures { ReadsForm a_pair text.now c list.new places.new result }
-{
-    let l = read_list(text, list, c, 0, Contents::Columns);
-    let t = read_name(text, expect(text, l.c, Kind::From));
-    let u = read_name(text, expect(text, t.c, Kind::Comma));
-    Entry {
-        c: read_where(text, places, u.c),
-        form: Form::Pair,
-        table: t.place,
-        second: u.place,
-        rows: 0,
-        listed: l.listed,
-        ring: false,
-    }
-}
+// ---- FROM
 
 // Whether a FROM is followed by a token and a comma.
 fn is_comma_second(text: &[u8], from: Token) -> bool
@@ -444,91 +289,157 @@ fn is_paired(text: &[u8], at: usize) -> bool
     is_comma_second(text, t)
 }
 
-// SELECT: what stands behind FROM tells its form
-fn read_select(
-    text: &[u8],
-    list: &mut [u16; Entry::LIST],
-    places: &mut [u16; Cursor::PLACES],
-    c: Cursor,
-) -> Entry
-    requires { Starts text.now false c }
-    ensures { ReadsForm a_select text.now c list.new places.new result }
-{
-    let mut d = c;
-    if is_paired(text, c.at as usize) {
-        d.dotted = true;
-        return read_pair(text, list, places, d);
-    }
-    read_single(text, list, places, d)
+// ---- the forms, after their first word
+
+// A text behind the first word of a sentence: nothing is counted yet.
+#[derive(Clone, Copy)]
+struct Start<'a> {
+    p: Parser<'a>,
+    ghost starts: { Starts false p.c },
 }
 
-// INSERT INTO name VALUES ( values )
-fn read_insert(text: &[u8], list: &mut [u16; Entry::LIST], c: Cursor) -> Entry
-    requires { Starts text.now false c }
-    ensures { Lists an_insert text.now c list.new result }
-{
-    let t = read_name(text, expect(text, c, Kind::Into));
-    let l = read_list(
-        text,
-        list,
-        expect(text, expect(text, t.c, Kind::Values), Kind::Open),
-        0,
-        Contents::Values,
-    );
-    Entry {
-        c: expect(text, l.c, Kind::Close),
-        form: Form::Insert,
-        table: t.place,
-        second: 0,
-        rows: 0,
-        listed: l.listed,
-        ring: false,
+impl Start<'_> {
+    // TABLE name ( names ) ROWS constant, or RING in place of ROWS (A.4)
+    #[tactic(auto, using(crate::proofs::SentenceReaders::stands, crate::proofs::SentenceLists::stands_behind))]
+    fn read_table(self, items: &mut [Item; Item::ITEMS]) -> Option<Entry>
+        ensures { Lists a_table self.entry.p.text.now self.entry.p.c items.new result }
+    {
+        let text = self.p.text;
+        let (c, table) = self.p.read_name()?;
+        let c = Parser { text, c }.expect(Kind::Open)?;
+        let (c, listed) = Parser { text, c }.read_list(items, 0, Contents::Names)?;
+        let c = Parser { text, c }.expect(Kind::Close)?;
+        let (c, ring) = Parser { text, c }.read_size()?;
+        let (c, rows) = Parser { text, c }.read_rows()?;
+        Some(Entry {
+            c,
+            form: Form::Table { rows, ring },
+            table,
+            listed,
+        })
     }
-}
 
-// UPDATE name SET settings [WHERE condition]
-fn read_update(
-    text: &[u8],
-    list: &mut [u16; Entry::LIST],
-    places: &mut [u16; Cursor::PLACES],
-    c: Cursor,
-) -> Entry
-    requires { Starts text.now false c }
-    ensures { ReadsForm an_update text.now c list.new places.new result }
-{
-    let t = read_name(text, c);
-    let l = read_list(
-        text,
-        list,
-        expect(text, t.c, Kind::Set),
-        0,
-        Contents::Settings,
-    );
-    Entry {
-        c: read_where(text, places, l.c),
-        form: Form::Update,
-        table: t.place,
-        second: 0,
-        rows: 0,
-        listed: l.listed,
-        ring: false,
+    // SELECT names FROM name [WHERE condition]
+    #[tactic(auto, using(crate::proofs::SentenceReaders::stands, crate::proofs::SentenceLists::stands_behind))]
+    fn read_single(
+        self,
+        items: &mut [Item; Item::ITEMS],
+        nodes: &mut [Node; Node::NODES],
+    ) -> Option<Entry>
+        ensures { ReadsForm a_single self.entry.p.text.now self.entry.p.c items.new nodes.new result }
+    {
+        let text = self.p.text;
+        let (c, listed) = self.p.read_list(items, 0, Contents::Names)?;
+        let c = Parser { text, c }.expect(Kind::From)?;
+        let (c, table) = Parser { text, c }.read_name()?;
+        let c = Parser { text, c }.read_where(nodes)?;
+        Some(Entry {
+            c,
+            form: Form::Select,
+            table,
+            listed,
+        })
     }
-}
 
-// DELETE FROM name [WHERE condition]
-fn read_delete(text: &[u8], places: &mut [u16; Cursor::PLACES], c: Cursor) -> Entry
-    requires { Starts text.now false c }
-    ensures { Deletes text.now c places.new result }
-{
-    let t = read_name(text, expect(text, c, Kind::From));
-    Entry {
-        c: read_where(text, places, t.c),
-        form: Form::Delete,
-        table: t.place,
-        second: 0,
-        rows: 0,
-        listed: 0,
-        ring: false,
+    // SELECT columns FROM name , name [WHERE condition], where columns are dotted (A.1)
+    #[tactic(auto, using(crate::proofs::SentenceReaders::stands, crate::proofs::SentenceLists::stands_behind))]
+    fn read_pair(
+        self,
+        items: &mut [Item; Item::ITEMS],
+        nodes: &mut [Node; Node::NODES],
+    ) -> Option<Entry>
+        ensures { ReadsForm a_pair self.entry.p.text.now self.entry.p.c items.new nodes.new result }
+    {
+        let text = self.p.text;
+        let c = Cursor {
+            dotted: true,
+            ..self.p.c
+        };
+        let (c, listed) = Parser { text, c }.read_list(items, 0, Contents::Columns)?;
+        let c = Parser { text, c }.expect(Kind::From)?;
+        let (c, table) = Parser { text, c }.read_name()?;
+        let c = Parser { text, c }.expect(Kind::Comma)?;
+        let (c, second) = Parser { text, c }.read_name()?;
+        let c = Parser { text, c }.read_where(nodes)?;
+        Some(Entry {
+            c,
+            form: Form::Pair { second },
+            table,
+            listed,
+        })
+    }
+
+    // SELECT: what stands behind FROM tells its form
+    fn read_select(
+        self,
+        items: &mut [Item; Item::ITEMS],
+        nodes: &mut [Node; Node::NODES],
+    ) -> Option<Entry>
+        ensures { ReadsForm a_select self.entry.p.text.now self.entry.p.c items.new nodes.new result }
+    {
+        if is_paired(self.p.text, usize::from(self.p.c.at)) {
+            return self.read_pair(items, nodes);
+        }
+        self.read_single(items, nodes)
+    }
+
+    // INSERT INTO name VALUES ( values )
+    #[tactic(auto, using(crate::proofs::SentenceReaders::stands, crate::proofs::SentenceLists::stands_behind))]
+    fn read_insert(self, items: &mut [Item; Item::ITEMS]) -> Option<Entry>
+        ensures { Lists an_insert self.entry.p.text.now self.entry.p.c items.new result }
+    {
+        let text = self.p.text;
+        let c = self.p.expect(Kind::Into)?;
+        let (c, table) = Parser { text, c }.read_name()?;
+        let c = Parser { text, c }.expect(Kind::Values)?;
+        let c = Parser { text, c }.expect(Kind::Open)?;
+        let (c, listed) = Parser { text, c }.read_list(items, 0, Contents::Values)?;
+        let c = Parser { text, c }.expect(Kind::Close)?;
+        Some(Entry {
+            c,
+            form: Form::Insert,
+            table,
+            listed,
+        })
+    }
+
+    // UPDATE name SET settings [WHERE condition]
+    #[tactic(auto, using(crate::proofs::SentenceReaders::stands, crate::proofs::SentenceLists::stands_behind))]
+    fn read_update(
+        self,
+        items: &mut [Item; Item::ITEMS],
+        nodes: &mut [Node; Node::NODES],
+    ) -> Option<Entry>
+        ensures { ReadsForm an_update self.entry.p.text.now self.entry.p.c items.new nodes.new result }
+    {
+        let text = self.p.text;
+        let (c, table) = self.p.read_name()?;
+        let c = Parser { text, c }.expect(Kind::Set)?;
+        let (c, listed) = Parser { text, c }.read_list(items, 0, Contents::Settings)?;
+        let c = Parser { text, c }.read_where(nodes)?;
+        Some(Entry {
+            c,
+            form: Form::Update,
+            table,
+            listed,
+        })
+    }
+
+    // DELETE FROM name [WHERE condition]
+    #[tactic(auto, using(crate::proofs::SentenceReaders::stands))]
+    fn read_delete(self, nodes: &mut [Node; Node::NODES]) -> Option<Entry>
+        ensures { Deletes self.entry.p.text.now self.entry.p.c nodes.new result }
+    {
+        let text = self.p.text;
+        let c = self.p.expect(Kind::From)?;
+        let (c, table) = Parser { text, c }.read_name()?;
+        let c = Parser { text, c }.read_where(nodes)?;
+        Some(Entry {
+            c,
+            form: Form::Delete,
+            table,
+            listed: 0,
+        })
     }
 }
 
@@ -537,63 +448,46 @@ fn read_delete(text: &[u8], places: &mut [u16; Cursor::PLACES], c: Cursor) -> En
 // A sentence from the start of the text: its first token tells its form.
 fn read_form(
     text: &[u8],
-    list: &mut [u16; Entry::LIST],
-    places: &mut [u16; Cursor::PLACES],
-) -> Entry
+    items: &mut [Item; Item::ITEMS],
+    nodes: &mut [Node; Node::NODES],
+) -> Option<Entry>
     requires { length text.now ≤ most_text }
-    ensures { ReadsAny text.now list.new places.new result }
+    ensures { ReadsAny text.now items.new nodes.new result }
 {
     let t = token::next(text, 0);
-    let mut c = Cursor {
-        ok: true,
+    let c = Cursor {
         over: false,
         dotted: false,
         nodes: 0,
         marks: 0,
         at: t.next as u16,
     };
+    let start = Start {
+        p: Parser { text, c },
+    };
     match t.kind {
-        Kind::Table => read_table(text, list, c),
-        Kind::Select => read_select(text, list, places, c),
-        Kind::Insert => read_insert(text, list, c),
-        Kind::Update => read_update(text, list, places, c),
-        Kind::Delete => read_delete(text, places, c),
-        _ => {
-            c.ok = false;
-            Entry {
-                c,
-                form: Form::Table,
-                table: 0,
-                second: 0,
-                rows: 0,
-                listed: 0,
-                ring: false,
-            }
-        }
+        Kind::Table => start.read_table(items),
+        Kind::Select => start.read_select(items, nodes),
+        Kind::Insert => start.read_insert(items),
+        Kind::Update => start.read_update(items, nodes),
+        Kind::Delete => start.read_delete(nodes),
+        _ => None,
     }
 }
 
 // A sentence, from the start of the text to its end.
 pub fn read_sentence(
     text: &[u8],
-    list: &mut [u16; Entry::LIST],
-    places: &mut [u16; Cursor::PLACES],
-) -> Entry
+    items: &mut [Item; Item::ITEMS],
+    nodes: &mut [Node; Node::NODES],
+) -> Option<Entry>
     requires { length text.now ≤ most_text }
-    ensures { Noted text.now list.new places.new result (sentence text.now) }
+    ensures { Noted text.now items.new nodes.new result (sentence text.now) }
 {
-    let mut e = read_form(text, list, places);
-    let mut c = e.c;
-    if !c.ok {
-        return e;
-    }
-    let t = token::next(text, c.at as usize);
+    let e = read_form(text, items, nodes)?;
+    let t = token::next(text, usize::from(e.c.at));
     match t.kind {
-        Kind::End => e,
-        _ => {
-            c.ok = false;
-            e.c = c;
-            e
-        }
+        Kind::End => Some(e),
+        _ => None,
     }
 }

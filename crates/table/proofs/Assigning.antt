@@ -6,8 +6,8 @@ use mathlib.Core.List.{List, [], ◌∷◌, map}
 use native.Mathlib.Numerals.{add-one}
 use native.Mathlib.Omega.{arith}
 use lib.IntN.{ℤ}
-use lib.ListN.{length, take, drop, get_or, set, length-set, length-take, length-map, drop_of_length-le, get_or-map}
-use lib.Seq.{paste, drop-cons, get_or-take, length-take-le}
+use lib.ListN.{length, take, drop, get_or, set, length-set, length-map, drop_of_length-le, get_or-map}
+use lib.Seq.{paste, drop-cons, length-take-le}
 use Rattle.meaning.specs.Statement as M
 use Rattle.meaning.specs.Meaning.{value_of, assigned}
 use Rattle.statement.specs.declared.Setting.{Setting}

@@ -1,7 +1,7 @@
 -- What an update does to the cells is what `Meaning` says of the sentence that it was compiled from; the rows are read back from the cells, and all other cells are as
 -- they were. Assumes nothing.
 use mathlib.Core.Path.{◌≡◌, refl, sym, ap, ap₂, ◌∙◌, subst}
-use mathlib.Core.Bool.{Bool, true, false, not, cond, ◌&&◌, ◌||◌}
+use mathlib.Core.Bool.{Bool, true, false, not, cond, ◌&&◌, ◌||◌, and-false}
 use mathlib.Core.List.{List, [], ◌∷◌, ◌++◌, map}
 use Prim.Native.Nat.{ℕ, zero, suc, ◌+◌, ◌*◌, ◌≤◌, ◌<◌}
 use native.Mathlib.Nat.{mul-le-mul_right, mul_comm}
@@ -297,10 +297,6 @@ pushed_rows t c rows = cond (t.ring && (is_insert c && leb t.capacity (length ro
 
 abbrev pub remaining_rows : Table → M.Change → List Row → List Row
 remaining_rows t c rows = drop (length (pushed_rows t c rows)) rows
-
-and-false : (b : Bool) → (b && false) ≡ false
-and-false true = refl
-and-false false = refl
 
 -- ---- an update that a sentence's agrees with, where it fits
 

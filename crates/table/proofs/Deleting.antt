@@ -9,7 +9,7 @@ use Prim.Native.Nat.{ℕ, zero, suc, ◌+◌, ◌-◌, ◌*◌, ◌≤◌, max}
 use mathlib.Core.Path.{◌≡◌, refl, sym, ap, ap₂, ◌∙◌, subst}
 use mathlib.Core.Bool.{Bool, true, false, not}
 use mathlib.Core.List.{List, ◌∷◌, ◌++◌, append_assoc, append-nil}
-use native.Mathlib.Nat.{zero-mul, add-mul}
+use native.Mathlib.Nat.{zero-mul}
 use native.Mathlib.Omega.{arith}
 use borrow.Rule.Slice.PartMut.{put_mid, mid_of}
 use lib.IntN.{ℤ, pos}
@@ -150,9 +150,6 @@ module _ (p : List ℤ → Bool) (c used : ℕ) (a₀ : List ℤ) where
       (subst (λ (k : ℕ). Closed p c used a₀ a from k left gone') (sym et)
       (subst (λ (k : ℕ). Closed p c used a₀ a from to left k) (sym eg) L))
 
-  -- row i of those in use
-  pub row-next : (a : List ℤ) (i to gone : ℕ) → Closed p c used a₀ a (i * c + c) to (used - i - 1) gone → Closed p c used a₀ a ((i + 1) * c) to (used - (i + 1)) gone
-  row-next a i to gone L =
-      let e : i * c + c ≡ (i + 1) * c = omega (arith, add-mul i 1 c) in
-      let n : used - i - 1 ≡ used - (i + 1) = omega arith in
-      subst (λ (k : ℕ). Closed p c used a₀ a k to (used - (i + 1)) gone) e (subst (λ (k : ℕ). Closed p c used a₀ a (i * c + c) to k gone) n L)
+  -- one row fewer is left
+  pub row-next : (a : List ℤ) (i from to gone : ℕ) → Closed p c used a₀ a from to (used - i - 1) gone → Closed p c used a₀ a from to (used - (i + 1)) gone
+  row-next a i from to gone L = let n : used - i - 1 ≡ used - (i + 1) = omega arith in subst (λ (k : ℕ). Closed p c used a₀ a from to k gone) n L

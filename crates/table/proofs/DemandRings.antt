@@ -3,16 +3,16 @@
 --     area-written    cells written in an area, among all cells
 -- Assumes nothing.
 use mathlib.Core.Path.{◌≡◌, refl, sym, ap, ap₂, ◌∙◌, subst}
-use mathlib.Core.Bool.{Bool, true, false, not, cond, ◌&&◌}
+use mathlib.Core.Bool.{Bool, true, not, cond, ◌&&◌}
 use mathlib.Core.List.{List, [], ◌∷◌, ◌++◌, map, append_assoc}
-use Prim.Native.Nat.{ℕ, zero, suc, ◌+◌, ◌-◌, ◌*◌, ◌≤◌, ◌<◌}
-use native.Mathlib.Nat.{mul_comm, mul-le-mul_right, zero-mul, suc-mul, add-mul}
+use Prim.Native.Nat.{ℕ, suc, ◌+◌, ◌-◌, ◌*◌, ◌≤◌, ◌<◌}
+use native.Mathlib.Nat.{mul_comm, mul-le-mul_right, suc-mul}
 use native.Mathlib.Omega.{arith}
-use borrow.Author.Tests.{le-leb, lt-ltb, ltb-true, ltb-false}
-use lib.Dec.{leb, ltb}
+use borrow.Author.Tests.{le-leb, lt-ltb}
+use lib.Dec.{leb}
 use lib.IntN.{ℤ}
-use lib.ListN.{length, take, drop, get_or, set, take-append-drop, get_or-append}
-use lib.Seq.{take-add, take-take, drop-drop, drop-append-le, get_or-append-add, length-take-le}
+use lib.ListN.{length, take, drop, get_or, set, take-append-drop}
+use lib.Seq.{take-add, take-take, drop-drop, drop-append-le, length-take-le}
 use Rattle.lists.specs.Lists.{keep, turned, written}
 use Rattle.lists.proofs.Bools.{clash}
 use Rattle.meaning.specs.Condition.{Where}
@@ -20,7 +20,7 @@ use Rattle.meaning.specs.Statement as M
 use Rattle.meaning.specs.Statement.{insert, delete, update}
 use Rattle.meaning.specs.Meaning.{Row, meets_where, new_row, updated_row, assigned, changed, rows_changed}
 use Rattle.meaning.specs.Cells.{area_of, rows_in, stored, with_area}
-use Rattle.meaning.proofs.Cells.{rows-length, rows-front, insert-stored, area-length}
+use Rattle.meaning.proofs.Cells.{rows-front, insert-stored, area-length}
 use Rattle.statement.specs.declared.Table.{Table}
 use Rattle.statement.specs.declared.Update.{Update}
 use Rattle.statement.specs.Sound.{AgreesCondition, setting_values}

@@ -3,9 +3,9 @@ use mathlib.Core.Path.{◌≡◌, refl, sym, ap, ap₂, ◌∙◌}
 use mathlib.Core.Bool.{Bool, true, false, not, cond, ◌&&◌, ◌||◌}
 use mathlib.Core.List.{List, [], ◌∷◌, ◌++◌, map, append_assoc}
 use Prim.Native.Nat.{ℕ, zero, suc, ◌+◌, ◌-◌, ◌*◌, ◌≤◌, ◌<◌, max}
-use native.Mathlib.Nat.{mul-le-mul, mul-le-mul_right, mul_comm, suc-mul, add-mul}
+use native.Mathlib.Nat.{mul-le-mul_right, mul_comm, suc-mul, add-mul}
 use native.Mathlib.Omega.{arith}
-use borrow.Author.Tests.{leb-true, ltb-true, ltb-false, eqb-true, le-leb, lt-leb, le-ltb}
+use borrow.Author.Tests.{leb-true, ltb-true, ltb-false, eqb-true, le-leb, le-ltb}
 use borrow.Rule.Slice.PartMut.{put_mid}
 use lib.Dec.{eqb, leb, ltb}
 use lib.IntN.{ℤ, pos}
@@ -29,9 +29,6 @@ use Rattle.table.proofs.Assigning.{row-long}
 use Rattle.table.proofs.Round.{rows-parts}
 
 -- ---- the tests
-
-pub area_small : (n k : ℕ) → n ≤ 255 → k ≤ 65535 → n * k ≤ 16711425
-area_small n k h l = mul-le-mul h l
 
 module _ (t : Table) (start len : ℕ) where
   pub area-inside : area_fits t start len ≡ true → start + t.count * t.capacity ≤ len

@@ -6,7 +6,6 @@ pub mod Updating
 pub mod Deleting
 pub mod Fitting
 pub mod Removing
-pub mod Signs
 pub mod Linking
 pub mod Means
 pub mod Tested

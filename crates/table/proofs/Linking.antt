@@ -4,17 +4,21 @@ use Prim.Native.Nat.{ℕ, zero, suc, ◌+◌, ◌-◌, ◌*◌, ◌≤◌, ◌<�
 use mathlib.Core.Path.{◌≡◌, refl, sym, ap, ap₂, ◌∙◌, subst}
 use mathlib.Core.Logic.{◌≢◌}
 use mathlib.Core.Bool.{Bool, true, false, cond, ◌&&◌, ◌||◌}
-use mathlib.Core.List.{List, [], ◌∷◌}
+use mathlib.Core.List.{List, [], ◌∷◌, ◌++◌, map, append-nil}
 use native.Mathlib.Omega.{arith}
-use borrow.Author.Tests.{eq-eqb, ne_eqb, lt-ltb, le-ltb, le-leb, lt-leb, ltb-true, ltb-false, eqb-true, eqb-false}
+use borrow.Author.Tests.{eq-eqb, ne_eqb, lt-ltb, le-ltb, le-leb, lt-leb, leb-true, leb-false, ltb-true, ltb-false, eqb-true, eqb-false}
 use lib.Dec.{eqb, ltb, leb}
-use lib.ListN.{length, get_or, set, take, drop, replicate, length-take, length-set, length-replicate, get_or-replicate, drop_of_length-le, get_or-eq_default}
-use lib.Seq.{drop-cons, get_or-take, get_or-set_same, get_or-set_other}
+use lib.ListN.{length, get_or, set, take, drop, replicate, length-take, length-drop, length-map, length-append, length-set, length-replicate, get_or-replicate, get_or-append, drop_of_length-le, get_or-eq_default}
+use lib.Seq.{drop-cons, take-suc, take-length, drop-length, length-take-le, append_snoc, set_at, get_or_at, get_or-take, get_or-drop, get_or-append_right, get_or-set_same, get_or-set_other}
+use borrow.Rule.Slice.PartMut.{put_mid, mid_of}
+use native.Mathlib.Numerals.{add-one}
+use Rattle.lists.proofs.Lists.{map-append}
+use Rattle.std.proofs.lemmas.List.{get_or-map as get_or-map-in}
 use mir.Val.{bool_byte}
 use Rattle.meaning.specs.Postfix.{top, joined}
 use Rattle.table.specs.Evaluated.{if_so}
 use Rattle.table.specs.Tests.{met, unmet, arrives, Forward}
-use Rattle.table.specs.Linking.{exit, run_at, held_of, entry_of, exit_of, redirected_at, Redirects, Links, pushed, emptied, joins, Starts, Linked, Unlinked}
+use Rattle.table.specs.Linking.{exit, run_at, held_of, entry_of, exit_of, led_on, Redirects, Links, pushed, emptied, joins, Starts, Linked, Unlinked}
 
 -- ---- where one arrives
 
@@ -552,69 +556,93 @@ no-starts s e = subst (λ (l : List ℕ). (length l ≡ 15) × Starts l) (sym e)
             let m : length (replicate 15 met) ≤ j = simp length-replicate l in
             subst (λ (k : ℕ). k ≤ met) (sym (get_or-eq_default (replicate 15 met) 0 m)) (omega arith)
 
--- ---- the loop over targets
+-- ---- targets led on
 
--- the targets before j are redirected
-pub record Redirecting (a b from : ℕ) (t r : List ℕ) (j : ℕ) : Type 0 where
-  pub size : length r ≡ 32
-  pub size₀ : length t ≡ 32
-  pub from_a : 4 * a ≤ j
-  pub within : j ≤ 32
-  done : (k : ℕ) → k < j → k < 32 → get_or r k 0 ≡ redirected_at a b from k (get_or t k 0)
-  left : (k : ℕ) → j ≤ k → get_or r k 0 ≡ get_or t k 0
+-- the first i of them are led on
+abbrev pub led : ℕ → ℕ → List ℕ → ℕ → List ℕ
+led from b t i = map (led_on from b) (take i t) ++ drop i t
 
-module _ (a b from : ℕ) (t : List ℕ) (len : length t ≡ 32) (a8 : a ≤ 8) (b8 : b ≤ 8) where
-  pub redirect-start : Redirecting a b from t t (4 * a)
-  redirect-start = record { size = len; size₀ = len; from_a = omega arith; within = omega arith; done = before; left = λ k h. refl }
+module _ (from b : ℕ) where
+  led-long : (t : List ℕ) (i : ℕ) → i < length t → length (map (led_on from b) (take i t)) ≡ i
+  led-long t i h = length-map (take i t) (led_on from b) ∙ length-take-le i t (omega arith)
+
+  pub led-here : (t r : List ℕ) (i : ℕ) → i < length t → r ≡ led from b t i → get_or r i 0 ≡ get_or t i 0
+  led-here t r i h e = ap (λ (l : List ℕ). get_or l i 0) e ∙ rw (drop-cons t i 0 h) (get_or_at (map (led_on from b) (take i t)) (get_or t i 0) (drop (suc i) t) 0 i (led-long t i h))
+
+  -- one more target, which is now x
+  led-next : (t : List ℕ) (i : ℕ) → i < length t → led from b t (i + 1) ≡ map (led_on from b) (take i t) ++ led_on from b (get_or t i 0) ∷ drop (suc i) t
+  led-next t i h = rw (add-one, take-suc t i 0 h) (rw (map-append (led_on from b) (take i t) (get_or t i 0 ∷ [])) (append_snoc (map (led_on from b) (take i t)) (led_on from b (get_or t i 0)) (drop (suc i) t)))
+
+  pub led-met : (t r : List ℕ) (i : ℕ) → i < length t → r ≡ led from b t i → get_or r i 0 ≡ from → set r i b ≡ led from b t (i + 1)
+  led-met t r i h e m =
+      let x : led_on from b (get_or t i 0) ≡ b = ap (λ (y : Bool). cond y b (get_or t i 0)) (eq-eqb (get_or t i 0) from (sym (led-here t r i h e) ∙ m)) in
+      ap (λ (l : List ℕ). set l i b) e
+      ∙ rw (drop-cons t i 0 h) (set_at (map (led_on from b) (take i t)) (get_or t i 0) (drop (suc i) t) b i (led-long t i h))
+      ∙ ap (λ (y : ℕ). map (led_on from b) (take i t) ++ y ∷ drop (suc i) t) (sym x)
+      ∙ sym (led-next t i h)
+
+  pub led-stay : (t r : List ℕ) (i : ℕ) → i < length t → r ≡ led from b t i → get_or r i 0 ≢ from → r ≡ led from b t (i + 1)
+  led-stay t r i h e m =
+      let x : led_on from b (get_or t i 0) ≡ get_or t i 0 = ap (λ (y : Bool). cond y b (get_or t i 0)) (ne_eqb (get_or t i 0) from (λ q. m (led-here t r i h e ∙ q))) in
+      e ∙ ap (λ (l : List ℕ). map (led_on from b) (take i t) ++ l) (drop-cons t i 0 h)
+      ∙ ap (λ (y : ℕ). map (led_on from b) (take i t) ++ y ∷ drop (suc i) t) (sym x)
+      ∙ sym (led-next t i h)
+
+  pub led-done : (t : List ℕ) (i : ℕ) → i ≡ length t → led from b t i ≡ map (led_on from b) t
+  led-done t i h = rw (h, take-length, drop-length) (append-nil (map (led_on from b) t))
+
+-- a part of the targets led on
+module _ (a b from : ℕ) (t : List ℕ) (len : length t ≡ 32) (b8 : b ≤ 8) where
+  pub redirect-none : b ≤ a → Redirects a b from t t
+  redirect-none h = (refl, λ j l. go j (leb (4 * a) j) refl (ltb j (4 * b)) refl)
     where
-      before : (k : ℕ) → k < 4 * a → k < 32 → get_or t k 0 ≡ redirected_at a b from k (get_or t k 0)
-      before k h m = sym (ap (λ (x : Bool). cond (x && (ltb k (4 * b) && eqb (get_or t k 0) from)) b (get_or t k 0)) (lt-leb (4 * a) k h))
+      go : (j : ℕ) → (p : Bool) → leb (4 * a) j ≡ p → (q : Bool) → ltb j (4 * b) ≡ q → get_or t j 0 ≡ cond (p && (q && eqb (get_or t j 0) from)) b (get_or t j 0)
+      go j false e q f = refl
+      go j true e false f = refl
+      go j true e true f = let g : 4 * a ≤ j = leb-true (4 * a) j e in let k : j < 4 * b = ltb-true j (4 * b) f in absurd (omega arith)
 
-  module _ (r : List ℕ) (j : ℕ) (R : Redirecting a b from t r j) where
-    here : (x : ℕ) → j < 4 * b → x ≡ cond (eqb (get_or r j 0) from) b (get_or r j 0) → x ≡ redirected_at a b from j (get_or t j 0)
-    here x h e =
-        e ∙ ap (λ (y : ℕ). cond (eqb y from) b y) (R.left j (omega arith))
-        ∙ sym (ap₂ (λ (p q : Bool). cond (p && (q && eqb (get_or t j 0) from)) b (get_or t j 0)) (le-leb (4 * a) j R.from_a) (lt-ltb j (4 * b) h))
+  pub redirect-part : a < b → (m r : List ℕ) → m ≡ map (led_on from b) (mid_of (4 * a) (4 * b - 4 * a) t) → r ≡ put_mid (4 * a) (4 * b - 4 * a) t m → Redirects a b from t r
+  redirect-part h m r em er = (ap length er ∙ long, λ j l. ap (λ (x : List ℕ). get_or x j 0) er ∙ go j (omega (arith, len)) (leb (4 * a) j) refl (ltb j (4 * b)) refl)
+    where
+      n : ℕ
+      n = 4 * b - 4 * a
 
-    -- the target at j is x, and the others are as they were
-    redirected : (r' : List ℕ) (x : ℕ) → j < 4 * b → length r' ≡ 32 → get_or r' j 0 ≡ x → ((k : ℕ) → k ≢ j → get_or r' k 0 ≡ get_or r k 0)
-        → x ≡ cond (eqb (get_or r j 0) from) b (get_or r j 0) → Redirecting a b from t r' (j + 1)
-    redirected r' x h size is others e =
-        record {
-          size = size;
-          size₀ = len;
-          from_a = omega (arith, R.from_a);
-          within = omega arith;
-          done = λ k l m. go k l m (eqb k j) refl;
-          left = λ k l. others k (λ q. omega arith) ∙ R.left k (omega arith);
-        }
-      where
-        go : (k : ℕ) → k < j + 1 → k < 32 → (y : Bool) → eqb k j ≡ y → get_or r' k 0 ≡ redirected_at a b from k (get_or t k 0)
-        go k l m true f =
-            let q : k ≡ j = eqb-true k j f in
-            subst (λ (i : ℕ). get_or r' i 0 ≡ redirected_at a b from i (get_or t i 0)) (sym q) (is ∙ here x h e)
-        go k l m false f =
-            let d : k ≡ j → ⊥ = eqb-false k j f in
-            others k d ∙ R.done k (omega arith) m
+      front : List ℕ
+      front = take (4 * a) t
 
-    pub redirect-met : j < 4 * b → get_or r j 0 ≡ from → Redirecting a b from t (set r j b) (j + 1)
-    redirect-met h e =
-        redirected (set r j b) b h (simp length-set R.size) (get_or-set_same r j b 0 (omega (arith, R.size))) (λ k d. get_or-set_other r j k b 0 d)
-        (sym (ap (λ (y : Bool). cond y b (get_or r j 0)) (eq-eqb (get_or r j 0) from e)))
+      back : List ℕ
+      back = drop n (drop (4 * a) t)
 
-    pub redirect-stay : j < 4 * b → get_or r j 0 ≢ from → Redirecting a b from t r (j + 1)
-    redirect-stay h e = redirected r (get_or r j 0) h R.size refl (λ k d. refl) (sym (ap (λ (y : Bool). cond y b (get_or r j 0)) (ne_eqb (get_or r j 0) from e)))
+      front-long : length front ≡ 4 * a
+      front-long = length-take-le (4 * a) t (omega arith)
 
-    pub redirect-done : 4 * b ≤ j → Redirects a b from t r
-    redirect-done h = (R.size ∙ sym len, λ k l. go k (omega (arith, len)) (ltb k j) refl)
-      where
-        behind : (k : ℕ) → 4 * b ≤ k → (p q : Bool) → ltb k (4 * b) ≡ q → get_or t k 0 ≡ cond (p && (q && eqb (get_or t k 0) from)) b (get_or t k 0)
-        behind k m false q f = refl
-        behind k m true false f = refl
-        behind k m true true f = let g : k < 4 * b = ltb-true k (4 * b) f in absurd (omega arith)
+      mid-long : length m ≡ n
+      mid-long = ap length em ∙ length-map (take n (drop (4 * a) t)) (led_on from b) ∙ length-take-le n (drop (4 * a) t) (omega (arith, length-drop (4 * a) t))
 
-        go : (k : ℕ) → k < 32 → (y : Bool) → ltb k j ≡ y → get_or r k 0 ≡ redirected_at a b from k (get_or t k 0)
-        go k m true f = R.done k (ltb-true k j f) m
-        go k m false f =
-            let g : j ≤ k = ltb-false k j f in
-            R.left k g ∙ behind k (omega arith) (leb (4 * a) k) (ltb k (4 * b)) refl
+      long : length (front ++ (m ++ back)) ≡ length t
+      long = length-append front (m ++ back) ∙ ap (λ (k : ℕ). length front + k) (length-append m back) ∙ omega (arith, front-long, mid-long, length-drop n (drop (4 * a) t), length-drop (4 * a) t)
+
+      go : (j : ℕ) → j < 32 → (p : Bool) → leb (4 * a) j ≡ p → (q : Bool) → ltb j (4 * b) ≡ q
+          → get_or (front ++ (m ++ back)) j 0 ≡ cond (p && (q && eqb (get_or t j 0) from)) b (get_or t j 0)
+      go j l false e q f =
+          let k : j < 4 * a = leb-false (4 * a) j e in
+          get_or-append front (m ++ back) 0 j (omega (arith, front-long)) ∙ get_or-take (4 * a) t j 0 k
+      go j l true e true f =
+          let k : 4 * a ≤ j = leb-true (4 * a) j e in
+          let u : j < 4 * b = ltb-true j (4 * b) f in
+          let at : 4 * a + (j - length front) ≡ j = omega (arith, front-long) in
+          let in-n : j - length front < n = omega (arith, front-long) in
+          get_or-append_right front (m ++ back) j 0 (omega (arith, front-long))
+          ∙ get_or-append m back 0 (j - length front) (omega (arith, mid-long))
+          ∙ ap (λ (x : List ℕ). get_or x (j - length front) 0) em
+          ∙ get_or-map-in (led_on from b) (take n (drop (4 * a) t)) (j - length front) 0 0 (omega (arith, mid-long, ap length em, length-map (take n (drop (4 * a) t)) (led_on from b)))
+          ∙ ap (led_on from b) (get_or-take n (drop (4 * a) t) (j - length front) 0 in-n ∙ get_or-drop (4 * a) t (j - length front) 0 ∙ ap (λ (i : ℕ). get_or t i 0) at)
+      go j l true e false f =
+          let k : 4 * a ≤ j = leb-true (4 * a) j e in
+          let u : 4 * b ≤ j = ltb-false j (4 * b) f in
+          let at : 4 * a + (n + (j - length front - length m)) ≡ j = omega (arith, front-long, mid-long) in
+          get_or-append_right front (m ++ back) j 0 (omega (arith, front-long))
+          ∙ get_or-append_right m back (j - length front) 0 (omega (arith, front-long, mid-long))
+          ∙ get_or-drop n (drop (4 * a) t) (j - length front - length m) 0
+          ∙ get_or-drop (4 * a) t (n + (j - length front - length m)) 0
+          ∙ ap (λ (i : ℕ). get_or t i 0) at

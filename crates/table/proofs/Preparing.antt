@@ -1,5 +1,5 @@
 -- A condition prepared as numbers, one comparison after another. Assumes nothing.
-use Prim.Native.Nat.{ℕ, zero, suc, ◌+◌, ◌*◌, ◌≤◌, ◌<◌}
+use Prim.Native.Nat.{ℕ, ◌+◌, ◌*◌, ◌≤◌, ◌<◌}
 use mathlib.Core.Path.{◌≡◌, refl, sym, ap, ap₂, ◌∙◌, subst}
 use mathlib.Core.Bool.{Bool, true, false, cond}
 use mathlib.Core.List.{List}
@@ -16,16 +16,18 @@ use Rattle.meaning.specs.Statement as M
 use Rattle.meaning.specs.Statement.{column, value}
 use Rattle.meaning.specs.Meaning.{Row, value_of, operand_value}
 use Rattle.statement.specs.Operators.{predicate_at, is_null_test, order_of, truth_by}
-use Rattle.statement.proofs.OperatorLaws.{order_small, tested-order}
+use Rattle.statement.proofs.OperatorLaws.{tested-order}
 use Rattle.statement.specs.Compiled.{left_side, right_side}
 use Rattle.statement.specs.Sound.{operand_read, comparison_read}
 use Rattle.statement.specs.declared.Comparison.{Comparison}
 use Rattle.statement.specs.declared.Condition.{Condition}
 use Rattle.statement.specs.declared.Operand.{Operand}
-use Rattle.table.specs.Tests.{longest, met, right_tested, place_in, number_in, place_of, number_of, side_at, next_at, Prepared}
-use Rattle.table.specs.Linking.{exit, target_by, targets_put, Unlinked, Linked}
+use Rattle.statement.specs.declared.Order.{Order}
+use Rattle.statement.specs.declared.Order.TheVariants.{Less, Equal, Greater, Unknown}
+use Rattle.table.specs.Tests.{longest, met, right_tested, place_in, number_in, place_of, number_of, target_place, side_at, next_at, Prepared}
+use Rattle.table.specs.Linking.{exit, target_by, target_put, targets_put, Unlinked, Linked}
 use Rattle.table.proofs.Linking.{exit_out}
-use Rattle.table.proofs.Tested.{Shaped, prepared-by}
+use Rattle.table.proofs.Tested.{Shaped, place-small, prepared-by}
 
 -- of every row, the cell at the side's place, or its number where the row ends before that, is the operand's value
 side-in : (o : M.Operand) (vs : List ℤ) (row : Row) → length row ≤ longest → get_or row (place_in o) (number_in vs o) ≡ operand_value row vs o
@@ -47,51 +49,44 @@ module _ {A : Type 0} (l : List A) (i : ℕ) (x y : A) (d : A) where
   two-second : 2 * i + 1 < length l → get_or (set (set l (2 * i) x) (2 * i + 1) y) (2 * i + 1) d ≡ y
   two-second h = get_or-set_same (set l (2 * i) x) (2 * i + 1) y d (simp length-set h)
 
-module _ (l : List ℕ) (i : ℕ) (x y z w : ℕ) where
+put-other : (l : List ℕ) (i op : ℕ) (o : Order) (j : ℕ) → (j ≡ 4 * i + target_place o → ⊥) → get_or (target_put l i op o) j 0 ≡ get_or l j 0
+put-other l i op o j d = get_or-set_other l (4 * i + target_place o) j (target_by op o) 0 d
+
+module _ (l : List ℕ) (i op : ℕ) where
   abbrev one : List ℕ
-  one = set l (4 * i) x
+  one = target_put l i op Less
 
   abbrev two : List ℕ
-  two = set one (4 * i + 1) y
+  two = target_put one i op Equal
 
   abbrev three : List ℕ
-  three = set two (4 * i + 2) z
+  three = target_put two i op Greater
 
-  abbrev four : List ℕ
-  four = set three (4 * i + 3) w
-
-  four-other : (j : ℕ) → j < 4 * i → get_or four j 0 ≡ get_or l j 0
+  four-other : (j : ℕ) → j < 4 * i → get_or (targets_put l i op) j 0 ≡ get_or l j 0
   four-other j h =
-      get_or-set_other three (4 * i + 3) j w 0 (λ e. omega arith)
-      ∙ get_or-set_other two (4 * i + 2) j z 0 (λ e. omega arith)
-      ∙ get_or-set_other one (4 * i + 1) j y 0 (λ e. omega arith)
-      ∙ get_or-set_other l (4 * i) j x 0 (λ e. omega arith)
+      put-other three i op Unknown j (λ e. omega arith)
+      ∙ put-other two i op Greater j (λ e. omega arith)
+      ∙ put-other one i op Equal j (λ e. omega arith)
+      ∙ put-other l i op Less j (λ e. omega arith)
 
-  module _ (h : 4 * i + 3 < length l) where
-    four-first : get_or four (4 * i + 0) 0 ≡ x
-    four-first =
-        let s : 4 * i + 0 ≡ 4 * i = omega arith in
-        ap (λ (k : ℕ). get_or four k 0) s
-        ∙ get_or-set_other three (4 * i + 3) (4 * i) w 0 (λ e. omega arith)
-        ∙ get_or-set_other two (4 * i + 2) (4 * i) z 0 (λ e. omega arith)
-        ∙ get_or-set_other one (4 * i + 1) (4 * i) y 0 (λ e. omega arith)
-        ∙ get_or-set_same l (4 * i) x 0 (omega arith)
-
-    four-second : get_or four (4 * i + 1) 0 ≡ y
-    four-second =
-        let r : 4 * i + 1 < length l = omega arith in
-        get_or-set_other three (4 * i + 3) (4 * i + 1) w 0 (λ e. omega arith)
-        ∙ get_or-set_other two (4 * i + 2) (4 * i + 1) z 0 (λ e. omega arith)
-        ∙ get_or-set_same one (4 * i + 1) y 0 (simp length-set r)
-
-    four-third : get_or four (4 * i + 2) 0 ≡ z
-    four-third =
-        let r : 4 * i + 2 < length l = omega arith in
-        get_or-set_other three (4 * i + 3) (4 * i + 2) w 0 (λ e. omega arith)
-        ∙ get_or-set_same two (4 * i + 2) z 0 (simp length-set r)
-
-    four-fourth : get_or four (4 * i + 3) 0 ≡ w
-    four-fourth = get_or-set_same three (4 * i + 3) w 0 (simp length-set h)
+  -- the target by an order
+  four-at : 4 * i + 3 < length l → (o : Order) → get_or (targets_put l i op) (4 * i + target_place o) 0 ≡ target_by op o
+  four-at h Less =
+      let r : 4 * i + 0 < length l = omega arith in
+      put-other three i op Unknown (4 * i + 0) (λ e. omega arith)
+      ∙ put-other two i op Greater (4 * i + 0) (λ e. omega arith)
+      ∙ put-other one i op Equal (4 * i + 0) (λ e. omega arith)
+      ∙ get_or-set_same l (4 * i + 0) (target_by op Less) 0 r
+  four-at h Equal =
+      let r : 4 * i + 1 < length l = omega arith in
+      put-other three i op Unknown (4 * i + 1) (λ e. omega arith)
+      ∙ put-other two i op Greater (4 * i + 1) (λ e. omega arith)
+      ∙ get_or-set_same one (4 * i + 1) (target_by op Equal) 0 (simp length-set r)
+  four-at h Greater =
+      let r : 4 * i + 2 < length l = omega arith in
+      put-other three i op Unknown (4 * i + 2) (λ e. omega arith)
+      ∙ get_or-set_same two (4 * i + 2) (target_by op Greater) 0 (simp length-set r)
+  four-at h Unknown = get_or-set_same three (4 * i + 3) (target_by op Unknown) 0 (simp length-set h)
 
 -- each target is an exit
 set_out : (l : List ℕ) (i x : ℕ) → met ≤ x → Unlinked l → Unlinked (set l i x)
@@ -102,6 +97,9 @@ set_out l i x h U = (simp length-set U.0, λ j under. go j under (eqb j i) refl)
         let q : j ≡ i = eqb-true j i e in
         subst (λ (k : ℕ). met ≤ get_or (set l i x) k 0) (sym q) (subst (λ (k : ℕ). met ≤ k) (sym (get_or-set_same l i x 0 (omega (arith, U.0)))) h)
     go j under false e = subst (λ (k : ℕ). met ≤ k) (sym (get_or-set_other l i j x 0 (λ q. eqb-false j i e q))) (U.1 j under)
+
+put_out : (l : List ℕ) (i op : ℕ) (o : Order) → Unlinked l → Unlinked (target_put l i op o)
+put_out l i op o U = set_out l (4 * i + target_place o) (target_by op o) (exit_out (truth_by (predicate_at op) o)) U
 
 -- ---- the loop
 
@@ -127,9 +125,7 @@ module _ (c : Condition) (vs : List ℤ) (targets places : List ℕ) (numbers : 
     fill-next d h =
         record {
           shaped = F.shaped;
-          unlinked = set_out (set (set (set targets (4 * i) t₀) (4 * i + 1) t₁) (4 * i + 2) t₂) (4 * i + 3) t₃ (exit_out (truth_by o 3))
-              (set_out (set (set targets (4 * i) t₀) (4 * i + 1) t₁) (4 * i + 2) t₂ (exit_out (truth_by o 2))
-              (set_out (set targets (4 * i) t₀) (4 * i + 1) t₁ (exit_out (truth_by o 1)) (set_out targets (4 * i) t₀ (exit_out (truth_by o 0)) F.unlinked)));
+          unlinked = put_out (three targets i cmp.op) i cmp.op Unknown (put_out (two targets i cmp.op) i cmp.op Greater (put_out (one targets i cmp.op) i cmp.op Equal (put_out targets i cmp.op Less F.unlinked)));
           places-16 = simp length-set F.places-16;
           numbers-16 = simp length-set F.numbers-16;
           done = λ k under d' row short. go k under d' row short (ltb k i) refl;
@@ -140,18 +136,6 @@ module _ (c : Condition) (vs : List ℤ) (targets places : List ℕ) (numbers : 
 
         o : Predicate
         o = predicate_at cmp.op
-
-        t₀ : ℕ
-        t₀ = target_by cmp.op 0
-
-        t₁ : ℕ
-        t₁ = target_by cmp.op 1
-
-        t₂ : ℕ
-        t₂ = target_by cmp.op 2
-
-        t₃ : ℕ
-        t₃ = target_by cmp.op 3
 
         p : ℕ
         p = place_of (left_side cmp)
@@ -183,17 +167,9 @@ module _ (c : Condition) (vs : List ℤ) (targets places : List ℕ) (numbers : 
             let side : (j : ℕ) → j < 2 * i → side_at ps ns row j ≡ side_at places numbers row j = λ j m. ap₂ (get_or row) (two-other places i p q 0 j m) (two-other numbers i x y (pos 0) j m) in
             let a : side_at ps ns row (2 * k) ≡ side_at places numbers row (2 * k) = side (2 * k) (omega arith) in
             let b : side_at ps ns row (2 * k + 1) ≡ side_at places numbers row (2 * k + 1) = side (2 * k + 1) (omega arith) in
-            let z : ℕ = order_of (side_at places numbers row (2 * k)) (side_at places numbers row (2 * k + 1)) in
-            let s : z ≤ 3 = order_small (side_at places numbers row (2 * k)) (side_at places numbers row (2 * k + 1)) in
-            ap₂ (λ (u v : ℤ). get_or ts (4 * k + order_of u v) 0) a b ∙ four-other targets i t₀ t₁ t₂ t₃ (4 * k + z) (omega arith)
-
-        -- the targets of the next, by the order
-        by : (z : ℕ) → z ≤ 3 → get_or ts (4 * i + z) 0 ≡ target_by cmp.op z
-        by zero m = four-first targets i t₀ t₁ t₂ t₃ (omega (arith, F.unlinked.0))
-        by (suc zero) m = four-second targets i t₀ t₁ t₂ t₃ (omega (arith, F.unlinked.0))
-        by (suc (suc zero)) m = four-third targets i t₀ t₁ t₂ t₃ (omega (arith, F.unlinked.0))
-        by (suc (suc (suc zero))) m = four-fourth targets i t₀ t₁ t₂ t₃ (omega (arith, F.unlinked.0))
-        by (suc (suc (suc (suc z)))) m = absurd (omega arith)
+            let z : Order = order_of (side_at places numbers row (2 * k)) (side_at places numbers row (2 * k + 1)) in
+            let s : target_place z ≤ 3 = place-small z in
+            ap₂ (λ (u v : ℤ). get_or ts (4 * k + target_place (order_of u v)) 0) a b ∙ four-other targets i cmp.op (4 * k + target_place z) (omega arith)
 
         -- the right side as it is tested
         tested : (row : Row) (b : Bool) (l r : Operand)
@@ -212,7 +188,7 @@ module _ (c : Condition) (vs : List ℤ) (targets places : List ℕ) (numbers : 
             let b : side_at ps ns row (2 * i + 1) ≡ w =
             ap₂ (get_or row) (two-second places i p q 0 (omega (arith, F.places-16))) (two-second numbers i x y (pos 0) (omega (arith, F.numbers-16))) ∙ side-is (right_tested cmp) vs row short
             ∙ tested row (is_null_test o) (left_side cmp) (right_side cmp) in
-            ap₂ (λ (s t : ℤ). get_or ts (4 * i + order_of s t) 0) a b ∙ by (order_of u w) (order_small u w) ∙ ap exit (tested-order o u v)
+            ap₂ (λ (s t : ℤ). get_or ts (4 * i + target_place (order_of s t)) 0) a b ∙ four-at targets i cmp.op (omega (arith, F.unlinked.0)) (order_of u w) ∙ ap exit (tested-order o u v)
 
         go : (k : ℕ) → k < i + 1 → (d' : Comparison) (row : Row) → length row ≤ longest → (b : Bool) → ltb k i ≡ b
             → next_at ts ps ns row k ≡ exit (C.holds (operand_value row vs) (comparison_read (get_or c.comparisons k d')))

@@ -1,21 +1,16 @@
 -- A row's values as the settings of an INSERT, one after another, and the oldest row in its cells. Assumes nothing.
-use Prim.Native.Nat.{ℕ, zero, suc, ◌+◌, ◌-◌, ◌*◌, ◌≤◌, ◌<◌}
+use Prim.Native.Nat.{ℕ, zero, suc, ◌+◌, ◌-◌, ◌≤◌, ◌<◌}
 use mathlib.Core.Path.{◌≡◌, refl, sym, ap, ap₂, ◌∙◌}
-use mathlib.Core.Bool.{Bool, true, false}
 use mathlib.Core.List.{List, [], ◌∷◌, ◌++◌, map}
-use native.Mathlib.Nat.{mul-zero, suc-mul, mul-le-mul_right}
 use native.Mathlib.Omega.{arith}
-use borrow.Author.Tests.{ltb-true, ltb-false}
-use lib.Dec.{ltb}
 use lib.IntN.{ℤ, pos}
-use lib.ListN.{length, take, drop, get_or, set, replicate, length-replicate, length-drop}
-use lib.Seq.{paste, paste-zero, take_all, drop-drop, length-take-le}
+use lib.ListN.{length, drop, get_or, set, replicate, length-replicate}
+use lib.Seq.{paste, paste-zero, take_all}
 use Rattle.lists.specs.Lists.{turned}
 use Rattle.lists.proofs.Turned.{turned-past}
 use Rattle.meaning.specs.Statement as M
 use Rattle.meaning.specs.Meaning.{Row}
 use Rattle.meaning.specs.Cells.{rows_in}
-use Rattle.meaning.proofs.Cells.{rows-length}
 use Rattle.meaning.specs.Pattern.{placed_from}
 use Rattle.statement.specs.declared.Condition.{Condition}
 use Rattle.statement.specs.declared.Setting.{Setting}

@@ -1,8 +1,8 @@
 -- The rows of a ring, read in two parts: those from the oldest on, and then those before it; and its cells turned so that the oldest lies first. Assumes nothing.
 use Prim.Native.Nat.{ℕ, zero, suc, ◌+◌, ◌-◌, ◌*◌, ◌≤◌, ◌<◌}
-use mathlib.Core.Path.{◌≡◌, refl, sym, ap, ap₂, ◌∙◌, subst}
+use mathlib.Core.Path.{◌≡◌, refl, sym, ap, ap₂, ◌∙◌}
 use mathlib.Core.Bool.{Bool, true, false, cond}
-use mathlib.Core.List.{List, [], ◌∷◌, ◌++◌, map, append_assoc, append-nil}
+use mathlib.Core.List.{List, [], ◌∷◌, ◌++◌, map, append_assoc}
 use native.Mathlib.Nat.{zero-mul, suc-mul, add-mul, mul-le-mul_right}
 use native.Mathlib.Omega.{arith}
 use borrow.Author.Tests.{ltb-true, ltb-false}
@@ -109,9 +109,6 @@ module _ (t : Table) (start : ℕ) (cells : List ℤ) where
       ap₂ (λ (i : ℕ) (m : List ℤ). turned i (rows_in t.count t.rows m)) ek el
       ∙ clamped-turned t.oldest t.rows (rows_in t.count t.rows (drop start cells)) (rows-length t.count t.rows (drop start cells))
       ∙ sym (ap (λ (b : Bool). cond b (turned t.oldest (rows_in t.count t.rows (drop start cells))) []) h)
-
-  pub used-none : leb (start + row_cells t) (length cells) ≡ false → [] ≡ rows_used t start cells
-  used-none h = sym (ap (λ (b : Bool). cond b (turned t.oldest (rows_in t.count t.rows (drop start cells))) []) h)
 
 -- ---- cells turned
 

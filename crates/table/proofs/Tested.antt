@@ -19,12 +19,20 @@ use Rattle.statement.specs.Compiled.{no_comparison}
 use Rattle.statement.specs.Sound.{comparison_read, nodes_read, used_comparisons, used_steps, condition_nodes}
 use Rattle.statement.specs.declared.Comparison.{Comparison}
 use Rattle.statement.specs.declared.Condition.{Condition}
-use Rattle.statement.proofs.OperatorLaws.{order_small}
+use Rattle.statement.specs.declared.Order.{Order}
+use Rattle.statement.specs.declared.Order.TheVariants.{Less, Equal, Greater, Unknown}
 use Rattle.table.specs.Evaluated.{meets_stored}
 use Rattle.table.specs.Changed.{settled}
-use Rattle.table.specs.Tests.{longest, met, side_at, next_at, arrives, Forward, passes, Prepared, TestsRow}
+use Rattle.table.specs.Tests.{longest, met, side_at, target_place, next_at, arrives, Forward, passes, Prepared, TestsRow}
 use Rattle.table.specs.Linking.{exit, run_at, held_of, Linked}
 use Rattle.table.proofs.Means.{meets-where}
+
+-- a comparison has four targets
+pub place-small : (o : Order) → target_place o ≤ 3
+place-small Less = omega arith
+place-small Equal = omega arith
+place-small Greater = omega arith
+place-small Unknown = omega arith
 
 -- ---- the comparisons of a condition
 
@@ -121,8 +129,8 @@ prepared-by c vs n places numbers S t targets start K each =
       forward = K.forward;
       says = λ row short.
           ap (λ (k : ℕ). eqb k met)
-          (K.arrives_at (λ (i : ℕ). order_of (side_at places numbers row (2 * i)) (side_at places numbers row (2 * i + 1))) (held_in c vs row)
-          (λ i. order_small (side_at places numbers row (2 * i)) (side_at places numbers row (2 * i + 1))) (λ i h. each i h no_comparison row short))
+          (K.arrives_at (λ (i : ℕ). target_place (order_of (side_at places numbers row (2 * i)) (side_at places numbers row (2 * i + 1)))) (held_in c vs row)
+          (λ i. place-small (order_of (side_at places numbers row (2 * i)) (side_at places numbers row (2 * i + 1)))) (λ i h. each i h no_comparison row short))
           ∙ exit-met (top true (run_at (held_of n (held_in c vs row)) 0 (take (2 * n - 1) c.steps) []))
           ∙ runs-meets c vs n S row;
     }
@@ -144,8 +152,8 @@ module _ (targets places : List ℕ) (numbers : List ℤ) (start : ℕ) (row : R
     pub walk-on : Forward targets → i < met → i < next_at targets places numbers row i
     unfolding next_at
     walk-on F h =
-        F i (order_of (side_at places numbers row (2 * i)) (side_at places numbers row (2 * i + 1))) h
-        (order_small (side_at places numbers row (2 * i)) (side_at places numbers row (2 * i + 1)))
+        let o : Order = order_of (side_at places numbers row (2 * i)) (side_at places numbers row (2 * i + 1)) in
+        F i (target_place o) h (place-small o)
 
     pub walk_more : Forward targets → i < met → (j : ℕ) → j ≡ next_at targets places numbers row i → Walking targets places numbers start row j
     walk_more F h j e = go W.turns W.enough W.same

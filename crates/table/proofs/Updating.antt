@@ -9,7 +9,6 @@ use Prim.Native.Nat.{ℕ, zero, suc, ◌+◌, ◌-◌, ◌*◌, ◌≤◌}
 use mathlib.Core.Path.{◌≡◌, refl, sym, ap, ap₂, ◌∙◌, subst}
 use mathlib.Core.Bool.{Bool, true, false, cond}
 use mathlib.Core.List.{List, ◌++◌, map, append_assoc}
-use native.Mathlib.Nat.{add-mul}
 use native.Mathlib.Omega.{arith}
 use borrow.Rule.Slice.PartMut.{put_mid, same_len_mid, put_same}
 use lib.IntN.{ℤ}
@@ -118,12 +117,9 @@ module _ (p : List ℤ → Bool) (f : List ℤ → List ℤ) (c used : ℕ) (a�
         left_at (put_mid at (at + c - at) a row) a' (at + c) (left - 1) (found + 0) found' (ea ∙ sym (put_same at (at + c - at) a)) (ef ∙ none)
         (update-turn a at left found 0 row h L (cond-false (p row) 1 0 t) (cond-false (p row) (f row) row t))
 
-    -- row i of those in use
-    pub row-next : (a : List ℤ) (i found : ℕ) → Left p f c used a₀ a (i * c + c) (used - i - 1) found → Left p f c used a₀ a ((i + 1) * c) (used - (i + 1)) found
-    row-next a i found L =
-        let e : i * c + c ≡ (i + 1) * c = omega (arith, add-mul i 1 c) in
-        let n : used - i - 1 ≡ used - (i + 1) = omega arith in
-        subst (λ (k : ℕ). Left p f c used a₀ a k (used - (i + 1)) found) e (subst (λ (k : ℕ). Left p f c used a₀ a (i * c + c) k found) n L)
+    -- one row fewer is left
+    pub row-next : (a : List ℤ) (i at found : ℕ) → Left p f c used a₀ a at (used - i - 1) found → Left p f c used a₀ a at (used - (i + 1)) found
+    row-next a i at found L = let n : used - i - 1 ≡ used - (i + 1) = omega arith in subst (λ (k : ℕ). Left p f c used a₀ a at k found) n L
 
     pub update-done : (a : List ℤ) (at left found : ℕ) → left ≤ 0 → used * c ≤ length a₀ → Left p f c used a₀ a at left found → (found ≡ count p (rows_in c used a₀)) × (a ≡ stored a₀ (used * c) (map (settled p f) (rows_in c used a₀)))
     update-done a at zero found z h L =

@@ -1,6 +1,6 @@
 -- What an update does to the cells of its table, and what it counts: document 01, "Meaning", and request A.4. Of every struct and all cells; where something does not fit, nothing
 -- happens. proofs/ChangedMeans shows that this is what `Meaning` says of the sentence it was compiled from. Assumes nothing: these are definitions.
-use Rattle.std.specs.Prelude.{◌≡◌, Bool, true, false, not, cond, ◌&&◌, ◌||◌, List, [], ◌∷◌, ◌++◌, map, ℕ, zero, suc, ◌+◌, ◌*◌, ◌≤◌, ◌<◌, eqb, leb, ltb, ℤ, pos, length, drop, get_or, set}
+use Rattle.std.specs.Prelude.{◌≡◌, Bool, true, false, not, cond, ◌&&◌, ◌||◌, List, [], ◌∷◌, ◌++◌, map, ℕ, zero, suc, ◌+◌, ◌*◌, ◌≤◌, ◌<◌, eqb, leb, ltb, ℤ, length, drop, get_or, set}
 use Rattle.lists.specs.Lists.{keep, count, turned}
 use Rattle.meaning.specs.Statement as M
 use Rattle.meaning.specs.Meaning.{Row, new_row, assigned}

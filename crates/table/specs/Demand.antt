@@ -1,6 +1,6 @@
 -- The demands and requests A.1, A.3, A.4 and A.6 as claims, as far as the table layer can say them; what is asked of the arguments is what their types and a sound state give. Each is
 -- proved in proofs/Demand.antt. Assumes nothing: these are definitions.
-use Rattle.std.specs.Prelude.{◌≡◌, ◌≢◌, ◌↔◌, true, not, cond, List, [], ◌∷◌, ◌++◌, map, ℕ, ◌+◌, ◌-◌, ◌*◌, ◌≤◌, ◌<◌, ltb, ℤ, length, take, drop, get_or}
+use Rattle.std.specs.Prelude.{◌≡◌, ◌≢◌, ◌↔◌, true, not, List, [], ◌∷◌, ◌++◌, map, ℕ, ◌+◌, ◌*◌, ◌≤◌, ◌<◌, ℤ, length, take, drop, get_or}
 use Rattle.std.proofs.Math.Option.{some}
 use Rattle.lists.specs.Lists.{All, keep, count, pairs, written}
 use Rattle.meaning.specs.Demand.{Is32, ReadsBack}

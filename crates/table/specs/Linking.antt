@@ -2,8 +2,10 @@
 -- stand for, by leading the left part on to the right one. Assumes nothing: these are definitions.
 use Rattle.std.specs.Prelude.{◌≡◌, ◌≢◌, Bool, true, cond, ◌&&◌, ◌||◌, List, [], ◌∷◌, ℕ, zero, suc, ◌+◌, ◌*◌, ◌-◌, ◌≤◌, ◌<◌, ltb, leb, eqb, length, get_or, set, take}
 use Rattle.meaning.specs.Postfix.{top, joined}
+use Rattle.statement.specs.declared.Order.{Order}
+use Rattle.statement.specs.declared.Order.TheVariants.{Less, Equal, Greater, Unknown}
 use Rattle.statement.specs.Operators.{predicate_at, truth_by}
-use Rattle.table.specs.Tests.{met, unmet, arrives, Forward}
+use Rattle.table.specs.Tests.{met, unmet, target_place, arrives, Forward}
 
 -- ---- one comparison by itself
 
@@ -11,12 +13,14 @@ abbrev pub exit : Bool → ℕ
 exit b = cond b met unmet
 
 -- the four targets of comparison i, by its operator: where the left side is less, equal and greater, and where a side is null
-abbrev pub target_by : ℕ → ℕ → ℕ
+abbrev pub target_by : ℕ → Order → ℕ
 target_by op order = exit (truth_by (predicate_at op) order)
 
+abbrev pub target_put : List ℕ → ℕ → ℕ → Order → List ℕ
+target_put l i op order = set l (4 * i + target_place order) (target_by op order)
+
 abbrev pub targets_put : List ℕ → ℕ → ℕ → List ℕ
-targets_put l i op =
-    set (set (set (set l (4 * i) (target_by op 0)) (4 * i + 1) (target_by op 1)) (4 * i + 2) (target_by op 2)) (4 * i + 3) (target_by op 3)
+targets_put l i op = target_put (target_put (target_put (target_put l i op Less) i op Equal) i op Greater) i op Unknown
 
 -- ---- steps
 
@@ -38,6 +42,10 @@ entry_of n next = cond (ltb next n) next met
 -- which way out of its left part a step leads on to the right one: `met` for AND, `unmet` for OR
 abbrev pub exit_of : ℕ → ℕ
 exit_of step = cond (eqb step 1) met unmet
+
+-- a target that led to `from` leads to b
+abbrev pub led_on : ℕ → ℕ → ℕ → ℕ
+led_on from b t = cond (eqb t from) b t
 
 -- the targets of the comparisons from a up to b that led to `from` lead to b; others stay
 abbrev pub redirected_at : ℕ → ℕ → ℕ → ℕ → ℕ → ℕ

@@ -7,6 +7,8 @@ use Rattle.meaning.specs.Statement.{column, value}
 use Rattle.meaning.specs.Meaning.{Row, value_of, meets_where}
 use Rattle.statement.specs.declared.Condition.{Condition}
 use Rattle.statement.specs.declared.Operand.{Operand}
+use Rattle.statement.specs.declared.Order.{Order}
+use Rattle.statement.specs.declared.Order.TheVariants.{Less, Equal, Greater, Unknown}
 use Rattle.statement.specs.declared.Comparison.{Comparison}
 use Rattle.statement.specs.declared.Query.{Query}
 use Rattle.statement.specs.Compiled.{left_side, right_side}
@@ -52,9 +54,16 @@ met = 8
 abbrev pub unmet : ℕ
 unmet = 9
 
+-- the place of an order among the four targets of a comparison
+abbrev pub target_place : Order → ℕ
+target_place Less = 0
+target_place Equal = 1
+target_place Greater = 2
+target_place Unknown = 3
+
 -- where comparison i leads: of its four targets the one by the order of its sides
 unfoldable pub next_at : List ℕ → List ℕ → List ℤ → Row → ℕ → ℕ
-next_at targets places numbers row i = get_or targets (4 * i + order_of (side_at places numbers row (2 * i)) (side_at places numbers row (2 * i + 1))) 0
+next_at targets places numbers row i = get_or targets (4 * i + target_place (order_of (side_at places numbers row (2 * i)) (side_at places numbers row (2 * i + 1)))) 0
 
 -- where one is after at most so many comparisons, from place i on
 abbrev pub arrives : (ℕ → ℕ) → ℕ → ℕ → ℕ

@@ -13,7 +13,7 @@ pub fn is_inside(size: usize, start: usize, cells: usize) -> bool
 // A table's rows: the cells from the first row's on, how many cells a row has, how many rows there are, and which is the oldest, counted as they lie.
 #[derive(Clone, Copy)]
 pub struct Rows<'a> {
-    cells: &'a [i32],
+    pub cells: &'a [i32],
     pub width: usize,
     pub count: u16,
     oldest: u16,
@@ -82,22 +82,13 @@ impl<'a> Rows<'a> {
         if place < count { place } else { place - count }
     }
 
-    // Row i, counted so.
+    // Row i, counted so. (By number, where rows are read round; it is asked that the row is there, as of any index.)
     pub fn row(&self, i: usize) -> &'a [i32]
         requires { i < self.now.count }
         ensures row { result.now ≡ get_or (rows_of self.now) i [] }
         ensures width { length result.now ≡ self.now.width }
     {
         let at = self.place(i) * self.width;
-        &self.cells[at..at + self.width]
-    }
-
-    // Row i as they lie.
-    pub fn lying(&self, i: usize) -> &'a [i32]
-        requires { i < self.now.count }
-        ensures { result.now ≡ get_or (lying_in self.now) i [] }
-    {
-        let at = i * self.width;
         &self.cells[at..at + self.width]
     }
 

@@ -14,7 +14,8 @@ ghost use Rattle.table.specs.Changed.{row_of, settled, TurnsRows, laid, next_pla
 
 use super::area::Rows;
 use super::{area, rows};
-use statement::{Condition, Setting, Table, Update, Value};
+use lists::in_use;
+use statement::{Condition, Given, Setting, Table, Update, Value};
 
 // What an update did: how many rows it inserted, matched or deleted, how many are in use now, and which place is the oldest's.
 #[derive(Clone, Copy)]
@@ -43,10 +44,10 @@ impl Changed {
 fn value_of(value: Value, values: &[i32]) -> i32
     ensures { result ≡ value_of values.now (value_read value) }
 {
-    if value.mark == 0 {
-        return value.number;
+    match value.read() {
+        Given::Constant(number) => number,
+        Given::Parameter(k) => rows::number_or(values, usize::from(k), 0),
     }
-    rows::number_or(values, usize::from(value.mark - 1), 0)
 }
 
 // Puts the values of the settings into a row.
@@ -82,21 +83,24 @@ fn assign(row: &mut [i32], settings: &[Setting], values: &[i32])
     }
 }
 
-// Sets columns of the rows that meet the condition, each tested as it was. Returns how many they are.
+// Sets columns of the rows that meet the condition, each tested as it was. Returns how many they are. (What is asked of the area stands at each of three
+// functions: of a struct that lends it, each would say what becomes of a borrow within, which is no plainer.)
 fn update_rows(area: &mut [i32], columns: usize, used: u16, update: &Update, values: &[i32]) -> u16
     requires { (columns ≤ longest) × (used * columns ≤ length area.old) }
     ensures count { result ≡ count (meets_stored update.now.condition values.now) (area_rows columns used area.old) }
     ensures cells { area.new ≡ stored area.old (used * columns) (map (settled (meets_stored update.now.condition values.now) (assigned (map setting_read (take update.now.count update.now.settings)) values.now)) (area_rows columns used area.old)) }
 {
     let test = rows::prepare(&update.condition, values);
-    let settings = rows::used(&update.settings, update.count);
+    let settings = in_use(&update.settings, usize::from(update.count));
     let mut found: u16 = 0;
-    for i in 0..usize::from(used) {
-        let at = i * columns;
-        if test.meets(&area[at..at + columns]) {
-            assign(&mut area[at..at + columns], settings, values);
+    let mut at = 0;
+    for _ in 0..used {
+        let row = &mut area[at..at + columns];
+        if test.meets(row) {
+            assign(row, settings, values);
             found += 1;
         }
+        at += columns;
     }
     found
 }
@@ -130,18 +134,19 @@ fn delete_rows(
     ensures cells { area.new ≡ stored area.old (used * columns) (keep (λ r. not (meets_stored condition.now values.now r)) (area_rows columns used area.old)) }
 {
     let test = rows::prepare(condition, values);
+    let mut from = 0;
     let mut to = 0;
     let mut gone: u16 = 0;
-    for i in 0..usize::from(used) {
-        let from = i * columns;
+    for _ in 0..used {
         if test.meets(&area[from..from + columns]) {
             gone += 1;
         } else {
             move_row(area, from, to, columns);
             to += columns;
         }
+        from += columns;
     }
-    area[to..usize::from(used) * columns].fill(0);
+    area[to..from].fill(0);
     gone
 }
 
@@ -230,7 +235,7 @@ fn change_area(area: &mut [i32], table: &Table, update: &Update, values: &[i32])
     ensures counted { result ≡ changed_of (is_full_ring table.now) table.now.oldest update.now.form update.now values.now (area_rows table.now.count table.now.rows area.old) }
     ensures cells { area.new ≡ stored area.old (table.now.rows * table.now.count) (laid (is_full_ring table.now) table.now.oldest update.now.form update.now values.now (area_rows table.now.count table.now.rows area.old)) }
 {
-    let settings = rows::used(&update.settings, update.count);
+    let settings = in_use(&update.settings, usize::from(update.count));
     if update.form == Update::INSERT {
         insert_row(area, new_place(table), settings, values);
         return inserted(table);

@@ -13,6 +13,6 @@ pub use changes::{Changed, change, removal};
 pub use listing::{Selected, select};
 pub use pairs::select_pair;
 pub use statement::{
-    Comparison, Condition, Name, Operand, Order, Query, Refusal, Setting, Statement, Step, Table,
-    Update, Value,
+    Comparison, Condition, Given, Name, Operand, Order, Query, Refusal, Setting, Statement, Step,
+    Table, Term, Update, Value,
 };

@@ -1,5 +1,5 @@
 // What a statement says, as it is printed.
-use statement::{Comparison, Condition, Operand, Query, Step, Table, Update, Value};
+use statement::{Comparison, Condition, Given, Operand, Query, Step, Table, Term, Update, Value};
 use std::fmt;
 
 // A part of a statement. A column is printed as `c` and its number, a parameter as `?` and its number from 1 on.
@@ -19,13 +19,10 @@ impl fmt::Display for Shown<'_, Table> {
 
 impl fmt::Display for Shown<'_, Operand> {
     fn fmt<W: fmt::Write>(&self, f: &mut fmt::Formatter<W>) -> fmt::Result {
-        let half = self.0.code / 2;
-        if self.0.code % 2 == 1 {
-            write!(f, "?{}", half + 1)
-        } else if 0 < half {
-            write!(f, "c{}", half - 1)
-        } else {
-            write!(f, "{}", self.0.number)
+        match self.0.read() {
+            Term::Constant(number) => write!(f, "{number}"),
+            Term::Parameter(k) => write!(f, "?{}", u16::from(k) + 1),
+            Term::Column(i) => write!(f, "c{i}"),
         }
     }
 }
@@ -97,9 +94,9 @@ impl fmt::Display for Shown<'_, Query> {
 
 impl fmt::Display for Shown<'_, Value> {
     fn fmt<W: fmt::Write>(&self, f: &mut fmt::Formatter<W>) -> fmt::Result {
-        match self.0.mark {
-            0 => write!(f, "{}", self.0.number),
-            mark => write!(f, "?{mark}"),
+        match self.0.read() {
+            Given::Constant(number) => write!(f, "{number}"),
+            Given::Parameter(k) => write!(f, "?{}", u16::from(k) + 1),
         }
     }
 }

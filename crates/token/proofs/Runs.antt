@@ -2,9 +2,9 @@
 use mathlib.Core.Path.{◌≡◌, refl, sym, ap, ◌∙◌}
 use mathlib.Core.Bool.{Bool, true, false}
 use mathlib.Core.List.{List, ◌∷◌}
-use Prim.Native.Nat.{ℕ, suc, ◌+◌, ◌≤◌, ◌<◌}
+use Prim.Native.Nat.{ℕ, ◌+◌, ◌<◌}
 use native.Mathlib.Numerals.{add-one}
-use lib.ListN.{length, get_or, drop, drop_of_length-le}
+use lib.ListN.{length, get_or, drop}
 use lib.Seq.{drop-cons}
 use Rattle.std.specs.List.{AllWithin, HoldsAt}
 use Rattle.std.specs.Prelude.{Option}
@@ -31,13 +31,3 @@ run-first p s r h =
     s
     r
     h
-
-module _ (p : ℕ → Bool) (s : List ℕ) (i : ℕ) where
-  pub count-end : length s ≤ i → length (take_while p (drop i s)) ≡ 0
-  count-end h = rw (drop_of_length-le s h)
-
-  pub count-stop : i < length s → p (get_or s i 0) ≡ false → length (take_while p (drop i s)) ≡ 0
-  count-stop h e = ap (λ u. length (take_while p u)) (drop_here s i h) ∙ ap length (take_no p (get_or s i 0) (drop (i + 1) s) e)
-
-  pub count-more : i < length s → p (get_or s i 0) ≡ true → length (take_while p (drop i s)) ≡ suc (length (take_while p (drop (i + 1) s)))
-  count-more h e = ap (λ u. length (take_while p u)) (drop_here s i h) ∙ ap length (take-yes p (get_or s i 0) (drop (i + 1) s) e)

@@ -1,6 +1,6 @@
 -- Laws of words: which are keywords, and which are names. Assumes nothing.
 use mathlib.Core.Path.{◌≡◌, refl, sym, ap, ◌∙◌}
-use mathlib.Core.Bool.{Bool, true, false, cond, ◌&&◌, ◌||◌, or-true}
+use mathlib.Core.Bool.{Bool, true, false, cond, ◌||◌, or-true}
 use mathlib.Core.List.{List, [], ◌∷◌}
 use Prim.Native.Nat.{ℕ, ◌<◌}
 use Prim.Native.String.{String}
@@ -12,8 +12,9 @@ use Rattle.std.proofs.lemmas.Slice.Eq.{HasBytesAt, text_from_reads}
 use Rattle.lists.specs.Lists.{bytes, all, any}
 use Rattle.lists.specs.Tests.{eq_list}
 use Rattle.lists.proofs.Bools.{and_right}
+use Rattle.lists.proofs.Chains.{all-is}
 use Rattle.meaning.specs.Tokens as M
-use Rattle.meaning.specs.Tokens.{Keyword, keyword, name, constant, other, keywords, keyword_or, word, negative, decimal, is_digit, is_small, is_capital, is_name_byte, is_word_byte, is_name, folded}
+use Rattle.meaning.specs.Tokens.{Keyword, keyword, name, constant, other, keyword_or, word, negative, decimal, is_digit, is_small, is_capital, is_name_byte, is_word_byte, folded}
 use Rattle.meaning.proofs.Folding.{name-begins}
 use Rattle.token.specs.declared.Kind.TheVariants.{Name, Other}
 use Rattle.token.specs.Tokens.{kind_of}
@@ -55,11 +56,7 @@ word-is (b ∷ w) l = refl
 
 pub number-is : (w : List ℕ) → 0 < length w → is_number w ≡ list_all is_digit w
 number-is [] l = absurd (omega arith)
-number-is (b ∷ w) l = all-is (b ∷ w)
-  where
-    all-is : (u : List ℕ) → all is_digit u ≡ list_all is_digit u
-    all-is [] = refl
-    all-is (d ∷ u) = ap (λ x. is_digit d && x) (all-is u)
+number-is (b ∷ w) l = sym (all-is is_digit (b ∷ w))
 
 pub negative-is : (w : List ℕ) → kind_of (negative w) ≡ kind_of (cond (is_number w) (constant (signed true (decimal w))) other)
 unfolding negative

@@ -19,11 +19,12 @@ pub enum Kind {
     // A constant within 32 bits, and one outside.
     Constant(i32),
     Big,
-    // ? , ( )
+    // ? , ( ) and, of a dotted column, .
     Mark,
     Comma,
     Open,
     Close,
+    Dot,
     // The operators: = <> < <= > >=
     Eq,
     Ne,
@@ -46,7 +47,6 @@ pub enum Kind {
     And,
     Or,
     Not,
-    Dot,
     // Keywords of later requests.
     Ring,
     Is,
@@ -115,43 +115,62 @@ fn constant(minus: bool, n: u32) -> Kind
 
 // ---- words
 
-// A name, if the word begins with a letter.
-fn name(word: &[u8]) -> Kind
-    requires { (0 < length word.now) × (all is_word_byte word.now ≡ true) }
-    ensures { result ≡ kind_of (name_of word.now) }
-{
-    if word[0].is_ascii_alphabetic() {
-        Kind::Name
-    } else {
-        Kind::Other
-    }
+// A word: one byte or more, all of them letters, digits or underscores.
+#[derive(Clone, Copy)]
+struct Word<'a> {
+    bytes: &'a [u8],
+    ghost some: { 0 < length bytes.now },
+    ghost of_word: { all is_word_byte bytes.now ≡ true },
 }
 
-// What a word is that is not of digits: a keyword, or a name.
-fn keyword_or_name(word: &[u8]) -> Kind
-    requires { (0 < length word.now) × (all is_word_byte word.now ≡ true) }
-    ensures { result ≡ kind_of (keyword_or_name_of word.now) }
-{
-    let otherwise = name(word);
-    match word {
-        b"TABLE" => Kind::Table,
-        b"ROWS" => Kind::Rows,
-        b"SELECT" => Kind::Select,
-        b"FROM" => Kind::From,
-        b"WHERE" => Kind::Where,
-        b"INSERT" => Kind::Insert,
-        b"INTO" => Kind::Into,
-        b"VALUES" => Kind::Values,
-        b"UPDATE" => Kind::Update,
-        b"SET" => Kind::Set,
-        b"DELETE" => Kind::Delete,
-        b"AND" => Kind::And,
-        b"OR" => Kind::Or,
-        b"NOT" => Kind::Not,
-        b"RING" => Kind::Ring,
-        b"IS" => Kind::Is,
-        b"NULL" => Kind::Null,
-        _ => otherwise,
+impl Word<'_> {
+    // A name, if the word begins with a letter.
+    fn name(&self) -> Kind
+        ensures { result ≡ kind_of (name_of self.now.bytes.now) }
+    {
+        if self.bytes[0].is_ascii_alphabetic() {
+            Kind::Name
+        } else {
+            Kind::Other
+        }
+    }
+
+    // What a word is that is not of digits: a keyword, or a name.
+    fn keyword_or_name(&self) -> Kind
+        ensures { result ≡ kind_of (keyword_or_name_of self.now.bytes.now) }
+    {
+        let otherwise = self.name();
+        match self.bytes {
+            b"TABLE" => Kind::Table,
+            b"ROWS" => Kind::Rows,
+            b"SELECT" => Kind::Select,
+            b"FROM" => Kind::From,
+            b"WHERE" => Kind::Where,
+            b"INSERT" => Kind::Insert,
+            b"INTO" => Kind::Into,
+            b"VALUES" => Kind::Values,
+            b"UPDATE" => Kind::Update,
+            b"SET" => Kind::Set,
+            b"DELETE" => Kind::Delete,
+            b"AND" => Kind::And,
+            b"OR" => Kind::Or,
+            b"NOT" => Kind::Not,
+            b"RING" => Kind::Ring,
+            b"IS" => Kind::Is,
+            b"NULL" => Kind::Null,
+            _ => otherwise,
+        }
+    }
+
+    // A constant, a keyword, a name, or nothing.
+    fn kind(&self) -> Kind
+        ensures { result ≡ kind_of (word_token self.now.bytes.now) }
+    {
+        if is_number(self.bytes) {
+            constant(false, digits(self.bytes))
+        } else {
+            self.keyword_or_name()
+        }
     }
 }
 
@@ -160,18 +179,6 @@ fn is_number(word: &[u8]) -> bool
     ensures { result ≡ is_number word.now }
 {
     !word.is_empty() && word.iter().all(|b| b.is_ascii_digit())
-}
-
-// What a word of one byte or more is: a constant, a keyword, a name, or nothing.
-fn word(word: &[u8]) -> Kind
-    requires { (0 < length word.now) × (all is_word_byte word.now ≡ true) }
-    ensures { result ≡ kind_of (word_token word.now) }
-{
-    if is_number(word) {
-        constant(false, digits(word))
-    } else {
-        keyword_or_name(word)
-    }
 }
 
 // The word right after a minus.
@@ -235,7 +242,10 @@ fn token_here(text: &[u8], start: usize) -> Token
     if is_word_byte(b) {
         let next = run_end(text, start, is_word_byte);
         return Token {
-            kind: word(&text[start..next]),
+            kind: Word {
+                bytes: &text[start..next],
+            }
+            .kind(),
             start,
             next,
         };

@@ -1,11 +1,10 @@
-use Rattle.std.proofs.Common.{◌≡◌, min, [], ◌∙◌, arith}
+use Rattle.std.proofs.Common.{[], Bool, ◌&&◌, length, sym, ap, ◌∙◌}
+use borrow.Author.Tests.{le-leb}
 use Rattle.statement.specs.Sound.{sound_tables}
-use Rattle.statement.proofs.Walks.{of-min}
-use Rattle.soundness.specs.Soundness.{tables_sound}
+use Rattle.soundness.proofs.Tables.{tables-told}
 use Rattle.soundness.proofs.tables_are_sound.Goals as goal
 
-pub returns : goal.returns
-unfolding tables_sound
-returns c =
-    let e : c.min.result ≡ min c.args.used 8 = omega (arith, c.min.ensures, c.from.ensures) in
-    c.are_sound.ensures ∙ of-min (sound_tables []) c.args.used c.min.result 8 c.args.tables.now c.told-tables e
+pub returns-then-tables-le-TABLES : goal.returns-then-tables-le-TABLES
+returns-then-tables-le-TABLES c =
+    let ts = c.args.tables.now in
+    c.are_apart.ensures ∙ tables-told ts ∙ sym (ap (λ (b : Bool). b && sound_tables [] ts) (le-leb (length ts) 8 c.if-tables-le-TABLES.true))

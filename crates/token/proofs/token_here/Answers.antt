@@ -8,13 +8,14 @@ use Rattle.token.proofs.Runs.{drop_here}
 use Rattle.token.proofs.Cases.{word-bytes, word-reads, minus-reads, sign-reads}
 use Rattle.token.proofs.token_here.Goals as goal
 
-pub word-requires : goal.word-requires
-word-requires c =
-    word-bytes c.args.text.now c.args.start c.requires c.run_end-next.result (sym c.is_word_byte.ensures ∙ c.if-is_word_byte.true) c.run_end-next.ensures.0
+pub invariant_of-kind : goal.invariant_of-kind
+invariant_of-kind c =
+    let w = word-bytes c.args.text.now c.args.start c.requires c.run_end-next.result (sym c.is_word_byte.ensures ∙ c.if-is_word_byte.true) c.run_end-next.ensures.0 in
+    record { some = w.0; of_word = w.1 }
 
 pub returns-then-is_word_byte : goal.returns-then-is_word_byte
 returns-then-is_word_byte c =
-    ap (λ k. made k c.args.start c.run_end-next.result) c.word.ensures
+    ap (λ k. made k c.args.start c.run_end-next.result) c.kind.ensures
     ∙ word-reads c.args.text.now c.args.start c.requires c.run_end-next.result (sym c.is_word_byte.ensures ∙ c.if-is_word_byte.true) c.run_end-next.ensures.0
 
 pub returns-then-b-eq45 : goal.returns-then-b-eq45

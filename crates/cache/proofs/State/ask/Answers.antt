@@ -1,15 +1,57 @@
--- Assumes nothing.
+-- Refused, or answered, each a law of `AskReturns`. Assumes nothing.
+use Prim.Native.Nat.{ℕ, ◌<◌}
+use native.Mathlib.Nat.{mod-eq_of_lt}
+use native.Mathlib.Omega.{arith}
+use mathlib.Core.Path.{refl, sym, ap, ◌∙◌}
 use borrow.Author.Rules.{rules}
-use lib.ListN.{length}
-use Rattle.cache.proofs.Settled.{unfit-is}
-use Rattle.cache.proofs.AskReturns.{number-told}
+use Rattle.slots.specs.Keys.{key_of}
+use Rattle.statement.specs.Refusals.{number_in}
+use Rattle.cache.specs.declared.State.{State}
+use Rattle.cache.specs.Given.{asked_as, told}
+use Rattle.cache.specs.Outcomes.{outcome_of}
+use Rattle.cache.specs.Calls.{asks, ask_refused}
+use Rattle.cache.proofs.Given.{refused-by}
+use Rattle.cache.proofs.Sounds.{sound-is}
+use Rattle.cache.proofs.AskReturns.{refused-is, ask-refused, accepted, ask-done}
+use Rattle.cache.proofs.State.ask.Goals.{in-Err, in-Ok}
 use Rattle.cache.proofs.State.ask.Goals as goal
+
+pub invariant_of-question : goal.invariant_of-question
+invariant_of-question c =
+    let a = c.args in
+    let s = a.self in
+    let K = accepted s a.cells.now a.memory.now a.query a.values.now a.answer.now _ c.check_ask-taken.ensures (ap number_in c.in-Ok.is) in
+    let few : a.query < 16 = omega (arith, (sound-is s K.0.sound).few_queries, K.1) in
+    record {
+      sound = K.0.sound;
+      there = K.1;
+      keyed = c.of-key.ensures ∙ ap (λ (i : ℕ). key_of i a.values.now) (mod-eq_of_lt few);
+      all_tables = search rules;
+      all_queries = search rules;
+    }
 
 pub answered-reply-requires : goal.answered-reply-requires
 answered-reply-requires c =
     let a = c.args in
-    let bad = unfit-is a.self _ _ _ _ c.is_sound-sound.ensures c.is_unfit-unfit.ensures in
-    (number-told a.self (length a.cells.now) (length a.memory.now) a.query (length a.values.now) _ (search rules) _ bad _ c.ask_refusal-taken.ensures, c.of-key.ensures)
+    (accepted a.self a.cells.now a.memory.now a.query a.values.now a.answer.now _ c.check_ask-taken.ensures (ap number_in c.in-Ok.is)).0.memory_is
 
 pub returns : goal.returns
-returns c = rw c.settle.ensures c.answered-reply.ensures
+returns c =
+    let a = c.args in
+    let s = a.self in
+    let m = c.match-taken in
+    let key = c.of-key.result in
+    let n = number_in c.check_ask-taken.result in
+    let e = c.check_ask-taken.ensures in
+    ap (λ (t : State). asks (asked_as m.reply.result t) m.memory m.answer) c.settle.ensures
+    ∙ (elim m.branch [
+      | in-Err w ↦ (λ j. asks (outcome_of s key (told (w.reply-is j))) (w.memory-is j) (w.answer-is j))
+          ∙ ask-refused s a.cells.now a.memory.now a.query a.values.now a.answer.now n e _ (refused-by c.check_ask-taken.result w.in-Err.refusal w.in-Err.is)
+          (refused-is s key _ _ w.not_answered-reply.ensures ∙ ap (ask_refused s) (sym (ap number_in w.in-Err.is)))
+      | in-Ok w ↦
+          let z = ap number_in w.in-Ok.is in
+          let K = accepted s a.cells.now a.memory.now a.query a.values.now a.answer.now n e z in
+          let few : a.query < 16 = omega (arith, (sound-is s K.0.sound).few_queries, K.1) in
+          (λ j. asks (outcome_of s key (told (w.reply-is j))) (w.memory-is j) (w.answer-is j))
+          ∙ ask-done s a.cells.now a.memory.now a.query a.values.now a.answer.now n e z key (c.of-key.ensures ∙ ap (λ (i : ℕ). key_of i a.values.now) (mod-eq_of_lt few)) _ refl _ w.answered-reply.ensures
+    ])

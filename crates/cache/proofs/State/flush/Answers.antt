@@ -1,16 +1,12 @@
 -- Assumes nothing.
+use mathlib.Core.Path.{sym, ◌∙◌}
 use Rattle.cache.specs.Calls.{with_cache}
-use Rattle.cache.proofs.Settled.{unfit-is}
 use Rattle.cache.proofs.Flushing.{flush-refused, flush-done}
 use Rattle.cache.proofs.State.flush.Goals as goal
 
-pub returns-then-is_unfit : goal.returns-then-is_unfit
-returns-then-is_unfit c =
-    let bad = unfit-is c.args.self _ _ _ _ c.is_sound-sound.ensures c.is_unfit.ensures in
-    flush-refused c.args.self _ _ _ bad c.if-is_unfit.true
-
-pub returns : goal.returns
+pub returns-then-is_ok : goal.returns-then-is_ok
 unfolding with_cache
-returns c =
-    let bad = unfit-is c.args.self _ _ _ _ c.is_sound-sound.ensures c.is_unfit.ensures in
-    flush-done c.args.self _ _ _ bad c.if-is_unfit.false c.clear-free.result c.clear-free.ensures
+returns-then-is_ok c = flush-done c.args.self _ _ c.check-result.result c.check-result.ensures (sym c.is_ok.ensures.value ∙ c.if-is_ok.true) _ c.clear-self.ensures
+
+pub returns-else-is_ok : goal.returns-else-is_ok
+returns-else-is_ok c = flush-refused c.args.self _ _ c.check-result.result c.check-result.ensures (sym c.is_ok.ensures.value ∙ c.if-is_ok.false)

@@ -1,5 +1,8 @@
 -- Refused, or the promises of the calls put into two laws. Assumes nothing.
-use mathlib.Core.Path.{sym, ◌∙◌}
+use mathlib.Core.Path.{sym, ap, ◌∙◌}
+use Prim.Native.Nat.{ℕ}
+use lib.ListN.{take}
+use Rattle.cache.specs.Sound.{areas_of}
 use Rattle.cache.proofs.Given.{is-refused, is-taken}
 use Rattle.cache.proofs.Settled.{settled-refused}
 use Rattle.cache.proofs.UpdateReturns.{effect-done, cells-done}
@@ -14,7 +17,7 @@ dropped_by-gone-requires c = let K = c.requires (is-taken c.args.taken (sym c.is
 pub returns : goal.returns
 returns c =
     let z = (is-taken c.args.taken (sym c.is_err.ensures.value ∙ c.if-is_err.false)) in
-    let es = c.areas-start.ensures in
+    let es = c.areas-start.ensures ∙ ap (λ (k : ℕ). areas_of (take k c.args.self.now.tables)) c.from.ensures in
     let done = c.change-done.ensures in
     let e = effect-done _ _ _ _ _ _ _ _ _ _ z _ es _ _ _ c.dropped_by-gone.ensures c.drop.ensures done.counted in
     record { effect = e; cells = cells-done _ _ _ _ _ z _ _ es _ done.cells }

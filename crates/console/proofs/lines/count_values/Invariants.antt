@@ -1,9 +1,7 @@
-use Rattle.std.proofs.Common.{◌-◌, length}
+use Rattle.std.proofs.Common.{length, drop}
+use Rattle.console.specs.Lines.{words}
 use Rattle.console.proofs.Commands.{Counting}
 use Rattle.console.proofs.lines.count_values.Given as goal
 
-abbrev pub invariant-loop-at : goal.invariant-loop-at
-invariant-loop-at l = Counting l.line l.end l.count l.at
-
-abbrev pub decreases-loop-at : goal.decreases-loop-at
-decreases-loop-at l = length l.line - l.at
+abbrev pub invariant-loop-word : goal.invariant-loop-word
+invariant-loop-word l = Counting (drop 2 (words l.line)) l.count (length l.yielded)

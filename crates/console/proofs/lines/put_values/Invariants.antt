@@ -1,9 +1,8 @@
-use Rattle.std.proofs.Common.{◌-◌, length}
-use Rattle.console.proofs.Commands.{Putting}
+use Rattle.std.proofs.Common.{length, drop}
+use Rattle.console.specs.Lines.{words}
+use Rattle.console.specs.Parts.{values_at}
+use Rattle.console.proofs.Puttings.{Left}
 use Rattle.console.proofs.lines.put_values.Given as goal
 
-abbrev pub invariant-loop-at : goal.invariant-loop-at
-invariant-loop-at l = Putting l.line l.end l.fn.values l.values l.n l.at
-
-abbrev pub decreases-loop-at : goal.decreases-loop-at
-decreases-loop-at l = length l.line - l.at
+abbrev pub invariant-loop-word : goal.invariant-loop-word
+invariant-loop-word l = Left (values_at (drop 2 (words l.line))) l.initial.writer (values_at (drop (length l.yielded) (drop 2 (words l.line)))) l.writer

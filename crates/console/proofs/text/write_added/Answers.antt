@@ -1,24 +1,17 @@
-use Rattle.std.proofs.Common.{ℕ, sym, ap, ◌∙◌}
+use Rattle.std.proofs.Common.{◌∷◌, ◌++◌, ap₂, ◌∙◌, rules}
 use Rattle.cache.specs.Given.{kind_number}
-use Rattle.console.specs.Printed.{line, item}
-use Rattle.console.proofs.Puttings.{puts-as}
-use Rattle.console.proofs.Shown.{added-table, added-query, added-update}
+use Rattle.console.specs.Pieces.{Puts}
+use Rattle.console.specs.Printed.{decimal_text, line, added_text}
+use Rattle.console.proofs.Puttings.{puts-as, puts-both}
+use Rattle.console.proofs.Shown.{added-is}
 use Rattle.console.proofs.text.write_added.Goals as goal
 
-pub returns-in-Table-clause-result : goal.returns-in-Table-clause-result
-returns-in-Table-clause-result c = (puts-as (ap (λ (n : ℕ). line (item "table" n)) c.from-n.ensures ∙ sym (added-table _ _ (ap kind_number c.in-Table.is))) c.put_line.ensures).ends
+pub returns-clause-result : goal.returns-clause-result
+returns-clause-result c =
+    let p : Puts c.at-line.result (added_text (kind_number c.args.kind) c.args.number) c.put.new.self = puts-as (ap₂ (λ w n. line (w ++ (32 ∷ decimal_text n))) c.kind_word.ensures c.from.ensures ∙ added-is _ _) (puts-both c.item.ensures c.put.ensures) in
+    search rules
 
-pub returns-in-Table-clause-text : goal.returns-in-Table-clause-text
-returns-in-Table-clause-text c = (puts-as (ap (λ (n : ℕ). line (item "table" n)) c.from-n.ensures ∙ sym (added-table _ _ (ap kind_number c.in-Table.is))) c.put_line.ensures).text
-
-pub returns-in-Query-clause-result : goal.returns-in-Query-clause-result
-returns-in-Query-clause-result c = (puts-as (ap (λ (n : ℕ). line (item "query" n)) c.from-n.ensures ∙ sym (added-query _ _ (ap kind_number c.in-Query.is))) c.put_line-in-Query.ensures).ends
-
-pub returns-in-Query-clause-text : goal.returns-in-Query-clause-text
-returns-in-Query-clause-text c = (puts-as (ap (λ (n : ℕ). line (item "query" n)) c.from-n.ensures ∙ sym (added-query _ _ (ap kind_number c.in-Query.is))) c.put_line-in-Query.ensures).text
-
-pub returns-in-Update-clause-result : goal.returns-in-Update-clause-result
-returns-in-Update-clause-result c = (puts-as (ap (λ (n : ℕ). line (item "update" n)) c.from-n.ensures ∙ sym (added-update _ _ (ap kind_number c.in-Update.is))) c.put_line-in-Update.ensures).ends
-
-pub returns-in-Update-clause-text : goal.returns-in-Update-clause-text
-returns-in-Update-clause-text c = (puts-as (ap (λ (n : ℕ). line (item "update" n)) c.from-n.ensures ∙ sym (added-update _ _ (ap kind_number c.in-Update.is))) c.put_line-in-Update.ensures).text
+pub returns-clause-text : goal.returns-clause-text
+returns-clause-text c =
+    let p : Puts c.at-line.result (added_text (kind_number c.args.kind) c.args.number) c.put.new.self = puts-as (ap₂ (λ w n. line (w ++ (32 ∷ decimal_text n))) c.kind_word.ensures c.from.ensures ∙ added-is _ _) (puts-both c.item.ensures c.put.ensures) in
+    search rules

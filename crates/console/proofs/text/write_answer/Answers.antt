@@ -1,18 +1,24 @@
-use Rattle.std.proofs.Common.{ℕ, ap}
+use Rattle.std.proofs.Common.{ℕ, ap, rules}
+use Rattle.cache.specs.Given.{source_number}
+use Rattle.console.specs.Pieces.{Puts}
 use Rattle.console.specs.Printed.{item, answer_text}
 use Rattle.console.proofs.Puttings.{puts-as, puts-both}
 use Rattle.console.proofs.text.write_answer.Goals as goal
 
 pub returns-clause-result : goal.returns-clause-result
 unfolding answer_text
-returns-clause-result c = (puts-both
-    (puts-both c.put_source-read.ensures
-    (puts-both (puts-as (ap (λ (n : ℕ). item "read" n) c.from.ensures) c.put_item-colon.ensures) (puts-both c.put_bytes-start.ensures c.put_rows-end.ensures)))
-    c.put_byte.ensures).ends
+returns-clause-result c =
+    let p : Puts c.at-line.result (answer_text (source_number c.args.source) c.args.scanned c.args.bytes.now) c.put.new.self = puts-both
+    (puts-both (puts-as c.source_word.ensures c.put_all.ensures)
+    (puts-both (puts-as (ap (λ (n : ℕ). item "read" n) c.from.ensures) c.item.ensures) (puts-both c.put_all-2.ensures c.rows.ensures)))
+    c.put.ensures in
+    search rules
 
 pub returns-clause-text : goal.returns-clause-text
 unfolding answer_text
-returns-clause-text c = (puts-both
-    (puts-both c.put_source-read.ensures
-    (puts-both (puts-as (ap (λ (n : ℕ). item "read" n) c.from.ensures) c.put_item-colon.ensures) (puts-both c.put_bytes-start.ensures c.put_rows-end.ensures)))
-    c.put_byte.ensures).text
+returns-clause-text c =
+    let p : Puts c.at-line.result (answer_text (source_number c.args.source) c.args.scanned c.args.bytes.now) c.put.new.self = puts-both
+    (puts-both (puts-as c.source_word.ensures c.put_all.ensures)
+    (puts-both (puts-as (ap (λ (n : ℕ). item "read" n) c.from.ensures) c.item.ensures) (puts-both c.put_all-2.ensures c.rows.ensures)))
+    c.put.ensures in
+    search rules

@@ -1,12 +1,18 @@
-use Rattle.std.proofs.Common.{ℕ, ap, ◌∙◌}
-use Rattle.console.specs.Printed.{line, item, refused_text}
-use Rattle.console.proofs.Puttings.{puts-as}
+use Rattle.std.proofs.Common.{ℕ, ap, ◌∙◌, rules}
+use Rattle.statement.specs.Refusals.{number_of}
+use Rattle.console.specs.Pieces.{Puts}
+use Rattle.console.specs.Printed.{item, refused_text}
+use Rattle.console.proofs.Puttings.{puts-as, puts-both}
 use Rattle.console.proofs.text.write_refused.Goals as goal
 
 pub returns-clause-result : goal.returns-clause-result
 unfolding refused_text
-returns-clause-result c = (puts-as (ap (λ (n : ℕ). line (item "refused" n)) (c.from.ensures ∙ c.number.ensures)) c.put_line.ensures).ends
+returns-clause-result c =
+    let p : Puts c.at-line.result (refused_text (number_of c.args.refusal)) c.put.new.self = puts-both (puts-as (ap (λ (n : ℕ). item "refused" n) (c.from.ensures ∙ c.number.ensures)) c.item.ensures) c.put.ensures in
+    search rules
 
 pub returns-clause-text : goal.returns-clause-text
 unfolding refused_text
-returns-clause-text c = (puts-as (ap (λ (n : ℕ). line (item "refused" n)) (c.from.ensures ∙ c.number.ensures)) c.put_line.ensures).text
+returns-clause-text c =
+    let p : Puts c.at-line.result (refused_text (number_of c.args.refusal)) c.put.new.self = puts-both (puts-as (ap (λ (n : ℕ). item "refused" n) (c.from.ensures ∙ c.number.ensures)) c.item.ensures) c.put.ensures in
+    search rules

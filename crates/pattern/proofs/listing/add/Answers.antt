@@ -4,7 +4,7 @@ use Rattle.std.proofs.lemmas.Iterator.Search.{any_from_yields_List}
 use Rattle.lists.specs.Lists.{any}
 use Rattle.pattern.specs.declared.Pattern.{Pattern}
 use Rattle.pattern.specs.Stored.{same_struct, with_pattern}
-use Rattle.pattern.proofs.Searching.{any_is}
+use Rattle.lists.proofs.Chains.{any-is}
 use Rattle.pattern.proofs.listing.add.Goals as goal
 
 pub returns : goal.returns
@@ -14,6 +14,6 @@ returns c =
     let same : Pattern → Bool = (λ (x : Pattern). same_struct x p) in
     let xs : List Pattern = take c.from-n.result l.items in
     let e = any_from_yields_List same _ _ c.any.result c.any.ensures.ran (YieldsList-from_slice xs cc) (λ x b q k. search (rules, tests)) in
-    let f : any same (take l.count l.items) ≡ false = ap (λ (k : ℕ). any same (take k l.items)) (sym c.from-n.ensures) ∙ sym (any_is same xs) ∙ sym e ∙ c.if-any.false in
+    let f : any same (take l.count l.items) ≡ false = ap (λ (k : ℕ). any same (take k l.items)) (sym c.from-n.ensures) ∙ sym (any-is same xs) ∙ sym e ∙ c.if-any.false in
     ap (λ (k : ℕ). record { items = set l.items k p; count = l.count + 1 }) c.from-n.ensures
     ∙ sym (ap (λ (b : Bool). cond b l (with_pattern l p)) f)

@@ -3,9 +3,8 @@ use Rattle.pattern.specs.Masks.{balanced}
 use lib.ListN.{drop_of_length-le}
 use Rattle.statement.specs.Sound.{used_steps}
 use Rattle.statement.specs.declared.Condition.{Condition}
-use Rattle.pattern.proofs.Formed.{join-balanced, join-fails, push-balanced, balanced-end, formed-many, formed-none, formed-some}
+use Rattle.pattern.proofs.Formed.{join-fails, balanced-end, formed-many, formed-none, formed-some}
 use Rattle.pattern.proofs.Searching.{drop-next}
-use Rattle.pattern.proofs.masks.is_formed.Goals.{then-step-eq-COMPARISON, else-step-eq-COMPARISON+else-depth-lt2}
 use Rattle.pattern.proofs.masks.is_formed.Goals as goal
 
 -- the steps from the i-th on
@@ -18,27 +17,12 @@ returns-then-n-gt-COMPARISONS c = sym (formed-many c.args.condition.now (omega a
 pub returns-then-n-eq0 : goal.returns-then-n-eq0
 returns-then-n-eq0 c = sym (formed-none c.args.condition.now (omega arith))
 
-pub loop-step-preserved : goal.loop-step-preserved
-loop-step-preserved c =
-    let d = c.args.condition.now in
-    let l = c.loop-step in
-    let items = c.in_use-step-items.result.now in
-    let u : items ≡ used_steps d = c.in_use-step-items.ensures ∙ ap (λ (k : ℕ). take (2 * k - 1) d.steps) c.from-n.ensures in
-    let n = next d items l.step-index u (omega arith) in
-    let rest : List ℕ = drop (l.step-index + 1) (used_steps d) in
-    let s : ℕ = get_or items l.step-index 0 in
-    let so = ap (balanced l.depth) (sym n) ∙ l.invariant.1 in
-    elim c.if-step-eq-COMPARISON.branch [
-      | then-step-eq-COMPARISON w ↦ (omega arith, ap (λ (k : ℕ). balanced k rest) w.depth-is ∙ sym (push-balanced l.depth s rest w.if-step-eq-COMPARISON.true) ∙ so)
-      | else-step-eq-COMPARISON+else-depth-lt2 w ↦ (omega arith, ap (λ (k : ℕ). balanced k rest) w.depth-is ∙ sym (join-balanced l.depth s rest w.if-step-eq-COMPARISON.false w.if-depth-lt2.false) ∙ so)
-    ]
-
 pub returns-then-depth-lt2 : goal.returns-then-depth-lt2
 returns-then-depth-lt2 c =
     let d = c.args.condition.now in
     let l = c.loop-step in
     let items = c.in_use-step-items.result.now in
-    let u : items ≡ used_steps d = c.in_use-step-items.ensures ∙ ap (λ (k : ℕ). take (2 * k - 1) d.steps) c.from-n.ensures in
+    let u : items ≡ used_steps d = c.in_use-step-items.ensures.first ∙ ap (λ (k : ℕ). take (2 * k - 1) d.steps) c.from-n.ensures in
     let n = next d items l.step-index u (omega arith) in
     let k : length d.steps ≡ 15 = search rules in
     sym (join-fails l.depth (get_or items l.step-index 0) (drop (l.step-index + 1) (used_steps d)) c.if-step-eq-COMPARISON.false c.if-depth-lt2.true)
@@ -49,7 +33,7 @@ returns c =
     let d = c.args.condition.now in
     let l = c.loop-step in
     let items = c.in_use-step-items.result.now in
-    let u : items ≡ used_steps d = c.in_use-step-items.ensures ∙ ap (λ (k : ℕ). take (2 * k - 1) d.steps) c.from-n.ensures in
+    let u : items ≡ used_steps d = c.in_use-step-items.ensures.first ∙ ap (λ (k : ℕ). take (2 * k - 1) d.steps) c.from-n.ensures in
     let k : length d.steps ≡ 15 = search rules in
     let e : length (used_steps d) ≤ l.step-index = omega (arith, ap length u) in
     sym (balanced-end l.depth) ∙ ap (balanced l.depth) (sym (drop_of_length-le (used_steps d) e)) ∙ l.invariant.1

@@ -11,14 +11,14 @@ returns-then-n-eq0 c =
     let d = c.args.condition.now in
     let m : length d.comparisons ≡ 8 = search rules in
     let few = formed-few d c.requires in
-    let e : d.count ≡ 0 = omega (arith, ap length c.in_use-comparisons.ensures, length-take c.from.result d.comparisons, c.from.ensures) in
+    let e : d.count ≡ 0 = omega (arith, ap length c.in_use-comparisons.ensures.first, length-take c.from.result d.comparisons, c.from.ensures) in
     run_none d e _ refl refl refl
 
 pub loop-step-init : goal.loop-step-init
 loop-step-init c =
     let d = c.args.condition.now in
     let k : length d.steps ≡ 15 = search rules in
-    let ne : d.count ≡ 0 → ⊥ = λ e. omega (arith, ap length c.in_use-comparisons.ensures, length-take c.from.result d.comparisons, c.from.ensures) in
+    let ne : d.count ≡ 0 → ⊥ = λ e. omega (arith, ap length c.in_use-comparisons.ensures.first, length-take c.from.result d.comparisons, c.from.ensures) in
     let b = sym (formed-some d k (formed-few d c.requires) ne) ∙ c.requires in
     subst (λ (x : Stack). Running d x 0) (sym c.empty-s.ensures) (run-start d b)
 
@@ -30,8 +30,8 @@ step-requires c =
     let k : length d.steps ≡ 15 = search rules in
     let m : length d.comparisons ≡ 8 = search rules in
     let few = formed-few d c.requires in
-    let n : length c.in_use-comparisons.result.now ≡ d.count = omega (arith, ap length c.in_use-comparisons.ensures, length-take c.from.result d.comparisons, c.from.ensures) in
-    let u : items ≡ used_steps d = c.in_use-step-items.ensures ∙ ap (λ (k : ℕ). take (2 * k - 1) d.steps) n in
+    let n : length c.in_use-comparisons.result.now ≡ d.count = omega (arith, ap length c.in_use-comparisons.ensures.first, length-take c.from.result d.comparisons, c.from.ensures) in
+    let u : items ≡ used_steps d = c.in_use-step-items.ensures.first ∙ ap (λ (k : ℕ). take (2 * k - 1) d.steps) n in
     let h : l.step-index + 1 < 2 * d.count = omega (arith, ap length u, steps-length d k few) in
     run-steps d k m few l.s l.step-index l.invariant h (get_or items l.step-index 0) (sym (ap (λ (x : List ℕ). get_or x l.step-index 0) u ∙ steps-at d l.step-index h))
 
@@ -43,8 +43,8 @@ loop-step-preserved c =
     let k : length d.steps ≡ 15 = search rules in
     let m : length d.comparisons ≡ 8 = search rules in
     let few = formed-few d c.requires in
-    let n : length c.in_use-comparisons.result.now ≡ d.count = omega (arith, ap length c.in_use-comparisons.ensures, length-take c.from.result d.comparisons, c.from.ensures) in
-    let u : items ≡ used_steps d = c.in_use-step-items.ensures ∙ ap (λ (k : ℕ). take (2 * k - 1) d.steps) n in
+    let n : length c.in_use-comparisons.result.now ≡ d.count = omega (arith, ap length c.in_use-comparisons.ensures.first, length-take c.from.result d.comparisons, c.from.ensures) in
+    let u : items ≡ used_steps d = c.in_use-step-items.ensures.first ∙ ap (λ (k : ℕ). take (2 * k - 1) d.steps) n in
     let h : l.step-index + 1 < 2 * d.count = omega (arith, ap length u, steps-length d k few) in
     subst (λ (x : Stack). Running d x (l.step-index + 1)) (sym c.step.ensures)
     (run_more d k m few l.s l.step-index l.invariant h (get_or items l.step-index 0) (sym (ap (λ (x : List ℕ). get_or x l.step-index 0) u ∙ steps-at d l.step-index h)))
@@ -57,7 +57,7 @@ returns c =
     let k : length d.steps ≡ 15 = search rules in
     let m : length d.comparisons ≡ 8 = search rules in
     let few = formed-few d c.requires in
-    let n : length c.in_use-comparisons.result.now ≡ d.count = omega (arith, ap length c.in_use-comparisons.ensures, length-take c.from.result d.comparisons, c.from.ensures) in
-    let u : items ≡ used_steps d = c.in_use-step-items.ensures ∙ ap (λ (k : ℕ). take (2 * k - 1) d.steps) n in
+    let n : length c.in_use-comparisons.result.now ≡ d.count = omega (arith, ap length c.in_use-comparisons.ensures.first, length-take c.from.result d.comparisons, c.from.ensures) in
+    let u : items ≡ used_steps d = c.in_use-step-items.ensures.first ∙ ap (λ (k : ℕ). take (2 * k - 1) d.steps) n in
     let e : l.step-index + 1 ≡ 2 * d.count = omega (arith, ap length u, steps-length d k few) in
     run-done d k few l.s l.step-index e l.invariant

@@ -1,7 +1,7 @@
 use Rattle.std.proofs.Common.{◌+◌, ◌<◌, get_or, arith}
 use lib.ListN.{length-set}
 use Rattle.lists.proofs.Places.{All-at}
-use Rattle.pattern.proofs.Sums.{row_more, row_done}
+use Rattle.pattern.proofs.Sums.{row_more}
 use Rattle.pattern.proofs.masks.put_sums.Goals as goal
 
 pub overflow_add-out : goal.overflow_add-out
@@ -14,9 +14,3 @@ loop-j-preserved c =
     let a = c.args in
     let l = c.loop-j in
     (simp length-set l.invariant.0, row_more a.out.now a.at a.mask a.masks.now (omega arith) l.j l.out (omega arith) l.invariant.1)
-
-pub returns : goal.returns
-returns c =
-    let a = c.args in
-    let l = c.loop-j in
-    row_done a.out.now a.at a.mask a.masks.now (omega arith) l.j l.out (omega arith) l.invariant.1

@@ -5,4 +5,4 @@ use Rattle.pattern.proofs.ClausePatterns.{any-made}
 use Rattle.pattern.proofs.pairing.all_any.Goals as goal
 
 pub returns : goal.returns
-returns c = any-made c.min.result (omega (arith, c.min.ensures)) ∙ ap (λ (n : ℕ). pattern_struct (replicate n anything)) c.min.ensures
+returns c = any-made c.entry_count.result (omega (arith, c.entry_count.ensures)) ∙ ap (λ (n : ℕ). pattern_struct (replicate n anything)) c.entry_count.ensures

@@ -30,12 +30,12 @@ returns-then-k-size c =
     let p = c.args.p.now in
     let b = c.start_of-from in
     let z : c.from-2.result * c.from-3.result ≡ p.update.count * p.query.count = ap₂ ◌*◌ c.from-2.ensures c.from-3.ensures in
-    c.pair_at.ensures
+    c.at.ensures
     ∙ ap (λ (j : ℕ). clause_pattern (entry_count q) (pair_at Asked b.result q u j)) c.from-k.ensures
     ∙ ap (clause_pattern (entry_count q)) (first-chosen q u p c.requires.0 c.args.i c.requires.1 b.result b.ensures c.if-update-eq-INSERT.false (omega (arith, c.from-k.ensures, c.if-k-size.true)))
 
-pub pair_at-requires-2 : goal.pair_at-requires-2
-pair_at-requires-2 c =
+pub at-requires-2 : goal.at-requires-2
+at-requires-2 c =
     let q = c.args.query.now in
     let u = c.args.update.now in
     let p = c.args.p.now in
@@ -52,6 +52,6 @@ returns c =
     let b = c.start_of-from in
     let z : c.from-2.result * c.from-3.result ≡ p.update.count * p.query.count = ap₂ ◌*◌ c.from-2.ensures c.from-3.ensures in
     let r = second-chosen q u p c.requires.0 c.args.i c.requires.1 b.result b.ensures c.if-update-eq-INSERT.false (omega (arith, c.from-k.ensures, c.if-k-size.false)) in
-    c.pair_at-2.ensures
+    c.at-2.ensures
     ∙ ap₂ (λ (x y : ℕ). clause_pattern (entry_count q) (pair_at Set b.result q u (x - y))) c.from-k.ensures z
     ∙ ap (clause_pattern (entry_count q)) (sym r.0)

@@ -11,5 +11,5 @@ returns c =
     let d = c.args.condition.now in
     let e : c.count.result ≡ count_by p c.in_use-steps.result.now = search rules in
     let k : c.saturating_sub-count.result ≡ 2 * d.count - 1 = omega (arith, c.from.ensures, c.saturating_sub-count.ensures) in
-    let u : c.in_use-steps.result.now ≡ used_steps d = c.in_use-steps.ensures ∙ ap (λ (n : ℕ). take n d.steps) k in
+    let u : c.in_use-steps.result.now ≡ used_steps d = c.in_use-steps.ensures.first ∙ ap (λ (n : ℕ). take n d.steps) k in
     e ∙ count_is p c.in_use-steps.result.now ∙ ap (count p) u

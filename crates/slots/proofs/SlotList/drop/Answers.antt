@@ -16,10 +16,10 @@ loop-x-preserved c =
     let h : l.x-index < length (held_slots c.args.self) = rw e at c.loop-x-test.true in
     elim c.if-is_marked.branch [
       | then-is_marked w ↦
-          let q : is_marked c.args.gone (get_or (held_slots c.args.self) l.x-index 0) ≡ true = rw e at (sym w.if-is_marked.ensures) in
+          let q : is_marked c.args.gone.now (get_or (held_slots c.args.self) l.x-index 0) ≡ true = rw e at (sym w.if-is_marked.ensures) in
           rw (w.self-is, w.free-is, w.kept-is, w.dropped-is, e) (refl, l.invariant.1, parting-leave _ _ _ _ _ _ _ _ h l.invariant.2 q)
       | else-is_marked w ↦
-          let q : is_marked c.args.gone (get_or (held_slots c.args.self) l.x-index 0) ≡ false = rw e at (sym w.if-is_marked.ensures) in
+          let q : is_marked c.args.gone.now (get_or (held_slots c.args.self) l.x-index 0) ≡ false = rw e at (sym w.if-is_marked.ensures) in
           rw (w.self-is, w.free-is, w.kept-is, w.dropped-is, e) (refl, l.invariant.1, parting-stay _ _ _ _ _ _ _ _ h l.invariant.2 q)
     ]
 

@@ -2,10 +2,14 @@ use Rattle.std.proofs.Common.{rules}
 use Rattle.soundness.specs.Parts.{after_comparison}
 use Rattle.soundness.proofs.conditions.after_comparison.Goals as goal
 
-pub returns-then-operator_fits : goal.returns-then-operator_fits
+pub returns-in_err-left : goal.returns-in_err-left
 unfolding after_comparison
-returns-then-operator_fits c = search rules
+returns-in_err-left c = search rules
 
-pub returns-else-operator_fits : goal.returns-else-operator_fits
+pub returns-in_err-right : goal.returns-in_err-right
 unfolding after_comparison
-returns-else-operator_fits c = search rules
+returns-in_err-right c = search rules
+
+pub returns : goal.returns
+unfolding after_comparison
+returns c = search rules

@@ -1,5 +1,6 @@
 -- `column_at` meets its contract. Assumes nothing.
 use mathlib.Core.Path.{◌∙◌}
+use Rattle.statement.proofs.Empty.{name-empty}
 use Rattle.statement.proofs.Values.{token-order, name-there, nothing-there, column-place}
 use Rattle.statement.proofs.fetching.column_at.Goals as goal
 
@@ -16,4 +17,4 @@ pub returns : goal.returns
 returns c =
     let a = c.args in
     let n = c.next-t.ensures in
-    c.column_of-2.ensures.is ∙ column-place _ _ _ n a.scope.now _ (c.no_name.ensures ∙ nothing-there _ _ _ n c.in_default.not-Name)
+    c.column_of-2.ensures.is ∙ column-place _ _ _ n a.scope.now _ (name-empty c.default.result c.default.ensures ∙ nothing-there _ _ _ n c.in_default.not-Name)

@@ -1,7 +1,7 @@
 use Rattle.std.proofs.Common.{◌∙◌, ℕ, Bool, ltb, rules, tests}
 use Rattle.std.proofs.lemmas.Iterator.{YieldsList-from_slice}
 use Rattle.std.proofs.lemmas.Iterator.Search.{all_from_yields_List}
-use Rattle.statement.proofs.Chains.{all-is}
+use Rattle.lists.proofs.Chains.{all-is}
 use Rattle.statement.proofs.names.are_below.Goals as goal
 
 pub returns : goal.returns

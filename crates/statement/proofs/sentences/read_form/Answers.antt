@@ -5,7 +5,7 @@ use native.Mathlib.Omega.{arith}
 use Rattle.meaning.specs.Grammar.{a_table, a_select, an_insert, an_update, a_delete}
 use Rattle.meaning.specs.Tokens.{keyword, TABLE, SELECT, INSERT, UPDATE, DELETE}
 use Rattle.statement.proofs.Steps.{goes, stops}
-use Rattle.statement.proofs.SentenceTexts.{starts-here, starts_with, starts-not, first-table, first-select, first-insert, first-update, first-delete}
+use Rattle.statement.proofs.SentenceTexts.{stands-here, starts_with, starts-not, first-table, first-select, first-insert, first-update, first-delete}
 use Rattle.statement.proofs.SentenceTokens.{stays}
 use Rattle.statement.proofs.sentences.read_form.Goals as goal
 
@@ -15,55 +15,35 @@ overflow_cast-c c =
     let a = z.args in
     omega (arith, stays a.text.now 0 c.next-t.result c.next-t.ensures, z.requires)
 
-pub read_table-requires : goal.read_table-requires
-read_table-requires c =
+pub invariant_of-start : goal.invariant_of-start
+invariant_of-start c =
     let a = c.args in
-    starts-here a.text.now c.next-t.result.next c.requires (stays a.text.now 0 c.next-t.result c.next-t.ensures)
+    record { stands = stands-here a.text.now c.next-t.result.next c.requires (stays a.text.now 0 c.next-t.result c.next-t.ensures) }
 
 pub returns-in-Table : goal.returns-in-Table
 returns-in-Table c =
     let a = c.args in
-    starts_with a.text.now _ _ c.read_table.result TABLE a_table first-table _ (goes a.text.now 0 c.next-t.result c.next-t.ensures (keyword TABLE) refl c.in-Table.is) (c.read_table.ensures _)
-
-pub read_select-requires : goal.read_select-requires
-read_select-requires c =
-    let a = c.args in
-    starts-here a.text.now c.next-t.result.next c.requires (stays a.text.now 0 c.next-t.result c.next-t.ensures)
+    starts_with a.text.now _ _ _ TABLE a_table first-table _ (goes a.text.now 0 c.next-t.result c.next-t.ensures (keyword TABLE) refl c.in-Table.is) (c.read_table.ensures _)
 
 pub returns-in-Select : goal.returns-in-Select
 returns-in-Select c =
     let a = c.args in
-    starts_with a.text.now _ _ c.read_select.result SELECT a_select first-select _ (goes a.text.now 0 c.next-t.result c.next-t.ensures (keyword SELECT) refl c.in-Select.is) c.read_select.ensures
-
-pub read_insert-requires : goal.read_insert-requires
-read_insert-requires c =
-    let a = c.args in
-    starts-here a.text.now c.next-t.result.next c.requires (stays a.text.now 0 c.next-t.result c.next-t.ensures)
+    starts_with a.text.now _ _ _ SELECT a_select first-select _ (goes a.text.now 0 c.next-t.result c.next-t.ensures (keyword SELECT) refl c.in-Select.is) c.read_select.ensures
 
 pub returns-in-Insert : goal.returns-in-Insert
 returns-in-Insert c =
     let a = c.args in
-    starts_with a.text.now _ _ c.read_insert.result INSERT an_insert first-insert _ (goes a.text.now 0 c.next-t.result c.next-t.ensures (keyword INSERT) refl c.in-Insert.is) (c.read_insert.ensures _)
-
-pub read_update-requires : goal.read_update-requires
-read_update-requires c =
-    let a = c.args in
-    starts-here a.text.now c.next-t.result.next c.requires (stays a.text.now 0 c.next-t.result c.next-t.ensures)
+    starts_with a.text.now _ _ _ INSERT an_insert first-insert _ (goes a.text.now 0 c.next-t.result c.next-t.ensures (keyword INSERT) refl c.in-Insert.is) (c.read_insert.ensures _)
 
 pub returns-in-Update : goal.returns-in-Update
 returns-in-Update c =
     let a = c.args in
-    starts_with a.text.now _ _ c.read_update.result UPDATE an_update first-update _ (goes a.text.now 0 c.next-t.result c.next-t.ensures (keyword UPDATE) refl c.in-Update.is) c.read_update.ensures
-
-pub read_delete-requires : goal.read_delete-requires
-read_delete-requires c =
-    let a = c.args in
-    starts-here a.text.now c.next-t.result.next c.requires (stays a.text.now 0 c.next-t.result c.next-t.ensures)
+    starts_with a.text.now _ _ _ UPDATE an_update first-update _ (goes a.text.now 0 c.next-t.result c.next-t.ensures (keyword UPDATE) refl c.in-Update.is) c.read_update.ensures
 
 pub returns-in-Delete : goal.returns-in-Delete
 returns-in-Delete c =
     let a = c.args in
-    starts_with a.text.now _ _ c.read_delete.result DELETE a_delete first-delete _ (goes a.text.now 0 c.next-t.result c.next-t.ensures (keyword DELETE) refl c.in-Delete.is) (c.read_delete.ensures _)
+    starts_with a.text.now _ _ _ DELETE a_delete first-delete _ (goes a.text.now 0 c.next-t.result c.next-t.ensures (keyword DELETE) refl c.in-Delete.is) (c.read_delete.ensures _)
 
 pub returns-in_default : goal.returns-in_default
 returns-in_default c =

@@ -1,24 +1,18 @@
--- `sentences::read_sentence` meets its contract.
--- Assumes nothing.
-use mathlib.Core.Path.{refl}
-use borrow.Author.Tests.{not-true, not-false}
+-- `sentences::read_sentence` meets its contract. Assumes nothing.
+use mathlib.Core.Path.{refl, ap, ◌∙◌}
+use Rattle.token.specs.Tokens.{token_at}
 use Rattle.statement.proofs.SentenceTexts.{no-sentence, more-follows, all_read}
 use Rattle.statement.proofs.sentences.read_sentence.Goals as goal
 
-pub returns-then-not-c : goal.returns-then-not-c
-returns-then-not-c c =
-    let a = c.args in
-    let r = c.read_form-e in
-    no-sentence a.text.now r.new.list r.new.places r.result r.ensures (not-true _ c.if-not-c.true)
+pub returns-in_err-e : goal.returns-in_err-e
+returns-in_err-e c = no-sentence c.args.text.now _ _ _ c.in_err-e.ensures (cc)
 
 pub returns-in_default : goal.returns-in_default
 returns-in_default c =
-    let a = c.args in
-    let r = c.read_form-e in
-    more-follows a.text.now r.new.list r.new.places r.result r.ensures c.next-t.result c.next-t.ensures _ c.in_default.not-End refl
+    let s = c.args.text.now in
+    more-follows s _ _ c.in_ok-e.e c.in_ok-e.ensures c.next-t.result (c.next-t.ensures ∙ ap (token_at s) c.from.ensures) _ c.in_default.not-End refl
 
 pub returns-in-End : goal.returns-in-End
 returns-in-End c =
-    let a = c.args in
-    let r = c.read_form-e in
-    all_read a.text.now r.new.list r.new.places r.result r.ensures c.next-t.result c.next-t.ensures (not-false _ c.if-not-c.false) c.in-End.is
+    let s = c.args.text.now in
+    all_read s _ _ c.in_ok-e.e c.in_ok-e.ensures c.next-t.result (c.next-t.ensures ∙ ap (token_at s) c.from.ensures) c.in-End.is

@@ -1,5 +1,5 @@
 -- Inside, or not.
-use Rattle.std.proofs.Common.{arith, rules, tests}
+use Rattle.std.proofs.Common.{rules, tests}
 use Rattle.table.specs.Changed.{area_fits}
 use Rattle.table.proofs.changes.area_fits.Goals as goal
 

@@ -1,5 +1,5 @@
 -- A setting.
-use Rattle.std.proofs.Common.{◌≡◌, ℕ, List, ℤ, set, sym, ap, ap₂, ◌∙◌, arith, rules}
+use Rattle.std.proofs.Common.{◌≡◌, set, sym, ap, ap₂, ◌∙◌, arith, rules}
 use mir.Syntax.{w32}
 use mir.Val.{to_z, of_z}
 use Rattle.std.proofs.lemmas.List.{set_past}

@@ -1,9 +1,7 @@
 -- What an update does to its area, among all cells.
-use Rattle.std.proofs.Common.{◌≡◌, ℕ, ◌+◌, ◌-◌, ◌*◌, ◌≤◌, List, ℤ, length, take, drop, true, false, sym, ap, ap₂, ◌∙◌, subst, arith, rules}
-use borrow.Rule.Slice.PartMut.{put_mid}
-use Rattle.table.specs.Changed.{area_fits, fits, ChangeFits, is_full_ring, change_of, cells_after}
-use Rattle.table.specs.declared.changes.Changed.{Changed}
-use Rattle.table.proofs.Fitting.{area-inside, form_test, refused, refused-area, refused-form, change-fits, Promised, done}
+use Rattle.std.proofs.Common.{◌≡◌, ℕ, ◌+◌, ◌-◌, ◌*◌, ◌≤◌, length, false, sym, ap₂, ◌∙◌, arith, rules}
+use Rattle.table.specs.Changed.{fits}
+use Rattle.table.proofs.Fitting.{area-inside, refused, refused-area, refused-form, change-fits, done}
 use Rattle.table.proofs.changes.change.Goals as goal
 use Rattle.table.proofs.changes.change.Goals.{then-not-area_fits-via-then-not-area_fits, then-not-area_fits-via-else-not-area_fits+then-not-form_fits}
 

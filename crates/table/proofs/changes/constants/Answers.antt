@@ -1,9 +1,8 @@
 -- A setting.
-use Rattle.std.proofs.Common.{◌≡◌, ℤ, List, ap, ap₂, ◌∙◌, refl, length, replicate, pos, get_or, arith, rules}
+use Rattle.std.proofs.Common.{◌≡◌, ℤ, ap, ◌∙◌, replicate, pos, get_or, arith, rules}
 use mir.Syntax.{w32}
 use mir.Val.{to_z, of_z}
 use Rattle.std.proofs.lemmas.List.{length-set}
-use Rattle.statement.specs.declared.Setting.{Setting}
 use Rattle.statement.specs.declared.Update.{Update}
 use Rattle.statement.specs.Compiled.{no_setting}
 use Rattle.statement.proofs.Empty.{update-empty}

@@ -1,11 +1,10 @@
 -- A row that goes, or stays.
-use Rattle.std.proofs.Common.{◌≡◌, ℕ, ◌+◌, ◌-◌, ◌*◌, ◌≤◌, ◌<◌, List, ℤ, length, map, take, drop, sym, ap, ap₂, ◌∙◌, subst, refl, replicate, pos, arith, rules}
-use borrow.Rule.Slice.PartMut.{put_mid, mid_of}
-use Rattle.lists.specs.Lists.{All, count}
+use Rattle.std.proofs.Common.{◌≡◌, ℕ, ◌+◌, ◌-◌, ◌*◌, ◌≤◌, List, ℤ, length, sym, ap, ◌∙◌, subst, replicate, pos, arith, rules}
+use borrow.Rule.Slice.PartMut.{mid_of}
+use Rattle.lists.specs.Lists.{All}
 use Rattle.meaning.specs.Meaning.{Row}
 use Rattle.meaning.specs.Cells.{stored}
 use Rattle.statement.specs.declared.Condition.{Condition}
-use Rattle.statement.specs.declared.Setting.{Setting}
 use Rattle.table.specs.declared.rows.Test.{Test}
 use Rattle.table.specs.Evaluated.{meets_stored, area_rows}
 use Rattle.table.specs.Tests.{longest}
@@ -21,59 +20,56 @@ agreed : (t : Test) (d : Condition) (vs : List ℤ) → PreparedBy d vs t → (c
 agreed t d vs P columns used area h = rows_pass t.targets t.places t.numbers t.start d vs P columns used area h
 
 -- in a turn the next row lies within the area
-row-there : (used c i n : ℕ) → i < used → i * c + (used - i) * c ≡ used * c → used * c ≤ n → i * c + c ≤ n
-row-there used c i n h k m = let left : 1 ≤ used - i = omega arith in omega (arith, row_room (used - i) c left)
+row-there : (c from left n : ℕ) → 1 ≤ left → from + left * c ≤ n → from + c ≤ n
+row-there c from left n h k = omega (arith, row_room left c h)
 
-pub loop-i-init : goal.loop-i-init
-loop-i-init c =
+pub loop-init : goal.loop-init
+loop-init c =
     let a = c.args in
     let p = passes_by c.prepare-test.result in
-    let z : 0 ≡ 0 * a.columns = omega arith in
     let n : a.used ≡ a.used - 0 = omega arith in
-    subst (λ (k : ℕ). Closed p a.columns a.used a.area.now a.area.now k 0 (a.used - 0) 0) z
-    (subst (λ (k : ℕ). Closed p a.columns a.used a.area.now a.area.now 0 0 k 0) n (delete-start p a.columns a.used a.area.now c.requires.1))
+    subst (λ (k : ℕ). Closed p a.columns a.used a.area.now a.area.now 0 0 k 0) n (delete-start p a.columns a.used a.area.now c.requires.1)
 
 pub slice_bounds-meets-end : goal.slice_bounds-meets-end
 slice_bounds-meets-end c =
     let a = c.args in
-    let l = c.loop-i in
-    let k : l.i * a.columns + a.columns ≤ length l.area = row-there a.used a.columns l.i (length l.area) (omega arith) l.invariant.room l.invariant.fits in
+    let l = c.loop in
+    let k : l.from + a.columns ≤ length l.area = row-there a.columns l.from (a.used - l.counter) (length l.area) (omega arith) (omega (arith, l.invariant.room, l.invariant.fits)) in
     search rules
 
 pub move_row-requires : goal.move_row-requires
 move_row-requires c =
     let a = c.args in
-    let l = c.loop-i in
-    (l.invariant.order, row-there a.used a.columns l.i (length l.area) (omega arith) l.invariant.room l.invariant.fits)
+    let l = c.loop in
+    (l.invariant.order, row-there a.columns l.from (a.used - l.counter) (length l.area) (omega arith) (omega (arith, l.invariant.room, l.invariant.fits)))
 
-pub loop-i-preserved : goal.loop-i-preserved
-loop-i-preserved c =
+pub loop-preserved : goal.loop-preserved
+loop-preserved c =
     let a = c.args in
-    let l = c.loop-i in
+    let l = c.loop in
     let p = passes_by c.prepare-test.result in
-    let some : 1 ≤ a.used - l.i = omega arith in
-    row-next p a.columns a.used a.area.now c.if-meets.area l.i c.if-meets.to c.if-meets.gone
+    let some : 1 ≤ a.used - l.counter = omega arith in
+    row-next p a.columns a.used a.area.now c.if-meets.area l.counter (l.from + a.columns) c.if-meets.to c.if-meets.gone
     (elim c.if-meets.branch [
       | then-meets w ↦
-          closed_at p a.columns a.used a.area.now l.area c.if-meets.area (l.i * a.columns + a.columns) l.to c.if-meets.to (a.used - l.i - 1) (l.gone + 1) c.if-meets.gone w.area-is w.to-is w.gone-is
-          (delete-gone p a.columns a.used a.area.now l.area (l.i * a.columns) l.to (a.used - l.i) l.gone some l.invariant (sym c.meets.ensures.test ∙ w.if-meets.true))
+          closed_at p a.columns a.used a.area.now l.area c.if-meets.area (l.from + a.columns) l.to c.if-meets.to (a.used - l.counter - 1) (l.gone + 1) c.if-meets.gone w.area-is w.to-is w.gone-is
+          (delete-gone p a.columns a.used a.area.now l.area l.from l.to (a.used - l.counter) l.gone some l.invariant (sym c.meets.ensures.test ∙ w.if-meets.true))
       | else-meets w ↦
-          closed_at p a.columns a.used a.area.now w.move_row.new.area c.if-meets.area (l.i * a.columns + a.columns) (l.to + a.columns) c.if-meets.to (a.used - l.i - 1) l.gone c.if-meets.gone w.area-is w.to-is w.gone-is
-          (delete-stay p a.columns a.used a.area.now l.area w.move_row.new.area (l.i * a.columns) l.to (a.used - l.i) l.gone some l.invariant (sym c.meets.ensures.test ∙ w.if-meets.false) w.move_row.ensures)
+          closed_at p a.columns a.used a.area.now w.move_row.new.area c.if-meets.area (l.from + a.columns) (l.to + a.columns) c.if-meets.to (a.used - l.counter - 1) l.gone c.if-meets.gone w.area-is w.to-is w.gone-is
+          (delete-stay p a.columns a.used a.area.now l.area w.move_row.new.area l.from l.to (a.used - l.counter) l.gone some l.invariant (sym c.meets.ensures.test ∙ w.if-meets.false) w.move_row.ensures)
     ])
 
 pub returns : goal.returns
 returns c =
     let a = c.args in
-    let l = c.loop-i in
+    let l = c.loop in
     let t = c.prepare-test.result in
     let d = a.condition.now in
     let q = meets_stored d a.values.now in
     let same = agreed t d a.values.now c.prepare-test.ensures a.columns a.used a.area.now c.requires.0 in
-    let end : c.from.result * a.columns ≡ l.i * a.columns = ap (λ (k : ℕ). k * a.columns) (omega arith) in
-    let z : c.fill.new.self ≡ replicate (length (mid_of l.to (l.i * a.columns - l.to) l.area)) (pos 0) = c.fill.ensures.after (λ y e. e) ∙ ap (λ (k : ℕ). replicate (length (mid_of l.to (k - l.to) l.area)) (pos 0)) end in
-    let done = delete-done (passes_by t) a.columns a.used a.area.now l.area c.fill.new.self (l.i * a.columns) l.to (a.used - l.i) l.gone (omega arith) l.invariant z in
+    let z : c.fill.new.self ≡ replicate (length (mid_of l.to (l.from - l.to) l.area)) (pos 0) = c.fill.ensures.after (λ y e. e) in
+    let done = delete-done (passes_by t) a.columns a.used a.area.now l.area c.fill.new.self l.from l.to (a.used - l.counter) l.gone (omega arith) l.invariant z in
     record {
       count = done.0 ∙ ap length (keep_same (passes_by t) q same);
-      cells = ap (λ (k : ℕ). put_mid l.to (k - l.to) l.area c.fill.new.self) end ∙ done.1 ∙ ap (stored a.area.now (a.used * a.columns)) (without-same (passes_by t) q same);
+      cells = done.1 ∙ ap (stored a.area.now (a.used * a.columns)) (without-same (passes_by t) q same);
     }

@@ -1,8 +1,8 @@
 -- The rows before row i that stay are moved up to cell `to`.
-use Rattle.std.proofs.Common.{◌-◌, ◌*◌}
+use Rattle.std.proofs.Common.{◌-◌}
 use Rattle.table.specs.Scanned.{passes_by}
 use Rattle.table.proofs.Deleting.{Closed}
 use Rattle.table.proofs.changes.delete_rows.Given as goal
 
-abbrev pub invariant-loop-i : goal.invariant-loop-i
-invariant-loop-i l = Closed (passes_by l.test) l.columns l.used l.fn.area l.area (l.i * l.columns) l.to (l.used - l.i) l.gone
+abbrev pub invariant-loop : goal.invariant-loop
+invariant-loop l = Closed (passes_by l.test) l.columns l.used l.fn.area l.area l.from l.to (l.used - l.counter) l.gone

@@ -1,5 +1,5 @@
 -- The oldest row, and its values.
-use Rattle.std.proofs.Common.{◌≡◌, ap, ◌∙◌, refl, sym, List, ℤ, arith}
+use Rattle.std.proofs.Common.{◌≡◌, ap, ◌∙◌, refl, List, ℤ}
 use Rattle.std.specs.Borrow.{Bor}
 use Rattle.statement.proofs.Empty.{condition-empty}
 use Rattle.table.specs.Changed.{oldest_row}

@@ -1,6 +1,7 @@
 -- A row, tested as it was, and set.
-use Rattle.std.proofs.Common.{◌≡◌, ℕ, ◌+◌, ◌-◌, ◌*◌, ◌≤◌, ◌<◌, List, ℤ, length, map, take, drop, sym, ap, ap₂, ◌∙◌, subst, refl, arith, rules}
-use Rattle.lists.specs.Lists.{All, count}
+use Rattle.std.proofs.Common.{◌≡◌, ℕ, ◌+◌, ◌-◌, ◌*◌, ◌≤◌, List, ℤ, length, map, take, sym, ap, ◌∙◌, subst, arith, rules}
+use borrow.Rule.Slice.PartMut.{put_same}
+use Rattle.lists.specs.Lists.{All}
 use Rattle.meaning.specs.Meaning.{Row}
 use Rattle.meaning.specs.Cells.{stored}
 use Rattle.statement.specs.declared.Condition.{Condition}
@@ -24,64 +25,55 @@ agreed : (t : Test) (d : Condition) (vs : List ℤ) → PreparedBy d vs t → (c
 agreed t d vs P columns used area h = rows_pass t.targets t.places t.numbers t.start d vs P columns used area h
 
 -- in a turn the next row lies within the area
-row-there : (used c i n : ℕ) → i < used → i * c + (used - i) * c ≤ n → i * c + c ≤ n
-row-there used c i n h k = let left : 1 ≤ used - i = omega arith in omega (arith, row_room (used - i) c left)
+row-there : (c at left n : ℕ) → 1 ≤ left → at + left * c ≤ n → at + c ≤ n
+row-there c at left n h k = omega (arith, row_room left c h)
 
-pub loop-i-init : goal.loop-i-init
-loop-i-init c =
+pub loop-init : goal.loop-init
+loop-init c =
     let a = c.args in
     let p = passes_by c.prepare-test.result in
-    let f = made a.values.now c.used-settings.result.now in
-    let z : 0 ≡ 0 * a.columns = omega arith in
+    let f = made a.values.now c.in_use-settings.result.now in
     let n : a.used ≡ a.used - 0 = omega arith in
-    subst (λ (k : ℕ). Left p f a.columns a.used a.area.now a.area.now k (a.used - 0) 0) z
-    (subst (λ (k : ℕ). Left p f a.columns a.used a.area.now a.area.now 0 k 0) n (update-start p f a.columns a.used a.area.now c.requires.1))
+    subst (λ (k : ℕ). Left p f a.columns a.used a.area.now a.area.now 0 k 0) n (update-start p f a.columns a.used a.area.now c.requires.1)
 
-pub slice_bounds-meets-end : goal.slice_bounds-meets-end
-slice_bounds-meets-end c =
+pub slice_bounds-row-end : goal.slice_bounds-row-end
+slice_bounds-row-end c =
     let a = c.args in
-    let l = c.loop-i in
-    let k : l.i * a.columns + a.columns ≤ length l.area = row-there a.used a.columns l.i (length l.area) (omega arith) l.invariant.room in
+    let l = c.loop in
+    let k : l.at + a.columns ≤ length l.area = row-there a.columns l.at (a.used - l.counter) (length l.area) (omega arith) l.invariant.room in
     search rules
 
-pub slice_bounds-assign-end : goal.slice_bounds-assign-end
-slice_bounds-assign-end c =
+pub loop-preserved : goal.loop-preserved
+loop-preserved c =
     let a = c.args in
-    let l = c.loop-i in
-    let k : l.i * a.columns + a.columns ≤ length l.area = row-there a.used a.columns l.i (length l.area) (omega arith) l.invariant.room in
-    search rules
-
-pub loop-i-preserved : goal.loop-i-preserved
-loop-i-preserved c =
-    let a = c.args in
-    let l = c.loop-i in
+    let l = c.loop in
     let p = passes_by c.prepare-test.result in
-    let ss = c.used-settings.result.now in
+    let ss = c.in_use-settings.result.now in
     let f = made a.values.now ss in
     let keeps = λ (r : List ℤ). assigned-length (map setting_read ss) a.values.now r in
-    let some : 1 ≤ a.used - l.i = omega arith in
-    row-next p f a.columns a.used a.area.now keeps c.if-meets.area l.i c.if-meets.found
+    let some : 1 ≤ a.used - l.counter = omega arith in
+    row-next p f a.columns a.used a.area.now keeps c.if-meets.area l.counter (l.at + a.columns) c.if-meets.found
     (elim c.if-meets.branch [
-      | then-meets w ↦ update-set p f a.columns a.used a.area.now keeps l.area c.if-meets.area (l.i * a.columns) (a.used - l.i) l.found c.if-meets.found w.assign.new.row some l.invariant
+      | then-meets w ↦ update-set p f a.columns a.used a.area.now keeps l.area c.if-meets.area l.at (a.used - l.counter) l.found c.if-meets.found w.assign.new.row some l.invariant
           (sym c.meets.ensures.test ∙ w.if-meets.true) w.assign.ensures w.area-is w.found-is
-      | else-meets w ↦ update-stay p f a.columns a.used a.area.now keeps l.area c.if-meets.area (l.i * a.columns) (a.used - l.i) l.found c.if-meets.found some l.invariant
-          (sym c.meets.ensures.test ∙ w.if-meets.false) w.area-is w.found-is
+      | else-meets w ↦ update-stay p f a.columns a.used a.area.now keeps l.area c.if-meets.area l.at (a.used - l.counter) l.found c.if-meets.found some l.invariant
+          (sym c.meets.ensures.test ∙ w.if-meets.false) (w.area-is ∙ put_same l.at (l.at + a.columns - l.at) l.area) w.found-is
     ])
 
 pub returns : goal.returns
 returns c =
     let a = c.args in
-    let l = c.loop-i in
+    let l = c.loop in
     let t = c.prepare-test.result in
     let d = a.update.now.condition in
-    let ss = c.used-settings.result.now in
+    let ss = c.in_use-settings.result.now in
     let f : List Setting → Row → Row = λ (s : List Setting). made a.values.now s in
     let q = meets_stored d a.values.now in
     let same = agreed t d a.values.now c.prepare-test.ensures a.columns a.used a.area.now c.requires.0 in
-    let done = update-done (passes_by t) (f ss) a.columns a.used a.area.now (λ (r : List ℤ). assigned-length (map setting_read ss) a.values.now r) l.area (l.i * a.columns) (a.used - l.i) l.found
+    let done = update-done (passes_by t) (f ss) a.columns a.used a.area.now (λ (r : List ℤ). assigned-length (map setting_read ss) a.values.now r) l.area l.at (a.used - l.counter) l.found
     (omega arith) c.requires.1 l.invariant in
     record {
       count = done.0 ∙ ap length (keep_same (passes_by t) q same);
       cells = done.1 ∙ ap (stored a.area.now (a.used * a.columns)) (settled_same (passes_by t) q (f ss) same
-          ∙ ap (λ (s : List Setting). map (settled q (f s)) (area_rows a.columns a.used a.area.now)) c.used-settings.ensures.used);
+          ∙ ap (λ (s : List Setting). map (settled q (f s)) (area_rows a.columns a.used a.area.now)) (c.in_use-settings.ensures.first ∙ ap (λ k. take k a.update.now.settings) c.from.ensures));
     }

@@ -30,7 +30,7 @@ loop-c-preserved c =
     let d : Comparison = Compiled.no_comparison in
     let x : C.Comparison M.Operand = comparison_read (get_or items l.c-index d) in
     let f = operand_of r.role r.from (map setting_read r.settings.now) in
-    let few : length items ≤ 8 = omega (arith, ap length c.in_use-c-items.ensures, length-take c.from.result c.args.condition.now.comparisons, c.from.ensures, c.requires.1) in
+    let few : length items ≤ 8 = omega (arith, ap length c.in_use-c-items.ensures.first, length-take c.from.result c.args.condition.now.comparisons, c.from.ensures, c.requires.1) in
     let h : l.c-index < length (map comparison_read items) = omega (arith, length-map items comparison_read) in
     let e : get_or (map comparison_read items) l.c-index x ≡ x = get_or-map-in comparison_read items l.c-index d x (omega arith) in
     subst (λ (k : ℕ). Adding f (map comparison_read items) s.codes s.ops s.count c.args.mask (set (set l.self.codes (2 * l.self.count) c.operand.result) (2 * l.self.count + 1) c.operand-in-loop-c.result)
@@ -47,8 +47,8 @@ returns c =
     let l = c.loop-c in
     let items = c.in_use-c-items.result.now in
     let f = operand_of r.role r.from (map setting_read r.settings.now) in
-    let few : length items ≤ 8 = omega (arith, ap length c.in_use-c-items.ensures, length-take c.from.result c.args.condition.now.comparisons, c.from.ensures, c.requires.1) in
-    let e = c.in_use-c-items.ensures ∙ ap (λ (k : ℕ). take k c.args.condition.now.comparisons) c.from.ensures in
+    let few : length items ≤ 8 = omega (arith, ap length c.in_use-c-items.ensures.first, length-take c.from.result c.args.condition.now.comparisons, c.from.ensures, c.requires.1) in
+    let e = c.in_use-c-items.ensures.first ∙ ap (λ (k : ℕ). take k c.args.condition.now.comparisons) c.from.ensures in
     subst (λ (cs : List Comparison). Extended s.codes s.ops s.count (map (C.renamed f) (select (map comparison_read cs) c.args.mask)) l.self) e
     (add_done f (map comparison_read items) s.codes s.ops s.count c.args.mask l.self.codes l.self.ops l.self.count l.left l.c-index
     (omega (arith, length-map items comparison_read)) (omega arith) l.invariant)

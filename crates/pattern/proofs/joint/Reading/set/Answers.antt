@@ -1,5 +1,5 @@
 use Rattle.std.proofs.Common.{◌+◌, ℕ, ap, arith}
-use Rattle.pattern.proofs.Numbering.{set-start, set_more, set-done}
+use Rattle.pattern.proofs.Numbering.{set-start, set_more}
 use Rattle.pattern.proofs.joint.Reading.set.Goals as goal
 
 pub loop-item-init : goal.loop-item-init
@@ -10,9 +10,3 @@ loop-item-preserved c =
     let s = c.args.self in
     let l = c.loop-item in
     set_more s.settings.now s.from c.args.column l.code c.set_once-code.result l.item-index _ (omega arith) c.set_once-code.ensures l.invariant
-
-pub returns : goal.returns
-returns c =
-    let s = c.args.self in
-    let l = c.loop-item in
-    set-done s.settings.now s.from c.args.column l.code l.item-index (omega arith) l.invariant

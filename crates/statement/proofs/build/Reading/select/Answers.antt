@@ -1,14 +1,8 @@
-use Rattle.std.proofs.Common.{refl, ◌∙◌, ap, leb}
-use Rattle.statement.specs.Refusals.{number_of}
+use Rattle.std.proofs.Common.{refl, ◌∙◌, leb}
 use Rattle.statement.specs.Built.{lowest_by, dotted, place_in, width_in, start_in, twice_in}
-use Rattle.statement.proofs.Assembled.{marks-few-noted, select-made}
+use Rattle.statement.proofs.Assembled.{select-made}
 use Rattle.statement.proofs.Settled.{refused-is}
 use Rattle.statement.proofs.build.Reading.select.Goals as goal
-
-pub outer_of-requires : goal.outer_of-requires
-outer_of-requires c =
-    let r = c.args.self.now in
-    (r.fits.nodes, marks-few-noted r.text.now r.places.now r.e r.fits)
 
 pub returns-in_err-refuse : goal.returns-in_err-refuse
 returns-in_err-refuse c =
@@ -16,8 +10,8 @@ returns-in_err-refuse c =
     let r = a.self.now in
     let s = a.scope.now in
     let d = c.default.ensures in
-    select-made (dotted s) (place_in s) (width_in s) r.text.now r.list.now r.places.now r.e a.table a.second (start_in s) (twice_in s) a.queries _ _ _ _ _ _ _ _
-    c.columns_at-selected.ensures c.condition_at-condition.ensures c.width.ensures c.is_twice.ensures c.start.ensures c.outer_of.ensures
+    select-made (dotted s) (place_in s) (width_in s) r.text.now r.items.now r.nodes.now r.e a.table a.second (start_in s) (twice_in s) a.queries _ _ _ _ _ _ _ _
+    c.listed_places-selected.ensures c.noted_condition-condition.ensures c.width.ensures c.is_twice.ensures c.start.ensures c.outer_of.ensures
     (c.in_err-refuse.ensures ∙ λ j. lowest_by (c.is_unknown.ensures j) (d.1.0 j) (d.1.1.0 j) c.is_twice.result (leb 16 (c.from.ensures j)))
     (refused-is c.from_residual.result c.in_err-refuse.field-0.0 _ c.from_residual.ensures.1)
 
@@ -27,7 +21,7 @@ returns c =
     let r = a.self.now in
     let s = a.scope.now in
     let d = c.default.ensures in
-    select-made (dotted s) (place_in s) (width_in s) r.text.now r.list.now r.places.now r.e a.table a.second (start_in s) (twice_in s) a.queries _ _ _ _ _ _ _ _
-    c.columns_at-selected.ensures c.condition_at-condition.ensures c.width.ensures c.is_twice.ensures c.start.ensures c.outer_of.ensures
+    select-made (dotted s) (place_in s) (width_in s) r.text.now r.items.now r.nodes.now r.e a.table a.second (start_in s) (twice_in s) a.queries _ _ _ _ _ _ _ _
+    c.listed_places-selected.ensures c.noted_condition-condition.ensures c.width.ensures c.is_twice.ensures c.start.ensures c.outer_of.ensures
     (c.in_ok-refuse.ensures ∙ λ j. lowest_by (c.is_unknown.ensures j) (d.1.0 j) (d.1.1.0 j) c.is_twice.result (leb 16 (c.from.ensures j)))
     refl

@@ -1,12 +1,12 @@
 -- Where the rows lie.
-use Rattle.std.proofs.Common.{◌≡◌, ℕ, ◌+◌, ◌*◌, ◌-◌, List, ℤ, length, take, drop, sym, ap, ap₂, ◌∙◌, refl, arith}
+use Rattle.std.proofs.Common.{◌≡◌, ℕ, ◌+◌, ◌*◌, ◌-◌, length, take, drop, sym, ap, ap₂, ◌∙◌, arith}
 use Rattle.std.proofs.lemmas.List.{take_all, length-drop}
 use borrow.Author.Tests.{lt-ltb, le-ltb}
 use lib.Dec.{leb, ltb}
 use mathlib.Core.Bool.{true, Bool}
 use Rattle.lists.specs.Lists.{turned}
-use Rattle.table.specs.Evaluated.{if_so, area_rows, rows_used}
-use Rattle.table.proofs.Round.{used-from, used-none}
+use Rattle.table.specs.Evaluated.{if_so, area_rows}
+use Rattle.table.proofs.Round.{used-from}
 use Rattle.table.proofs.area.Rows.of.Goals.{then-table, else-table}
 use Rattle.table.proofs.area.Rows.of.Goals as goal
 

@@ -3,7 +3,7 @@ use Rattle.std.proofs.Common.{◌≡◌, ℕ, ◌+◌, ◌*◌, get_or, ap, ap�
 use mir.Syntax.{w32}
 use mir.Val.{to_z, of_z}
 use Rattle.statement.specs.Operators.{order_of}
-use Rattle.table.specs.Tests.{next_at, side_at}
+use Rattle.table.specs.Tests.{next_at, side_at, target_place}
 use Rattle.table.proofs.rows.Test.next.Goals as goal
 
 pub returns : goal.returns
@@ -13,4 +13,4 @@ returns c =
     let i = c.args.i in
     let ea : to_z w32 (of_z w32 c.side-a.result) ≡ side_at t.places t.numbers c.args.row.now (2 * i) = search rules ∙ c.side-a.ensures in
     let eb : to_z w32 (of_z w32 c.side-b.result) ≡ side_at t.places t.numbers c.args.row.now (2 * i + 1) = search rules ∙ c.side-b.ensures in
-    ap (λ (k : ℕ). get_or t.targets (4 * i + k) 0) (c.order.ensures.order ∙ ap₂ order_of ea eb)
+    ap (λ (k : ℕ). get_or t.targets (4 * i + k) 0) (c.target_place.ensures.place ∙ ap target_place (c.order.ensures ∙ ap₂ order_of ea eb))

@@ -1,0 +1,108 @@
+-- Assumes nothing.
+use Prim.Native.Nat.{◌-◌, ◌≤◌, ◌<◌}
+use mathlib.Core.Path.{◌≡◌}
+use native.Mathlib.Omega.{arith}
+use lib.ListN.{length, get_or}
+use Rattle.statement.specs.declared.Query.{Query}
+use Rattle.statement.specs.Compiled.{no_query}
+use Rattle.table.specs.Evaluated.{said}
+use Rattle.cache.specs.Sound.{query_at}
+use Rattle.cache.proofs.Sounds.{Sound, sound-is}
+use Rattle.cache.proofs.Inside.{query-there, query-table, second-used, second-table}
+use Rattle.cache.proofs.Working.{rows-512, paired_same, one-works, pair-works}
+use Rattle.cache.specs.declared.State.{State}
+use Rattle.cache.specs.Sound.{sound_state}
+use mathlib.Core.Bool.{true}
+use Prim.Native.Nat.{ℕ}
+use Rattle.cache.proofs.Question.put_record.Goals as goal
+
+-- what is known of a question that is there
+record Known (s : State) (i : ℕ) : Type 0 where
+  sound : Sound s
+  tables : length s.tables ≡ 8
+  queries : length s.queries ≡ 16
+  there : i < s.query_count
+
+known : (s : State) (i : ℕ) → length s.tables ≡ 8 → length s.queries ≡ 16 → (sound_state s ≡ true) × (i < s.query_count) → Known s i
+known s i t q h = record { sound = sound-is s h.0; tables = t; queries = q; there = h.1 }
+
+module _ (s : State) (i : ℕ) (K : Known s i) where
+  few : i < 16
+  few = omega (arith, K.sound.few_queries, K.there)
+
+  inside : i < length s.queries
+  inside = omega (arith, few, K.queries)
+
+  -- its table, and its second one, are among those in use
+  used : (d : Query) → (get_or s.queries i d).table < s.table_count
+  used d = query-there s K.sound K.tables K.queries i d K.there
+
+  used-second : (d : Query) → ((get_or s.queries i d).second ≡ 0 → ⊥) → (get_or s.queries i d).second - 1 < s.table_count
+  used-second d h = second-used s K.sound K.tables K.queries i d K.there h
+
+  few-before : (d : Query) → (get_or s.queries i d).table ≤ 8
+  few-before d = omega (arith, used d, K.sound.few_tables)
+
+  few-between : (d : Query) → ((get_or s.queries i d).second ≡ 0 → ⊥) → (get_or s.queries i d).second - 1 ≤ 8
+  few-between d h = omega (arith, used-second d h, K.sound.few_tables)
+
+  there : (query_at s i).table < length s.tables
+  there = omega (arith, used no_query, K.sound.few_tables, K.tables)
+
+  long : s.table_count ≤ length s.tables
+  long = omega (arith, K.sound.few_tables, K.tables)
+
+pub offset_bounds-s-number : goal.offset_bounds-s-number
+offset_bounds-s-number c =
+    let h : c.args.self.now.number < 16 = few _ _ (known c.args.self.now.state.now c.args.self.now.number c.args.self.now.all_tables c.args.self.now.all_queries (c.args.self.now.sound, c.args.self.now.there)) in
+    record { fits = omega arith }
+
+pub bounds-s-number : goal.bounds-s-number
+bounds-s-number c = few _ _ (known c.args.self.now.state.now c.args.self.now.number c.args.self.now.all_tables c.args.self.now.all_queries (c.args.self.now.sound, c.args.self.now.there))
+
+pub bounds-s-i : goal.bounds-s-i
+bounds-s-i c =
+    let s = c.args.self.now.state.now in
+    let K = known s c.args.self.now.number c.args.self.now.all_tables c.args.self.now.all_queries (c.args.self.now.sound, c.args.self.now.there) in
+    query-table s K.sound K.tables K.queries c.args.self.now.number _ K.there
+
+pub shared_ref_as_front-areas : goal.shared_ref_as_front-areas
+shared_ref_as_front-areas c =
+    let s = c.args.self.now.state.now in
+    let K = known s c.args.self.now.number c.args.self.now.all_tables c.args.self.now.all_queries (c.args.self.now.sound, c.args.self.now.there) in
+    few-before s c.args.self.now.number K _
+
+pub returns-then-q-eq0 : goal.returns-then-q-eq0
+returns-then-q-eq0 c =
+    let a = c.args in
+    let s = a.self.now.state.now in
+    let K = known s a.self.now.number c.args.self.now.all_tables c.args.self.now.all_queries (c.args.self.now.sound, c.args.self.now.there) in
+    let r = c.select in
+    one-works s a.cells.now a.self.now.number a.self.now.values.now a.answer.now _ _ (inside s a.self.now.number K) c.if-q-eq0.true (there s a.self.now.number K)
+    (rows-512 s K.sound (long s a.self.now.number K) (query_at s a.self.now.number).table (used s a.self.now.number K no_query) a.cells.now) _ c.areas-start.ensures (said r.result) _
+    r.ensures.result r.ensures.bytes
+
+pub bounds-s-j : goal.bounds-s-j
+bounds-s-j c =
+    let s = c.args.self.now.state.now in
+    let K = known s c.args.self.now.number c.args.self.now.all_tables c.args.self.now.all_queries (c.args.self.now.sound, c.args.self.now.there) in
+    second-table s K.sound K.tables K.queries c.args.self.now.number _ K.there c.if-q-eq0.false
+
+pub shared_ref_as_front-areas-2 : goal.shared_ref_as_front-areas-2
+shared_ref_as_front-areas-2 c =
+    let s = c.args.self.now.state.now in
+    let K = known s c.args.self.now.number c.args.self.now.all_tables c.args.self.now.all_queries (c.args.self.now.sound, c.args.self.now.there) in
+    few-between s c.args.self.now.number K _ c.if-q-eq0.false
+
+pub returns : goal.returns
+returns c =
+    let a = c.args in
+    let s = a.self.now.state.now in
+    let K = known s a.self.now.number c.args.self.now.all_tables c.args.self.now.all_queries (c.args.self.now.sound, c.args.self.now.there) in
+    let r = c.select_pair in
+    let some = c.if-q-eq0.false in
+    let k = used-second s a.self.now.number K _ some in
+    pair-works s a.cells.now a.self.now.number a.self.now.values.now a.answer.now _ _ (inside s a.self.now.number K) some (there s a.self.now.number K) (omega (arith, k, long s a.self.now.number K))
+    (paired_same s K.sound (long s a.self.now.number K) (query_at s a.self.now.number).table (used s a.self.now.number K no_query) a.cells.now)
+    (paired_same s K.sound (long s a.self.now.number K) _ k a.cells.now) _ _ c.areas-start.ensures c.areas-beside.ensures (said r.result) _
+    r.ensures.result r.ensures.bytes

@@ -1,6 +1,0 @@
-use Rattle.slots.specs.Order.{held_slots}
-use Rattle.cache.proofs.Marking.{Finding}
-use Rattle.cache.proofs.matching.queries_held.Given as goal
-
-abbrev pub invariant-loop-x : goal.invariant-loop-x
-invariant-loop-x l = Finding l.keys (held_slots l.slots) l.x-index l.found

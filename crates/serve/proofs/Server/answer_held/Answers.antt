@@ -1,0 +1,27 @@
+use Rattle.std.proofs.Common.{rules, arith, ◌≡◌, ◌≤◌, length, take, ap, ◌∙◌}
+use Rattle.serve.specs.Input.{Session, answering, behind}
+use Rattle.serve.proofs.Turning.{reply-inside, reply-session, reply-text}
+use Rattle.serve.proofs.Server.answer_held.Goals as goal
+
+pub returns-clause-session : goal.returns-clause-session
+returns-clause-session c =
+    let i = c.self.inside in
+    reply-session c.respond-reply.result _ _ _ _ i.state i.cells i.memory i.answer (take i.held i.line) c.args.out.now c.respond-reply.ensures
+    ∙ ap (λ (s : Session). behind (answering s)) c.self.view_is
+
+pub returns-clause-text : goal.returns-clause-text
+returns-clause-text c =
+    let i = c.self.inside in
+    let r = c.respond-reply in
+    let h : 262144 ≤ length c.args.out.now = search rules in
+    let k : length i.answer ≤ 65536 = search rules in
+    reply-text r.result _ _ _ _ i.state i.cells i.memory i.answer (take i.held i.line) c.args.out.now r.ensures k h ∙ ap (λ (s : Session). (answering s).text) c.self.view_is
+
+-- the text is a part of what is lent for it
+pub returns-clause-within : goal.returns-clause-within
+returns-clause-within c =
+    let i = c.self.inside in
+    let h : length c.args.out.now ≡ 262144 = search rules in
+    let k : c.respond-reply.result.length ≤ length c.args.out.now =
+    reply-inside c.respond-reply.result _ _ _ _ i.state i.cells i.memory i.answer (take i.held i.line) c.args.out.now c.respond-reply.ensures in
+    omega arith
