@@ -1,4 +1,4 @@
--- Refusal 14 as claims: document 01, "Meaning", second paragraph, and "Numbers for a call not taken". `row_refusal` and `row_part` are what the contracts of the functions `row_refusal` and
+-- Refusal 14 as claims: document 01, "Meaning", second paragraph, and "Numbers for a call not taken". `row_refusal` and `row_part` are what the contracts of the functions `check_row` and
 -- `row` say that they give. Each claim is proved in proofs/Demand. Assumes nothing: these are definitions.
 use Rattle.std.specs.Prelude.{◌≡◌, ◌≢◌, ◌↔◌, List, [], ℕ, ◌+◌, ◌*◌, ◌≤◌, ◌<◌, length, get_or, take, drop}
 use Rattle.meaning.specs.Demand.{Between}

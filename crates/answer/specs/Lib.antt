@@ -1,3 +1,4 @@
 pub mod Answer
 pub mod Examples
 pub mod Demand
+pub mod Refusal

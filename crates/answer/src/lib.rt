@@ -3,8 +3,9 @@
 #![tactic(auto)]
 
 ghost use Rattle.std.specs.Prelude.{◌≡◌, true, false, ◌&&◌, ◌+◌, ◌*◌, ◌≤◌, ◌<◌, leb, eqb, length, get_or, MatchOption};
-ghost use Rattle.meaning.specs.Record.{bits_of, bytes4, four_at, columns_in, row_count, row_bytes, is_record, has_row, row_refusal, row_start, row_part};
+ghost use Rattle.meaning.specs.Record.{bits_of, bytes4, four_at, columns_in, row_count, row_bytes, has_row, row_refusal, row_start, row_part};
 ghost use Rattle.answer.specs.Answer.{record_length, header, put, past};
+ghost use Rattle.answer.specs.Refusal.{number_of, number_in};
 
 use std::ops::Range;
 
@@ -24,9 +25,19 @@ impl Answer {
     pub const HEAD: usize = 8;
 
     pub const VALUE: usize = 4;
+}
 
-    // The refusal of bytes that are no record, and of a row that is not there.
-    pub const NO_ROW: u8 = 14;
+// Why a row is not shown: the bytes are no record, or it is not there. (The other refusals are of crate `statement`, which lies beside this one.)
+#[derive(Clone, Copy, PartialEq, Eq)]
+pub struct NoRow {}
+
+impl NoRow {
+    // The papers' number.
+    pub fn number(self) -> u8
+        ensures { result ≡ number_of self }
+    {
+        14
+    }
 }
 
 // What the first bytes say: the length of what follows the first four, the version, the columns and the rows.
@@ -66,7 +77,7 @@ impl Head {
         ensures { result ≡ (eqb self.version 1 && (leb 1 self.columns && (leb self.columns 8 && (eqb self.size (self.rows * (4 * self.columns) + 4) && leb (self.size + 4) len)))) }
     {
         let columns = usize::from(self.columns);
-        let size = self.size as usize;
+        let size = self.size as usize; // usize has no From of u32
         self.version == Answer::VERSION
             && (1..=Answer::COLUMNS).contains(&columns)
             && size == usize::from(self.rows) * self.width() + 4
@@ -87,7 +98,8 @@ fn row_range(bytes: &[u8], i: usize) -> Option<Range<usize>>
     None
 }
 
-// Row i of a record: the part of the caller's bytes that holds it, or the empty part at their beginning.
+// Row i of a record: the part of the caller's bytes that holds it, or the empty part at their beginning. (No Result: document 01 names this form, the part or the empty part, so why
+// there is none is asked of `check_row`.)
 pub fn row(bytes: &[u8], i: usize) -> &[u8]
     ensures part { result.now ≡ row_part bytes.now i }
     ensures place { result.ref_ptr ≡ past bytes.entry (row_start bytes.now i) }
@@ -98,13 +110,13 @@ pub fn row(bytes: &[u8], i: usize) -> &[u8]
     }
 }
 
-// 0, or the refusal of a row.
-pub fn row_refusal(bytes: &[u8], i: usize) -> u8
-    ensures { result ≡ row_refusal bytes.now i }
+// Refuses a row that is not shown.
+pub fn check_row(bytes: &[u8], i: usize) -> Result<(), NoRow>
+    ensures { number_in result ≡ row_refusal bytes.now i }
 {
     match row_range(bytes, i) {
-        Some(_) => 0,
-        None => Answer::NO_ROW,
+        Some(_) => Ok(()),
+        None => Err(NoRow {}),
     }
 }
 

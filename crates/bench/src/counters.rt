@@ -9,7 +9,7 @@ pub struct Counters {
     refused: u64,
     cached: u64,
     read: u64,
-    bytes: u64,
+    bytes: usize,
     changed: u64,
     dropped: u64,
     sum: Option<u64>,
@@ -28,20 +28,21 @@ impl Counters {
         self.called = self.called.wrapping_add(1);
     }
 
-    // A call that was refused, or was not.
+    // A call that was refused, or was not. A Boolean: a state that is not sound, a row that is not there and a call have no error of one type.
     pub fn refuse(&mut self, refused: bool) {
         self.refused = self.refused.wrapping_add(u64::from(refused));
     }
 
     pub fn ask(&mut self, answer: Answer) {
-        let cached = answer.source == Source::Cached;
-        self.cached = self.cached.wrapping_add(u64::from(cached));
+        if answer.source == Source::Cached {
+            self.cached = self.cached.wrapping_add(1);
+        }
         self.read = self.read.wrapping_add(u64::from(answer.scanned));
         self.show(answer.length);
     }
 
     pub fn show(&mut self, bytes: usize) {
-        self.bytes = self.bytes.wrapping_add(bytes as u64);
+        self.bytes = self.bytes.wrapping_add(bytes);
     }
 
     pub fn update(&mut self, changed: Changed) {

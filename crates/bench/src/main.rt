@@ -39,10 +39,8 @@ impl<'a, R: CpuClock> Bench<'a, R> {
 
     // The processor time used, in microseconds.
     fn micros(&self) -> u64 {
-        match self.rt.process_cpu_time() {
-            Ok(time) => u64::try_from(time.as_micros()).unwrap_or(0),
-            Err(_) => 0,
-        }
+        let time = self.rt.process_cpu_time().unwrap_or_default();
+        u64::try_from(time.as_micros()).unwrap_or(0)
     }
 
     // So many calls, round the list, each on the state that the last one left.

@@ -82,7 +82,7 @@ impl Store {
 
     // Row i of the last answer.
     fn show(&self, i: usize, counters: &mut Counters) {
-        counters.refuse(table::row_refusal(&self.answer, i) != 0);
+        counters.refuse(table::check_row(&self.answer, i).is_err());
         counters.show(table::row(&self.answer, i).len());
     }
 

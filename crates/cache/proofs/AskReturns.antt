@@ -6,7 +6,6 @@ use Prim.Native.Nat.{ℕ, ◌*◌, ◌≤◌, ◌<◌}
 use native.Mathlib.Omega.{arith}
 use borrow.Author.Tests.{leb-false, le-leb, lt-ltb, ltb-false, le-ltb}
 use Rattle.std.proofs.lemmas.Bool.{lt-leb}
-use Rattle.std.proofs.lemmas.List.{set_past}
 use lib.Dec.{leb, ltb, lit<}
 use lib.IntN.{ℤ}
 use lib.ListN.{length, take, get_or, set}
@@ -27,6 +26,7 @@ use Rattle.slots.proofs.Moves.{taken_open, not_open}
 use Rattle.cache.specs.declared.State.{State}
 use Rattle.cache.specs.Calls.{Asked}
 use Rattle.cache.specs.Calls.{unfit, Asks, asks, ask_refused, ask_refusal, with_cache, bytes_at, cached_length, ask_cached, kept, kept_memory, settled, record_at, too_many, new_refusal, newly, ask_new, ask_found, ask_of}
+use Rattle.cache.specs.declared.Kept.{Kept}
 use Rattle.cache.specs.declared.Place.{Place}
 use Rattle.cache.specs.Outcomes.{Outcome}
 use Rattle.cache.specs.Outcomes.{no_place, no_answer, placed_in, placed, outcome_of, Last, Room, WorksOut, takes, taking, place_of, place_bytes}
@@ -101,15 +101,12 @@ module _ (slots : SlotList) (bytes size : ℕ) (from memory : List ℕ) (long : 
 
 -- the key and the length in the slot, if there is one
 module _ (s : State) (key : Key) (p : Place) where
-  pub placed-slot : (x y : ℕ) → p.slot ≡ Some x → y ≡ x → with_cache s p.slots (set s.keys y key) (set s.lengths y p.size) ≡ placed s key p
-  placed-slot x y e q = ap (λ (k : ℕ). with_cache s p.slots (set s.keys k key) (set s.lengths k p.size)) q ∙ ap (λ (o : Option ℕ). placed_in o s key p.size p.slots) (sym e)
+  pub placed-slot : (k : Kept) (y : ℕ) → p.kept ≡ Some k → y ≡ k.slot → with_cache s p.slots (set s.keys y key) (set s.lengths y k.size) ≡ placed s key p
+  placed-slot k y e q =
+      ap (λ (x : ℕ). with_cache s p.slots (set s.keys x key) (set s.lengths x k.size)) q ∙ ap (λ (o : Option Kept). placed_in o s key p.slots) (sym e)
 
-  pub placed-past : (x y : ℕ) → p.slot ≡ Some x → y ≡ x → length s.keys ≤ y → length s.lengths ≤ y → with_cache s p.slots s.keys s.lengths ≡ placed s key p
-  placed-past x y e q h k =
-      ap₂ (with_cache s p.slots) (sym (set_past s.keys y key h)) (sym (set_past s.lengths y p.size k)) ∙ placed-slot x y e q
-
-  pub placed-nowhere : p.slot ≡ None → with_cache s p.slots s.keys s.lengths ≡ placed s key p
-  placed-nowhere e = ap (λ (o : Option ℕ). placed_in o s key p.size p.slots) (sym e)
+  pub placed-nowhere : p.kept ≡ None → with_cache s p.slots s.keys s.lengths ≡ placed s key p
+  placed-nowhere e = ap (λ (o : Option Kept). placed_in o s key p.slots) (sym e)
 
 module _ (s : State) (r : List ℕ) (p : Place) (e : p ≡ place_of s.slots s.slot_bytes r) where
   pub place_kept : (key : Key) → placed s key p ≡ kept s key r

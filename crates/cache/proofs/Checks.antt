@@ -21,7 +21,7 @@ use Rattle.cache.specs.declared.State.{State}
 use Rattle.cache.specs.Sound.{query_at, sound_state}
 use Rattle.cache.specs.Calls.{unfit, ask_refusal, update_at, table_at, is_full, update_refusal}
 use Rattle.meaning.specs.Plain.{or_else}
-use Rattle.cache.proofs.Given.{numbered}
+use Rattle.table.proofs.Recording.{numbered}
 
 -- 2, as the code decides it
 pub unfit-of : (s : State) (cells memory : ℕ) (sound b : Bool) → sound ≡ sound_state s → (sound && (eqb cells s.cells && eqb memory s.memory)) ≡ b → unfit s cells memory ≡ not b
@@ -127,17 +127,9 @@ module _ (s : State) (cells memory update values : ℕ) (r : ℕ) where
           turn false = refl
 
 -- an INSERT into a full table that is no ring
-pub full-is : (s : State) (i : ℕ) (u : Update) (t : Table) (f : Bool) → f ≡ (eqb u.form 0 && leb t.capacity t.rows) → u ≡ update_at s i → t ≡ table_at s u.table
-    → (f && not t.ring) ≡ is_full s (update_at s i)
+pub full-is : (s : State) (i : ℕ) (u : Update) (t : Table) (f : Bool) → f ≡ leb t.capacity t.rows → u ≡ update_at s i → t ≡ table_at s u.table
+    → (eqb u.form 0 && (not t.ring && f)) ≡ is_full s (update_at s i)
 full-is s i u t f h eu et =
-    ap (λ (b : Bool). b && not t.ring) h
-    ∙ turn (eqb u.form 0) (leb t.capacity t.rows) (not t.ring)
+    ap (λ (b : Bool). eqb u.form 0 && (not t.ring && b)) h
     ∙ ap (λ (w : Table). eqb u.form 0 && (not w.ring && leb w.capacity w.rows)) et
     ∙ ap (is_full s) eu
-  where
-    turn : (x y z : Bool) → ((x && y) && z) ≡ (x && (z && y))
-    turn true true true = refl
-    turn true true false = refl
-    turn true false true = refl
-    turn true false false = refl
-    turn false y z = refl

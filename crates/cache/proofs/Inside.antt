@@ -1,8 +1,9 @@
 -- What a sound state says of the places that a question reads and writes: its query and table, the slot at a held place, and the last slot. Assumes nothing.
 use mathlib.Core.Path.{◌≡◌, refl, sym, ap, ◌∙◌, subst}
+use Rattle.std.specs.Prelude.{Some, None}
 use mathlib.Core.Bool.{true}
 use mathlib.Core.Option.{some}
-use Prim.Native.Nat.{ℕ, zero, suc, ◌+◌, ◌-◌, ◌*◌, ◌≤◌, ◌<◌}
+use Prim.Native.Nat.{ℕ, zero, suc, ◌+◌, ◌*◌, ◌≤◌, ◌<◌}
 use native.Mathlib.Omega.{arith}
 use borrow.Author.Tests.{ltb-true}
 use lib.Dec.{ltb}
@@ -12,6 +13,7 @@ use Rattle.lists.proofs.Bools.{and_left}
 use Rattle.meaning.specs.Limits.{most_memory, most_slots, most_tables, most_queries}
 use Rattle.statement.specs.declared.Query.{Query}
 use Rattle.statement.specs.Catalog.{schema_of}
+use Rattle.statement.specs.Terms.{second_said}
 use Rattle.statement.specs.Sound.{columns_at, second_by, sound_second, sound_query}
 use Rattle.statement.proofs.SoundQuery.{query-parts}
 use Rattle.slots.specs.declared.Taken.{Taken}
@@ -26,10 +28,14 @@ use Rattle.cache.proofs.Sounds.{Sound, All-first, HeldSound, slot-room, held-sou
 
 -- ---- the table of a query
 
--- a number that is not 0 follows another
-pub behind-zero : (n : ℕ) → (n ≡ 0 → ⊥) → n ≡ suc (n - 1)
-behind-zero zero h = absurd (h refl)
-behind-zero (suc n) h = omega arith
+-- the number of its second table, as it is read
+pub second-none : (n : ℕ) → second_said n ≡ None → n ≡ 0
+second-none zero e = refl
+second-none (suc k) e = absurd (cc)
+
+pub second-some : (n k : ℕ) → second_said n ≡ Some k → n ≡ suc k
+second-some zero k e = absurd (cc)
+second-some (suc j) k e = cc
 
 module _ (s : State) (S : Sound s) (tables : length s.tables ≡ most_tables) (queries : length s.queries ≡ most_queries) (i : ℕ) (d : Query) (h : i < s.query_count) where
   abbrev query : Query
@@ -54,12 +60,6 @@ module _ (s : State) (S : Sound s) (tables : length s.tables ≡ most_tables) (q
       ap (λ (n : ℕ). sound_second (schemas_in s) query.table (columns_at (schemas_in s) query.table) (second_by n query.start)) (sym e)
       ∙ (query-parts (schemas_in s) query sound).second_sound in
       subst (λ (n : ℕ). k < n) long (ltb-true k (length (schemas_in s)) (and_left (ltb k (length (schemas_in s))) _ t))
-
-  pub second-used : (query.second ≡ 0 → ⊥) → query.second - 1 < s.table_count
-  second-used h = second-there (query.second - 1) (behind-zero query.second h)
-
-  pub second-table : (query.second ≡ 0 → ⊥) → query.second - 1 < most_tables
-  second-table h = omega (arith, second-used h, S.few_tables)
 
 -- ---- slots
 

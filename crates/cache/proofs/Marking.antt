@@ -8,13 +8,14 @@ use mathlib.Core.List.{List, [], ◌∷◌, map}
 use Prim.Native.Nat.{ℕ, zero, suc, ◌+◌, ◌-◌, ◌≤◌, ◌<◌}
 use native.Mathlib.Nat.{sub-zero}
 use native.Mathlib.Omega.{arith}
-use borrow.Author.Tests.{eqb-true, eqb-false, eq-eqb, ne_eqb}
+use borrow.Author.Tests.{ne_eqb}
 use lib.Dec.{eqb}
 use lib.IntN.{ℤ}
 use lib.ListN.{drop, drop_of_length-le, length, take, get_or, set, replicate, length-set}
 use lib.Seq.{get_or-take, length-take-le}
 use Rattle.lists.specs.Lists.{any, All, from}
 use Rattle.lists.proofs.Bools.{or_assoc}
+use Rattle.lists.proofs.Chains.{eqb-turned}
 use Rattle.lists.proofs.Lists.{All-map, map_same}
 use Rattle.lists.proofs.Places.{get_or-inside}
 use Rattle.lists.proofs.Changed.{map-from}
@@ -49,13 +50,6 @@ pub held-below : (s : SlotList) → sound_slots s ≡ true → All (λ x. x < 64
 held-below s h = let S = sound-is s h in All-map (λ x b. omega (arith, S.few)) (held_below s S)
 
 -- ---- the queries that hold an answer
-
-eqb_swap : (a b : ℕ) → eqb a b ≡ eqb b a
-eqb_swap a b = go (eqb a b) refl
-  where
-    go : (t : Bool) → eqb a b ≡ t → t ≡ eqb b a
-    go true e = sym (eq-eqb b a (sym (eqb-true a b e)))
-    go false e = sym (ne_eqb b a (λ q. eqb-false a b e (sym q)))
 
 -- a list is what stands at its places
 listed : (d : Bool) (l : List Bool) → map (λ (i : ℕ). get_or l i d) (from 0 (length l)) ≡ l
@@ -96,7 +90,7 @@ module _ (keys : List Key) (held : List ℕ) where
     finding-more b = record {
       long = length-set found k.query true ∙ F.long;
       left = λ q c.
-          ap (λ (t : Bool). t || answered (drop (i + 1) held) q) (set-mark found k.query q (omega (arith, F.long)) ∙ ap (λ (t : Bool). is_marked found q || t) (eqb_swap q k.query))
+          ap (λ (t : Bool). t || answered (drop (i + 1) held) q) (set-mark found k.query q (omega (arith, F.long)) ∙ ap (λ (t : Bool). is_marked found q || t) (eqb-turned q k.query))
           ∙ sym (or_assoc (is_marked found q) (eqb k.query q) (answered (drop (i + 1) held) q))
           ∙ ap (λ (t : Bool). is_marked found q || t) (sym (step q))
           ∙ F.left q c;
@@ -230,10 +224,8 @@ module _ (keys : List Key) (s : SlotList) (queries : List Query) (n : ℕ) (u : 
         go true f = rw (holds true f) (other-marks keys s q (get_or queries q no_query) u us marks (unlike f))
 
 -- the queries in use, as they are lent
-pub used-many : (queries : List Query) (n : ℕ) (used : List Query) (k : ℕ) → length queries ≡ 16 → n ≤ 16 → k ≡ n → used ≡ take k queries → (length used ≡ n) × (used ≡ take n queries)
-used-many queries n used k l f e u =
-    let t : used ≡ take n queries = u ∙ ap (λ (m : ℕ). take m queries) e in
-    (ap length t ∙ length-take-le n queries (omega (arith, l)), t)
+pub used-many : (queries : List Query) (n : ℕ) (used : List Query) → length queries ≡ 16 → n ≤ 16 → used ≡ take n queries → length used ≡ n
+used-many queries n used l f u = ap length u ∙ length-take-le n queries (omega (arith, l))
 
 -- a query of those in use, read from their slice
 pub query-at : (queries : List Query) (n q : ℕ) (d : Query) → length queries ≡ 16 → n ≤ 16 → q < n → get_or (take n queries) q d ≡ get_or queries q no_query

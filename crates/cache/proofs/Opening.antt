@@ -5,12 +5,24 @@ use mathlib.Core.List.{List}
 use Prim.Native.Nat.{ℕ}
 use lib.IntN.{ℤ, pos}
 use lib.ListN.{length, replicate}
+use Rattle.std.specs.Array.{AllOfLen}
+use Rattle.std.proofs.lemmas.List.FromFn.{fill_by_all}
 use Rattle.lists.proofs.Bools.{not-true, not-false}
 use Rattle.meaning.specs.Plain.{Opening, opening_refused}
+use Rattle.slots.specs.declared.Key.{Key}
+use Rattle.slots.specs.Keys.{no_key}
 use Rattle.cache.specs.declared.State.{State}
 use Rattle.cache.specs.Sound.{opening, OpeningWithin}
 use Rattle.cache.specs.Calls.{empty_state, opens, open_of}
 use Rattle.cache.proofs.Sounds.{sizes-fit}
+
+-- what `default` makes of a key
+pub key-empty : (k : Key) → (k.query ≡ 0) × ((k.count ≡ 0) × AllOfLen (λ (x : ℤ). x ≡ pos 0) k.values 8) → k ≡ no_key
+key-empty k h = λ j. record {
+  query = h.0 j;
+  count = h.1.0 j;
+  values = fill_by_all (λ (i : ℕ). pos 0) k.values 8 (pos 0) h.1.1.long (λ i l. h.1.1.at i (pos 0) l) j;
+}
 
 -- ---- an opening, where the sizes fit or do not
 

@@ -79,14 +79,14 @@ module _ (s : State) (text : List ℕ) (long : length s.tables ≡ 8) (ok : soun
 
 -- ---- a text beside the tables in use, lent as they stand
 
-pub beside-same : (s : State) (text : List ℕ) (used : List Table) (n : ℕ) → length s.tables ≡ 8 → n ≡ s.table_count → used ≡ take n s.tables
+pub beside-same : (s : State) (text : List ℕ) (used : List Table) → length s.tables ≡ 8 → used ≡ take s.table_count s.tables
     → compiled_of text used (min (length used) 8) s.query_count s.update_count s.cells ≡ compiled_beside s text
 unfolding compiled_of
-beside-same s text used n long e f =
-    let few : length used ≤ 8 = omega (arith, ap length f, length-take n s.tables) in
+beside-same s text used long f =
+    let few : length used ≤ 8 = omega (arith, ap length f, length-take s.table_count s.tables) in
     let k : min (length used) 8 ≡ length used = omega arith in
     let t : take (min (length used) 8) used ≡ take s.table_count s.tables =
-    ap (λ (m : ℕ). take m used) k ∙ take_all (length used) used (omega arith) ∙ f ∙ ap (λ (m : ℕ). take m s.tables) e in
+    ap (λ (m : ℕ). take m used) k ∙ take_all (length used) used (omega arith) ∙ f in
     rw t
 
 -- what the exit of a `?` returns

@@ -245,11 +245,6 @@ module _ (s : State) (T : Typed s) (S : Sound s) where
   update-at i h =
       All-first {P = λ (u : Update). sound_update (schemas_in s) u ≡ true} s.update_count s.updates i no_update (omega (arith, T.sixteen_updates, S.few_updates)) h S.updates
 
-  -- the slot at a held place of the order
-  pub held_at : (i : ℕ) → i < s.slots.held → HeldSound s (get_or s.slots.order i 0)
-  held_at i h =
-      All-first {P = HeldSound s} s.slots.held s.slots.order i 0 (omega (arith, T.order-64, S.slots.within, S.slots.few)) h (held-sound s S)
-
   -- the tables that there are
   pub schemas-long : length (schemas_in s) ≡ s.table_count
   schemas-long = length-map (used_tables s) schema_of ∙ length-take-le s.table_count s.tables (omega (arith, T.eight_tables, S.few_tables))

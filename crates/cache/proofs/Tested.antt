@@ -9,7 +9,6 @@ use borrow.Author.Tests.{leb-true, ltb-true}
 use lib.Dec.{eqb, leb, ltb}
 use lib.ListN.{length, take, get_or}
 use lib.Seq.{length-take-le, get_or-take}
-use Rattle.std.specs.List.{list_all}
 use Rattle.lists.specs.Lists.{all}
 use Rattle.lists.proofs.Bools.{and_left, and_right, leb-not}
 use Rattle.meaning.specs.Plain.{opening_refused}
@@ -59,11 +58,6 @@ module _ (cells memory slots bytes : ℕ) where
       mul-le-mul (leb-true slots 64 (and_right (leb cells 32768 && leb memory 262144) (leb slots 64) b))
       (leb-true bytes 4096 (and_right (few && leb 8 bytes) (leb bytes 4096) h))
 
--- ---- the library's test of every member
-pub all-same : {A : Type 0} (p : A → Bool) (l : List A) → list_all p l ≡ all p l
-all-same p [] = refl
-all-same p (x ∷ l) = ap (λ (b : Bool). p x && b) (all-same p l)
-
 -- ---- the answers: each held slot by itself, then all
 
 module _ {A : Type 0} (p q : A → Bool) where
@@ -78,13 +72,10 @@ module _ {A : Type 0} (p q : A → Bool) where
       apart false b c d = refl
 
 -- a key by the queries in use
-module _ (s : State) (n : ℕ) (queries : List Query) (long : length s.queries ≡ 16) (few : s.query_count ≤ 16) (e : n ≡ s.query_count) (f : queries ≡ take n s.queries) where
+module _ (s : State) (queries : List Query) (long : length s.queries ≡ 16) (few : s.query_count ≤ 16) (used : queries ≡ take s.query_count s.queries) where
   key-fit : (k : Key) → key_fits queries k ≡ sound_key s k
   key-fit k = go (ltb k.query s.query_count) refl
     where
-      used : queries ≡ take s.query_count s.queries
-      used = f ∙ ap (λ (m : ℕ). take m s.queries) e
-
       count : length queries ≡ s.query_count
       count = ap length used ∙ length-take-le s.query_count s.queries (omega (arith, long))
 

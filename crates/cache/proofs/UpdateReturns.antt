@@ -116,7 +116,7 @@ module _ (s : State) (L : Long s) (update : ℕ) (d : Update) where
 module _ (tables : List Table) (keys : List Key) (slots : SlotList) (queries : List Query) (n : ℕ) (u : Update) (t : Table) (cells us : List ℤ) (k : ℕ) (z : k ≡ 0) (start : ℕ)
     (es : start ≡ areas_of (take u.table tables)) where
   pub effect-done : (gone : List Bool) (left : SlotList) (done : Changed) → gone ≡ marks_both keys slots queries n u t start cells us → left ≡ drop_of slots gone → done ≡ change_of u t start cells us
-      → record { count = done.count; rows = done.rows; oldest = done.oldest; slots = left } ≡ settled k (effect_of tables keys slots queries n u t cells us) (no_effect t slots)
+      → record { done = done; slots = left } ≡ settled k (effect_of tables keys slots queries n u t cells us) (no_effect t slots)
   unfolding effect_of
   effect-done gone left done g l d = rw (l, g, d, es) (settled-done k _ _ z)
 
@@ -165,9 +165,9 @@ module _ (s : State) (L : Long s) (h : sound_state s ≡ true) (long : length s.
       → updates
       (record {
         refusal = 0;
-        rows = effect.count;
+        rows = effect.done.count;
         invalidated = s.slots.held - effect.slots.held;
-        state = with_change s i (with_rows t effect.rows effect.oldest) effect.slots;
+        state = with_change s i (with_rows t effect.done.rows effect.done.oldest) effect.slots;
       })
       after ≡ update_done s cells u values
   unfolding update_done effect_of
@@ -203,9 +203,9 @@ module _ (s : State) (L : Long s) (long : length s.slots.order ≡ most_slots) (
         updates
         (record {
           refusal = n;
-          rows = o.count;
+          rows = o.done.count;
           invalidated = s.slots.held - o.slots.held;
-          state = with_change s (v.table % most_tables) (with_rows w o.rows o.oldest) o.slots;
+          state = with_change s (v.table % most_tables) (with_rows w o.done.rows o.done.oldest) o.slots;
         })
         after
 
@@ -244,31 +244,31 @@ module _ (s : State) (L : Long s) (long : length s.slots.order ≡ most_slots) (
             ∙ rw (← r) (settled-refused n _ _ q)
 
     -- so what is given where it is taken, and 0 where it is refused, is what the call gives
-    counts : (rows gone : ℕ) → (n ≡ 0 → (rows ≡ o.count) × (gone ≡ s.slots.held - o.slots.held)) → ((n ≡ 0 → ⊥) → (rows ≡ 0) × (gone ≡ 0))
-        → (rows ≡ o.count) × (gone ≡ s.slots.held - o.slots.held)
+    counts : (rows gone : ℕ) → (n ≡ 0 → (rows ≡ o.done.count) × (gone ≡ s.slots.held - o.slots.held)) → ((n ≡ 0 → ⊥) → (rows ≡ 0) × (gone ≡ 0))
+        → (rows ≡ o.done.count) × (gone ≡ s.slots.held - o.slots.held)
     counts rows gone some none = go n refl
       where
-        go : (k : ℕ) → n ≡ k → (rows ≡ o.count) × (gone ≡ s.slots.held - o.slots.held)
+        go : (k : ℕ) → n ≡ k → (rows ≡ o.done.count) × (gone ≡ s.slots.held - o.slots.held)
         go zero z = some z
         go (suc k) z =
             let q : n ≡ 0 → ⊥ = λ y. omega (arith, y, z) in
             let f : o ≡ no_effect w s.slots = eo ∙ sym (settled-refused n _ _ q) in (
-              (none q).0 ∙ sym (ap (λ (x : Effect). x.count) f),
+              (none q).0 ∙ sym (ap (λ (x : Effect). x.done.count) f),
               omega (arith, (none q).1, ap (λ (x : Effect). x.slots.held) f),
             )
 
-    update-given : (number rows gone : ℕ) → number ≡ n → (n ≡ 0 → (rows ≡ o.count) × (gone ≡ s.slots.held - o.slots.held)) → ((n ≡ 0 → ⊥) → (rows ≡ 0) × (gone ≡ 0))
+    update-given : (number rows gone : ℕ) → number ≡ n → (n ≡ 0 → (rows ≡ o.done.count) × (gone ≡ s.slots.held - o.slots.held)) → ((n ≡ 0 → ⊥) → (rows ≡ 0) × (gone ≡ 0))
         → updates
         (record {
           refusal = number;
           rows = rows;
           invalidated = gone;
-          state = with_change s (v.table % most_tables) (with_rows w o.rows o.oldest) o.slots;
+          state = with_change s (v.table % most_tables) (with_rows w o.done.rows o.done.oldest) o.slots;
         })
         after ≡ update_of s cells memory update values
     update-given number rows gone e some none =
         let d = counts rows gone some none in
-        (λ j. updates (record { refusal = e j; rows = d.0 j; invalidated = d.1 j; state = with_change s (v.table % most_tables) (with_rows w o.rows o.oldest) o.slots }) after) ∙ update-is
+        (λ j. updates (record { refusal = e j; rows = d.0 j; invalidated = d.1 j; state = with_change s (v.table % most_tables) (with_rows w o.done.rows o.done.oldest) o.slots }) after) ∙ update-is
 
   -- the same, where the number of the table is read as i
   module _ (i : ℕ) (ei : i ≡ v.table) (e : Table) (o : Effect) (after : List ℤ) where
@@ -286,15 +286,15 @@ module _ (s : State) (L : Long s) (long : length s.slots.order ≡ most_slots) (
       pub fewer-at : o.slots.held ≤ s.slots.held
       fewer-at = fewer e o after eo' ea'
 
-      pub given-at : (number rows gone : ℕ) → number ≡ n → (n ≡ 0 → (rows ≡ o.count) × (gone ≡ s.slots.held - o.slots.held)) → ((n ≡ 0 → ⊥) → (rows ≡ 0) × (gone ≡ 0))
+      pub given-at : (number rows gone : ℕ) → number ≡ n → (n ≡ 0 → (rows ≡ o.done.count) × (gone ≡ s.slots.held - o.slots.held)) → ((n ≡ 0 → ⊥) → (rows ≡ 0) × (gone ≡ 0))
           → updates
           (record {
             refusal = number;
             rows = rows;
             invalidated = gone;
-            state = with_change s (i % most_tables) (with_rows (at i) o.rows o.oldest) o.slots;
+            state = with_change s (i % most_tables) (with_rows (at i) o.done.rows o.done.oldest) o.slots;
           })
           after ≡ update_of s cells memory update values
       given-at number rows gone q some none =
-          ap (λ (k : ℕ). updates (record { refusal = number; rows = rows; invalidated = gone; state = with_change s (k % most_tables) (with_rows (at k) o.rows o.oldest) o.slots }) after) ei
+          ap (λ (k : ℕ). updates (record { refusal = number; rows = rows; invalidated = gone; state = with_change s (k % most_tables) (with_rows (at k) o.done.rows o.done.oldest) o.slots }) after) ei
           ∙ update-given e o after eo' ea' number rows gone q some none

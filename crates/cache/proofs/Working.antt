@@ -3,7 +3,7 @@ use mathlib.Core.Path.{◌≡◌, refl, sym, ap, ap₂, ◌∙◌, subst}
 use mathlib.Core.Bool.{Bool, true, false, cond}
 use mathlib.Core.Option.{none, some}
 use mathlib.Core.List.{List, [], ◌∷◌, ◌++◌}
-use Prim.Native.Nat.{ℕ, suc, ◌+◌, ◌-◌, ◌≤◌, ◌<◌}
+use Prim.Native.Nat.{ℕ, suc, ◌+◌, ◌≤◌, ◌<◌}
 use native.Mathlib.Omega.{arith}
 use borrow.Author.Tests.{le-ltb, le-leb, leb-true, leb-false, lt-ltb}
 use lib.Dec.{leb, ltb}
@@ -33,7 +33,6 @@ use Rattle.cache.specs.Sound.{used_tables, areas_of, query_at}
 use Rattle.cache.specs.Calls.{start_of, table_at, rows_at, rows_over, rows_for, read_over, read_for, record_at, too_many, new_refusal}
 use Rattle.cache.specs.Outcomes.{WorksOut}
 use Rattle.cache.proofs.Sounds.{Sound, All-first}
-use Rattle.cache.proofs.Inside.{behind-zero}
 
 -- ---- rows of sound tables: few, and of few columns
 
@@ -237,10 +236,7 @@ module _ (s : State) (cells : List ℤ) (query : ℕ) (values : List ℤ) (answe
             bytes = λ k. absurd (omega arith);
           }
 
-      abbrev columns : Query → ℕ
-      columns q = length (take q.count q.selected)
-
-      two-works : (w : Said) (new : List ℕ) → w ≡ pair_says asked t start u beside cells values answer → new ≡ pair_leaves asked t start u beside cells values answer
+      pub two-works : (w : Said) (new : List ℕ) → w ≡ pair_says asked t start u beside cells values answer → new ≡ pair_leaves asked t start u beside cells values answer
           → WorksOut s cells query values answer w new
       unfolding record_at too_many
       two-works w new g h =
@@ -252,15 +248,3 @@ module _ (s : State) (cells : List ℤ) (query : ℕ) (values : List ℤ) (answe
 
           left : pair_leaves asked t start u beside cells values answer ≡ cond many answer (put answer 0 rec)
           left = λ i. cond (ltb most_listed (length (listed-is i))) answer (put answer 0 (record-two i))
-
-  -- the same, its second table's number read off the query
-  abbrev other : ℕ
-  other = asked.second - 1
-
-  pub pair-works : (asked.second ≡ 0 → ⊥) → (query_at s query).table < length s.tables → other < length s.tables
-      → rows_paired (table_at s (query_at s query).table) (start_of s (query_at s query).table) cells ≡ rows_at s cells (query_at s query).table
-      → rows_paired (table_at s other) (start_of s other) cells ≡ rows_at s cells other
-      → (start beside : ℕ) → start ≡ areas_of (take asked.table s.tables) → beside ≡ areas_of (take other s.tables) → (w : Said) (new : List ℕ)
-      → w ≡ pair_says asked (get_or s.tables asked.table e) start (get_or s.tables other e) beside cells values answer
-      → new ≡ pair_leaves asked (get_or s.tables asked.table e) start (get_or s.tables other e) beside cells values answer → WorksOut s cells query values answer w new
-  pair-works h = two-works other (behind-zero asked.second h)

@@ -6,12 +6,13 @@ use Rattle.statement.specs.declared.Table.{Table}
 use Rattle.statement.specs.declared.Query.{Query}
 use Rattle.statement.specs.declared.Update.{Update}
 use Rattle.table.specs.Evaluated.{Said}
-use Rattle.table.specs.Changed.{change_of}
+use Rattle.table.specs.Changed.{change_of, unchanged}
 use Rattle.slots.specs.declared.Key.{Key}
 use Rattle.slots.specs.declared.SlotList.{SlotList}
 use Rattle.slots.specs.declared.Taken.{Taken}
 use Rattle.slots.specs.Order.{sound_slots, is_open, last_taken, drop_of}
 use Rattle.cache.specs.declared.State.{State}
+use Rattle.cache.specs.declared.Kept.{Kept}
 use Rattle.cache.specs.declared.Place.{Place}
 use Rattle.cache.specs.declared.Effect.{Effect}
 use Rattle.cache.specs.Sound.{areas_of, query_at}
@@ -28,18 +29,18 @@ pub record Outcome : Type 0 where
 
 -- no slot is taken
 abbrev pub no_place : SlotList → Place
-no_place slots = record { slot = None; size = 0; slots = slots }
+no_place slots = record { kept = None; slots = slots }
 
 abbrev pub no_answer : ℕ → SlotList → Outcome
 no_answer n slots = record { refusal = n; cached = 0; scanned = 0; length = 0; place = no_place slots }
 
 -- the state with the key and the length in the slot, if there is one
-abbrev pub placed_in : Option ℕ → State → Key → ℕ → SlotList → State
-placed_in (Some x) s key n slots = with_cache s slots (set s.keys x key) (set s.lengths x n)
-placed_in None s key n slots = with_cache s slots s.keys s.lengths
+abbrev pub placed_in : Option Kept → State → Key → SlotList → State
+placed_in (Some k) s key slots = with_cache s slots (set s.keys k.slot key) (set s.lengths k.slot k.size)
+placed_in None s key slots = with_cache s slots s.keys s.lengths
 
 abbrev pub placed : State → Key → Place → State
-placed s key p = placed_in p.slot s key p.size p.slots
+placed s key p = placed_in p.kept s key p.slots
 
 abbrev pub outcome_of : State → Key → Outcome → Asked
 outcome_of s key o = record { refusal = o.refusal; cached = o.cached; scanned = o.scanned; length = o.length; state = placed s key o.place }
@@ -74,7 +75,7 @@ abbrev pub takes : SlotList → ℕ → List ℕ → Bool
 takes slots bytes r = leb (length r) bytes && is_open slots
 
 abbrev pub taking : Taken → ℕ → Place
-taking t n = record { slot = Some t.slot; size = n; slots = t.slots }
+taking t n = record { kept = Some (record { slot = t.slot; size = n }); slots = t.slots }
 
 -- where a record is kept, and the memory then
 unfoldable pub place_of : SlotList → ℕ → List ℕ → Place
@@ -91,11 +92,10 @@ Effective refusal slots n table = refusal ≡ 0 → (sound_slots slots ≡ true)
 
 -- refused, it leaves the table and the slots as they are
 abbrev pub no_effect : Table → SlotList → Effect
-no_effect t slots = record { count = 0; rows = t.rows; oldest = t.oldest; slots = slots }
+no_effect t slots = record { done = unchanged t; slots = slots }
 
 -- done, of a table t whose area lies behind those of the tables before it
 unfoldable pub effect_of : List Table → List Key → SlotList → List Query → ℕ → Update → Table → List ℤ → List ℤ → Effect
 effect_of tables keys slots queries n u t cells us =
     let start = areas_of (take u.table tables) in
-    let c = change_of u t start cells us in
-    record { count = c.count; rows = c.rows; oldest = c.oldest; slots = drop_of slots (marks_both keys slots queries n u t start cells us) }
+    record { done = change_of u t start cells us; slots = drop_of slots (marks_both keys slots queries n u t start cells us) }

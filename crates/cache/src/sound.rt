@@ -29,19 +29,12 @@ pub fn counts_fit(tables: u8, queries: u8, updates: u8) -> bool
     (usize::from(tables) <= Table::TABLES) & few
 }
 
-// The cells of a table's area.
-fn area(table: &Table) -> usize
-    ensures { (result ≡ table.now.count * table.now.capacity) × (result ≤ 16711425) }
-{
-    usize::from(table.count) * usize::from(table.capacity)
-}
-
 // The cells of the areas of tables, one behind the other.
 pub fn areas(tables: &[Table]) -> usize
     requires { length tables.now ≤ 8 }
     ensures { result ≡ areas_of tables.now }
 {
-    tables.iter().map(area).sum()
+    tables.iter().map(Table::cells).sum()
 }
 
 // Whether a table holds no more rows than its ROWS, and the oldest lies where it may: first, or anywhere in a ring that is full.
@@ -63,10 +56,9 @@ pub fn rows_fit(tables: &[Table]) -> bool
 fn key_fits(queries: &[Query], key: &Key) -> bool
     ensures { result ≡ key_fits queries.now key.now }
 {
-    match queries.get(usize::from(key.query)) {
-        Some(query) => key.count == query.parameters,
-        None => false,
-    }
+    queries
+        .get(usize::from(key.query))
+        .is_some_and(|query| key.count == query.parameters)
 }
 
 // Whether a slot has such a key, and a length from 8 to the slot's bytes.
@@ -87,7 +79,7 @@ pub fn held_fit(state: &State) -> bool
     requires { state.now.query_count ≤ 16 }
     ensures { result ≡ all (slot_fits state.now) (held_slots state.now.slots) }
 {
-    let queries = lists::in_use(&state.queries, usize::from(state.query_count));
+    let queries = state.used_queries();
     state
         .slots
         .held_slots()

@@ -8,6 +8,7 @@ use borrow.Author.Tests.{eqb-true, ltb-true, ltb-false, leb-true}
 use lib.Dec.{leb, ltb, eqb}
 use lib.IntN.{ℤ, pos, negsuc, nat_abs}
 use lib.Signed.{lt_z}
+use Rattle.std.specs.Prelude.{Result, Ok, Err, is_err}
 use Rattle.std.specs.Simd.{first_chunks}
 use Rattle.std.specs.Int.{from_be_bytes}
 use mir.Syntax.{w32}
@@ -64,6 +65,17 @@ values-of (a ∷ b ∷ c ∷ []) = refl
 values-of (a ∷ b ∷ c ∷ d ∷ l) =
     let e : length (a ∷ b ∷ c ∷ d ∷ l) / 4 ≡ suc (length l / 4) = omega arith in
     ap (λ (k : ℕ). values_in (first_chunks 4 k (a ∷ b ∷ c ∷ d ∷ l))) e ∙ ap (λ (zs : List ℤ). number_of (four_at (a ∷ b ∷ c ∷ d ∷ []) 0) ∷ zs) (values-of l)
+
+-- ---- a result, by whether it is an error
+
+module _ {A E : Type 0} where
+  pub was_ok : (x : Result A E) → is_err x ≡ false → (a : A) × (x ≡ Ok a)
+  was_ok (Ok a) h = (a, refl)
+  was_ok (Err e) h = absurd (cc)
+
+  pub was_err : (x : Result A E) → is_err x ≡ true → (e : E) × (x ≡ Err e)
+  was_err (Ok a) h = absurd (cc)
+  was_err (Err e) h = (e, refl)
 
 -- ---- the rows of a record
 

@@ -15,6 +15,7 @@ pub use lines::{gather, read_line};
 pub use text::{write_added, write_answer, write_bad, write_flushed, write_refused, write_updated};
 
 // What a line says: for ASK and DO the statement's number, and how many values there are. The text of ADD is the line from byte Line::TEXT on.
+// A count and no slice: there is no heap, so the values stand in a buffer that the caller lends, and what a line says (`line_of`) is defined without one.
 #[derive(Clone, Copy)]
 pub enum Line {
     Add,
@@ -75,22 +76,21 @@ pub fn respond(
     }
 }
 
-// ---- each command, with what is lent to it
+// ---- each command, with what is lent to it. Four functions: what is lent and what is written differ in each, so one of the four would be the `match` of `respond` again.
+// State, cells, memory, answer and out stay parameters: a caller lends them, and a call that is lent two fields of a struct of `&mut` borrows gets no generated proof. Each
+// function would take the struct apart first, so their names would stand there as now. (`serve` has a struct that owns its arrays.)
 
 fn respond_add(state: State, cells: &[i32], memory: &[u8], text: &[u8], out: &mut [u8]) -> Reply
     ensures { replies result cells.now memory.now [] out.new ≡ reply_to state cells.now memory.now [] (add text.now) out.old }
 {
     let outcome = state.add(cells, memory, text);
-    let state = outcome.state;
-    match outcome.result {
-        Ok(added) => {
-            let length = write_added(out, added.kind, added.number);
-            Reply { length, state }
-        }
-        Err(refusal) => {
-            let length = write_refused(out, refusal);
-            Reply { length, state }
-        }
+    let length = match outcome.result {
+        Ok(added) => write_added(out, added.kind, added.number),
+        Err(refusal) => write_refused(out, refusal),
+    };
+    Reply {
+        length,
+        state: outcome.state,
     }
 }
 
@@ -106,17 +106,16 @@ fn respond_ask(
     ensures { replies result cells.now memory.new answer.new out.new ≡ reply_to state cells.now memory.old answer.old (ask number values.now answer.old) out.old }
 {
     let outcome = state.ask(cells, memory, number, values, answer);
-    let state = outcome.state;
-    match outcome.result {
+    let length = match outcome.result {
         Ok(asked) => {
             let record = &answer[..asked.length];
-            let length = write_answer(out, asked.source, asked.scanned, record);
-            Reply { length, state }
+            write_answer(out, asked.source, asked.scanned, record)
         }
-        Err(refusal) => {
-            let length = write_refused(out, refusal);
-            Reply { length, state }
-        }
+        Err(refusal) => write_refused(out, refusal),
+    };
+    Reply {
+        length,
+        state: outcome.state,
     }
 }
 
@@ -131,16 +130,13 @@ fn respond_do(
     ensures { replies result cells.new memory.now [] out.new ≡ reply_to state cells.old memory.now [] (update number values.now) out.old }
 {
     let outcome = state.update(cells, memory, number, values);
-    let state = outcome.state;
-    match outcome.result {
-        Ok(changed) => {
-            let length = write_updated(out, changed.rows, changed.invalidated);
-            Reply { length, state }
-        }
-        Err(refusal) => {
-            let length = write_refused(out, refusal);
-            Reply { length, state }
-        }
+    let length = match outcome.result {
+        Ok(changed) => write_updated(out, changed.rows, changed.invalidated),
+        Err(refusal) => write_refused(out, refusal),
+    };
+    Reply {
+        length,
+        state: outcome.state,
     }
 }
 
@@ -148,15 +144,12 @@ fn respond_flush(state: State, cells: &[i32], memory: &[u8], out: &mut [u8]) -> 
     ensures { replies result cells.now memory.now [] out.new ≡ reply_to state cells.now memory.now [] flush out.old }
 {
     let outcome = state.flush(cells, memory);
-    let state = outcome.state;
-    match outcome.result {
-        Ok(()) => {
-            let length = write_flushed(out);
-            Reply { length, state }
-        }
-        Err(refusal) => {
-            let length = write_refused(out, refusal);
-            Reply { length, state }
-        }
+    let length = match outcome.result {
+        Ok(()) => write_flushed(out),
+        Err(refusal) => write_refused(out, refusal),
+    };
+    Reply {
+        length,
+        state: outcome.state,
     }
 }

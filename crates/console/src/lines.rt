@@ -25,6 +25,8 @@ fn line_end(bytes: &[u8]) -> Option<usize>
 }
 
 // Puts the input's bytes from `from` on, up to the end of the line, behind the `held` bytes of `line`, as far as there is room: `held` is the place where they go.
+// `from`: the promise is for any place of a piece that is lent whole; `serve` lends the rest of a piece, so there it is 0. `line` and `held`: there is no heap, so a line
+// is gathered in a lent buffer over several calls, and the caller keeps the place.
 pub fn gather(input: &[u8], from: usize, line: &mut [u8], held: usize) -> Gathered
     ensures result { result ≡ gathered_of input.now from line.old held }
     ensures bytes { line.new ≡ filled line.old held (line_from input.now from) }

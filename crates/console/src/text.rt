@@ -15,7 +15,8 @@ use table::Refusal;
 // ---- pieces
 
 impl Writer<'_, u8> {
-    // A number's digits: those in front of the last, and the last. Not by `write!`: std says what that leaves only where it succeeds, and nowhere when it does.
+    // A number's digits: those in front of the last, and the last. (`as`: a digit fits, and u64 has no `From` to u8.)
+    // Not by `write!`: std says what that leaves only where it succeeds, and nowhere when it does.
     fn decimal(&mut self, n: u64)
         ensures { Puts self.old (decimal_text n) self.new }
     {
@@ -45,12 +46,12 @@ impl Writer<'_, u8> {
         }
     }
 
-    // The rows behind the first, each behind a stroke, up to the first that is not there.
+    // The rows behind the first, each behind a stroke, up to the first that is not there: `table` gives a row by its number.
     fn further(&mut self, bytes: &[u8])
         ensures { Puts self.old (further_text (rows_from bytes.now 1)) self.new }
     {
         for i in 1..Answer::ROWS {
-            if table::row_refusal(bytes, i) != 0 {
+            if table::check_row(bytes, i).is_err() {
                 return;
             }
             self.put_all(b" /");
@@ -61,7 +62,7 @@ impl Writer<'_, u8> {
     fn rows(&mut self, bytes: &[u8])
         ensures { Puts self.old (rows_text (rows_shown bytes.now)) self.new }
     {
-        if table::row_refusal(bytes, 0) == 0 {
+        if table::check_row(bytes, 0).is_ok() {
             self.row(table::row(bytes, 0));
             self.further(bytes);
         }

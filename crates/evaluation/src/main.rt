@@ -9,7 +9,7 @@ use std::io;
 use std::io::Write;
 use table::{Query, Selected, Statement, Table, Update};
 
-const CELLS: usize = 8192;
+const CELLS: u16 = 8192;
 
 #[derive(Drop)]
 struct Store {
@@ -21,11 +21,6 @@ struct Store {
     record: Vec<u8>,
 }
 
-// The cells of a table.
-fn area(table: &Table) -> usize {
-    usize::from(table.count) * usize::from(table.capacity)
-}
-
 impl Store {
     fn new(alloc: Global) -> Result<Self, AllocError> {
         Ok(Store {
@@ -33,7 +28,7 @@ impl Store {
             tables: Vec::new(alloc),
             queries: Vec::new(alloc),
             updates: Vec::new(alloc),
-            cells: vec![in alloc; 0; CELLS]?,
+            cells: vec![in alloc; 0; usize::from(CELLS)]?,
             record: vec![in alloc; 0; TABLE_RECORD]?,
         })
     }
@@ -42,15 +37,15 @@ impl Store {
     fn placed(&self, k: u8) -> Option<(Table, usize)> {
         let table = self.tables.get(usize::from(k)).copied()?;
         let before = self.tables.iter().take(usize::from(k));
-        let start = before.fold(0, |start: usize, table| start.saturating_add(area(table)));
+        let start = before.fold(0, |start: usize, table| start.saturating_add(table.cells()));
         Some((table, start))
     }
 
-    // Compiles a text, and adds what it comes to.
+    // Compiles a text, and adds what it comes to. A refusal is printed in words of this program: the library has no output form, and a `Display` would make it no shorter.
     fn add<W: Write>(&mut self, text: &[u8], out: &mut W) -> io::Result<()> {
         let (queries, updates) = (self.queries.len(), self.updates.len());
         let tables = self.tables.as_slice();
-        match script::compile(text, tables, queries, updates, CELLS as u32) {
+        match script::compile(text, tables, queries, updates, u32::from(CELLS)) {
             Err(refusal) => writeln!(out, "refused {}", refusal.number())?,
             Ok(Statement::Table(table)) => {
                 writeln!(out, "table {}", self.tables.len())?;
@@ -71,10 +66,10 @@ impl Store {
     // Lists the rows of a question's table, or of its two tables; nothing where a table is not there, or the record is too long.
     fn list(&mut self, query: Query, values: &[i32]) -> Option<Selected> {
         let (table, start) = self.placed(query.table)?;
-        if query.second == 0 {
+        let Some(second) = query.second_table() else {
             return table::select(query, table, start, &self.cells, values, &mut self.record).ok();
-        }
-        let (second, beside) = self.placed(query.second - 1)?;
+        };
+        let (second, beside) = self.placed(second)?;
         table::select_pair(
             query,
             table,

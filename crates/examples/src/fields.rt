@@ -1,4 +1,5 @@
 // A field of a state, changed by its name. The numbers say which entry and what it becomes; an entry past an array changes nothing.
+// Names are words of the script, one field each, so they are told apart by a `match` on bytes: an enum of them would be a second `match` and no plainer.
 use cache::State;
 use script::number;
 use slots::{Key, SlotList};

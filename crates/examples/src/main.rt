@@ -2,6 +2,8 @@
 // `OPEN cells memory slots bytes`, `ADD text`, `ASK number buffer v v ..`, `DO number v v ..` and `FLUSH` make a call and print what it gives. `LEND cells memory` says
 // how much the next calls are lent, `ROW i` shows a row of the last answer, and `SLOTS` prints the order of use. `SET field n ..` changes a field of the state, and
 // `SPOIL field n ..` prints what a flush gives on a state changed so. A line that starts with `#` is a comment. This program runs on a host and may use the heap.
+// It prints refusals, kinds and sources in words of its own: the library has no output form. A type with a `Display` would make `refused {}` no shorter, and a
+// `Display` of `Kind` or `Source` would serve this program alone, as `console` prints bytes.
 #![tactic(auto)]
 
 mod fields; // a field of the state, changed by its name
@@ -131,9 +133,9 @@ impl Store {
     // Row i of the last answer.
     fn print_row<W: Write>(&self, i: usize, out: &mut W) -> io::Result<()> {
         let answer = self.answer.lent();
-        match table::row_refusal(answer, i) {
-            0 => writeln!(out, "row :{}", Row(table::row(answer, i))),
-            refusal => writeln!(out, "refused {refusal}"),
+        match table::check_row(answer, i) {
+            Ok(()) => writeln!(out, "row :{}", Row(table::row(answer, i))),
+            Err(refusal) => writeln!(out, "refused {}", refusal.number()),
         }
     }
 

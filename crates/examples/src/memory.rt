@@ -1,7 +1,7 @@
 // A memory, and how much of it is lent.
 use std::alloc::{AllocError, Global};
 
-// The first items of a list are lent, as many as `length` says and there are.
+// The first items of a list are lent, as many as `length` says and there are. A length beside the list: what is not lent keeps its items.
 #[derive(Drop)]
 pub struct Memory<T> {
     items: Vec<T>,

@@ -91,11 +91,11 @@ module _ (g : M.Operand → Joint) where
       pub few : at ≤ n₀ + i
       pub sum : clause_at codes ops at ++ coded (map (renamed g) (select (drop i cs) left)) ≡ total
       pub narrow : All Sides (take i cs)
-      pub readable : All Readable codes
+      pub readable : All Readable codes₀ → All Readable codes
       pub marks_stay : drop 32 codes ≡ drop 32 codes₀
 
-    pub add_start : length codes₀ ≡ 40 → length ops₀ ≡ 16 → All Readable codes₀ → Adding codes₀ ops₀ n₀ mask 0
-    add_start h l r = record { codes_long = h; ops_long = l; few = omega arith; sum = refl; narrow = nil; readable = r; marks_stay = refl }
+    pub add_start : length codes₀ ≡ 40 → length ops₀ ≡ 16 → Adding codes₀ ops₀ n₀ mask 0
+    add_start h l = record { codes_long = h; ops_long = l; few = omega arith; sum = refl; narrow = nil; readable = λ r. r; marks_stay = refl }
 
     module _ (codes ops : List ℕ) (at left i : ℕ) (A : Adding codes ops at left i) (x : C.Comparison M.Operand) (h : i < length cs) (hx : get_or cs i x ≡ x) (n-few : n₀ ≤ 8) (i-few : i < 8)
         (a b o : ℕ) (ca : Coding (g x.left) a) (cb : Coding (g x.right) b) (eo : predicate_at o ≡ x.op) where
@@ -140,7 +140,7 @@ module _ (g : M.Operand → Joint) where
             ∙ sym (ap (λ (l : List (C.Comparison M.Operand)). clause_at codes ops at ++ coded (map (renamed g) (select l left))) next-is) ∙ A.sum;
         narrow = subst (All Sides) (sym (ap (λ (k : ℕ). take k cs) (add-one i) ∙ take-suc cs i x h ∙ ap (λ (y : C.Comparison M.Operand). take i cs ++ (y ∷ [])) hx))
             (All-append A.narrow (cons (ca.narrow, cb.narrow) nil));
-        readable = All-set (2 * at + 1) b (coding-readable (g x.right) b cb) (All-set (2 * at) a (coding-readable (g x.left) a ca) A.readable);
+        readable = λ r. All-set (2 * at + 1) b (coding-readable (g x.right) b cb) (All-set (2 * at) a (coding-readable (g x.left) a ca) (A.readable r));
         marks_stay = drop-set-lt 32 (set codes (2 * at) a) (2 * at + 1) b (omega (arith, A.few)) ∙ drop-set-lt 32 codes (2 * at) a (omega (arith, A.few)) ∙ A.marks_stay;
       }
 

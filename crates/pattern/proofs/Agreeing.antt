@@ -31,15 +31,15 @@ agrees-short (z ∷ qs) (e ∷ es) ne = ap (λ (b : Bool). agrees_at [] e z && b
     go true = refl
     go false = refl
 
--- a value beside its entry
-abbrev pub pair_agrees : ℤ × Entry → Bool
-pair_agrees p = agrees_at [] (entry_read p.1) p.0
+-- an entry beside its value
+abbrev pub pair_agrees : Entry × ℤ → Bool
+pair_agrees p = agrees_at [] (entry_read p.0) p.1
 
 -- the entries in use, beside the values
 pub other-count : (values : List ℤ) (entries : List Entry) → (length values ≡ length entries → ⊥) → false ≡ agrees [] values (map entry_read entries)
 other-count values entries ne = sym (agrees-short values (map entry_read entries) (λ q. ne (q ∙ length-map entries entry_read)))
 
-pub pairs-agree : (values : List ℤ) (entries : List Entry) → length values ≡ length entries → all pair_agrees (zip values entries) ≡ agrees [] values (map entry_read entries)
+pub pairs-agree : (values : List ℤ) (entries : List Entry) → length values ≡ length entries → all pair_agrees (zip entries values) ≡ agrees [] values (map entry_read entries)
 pairs-agree [] [] e = refl
 pairs-agree [] (y ∷ ys) e = absurd (omega arith)
 pairs-agree (x ∷ xs) [] e = absurd (omega arith)

@@ -16,7 +16,7 @@ use Rattle.pattern.specs.declared.Pattern.{Pattern}
 use Rattle.pattern.specs.declared.joint.Joined.{Joined}
 use Rattle.pattern.specs.Least.{asked_from, code_of, Coded, coded}
 use Rattle.pattern.specs.Stored.{entry_struct, pattern_struct, clause_pattern}
-use Rattle.pattern.specs.Flat.{clause_at, Narrow, Readable, coded_pattern, no_clause, Extended}
+use Rattle.pattern.specs.Flat.{clause_at, Narrow, Readable, Ready, coded_pattern, no_clause, Extended}
 use Rattle.pattern.proofs.OperandCodes.{Fits}
 use Rattle.pattern.proofs.Clauses.{least-pattern}
 
@@ -44,7 +44,7 @@ zeros : (n : ℕ) → All Readable (replicate n 0)
 zeros zero = nil
 zeros (suc n) = cons zero-readable (zeros n)
 
-pub none-readable : All Readable no_clause.codes
+none-readable : All Readable no_clause.codes
 none-readable = All-append (zeros 32) (All-image (λ (k : ℕ). asked_from + k) (All-every asked-readable (from 1 8)))
 
 -- a clause added to none; and another to it
@@ -55,10 +55,16 @@ module _ (a : Clause) (start r : Joined) (es : start ≡ no_clause) (E : Extende
   one-clause : clause_at r.codes r.ops r.count ≡ coded a
   one-clause = from-none.clause_is
 
+  pub one-ready : Ready r.codes r.count
+  one-ready = record { few = omega (arith, from-none.few); readable = from-none.readable none-readable; marks_there = from-none.marks_stay }
+
   pub one-pattern : (m : ℕ) → m ≤ 8 → coded_pattern m (clause_at r.codes r.ops r.count) ≡ clause_pattern m a
   one-pattern m h = ap (coded_pattern m) one-clause ∙ coded-pattern m h a E.narrow
 
   module _ (b : Clause) (s : Joined) (F : Extended r.codes r.ops r.count b s) where
+    pub two-ready : Ready s.codes s.count
+    two-ready = record { few = omega (arith, F.few, from-none.few); readable = F.readable (from-none.readable none-readable); marks_there = F.marks_stay ∙ from-none.marks_stay }
+
     pub two-pattern : (m : ℕ) → m ≤ 8 → coded_pattern m (clause_at s.codes s.ops s.count) ≡ clause_pattern m (a ++ b)
     two-pattern m h =
         ap (coded_pattern m) (F.clause_is ∙ ap (λ (l : Coded). l ++ coded b) one-clause ∙ sym (map-append (renamed code_of) a b))

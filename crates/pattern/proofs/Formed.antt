@@ -33,21 +33,11 @@ balanced-nodes (suc (suc k)) (suc (suc j) ∷ ss) cs = balanced-nodes (suc k) ss
 
 -- ---- a step
 
--- by whether it is a comparison or a join
-pub join-balanced : (d s : ℕ) (ss : List ℕ) → (s ≡ 0 → ⊥) → 2 ≤ d → balanced d (s ∷ ss) ≡ balanced (d - 1) ss
-join-balanced d zero ss ne h = absurd (ne refl)
-join-balanced zero (suc j) ss ne h = absurd (omega arith)
-join-balanced (suc zero) (suc j) ss ne h = absurd (omega arith)
-join-balanced (suc (suc k)) (suc j) ss ne h = let e : suc k ≡ suc (suc k) - 1 = omega arith in ap (λ (m : ℕ). balanced m ss) e
-
 pub join-fails : (d s : ℕ) (ss : List ℕ) → (s ≡ 0 → ⊥) → d < 2 → balanced d (s ∷ ss) ≡ false
 join-fails d zero ss ne h = absurd (ne refl)
 join-fails zero (suc j) ss ne h = refl
 join-fails (suc zero) (suc j) ss ne h = refl
 join-fails (suc (suc k)) (suc j) ss ne h = absurd (omega arith)
-
-pub push-balanced : (d s : ℕ) (ss : List ℕ) → s ≡ 0 → balanced d (s ∷ ss) ≡ balanced (d + 1) ss
-push-balanced d s ss e = ap (λ (k : ℕ). balanced d (k ∷ ss)) e ∙ ap (λ (m : ℕ). balanced m ss) (sym (add-one d))
 
 pub balanced-end : (d : ℕ) → balanced d [] ≡ eqb d 1
 balanced-end zero = refl

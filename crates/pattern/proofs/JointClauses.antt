@@ -30,7 +30,6 @@ use Rattle.pattern.specs.declared.joint.Role.{Role}
 use Rattle.pattern.specs.declared.joint.Role.TheVariants.{Given, Asked, Inserted, Set}
 use Rattle.pattern.specs.declared.pairing.Pairing.{Pairing}
 use Rattle.pattern.proofs.Mapped.{get_or-map-in}
-use Rattle.pattern.proofs.Formed.{formed-few}
 
 -- ---- clause k of each with each
 
@@ -238,8 +237,6 @@ module _ (q : Query) (u : Update) where
       record {
         query_masked = K;
         update_masked = L;
-        query_few = formed-few q.condition ef;
-        update_few = formed-few u.condition eg;
         total_is = total_joint;
         few = h;
       },

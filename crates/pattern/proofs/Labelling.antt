@@ -12,9 +12,9 @@ use lib.ListN.{length, get_or, take, drop, set, replicate, length-map, drop_of_l
 use lib.Seq.{drop-cons, get_or-take, paste, length-take-le}
 use Rattle.lists.specs.Lists.{All, any, from}
 use Rattle.lists.proofs.Bools.{or_assoc}
-use Rattle.lists.proofs.Lists.{All-map, All-image, any-map, map-take, map_same}
+use Rattle.lists.proofs.Lists.{map-drop, All-map, All-image, any-map, map-take, map_same}
 use Rattle.lists.proofs.Places.{All-at}
-use Rattle.lists.proofs.Moved.{from-count, from-below}
+use Rattle.lists.proofs.Moved.{take-from, from-count, from-below}
 use Rattle.meaning.specs.Operator.{eq, ne, lt, le, gt, ge, Predicate, by, is-null, is-not-null}
 use Rattle.meaning.specs.Condition.{Comparison, renamed}
 use Rattle.statement.specs.Compiled.{padded}
@@ -26,7 +26,7 @@ use Rattle.pattern.specs.Least.{asked_from, Coded, join_least, least_on, least, 
 use Rattle.pattern.specs.Stored.{entry_struct, pattern_struct}
 use Rattle.pattern.specs.Flat.{comparison_at, clause_at, failing, Readable, LabelsOf, entries_of, coded_pattern}
 use Rattle.pattern.proofs.Searching.{fill_more, fill_done}
-use Rattle.pattern.proofs.Mapped.{get_or-map-in, map-drop, drop-replicate, from_at, take-from}
+use Rattle.pattern.proofs.Mapped.{get_or-map-in, drop-replicate, from_at}
 
 -- ---- the comparisons of a clause
 
@@ -210,7 +210,7 @@ module _ (codes ops : List ℕ) (n marks : ℕ) where
     entries-are h e =
         let m : take marks (drop 32 labels) ≡ map (least whole) (map (λ (k : ℕ). asked_from + k) (from 1 marks)) =
         ap (λ (x : List ℕ). take marks (drop 32 x)) L.labels_are
-        ∙ ap (take marks) (map-drop (least whole) 32 codes ∙ ap (map (least whole)) e)
+        ∙ ap (take marks) (sym (map-drop (least whole) 32 codes) ∙ ap (map (least whole)) e)
         ∙ sym (map-take (least whole) marks (map (λ (k : ℕ). asked_from + k) (from 1 8)))
         ∙ ap (map (least whole)) (sym (map-take (λ (k : ℕ). asked_from + k) marks (from 1 8)) ∙ ap (map (λ (k : ℕ). asked_from + k)) (take-from 1 marks 8 h)) in
         ap (map entry_at) (m ∙ map-map (least whole) (λ (k : ℕ). asked_from + k) (from 1 marks))

@@ -1,12 +1,14 @@
 -- A loop that goes up a list and puts f x for each member x. Assumes nothing.
-use mathlib.Core.Path.{◌≡◌, refl, ap, ap₂, sym, ◌∙◌}
-use mathlib.Core.List.{List, [], ◌∷◌, ◌++◌, map, append-nil}
-use Prim.Native.Nat.{ℕ, zero, suc, ◌+◌, ◌-◌, ◌≤◌, ◌<◌}
+use mathlib.Core.Path.{◌≡◌, refl, ap, ap₂, sym, subst, ◌∙◌}
+use mathlib.Core.List.{List, [], ◌∷◌, ◌++◌, map}
+use Prim.Native.Nat.{ℕ, zero, suc, ◌+◌, ◌-◌, ◌<◌}
 use native.Mathlib.Nat.{le_of_suc-le-suc, not-suc-le-zero}
 use native.Mathlib.Numerals.{add-one}
 use native.Mathlib.Omega.{arith}
 use lib.ListN.{length, get_or, take, drop, set, replicate, length-map}
-use lib.Seq.{length-take-le, take-suc, drop-cons, append_snoc, set_at, get_or_at, drop-length, take-length}
+use lib.Seq.{length-take-le, take-suc, drop-cons, append_snoc, set_at, get_or_at}
+use denote.Param.Members.{Mut, Called}
+use Rattle.std.specs.Array.{IsFromFnResultFrom, IsFromFnResult}
 use Rattle.lists.specs.Lists.{from}
 use Rattle.lists.proofs.Lists.{map-append}
 
@@ -28,19 +30,32 @@ module _ {A : Type 0} (f : A → A) where
       ∙ rw (add-one, take-suc l j d h, drop-cons l j d h)
       (set_at (map f (take j l)) (get_or l j d) (drop (suc j) l) (f (get_or l j d)) j (done l j h) ∙ rw (map-append f (take j l) (get_or l j d ∷ [])) (sym (append_snoc (map f (take j l)) (f (get_or l j d)) (drop (suc j) l))))
 
-  pub mapped-all : (l : List A) (n : ℕ) → length l ≡ n → mapped l n ≡ map f l
-  mapped-all l n h = rw (← h, take-length, drop-length) (append-nil (map f l))
-
 -- a member of a mapped list, where there is one
 pub get_or-map-in : {A B : Type 0} (f : A → B) (l : List A) (i : ℕ) (d : A) (e : B) → i < length l → get_or (map f l) i e ≡ f (get_or l i d)
 get_or-map-in f [] i d e h = absurd (not-suc-le-zero h)
 get_or-map-in f (x ∷ xs) zero d e h = refl
 get_or-map-in f (x ∷ xs) (suc i) d e h = get_or-map-in f xs i d e (le_of_suc-le-suc h)
 
-pub map-drop : {A B : Type 0} (f : A → B) (n : ℕ) (l : List A) → drop n (map f l) ≡ map f (drop n l)
-map-drop f zero l = refl
-map-drop f (suc n) [] = refl
-map-drop f (suc n) (x ∷ l) = map-drop f n l
+-- a list that is f of another at each place
+pub map-placed : {A B : Type 0} (f : A → B) (xs : List A) (ys : List B) (d : A) (e : B) → length ys ≡ length xs → ((k : ℕ) → k < length xs → get_or ys k e ≡ f (get_or xs k d)) → ys ≡ map f xs
+map-placed f [] [] d e n h = refl
+map-placed f [] (y ∷ ys) d e n h = absurd (omega arith)
+map-placed f (x ∷ xs) [] d e n h = absurd (omega arith)
+map-placed f (x ∷ xs) (y ∷ ys) d e n h = ap₂ ◌∷◌ (h 0 (omega arith)) (map-placed f xs ys d e (omega arith) (λ k l. h (suc k) (omega arith)))
+
+-- what `from_fn` gives, where each call gives f of its number and keeps what holds of the closure
+module _ {F B : Type 0} (g : Mut F (ℕ × Unit {0}) B) (I : F → Type 0) (f : ℕ → B) (turn : (s : F) (j : ℕ) (y : B) (t : F) → I s → Called g s (j, tt) y t → (y ≡ f j) × I t) (ys : List B) (e : B) where
+  made-at : (s : F) (i n k : ℕ) → I s → IsFromFnResultFrom g s ys i n → k < n → get_or ys (i + k) e ≡ f (i + k)
+  made-at s i zero k h m l = absurd (not-suc-le-zero l)
+  made-at s i (suc n) zero h m l =
+      let z : i ≡ i + 0 = omega arith in
+      subst (λ (j : ℕ). get_or ys j e ≡ f j) z (m.2.1 e ∙ (turn s i m.1 m.0 h m.3).0)
+  made-at s i (suc n) (suc k) h m l =
+      let z : (i + 1) + k ≡ i + suc k = omega arith in
+      subst (λ (j : ℕ). get_or ys j e ≡ f j) z (made-at m.0 (i + 1) n k (turn s i m.1 m.0 h m.3).1 m.4 (le_of_suc-le-suc l))
+
+  pub made-is : (s : F) (n : ℕ) → I s → IsFromFnResult g s ys n → (k : ℕ) → k < n → get_or ys k e ≡ f k
+  made-is s n h m k l = let z : 0 + k ≡ k = omega arith in subst (λ (j : ℕ). get_or ys j e ≡ f j) z (made-at s 0 n k h m.each l)
 
 pub drop-replicate : {A : Type 0} (n m : ℕ) (a : A) → drop n (replicate m a) ≡ replicate (m - n) a
 drop-replicate zero m a = let e : m ≡ m - 0 = omega arith in ap (λ (k : ℕ). replicate k a) e
@@ -53,11 +68,6 @@ pub from_at : (i n k d : ℕ) → k < n → get_or (from i n) k d ≡ i + k
 from_at i zero k d h = absurd (not-suc-le-zero h)
 from_at i (suc n) zero d h = omega arith
 from_at i (suc n) (suc k) d h = from_at (suc i) n k d (le_of_suc-le-suc h) ∙ omega arith
-
-pub take-from : (i m n : ℕ) → m ≤ n → take m (from i n) ≡ from i m
-take-from i zero n h = refl
-take-from i (suc m) zero h = absurd (not-suc-le-zero h)
-take-from i (suc m) (suc n) h = ap (λ (l : List ℕ). i ∷ l) (take-from (suc i) m n (le_of_suc-le-suc h))
 
 pub from_last : (i n : ℕ) → from i (suc n) ≡ from i n ++ ((i + n) ∷ [])
 from_last i zero = let e : i ≡ i + 0 = omega arith in ap (λ (k : ℕ). k ∷ []) e

@@ -8,7 +8,7 @@ use native.Mathlib.Omega.{arith}
 use lib.Dec.{eqb}
 use lib.IntN.{pos}
 use borrow.Author.Tests.{eq-eqb, ne_eqb}
-use lib.ListN.{length, drop, get_or, length-map, drop_of_length-le}
+use lib.ListN.{length, drop, get_or, length-map}
 use lib.Seq.{drop-cons}
 use Rattle.meaning.specs.Statement as M
 use Rattle.meaning.specs.Pattern.{Joint, column, constant, asked, given, of_value, set_column, moved, placed_from, replacing}
@@ -24,10 +24,6 @@ use Rattle.pattern.proofs.Mapped.{get_or-map-in}
 
 pub column-coding : (i n : ℕ) → i < 512 → n ≡ columns_from + i → Coding (column i) n
 column-coding i n h e = record { is = e; narrow = h }
-
--- ---- by the code
-
--- ---- by the role
 
 -- ---- VALUES and SET
 
@@ -93,11 +89,6 @@ module _ (settings : List Setting) where
     coding = S.follows T.now_is T.coding;
     left = sym (ap (λ (l : List (ℕ × M.Value)). set_column (moved k l) j T.now_is) (ss-next i d h)) ∙ T.left;
   }
-
-  pub set-done : (k j code i : ℕ) → length settings ≤ i → Setting-on k j code i → Coding (replacing (moved k ss) j) code
-  set-done k j code i h T =
-      let none : drop i ss ≡ [] = let l : length ss ≤ i = omega (arith, length-map settings setting_read) in drop_of_length-le ss l in
-      subst (λ (x : Joint). Coding x code) (sym (ap (λ (l : List (ℕ × M.Value)). set_column (moved k l) j T.now_is) none) ∙ T.left) T.coding
 
 -- ---- their numbers can be read
 

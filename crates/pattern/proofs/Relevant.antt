@@ -1,6 +1,8 @@
 -- Rules 1 and 2: the columns that a query tests, by its comparisons; and the columns set, looked for in either order. Assumes nothing.
 use mathlib.Core.Path.{◌≡◌, refl, sym, ap, ap₂, ◌∙◌}
-use mathlib.Core.Bool.{Bool, true, false, ◌&&◌, ◌||◌, cond, or-false}
+use Rattle.std.specs.Prelude.{Some}
+use Rattle.std.specs.Option.{option_eq}
+use mathlib.Core.Bool.{Bool, true, false, ◌&&◌, ◌||◌, cond, or-false, false≢true}
 use mathlib.Core.List.{List, [], ◌∷◌, map}
 use Prim.Native.Nat.{ℕ, zero, suc, ◌+◌, ◌≤◌, min}
 use native.Mathlib.Decide.{dec_le}
@@ -11,7 +13,7 @@ use lib.ListN.{length, take, length-take}
 use lib.Seq.{take-nil, take-take, take_all}
 use Rattle.lists.specs.Lists.{any, keep, cons_if}
 use Rattle.lists.proofs.Bools.{or_assoc}
-use Rattle.lists.proofs.Lists.{any_append, any-map, map-take}
+use Rattle.lists.proofs.Lists.{All-every, any_append, any-map, any_same, map-take}
 use Rattle.meaning.specs.Condition as C
 use Rattle.meaning.specs.Condition.{sides}
 use Rattle.meaning.specs.Statement as M
@@ -23,6 +25,7 @@ use Rattle.statement.specs.declared.Query.{Query}
 use Rattle.statement.specs.declared.Setting.{Setting}
 use Rattle.statement.specs.declared.Update.{Update}
 use Rattle.statement.specs.Compiled.{new_value}
+use Rattle.statement.specs.Terms.{second_said}
 use Rattle.statement.specs.Sound.{value_read, comparison_read, nodes_read, used_comparisons, used_steps, condition_nodes, second_by, second_read, setting_read, settings_read}
 use Rattle.pattern.specs.Stored.{side_read, start_by, start_read, columns_used, touches, relevant}
 use Rattle.pattern.specs.Relevance.{is_read, is_among, names_any, tests_any, comparison_steps, sets_used}
@@ -107,10 +110,6 @@ module _ {A : Type 0} where
   any_none [] = refl
   any_none (x ∷ xs) = any_none xs
 
-  any_same : (p q : A → Bool) → ((x : A) → p x ≡ q x) → (xs : List A) → any p xs ≡ any q xs
-  any_same p q f [] = refl
-  any_same p q f (x ∷ xs) = ap₂ ◌||◌ (f x) (any_same p q f xs)
-
 module _ {A B : Type 0} where
   any_swap : (r : B → A → Bool) (ys : List B) (xs : List A) → any (λ (y : B). any (r y) xs) ys ≡ any (λ (x : A). any (λ (y : B). r y x) ys) xs
   any_swap r [] xs = sym (any_none xs)
@@ -135,7 +134,7 @@ module _ (q : Query) (u : Update) (start : ℕ) (columns : List ℕ) (e : column
   unfolding sets_used
   sets-used =
       any_swap (λ (s : ℕ × M.Value) (i : ℕ). eqb s.0 i) (moved start (settings_read u)) (columns_used q)
-      ∙ any_same (λ (i : ℕ). any (λ (s : ℕ × M.Value). eqb s.0 i) (moved start (settings_read u))) (is_among columns) set_is (columns_used q)
+      ∙ any_same (All-every set_is (columns_used q))
 
   abbrev tested : List M.Operand
   tested = sides (leaves (condition_nodes q.condition))
@@ -163,6 +162,18 @@ eqb-suc m t = go (eqb m t) refl
     go : (b : Bool) → eqb m t ≡ b → b ≡ eqb (suc m) (t + 1)
     go true e = sym (eq-eqb (suc m) (t + 1) (omega (arith, eqb-true m t e)))
     go false e = sym (ne_eqb (suc m) (t + 1) (λ d. eqb-false m t e (omega arith)))
+
+-- the second table is that one exactly if it is given by that number and 1
+abbrev is_second : ℕ → ℕ → Bool
+is_second m t = option_eq eqb (second_said m) (Some t)
+
+pub second-yes : (m t : ℕ) → is_second m t ≡ true → m ≡ t + 1
+second-yes zero t h = absurd (false≢true h)
+second-yes (suc k) t h = omega (arith, eqb-true k t h)
+
+pub second-no : (m t : ℕ) → is_second m t ≡ false → m ≡ t + 1 → ⊥
+second-no zero t h e = absurd (omega arith)
+second-no (suc k) t h e = eqb-false k t h (omega arith)
 
 module _ (q : Query) (u : Update) where
   pub read_is : is_side (side_read q u) ≡ is_read q.table q.second u.table

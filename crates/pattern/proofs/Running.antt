@@ -8,7 +8,7 @@ use native.Mathlib.Omega.{arith}
 use lib.ListN.{length, take, drop, get_or, length-map, length-take, length-drop, drop_of_length-le}
 use lib.Seq.{drop-cons}
 use Rattle.lists.specs.Lists.{pairs}
-use Rattle.lists.proofs.Lists.{map-append}
+use Rattle.lists.proofs.Lists.{map-drop, map-append}
 use Rattle.meaning.specs.Condition as C
 use Rattle.meaning.specs.Statement as M
 use Rattle.meaning.specs.Postfix.{top, run_on, clauses_of_nodes}
@@ -23,7 +23,6 @@ use Rattle.pattern.specs.Masks.{select, sums, balanced, no_stack, stepped_of, St
 use Rattle.pattern.proofs.Selecting.{select-one, and-clauses, most-18}
 use Rattle.pattern.proofs.Stacking.{Stacked, stacked-few, stacked-push, stacked-either, stacked-both, upper, Holds, pushes, push-holds, joins, either-holds, both-holds}
 use Rattle.pattern.proofs.Formed.{balanced-few, steps-length, steps_next}
-use Rattle.pattern.proofs.Mapped.{map-drop}
 
 -- ---- the clauses of a stack
 
@@ -115,7 +114,7 @@ module _ (c : Condition) where
         let d : s.depth < 8 = omega (arith, shallow) in
         let x : C.Comparison M.Operand = comparison_read (get_or used q none_such) in
         let one : select (comparisons_read c) (2 ^ q) ≡ x ∷ [] =
-        select-one (comparisons_read c) q x (map comparison_read (drop (q + 1) used)) (map-drop comparison_read q used ∙ ap (map comparison_read) (next-is e)) in
+        select-one (comparisons_read c) q x (map comparison_read (drop (q + 1) used)) (sym (map-drop comparison_read q used) ∙ ap (map comparison_read) (next-is e)) in
         record {
           stack = (2 ^ q ∷ []) ∷ st;
           next = q + 1;

@@ -5,8 +5,8 @@ use Prim.Native.Nat.{ℕ, suc, ◌+◌, ◌*◌, ◌≤◌, ◌<◌}
 use native.Mathlib.Nat.{zero-mul, suc-mul, mul-le-mul_right}
 use native.Mathlib.Numerals.{add-one}
 use native.Mathlib.Omega.{arith}
-use lib.ListN.{length, take, drop, get_or, set, length-append, length-map, get_or-map}
-use lib.Seq.{take-suc, take_all, length-take-le, paste}
+use lib.ListN.{length, take, get_or, set, length-append, length-map, get_or-map}
+use lib.Seq.{take-suc, length-take-le, paste}
 use Rattle.lists.specs.Lists.{All, written}
 use Rattle.lists.proofs.Places.{All-at}
 use Rattle.lists.proofs.Written.{written-append, length-written}
@@ -26,11 +26,6 @@ module _ (out : List ℕ) (at a : ℕ) (bs : List ℕ) (room : at + length bs �
   row_more j next h e =
       let l : j < length row = omega (arith, row-length) in
       pasted out at row j (a + 0) next (at + j) (a + get_or bs j 0) (omega (arith, row-length)) l e refl (sym (get_or-map (λ (b : ℕ). a + b) bs j 0))
-
-  pub row_done : (j : ℕ) (next : List ℕ) → j ≡ length bs → next ≡ paste out at row j → next ≡ written out at row
-  row_done j next q e =
-      let k : j ≡ length row = omega (arith, row-length) in
-      e ∙ ap (paste out at row) k ∙ ap (λ (r : List ℕ). take at out ++ r ++ drop (at + length row) out) (take_all (length row) row (omega arith))
 
 -- ---- all rows
 
@@ -86,9 +81,6 @@ module _ (masks : List ℕ) (start : ℕ) (ls rs : List ℕ) where
               ∙ written-append masks start (sums (take i ls) rs) f row
               ∙ ap (written masks start) s;
         }
-
-    pub rows-done : (next : List ℕ) (at i : ℕ) → length ls ≤ i → Rows next at i → next ≡ written masks start (sums ls rs)
-    rows-done next at i h R = R.rows_are ∙ ap (λ (xs : List ℕ). written masks start (sums xs rs)) (take_all i ls h)
 
     -- each sum of the next row fits
     pub rows_fit : (i m : ℕ) → i < length ls → m ≡ get_or ls i 0 → All (λ (a : ℕ). All (λ (b : ℕ). a + b < 256) rs) ls → All (λ (b : ℕ). m + b < 256) rs

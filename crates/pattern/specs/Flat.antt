@@ -127,5 +127,5 @@ pub record Extended (codes ops : List ℕ) (n : ℕ) (added : Clause) (r : Joine
   pub clause_is : clause_at r.codes r.ops r.count ≡ clause_at codes ops n ++ coded added
   pub narrow : All Narrow (sides added)
   pub few : r.count ≤ n + 8
-  pub readable : All Readable r.codes
+  pub readable : All Readable codes → All Readable r.codes
   pub marks_stay : drop 32 r.codes ≡ drop 32 codes

@@ -1,12 +1,12 @@
 -- The clauses of a stored condition as masks: bit j of a mask says that comparison j, in the text's order, is in the clause. What the code of module `masks` holds
 -- and does; proofs/Running shows that these are the clauses of rule 4. Assumes nothing: these are definitions.
-use Rattle.std.specs.Prelude.{◌≡◌, Bool, true, false, List, [], ◌∷◌, ◌++◌, map, ℕ, zero, suc, ◌+◌, ◌-◌, ◌*◌, ◌/◌, ◌%◌, ◌≤◌, ◌<◌, eqb, length, take, drop, get_or, set, replicate}
+use Rattle.std.specs.Prelude.{Option, Some, None, ◌≡◌, Bool, true, false, List, [], ◌∷◌, ◌++◌, map, ℕ, zero, suc, ◌+◌, ◌-◌, ◌*◌, ◌/◌, ◌%◌, ◌≤◌, ◌<◌, eqb, length, take, drop, get_or, set, replicate}
 use Rattle.lists.specs.Lists.{All, cons_if, written}
 use Rattle.meaning.specs.Condition as C
 use Rattle.meaning.specs.Statement as M
 use Rattle.statement.specs.declared.Condition.{Condition}
 use Rattle.statement.specs.Sound.{comparison_read, used_comparisons}
-use Rattle.pattern.specs.Stored.{clauses_read}
+use Rattle.pattern.specs.Stored.{clauses_read, is_formed}
 use Rattle.pattern.specs.declared.masks.Clauses.{Clauses}
 use Rattle.pattern.specs.declared.masks.Stack.{Stack}
 
@@ -115,3 +115,8 @@ pub record Masked (c : Condition) (r : Clauses) : Type 0 where
   pub long : length r.masks ≡ 18
   pub counted : length (clauses_read c) ≡ r.count
   pub clauses_are : clauses_read c ≡ map (select (comparisons_read c)) (take r.count r.masks)
+
+-- there are none, where no text compiles to the condition
+abbrev pub MasksOf : Condition → Option Clauses → Type 0
+MasksOf c None = is_formed c ≡ false
+MasksOf c (Some r) = (is_formed c ≡ true) × Masked c r

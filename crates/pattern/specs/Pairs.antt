@@ -30,8 +30,6 @@ pair_at role k q u i = get_or (pairs (update_clauses k u) (role_clauses role k q
 pub record Worked (q : Query) (u : Update) (p : Pairing) : Type 0 where
   pub query_masked : Masked q.condition p.query
   pub update_masked : Masked u.condition p.update
-  pub query_few : q.condition.count ≤ 8
-  pub update_few : u.condition.count ≤ 8
   pub total_is : p.total ≡ length (joint q u)
   pub few : p.total ≤ 64
 

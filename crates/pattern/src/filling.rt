@@ -1,33 +1,19 @@
 // Patterns with the update's values, beside the values of a key.
-ghost use Rattle.std.specs.Prelude.{◌≡◌, [], map};
+ghost use Rattle.std.specs.Prelude.{◌≡◌, []};
 ghost use Rattle.meaning.specs.Pattern.{agrees_at};
 ghost use Rattle.pattern.specs.Stored.{filled_entry, entry_read};
 
-use super::{Entry, Pattern};
+use super::Entry;
 
-// An entry with the update's values: a parameter becomes its value, 0 past the values.
+// An entry with the update's values: a parameter becomes its value, 0 past the values. (`table` has a name for that look-up, `number_or`, which is private to it;
+// it is one expression of the library's.)
 pub fn filled(entry: Entry, values: &[i32]) -> Entry
     ensures { result ≡ filled_entry values.now entry }
 {
     match entry {
         Entry::Constant(z) => Entry::Constant(z),
-        Entry::Parameter(k) => {
-            let i = usize::from(k);
-            if i < values.len() {
-                return Entry::Constant(values[i]);
-            }
-            Entry::Constant(0)
-        }
+        Entry::Parameter(k) => { Entry::Constant(values.get(usize::from(k)).copied().unwrap_or(0)) }
         Entry::Any => Entry::Any,
-    }
-}
-
-// Fills the entries of a pattern.
-pub fn fill(entries: &mut [Entry; Pattern::ENTRIES], values: &[i32])
-    ensures { entries.new ≡ map (filled_entry values.now) entries.old }
-{
-    for entry in entries.iter_mut() {
-        *entry = filled(*entry, values);
     }
 }
 

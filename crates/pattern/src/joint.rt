@@ -9,11 +9,11 @@ ghost use Rattle.pattern.specs.Least.{constant_code};
 ghost use Rattle.pattern.specs.Flat.{column_of, operand_of, values_of, Coding, Readable, chosen_of, no_clause, Extended, SetOnce, mark_of};
 
 use super::Pattern;
-use lists::in_use;
 use std::array;
 use table::{Condition, Given, Operand, Setting, Term, Value};
 
 // Whose an operand is: the update's, the query's, the query's with columns as INSERT or UPDATE gives them.
+// (An enum and no closures: the role says at once what a column and what a question mark becomes, and the contracts name it.)
 #[derive(Clone, Copy, PartialEq, Eq)]
 pub enum Role {
     Given,
@@ -31,7 +31,8 @@ pub struct Reading<'a> {
 }
 
 // A clause of `count` comparisons: their operators, and their sides as numbers, two a comparison; the query's question marks stand behind the sides.
-// (Arrays and a count: there is no heap. Sides and question marks are one array, so that a label is renamed in one pass.)
+// (Arrays and a count: there is no heap. Sides and question marks are one array, so that a label is renamed in one pass; and they are numbers and no enum, so that the
+// least operand of a class is the least number.)
 #[derive(Clone, Copy)]
 pub struct Joined {
     pub codes: [u64; Joined::OPERANDS],
@@ -55,15 +56,14 @@ impl Joined {
 
     pub const FROM_COLUMNS: u64 = 4295098368;
 
-    // The number of the constant 0; of the null constant, the least of all.
-    pub const ZERO: u64 = 2147483648;
-
+    // The number of the null constant, the least of all: constants are counted from it.
     pub const NULL: u64 = 0;
 
     // No comparison yet.
     pub fn empty() -> Joined
         ensures { result ≡ no_clause }
     {
+        // (`as`: there is no `From` of a length.)
         let marks: [u64; Pattern::ENTRIES] = array::from_fn(|k| Joined::FROM_ASKED
             + (k as u64)
             + 1);
@@ -76,13 +76,14 @@ impl Joined {
         }
     }
 
-    // Adds the comparisons of a condition that a mask selects. (Each is written behind the others; the next takes its place where it is not selected.)
+    // Adds the comparisons of a condition that a mask selects. (A count by hand: there is no heap to collect into. Each is written behind the others,
+    // and the next takes its place where it is not selected, so there is no branch.)
     pub fn add(&mut self, condition: &Condition, mask: u8, reading: Reading)
-        requires { (self.old.count ≤ 8) × (condition.now.count ≤ 8) × All Readable self.old.codes }
+        requires { self.old.count ≤ 8 }
         ensures { Extended self.old.codes self.old.ops self.old.count (chosen_of reading.entry.role reading.entry.from (map setting_read reading.entry.settings.now) condition.now mask) self.new }
     {
         let mut left = mask;
-        for c in in_use(&condition.comparisons, usize::from(condition.count)) {
+        for c in condition.used() {
             let at = self.count;
             self.codes[2 * at] = reading.operand(c.left_side());
             self.codes[2 * at + 1] = reading.operand(c.right_side());
@@ -95,12 +96,11 @@ impl Joined {
 
 // ---- operands
 
-// A constant's number. (2 to the 32 is added at 64 bits, so that nothing is negative.)
+// A constant's number.
 fn constant_code(z: i32) -> u64
     ensures { (result ≡ constant_code z) × (is_within32 z ≡ true) }
 {
-    let w = i64::from(z) + 4294967296;
-    (w as u64) - Joined::ZERO
+    u64::from(z.abs_diff(i32::MIN))
 }
 
 // What VALUES or SET gives.
@@ -128,10 +128,9 @@ impl Reading<'_> {
     fn inserted(self, column: u8) -> u64
         ensures { Coding (replacing (placed_from self.entry.from (values_of (map setting_read self.entry.settings.now))) column) result }
     {
-        if self.from <= column {
-            let i = usize::from(column - self.from);
-            if i < self.settings.len() {
-                return value_code(self.settings[i].new_value());
+        if let Some(i) = column.checked_sub(self.from) {
+            if let Some(item) = self.settings.get(usize::from(i)) {
+                return value_code(item.new_value());
             }
         }
         Joined::FROM_COLUMNS + u64::from(column)

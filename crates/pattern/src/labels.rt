@@ -1,6 +1,6 @@
 // The classes of a joint clause (rules 6 and 7): operands are numbers, constants the lowest, then the update's parameters, then all others; each class is labelled by its
 // least operand, which says what a question mark of the class becomes.
-ghost use Rattle.std.specs.Prelude.{◌≡◌, ◌||◌, map, ◌+◌, ◌*◌, ◌≤◌, ◌<◌, min, max, length};
+ghost use Rattle.std.specs.Prelude.{◌≡◌, ◌||◌, map, ◌+◌, ◌*◌, ◌≤◌, ◌<◌, min, max, length, get_or};
 ghost use Rattle.lists.specs.Lists.{All, any};
 ghost use Rattle.meaning.specs.Operator.{truth};
 ghost use Rattle.meaning.specs.Pattern.{strict as strict_of};
@@ -11,7 +11,6 @@ ghost use Rattle.pattern.specs.Flat.{is_join, failing, clause_at, Readable, Read
 
 use super::joint::Joined;
 use super::{Entry, Pattern};
-use std::cmp::Ordering;
 use table::{Comparison, Order};
 
 // ---- labels
@@ -22,7 +21,8 @@ fn renamed(from: u64, to: u64, x: u64) -> u64
     if x == from { to } else { x }
 }
 
-// Every label `from` becomes `to`.
+// Every label `from` becomes `to`. (`table` has the same loop over bytes: one for both would promise by the type's own `==` what each promises by its numbers, and each caller
+// would show that they are the same.)
 fn relabel(labels: &mut [u64; Joined::OPERANDS], from: u64, to: u64)
     ensures { labels.new ≡ map (rename_code from to) labels.old }
 {
@@ -48,21 +48,31 @@ fn strict(op: u8) -> bool
     (op != Comparison::IS_NULL) & !Comparison::truth(op, Order::Equal)
 }
 
-// How two constants stand, by their numbers.
+// How two constants stand, by their numbers. (`table` does so with values, of another type and with another null; what the two share is `Order::from`.)
 fn order(a: u64, b: u64) -> Order
     ensures { result ≡ order_of (code_constant a) (code_constant b) }
 {
     if a.min(b) == Joined::NULL {
         return Order::Unknown;
     }
-    match a.cmp(&b) {
-        Ordering::Less => Order::Less,
-        Ordering::Equal => Order::Equal,
-        Ordering::Greater => Order::Greater,
-    }
+    Order::from(a.cmp(&b))
 }
 
 impl Compared {
+    // Comparison i, by this operator: its sides are labels 2 i and 2 i + 1.
+    fn at(labels: &[u64; Joined::OPERANDS], op: u8, i: usize) -> Compared
+        requires { i < 16 }
+        ensures op { result.op ≡ op }
+        ensures left { result.left ≡ get_or labels.now (2 * i) 0 }
+        ensures right { result.right ≡ get_or labels.now (2 * i + 1) 0 }
+    {
+        Compared {
+            op,
+            left: labels[2 * i],
+            right: labels[2 * i + 1],
+        }
+    }
+
     // Whether it is by `=`.
     fn joins(self) -> bool
         ensures { result ≡ is_join (predicate_at self.op) }
@@ -123,17 +133,13 @@ impl Compared {
 
 // The labels of the operands of a clause, unless two different constants are in one class.
 fn label_all(clause: &Joined) -> Option<[u64; Joined::OPERANDS]>
-    requires { (clause.now.count ≤ 16) × All Readable clause.now.codes }
+    requires { Ready clause.now.codes clause.now.count }
     ensures { Labelled clause.now.codes clause.now.ops clause.now.count result }
 {
     let mut labels = clause.codes;
     // An index loop: a turn reads two of the labels that it then changes.
     for i in 0..clause.count {
-        let comparison = Compared {
-            op: clause.ops[i],
-            left: labels[2 * i],
-            right: labels[2 * i + 1],
-        };
+        let comparison = Compared::at(&labels, clause.ops[i], i);
         if comparison.clashes() {
             return None;
         }
@@ -142,17 +148,13 @@ fn label_all(clause: &Joined) -> Option<[u64; Joined::OPERANDS]>
     Some(labels)
 }
 
-// Whether some comparison by these numbers cannot hold of its sides' labels.
+// Whether some comparison by these numbers cannot hold of its sides' labels. (By number: the sides of comparison i are labels 2 i and 2 i + 1.)
 fn some_fails(labels: &[u64; Joined::OPERANDS], ops: &[u8]) -> bool
     requires { length ops.now ≤ 16 }
     ensures { result ≡ any failing (clause_at labels.now ops.now (length ops.now)) }
 {
     for (i, op) in ops.iter().enumerate() {
-        let comparison = Compared {
-            op: *op,
-            left: labels[2 * i],
-            right: labels[2 * i + 1],
-        };
+        let comparison = Compared::at(labels, *op, i);
         if comparison.fails() {
             return true;
         }
@@ -167,7 +169,7 @@ fn constant_of(code: u64) -> i32
     requires { code < 4294967296 }
     ensures { result ≡ code_constant code }
 {
-    ((code as i64) - (Joined::ZERO as i64)) as i32
+    ((code as i64) + i64::from(i32::MIN)) as i32
 }
 
 // What a label says of a question mark.
@@ -184,7 +186,8 @@ fn entry_of(code: u64) -> Entry
     Entry::Any
 }
 
-// The entries of question marks, by their labels.
+// The entries of question marks, by their labels. (`statement` has this loop for any type in `placed`, which asks of its closure what it makes, so it can't be public.
+// By number: with `iter_mut` and `zip` the proof is about the borrow of each place.)
 fn entries_of(labels: &[u64]) -> [Entry; Pattern::ENTRIES]
     requires { (length labels.now ≤ 8) × All Readable labels.now }
     ensures { result ≡ entries_of labels.now }

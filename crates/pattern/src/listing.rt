@@ -7,7 +7,8 @@ ghost use Rattle.pattern.specs.Stored.{entry_read, same_struct, no_patterns, wit
 
 use super::{Entry, Pattern, Patterns};
 
-// Whether two patterns have the same entries, those past the count as well: what `==` of the arrays says, in the words of specs.
+// Whether two patterns have the same entries, those past the count as well. (No `PartialEq` on `Pattern`, with `contains` below: what is promised leaves `count` out, and `==`
+// would look at it too.)
 fn same(a: &Pattern, b: &Pattern) -> bool
     ensures { result ≡ same_struct a.now b.now }
 {

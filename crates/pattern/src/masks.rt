@@ -2,9 +2,8 @@
 ghost use Rattle.std.specs.Prelude.{◌≡◌, true, map, ◌+◌, ◌*◌, ◌≤◌, ◌<◌, length};
 ghost use Rattle.lists.specs.Lists.{All, written};
 ghost use Rattle.pattern.specs.Stored.{is_formed};
-ghost use Rattle.pattern.specs.Masks.{sums, no_stack, pushed_of, either_of, both_of, stepped_of, Pushes, Joins, Steps, Masked};
+ghost use Rattle.pattern.specs.Masks.{sums, no_stack, pushed_of, either_of, both_of, stepped_of, Pushes, Joins, Steps, MasksOf};
 
-use lists::in_use;
 use table::{Condition, Step};
 
 // The masks of a condition's clauses, the first `count`. (An array and a count: there is no heap.)
@@ -30,18 +29,20 @@ pub struct Stack {
 }
 
 // Whether a condition may come from a text: few enough comparisons, each AND and OR finds two values, and one value is left.
-pub fn is_formed(condition: &Condition) -> bool
-    ensures { result ≡ is_formed condition.now }
+// (`soundness` has another test, `steps_are_sound`, which refuses a step of no kind: here that is an OR, since every condition has patterns.)
+fn is_formed(condition: &Condition) -> bool
+    ensures formed { result ≡ is_formed condition.now }
+    ensures size { length condition.now.comparisons ≡ 8 }
 {
-    let n = usize::from(condition.count);
-    if Condition::COMPARISONS < n {
+    let comparisons = condition.used();
+    if comparisons.len() < usize::from(condition.count) {
         return false;
     }
-    if n == 0 {
+    if comparisons.is_empty() {
         return true;
     }
     let mut depth: usize = 0;
-    for step in in_use(&condition.steps, 2 * n - 1) {
+    for step in condition.used_steps() {
         if *step == Step::COMPARISON {
             depth += 1;
         } else {
@@ -54,7 +55,7 @@ pub fn is_formed(condition: &Condition) -> bool
     depth == 1
 }
 
-// Puts the sums of a mask and each of other masks at a place.
+// Puts the sums of a mask and each of other masks at a place. (By number: with `iter_mut` and `zip` the proof is about the borrow of each place.)
 fn put_sums(out: &mut [u8; Clauses::MOST], at: usize, mask: u8, masks: &[u8])
     requires { (at + length masks.now ≤ 18) × (length out.old ≡ 18) × All (λ b. mask + b < 256) masks.now }
     ensures { out.new ≡ written out.old at (map (λ b. mask + b) masks.now) }
@@ -64,7 +65,8 @@ fn put_sums(out: &mut [u8; Clauses::MOST], at: usize, mask: u8, masks: &[u8])
     }
 }
 
-// Puts at a place each sum of a mask of the first and one of the second.
+// Puts at a place each sum of a mask of the first and one of the second. (`at` and no chunks: `chunks_exact_mut` fails for length 0, and no premise says that
+// the second has a mask.)
 fn put_products(out: &mut [u8; Clauses::MOST], start: usize, lefts: &[u8], rights: &[u8])
     requires { (start + length lefts.now * length rights.now ≤ 18) × (length out.old ≡ 18) × All (λ a. All (λ b. a + b < 256) rights.now) lefts.now }
     ensures { out.new ≡ written out.old start (sums lefts.now rights.now) }
@@ -147,25 +149,25 @@ impl Stack {
     }
 }
 
-// The clauses of a condition that may come from a text.
-pub fn masks_of(condition: &Condition) -> Clauses
-    requires { is_formed condition.now ≡ true }
-    ensures { Masked condition.now result }
+// The clauses of a condition, if it may come from a text.
+pub fn masks_of(condition: &Condition) -> Option<Clauses>
+    ensures { MasksOf condition.now result }
 {
-    let comparisons = in_use(&condition.comparisons, usize::from(condition.count));
-    let n = comparisons.len();
-    if n == 0 {
-        return Clauses {
+    if !is_formed(condition) {
+        return None;
+    }
+    if condition.count == 0 {
+        return Some(Clauses {
             masks: [0; Clauses::MOST],
             count: 1,
-        };
+        });
     }
     let mut s = Stack::empty();
-    for step in in_use(&condition.steps, 2 * n - 1) {
+    for step in condition.used_steps() {
         s.step(*step);
     }
-    Clauses {
+    Some(Clauses {
         masks: s.masks,
         count: s.total as u8,
-    }
+    })
 }

@@ -3,15 +3,14 @@ ghost use Rattle.std.specs.Prelude.{◌≡◌, true, [], ◌++◌, ◌*◌, ◌�
 ghost use Rattle.meaning.specs.Pattern.{anything};
 ghost use Rattle.statement.specs.Sound.{settings_read};
 ghost use Rattle.pattern.specs.Stored.{entry_count, pattern_struct, clause_pattern, joint as joint_of};
-ghost use Rattle.lists.specs.Lists.{All};
-ghost use Rattle.pattern.specs.Flat.{chosen_of, Extended, Readable};
+ghost use Rattle.pattern.specs.Flat.{chosen_of, Extended};
 ghost use Rattle.pattern.specs.declared.joint.Role.TheVariants.{Given, Inserted};
 ghost use Rattle.pattern.specs.Pairs.{total_of, pair_at, Worked, Paired};
 
 use super::joint::{Joined, Reading, Role};
 use super::masks::Clauses;
-use super::{Entry, Pattern, Patterns, labels, masks, relevance};
-use lists::in_use;
+use super::relevance::Pair;
+use super::{Entry, Pattern, Patterns, labels, masks};
 use table::{Condition, Query, Update};
 
 // The clauses of both conditions, and how many joint clauses they make.
@@ -37,31 +36,6 @@ fn total_of(form: u8, f: u8, g: u8) -> u16
     product
 }
 
-// The clauses of a query and an update, and how many joint clauses they make; none where these are not worked out.
-pub fn paired(query: &Query, update: &Update) -> Option<Pairing>
-    ensures { Paired query.now update.now result }
-{
-    let asked = &query.condition;
-    let given = &update.condition;
-    if !masks::is_formed(asked) {
-        return None;
-    }
-    if !masks::is_formed(given) {
-        return None;
-    }
-    let f = masks::masks_of(asked);
-    let g = masks::masks_of(given);
-    let total = total_of(update.form, f.count, g.count);
-    if (Patterns::CLAUSES as u16) < total {
-        return None;
-    }
-    Some(Pairing {
-        query: f,
-        update: g,
-        total,
-    })
-}
-
 // How many entries a pattern of the query has.
 fn entry_count(query: &Query) -> u8
     ensures { result ≡ entry_count query.now }
@@ -79,32 +53,39 @@ pub fn all_any(query: &Query) -> Pattern
     }
 }
 
-// A query and an update, and how many columns of the query stand before those of the updated table (A.1).
-#[derive(Clone, Copy)]
-struct Pair<'a> {
-    query: &'a Query,
-    update: &'a Update,
-    from: u8,
-}
-
 impl Pair<'_> {
+    // The clauses of both, and how many joint clauses they make; none where these are not worked out.
+    pub fn pairing(self) -> Option<Pairing>
+        ensures { Paired self.entry.query.now self.entry.update.now result }
+    {
+        let query = masks::masks_of(&self.query.condition)?;
+        let update = masks::masks_of(&self.update.condition)?;
+        let total = total_of(self.update.form, query.count, update.count);
+        if (Patterns::CLAUSES as u16) < total {
+            return None;
+        }
+        Some(Pairing {
+            query,
+            update,
+            total,
+        })
+    }
+
     // Adds the comparisons of a condition that a mask selects, its operands in a role.
     fn add(self, clause: &mut Joined, condition: &Condition, mask: u8, role: Role)
-        requires { (clause.old.count ≤ 8) × (condition.now.count ≤ 8) × All Readable clause.old.codes }
+        requires { clause.old.count ≤ 8 }
         ensures { Extended clause.old.codes clause.old.ops clause.old.count (chosen_of role self.entry.from (settings_read self.entry.update.now) condition.now mask) clause.new }
     {
-        let settings = in_use(&self.update.settings, usize::from(self.update.count));
         let reading = Reading {
             role,
             from: self.from,
-            settings,
+            settings: self.update.used(),
         };
         clause.add(condition, mask, reading);
     }
 
     // The pattern of a clause of an INSERT: the comparisons of the query that a mask selects.
     fn inserted(self, mask: u8) -> Option<Pattern>
-        requires { self.query.now.condition.count ≤ 8 }
         ensures { result ≡ clause_pattern (entry_count self.entry.query.now) (chosen_of Inserted self.entry.from (settings_read self.entry.update.now) self.entry.query.now.condition mask) }
     {
         let mut clause = Joined::empty();
@@ -114,7 +95,6 @@ impl Pair<'_> {
 
     // The pattern of a clause of the update and one of the query.
     fn joined(self, given: u8, asked: u8, role: Role) -> Option<Pattern>
-        requires { (self.query.now.condition.count ≤ 8) × (self.update.now.condition.count ≤ 8) }
         ensures { result ≡ clause_pattern (entry_count self.entry.query.now) (chosen_of Given self.entry.from (settings_read self.entry.update.now) self.entry.update.now.condition given ++ chosen_of role self.entry.from (settings_read self.entry.update.now) self.entry.query.now.condition asked) }
     {
         let mut clause = Joined::empty();
@@ -133,26 +113,20 @@ impl Pair<'_> {
         let asked = p.query.masks[usize::from(k % size)];
         self.joined(given, asked, role)
     }
-}
 
-// The pattern of joint clause i.
-pub fn clause_at(query: &Query, update: &Update, p: &Pairing, i: u8) -> Option<Pattern>
-    requires { Worked query.now update.now p.now × (i < p.now.total) }
-    ensures { result ≡ clause_pattern (entry_count query.now) (get_or (joint_of query.now update.now) i []) }
-{
-    let from = relevance::start_of(query, update);
-    let pair = Pair {
-        query,
-        update,
-        from,
-    };
-    if update.form == Update::INSERT {
-        return pair.inserted(p.query.masks[usize::from(i)]);
+    // The pattern of joint clause i.
+    pub fn clause_at(self, p: &Pairing, i: u8) -> Option<Pattern>
+        requires { Worked self.query.now self.update.now p.now × (i < p.now.total) }
+        ensures { result ≡ clause_pattern (entry_count self.entry.query.now) (get_or (joint_of self.entry.query.now self.entry.update.now) i []) }
+    {
+        if self.update.form == Update::INSERT {
+            return self.inserted(p.query.masks[usize::from(i)]);
+        }
+        let size = u16::from(p.update.count) * u16::from(p.query.count);
+        let k = u16::from(i);
+        if k < size {
+            return self.at(p, k, Role::Asked);
+        }
+        self.at(p, k - size, Role::Set)
     }
-    let size = u16::from(p.update.count) * u16::from(p.query.count);
-    let k = u16::from(i);
-    if k < size {
-        return pair.at(p, k, Role::Asked);
-    }
-    pair.at(p, k - size, Role::Set)
 }

@@ -9,20 +9,21 @@ use lists::in_use;
 use table::{Comparison, Condition, Operand, Query, Setting, Step, Term, Update};
 
 // A.1: whether a query of these tables reads the updated one. The second is given by its number and 1, 0 for none.
+// (By numbers: the promise is for any three, and a caller that has no query may ask it; so the code of the second is read here, as `second_table` reads it.)
 pub fn reads(table: u8, second: u8, updated: u8) -> bool
     ensures { result ≡ is_read table second updated }
 {
-    (table == updated) | (u16::from(second) == u16::from(updated) + 1)
+    table == updated || second.checked_sub(1) == Some(updated)
 }
 
 // A.1: how many columns of the query stand before those of the updated table.
-pub fn start_of(query: &Query, update: &Update) -> u8
+fn start_of(query: &Query, update: &Update) -> u8
     ensures { result ≡ start_read query.now update.now }
 {
     if query.table == update.table {
         return 0;
     }
-    if u16::from(query.second) == u16::from(update.table) + 1 {
+    if query.second_table() == Some(update.table) {
         return query.start;
     }
     0
@@ -32,11 +33,7 @@ pub fn start_of(query: &Query, update: &Update) -> u8
 fn columns_of(settings: &[Setting; Update::SETTINGS], from: u8) -> [u16; Update::SETTINGS]
     ensures { result ≡ map (λ s. from + s.column) settings.now }
 {
-    let mut columns = [0u16; Update::SETTINGS];
-    for (i, item) in settings.iter().enumerate() {
-        columns[i] = u16::from(from) + u16::from(item.column);
-    }
-    columns
+    settings.map(|item| u16::from(from) + u16::from(item.column))
 }
 
 // Whether a column is one of these.
@@ -74,36 +71,58 @@ fn tests(comparisons: &[Comparison], columns: &[u16]) -> bool
 fn comparison_steps(condition: &Condition) -> usize
     ensures { result ≡ comparison_steps (used_steps condition.now) }
 {
-    let count = (2 * usize::from(condition.count)).saturating_sub(1);
-    let steps = in_use(&condition.steps, count);
+    let steps = condition.used_steps();
     steps.iter().filter(|s| **s == Step::COMPARISON).count()
 }
 
-// Whether a query selects or tests a column that an update sets.
-fn touches(query: &Query, update: &Update, from: u8) -> bool
-    ensures { result ≡ sets_used from query.now update.now }
-{
-    let all = columns_of(&update.settings, from);
-    let columns = in_use(&all, usize::from(update.count));
-    let selected = in_use(&query.selected, usize::from(query.count));
-    if selects(selected, columns) {
-        return true;
-    }
-    let condition = &query.condition;
-    let asked = comparison_steps(condition).min(usize::from(condition.count));
-    tests(in_use(&condition.comparisons, asked), columns)
+// A query and an update, and how many columns of the query stand before those of the updated table.
+#[derive(Clone, Copy)]
+pub struct Pair<'a> {
+    pub query: &'a Query,
+    pub update: &'a Update,
+    pub from: u8,
+    ghost starts: { from ≡ start_read query.now update.now },
 }
 
-// Rules 1 and 2: whether the update can change an answer of the query.
-pub fn relevant(query: &Query, update: &Update) -> bool
-    ensures { result ≡ relevant_to query.now update.now }
-{
-    if !reads(query.table, query.second, update.table) {
-        return false;
-    }
-    if update.form == Update::UPDATE {
+impl<'a> Pair<'a> {
+    // These two.
+    pub fn of(query: &'a Query, update: &'a Update) -> Pair<'a>
+        ensures query { result.query.now ≡ query.now }
+        ensures update { result.update.now ≡ update.now }
+    {
         let from = start_of(query, update);
-        return touches(query, update, from);
+        Pair {
+            query,
+            update,
+            from,
+        }
     }
-    true
+
+    // Whether the query selects or tests a column that the update sets.
+    fn touches(self) -> bool
+        ensures { result ≡ sets_used self.entry.from self.entry.query.now self.entry.update.now }
+    {
+        let all = columns_of(&self.update.settings, self.from);
+        let columns = in_use(&all, usize::from(self.update.count));
+        if selects(self.query.used(), columns) {
+            return true;
+        }
+        let condition = &self.query.condition;
+        let used = condition.used();
+        let asked = comparison_steps(condition).min(used.len());
+        tests(&used[..asked], columns)
+    }
+
+    // Rules 1 and 2: whether the update can change an answer of the query.
+    pub fn is_relevant(self) -> bool
+        ensures { result ≡ relevant_to self.entry.query.now self.entry.update.now }
+    {
+        if !reads(self.query.table, self.query.second, self.update.table) {
+            return false;
+        }
+        if self.update.form == Update::UPDATE {
+            return self.touches();
+        }
+        true
+    }
 }

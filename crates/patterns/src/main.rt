@@ -30,7 +30,8 @@ impl Store {
         }
     }
 
-    // Adds what a text says; of an update, prints its patterns.
+    // Adds what a text says; of an update, prints its patterns. A refusal is printed in words of this program: the library has no output form, and a `Display` would make it
+    // no shorter. Questions and updates are not counted, so a text is compiled beside 0 of each.
     fn add<W: Write>(&mut self, text: &[u8], out: &mut W) -> io::Result<()> {
         match script::compile(text, &self.tables, 0, 0, CELLS) {
             Err(refusal) => writeln!(out, "refused {}", refusal.number())?,

@@ -3,7 +3,8 @@ use pattern::{Entry, Pattern, Patterns};
 use std::fmt;
 
 // A list of patterns, a pattern or one of its entries.
-// Each program has its own such type: a trait of std is written where the type is.
+// `take`: `pattern` gives no slice of the entries, or of the patterns, in use, and this program does not see `lists`, which would.
+// Programs have their own such type (`texts` too): a trait of std is written where the type is, and what is shown differs.
 #[derive(Clone, Copy)]
 pub struct Shown<'a, T>(pub &'a T);
 

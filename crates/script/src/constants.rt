@@ -1,7 +1,7 @@
 // The constants of a line.
 ghost use Rattle.std.specs.Prelude.{◌≡◌, drop, IfOk};
 ghost use Rattle.std.specs.Iterator.{YieldsFirst, item_count};
-ghost use Rattle.script.specs.Script.{number_at, constants_of};
+ghost use Rattle.script.specs.Script.{natural_of, number_at, constants_of};
 
 use std::alloc::{AllocError, Global};
 use token::Kind;
@@ -42,26 +42,28 @@ impl Iterator for Constants<'_> {
     }
 }
 
-// Number i; 0 where there is none or it is negative: so scripts are read.
+// A constant as a number; 0 where it is negative.
+fn natural(z: i32) -> usize
+    ensures { result ≡ natural_of z }
+{
+    usize::try_from(z).unwrap_or(0)
+}
+
+// Number i; 0 where there is none or it is negative. No Option: a missing number is no error of a script, for what such a line gives is not fixed (tests/README.md).
 pub fn number(numbers: &[i32], i: usize) -> usize
     ensures { result ≡ number_at numbers.now i }
 {
-    numbers
-        .get(i)
-        .and_then(|z| usize::try_from(*z).ok())
-        .unwrap_or(0)
+    numbers.get(i).map_or(0, |z| natural(*z))
 }
 
-// The number at the start of a text, 0 where there is none or it is negative, and the constants behind it.
+// The number at the start of a text, 0 where there is none or it is negative (some lines of `bench` have none), and the constants behind it.
 pub fn numbered(alloc: Global, text: &[u8]) -> Result<(usize, Vec<i32>), AllocError>
     ensures number { IfOk result (λ r. r.0 ≡ number_at (constants_of text.now) 0) }
     ensures values { IfOk result (λ r. r.1.items ≡ drop 1 (constants_of text.now)) }
 {
     let mut constants = Constants::new(text);
-    let number = match constants.next() {
-        Some(z) => usize::try_from(z).unwrap_or(0),
-        None => 0,
-    };
+    let first = constants.next();
+    let number = first.map_or(0, natural);
     Ok((number, constants.collect(alloc)?))
 }
 

@@ -3,13 +3,13 @@ use answer::Answer;
 use statement::{Query, Table};
 use std::fmt;
 
-// The bytes of the longest record of one table, and of any.
+// The bytes of the longest record of one table, and of any. (`as`: a `From` can't be called in a constant.)
 pub const TABLE_RECORD: usize = Answer::HEAD
     + Answer::VALUE * (Query::SELECTED * (Table::ROWS as usize));
 
 pub const PAIRS_RECORD: usize = Answer::HEAD + Answer::VALUE * (Query::SELECTED * Answer::ROWS);
 
-// The values of a row, each behind a space: four bytes each, big-endian.
+// The values of a row, each behind a space: four bytes each, big-endian. (A type: bytes have no `Display` of their own, and a row is printed alone, too.)
 #[derive(Clone, Copy)]
 pub struct Row<'a>(pub &'a [u8]);
 
@@ -27,24 +27,15 @@ impl fmt::Display for Row<'_> {
 #[derive(Clone, Copy)]
 pub struct Rows<'a>(pub &'a [u8]);
 
-impl Rows<'_> {
-    // How many rows the head of a record counts; none where there is no head.
-    fn counted(&self) -> u16 {
-        match self.0 {
-            [_, _, _, _, _, _, high, low, ..] => u16::from_be_bytes([*high, *low]),
-            _ => 0,
-        }
-    }
-}
-
 impl fmt::Display for Rows<'_> {
     fn fmt<W: fmt::Write>(&self, f: &mut fmt::Formatter<W>) -> fmt::Result {
-        // By number: `answer` gives a row by that, and there is no list to go through.
-        for i in 0..usize::from(self.counted()) {
-            if answer::row_refusal(self.0, i) == 0 {
-                let stroke = if i == 0 { "" } else { " /" };
-                write!(f, "{stroke}{}", Row(answer::row(self.0, i)))?;
+        // By number, up to the first that is not there: `answer` gives a row by its number, and an iterator of them would be no shorter than this loop.
+        for i in 0..Answer::ROWS {
+            if answer::check_row(self.0, i).is_err() {
+                break;
             }
+            let stroke = if i == 0 { "" } else { " /" };
+            write!(f, "{stroke}{}", Row(answer::row(self.0, i)))?;
         }
         Ok(())
     }

@@ -14,7 +14,7 @@ pub fn compile(
 ) -> Result<Statement, Refusal>
     ensures { compiled result ≡ compiled_of text.now tables.now (min (length tables.now) 8) (min queries 255) (min updates 255) cells }
 {
-    let queries = queries.min(255) as u8;
-    let updates = updates.min(255) as u8;
+    let queries = u8::try_from(queries).unwrap_or(u8::MAX);
+    let updates = u8::try_from(updates).unwrap_or(u8::MAX);
     Statement::compile(text, tables, queries, updates, cells)
 }

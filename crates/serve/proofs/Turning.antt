@@ -25,7 +25,7 @@ use Rattle.console.proofs.Rooms.{take-both}
 use Rattle.console.proofs.Prints.{text-short, all-printed}
 use Rattle.console.proofs.Bounds.{gather-moves, gather-within, reply-within}
 use Rattle.serve.specs.Input.{Session, most_held, holding, answering, behind, fed, printed_in, finished, printed_last, printed_of, beginning}
-use Rattle.serve.specs.Turns.{most_lent, most_printed, session_of, Feeds, Reads, Runs}
+use Rattle.serve.specs.Turns.{most_lent, most_printed, session_of, Feeds, Reads, ReadsPart, Runs}
 use Rattle.serve.proofs.Feeding.{pieces-join, take-held, fed_by, text_by, prints-the-lines}
 
 -- ---- bytes that are known grow and are used up, step by step
@@ -49,11 +49,6 @@ consumes-both None b c x y h k = tt
 consumes-both (Some p) None c x y h k = absurd h
 consumes-both (Some p) (Some q) None x y h k = absurd k
 consumes-both (Some p) (Some q) (Some r) x y h k = h ∙ ap (λ (z : List ℕ). x ++ z) k ∙ sym (append_assoc x y r)
-
--- and stay where nothing is
-pub consumes-nothing : (a b c : Option (List ℕ)) (x piece : List ℕ) (n : ℕ) → n ≡ 0 → Consumes a b x → Consumes b c (take n piece) → Consumes a c x
-consumes-nothing a b c x piece n z h k =
-    subst (λ (y : List ℕ). Consumes a c y) (ap (λ (m : ℕ). x ++ take m piece) z ∙ append-nil x) (consumes-both a b c x (take n piece) h k)
 
 -- what holds at all events holds where there is an error
 pub at-error : {T E P : Type 0} (r : Result T E) → P → OnErr r P
@@ -265,23 +260,28 @@ pub taken-on : (n : ℕ) (rest : List ℕ) → take n rest ++ take (length rest 
 taken-on n rest =
     ap (λ (x : List ℕ). take n rest ++ x) (take_all (length rest - n) (drop n rest) (omega (arith, length-drop n rest))) ∙ take-append-drop n rest
 
--- nothing is left
-pub feeds-whole : (s t : Session) (piece used rest : List ℕ) (p q : Option (List ℕ)) → piece ≡ used ++ rest → length rest ≡ 0 → Feeds s used t p q → Feeds s piece t p q
-feeds-whole s t piece used [] p q e z F = subst (λ (x : List ℕ). Feeds s x t p q) (sym (e ∙ append-nil used)) F
-feeds-whole s t piece used (b ∷ rest) p q e z F = absurd (omega arith)
-
 pub reads_more : (s x t : Session) (bytes : List ℕ) → Reads x t → x ≡ fed s bytes → Reads s t
 reads_more s x t bytes r e = (bytes ++ r.0, r.1 ∙ ap (λ (y : Session). fed y r.0) e ∙ sym (pieces-join s bytes r.0).0)
 
--- from the opening to the end
-pub runs-to_end : (s x t : Session) (input : List ℕ) (p q r : Option (List ℕ)) → Feeds s input x p q → t ≡ finished x → Appends q r (printed_last x) → Runs s input t p r
-runs-to_end s x t input p q r F e h = record {
-  session = e ∙ ap finished F.session;
-  printed =
-      subst (λ (y : Session). Appends p r (printed_in s input ++ printed_last y)) F.session
-      (appends-both p q r (printed_in s input) (printed_last x) F.printed h);
+-- where a part of a piece was used up
+pub part_reads : {s t : Session} {piece : List ℕ} → ReadsPart s piece t → Reads s t
+part_reads {s} {t} {piece} r = (take r.used piece, r.session)
+
+take_more : (used : List ℕ) (n : ℕ) (rest : List ℕ) → take (length used + n) (used ++ rest) ≡ used ++ take n rest
+take_more used n rest =
+    let e : length used + n - length used ≡ n = omega arith in
+    take-both (length used + n) used rest ∙ ap₂ (λ (x : List ℕ) (k : ℕ). x ++ take k rest) (take_all (length used + n) used (omega arith)) e
+
+pub part_more : {s x t : Session} {piece rest : List ℕ} (used : List ℕ) → piece ≡ used ++ rest → x ≡ fed s used → ReadsPart x rest t → ReadsPart s piece t
+part_more {s} {x} {t} {piece} {rest} used p e r = record {
+  used = length used + r.used;
+  inside = omega (arith, r.inside, ap length p, length-append used rest);
+  session =
+      r.session ∙ ap (λ (y : Session). fed y (take r.used rest)) e ∙ sym (pieces-join s used (take r.used rest)).0
+      ∙ ap (fed s) (sym (ap (take (length used + r.used)) p ∙ take_more used r.used rest));
 }
 
+-- from the opening to the end
 pub serves-lines : (o : Start) (buffer : List ℕ) (s t : Session) (input : List ℕ) (p r : Option (List ℕ)) → s ≡ beginning (opened o) buffer → Runs s input t p r
     → Appends p r (printed_of (opened o) buffer input)
 serves-lines o buffer s t input p r e R =

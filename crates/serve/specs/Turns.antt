@@ -1,6 +1,6 @@
 -- What the functions of the loop promise, in terms of `Input`. Of an input and an output these speak of the bytes that their types know. Assumes nothing: these are
 -- definitions.
-use Rattle.std.specs.Prelude.{◌≡◌, List, ◌++◌, ℕ, ℤ, Option}
+use Rattle.std.specs.Prelude.{◌≡◌, List, ◌++◌, ℕ, ◌≤◌, ℤ, Option, length, take}
 use Rattle.std.specs.Io.KnownBytes.{Appends, Consumes}
 use Rattle.cache.specs.declared.State.{State}
 use Rattle.cache.specs.Run.{Store, Start, opened}
@@ -36,6 +36,12 @@ pub record Feeds (s : Session) (bytes : List ℕ) (t : Session) (before after : 
 -- the session after what was read
 abbrev pub Reads : Session → Session → Type 0
 Reads s t = (input : List ℕ) × (t ≡ fed s input)
+
+-- and where that is a piece: after so many of its bytes
+pub record ReadsPart (s : Session) (piece : List ℕ) (t : Session) : Type 0 where
+  pub used : ℕ
+  pub inside : used ≤ length piece
+  pub session : t ≡ fed s (take used piece)
 
 -- all of the input was: the session after its end
 pub record Runs (s : Session) (input : List ℕ) (t : Session) (before after : Option (List ℕ)) : Type 0 where

@@ -4,7 +4,7 @@
 ghost use Rattle.std.specs.Prelude.{◌≡◌, List, ℕ, ◌<◌, ◌≤◌, length, take, OnOk, IfOk, OnErr};
 ghost use Rattle.std.specs.Io.KnownBytes.{Appends, Consumes};
 ghost use Rattle.serve.specs.Input.{answering, behind, finished, printed_last};
-ghost use Rattle.serve.specs.Turns.{Feeds, Reads, Runs, Opens, Serves};
+ghost use Rattle.serve.specs.Turns.{Feeds, Reads, ReadsPart, Runs, Opens, Serves};
 
 use cache::State;
 use console::Line;
@@ -38,7 +38,9 @@ const PRINTED: usize = 4 * Desk::ANSWER;
 const PIECE: usize = 65536;
 
 // A store with its memories, the bytes that are held of the next line, and what it lends for answers. In a clause it is a session. It owns its arrays: a call
-// that is lent five `&mut` fields of a struct of borrows gets no generated proof.
+// that is lent five `&mut` fields of a struct of borrows gets no generated proof. There is no heap: `held` says how many bytes of `line` are a line's.
+// The bytes for the text of a line are no field: no session has them, so what `answer_held` promises of them could not be said. They are lent as `out`, beside the
+// output that they are written to.
 #[derive(Drop)]
 struct Server {
     state: State,
@@ -66,15 +68,15 @@ impl Server {
     fn open() -> Server
         ensures { Opens result }
     {
-        let mut cells = filled(0);
-        let mut memory = filled(0);
+        let mut cells = lists::filled(0);
+        let mut memory = lists::filled(0);
         let opened = State::open(&mut cells, &mut memory, Desk::SLOTS, Desk::SLOT_BYTES);
         Server {
             state: opened.state,
             cells,
             memory,
-            answer: filled(0),
-            line: filled(0),
+            answer: lists::filled(0),
+            line: lists::filled(0),
             held: 0,
         }
     }
@@ -119,7 +121,7 @@ impl Server {
         requires { 0 < length piece.now }
         ensures used { IfOk result (λ n. (0 < n) × (n ≤ length piece.now)) }
         ensures feeds { IfOk result (λ n. Feeds self.old (take n piece.now) self.new (W.contents output.old) (W.contents output.new)) }
-        ensures reads { OnErr result (Reads self.old self.new) }
+        ensures reads { OnErr result (ReadsPart self.old piece.now self.new) }
     {
         let held = self.held;
         let gathered = console::gather(piece, 0, &mut self.line, held);
@@ -138,7 +140,7 @@ impl Server {
         output: &mut W,
     ) -> Result<()>
         ensures feeds { OnOk result (Feeds self.old piece.now self.new (W.contents output.old) (W.contents output.new)) }
-        ensures reads { OnErr result (Reads self.old self.new) }
+        ensures reads { OnErr result (ReadsPart self.old piece.now self.new) }
     {
         let mut rest = piece;
         while !rest.is_empty() {
@@ -185,19 +187,13 @@ impl Server {
         ensures { OnOk result ((bytes : List ℕ) × Consumes (R.remaining input.old) (R.remaining input.new) bytes × Runs self.old bytes self.new (W.contents output.old) (W.contents output.new)) }
     {
         let mut piece = [0; PIECE];
-        let mut out = filled(0);
+        let mut out = lists::filled(0);
         self.answer_all(&mut piece, &mut out, input, output)?;
         self.answer_last(&mut out, output)
     }
 }
 
-fn filled<T: Copy, const N: usize>(value: T) -> [T; N]
-    ensures { length result ≡ N }
-{
-    [value; N]
-}
-
-// Reads a piece of the input: how many bytes there are, 0 at its end and where it can't be read.
+// Reads a piece of the input: how many bytes there are, 0 at its end and where it can't be read. A function of its own, so that both are one case in the loop.
 fn read_some<R: Read>(input: &mut R, piece: &mut [u8]) -> usize
     ensures within { result ≤ length piece.new }
     ensures bytes { Consumes (R.remaining input.old) (R.remaining input.new) (take result piece.new) }

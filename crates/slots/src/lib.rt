@@ -1,4 +1,5 @@
 // The key of a cached answer, and the slot list: the order of use of the slots. Every function answers for every struct, also one that is not sound.
+// Lengths and places become bytes by casts: each is at most 64, and `try_from` would have an answer for a case that can't be.
 #![tactic(auto)]
 
 mod twice; // fingerprints of keys, and whether a key is held twice
@@ -12,9 +13,10 @@ ghost use Rattle.slots.specs.Same.{same_laws};
 use std::array;
 pub use twice::held_twice;
 
-// A question's number with its values: the first `count`. What stands behind them is not looked at. (Part of the state, and the slots too: plain numbers, arrays with counts.)
+// A question's number with its values: the first `count`. What stands behind them is not looked at. (A key and the slots are parts of a state, which is plain numbers that any caller
+// may fill in and has no heap: so arrays with counts beside them.)
 #[repr(C)]
-#[derive(Clone, Copy)]
+#[derive(Clone, Copy, Default)]
 pub struct Key {
     pub query: u8,
     pub count: u8,
@@ -62,7 +64,7 @@ impl Key {
     }
 }
 
-// Two keys are equal if they have the same number and the same values in use.
+// Two keys are equal if they have the same number and the same values in use: derived, equality would look at what stands behind these too.
 impl PartialEq for Key {
     ghost eq = { same_key };
 
@@ -125,6 +127,7 @@ impl SlotList {
     }
 
     // Of the held slots those that `gone` does not mark come first and stay held; the marked ones come behind them and are free. Each in the order they had.
+    // (Two arrays filled as far as two counts say: there is no heap, and the library's sorts that keep an order need one.)
     pub fn drop(mut self, gone: &[bool; SlotList::SLOTS]) -> Self
         ensures { result ≡ drop_of self gone.now }
     {

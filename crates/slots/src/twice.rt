@@ -30,23 +30,18 @@ fn print_of(key: &Key) -> u32
 }
 
 // The fingerprint of a slot's key, or of what stands for that of a number that is no slot.
+#[tactic(auto, unfolding(crate::specs::Keys::fingerprint))]
 fn print_at(keys: &[Key; SlotList::SLOTS], x: u8) -> u32
     ensures { result ≡ slot_print keys.now x }
 {
-    match keys.get(usize::from(x)) {
-        Some(key) => print_of(key),
-        None => 0,
-    }
+    keys.get(usize::from(x)).map_or(0, print_of)
 }
 
 // The key of a slot, or what stands for that of a number that is no slot.
 fn key_at(keys: &[Key; SlotList::SLOTS], x: u8) -> Key
     ensures { result ≡ slot_key keys.now x }
 {
-    match keys.get(usize::from(x)) {
-        Some(key) => *key,
-        None => Key::of(0, &[]),
-    }
+    keys.get(usize::from(x)).copied().unwrap_or_default()
 }
 
 // Whether one of the slots has the key of the slot x.
@@ -57,7 +52,8 @@ fn has_same(keys: &[Key; SlotList::SLOTS], slots: &[u8], x: u8) -> bool
     slots.iter().any(|y| key == key_at(keys, *y))
 }
 
-// Whether two of the slots have the same key.
+// Whether two of the slots have the same key. (No function of `lists` asks this for all: slots are compared by their keys, settings by column, names by their bytes in use, and of a
+// closure a public function, which asks nothing, would have to ask that it gives a test's value.)
 fn any_same(keys: &[Key; SlotList::SLOTS], slots: &[u8]) -> bool
     ensures { result ≡ repeats same_key (map (slot_key keys.now) slots.now) }
 {
@@ -67,7 +63,8 @@ fn any_same(keys: &[Key; SlotList::SLOTS], slots: &[u8]) -> bool
         .any(|(i, x)| has_same(keys, &slots[..i], *x))
 }
 
-// Whether a key is held twice. Keys with different fingerprints differ, so that keys are compared only where two fingerprints are equal.
+// Whether a key is held twice. Keys with different fingerprints differ, so that keys are compared only where two fingerprints are equal. (The fingerprints stand in an array as far as
+// they are known: there is no heap. `seen` spares most keys the look through them.)
 pub fn held_twice(keys: &[Key; SlotList::SLOTS], slots: &SlotList) -> bool
     ensures { result ≡ held_twice keys.now slots.now }
 {
@@ -76,6 +73,7 @@ pub fn held_twice(keys: &[Key; SlotList::SLOTS], slots: &SlotList) -> bool
     let mut seen = [false; REMAINDERS];
     for (i, x) in held.iter().enumerate() {
         let print = print_at(keys, *x);
+        // (a cast: a `usize` from a `u32` is no `From`, and `try_from` would answer for a case that can't be)
         let at = print as usize % REMAINDERS;
         if seen[at] && prints[..i].contains(&print) {
             return any_same(keys, held);

@@ -1,18 +1,18 @@
 -- Numbers of sound members noted one after another: whether one stands among those before it, and whether two are equal. Assumes nothing.
 use mathlib.Core.Path.{◌≡◌, sym, ap, ap₂, ◌∙◌}
-use mathlib.Core.Bool.{Bool, true, false, ◌||◌}
+use mathlib.Core.Bool.{Bool, true, ◌||◌}
 use mathlib.Core.List.{List, [], ◌∷◌, ◌++◌, map}
 use Prim.Native.Nat.{ℕ, ◌+◌, ◌≤◌, ◌<◌}
 use native.Mathlib.Numerals.{add-one}
 use native.Mathlib.Omega.{arith}
 use lib.Dec.{eqb}
 use lib.ListN.{length, get_or, take, set}
-use lib.Seq.{take_all, take-suc, take-suc-set}
+use lib.Seq.{take-suc, take-suc-set}
 use Rattle.std.specs.List.{list_any}
 use Rattle.lists.specs.Lists.{any, all, repeats}
 use Rattle.lists.proofs.Lists.{map-append}
 use Rattle.lists.proofs.Chains.{eqb-turned, any-turned, repeats-last}
-use Rattle.soundness.proofs.Tests.{all-more, all-stop, all-end}
+use Rattle.soundness.proofs.Tests.{all-more}
 
 -- one more is noted
 noted : (codes : List ℕ) (i x : ℕ) (same b : Bool) → i < length codes → same ≡ repeats eqb (take i codes) → b ≡ any (eqb x) (take i codes)
@@ -28,11 +28,6 @@ module _ {A : Type 0} (f : A → ℕ) (p : A → Bool) (xs : List A) where
     pub sound : all p (take i xs) ≡ true
     pub numbers : take i codes ≡ map f (take i xs)
     pub twice : same ≡ repeats eqb (take i codes)
-
-  pub noted-end : (codes : List ℕ) (same : Bool) (i : ℕ) → length xs ≤ i → Noted codes same i → (all p xs ≡ true) × (same ≡ repeats eqb (map f xs))
-  noted-end codes same i h N =
-      let e : take i xs ≡ xs = take_all i xs h in
-      (sym (all-end p xs i h N.sound), N.twice ∙ ap (repeats eqb) (N.numbers ∙ ap (map f) e))
 
   -- x is the member after those passed
   module _ (codes : List ℕ) (same : Bool) (i : ℕ) (d : A) (N : Noted codes same i) (h : i < length xs) where
@@ -53,6 +48,3 @@ module _ {A : Type 0} (f : A → ℕ) (p : A → Bool) (xs : List A) where
           ∙ sym (map-append f (take i xs) (x ∷ [])) ∙ ap (map f) (sym step);
       twice = noted codes i c same b k N.twice (q ∙ any-turned eqb eqb-turned c (take i codes));
     }
-
-    pub noted-stop : p x ≡ false → false ≡ all p xs
-    noted-stop = all-stop p xs i d h

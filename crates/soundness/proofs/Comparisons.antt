@@ -6,7 +6,7 @@ use Prim.Native.Nat.{ℕ, ◌+◌, ◌-◌, ◌*◌, ◌≤◌, ◌<◌}
 use native.Mathlib.Omega.{arith}
 use borrow.Author.Tests.{le-leb, lt-leb, leb-true}
 use lib.Dec.{eqb, leb, ltb}
-use lib.ListN.{length, take}
+use lib.ListN.{length}
 use lib.Seq.{length-take-le}
 use Rattle.std.specs.Prelude.{Option, Some}
 use Rattle.std.specs.Option.{option_and_then, option_eq}
@@ -125,9 +125,9 @@ module _ (columns m p : ℕ) (c : Condition) where
   condition-long h =
       sym (ap (λ (b : Bool). (b && others) && (eqb p (m + condition_marks c) && leb p most_marks)) (lt-leb c.count most_comparisons h))
 
-  pub condition-ordered : length c.comparisons ≡ 8 → sound_condition_on columns m p c ≡ true → Ordered c
+  pub condition-ordered : length c.comparisons ≡ 8 → length c.steps ≡ 15 → sound_condition_on columns m p c ≡ true → Ordered c
   unfolding sound_condition_on sound_condition
-  condition-ordered eight h =
+  condition-ordered eight fifteen h =
       let all_but = and_left (leb c.count most_comparisons && others) _ h in
       let steps = and_right (leb c.count most_comparisons) _ all_but in
       record {
@@ -135,6 +135,7 @@ module _ (columns m p : ℕ) (c : Condition) where
         known = and_left (all (λ (s : ℕ). ltb s 3) ss) _ steps;
         postfix = and_left (is_postfix nodes) _ (and_right (operators cs) _ (and_right (all (λ (s : ℕ). ltb s 3) ss) _ steps));
         eight = eight;
+        fifteen = fifteen;
       }
 
   module _ (few : c.count ≤ 8) (fifteen : length c.steps ≡ 15) (eight : length c.comparisons ≡ 8) where
@@ -157,10 +158,3 @@ module _ (columns m p : ℕ) (c : Condition) where
         let e : sides (leaves nodes) ≡ operands cs = ap sides (leaves-are h) in
         (ap (all (is_below columns)) (sym e), ap (numbered_on m) (sym e), ap (λ (os : List M.Operand). eqb p (m + parameter_count os)) (sym e)))
         ∙ ap (λ (b : Bool). (b && others) && (eqb p (m + condition_marks c) && leb p most_marks)) (sym (le-leb c.count most_comparisons few))
-
-    -- none of them
-    pub condition-none : c.count ≡ 0 → (leb p most_marks && eqb p m) ≡ sound_condition_on columns m p c
-    condition-none e =
-        ap (λ (b : Bool). b && eqb p m) (sym (and-true (leb p most_marks)))
-        ∙ ap (λ (n : ℕ). (leb p most_marks && steps_on 0 (take (2 * n - 1) c.steps)) && option_eq eqb (Some p) (after_all columns m (take n c.comparisons))) (sym e)
-        ∙ condition-short

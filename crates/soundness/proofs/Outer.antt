@@ -8,13 +8,11 @@ use lib.Dec.{eqb, ltb, eqb-suc-zero}
 use lib.ListN.{length, get_or, drop}
 use Rattle.std.proofs.lemmas.List.{at_drop_more}
 use Rattle.lists.specs.Lists.{all}
-use Rattle.lists.proofs.Bools.{clash}
 use Rattle.meaning.specs.Postfix.{Node, leaf, all_of, any_of, leaves, within, chained}
 use Rattle.statement.specs.Compiled.{step_of}
-use Rattle.statement.specs.Sound.{nodes_read, used_steps, used_comparisons, condition_nodes, second_by, digits_back, sound_outer}
+use Rattle.statement.specs.Sound.{nodes_read, used_steps, used_comparisons, condition_nodes, digits_back}
 use Rattle.statement.specs.declared.Comparison.{Comparison}
 use Rattle.statement.specs.declared.Condition.{Condition}
-use Rattle.statement.specs.declared.Query.{Query}
 use Rattle.statement.proofs.Stored.{read-steps}
 use Rattle.soundness.specs.Parts.{mark_fits, marks_after, need_after, outer_on, Ordered, outer_fits}
 use Rattle.soundness.proofs.Comparisons.{leaves-many}
@@ -101,35 +99,7 @@ outer-read outer ss cs h e =
     ∙ ap (λ (n : ℕ). within (digits_back n outer) (chained true 0 (reverse ns))) many
 
 -- a condition whose steps are a postfix order
-pub outer_told : (outer : ℕ) (c : Condition) → length c.steps ≡ 15 → Ordered c
-    → outer_on true 0 outer (reverse (used_steps c)) ≡ outer_fits c outer
+pub outer_told : (outer : ℕ) (c : Condition) → Ordered c → outer_on true 0 outer (reverse (used_steps c)) ≡ outer_fits c outer
 unfolding condition_nodes
-outer_told outer c fifteen o =
-    outer-read outer (used_steps c) (used_comparisons c) o.known (leaves-many c o.few fifteen o.eight o.postfix)
-
--- ---- a question: its marks are read where there is a second table
-
-module _ (q : Query) where
-  abbrev marks_fit : Bool
-  marks_fit = outer_fits q.condition q.outer
-
-  outer-by : (k : ℕ) → sound_outer (second_by k q.start) q ≡ (eqb k 0 || marks_fit)
-  outer-by zero = refl
-  outer-by (suc k) = ap (λ (b : Bool). b || marks_fit) (sym (eqb-suc-zero k))
-
-  module _ (s : Bool) where
-    pub marks-unread : (s && not (eqb q.second 0)) ≡ false → s ≡ (s && sound_outer (second_by q.second q.start) q)
-    marks-unread h = go s (eqb q.second 0) h ∙ ap (λ (b : Bool). s && b) (sym (outer-by q.second))
-      where
-        go : (s one : Bool) → (s && not one) ≡ false → s ≡ (s && (one || marks_fit))
-        go true true h = refl
-        go true false h = clash refl h
-        go false one h = refl
-
-    pub marks-read : (s && not (eqb q.second 0)) ≡ true → marks_fit ≡ (s && sound_outer (second_by q.second q.start) q)
-    marks-read h = go s (eqb q.second 0) h ∙ ap (λ (b : Bool). s && b) (sym (outer-by q.second))
-      where
-        go : (s one : Bool) → (s && not one) ≡ true → marks_fit ≡ (s && (one || marks_fit))
-        go true true h = clash h refl
-        go true false h = refl
-        go false one h = clash h refl
+outer_told outer c o =
+    outer-read outer (used_steps c) (used_comparisons c) o.known (leaves-many c o.few o.fifteen o.eight o.postfix)

@@ -7,9 +7,11 @@ use native.Mathlib.Nat.{pow-suc, pow-le-pow_right}
 use native.Mathlib.Omega.{arith}
 use borrow.Author.Tests.{leb-true, le-leb, eqb-true, eq-eqb, ne_eqb}
 use lib.Dec.{eqb, leb, lit<}
-use lib.ListN.{length, get_or, take, drop, take-append-drop}
+use lib.ListN.{length, get_or, take, drop, take-append-drop, set, replicate}
+use borrow.Rule.Slice.PartMut.{put_mid}
+use Rattle.std.specs.List.{range_with_len}
 use native.Mathlib.Numerals.{add-one}
-use Rattle.std.specs.Prelude.{Some, None}
+use Rattle.std.specs.Prelude.{None}
 use Rattle.std.proofs.lemmas.List.{at_drop_more, get_or-reverse}
 use Rattle.lists.specs.Lists.{all, from}
 use Rattle.lists.proofs.Bools.{and_left, and_right, and_both, contra, clash}
@@ -24,7 +26,6 @@ use Rattle.statement.specs.Catalog.{name_of_struct}
 use Rattle.statement.specs.Sound.{sound_name}
 use Rattle.statement.specs.declared.Name.{Name}
 use Rattle.soundness.specs.Parts.{some_if, digit_of, digit_table, packed, packed_name, number_of, code_of}
-use Rattle.soundness.proofs.Tests.{some-no, some-yes}
 
 -- ---- digits
 
@@ -54,6 +55,14 @@ from_at f i (suc n) (suc k) h = let e : suc i + k ≡ i + suc k = omega arith in
 pub table-at : (b : ℕ) → b < 256 → get_or digit_table b 0 ≡ digit_of b
 unfolding digit_table
 table-at b h = let e : 0 + b ≡ b = omega arith in from_at digit_of 0 256 b h ∙ ap digit_of e
+
+-- letters, numerals and the underscore at their places among zeros
+pub table-made : (a z a' z' u : ℕ) (letters numerals : List ℕ) → a ≡ 97 → z ≡ 122 → a' ≡ 48 → z' ≡ 57 → u ≡ 95
+    → letters ≡ map (λ (k : ℕ). k + 1) (range_with_len 0 26) → numerals ≡ map (λ (k : ℕ). k + 27) (range_with_len 0 10)
+    → set (put_mid a' (z' + 1 - a') (put_mid a (z + 1 - a) (replicate 256 0) letters) numerals) u 37 ≡ digit_table
+unfolding digit_table
+table-made a z a' z' u letters numerals e f g h k l n =
+    (λ i. set (put_mid (g i) (h i + 1 - g i) (put_mid (e i) (f i + 1 - e i) (replicate 256 0) (l i)) (n i)) (k i) 37) ∙ refl
 
 pub digit-below : (b : ℕ) → digit_of b < 38
 digit-below b = go (byte b)
@@ -231,13 +240,6 @@ module _ (n : Name) where
 
   pub code-none : begins ≡ false → None ≡ code_of n
   code-none e = ap (λ (t : Bool). some_if t (number_of n)) (sym (begins-sound e))
-
-  -- its number tells whether a name is sound
-  pub code-no : None ≡ code_of n → sound_name n ≡ false
-  code-no e = some-no (sound_name n) (number_of n) e
-
-  pub code-yes : (k : ℕ) → Some k ≡ code_of n → (k ≡ number_of n) × (sound_name n ≡ true)
-  code-yes k e = some-yes (sound_name n) (number_of n) k e
 
 -- sound names are the same exactly if their numbers are
 pub number_same : (m n : Name) → sound_name m ≡ true → sound_name n ≡ true → eqb (number_of m) (number_of n) ≡ same_name (name_of_struct m) (name_of_struct n)

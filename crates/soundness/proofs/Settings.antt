@@ -1,6 +1,6 @@
 -- Settings by the number of the next parameter, and what they say of an update of each form. Assumes nothing.
 use mathlib.Core.Path.{◌≡◌, refl, sym, ap, ap₂, ◌∙◌}
-use mathlib.Core.Bool.{Bool, true, false, not, cond, ◌&&◌, ◌||◌, and-false}
+use mathlib.Core.Bool.{Bool, true, false, not, cond, ◌&&◌, ◌||◌}
 use mathlib.Core.List.{List, [], ◌∷◌, map}
 use Prim.Native.Nat.{ℕ, zero, suc, ◌+◌, ◌≤◌}
 use native.Mathlib.Numerals.{add-one}
@@ -8,7 +8,7 @@ use native.Mathlib.Omega.{arith}
 use borrow.Author.Tests.{eqb-true, ne_eqb}
 use lib.Dec.{eqb, ltb}
 use lib.ListN.{length, take}
-use Rattle.std.specs.Prelude.{Some, None}
+use Rattle.std.specs.Prelude.{Option, Some, None}
 use lib.Seq.{length-take-le}
 use Rattle.lists.specs.Lists.{any, all, repeats, from}
 use Rattle.lists.specs.Tests.{eq_list}
@@ -79,16 +79,6 @@ module _ (columns : ℕ) (u : Update) where
   abbrev distinct : ℕ → Bool
   distinct k = not (eqb k 1) || not (repeats same_column ss)
 
-  form-no : (k : ℕ) → formed k ≡ false → sound_form k columns u ≡ false
-  form-no zero h = go (eqb u.count columns) (eq_list eqb (setting_columns u) (from 0 u.count)) (eqb u.condition.count 0) h
-    where
-      go : (a b c : Bool) → (a && c) ≡ false → (a && (b && c)) ≡ false
-      go true b c e = ap (λ (t : Bool). b && t) e ∙ and-false b
-      go false b c e = refl
-  form-no (suc zero) h = sym (counted u.count false (all (λ (i : ℕ). ltb i columns) (setting_columns u) && not (repeats eqb (setting_columns u))) h)
-  form-no (suc (suc zero)) h = h
-  form-no (suc (suc (suc k))) h = refl
-
   form-none : (k : ℕ) → 3 ≤ k → formed k ≡ false
   form-none k h = rw (ne_eqb k 0 (λ e. omega arith), ne_eqb k 1 (λ e. omega arith), ne_eqb k 2 (λ e. omega arith))
 
@@ -122,7 +112,7 @@ module _ (columns : ℕ) (u : Update) where
         ∙ ap (λ (t : Bool). t && (n && c (parameter_count (setting_operands u)))) (form-yes u.form h)
 
     -- by what its parts tell
-    pub update-told : formed u.form ≡ true → (k : ℕ) → Some k ≡ settings_on u.form columns ss
+    update-told : formed u.form ≡ true → (k : ℕ) → Some k ≡ settings_on u.form columns ss
         → (distinct u.form && sound_condition_on columns k u.parameters u.condition) ≡ sound_update_on columns u
     update-told h k e = go (settings_fit u.form columns 0 0 ss) refl e
       where
@@ -135,7 +125,7 @@ module _ (columns : ℕ) (u : Update) where
             ∙ update-yes h
         go false f e = absurd (let q : ⊥ = cc in q)
 
-    pub update-unsettled : formed u.form ≡ true → None ≡ settings_on u.form columns ss → false ≡ sound_update_on columns u
+    update-unsettled : formed u.form ≡ true → None ≡ settings_on u.form columns ss → false ≡ sound_update_on columns u
     update-unsettled h e = go (settings_fit u.form columns 0 0 ss) refl e
       where
         go : (b : Bool) → settings_fit u.form columns 0 0 ss ≡ b → None ≡ some_if b (setting_marks ss) → false ≡ sound_update_on columns u
@@ -143,7 +133,13 @@ module _ (columns : ℕ) (u : Update) where
         go false f e =
             ap (λ (b : Bool). (b && distinct u.form) && sound_condition_on columns (setting_marks ss) u.parameters u.condition) (sym f) ∙ update-yes h
 
-  pub update-no : formed u.form ≡ false → false ≡ sound_update_on columns u
-  update-no h =
-      ap (λ (t : Bool). t && (numbered_on 0 (setting_operands u) && sound_condition_on columns (parameter_count (setting_operands u)) u.parameters u.condition))
-      (sym (form-no u.form h))
+    -- by the number behind the settings l, if there is one
+    pub update-by : formed u.form ≡ true → (l : List Setting) → l ≡ ss → (r : Bool) → (o : Option ℕ) → o ≡ settings_on u.form columns l
+        → (o ≡ None → r ≡ false)
+        → ((k : ℕ) → o ≡ Some k → r ≡ ((not (eqb u.form 1) || not (repeats same_column l)) && sound_condition_on columns k u.parameters u.condition))
+        → r ≡ sound_update_on columns u
+    update-by h l q r None e none some = none refl ∙ update-unsettled h (e ∙ ap (settings_on u.form columns) q)
+    update-by h l q r (Some k) e none some =
+        some k refl
+        ∙ ap (λ (l : List Setting). (not (eqb u.form 1) || not (repeats same_column l)) && sound_condition_on columns k u.parameters u.condition) q
+        ∙ update-told h k (e ∙ ap (settings_on u.form columns) q)

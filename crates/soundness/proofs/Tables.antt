@@ -15,10 +15,8 @@ use Rattle.statement.specs.declared.Name.{Name}
 use Rattle.statement.specs.declared.Table.{Table}
 use Rattle.lists.proofs.Chains.{shuffled}
 use Rattle.statement.specs.Same.{same-sym}
-use Rattle.soundness.specs.Parts.{some_if, number_of, code_of, columns_on, table_on, single}
-use Rattle.soundness.proofs.Packed.{code-no, code-yes, number_same}
-use Rattle.std.specs.Prelude.{Some, None}
-use Rattle.soundness.proofs.Tests.{counted}
+use Rattle.soundness.specs.Parts.{number_of, columns_on, table_on, single}
+use Rattle.soundness.proofs.Packed.{number_same}
 
 -- ---- names by their numbers
 
@@ -52,21 +50,6 @@ table_name t = name_of_struct t.name
 
 abbrev pub table_number : Table → ℕ
 table_number t = number_of t.name
-
--- its number, if it is sound by itself
-pub single-unnamed : (t : Table) → None ≡ code_of t.name → None ≡ some_if (single t) (number_of t.name)
-single-unnamed t e = ap (λ (b : Bool). some_if (b && table_on t) (number_of t.name)) (sym (code-no t.name e))
-
-pub single-named : (t : Table) (k : ℕ) (b : Bool) → Some k ≡ code_of t.name → b ≡ table_on t → some_if b k ≡ some_if (single t) (number_of t.name)
-single-named t k b e f = let y = code-yes t.name k e in ap₂ some_if (f ∙ ap (λ (s : Bool). s && table_on t) (sym y.1)) y.0
-
-pub table-no : (t : Table) → (leb 1 t.count && leb t.count 8) ≡ false → false ≡ table_on t
-unfolding table_on
-table-no t h = counted t.count false _ h
-
-pub table-yes : (t : Table) → (leb 1 t.count && leb t.count 8) ≡ true → (columns_on (used_columns t) && (leb 1 t.capacity && leb t.capacity most_rows)) ≡ table_on t
-unfolding table_on
-table-yes t h = counted t.count true _ h
 
 module _ (before : List Schema) where
   parted : (a b s l r h c : Bool) → (a && (b && (s && (l && (r && (h && c)))))) ≡ ((s && (a && (b && ((l && r) && c)))) && h)

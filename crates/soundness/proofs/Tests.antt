@@ -1,14 +1,13 @@
 -- Laws of tests that several proofs use. Assumes nothing.
 use mathlib.Core.Path.{◌≡◌, refl, sym, ap, ap₂, ◌∙◌}
-use mathlib.Core.Bool.{Bool, true, false, ◌&&◌, and_assoc, and-false}
+use mathlib.Core.Bool.{Bool, true, false, ◌&&◌, and_assoc}
 use mathlib.Core.List.{List, [], ◌∷◌}
-use Prim.Native.Nat.{ℕ, ◌+◌, ◌≤◌, ◌<◌}
+use Prim.Native.Nat.{ℕ, ◌+◌, ◌<◌}
 use native.Mathlib.Numerals.{add-one}
 use lib.Dec.{leb}
-use lib.ListN.{length, get_or, take, drop, take-append-drop}
-use lib.Seq.{take_all, take-suc}
-use Rattle.std.proofs.lemmas.List.{at_drop_more}
-use Rattle.std.specs.Prelude.{Some, None}
+use lib.ListN.{length, get_or, take}
+use lib.Seq.{take-suc}
+use Rattle.std.specs.Prelude.{Some}
 use Rattle.lists.specs.Lists.{all}
 use Rattle.lists.proofs.Lists.{all_append}
 use Rattle.soundness.specs.Parts.{some_if}
@@ -26,13 +25,6 @@ counted n t b h = ap (λ (t : Bool). t && b) (sym h) ∙ and_assoc (leb 1 n) (le
 -- ---- what a value that is there under a test tells of the test
 
 module _ {A : Type 0} (b : Bool) (x : A) where
-  pub some-no : None ≡ some_if b x → b ≡ false
-  some-no e = go b e
-    where
-      go : (b : Bool) → None ≡ some_if b x → b ≡ false
-      go true e = cc
-      go false e = refl
-
   pub some-yes : (y : A) → Some y ≡ some_if b x → (y ≡ x) × (b ≡ true)
   some-yes y e = go b e
     where
@@ -47,13 +39,3 @@ module _ {A : Type 0} (p : A → Bool) (xs : List A) (i : ℕ) (d : A) (h : i < 
   all-more a e =
       ap (λ (j : ℕ). all p (take j xs)) (add-one i) ∙ ap (all p) (take-suc xs i d h) ∙ all_append p (take i xs) (get_or xs i d ∷ [])
       ∙ ap₂ (λ (s t : Bool). s && (t && true)) a e
-
-  pub all-stop : p (get_or xs i d) ≡ false → false ≡ all p xs
-  all-stop e =
-      sym
-      (ap (all p) (sym (take-append-drop i xs)) ∙ all_append p (take i xs) (drop i xs)
-      ∙ ap (λ (b : Bool). all p (take i xs) && b) (at_drop_more (all p) xs i d h ∙ ap (λ (b : Bool). b && all p (drop (i + 1) xs)) e)
-      ∙ and-false (all p (take i xs)))
-
-pub all-end : {A : Type 0} (p : A → Bool) (xs : List A) (i : ℕ) → length xs ≤ i → all p (take i xs) ≡ true → true ≡ all p xs
-all-end p xs i h a = sym a ∙ ap (all p) (take_all i xs h)

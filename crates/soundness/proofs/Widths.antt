@@ -1,23 +1,21 @@
 -- How many columns the tables have; questions and updates by the number of columns of their table. Assumes nothing.
 use mathlib.Core.Path.{◌≡◌, refl, sym, ap, ap₂, ◌∙◌}
-use mathlib.Core.Bool.{Bool, true, false, not, ◌&&◌, cond}
+use mathlib.Core.Bool.{Bool, true, false, ◌&&◌, cond}
 use mathlib.Core.List.{List, [], ◌∷◌, map}
 use Prim.Native.Nat.{ℕ, zero, suc, ◌+◌, ◌-◌}
 use native.Mathlib.Omega.{arith}
 use borrow.Author.Tests.{ne_eqb, le-ltb, lt-ltb}
-use lib.Dec.{eqb, leb, ltb}
-use lib.ListN.{length, take, length-map}
+use lib.Dec.{ltb}
+use lib.ListN.{length, length-map}
 use Rattle.std.specs.Prelude.{Option, Some, None, option_map, option_and_then, slice_get}
 use Rattle.std.proofs.lemmas.Bool.Decides.{nat_tests}
 use Rattle.lists.specs.Lists.{all}
 use Rattle.statement.specs.Catalog.{schema_of}
-use Rattle.statement.specs.Sound.{second_by, second_read, columns_at, columns_with, sound_second, sound_condition_on, sound_outer, sound_query, sound_update, sound_update_on}
+use Rattle.statement.specs.Sound.{second_by, columns_at, columns_with, sound_second, sound_query, sound_update, sound_update_on}
 use Rattle.statement.specs.declared.Table.{Table}
 use Rattle.statement.specs.declared.Query.{Query}
 use Rattle.statement.specs.declared.Update.{Update}
-use Rattle.soundness.specs.Parts.{passes, some_if, width_of, fits_second, width_beside, outer_fits, query_on, query_at, update_at}
-use Rattle.soundness.proofs.Tests.{counted}
-use Rattle.soundness.proofs.Outer.{marks-unread, marks-read}
+use Rattle.soundness.specs.Parts.{passes, some_if, width_of, fits_second, width_beside, query_on, query_at, update_at}
 
 -- ---- statements beside the tables
 
@@ -80,23 +78,3 @@ module _ (ts : List Table) where
 
   pub updates-beside : (us : List Update) → all (update_at (map width_of ts)) us ≡ all (sound_update (map schema_of ts)) us
   updates-beside us = ap (λ (p : Update → Bool). all p us) (λ i u. update-beside u i)
-
--- ---- a question
-
-module _ (columns : ℕ) (q : Query) where
-  abbrev pub asked : Bool
-  asked = all (λ (i : ℕ). ltb i columns) (take q.count q.selected) && sound_condition_on columns 0 q.parameters q.condition
-
-  pub query-no : (leb 1 q.count && leb q.count 8) ≡ false → false ≡ query_on columns q
-  query-no h = ap (λ (b : Bool). b && sound_outer (second_read q) q) (counted q.count false asked h)
-
-  module _ (h : (leb 1 q.count && leb q.count 8) ≡ true) (s : Bool) (e : s ≡ asked) where
-    sound-is : (s && sound_outer (second_read q) q) ≡ query_on columns q
-    sound-is = ap (λ (b : Bool). b && sound_outer (second_read q) q) (e ∙ counted q.count true asked h)
-
-    -- over one table, or not sound
-    pub query-one : (s && not (eqb q.second 0)) ≡ false → s ≡ query_on columns q
-    query-one k = marks-unread q s k ∙ sound-is
-
-    pub query-two : (s && not (eqb q.second 0)) ≡ true → outer_fits q.condition q.outer ≡ query_on columns q
-    query-two k = marks-read q s k ∙ sound-is

@@ -118,6 +118,7 @@ pub record Ordered (c : Condition) : Type 0 where
   pub known : all (λ (s : ℕ). ltb s 3) (used_steps c) ≡ true
   pub postfix : is_postfix (condition_nodes c) ≡ true
   pub eight : length c.comparisons ≡ 8
+  pub fifteen : length c.steps ≡ 15
 
 -- each comparison that is marked may be outer in a text
 abbrev pub outer_fits : Condition → ℕ → Bool

@@ -3,10 +3,9 @@ ghost use Rattle.std.specs.Prelude.{◌≡◌, true, reverse, ◌-◌, ◌*◌, 
 ghost use Rattle.statement.specs.Sound.{sound_predicate, sound_condition_on};
 ghost use Rattle.soundness.specs.Parts.{depth_after, steps_on, mark_fits, marks_after, need_after, outer_on, Ordered, outer_fits, after_side, after_comparison, after_all};
 
-use lists::in_use;
 use table::{Comparison, Condition, Operand, Statement, Step};
 
-// ---- steps (steps and operators are numbers of the state, which any caller may fill in)
+// ---- steps (They and operators are numbers and no enums: a state is plain numbers that any caller may fill in, and here it is tested.)
 
 // How many values are on the stack after a step, if it fits: AND and OR find two values.
 fn stepped(depth: u8, step: u8) -> Option<u8>
@@ -23,7 +22,8 @@ fn stepped(depth: u8, step: u8) -> Option<u8>
     }
 }
 
-// Whether the steps are none, or leave one value.
+// Whether the steps are none, or leave one value. (`pattern`, which also lies above `table`, counts so in `is_formed`. It says nothing of a step that is none of the three, and any
+// number but a comparison's joins there; with a pass of its own for the kinds before a count that both share this would be no plainer.)
 fn steps_are_sound(steps: &[u8]) -> bool
     requires { length steps.now ≤ 15 }
     ensures { result ≡ steps_on 0 steps.now }
@@ -38,7 +38,7 @@ fn steps_are_sound(steps: &[u8]) -> bool
     depth <= 1
 }
 
-// ---- A.6: marks of outer comparisons, a binary digit for each comparison: the last digit is the last comparison's
+// ---- A.6: marks of outer comparisons, a binary digit for each comparison: the last digit is the last comparison's (a number of the state, like steps)
 
 // Whether a step may have the last of these marks: a comparison in a part that an AND or OR joins has none.
 fn mark_fits(need: u8, marks: u8, step: u8) -> bool
@@ -101,8 +101,7 @@ pub fn outer_is_sound(c: &Condition, outer: u8) -> bool
     requires { Ordered c.now }
     ensures { result ≡ outer_fits c.now outer }
 {
-    let n = 2 * usize::from(c.count);
-    marks_fit(&c.steps[..n.saturating_sub(1)], outer)
+    marks_fit(c.used_steps(), outer)
 }
 
 // ---- comparisons, by the number of the next parameter, if they fit
@@ -130,6 +129,7 @@ fn operator_fits(c: &Comparison) -> bool
 }
 
 // The next number behind a comparison, if it fits.
+#[tactic(auto, unfolding(crate::specs::Parts::after_comparison))]
 fn after_comparison(c: &Comparison, columns: u8, m: u8) -> Option<u8>
     ensures { result ≡ after_comparison columns m c.now }
 {
@@ -155,14 +155,11 @@ pub fn is_sound(c: &Condition, columns: u8, m: u8, parameters: u8) -> bool
     ensures ordered { result ≡ true → Ordered c.now }
 {
     let n = usize::from(c.count);
-    let comparisons = in_use(&c.comparisons, n);
-    if comparisons.len() < n {
+    if Condition::COMPARISONS < n {
         return false;
     }
-    let few = u16::from(parameters) <= Statement::MARKS;
-    if n == 0 {
-        return few & (parameters == m);
-    }
-    few & steps_are_sound(&c.steps[..2 * n - 1])
-        & (Some(parameters) == after_comparisons(comparisons, columns, m))
+    let steps = c.used_steps();
+    (u16::from(parameters) <= Statement::MARKS)
+        & steps_are_sound(steps)
+        & (Some(parameters) == after_comparisons(c.used(), columns, m))
 }

@@ -11,7 +11,7 @@ use table::{Name, Table};
 // How many digits there are: 1 to 26 for small letters, 27 to 36 for 0 to 9, 37 for the underscore; 0 for any other byte.
 const BASE: u64 = 38;
 
-// The digit of each byte. The table is made once a test and lent: a constant would be laid out anew wherever it is read.
+// The digit of each byte, as the ghost field says, so `new` has no clause. The table is made once a test and lent: a constant would be laid out anew wherever it is read.
 #[derive(Drop)]
 pub struct Digits {
     by_byte: [u8; 256],
@@ -19,13 +19,14 @@ pub struct Digits {
 }
 
 impl Digits {
+    // (The casts are of places below 26 and below 10.)
     pub fn new() -> Digits {
         let letters: [u8; 26] = array::from_fn(|k| k as u8 + 1);
         let numerals: [u8; 10] = array::from_fn(|k| k as u8 + 27);
         let mut by_byte = [0u8; 256];
-        by_byte[b'a' as usize..=b'z' as usize].copy_from_slice(&letters);
-        by_byte[b'0' as usize..=b'9' as usize].copy_from_slice(&numerals);
-        by_byte[b'_' as usize] = 37;
+        by_byte[usize::from(b'a')..=usize::from(b'z')].copy_from_slice(&letters);
+        by_byte[usize::from(b'0')..=usize::from(b'9')].copy_from_slice(&numerals);
+        by_byte[usize::from(b'_')] = 37;
         Digits { by_byte }
     }
 
@@ -62,7 +63,8 @@ impl Digits {
         None
     }
 
-    // Whether each of these items passes a test and no two have the same number; `code` gives the number of one that passes. (`means`: the test and the number.)
+    // Whether each of these items passes a test and no two have the same number; `code` gives the number of one that passes. (`means`: the test and the number. The numbers stand in
+    // an array as far as they are known: there is no heap.)
     pub fn are_apart<T, F: Fn(&Digits, &T) -> Option<u64>>(&self, items: &[T], code: F) -> bool
         ghost means: { (T → Bool) × (T → ℕ) }
         requires few { length items.now ≤ 8 }
@@ -95,15 +97,12 @@ impl Digits {
     }
 
     // Whether a table's columns and ROWS are sound.
+    #[tactic(auto, unfolding(crate::specs::Parts::table_on))]
     fn table_fits(&self, t: &Table) -> bool
         ensures { result ≡ table_on t.now }
     {
-        let n = usize::from(t.count);
-        if (1 <= n) & (n <= Table::COLUMNS) {
-            return self.columns_are_sound(&t.columns[..n])
-                & ((1 <= t.capacity) & (t.capacity <= Table::ROWS));
-        }
-        false
+        let few = (1 <= t.count) & (usize::from(t.count) <= Table::COLUMNS);
+        few && self.columns_are_sound(t.names()) && (1..=Table::ROWS).contains(&t.capacity)
     }
 
     // The number of a table's name, if the table is sound by itself.

@@ -5,15 +5,15 @@ ghost use Rattle.statement.specs.Sound.{sound_update_on};
 ghost use Rattle.soundness.specs.Parts.{width_of, width_with, query_on, query_at, update_at, same_column, form_fits, column_fits, value_fits, settings_on};
 
 use super::conditions;
-use lists::in_use;
-use table::{Query, Setting, Table, Update, Value};
+use table::{Given, Query, Setting, Table, Update, Value};
 
 // ---- how many columns the tables have
 
+// (A cast: they are at most eight, and `try_from` would have an answer for a case that can't be.)
 fn width(t: &Table) -> u8
     ensures { (result ≡ width_of t.now) × (result ≤ 8) }
 {
-    in_use(&t.columns, usize::from(t.count)).len() as u8
+    t.names().len() as u8
 }
 
 // Of a table, if it is there.
@@ -26,56 +26,39 @@ fn width_at(tables: &[Table], table: u8) -> Option<u8>
 }
 
 // Of the tables of a question, if they are there. A.1: a second one is another than the first, and begins behind the first's columns.
-fn width_with(tables: &[Table], table: u8, second: u8, start: u8) -> Option<u8>
-    ensures { result ≡ width_with (map width_of tables.now) table second start }
+fn width_with(q: &Query, tables: &[Table]) -> Option<u8>
+    ensures { result ≡ width_with (map width_of tables.now) q.now.table q.now.second q.now.start }
 {
-    let columns = width_at(tables, table)?;
-    if second == 0 {
+    let columns = width_at(tables, q.table)?;
+    let Some(second) = q.second_table() else {
         return Some(columns);
-    }
-    let other = second - 1;
-    if (other == table) | (start != columns) {
+    };
+    if (second == q.table) | (q.start != columns) {
         return None;
     }
-    Some(columns + width_at(tables, other)?)
+    Some(columns + width_at(tables, second)?)
 }
 
 // ---- questions
-
-// Whether these are columns of the tables.
-fn are_below(selected: &[u8], columns: u8) -> bool
-    ensures { result ≡ all (λ (i : ℕ). ltb i columns) selected.now }
-{
-    selected.iter().all(|i| *i < columns)
-}
 
 // Whether a question is sound, where its tables have so many columns. A.6: its marks are read where it is over two tables.
 fn query_is_sound(q: &Query, columns: u8) -> bool
     ensures { result ≡ query_on columns q.now }
 {
-    let n = usize::from(q.count);
-    if !((1 <= n) & (n <= Query::SELECTED)) {
-        return false;
-    }
-    let sound = are_below(&q.selected[..n], columns)
-        & conditions::is_sound(&q.condition, columns, 0, q.parameters);
-    if sound & (q.second != 0) {
-        return conditions::outer_is_sound(&q.condition, q.outer);
-    }
-    sound
+    let few = (1 <= q.count) & (usize::from(q.count) <= Query::SELECTED);
+    few && lists::are_below(q.used(), usize::from(columns))
+        && conditions::is_sound(&q.condition, columns, 0, q.parameters)
+        && (q.second_table().is_none() || conditions::outer_is_sound(&q.condition, q.outer))
 }
 
 // Whether a question is sound beside these tables.
 pub fn query_fits(q: &Query, tables: &[Table]) -> bool
     ensures { result ≡ query_at (map width_of tables.now) q.now }
 {
-    match width_with(tables, q.table, q.second, q.start) {
-        Some(columns) => query_is_sound(q, columns),
-        None => false,
-    }
+    width_with(q, tables).is_some_and(|columns| query_is_sound(q, columns))
 }
 
-// ---- updates (their forms are numbers of the state, which any caller may fill in)
+// ---- updates (Their forms are numbers and no enum: a state is plain numbers that any caller may fill in, and here it is tested.)
 
 // Whether an update of this form may have so many settings and comparisons.
 fn form_fits(form: u8, count: u8, columns: u8, comparisons: u8) -> bool
@@ -102,7 +85,10 @@ fn column_fits(form: u8, columns: u8, i: usize, column: u8) -> bool
 fn value_fits(v: Value, m: u8) -> bool
     ensures { result ≡ value_fits m v }
 {
-    (v.mark == 0) | (u16::from(v.mark) == u16::from(m) + 1)
+    match v.read() {
+        Given::Constant(_) => true,
+        Given::Parameter(k) => k == m,
+    }
 }
 
 // The number of the parameter behind the settings, if these are sound.
@@ -116,12 +102,15 @@ fn after_settings(settings: &[Setting], form: u8, columns: u8) -> Option<u8>
         if !(column_fits(form, columns, i, s.column) & value_fits(value, next)) {
             return None;
         }
-        next += u8::from(value.mark != 0);
+        if let Given::Parameter(_) = value.read() {
+            next += 1;
+        }
     }
     Some(next)
 }
 
-// Whether one of the settings sets the same column as s.
+// Whether one of the settings sets the same column as s. (No function of `lists` asks this and `are_distinct` for all: settings are compared by column, slots by their keys, names by
+// their bytes in use, and of a closure a public function, which asks nothing, would have to ask that it gives a test's value.)
 fn is_set(s: &Setting, settings: &[Setting]) -> bool
     ensures { result ≡ any (same_column s.now) settings.now }
 {
@@ -143,24 +132,18 @@ fn update_is_sound(u: &Update, columns: u8) -> bool
     requires { columns ≤ 8 }
     ensures { result ≡ sound_update_on columns u.now }
 {
-    if !form_fits(u.form, u.count, columns, u.condition.count) {
-        return false;
-    }
-    let settings = in_use(&u.settings, usize::from(u.count));
-    let Some(next) = after_settings(settings, u.form, columns) else {
-        return false;
-    };
-    // the columns of an INSERT are their places, so they differ
-    ((u.form != Update::UPDATE) | are_distinct(settings))
-        & conditions::is_sound(&u.condition, columns, next, u.parameters)
+    let settings = u.used();
+    form_fits(u.form, u.count, columns, u.condition.count)
+        && after_settings(settings, u.form, columns).is_some_and(|next| {
+            // the columns of an INSERT are their places, so they differ
+            ((u.form != Update::UPDATE) | are_distinct(settings))
+                & conditions::is_sound(&u.condition, columns, next, u.parameters)
+        })
 }
 
 // Whether an update is sound beside these tables.
 pub fn update_fits(u: &Update, tables: &[Table]) -> bool
     ensures { result ≡ update_at (map width_of tables.now) u.now }
 {
-    match width_at(tables, u.table) {
-        Some(columns) => update_is_sound(u, columns),
-        None => false,
-    }
+    width_at(tables, u.table).is_some_and(|columns| update_is_sound(u, columns))
 }

@@ -1,5 +1,5 @@
 -- Statements put together of their parts: what the functions of the six forms make, from what those that they call make. Assumes nothing.
-use mathlib.Core.Path.{◌≡◌, refl, sym, ap, ap₂, ◌∙◌}
+use mathlib.Core.Path.{◌≡◌, refl, sym, ap, ap₂, subst, ◌∙◌}
 use mathlib.Core.Bool.{Bool, true, false, not, ◌&&◌, ◌||◌, cond}
 use mathlib.Core.List.{List, [], ◌∷◌, map}
 use Prim.Native.Nat.{ℕ, zero, suc, ◌+◌, ◌-◌, ◌*◌, ◌≤◌, ◌<◌}
@@ -24,13 +24,14 @@ use Rattle.statement.specs.declared.sentences.Form.{Form}
 use Rattle.statement.specs.declared.sentences.Form.TheVariants.{Pair}
 use Rattle.statement.specs.declared.sentences.Entry.{Entry}
 use Rattle.statement.specs.declared.sentences.Item.{Item}
+use Rattle.statement.specs.declared.names.Found.{Found}
 use Rattle.statement.specs.declared.conditions.Node.{Node}
 use Rattle.statement.specs.declared.assembling.Settings.{Settings}
 use Rattle.statement.specs.Places.{name_on, given_on, Column, column_on, bare_marks_on}
 use Rattle.statement.specs.Sentences.{givens_on}
 use Rattle.statement.specs.Catalog.{name_of_struct, names_of, column_names, schema_of}
 use Rattle.statement.specs.Compiled.{padded, name_struct, no_name, no_setting, condition_struct, created, asked, changing, refused_by, settled}
-use Rattle.statement.specs.Built.{lowest_by, places_of, number_in, short_name, short_column, columns_on, rows_on, settings_on, outer_in, condition_below, places_below, Fits, condition_on, unknown_on, table_on, select_on, insert_on, sets_on, update_on, delete_on, form_as, form_on, number_on, pair_with, pair_on, beside_as, beside_on}
+use Rattle.statement.specs.Built.{lowest_by, places_of, number_in, Finds, short_name, short_column, columns_on, rows_on, settings_on, outer_in, condition_below, places_below, Fits, condition_on, unknown_on, table_on, select_on, insert_on, sets_on, update_on, delete_on, form_as, form_on, number_on, pair_with, pair_on, beside_as, beside_on}
 use Rattle.statement.proofs.Values.{name_back}
 use Rattle.statement.proofs.Parts.{mark-one}
 use Rattle.statement.proofs.Sets.{marks-count}
@@ -186,12 +187,11 @@ number-none true j e = cc
 number-none false j e = refl
 
 -- what is read past the end of the tables
-abbrev pub blank : Table
+abbrev blank : Table
 blank = record { name = record { bytes = []; len = 0 }; columns = []; count = 0; capacity = 0; rows = 0; oldest = 0; ring = false }
 
 -- the tables, and the one that the text names at p
-module _ (s : List ℕ) (p : ℕ) (tables : List Table) (name : Name) (o : Maybe ℕ)
-    (en : name ≡ name_struct (short_name (name_on s p))) (eo : o ≡ number_in (map schema_of tables) (name_of_struct name)) where
+module _ (s : List ℕ) (p : ℕ) (tables : List Table) (name : Name) (en : name ≡ name_struct (short_name (name_on s p))) where
   abbrev S : List Schema
   S = map schema_of tables
 
@@ -201,18 +201,25 @@ module _ (s : List ℕ) (p : ℕ) (tables : List Table) (name : Name) (o : Maybe
   name_is : name_of_struct name ≡ short_name (name_on s p)
   name_is = ap name_of_struct en ∙ name_back (short_name (name_on s p))
 
-  number_is : o ≡ cond (ltb j (length S)) (Some j) None
-  number_is = eo ∙ ap (number_in S) name_is
+  number_is : number_in S (name_of_struct name) ≡ cond (ltb j (length S)) (Some j) None
+  number_is = ap (number_in S) name_is
 
-  pub none-there : o ≡ None → ltb j (length S) ≡ false
-  none-there e = number-none (ltb j (length S)) j (sym number_is ∙ e)
+  pub none-there : (o : Maybe Found) → Finds tables (name_of_struct name) o → o ≡ None → ltb j (length S) ≡ false
+  none-there None f e = number-none (ltb j (length S)) j (sym number_is ∙ f)
+  none-there (Some x) f e = absurd (cc)
 
-  module _ (i : ℕ) (e : o ≡ Some i) where
+  module _ (o : Maybe Found) (fo : Finds tables (name_of_struct name) o) (x : Found) (ex : o ≡ Some x) where
+    found : Finds tables (name_of_struct name) (Some x)
+    found = subst (Finds tables (name_of_struct name)) ex fo
+
+    abbrev i : ℕ
+    i = x.number
+
     pub one-there : ltb j (length S) ≡ true
-    one-there = (number-some (ltb j (length S)) j i (sym number_is ∙ e)).0
+    one-there = (number-some (ltb j (length S)) j i (sym number_is ∙ found.0)).0
 
     pub one-number : i ≡ j
-    one-number = (number-some (ltb j (length S)) j i (sym number_is ∙ e)).1
+    one-number = (number-some (ltb j (length S)) j i (sym number_is ∙ found.0)).1
 
     inside : j < length S
     inside = ltb-true j (length S) one-there
@@ -220,10 +227,10 @@ module _ (s : List ℕ) (p : ℕ) (tables : List Table) (name : Name) (o : Maybe
     pub one-inside : i < length tables
     one-inside = omega (arith, inside, one-number, length-map tables schema_of)
 
-    pub one-columns : (k : ℕ) (d : Table) → k ≡ i → column_names (get_or tables k d) ≡ columns_of S (short_name (name_on s p))
-    one-columns k d q =
-        ap (λ (n : ℕ). column_names (get_or tables n d)) q
-        ∙ ap (λ (t : Schema). t.columns) (sym (get_or-inside schema_of tables i d no_schema one-inside) ∙ ap (λ (n : ℕ). get_or S n no_schema) one-number)
+    pub one-columns : column_names x.table.now ≡ columns_of S (short_name (name_on s p))
+    one-columns =
+        ap column_names (found.1 blank)
+        ∙ ap (λ (t : Schema). t.columns) (sym (get_or-inside schema_of tables i blank no_schema one-inside) ∙ ap (λ (n : ℕ). get_or S n no_schema) one-number)
 
     named : (d : Table) → name_of_struct (get_or tables i d).name ≡ short_name (name_on s p)
     named d =
@@ -232,8 +239,8 @@ module _ (s : List ℕ) (p : ℕ) (tables : List Table) (name : Name) (o : Maybe
         get_or-inside (λ (t : Schema). t.name) S i no_schema [] (omega (arith, inside, one-number)) ∙ ap (λ (t : Schema). t.name) (get_or-inside schema_of tables i d no_schema one-inside) in
         sym q ∙ ap (λ (k : ℕ). get_or (table_names S) k []) one-number ∙ at-position (table_names S) (short_name (name_on s p)) (omega (arith, inside, l))
 
-    pub one-name : (k : ℕ) (d : Table) → k ≡ i → name_of_struct (get_or tables k d).name ≡ short_name (name_on s p)
-    one-name k d q = ap (λ (n : ℕ). name_of_struct (get_or tables n d).name) q ∙ named d
+    pub one-name : name_of_struct x.table.now.name ≡ short_name (name_on s p)
+    one-name = ap (λ (t : Table). name_of_struct t.name) (found.1 blank) ∙ named blank
 
 module _ (s : List ℕ) (ls : List Item) (ps : List Node) (e : Entry) (ts : List Schema) (queries updates : ℕ) where
   abbrev name : List ℕ

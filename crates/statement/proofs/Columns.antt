@@ -21,7 +21,7 @@ use Rattle.token.specs.declared.Kind.TheVariants.{Name as Named, Dot}
 use Rattle.token.specs.Tokens.{kind_of, token_at}
 use Rattle.token.proofs.Laws.{Reads, token-again}
 use Rattle.token.proofs.TokenKinds.{kind-name}
-use Rattle.statement.specs.declared.conditions.Side.{Side}
+use Rattle.statement.specs.declared.sides.Side.{Side}
 use Rattle.statement.specs.Places.{first, token_on, or_empty, name_on, given_on, behind_dot, column_on, or_given}
 use Rattle.statement.specs.Reading.{token_past, past, is_operand, is_name, marks_at, a_column, IsDotted, IsOperand, Sides}
 use Rattle.statement.proofs.Operands.{term_of, Single, term-reader, no-term, term-none, is-term}
@@ -118,9 +118,9 @@ module _ (s : List ℕ) (at : ℕ) (u : Token) (e : u ≡ token_at s at) where
         let q : token_at s u.start ≡ u = ap (λ (x : Token). token_at s x.start) e ∙ token-again s at ∙ sym e in
         ap (λ (x : Token). (token_at s x.next).next) q ∙ ap (λ (x : Token). x.next) (sym e₂)
 
-    pub dotted-found : (p q : Bool) → p ≡ past u → q ≡ past w
-        → Sides s at (Some (record { over = p || q; marks = 0; start = u.start; next = w.next })) (IsDotted s) (a_dotted (tokens (drop at s)))
-    dotted-found p q ep eq =
+    pub dotted-found : (p q : Bool) (f : 0 ≤ 1) → p ≡ past u → q ≡ past w
+        → Sides s at (Some (record { over = p || q; marks = 0; start = u.start; next = w.next; few = f })) (IsDotted s) (a_dotted (tokens (drop at s)))
+    dotted-found p q f ep eq =
         let n = name-at s at u e h₁ in
         let g = goes s u.next v e₂ dot refl h₂ in
         let m = name-at s v.next w e₃ h₃ in
@@ -138,7 +138,7 @@ module _ (s : List ℕ) (at : ℕ) (u : Token) (e : u ≡ token_at s at) where
         )
       where
         r : Side
-        r = record { over = p || q; marks = 0; start = u.start; next = w.next }
+        r = record { over = p || q; marks = 0; start = u.start; next = w.next; few = f }
 
 -- ---- an operand
 

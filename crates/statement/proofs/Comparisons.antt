@@ -23,13 +23,12 @@ use Rattle.token.specs.declared.Token.{Token}
 use Rattle.token.specs.declared.Kind.{Kind}
 use Rattle.token.specs.declared.Kind.TheVariants.{Not, Is, Null}
 use Rattle.token.specs.Tokens.{token_at}
-use Rattle.token.proofs.Laws.{next-inside}
 use Rattle.statement.specs.Operators.{operator_number, predicate_number, opposite_of}
 use Rattle.statement.specs.declared.conditions.Node.{Node}
 use Rattle.statement.specs.Places.{Column, term_on, comparison_node, node_on, nodes_on, bare_marks_on}
 use Rattle.statement.specs.Reading.{operator_in, is_name, is_is, Operand, a_column, with_sides, with_node, PutsNode, ended_at, PutsNull, Stands, Spans, IsOperand, Sides, ReadsSide, Found, Meets, Reaches, TestsNull}
 use Rattle.statement.specs.declared.conditions.Cursor.{Cursor}
-use Rattle.statement.specs.declared.conditions.Side.{Side}
+use Rattle.statement.specs.declared.sides.Side.{Side}
 use Rattle.statement.proofs.OperatorLaws.{predicate-back, predicate-few, opposite-is}
 use Rattle.statement.proofs.Nodes.{nodes-put, marks-put}
 use Rattle.statement.proofs.Operands.{append-marks, is_column, column-is, first-column, no-operator, is-operator}
@@ -151,11 +150,6 @@ module _ (d : Bool) (s : List ℕ) (positive : Bool) (depth : ℕ) (c : Cursor) 
 null-or : (k : Kind) → Dec (k ≡ Null)
 null-or Null = yes refl
 null-or _ = no (λ e. cc)
-
--- what `put_null` asks, of any token
-pub null-fits : (s : List ℕ) (c : Cursor) (a : Side) (at : ℕ) → Stands s c → Reaches s c a at → (from : ℕ) (u : Token) → u ≡ token_at s from
-    → (a.marks ≤ 1) × (a.start ≤ 256) × (u.next ≤ 256)
-null-fits s c a at st R from u e = omega (arith, st.short, R.within, R.begun, R.unmarked, ap (λ (v : Token). v.next) e, next-inside s from)
 
 module _ (d : Bool) (s : List ℕ) (positive : Bool) (depth : ℕ) (c : Cursor) (eq : c.dotted ≡ d) (xs : List Node) (a : Side) (at : ℕ)
     (st : Stands s c) (R : Reaches s c a at) (x : Column d) (p : IsOperand d s a (column x)) (r : Maybe Cursor) (ys : List Node) where
@@ -288,28 +282,6 @@ module _ (d : Bool) (s : List ℕ) (positive : Bool) (depth : ℕ) (c : Cursor) 
           module _ (w : Side) (k₃ : Sides s v.next (Some w) (IsOperand d s) (a_term (a_column d) (tokens (drop v.next s)))) (st : Stands s c) where
             abbrev right : Reached s v.next w (IsOperand d s w) (a_term (a_column d) (tokens (drop v.next s)))
             right = side s v.next (IsOperand d s) w (a_term (a_column d) (tokens (drop v.next s))) k₃
-
-            pub fits : (a.marks ≤ 1) × (w.marks ≤ 1) × (a.start ≤ 256) × (w.start ≤ 256) × (w.next ≤ 256)
-            fits =
-                let m = left in
-                let n = right in
-                omega (
-                  arith,
-                  m.spans.on,
-                  m.spans.within,
-                  m.spans.begun,
-                  m.is.marks,
-                  few_marks m.value,
-                  n.spans.on,
-                  n.spans.within,
-                  n.spans.begun,
-                  n.is.marks,
-                  few_marks n.value,
-                  st.short,
-                  st.inside,
-                  st.few_nodes,
-                  st.few_marks,
-                )
 
             pub compared : (e : Cursor) → r ≡ Some e → PutsNode xs (with_sides depth a w c) (comparison_node depth (cond positive op (opposite_of op)) a.start w.start) ys e → Answer
             compared e q put =

@@ -1,11 +1,12 @@
 -- An array filled from the front: its first places hold what a function makes of the first members of a list, and the others the default. Assumes nothing.
-use mathlib.Core.Path.{◌≡◌, sym, ap, ◌∙◌}
-use mathlib.Core.List.{List, ◌∷◌, map}
+use mathlib.Core.Path.{◌≡◌, refl, sym, ap, ◌∙◌}
+use mathlib.Core.List.{List, [], ◌∷◌, ◌++◌, map}
 use Prim.Native.Nat.{ℕ, ◌+◌, ◌≤◌, ◌<◌}
 use native.Mathlib.Numerals.{add-one}
 use native.Mathlib.Omega.{arith}
-use lib.ListN.{length, get_or, drop, set, replicate, length-map, drop_of_length-le}
+use lib.ListN.{length, get_or, take, drop, set, replicate, length-map, drop_of_length-le}
 use lib.Seq.{drop-cons}
+use Rattle.std.proofs.lemmas.Grind.{take-set_at}
 use Rattle.lists.proofs.Walks.{Filling, filling-start, filling-more, filling-end}
 use Rattle.statement.specs.Compiled.{padded}
 
@@ -26,3 +27,7 @@ module _ {A B : Type 0} (f : A → B) (n : ℕ) (d : B) (xs : List A) where
 
   pub filled-end : (out : List B) (i : ℕ) → length xs ≤ i → Filled out i → out ≡ padded n d (map f xs)
   filled-end out i h F = filling-end _ out i _ (ap (map f) (drop_of_length-le xs h)) F
+
+-- an item that was put behind n others, where there was room
+pub put-noted : {A : Type 0} (xs ys : List A) (n k : ℕ) (x : A) → length xs ≡ k → ys ≡ set xs n x → n < k → take (n + 1) ys ≡ take n xs ++ (x ∷ [])
+put-noted xs ys n k x l e h = ap (take (n + 1)) e ∙ take-set_at xs n (n + 1) x refl (omega arith)

@@ -2,12 +2,11 @@
 use mathlib.Core.Path.{◌≡◌, refl, sym, ap, ap₂, ◌∙◌}
 use mathlib.Core.Bool.{Bool, true, false, ◌&&◌, ◌||◌, cond}
 use mathlib.Core.List.{List, [], ◌∷◌, map}
-use Prim.Native.Nat.{ℕ, suc, ◌+◌, ◌*◌, ◌≤◌, ◌<◌, min}
-use native.Mathlib.Nat.{mul-le-mul}
+use Prim.Native.Nat.{ℕ, suc, ◌+◌, ◌≤◌, ◌<◌}
 use native.Mathlib.Omega.{arith}
 use borrow.Author.Tests.{lt-ltb, le-ltb, ltb-false}
 use lib.Dec.{ltb, leb-suc-suc, leb-suc-zero}
-use lib.ListN.{length, take, length-take, length-map}
+use lib.ListN.{length, take, length-map}
 use Rattle.lists.specs.Lists.{repeats}
 use Rattle.lists.proofs.Bools.{clash}
 use Rattle.lists.proofs.Chains as C
@@ -17,17 +16,14 @@ use Rattle.meaning.specs.Names.{same_name, has, position, table_names, is_of, pa
 use Rattle.statement.specs.Same.{same-sym}
 use Rattle.statement.specs.declared.Name.{Name}
 use Rattle.statement.specs.declared.Table.{Table}
-use Rattle.statement.specs.Catalog.{name_of_struct, names_of, schema_of}
-use Rattle.statement.specs.Built.{place_of, number_in}
+use Rattle.statement.specs.Catalog.{name_of_struct, schema_of}
+use Rattle.statement.specs.Built.{place_of, number_in, Finds}
+use Rattle.statement.specs.declared.names.Found.{Found}
 use Rattle.statement.proofs.Chains.{number-is}
 use Rattle.std.proofs.Common.{Option as Maybe, Some, None}
 use Rattle.std.specs.List.{position_or_len, list_any, enumerate_from}
 use Rattle.std.specs.Option.{is_some}
 use Rattle.statement.proofs.ByKind.{position-most}
-
--- how many names of an array are in use
-pub names-count : (names : List Name) (count n : ℕ) → length names ≡ 8 → n ≡ min count 8 → n ≡ length (names_of names count)
-names-count names count n h e = e ∙ sym (length-map (take count names) name_of_struct ∙ length-take count names ∙ ap (min count) h)
 
 -- ---- a name that is there has a place inside the list
 
@@ -100,12 +96,6 @@ pub table-names : (ts : List Table) → table_names (map schema_of ts) ≡ map (
 table-names [] = refl
 table-names (t ∷ ts) = ap (λ (ns : List (List ℕ)). name_of_struct t.name ∷ ns) (table-names ts)
 
-pub column-count : (t : Table) → length t.columns ≡ 8 → length (names_of t.columns t.count) ≡ min t.count 8
-column-count t h = sym (names-count t.columns t.count (min t.count 8) h refl)
-
-pub area_small : (n k : ℕ) → n ≤ 8 → k ≤ 65535 → n * k ≤ 524280
-area_small n k h l = mul-le-mul h l
-
 -- the number of a table by its name
 pub number-of : (n : List ℕ) (ts : List Table) (r : Maybe ℕ)
     → r ≡ cond (ltb (position_or_len (λ (t : Table). same_name n (name_of_struct t.name)) ts) (length ts)) (Some (position_or_len (λ (t : Table). same_name n (name_of_struct t.name)) ts)) None
@@ -114,13 +104,23 @@ number-of n ts r e =
     number-is (λ (t : Table). name_of_struct t.name) n ts r e
     ∙ ap₂ (λ (ns : List (List ℕ)) (l : ℕ). cond (ltb (position ns n) l) (Some (position ns n)) None) (sym (table-names ts)) (sym (length-map ts schema_of))
 
-pub has-number : (ts : List Table) (n : List ℕ) → is_some (number_in (map schema_of ts) n) ≡ has (table_names (map schema_of ts)) n
-has-number ts n =
+-- what is returned where there is none
+pub none-found : (n : List ℕ) (ts : List Table) (o : Maybe Found) → o ≡ None → number_in (map schema_of ts) n ≡ None → Finds ts n o
+none-found n ts None e h = h
+none-found n ts (Some f) e h = absurd (cc)
+
+pub has-number : (ts : List Table) (n : List ℕ) (o : Maybe Found) → Finds ts n o → is_some o ≡ has (table_names (map schema_of ts)) n
+has-number ts n o h =
     let e : length (table_names (map schema_of ts)) ≡ length (map schema_of ts) = length-map (map schema_of ts) _ in
-    go (ltb (position (table_names (map schema_of ts)) n) (length (map schema_of ts)))
+    some o h
+    ∙ go (ltb (position (table_names (map schema_of ts)) n) (length (map schema_of ts)))
     ∙ ap (ltb (position (table_names (map schema_of ts)) n)) (sym e)
     ∙ has-ltb (table_names (map schema_of ts)) n
   where
+    some : (o : Maybe Found) → Finds ts n o → is_some o ≡ is_some (number_in (map schema_of ts) n)
+    some None h = ap is_some (sym h)
+    some (Some f) h = ap is_some (sym h.0)
+
     go : (b : Bool) → is_some (cond b (Some (position (table_names (map schema_of ts)) n)) None) ≡ b
     go true = refl
     go false = refl

@@ -22,11 +22,13 @@ use Rattle.meaning.proofs.Dotted.{pair_inside, pair-past}
 use Rattle.meaning.specs.Statement.{numbered, numbered_all, settings, operand_of, comparison_of, mark_in_term}
 use Rattle.meaning.specs.Resolve.{marks_past, resolve_nodes}
 use Rattle.meaning.specs.Resolve.{is_below}
+use Rattle.meaning.specs.Plain.{of_first}
+use Rattle.statement.specs.Sound.{operand_read, comparison_read}
 use Rattle.meaning.specs.Pattern.{placed_from}
 use Rattle.statement.proofs.ByKind.{column-read, parameter-read}
 use Rattle.statement.specs.declared.Setting.{Setting}
 use Rattle.statement.specs.Compiled.{operand_struct, comparison_struct, no_comparison, condition_struct, setting_struct}
-use Rattle.statement.specs.Built.{places_of, places_below, operand_below, sides_below, condition_below, unknown_on, settings_from}
+use Rattle.statement.specs.Built.{places_of, places_below, condition_below, unknown_on, settings_from}
 use Rattle.statement.proofs.Found.{has-ltb}
 use Rattle.statement.proofs.Assembled.{take-padded}
 use Rattle.statement.proofs.Limited.{columns-cons}
@@ -49,13 +51,13 @@ module _ {C : Type 0} (place : C → ℕ) (width : ℕ) (lacks : C → Bool) (in
   places-known [] = refl
   places-known (c ∷ cs) = ap₂ ◌&&◌ (inside c) (places-known cs) ∙ not-or (lacks c) (any lacks cs)
 
-  side-known : (m : ℕ) (t : Term C) → operand_below width (operand_struct (operand_of place m t)) ≡ not (any lacks (term_columns (t ∷ [])))
+  side-known : (m : ℕ) (t : Term C) → is_below width (operand_read (operand_struct (operand_of place m t))) ≡ not (any lacks (term_columns (t ∷ [])))
   side-known m (G.column c) = ap (is_below width) (column-read (place c)) ∙ inside c ∙ ap not (sym (or-false (lacks c)))
   side-known m (G.given (G.constant z)) = refl
   side-known m (G.given G.mark) = ap (is_below width) (parameter-read m)
 
   sides-known : (m : ℕ) (c : Q.Comparison (Term C)) (ts : List (Term C))
-      → (sides_below width (comparison_struct (comparison_of place m c)) && not (any lacks (term_columns ts))) ≡ not (any lacks (term_columns (c.left ∷ c.right ∷ ts)))
+      → (of_first width (comparison_read (comparison_struct (comparison_of place m c))) && not (any lacks (term_columns ts))) ≡ not (any lacks (term_columns (c.left ∷ c.right ∷ ts)))
   sides-known m c ts =
       let a = any lacks (term_columns (c.left ∷ [])) in
       let b = any lacks (term_columns (c.right ∷ [])) in
@@ -65,10 +67,10 @@ module _ {C : Type 0} (place : C → ℕ) (width : ℕ) (lacks : C → Bool) (in
       ∙ ap not (sym (columns-cons lacks c.left (c.right ∷ ts) ∙ ap (λ (x : Bool). a || x) (columns-cons lacks c.right ts) ∙ or_assoc a b d))
 
   comparisons-known : (m : ℕ) (ns : List (Node (Term C)))
-      → all (sides_below width) (map comparison_struct (leaves (resolve_nodes place m ns))) ≡ not (any lacks (term_columns (sides (leaves ns))))
+      → all (λ k. of_first width (comparison_read k)) (map comparison_struct (leaves (resolve_nodes place m ns))) ≡ not (any lacks (term_columns (sides (leaves ns))))
   comparisons-known m [] = refl
   comparisons-known m (leaf c ∷ ns) =
-      ap (λ (x : Bool). sides_below width (comparison_struct (comparison_of place m c)) && x) (comparisons-known (marks_past m c) ns)
+      ap (λ (x : Bool). of_first width (comparison_read (comparison_struct (comparison_of place m c))) && x) (comparisons-known (marks_past m c) ns)
       ∙ sides-known m c (sides (leaves ns))
   comparisons-known m (all_of ∷ ns) = comparisons-known m ns
   comparisons-known m (any_of ∷ ns) = comparisons-known m ns
@@ -77,7 +79,7 @@ module _ {C : Type 0} (place : C → ℕ) (width : ℕ) (lacks : C → Bool) (in
       → condition_below width (condition_struct (resolve_nodes place m ns)) ≡ not (any lacks (term_columns (sides (leaves ns))))
   condition-known m ns =
       let cs = leaves (resolve_nodes place m ns) in
-      ap (all (sides_below width)) (take-padded 8 no_comparison (map comparison_struct cs) (length cs) (length-map cs comparison_struct))
+      ap (all (λ k. of_first width (comparison_read k))) (take-padded 8 no_comparison (map comparison_struct cs) (length cs) (length-map cs comparison_struct))
       ∙ comparisons-known m ns
 
   -- both at once

@@ -21,7 +21,7 @@ use Rattle.meaning.specs.Grammar.{Given, constant, mark, Term, column, given, Te
 use Rattle.meaning.specs.Limits.{table_named, further_tables, list_columns, list_givens, where_of, term_columns, term_givens, is_within32, outside32, many_items, rows_outside, many_marks, many_comparisons, deep, long_name, big_constant, past_limit}
 use Rattle.meaning.proofs.Dotted.{bare-givens, bare-columns}
 use Rattle.token.specs.declared.Kind.TheVariants.{Constant, Big}
-use Rattle.statement.specs.Built.{short_name, short_given, short_column, short_term, short_nodes, rows_in, rows_as}
+use Rattle.statement.specs.Built.{short_name, short_given, short_column, short_term, short_nodes, rows_as}
 
 abbrev pub is_long : Name → Bool
 is_long n = ltb 12 (length n)
@@ -166,7 +166,6 @@ module _ {C : Type 0} (short : C → C) (long : C → Bool) (whole : (c : C) →
 
 -- ROWS
 pub whole-rows : (z : ℤ) → (not (le_z (pos 1) z && le_z z (pos 512)) || false) ≡ false → rows_as (cond (is_within32 z) (Constant z) Big) ≡ nat_abs z
-unfolding rows_in
 whole-rows (pos n) h =
     let k : (leb 1 n && leb n 512) ≡ true = not-false (leb 1 n && leb n 512) (or_left (not (leb 1 n && leb n 512)) false h) in
     let a : 1 ≤ n = leb-true 1 n (and_left (leb 1 n) (leb n 512) k) in

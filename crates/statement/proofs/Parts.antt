@@ -1,16 +1,9 @@
--- The parts of statements: a number of rows, and the marks, operators and steps of what stands at places. Assumes nothing.
+-- The parts of statements: the marks, operators and steps of what stands at places. Assumes nothing.
 use mathlib.Core.Path.{◌≡◌, refl, ap, ◌∙◌}
-use mathlib.Core.Bool.{Bool, true, false, ◌||◌}
+use mathlib.Core.Bool.{Bool}
 use mathlib.Core.List.{List}
 use Prim.Native.Nat.{ℕ, ◌+◌, ◌≤◌}
 use native.Mathlib.Omega.{arith}
-use borrow.Author.Tests.{ltb-false}
-use lib.Dec.{T}
-use lib.IntN.{ℤ, pos, negsuc, nat_abs}
-use lib.Signed.{lt_z, non_neg}
-use mir.Syntax.{w16}
-use mir.Val.{Fits}
-use Rattle.lists.proofs.Bools.{clash}
 use Rattle.meaning.specs.Grammar as G
 use Rattle.meaning.specs.Grammar.{Given, Term}
 use Rattle.meaning.specs.Limits.{mark_in}
@@ -24,27 +17,7 @@ use Rattle.statement.specs.Operators.{predicate_at, predicate_number}
 use Rattle.statement.proofs.ByKind.{column-read, parameter-read}
 use Rattle.statement.specs.Places.{Column}
 use Rattle.statement.specs.Compiled.{value_struct, operand_struct, comparison_with, comparison_struct}
-use Rattle.statement.specs.Built.{rows_in, short_given, short_column, short_term, side_on, mark_in_value, mark_in_side, comparison_on}
-
--- ---- rows
-
-module _ (z y : ℤ) (e : y ≡ z) where
-  pub rows-past : (lt_z y (pos 1) || lt_z (pos 512) y) ≡ true → 0 ≡ rows_in z
-  unfolding rows_in
-  rows-past h = go (lt_z y (pos 1)) (lt_z (pos 512) y) refl refl h
-    where
-      go : (a b : Bool) → lt_z y (pos 1) ≡ a → lt_z (pos 512) y ≡ b → (a || b) ≡ true → 0 ≡ rows_in z
-      go true b p q h = rw (← e, p)
-      go false true p q h = rw (← e, p, q)
-      go false false p q h = clash h refl
-
-  pub rows_inside : lt_z y (pos 1) ≡ false → lt_z (pos 512) y ≡ false → nat_abs y ≡ rows_in z
-  unfolding rows_in
-  rows_inside h k = rw (← e, h, k)
-
-pub rows_fit : (y : ℤ) → lt_z y (pos 1) ≡ false → lt_z (pos 512) y ≡ false → T (non_neg y) × Fits w16 (nat_abs y)
-rows_fit (pos n) h k = (tt, record { fits = omega (arith, ltb-false 512 n k) })
-rows_fit (negsuc n) h k = clash refl h
+use Rattle.statement.specs.Built.{short_given, short_column, short_term, side_on, mark_in_value, mark_in_side, comparison_on}
 
 -- ---- marks
 

@@ -1,11 +1,11 @@
 -- The answers of the readers, over plain values: what a reader may answer, from what its calls answered. Assumes nothing.
 use mathlib.Core.Path.{◌≡◌, refl, sym, ap, subst, ◌∙◌}
-use mathlib.Core.Bool.{Bool, true, false, not, cond, ◌||◌}
+use mathlib.Core.Bool.{Bool, true, false, not, cond, ◌||◌, or-false}
 use mathlib.Core.Option.{Option, none, some}
 use Rattle.std.specs.Prelude.{Option as Maybe, Some, None}
 use mathlib.Core.List.{List, [], ◌∷◌, ◌++◌, append-nil, append_assoc}
 use Prim.Native.Nat.{ℕ, zero, suc, ◌+◌, ◌-◌, ◌*◌, ◌≤◌, ◌<◌}
-use native.Mathlib.Nat.{le_refl}
+use native.Mathlib.Nat.{le_refl, add-zero}
 use native.Mathlib.Omega.{arith}
 use lib.ListN.{length, take, drop, length-append}
 use Rattle.lists.proofs.Bools.{or_assoc}
@@ -13,13 +13,15 @@ use Rattle.meaning.specs.Condition.{Level, atom, conjunction, disjunction, mappe
 use Rattle.meaning.specs.Postfix.{Node, nodes, join_all, join_any}
 use Rattle.meaning.specs.Tokens as T
 use Rattle.meaning.specs.Tokens.{tokens, keyword, lparen, rparen, NOT, AND, OR}
-use Rattle.meaning.specs.Grammar.{comparison, Reader, then, ◌>>=◌, ◌>>◌, done, fails, passing, expect, a_condition}
-use Rattle.meaning.proofs.Readers.{begins, passing-yes, passing-stops, expect-here}
+use Rattle.meaning.specs.Grammar.{comparison, Reader, then, ◌>>=◌, ◌>>◌, done, passing, expect, a_condition}
+use Rattle.meaning.proofs.Readers.{begins, passing-yes, passing-stops}
 use Rattle.meaning.proofs.Decides.{reads-not, reads-open, reads-compare, reads-and, reads-or}
 use Rattle.statement.specs.declared.conditions.Node.{Node as Noted}
 use Rattle.statement.specs.declared.conditions.Node.TheVariants.{And, Or}
 use Rattle.statement.specs.Places.{node_on, nodes_on, bare_mark, bare_marks_on}
-use Rattle.statement.specs.Reading.{moved_to, with_node, PutsNode, Stands, Operand, Written, a_column, condition_past, bare_marks, marks_in, Found, Meets, rank, Compares, Reads, Passed, Passes, Closes}
+use Rattle.statement.specs.Reading.{moved_to, with_node, PutsNode, Stands, Operand, Written, a_column, condition_past, bare_marks, marks_in, Found, Meets, rank, Compares, Reads}
+use Rattle.statement.specs.Sentences.{Before, Agree, Counts, Expects}
+use Rattle.token.specs.declared.Kind.TheVariants.{Close}
 use Rattle.statement.specs.declared.conditions.Cursor.{Cursor}
 use Rattle.statement.proofs.Nodes.{nodes-put, marks-put}
 use Rattle.statement.proofs.Operands.{marks-of-both}
@@ -282,32 +284,20 @@ module _ {lo hi : Level} {k : T.Token} {wrap : (b : Bool) → Written b lo → W
 -- what was found before it is found behind it
 passed-found : (b : Bool) {l : Level} (s : List ℕ) (positive : Bool) (depth : ℕ) (c : Cursor) (xs : List Noted) (p : Cursor) (ys : List Noted)
     (t : Written b l) (more : List T.Token) (q : Cursor) (left : List T.Token)
-    → Found b s positive depth c xs p ys t more → Passed s p q left → Found b s positive depth c xs q ys t left
-passed-found b s positive depth c xs p ys t more q left f k = subst (λ z. Found b s positive depth c xs z ys t left) (sym k.is) here
-  where
-    here : Found b s positive depth c xs (moved_to q.at p) ys t left
-    here =
-        record {
-          dotted = f.dotted;
-          moved = omega (arith, f.moved, k.moved);
-          stands = record { short = f.stands.short; inside = k.inside; few_nodes = omega (arith, f.stands.few_nodes, k.moved); few_marks = omega (arith, f.stands.few_marks, k.moved) };
-          left = k.left;
-          over = f.over;
-          nodes_are = f.nodes_are;
-          marks_are = f.marks_are;
-          noted = f.noted;
-          bare = f.bare;
-          spread = omega (arith, f.spread, k.moved);
-        }
-
--- the answers of `closed`
-pub closes-not : (s : List ℕ) (c : Cursor) → begins rparen (tokens (drop c.at s)) ≡ false → Closes s c None
-closes-not s c i = subst (Passes s c None) (sym (passing-stops rparen (done tt) fails (tokens (drop c.at s)) i)) tt
-
-pub closes_here : (s : List ℕ) (c : Cursor) (next : ℕ) → Goes s c.at next rparen → Closes s c (Some (moved_to next c))
-closes_here s c next g =
-    subst (Passes s c (Some (moved_to next c))) (sym (ap (expect rparen) g.after ∙ expect-here rparen (tokens (drop next s))))
-    (record { is = refl; moved = g.on; inside = g.within; left = refl })
+    → Found b s positive depth c xs p ys t more → Before s q left → Counts p q false 0 → Found b s positive depth c xs q ys t left
+passed-found b s positive depth c xs p ys t more q left f k n =
+    record {
+      dotted = n.dotted ∙ f.dotted;
+      moved = omega (arith, f.moved, n.moved);
+      stands = k.stands;
+      left = k.left;
+      over = n.over ∙ or-false p.over ∙ f.over;
+      nodes_are = n.nodes_are ∙ f.nodes_are;
+      marks_are = n.marks_are ∙ add-zero p.marks ∙ f.marks_are;
+      noted = λ h. ap (λ i. nodes_on b s (take i ys)) n.nodes_are ∙ f.noted (omega (arith, n.nodes_are));
+      bare = λ h. ap (λ i. bare_marks_on (take i ys)) n.nodes_are ∙ f.bare (omega (arith, n.nodes_are));
+      spread = omega (arith, f.spread, n.moved, n.nodes_are);
+    }
 
 -- ---- the answers of `read_one`
 
@@ -340,25 +330,25 @@ module _ (s : List ℕ) (positive : Bool) (depth : ℕ) (c : Cursor) (xs : List 
   pub one-empty : (v : Maybe Cursor) → v ≡ None → Goes s c.at next lparen → Reads disjunction s positive (depth + 1) (moved_to next c) xs None ys → Reads atom s positive depth c xs v ys
   one-empty v e g m = subst (λ r. Reads atom s positive depth c xs r ys) (sym e) (empty g m)
 
-  pub one-closes : (p : Cursor) → Goes s c.at next lparen → Reads disjunction s positive (depth + 1) (moved_to next c) xs (Some p) ys → (q : Maybe Cursor) → Closes s p q → Reads atom s positive depth c xs q ys
+  pub one-closes : (p : Cursor) → Goes s c.at next lparen → Reads disjunction s positive (depth + 1) (moved_to next c) xs (Some p) ys → (q : Maybe Cursor) → Expects s Close p q → Reads atom s positive depth c xs q ys
   one-closes p g m q k b eb zero h = absurd (omega arith)
   one-closes p g m q k b eb (suc n) h =
       subst (Meets b s positive depth c xs q ys) (sym (ap (a_condition (a_column b) (suc n) atom) g.after ∙ reads-open (a_column b) n (tokens (drop next s))))
       (go (a_condition (a_column b) n disjunction (tokens (drop next s))) (m b eb n (omega (arith, g.on, g.within))))
     where
       shut : (t : Written b disjunction) (more : List T.Token) → Found b s positive (depth + 1) (moved_to next c) xs p ys t more
-          → (v : Maybe Cursor) (o : Option (Unit {0} × List T.Token)) → Passes s p v o → Meets b s positive depth c xs v ys (then o (λ x. done (group t)))
+          → (v : Maybe Cursor) (o : Option (Unit {0} × List T.Token)) → Agree s (λ d. d) (λ d u. Counts p d false 0) v o → Meets b s positive depth c xs v ys (then o (λ x. done (group t)))
       shut t more f None none z = tt
       shut t more f None (some y) z = absurd z
       shut t more f (Some v) none z = absurd z
       shut t more f (Some v) (some y) z =
           found_as b s positive (depth + 1) positive depth c next xs v ys t (group t) y.1 (refl, refl, refl, refl) (omega (arith, g.on))
-          (passed-found b s positive (depth + 1) (moved_to next c) xs p ys t more v y.1 f z)
+          (passed-found b s positive (depth + 1) (moved_to next c) xs p ys t more v y.1 f z.0 z.1)
 
       go : (x : Option (Written b disjunction × List T.Token)) → Meets b s positive (depth + 1) (moved_to next c) xs (Some p) ys x
           → Meets b s positive depth c xs q ys (then x (λ t. expect rparen >> done (group t)))
       go none f = absurd f
-      go (some y) f = shut y.0 y.1 f q (expect rparen y.1) (subst (λ ts. Passes s p q (expect rparen ts)) f.left k)
+      go (some y) f = shut y.0 y.1 f q (expect rparen y.1) (subst (λ ts. Agree s (λ d. d) (λ d u. Counts p d false 0) q (expect rparen ts)) f.left k.agrees)
 
 pub one-compares : (s : List ℕ) (positive : Bool) (depth : ℕ) (c : Cursor) (xs : List Noted) (p : Maybe Cursor) (ys : List Noted)
     → begins (keyword NOT) (tokens (drop c.at s)) ≡ false → begins lparen (tokens (drop c.at s)) ≡ false

@@ -3,14 +3,14 @@ use mathlib.Core.Path.{◌≡◌, refl, sym, ap}
 use mathlib.Core.Bool.{◌||◌}
 use Rattle.std.specs.Prelude.{Option as Maybe, Some, None}
 use mathlib.Core.List.{List}
-use Prim.Native.Nat.{ℕ, ◌≤◌, ◌<◌}
+use Prim.Native.Nat.{ℕ}
 use native.Mathlib.Nat.{add-zero}
 use native.Mathlib.Omega.{arith}
-use lib.ListN.{length, drop}
+use lib.ListN.{drop}
 use Rattle.meaning.specs.Tokens.{tokens}
 use Rattle.meaning.specs.Grammar.{a_dotted}
 use Rattle.statement.specs.declared.conditions.Cursor.{Cursor}
-use Rattle.statement.specs.declared.conditions.Side.{Side}
+use Rattle.statement.specs.declared.sides.Side.{Side}
 use Rattle.statement.specs.Reading.{Stands, IsDotted, Sides}
 use Rattle.statement.specs.Sentences.{Columns}
 use Rattle.statement.proofs.Comparisons.{Reached, side-none, side}
@@ -23,9 +23,6 @@ module _ (s : List ℕ) (c : Cursor) where
   module _ (d : Side) (k : Sides s c.at (Some d) (IsDotted s) (a_dotted (tokens (drop c.at s)))) where
     reached : Reached s c.at d (IsDotted s d) (a_dotted (tokens (drop c.at s)))
     reached = side s c.at (IsDotted s) d (a_dotted (tokens (drop c.at s))) k
-
-    pub column-inside : (d.start < d.next) × (d.next ≤ length s)
-    column-inside = (reached.spans.begun, reached.spans.within)
 
     -- the cursor behind the column
     abbrev pub behind : Cursor

@@ -1,4 +1,4 @@
--- Items and lists: what `put_item` leaves, and the steps of the readers. Assumes nothing.
+-- Items and lists: what is left where an item is put, and the steps of the readers. Assumes nothing.
 use mathlib.Core.Path.{◌≡◌, refl, sym, ap, subst, ◌∙◌}
 use mathlib.Core.Bool.{Bool, true, false, ◌||◌, or-false}
 use Rattle.std.specs.Prelude.{Option as Maybe, Some, None}

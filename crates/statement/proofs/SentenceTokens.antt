@@ -5,7 +5,7 @@ use mathlib.Core.Option.{Option, none, some}
 use Rattle.std.specs.Prelude.{Option as Maybe, Some, None}
 use mathlib.Core.List.{List, [], ◌∷◌}
 use Prim.Native.Nat.{ℕ, ◌+◌, ◌-◌, ◌≤◌}
-use native.Mathlib.Nat.{add-zero, le_trans}
+use native.Mathlib.Nat.{add-zero}
 use native.Mathlib.Omega.{arith}
 use borrow.Author.Tests.{leb-true, le-leb}
 use lib.Dec.{leb}
@@ -22,7 +22,7 @@ use Rattle.token.specs.declared.Token.{Token}
 use Rattle.token.specs.declared.Kind.{Kind}
 use Rattle.token.specs.declared.Kind.TheVariants.{Name as Named, Constant, Big, Mark, Rows, Ring}
 use Rattle.token.specs.Tokens.{kind_of, token_at}
-use Rattle.token.proofs.Laws.{Reads, start-next, next-inside}
+use Rattle.token.proofs.Laws.{Reads, next-inside}
 use Rattle.token.proofs.TokenKinds.{kind-name}
 use Rattle.statement.proofs.Tells.{Told, told, asked_fixed}
 use Rattle.statement.specs.declared.conditions.Cursor.{Cursor}
@@ -37,9 +37,6 @@ use Rattle.statement.proofs.SentenceReaders.{finds-none, finds, reads_as, counts
 module _ (s : List ℕ) (at : ℕ) (u : Token) (e : u ≡ token_at s at) where
   pub stays : u.next ≤ length s
   stays = rw e (next-inside s at)
-
-  pub starts : u.start ≤ length s
-  starts = rw e (le_trans (start-next s at) (next-inside s at))
 
 -- ---- one token, by a reader that takes it for an A
 

@@ -1,6 +1,7 @@
 -- What the functions that put statements together make of noted places. Assumes nothing: these are definitions.
-use Rattle.std.specs.Prelude.{Bool, true, false, not, ◌&&◌, ◌||◌, cond, List, [], ◌∷◌, map, ℕ, suc, ◌+◌, ◌-◌, ◌*◌, ◌≤◌, eqb, ltb, leb, ℤ, pos, nat_abs, length, take, Option as Maybe, Some, None}
+use Rattle.std.specs.Prelude.{◌≡◌, Bool, true, false, not, ◌&&◌, ◌||◌, cond, List, [], ◌∷◌, map, ℕ, suc, ◌+◌, ◌-◌, ◌*◌, ◌≤◌, eqb, ltb, leb, ℤ, pos, nat_abs, length, get_or, take, Option as Maybe, Some, None}
 use Rattle.std.specs.Int.Signed.{lt_z}
+use Rattle.std.specs.Option.{unwrap_or}
 use Rattle.lists.specs.Lists.{all, repeats, from}
 use Rattle.meaning.specs.Condition as C
 use Rattle.meaning.specs.Condition.{renamed}
@@ -9,20 +10,20 @@ use Rattle.meaning.specs.Grammar.{Given, constant, mark, Term, column, given, Do
 use Rattle.meaning.specs.Limits.{most_items, most_marks, most_comparisons, is_within32, mark_in, mark_count}
 use Rattle.meaning.specs.Names.{Schema, same_name, has, position, table_names, columns_of, pair_place}
 use Rattle.meaning.specs.Statement.{numbered, value}
-use Rattle.meaning.specs.Resolve.{resolve_nodes, mark_in_operand, is_below}
+use Rattle.meaning.specs.Resolve.{resolve_nodes, mark_in_operand}
 use Rattle.meaning.specs.Cells.{areas_size}
-use Rattle.meaning.specs.Plain.{lowest_of}
+use Rattle.meaning.specs.Plain.{lowest_of, of_first}
 use Rattle.token.specs.declared.Kind.{Kind}
 use Rattle.token.specs.declared.Kind.TheVariants.{Constant, Big}
 use Rattle.token.specs.Tokens.{kind_of}
 use Rattle.statement.specs.Operators.{predicate_at}
 use Rattle.statement.specs.Places.{token_on, name_on, Column, column_on, term_on, nodes_on, bare_marks_on}
 use Rattle.statement.specs.Sentences.{givens_on}
-use Rattle.statement.specs.Catalog.{name_of_struct, column_names}
-use Rattle.statement.specs.Compiled.{padded, table_struct, value_struct, left_side, right_side, setting_with, no_setting, condition_struct, marks_number, created, asked, changing, refused_by, settled}
-use Rattle.statement.specs.Sound.{value_read, operand_read}
+use Rattle.statement.specs.Catalog.{name_of_struct, column_names, schema_of}
+use Rattle.statement.specs.Compiled.{padded, table_struct, value_struct, setting_with, no_setting, condition_struct, marks_number, created, asked, changing, refused_by, settled}
+use Rattle.statement.specs.Sound.{value_read, operand_read, comparison_read, used_comparisons}
 use Rattle.statement.specs.declared.Operand.{Operand}
-use Rattle.statement.specs.declared.Comparison.{Comparison}
+use Rattle.statement.specs.declared.Table.{Table}
 use Rattle.statement.specs.declared.Condition.{Condition}
 use Rattle.statement.specs.declared.Value.{Value}
 use Rattle.statement.specs.declared.Setting.{Setting}
@@ -30,6 +31,7 @@ use Rattle.statement.specs.Compiled.{Compiled}
 use Rattle.statement.specs.declared.conditions.Node.{Node as Noted}
 use Rattle.statement.specs.declared.conditions.Node.TheVariants as N
 use Rattle.statement.specs.declared.sentences.Item.{Item}
+use Rattle.statement.specs.declared.names.Found.{Found}
 use Rattle.statement.specs.declared.names.Scope.{Scope}
 use Rattle.statement.specs.declared.names.Scope.TheVariants.{One, Two}
 use Rattle.statement.specs.declared.sentences.Form.{Form}
@@ -82,6 +84,11 @@ twice_in (Two t u) = same_name (name_of_struct t.now.name) (name_of_struct u.now
 abbrev pub number_in : List Schema → List ℕ → Maybe ℕ
 number_in ts n = cond (ltb (position (table_names ts) n) (length ts)) (Some (position (table_names ts) n)) None
 
+-- the table of that name, if there is one: the one of that number
+abbrev pub Finds : List Table → List ℕ → Maybe Found → Type 0
+Finds ts n None = number_in (map schema_of ts) n ≡ None
+Finds ts n (Some f) = (number_in (map schema_of ts) n ≡ Some f.number) × ((d : Table) → f.table.now ≡ get_or ts f.number d)
+
 -- ---- what is kept of a name and of a constant: all, where a text is within the limits
 
 abbrev pub short_name : List ℕ → List ℕ
@@ -130,12 +137,12 @@ constant_in (Constant z) = Some z
 constant_in Big = Some (pos 0)
 constant_in _ = None
 
--- 1 to 512 rows, or none
-unfoldable pub rows_in : ℤ → ℕ
-rows_in z = cond (lt_z z (pos 1)) 0 (cond (lt_z (pos 512) z) 0 (nat_abs z))
+-- 1 to 512 rows
+abbrev pub rows_in : ℤ → Maybe ℕ
+rows_in z = cond (lt_z z (pos 1) || lt_z (pos 512) z) None (Some (nat_abs z))
 
 abbrev pub rows_as : Kind → ℕ
-rows_as (Constant z) = rows_in z
+rows_as (Constant z) = unwrap_or (rows_in z) 0
 rows_as _ = 0
 
 abbrev pub rows_on : List ℕ → ℕ → ℕ
@@ -185,14 +192,8 @@ outer_in false nodes = 0
 outer_in true nodes = outer_on nodes
 
 -- columns below a limit
-abbrev pub operand_below : ℕ → Operand → Bool
-operand_below n o = is_below n (operand_read o)
-
-abbrev pub sides_below : ℕ → Comparison → Bool
-sides_below n c = operand_below n (left_side c) && operand_below n (right_side c)
-
 abbrev pub condition_below : ℕ → Condition → Bool
-condition_below n c = all (sides_below n) (take c.count c.comparisons)
+condition_below n c = all (λ k. of_first n (comparison_read k)) (used_comparisons c)
 
 abbrev pub places_below : ℕ → List ℕ → Bool
 places_below n at = all (λ (i : ℕ). ltb i n) at

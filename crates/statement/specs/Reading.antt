@@ -5,7 +5,7 @@ use Rattle.meaning.specs.Condition.{Level, atom, conjunction, disjunction, Tree,
 use Rattle.meaning.specs.Postfix.{nodes}
 use Rattle.meaning.specs.Tokens as T
 use Rattle.meaning.specs.Tokens.{tokens, rparen}
-use Rattle.meaning.specs.Grammar.{Term, column, given, Test, comparison, Dotted, Reader, then, done, expect, a_name, a_dotted, a_term, a_null, a_comparison, a_condition, name_of}
+use Rattle.meaning.specs.Grammar.{Term, column, given, Test, comparison, Dotted, Reader, then, done, a_name, a_dotted, a_term, a_null, a_comparison, a_condition, name_of}
 use Rattle.meaning.specs.Limits.{most_name, most_depth, outside32, term_givens, mark_count}
 use Rattle.token.specs.declared.Kind.{Kind}
 use Rattle.token.specs.declared.Kind.TheVariants.{Name, Constant, Big, Mark, Eq, Ne, Lt, Le, Gt, Ge, Is, Null}
@@ -15,7 +15,7 @@ use Rattle.statement.specs.Operators.{opposite_of}
 use Rattle.statement.specs.Places.{token_on, Column, column_on, term_on, comparison_node, nodes_on, bare_marks_on}
 use Rattle.statement.specs.declared.conditions.Cursor.{Cursor}
 use Rattle.statement.specs.declared.conditions.Node.{Node as Noted}
-use Rattle.statement.specs.declared.conditions.Side.{Side}
+use Rattle.statement.specs.declared.sides.Side.{Side}
 
 -- ---- tokens by their kinds
 
@@ -66,6 +66,10 @@ marks_at _ = 0
 abbrev pub moved_to : ℕ → Cursor → Cursor
 moved_to at c = record { over = c.over; dotted = c.dotted; nodes = c.nodes; marks = c.marks; at = at }
 
+-- behind what ends at a place, and is past a limit or not
+abbrev pub behind : ℕ → Bool → Cursor → Cursor
+behind at past c = record { over = c.over || past; dotted = c.dotted; nodes = c.nodes; marks = c.marks; at = at }
+
 -- one node more
 abbrev pub with_node : Cursor → Cursor
 with_node c = record { over = c.over; dotted = c.dotted; nodes = c.nodes + 1; marks = c.marks; at = c.at }
@@ -88,7 +92,7 @@ pub record PutsNode (xs : List Noted) (c : Cursor) (node : Noted) (ys : List Not
 
 -- a side that ends at another place
 abbrev pub ended_at : ℕ → Side → Side
-ended_at next a = record { over = a.over; marks = a.marks; start = a.start; next = next }
+ended_at next a = record { over = a.over; marks = a.marks; start = a.start; next = next; few = a.few }
 
 -- A.5: the null test `op` of the column a was put if the token t is NULL
 abbrev pub PutsNull : List Noted → Cursor → Bool → ℕ → Side → ℕ → Token → List Noted → Maybe Cursor → Type 0
@@ -230,21 +234,3 @@ rank disjunction = 3
 abbrev pub Reads : Level → List ℕ → Bool → ℕ → Cursor → List Noted → Maybe Cursor → List Noted → Type 0
 Reads l s positive depth c xs r ys =
     (b : Bool) → c.dotted ≡ b → (n : ℕ) → 3 * (length s - c.at) + rank l ≤ n → Meets b s positive depth c xs r ys (a_condition (a_column b) n l (tokens (drop c.at s)))
-
--- ---- the closing parenthesis
-
--- it was passed, and the tokens `more` follow
-pub record Passed (s : List ℕ) (c r : Cursor) (more : List T.Token) : Type 0 where
-  pub is : r ≡ moved_to r.at c
-  pub moved : c.at < r.at
-  pub inside : r.at ≤ length s
-  pub left : tokens (drop r.at s) ≡ more
-
-abbrev pub Passes : List ℕ → Cursor → Maybe Cursor → Option (Unit {0} × List T.Token) → Type 0
-Passes s c None none = Unit {0}
-Passes s c None (some x) = ⊥
-Passes s c (Some r) none = ⊥
-Passes s c (Some r) (some x) = Passed s c r x.1
-
-abbrev pub Closes : List ℕ → Cursor → Maybe Cursor → Type 0
-Closes s c r = Passes s c r (expect rparen (tokens (drop c.at s)))

@@ -7,7 +7,7 @@ ghost use Rattle.meaning.specs.Resolve.{resolve_nodes};
 ghost use Rattle.statement.specs.Operators.{predicate_at, predicate_number};
 ghost use Rattle.statement.specs.Places.{bare_mark, bare_marks_on};
 ghost use Rattle.statement.specs.Sentences.{givens_on};
-ghost use Rattle.statement.specs.Compiled.{padded, left_side, right_side, comparison_struct, condition_struct, marks_number};
+ghost use Rattle.statement.specs.Compiled.{left_side, right_side, comparison_struct, condition_struct, marks_number};
 ghost use Rattle.statement.specs.Built.{place_in, dotted, short_column, short_term, kept_on, mark_in_value, mark_in_side, comparison_on, step_in, last_of, settings_on, outer_on, outer_in};
 
 use super::build::Reading;
@@ -15,16 +15,33 @@ use super::conditions::Node;
 use super::names::Scope;
 use super::{Comparison, Condition, Given, Operand, Setting, Step, Term, Update, Value, fetching};
 
-// ---- settings
+// ---- question marks: how many each has
 
-fn mark_in(v: Value) -> u8
-    ensures { result ≡ mark_in_value v }
-{
-    match v.read() {
-        Given::Constant(_) => 0,
-        Given::Parameter(_) => 1,
+impl Value {
+    fn marks(self) -> u8
+        ensures { result ≡ mark_in_value self }
+    {
+        u8::from(matches!(self.read(), Given::Parameter(_)))
     }
 }
+
+impl Operand {
+    fn marks(self) -> u8
+        ensures { result ≡ mark_in_side self }
+    {
+        u8::from(matches!(self.read(), Term::Parameter(_)))
+    }
+}
+
+impl Comparison {
+    fn marks(self) -> u8
+        ensures { result ≡ mark_in_side (left_side self) + mark_in_side (right_side self) }
+    {
+        self.left_side().marks() + self.right_side().marks()
+    }
+}
+
+// ---- settings
 
 // Settings, and how many question marks they have.
 #[derive(Clone, Copy)]
@@ -42,28 +59,19 @@ impl Reading<'_> {
         let mut all = [Setting::default(); Update::SETTINGS];
         let mut marks: u8 = 0;
         for (i, item) in self.items.iter().enumerate() {
-            let value = fetching::value_at(self.text, usize::from(item.value), marks);
+            let value = fetching::value_at(self.text, item.value, marks);
             all[i] = Setting {
                 column: columns[i],
                 mark: value.mark,
                 number: value.number,
             };
-            marks += mark_in(value);
+            marks += value.marks();
         }
         Settings { all, marks }
     }
 }
 
 // ---- conditions
-
-fn mark_of(side: Operand) -> u8
-    ensures { result ≡ mark_in_side side }
-{
-    match side.read() {
-        Term::Parameter(_) => 1,
-        _ => 0,
-    }
-}
 
 // The number by which an operator is stored: a number past the last one is read as <>.
 fn operator(op: u8) -> u8
@@ -77,12 +85,19 @@ fn operator(op: u8) -> u8
 }
 
 // A comparison, by its operator and the places of its sides.
-fn comparison_at(text: &[u8], op: u8, left: u16, right: u16, scope: &Scope, marks: u8) -> Comparison
+fn comparison_at(
+    text: &[u8],
+    op: u8,
+    left: usize,
+    right: usize,
+    scope: &Scope,
+    marks: u8,
+) -> Comparison
     requires { marks < 126 }
     ensures { result ≡ comparison_struct (comparison_of (place_in scope.now) marks (renamed (short_term (short_column (dotted scope.now))) (comparison_on (dotted scope.now) text.now op left right))) }
 {
-    let a = fetching::operand_at(text, usize::from(left), scope, marks);
-    let b = fetching::operand_at(text, usize::from(right), scope, marks + mark_of(a));
+    let a = fetching::operand_at(text, left, scope, marks);
+    let b = fetching::operand_at(text, right, scope, marks + a.marks());
     Comparison {
         op: operator(op),
         left: a.code,
@@ -90,12 +105,6 @@ fn comparison_at(text: &[u8], op: u8, left: u16, right: u16, scope: &Scope, mark
         left_number: a.number,
         right_number: b.number,
     }
-}
-
-fn marks_of(c: Comparison) -> u8
-    ensures { result ≡ mark_in_side (left_side c) + mark_in_side (right_side c) }
-{
-    mark_of(c.left_side()) + mark_of(c.right_side())
 }
 
 fn step_in(node: &Node) -> u8
@@ -108,19 +117,8 @@ fn step_in(node: &Node) -> u8
     }
 }
 
-fn steps_at(nodes: &[Node]) -> [u8; Condition::STEPS]
-    requires { length nodes.now ≤ 15 }
-    ensures { result ≡ padded 15 0 (map step_in nodes.now) }
-{
-    let mut steps = [0u8; Condition::STEPS];
-    for (i, node) in nodes.iter().enumerate() {
-        steps[i] = step_in(node);
-    }
-    steps
-}
-
 impl Reading<'_> {
-    // Its condition, with columns of these tables, where so many question marks stand before it.
+    // Its condition, with columns of these tables, where so many question marks stand before it. A loop, since the marks before a comparison are counted on from the ones before it.
     pub fn noted_condition(&self, scope: &Scope, marks: u8) -> Condition
         requires { marks ≤ most_marks }
         ensures { result ≡ condition_struct (resolve_nodes (place_in scope.now) marks (kept_on (dotted scope.now) self.now.text.now self.now.nodes.now)) }
@@ -139,13 +137,13 @@ impl Reading<'_> {
                 let c = comparison_at(self.text, *op, *left, *right, scope, m);
                 comparisons[found] = c;
                 found += 1;
-                m += marks_of(c);
+                m += c.marks();
             }
         }
         Condition {
             comparisons,
-            steps: steps_at(self.nodes),
-            count: found as u8,
+            steps: fetching::placed(self.nodes, 0, step_in),
+            count: found as u8, // at most 8; u8 has no From of usize
         }
     }
 }
@@ -163,7 +161,7 @@ fn with_mark(marks: u8, node: &Node) -> u8
     }
 }
 
-// Whether OR is the last node.
+// Whether OR is the last node. (By its step: with `matches!` of the last node the proof did not close, since nothing says in the other branch that it is not OR.)
 fn ends_in_or(nodes: &[Node]) -> bool
     ensures { result ≡ eqb (last_of 0 (map step_in nodes.now)) 2 }
 {
@@ -174,6 +172,7 @@ fn ends_in_or(nodes: &[Node]) -> bool
 }
 
 // The marks of the outer comparisons among the nodes that are noted: the bare ones, but none under OR. Where OR is the last node, it joins them all, or none is bare.
+// No `fold`: a mark more is put where eight are enough, which holds of these nodes, and a fold's closure must take any.
 fn outer_marks(nodes: &[Node]) -> u8
     requires { length (bare_marks_on nodes.now) ≤ most_comparisons }
     ensures { result ≡ outer_on nodes.now }

@@ -1,25 +1,41 @@
 // Conditions: the readers of OR, AND and single conditions call each other in a cycle, and the text that remains gets shorter. They note each comparison and
 // each AND and OR in an array that is lent down the cycle, in postfix order with NOT pushed to the comparisons; what goes in and out by value is a cursor.
-ghost use Rattle.std.specs.Prelude.{◌≡◌, true, ◌&&◌, cond, ◌≤◌, ◌<◌, length};
+ghost use Rattle.std.specs.Prelude.{◌≡◌, true, ◌&&◌, cond, ◌≤◌, ◌<◌};
 ghost use Rattle.meaning.specs.Condition.{atom, conjunction, disjunction};
-ghost use Rattle.meaning.specs.Limits.{most_text};
 ghost use Rattle.token.specs.Tokens.{token_at};
 ghost use Rattle.statement.specs.Operators.{opposite_of};
 ghost use Rattle.statement.specs.Places.{comparison_node};
-ghost use Rattle.statement.specs.Reading.{past, is_operand, operator_in, is_name, is_is, marks_at, ReadsDotted, ReadsSide, with_sides, PutsNode, PutsNull, Stands, Reaches, TestsNull, Compares, Reads, Closes};
+ghost use Rattle.statement.specs.Reading.{past, is_operand, operator_in, is_name, is_is, marks_at, behind, ReadsDotted, ReadsSide, with_sides, PutsNode, PutsNull, Stands, Reaches, TestsNull, Compares, Reads};
+ghost use Rattle.statement.specs.Sentences.{Expects};
 
+use super::sides::Side;
 use super::{Comparison, Condition, Name, operators};
 use token::{Kind, Token};
 
-// Where a reader stands in a text, and what it has counted: nodes of the condition, question marks. `over` says that a limit was passed by a name, a constant or the depth: a flag,
-// since reading goes on (a text that is no sentence is refused by 4, before 5). Where `dotted`, which no reader changes, columns are dotted: a question over two tables (A.1).
+// Where a reader stands in a text, and what it has counted: question marks, and nodes of the condition, past the last place of the lent array too, so that a passed limit is seen (there
+// is no heap for all of them). `over` says that a limit was passed by a name, a constant or the depth: a flag, since reading goes on (a text that is no sentence is refused by 4, before
+// 5). Where `dotted`, which no reader changes, columns are dotted: a question over two tables (A.1); it stands here and not in `Parser`, which is made again behind each reader, at many
+// places that would all hand it on.
 #[derive(Clone, Copy)]
 pub struct Cursor {
     pub over: bool,
     pub dotted: bool,
     pub nodes: u16,
     pub marks: u16,
-    pub at: u16,
+    pub at: usize,
+}
+
+impl Cursor {
+    // Behind a name, a constant or a column that ends there, and is past a limit or not.
+    pub fn behind(self, next: usize, past: bool) -> Cursor
+        ensures { result ≡ behind next past self }
+    {
+        Cursor {
+            over: self.over | past,
+            at: next,
+            ..self
+        }
+    }
 }
 
 // A text and where it is read. The readers are its methods, and give the cursor behind what they read, without the text: of numbers alone they promise that one cursor is another
@@ -31,7 +47,7 @@ pub struct Parser<'a> {
     ghost stands: { Stands text.now c },
 }
 
-// A condition to be read, under so many parentheses and NOTs, each of which is a token before it; `positive` under an even number of NOTs.
+// A condition to be read, under so many parentheses and NOTs, each of which is a token before it; `positive` under an even number of NOTs: a flag, since each NOT turns it by `!`.
 #[derive(Clone, Copy)]
 pub struct Nested<'a> {
     pub p: Parser<'a>,
@@ -40,14 +56,15 @@ pub struct Nested<'a> {
     ghost few: { depth ≤ p.c.at },
 }
 
-// A node of a condition as it is noted: a comparison by its operator and the places of its sides, `bare` if it stands outside all parentheses and NOT (A.6); or AND or OR.
+// A node of a condition as it is noted: a comparison by its operator (by the number that a state has for it, which goes there as it is) and the places of its sides, `bare` if it
+// stands outside all parentheses and NOT (A.6); or AND or OR.
 #[derive(Clone, Copy)]
 pub enum Node {
     Comparison {
         op: u8,
         bare: bool,
-        left: u16,
-        right: u16,
+        left: usize,
+        right: usize,
     },
     And,
     Or,
@@ -56,16 +73,6 @@ pub enum Node {
 impl Node {
     // Room for the nodes of a condition.
     pub const NODES: usize = Condition::STEPS;
-}
-
-// A side of a comparison, or a column of a list: whether it is past a limit (it is there all the same), its question marks, where its first token starts and where the text goes on
-// after it.
-#[derive(Clone, Copy)]
-pub struct Side {
-    pub over: bool,
-    pub marks: u16,
-    pub start: usize,
-    pub next: usize,
 }
 
 // ---- tokens
@@ -138,17 +145,14 @@ impl Parser<'_> {
     pub fn next(self) -> Token
         ensures { result ≡ token_at self.entry.text.now self.entry.c.at }
     {
-        token::next(self.text, usize::from(self.c.at))
+        token::next(self.text, self.c.at)
     }
 
     // A node at the end. Past the last place none is noted, but it is counted.
     fn put(self, nodes: &mut [Node; Node::NODES], node: Node) -> Cursor
         ensures { PutsNode nodes.old self.entry.c node nodes.new result }
     {
-        let i = usize::from(self.c.nodes);
-        if i < nodes.len() {
-            nodes[i] = node;
-        }
+        lists::put(nodes, usize::from(self.c.nodes), node);
         Cursor {
             nodes: self.c.nodes + 1,
             ..self.c
@@ -159,7 +163,6 @@ impl Parser<'_> {
 impl Nested<'_> {
     // The comparison `op` of two sides.
     fn put_comparison(&self, nodes: &mut [Node; Node::NODES], a: Side, op: u8, b: Side) -> Cursor
-        requires { (a.marks ≤ 1) × (b.marks ≤ 1) × (a.start ≤ most_text) × (b.start ≤ most_text) × (b.next ≤ most_text) }
         ensures { PutsNode nodes.old (with_sides self.now.depth a b self.now.p.c) (comparison_node self.now.depth (cond self.now.positive op (opposite_of op)) a.start b.start) nodes.new result }
     {
         let node = Node::Comparison {
@@ -169,27 +172,31 @@ impl Nested<'_> {
                 operators::opposite(op)
             },
             bare: self.depth == 0,
-            left: a.start as u16,
-            right: b.start as u16,
+            left: a.start,
+            right: b.start,
         };
         let d = self.p.put(nodes, node);
         Cursor {
             over: d.over | ((Condition::DEPTH < self.depth) | (a.over | b.over)),
             marks: d.marks + (a.marks + b.marks),
-            at: b.next as u16,
+            at: b.next,
             ..d
         }
     }
 
     // The null test `op` (A.5) of the column a, if the token t is NULL: a comparison of the column with itself.
     fn put_null(&self, nodes: &mut [Node; Node::NODES], a: Side, op: u8, t: Token) -> Option<Cursor>
-        requires { (a.marks ≤ 1) × (a.start ≤ most_text) × (t.next ≤ most_text) }
         ensures { PutsNull nodes.old self.now.p.c self.now.positive self.now.depth a op t nodes.new result }
     {
         let Kind::Null = t.kind else {
             return None;
         };
-        let b = Side { next: t.next, ..a };
+        let b = Side {
+            over: a.over,
+            marks: a.marks,
+            start: a.start,
+            next: t.next,
+        };
         Some(self.put_comparison(nodes, a, op, b))
     }
 }
@@ -238,22 +245,23 @@ impl Parser<'_> {
         })
     }
 
-    // The closing parenthesis of a condition whose inside is read.
-    fn closed(self) -> Option<Cursor>
-        ensures { Closes self.entry.text.now self.entry.c result }
+    // A token that its kind tells.
+    pub fn expect(self, kind: Kind) -> Option<Cursor>
+        ensures { Expects self.entry.text.now kind self.entry.c result }
     {
         let t = self.next();
-        let Kind::Close = t.kind else {
+        if t.kind != kind {
             return None;
-        };
+        }
         Some(Cursor {
-            at: t.next as u16,
+            at: t.next,
             ..self.c
         })
     }
 }
 
-// ---- the readers
+// ---- the readers (`read_or` and `read_and` are alike but for a word, a node and the reader of what they join: one function of these would choose by a `match` which reader to call,
+// and whether it calls itself)
 
 impl Nested<'_> {
     // A condition of ORs.
@@ -267,7 +275,7 @@ impl Nested<'_> {
         let Kind::Or = t.kind else {
             return Some(p);
         };
-        p.at = t.next as u16;
+        p.at = t.next;
         let rest = Nested {
             p: Parser { text, c: p },
             positive: self.positive,
@@ -289,7 +297,7 @@ impl Nested<'_> {
         let Kind::And = t.kind else {
             return Some(p);
         };
-        p.at = t.next as u16;
+        p.at = t.next;
         let rest = Nested {
             p: Parser { text, c: p },
             positive: self.positive,
@@ -310,7 +318,7 @@ impl Nested<'_> {
         let mut here = self.p.c;
         match t.kind {
             Kind::Not => {
-                here.at = t.next as u16;
+                here.at = t.next;
                 let negated = Nested {
                     p: Parser { text, c: here },
                     positive: !self.positive,
@@ -319,14 +327,14 @@ impl Nested<'_> {
                 negated.read_one(nodes)
             }
             Kind::Open => {
-                here.at = t.next as u16;
+                here.at = t.next;
                 let inner = Nested {
                     p: Parser { text, c: here },
                     positive: self.positive,
                     depth: self.depth + 1,
                 };
                 let inside = inner.read_or(nodes)?;
-                Parser { text, c: inside }.closed()
+                Parser { text, c: inside }.expect(Kind::Close)
             }
             _ => self.read_comparison(nodes, t),
         }

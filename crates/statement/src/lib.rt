@@ -2,6 +2,7 @@
 #![tactic(auto)]
 
 mod operators; // opposites, and comparisons by the order of their sides
+mod sides; // a side of a comparison, as it is read
 mod conditions; // the readers of OR, AND and single conditions
 mod sentences; // the six forms: where each token of a sentence stands
 mod names; // names compared and found
@@ -10,16 +11,21 @@ mod assembling; // settings, conditions and statements from their parts
 mod refusals; // limits, and refusals by what is there
 mod build; // the six forms, names looked up
 
-ghost use Rattle.std.specs.Prelude.{◌≡◌, min, length};
+ghost use Rattle.std.specs.Prelude.{◌≡◌, ◌*◌, ◌≤◌, leb, min, length};
+ghost use Rattle.meaning.specs.Plain.{of_first};
+ghost use Rattle.meaning.specs.Resolve.{is_below};
 ghost use Rattle.statement.specs.Refusals.{number_of};
-ghost use Rattle.statement.specs.Sound.{operand_read, value_read};
-ghost use Rattle.statement.specs.Terms.{term_read, given_read};
+ghost use Rattle.statement.specs.Sound.{used_columns, operand_read, comparison_read, used_comparisons, used_steps, used_settings, value_read};
+ghost use Rattle.statement.specs.Terms.{term_read, given_read, order_said, used_selected, second_said};
 ghost use Rattle.statement.specs.Compiled.{left_side, right_side, new_value, compiled, compiled_of};
+
+use std::cmp::Ordering;
 
 // The state of a store is made of the types below, and any caller may fill one in; what it says is tested (crate `soundness`), and a state that is not sound is refused. So all
 // of it is plain numbers and flags: no enum stands in it, and an array has a count beside it. Numbers for kinds are a comparison's operator (`Comparison::EQ` ..), a side's code
 // (`Operand`), a step (`Step`), a value's mark (`Value`), an update's form (`Update::INSERT` ..), and of a question `second`, `start` and `outer`; of a table `rows`, `oldest`
-// and `ring`. What a code or a mark says is read by `Operand::read` and `Value::read`.
+// and `ring`. What a code or a mark says is read by `Operand::read` and `Value::read`; forms and steps carry nothing, so that comparing with a constant says as
+// much as an enum would: a number of no kind is read as the last of them, and refused by the test.
 
 // A name: its first `len` bytes.
 #[repr(C)]
@@ -53,6 +59,29 @@ impl Table {
     pub const COLUMNS: usize = 8;
 
     pub const ROWS: u16 = 512;
+
+    // The names of its columns.
+    pub fn names(&self) -> &[Name]
+        ensures are { result.now ≡ used_columns self.now }
+        ensures few { length result.now ≤ 8 }
+    {
+        lists::in_use(&self.columns, usize::from(self.count))
+    }
+
+    // The cells of its area.
+    pub fn cells(&self) -> usize
+        ensures are { result ≡ self.now.count * self.now.capacity }
+        ensures few { result ≤ 16711425 }
+    {
+        usize::from(self.count) * usize::from(self.capacity)
+    }
+
+    // Whether no row is free: an INSERT is refused, or in a ring the oldest row goes.
+    pub fn is_full(&self) -> bool
+        ensures { result ≡ leb self.now.capacity self.now.rows }
+    {
+        self.capacity <= self.rows
+    }
 }
 
 // A side of a comparison: a column by its position, a constant, or a parameter (question mark), counted from 0.
@@ -88,9 +117,20 @@ impl Operand {
             Term::Column(self.code / 2 - 1)
         }
     }
+
+    // Whether it is no column, or one below `limit`.
+    pub fn is_below(self, limit: usize) -> bool
+        ensures { result ≡ is_below limit (operand_read self) }
+    {
+        match self.read() {
+            Term::Constant(_) | Term::Parameter(_) => true,
+            Term::Column(i) => usize::from(i) < limit,
+        }
+    }
 }
 
 // Two operands, by their codes and numbers, and the number of the operator between them. A null test (A.5) has its column on both sides.
+// Flat, as a setting is: two structs are mostly padding, and with them the state had 10,976 bytes in place of 8,416 (docs/DECISIONS.md, 84).
 #[repr(C)]
 #[derive(Clone, Copy, Default)]
 pub struct Comparison {
@@ -139,15 +179,36 @@ impl Comparison {
             number: self.right_number,
         }
     }
+
+    // Whether the columns that it names are below `limit`.
+    pub fn is_below(self, limit: usize) -> bool
+        ensures { result ≡ of_first limit (comparison_read self) }
+    {
+        self.left_side().is_below(limit) && self.right_side().is_below(limit)
+    }
 }
 
-// How two sides of a comparison stand: the left one is less, equal or greater, or one is null.
+// How two sides of a comparison stand: the left one is less, equal or greater, or one is null. Not `Option<Ordering>`: its number is the place of a target in a row's test (crate
+// `table`), and an Option has none.
 #[derive(Clone, Copy, PartialEq, Eq)]
 pub enum Order {
     Less,
     Equal,
     Greater,
     Unknown,
+}
+
+// Of two sides that are not null.
+impl From<Ordering> for Order {
+    ghost from_gives = { λ o r. r ≡ order_said o };
+
+    fn from(o: Ordering) -> Order {
+        match o {
+            Ordering::Less => Order::Less,
+            Ordering::Equal => Order::Equal,
+            Ordering::Greater => Order::Greater,
+        }
+    }
 }
 
 // What a step of a condition does: it takes the next comparison, or joins the two conditions before it. Steps are numbers of the state.
@@ -181,6 +242,24 @@ impl Condition {
     pub const STEPS: usize = 15;
 
     pub const DEPTH: u16 = 8;
+
+    // The comparisons in use.
+    pub fn used(&self) -> &[Comparison]
+        ensures are { result.now ≡ used_comparisons self.now }
+        ensures few { length result.now ≤ 8 }
+        ensures size { length self.now.comparisons ≡ 8 }
+    {
+        lists::in_use(&self.comparisons, usize::from(self.count))
+    }
+
+    // The steps in use.
+    pub fn used_steps(&self) -> &[u8]
+        ensures are { result.now ≡ used_steps self.now }
+        ensures few { length result.now ≤ 15 }
+        ensures size { length self.now.steps ≡ 15 }
+    {
+        lists::in_use(&self.steps, (2 * usize::from(self.count)).saturating_sub(1))
+    }
 }
 
 // A question: its table, the first `count` selected columns, how many parameters it has, its condition. Over two tables `second` is the number of the second one and 1,
@@ -203,6 +282,21 @@ impl Query {
     pub const QUERIES: usize = 16;
 
     pub const SELECTED: usize = 8;
+
+    // The columns that are selected.
+    pub fn used(&self) -> &[u8]
+        ensures are { result.now ≡ used_selected self.now }
+        ensures few { length result.now ≤ 8 }
+    {
+        lists::in_use(&self.selected, usize::from(self.count))
+    }
+
+    // The number of the second table, if there is one.
+    pub fn second_table(&self) -> Option<u8>
+        ensures { result ≡ second_said self.now.second }
+    {
+        self.second.checked_sub(1)
+    }
 }
 
 // What VALUES and SET give: parameter `mark` - 1, or for 0 the constant `number`.
@@ -232,7 +326,7 @@ impl Value {
     }
 }
 
-// A column and its new value, by its mark and number; in an INSERT the column is the value's own place.
+// A column and its new value, by its mark and number (flat, as a comparison is); in an INSERT the column is the value's own place.
 #[repr(C)]
 #[derive(Clone, Copy, Default)]
 pub struct Setting {
@@ -274,9 +368,18 @@ impl Update {
     pub const UPDATE: u8 = 1;
 
     pub const DELETE: u8 = 2;
+
+    // The settings in use.
+    pub fn used(&self) -> &[Setting]
+        ensures are { result.now ≡ used_settings self.now }
+        ensures few { length result.now ≤ 8 }
+        ensures size { length self.now.settings ≡ 8 }
+    {
+        lists::in_use(&self.settings, usize::from(self.count))
+    }
 }
 
-// Why a call is not taken. (A row that is not there is of crate `answer`.)
+// Why a call is not taken. (A row that is not there is of crate `answer`.) It has a number and no Display: programs print the number, each in its own words.
 #[derive(Clone, Copy, PartialEq, Eq)]
 pub enum Refusal {
     // The opening's sizes.
@@ -328,14 +431,6 @@ impl Refusal {
     }
 }
 
-impl From<Refusal> for u8 {
-    ghost from_gives = { λ r n. n ≡ number_of r };
-
-    fn from(r: Refusal) -> u8 {
-        r.number()
-    }
-}
-
 // What a text says.
 #[derive(Clone, Copy)]
 pub enum Statement {
@@ -370,7 +465,7 @@ impl Statement {
         }
         let reading = build::Reading {
             text,
-            items: lists::in_use(&items, usize::from(e.listed)),
+            items: lists::in_use(&items, e.listed),
             nodes: lists::in_use(&nodes, usize::from(e.c.nodes)),
             e,
         };
@@ -378,7 +473,7 @@ impl Statement {
             tables: &tables[..tables.len().min(Table::TABLES)],
             queries,
             updates,
-            cells,
+            cells: cells as usize, // usize has no From of u32
         };
         match e.form {
             sentences::Form::Table { rows, ring } => reading.table(rows, ring, &beside),

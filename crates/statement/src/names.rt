@@ -1,16 +1,16 @@
 // Names: compared, found among columns and tables, and what is counted of those.
-ghost use Rattle.std.specs.Prelude.{◌≡◌, ℕ, ◌*◌, ◌≤◌, map, ltb, length, take};
-ghost use Rattle.lists.specs.Lists.{all, repeats};
+ghost use Rattle.std.specs.Prelude.{◌≡◌, ◌*◌, ◌≤◌, map, length};
+ghost use Rattle.lists.specs.Lists.{repeats};
 ghost use Rattle.meaning.specs.Limits.{most_tables, most_items};
 ghost use Rattle.meaning.specs.Names.{same_name, position, pair_place};
 ghost use Rattle.meaning.specs.Cells.{area_size, areas_size};
 ghost use Rattle.statement.specs.Catalog.{name_of_struct, column_names, schema_of};
 ghost use Rattle.statement.specs.Compiled.{padded};
-ghost use Rattle.statement.specs.Built.{places_of, place_of, number_in, width_in, start_in, twice_in};
+ghost use Rattle.statement.specs.Built.{places_of, place_of, Finds, width_in, start_in, twice_in};
 ghost use Rattle.statement.specs.Same.{same_laws};
 
 use super::sentences::Item;
-use super::{Name, Table};
+use super::{Name, Table, fetching};
 
 // Where a statement's columns are looked up: in one table, or, dotted, in two.
 #[derive(Clone, Copy)]
@@ -30,6 +30,7 @@ impl Name {
     }
 }
 
+// By hand: bytes past `len` do not count, and a derived one compares them.
 impl PartialEq for Name {
     ghost eq = { λ a b. same_name (name_of_struct a) (name_of_struct b) };
 
@@ -37,16 +38,6 @@ impl PartialEq for Name {
 
     fn eq(&self, other: &Name) -> bool {
         self.text() == other.text()
-    }
-}
-
-impl Table {
-    // The names of a table's columns.
-    fn names(&self) -> &[Name]
-        ensures are { result.now ≡ take self.now.count self.now.columns }
-        ensures few { length result.now ≤ most_items }
-    {
-        lists::in_use(&self.columns, usize::from(self.count))
     }
 }
 
@@ -61,7 +52,8 @@ fn find(name: &Name, names: &[Name]) -> usize
         .unwrap_or(names.len())
 }
 
-// Whether one of the names stands among them twice.
+// Whether one of the names stands among them twice. (Of settings `soundness` asks the same and of slots `slots`: names are compared by their bytes in use, settings by their
+// columns, slots by their keys. One function of these three tests would take a closure and ask that it may be called, and no public function asks anything.)
 pub fn is_repeated(names: &[Name]) -> bool
     ensures { result ≡ repeats same_name (map name_of_struct names.now) }
 {
@@ -71,14 +63,7 @@ pub fn is_repeated(names: &[Name]) -> bool
         .any(|(i, name)| names[..i].contains(name))
 }
 
-// Whether all of these places are below `limit`.
-pub fn are_below(places: &[u8], limit: usize) -> bool
-    ensures { result ≡ all (λ (i : ℕ). ltb i limit) places.now }
-{
-    places.iter().all(|i| usize::from(*i) < limit)
-}
-
-// ---- columns
+// ---- columns (a place or a count is `as u8`: it is at most 16, and `TryFrom` would test that again; u8 has no From of usize)
 
 // The place of a column in a table, or how many columns that has, as `find` gives it.
 pub fn find_column(name: &Name, t: &Table) -> u8
@@ -105,11 +90,7 @@ pub fn positions(names: &[Name], t: &Table) -> [u8; Item::ITEMS]
     requires { length names.now ≤ most_items }
     ensures { result ≡ padded most_items 0 (places_of (column_names t.now) (map name_of_struct names.now)) }
 {
-    let mut places = [0u8; Item::ITEMS];
-    for (i, name) in names.iter().enumerate() {
-        places[i] = find_column(name, t);
-    }
-    places
+    fetching::placed(names, 0, |name| find_column(name, t))
 }
 
 // The place of a dotted column in a pair of rows, or how many columns both tables have: stored, and refused afterwards.
@@ -166,29 +147,39 @@ pub struct Catalog<'a> {
     pub tables: &'a [Table],
     pub queries: u8,
     pub updates: u8,
-    pub cells: u32,
+    pub cells: usize,
     ghost few: { length tables.now ≤ most_tables },
 }
 
-// The cells of a table's area.
-fn area(t: &Table) -> u32
+// The cells of a table's area: `Table::cells`, but by the columns that it has, and its count may be past those.
+fn area(t: &Table) -> usize
     ensures is { result ≡ area_size (schema_of t.now) }
     ensures few { result ≤ 524280 }
 {
-    (t.names().len() as u32) * (t.capacity as u32)
+    t.names().len() * usize::from(t.capacity)
+}
+
+// A table that was found, and its number.
+#[derive(Clone, Copy)]
+pub struct Found<'a> {
+    pub number: u8,
+    pub table: &'a Table,
 }
 
 impl Catalog<'_> {
-    // The number of the table of that name, if there is one.
-    pub fn find(&self, name: &Name) -> Option<u8>
-        ensures { result ≡ number_in (map schema_of self.now.tables.now) (name_of_struct name.now) }
+    // The table of that name, if there is one.
+    pub fn find(&self, name: &Name) -> Option<Found<'_>>
+        ensures { Finds self.now.tables.now (name_of_struct name.now) result }
     {
         let i = self.tables.iter().position(|t| *name == t.name)?;
-        Some(i as u8)
+        Some(Found {
+            number: i as u8,
+            table: &self.tables[i],
+        })
     }
 
     // The cells of the areas of all tables.
-    pub fn areas(&self) -> u32
+    pub fn areas(&self) -> usize
         ensures { result ≡ areas_size (map schema_of self.now.tables.now) }
     {
         self.tables.iter().map(area).sum()

@@ -4,7 +4,7 @@ ghost use Rattle.statement.specs.Operators.{predicate_at, is_null_test, opposite
 
 use super::{Comparison, Order};
 
-// = <>, < >=, <= >, IS NULL and IS NOT NULL
+// = <>, < >=, <= >, IS NULL and IS NOT NULL (`as usize`: a From can't be called for a constant)
 const OPPOSITES: [u8; Comparison::OPERATORS as usize] = [
     Comparison::NE,
     Comparison::EQ,

@@ -7,13 +7,11 @@ ghost use Rattle.meaning.specs.Cells.{areas_size};
 ghost use Rattle.statement.specs.Sentences.{over_on};
 ghost use Rattle.statement.specs.Catalog.{name_of_struct, schema_of};
 ghost use Rattle.statement.specs.Refusals.{number_in};
-ghost use Rattle.statement.specs.Built.{lowest_by, operand_below, sides_below, condition_below, unknown_on};
+ghost use Rattle.statement.specs.Built.{lowest_by, condition_below, unknown_on};
 
 use super::names::Catalog;
 use super::sentences::{Entry, Form};
-use super::{
-    Comparison, Condition, Name, Operand, Query, Refusal, Statement, Table, Term, Update, names,
-};
+use super::{Condition, Name, Query, Refusal, Statement, Table, Update, names};
 
 // ---- limits
 
@@ -34,7 +32,7 @@ pub fn is_over(e: Entry) -> bool
 {
     let comparisons = (usize::from(e.c.nodes) + 1) / 2;
     e.c.over
-        | ((most_listed(e.form) < usize::from(e.listed))
+        | ((most_listed(e.form) < e.listed)
             | ((Statement::MARKS < e.c.marks) | (Condition::COMPARISONS < comparisons)))
 }
 
@@ -49,7 +47,7 @@ impl Catalog<'_> {
     }
 
     // Whether there is no place for a table of that size.
-    pub fn has_no_place(&self, size: u32) -> bool
+    pub fn has_no_place(&self, size: usize) -> bool
         ensures { result ≡ (leb most_tables (length (map schema_of self.now.tables.now)) || ltb (self.now.cells - areas_size (map schema_of self.now.tables.now)) size) }
     {
         (Table::TABLES <= self.tables.len()) | (self.cells.saturating_sub(self.areas()) < size)
@@ -58,41 +56,23 @@ impl Catalog<'_> {
 
 // ---- columns
 
-// Whether a side's column is below `limit`.
-fn is_below(side: Operand, limit: usize) -> bool
-    ensures { result ≡ operand_below limit side }
-{
-    match side.read() {
-        Term::Column(i) => usize::from(i) < limit,
-        _ => true,
-    }
-}
-
-fn sides_below(c: Comparison, limit: usize) -> bool
-    ensures { result ≡ sides_below limit c }
-{
-    is_below(c.left_side(), limit) & is_below(c.right_side(), limit)
-}
-
 // Whether all columns of a condition are below `limit`.
 fn columns_below(condition: &Condition, limit: usize) -> bool
     ensures { result ≡ condition_below limit condition.now }
 {
-    lists::in_use(&condition.comparisons, usize::from(condition.count))
-        .iter()
-        .all(|c| sides_below(*c, limit))
+    condition.used().iter().all(|c| c.is_below(limit))
 }
 
 // Whether one of these places, or a column of the condition, is not below `width`.
 pub fn is_unknown(places: &[u8], condition: &Condition, width: usize) -> bool
     ensures { result ≡ unknown_on width places.now condition.now }
 {
-    !(names::are_below(places, width) & columns_below(condition, width))
+    !(lists::are_below(places, width) & columns_below(condition, width))
 }
 
 // ---- the lowest
 
-// Which of the refusals that look at the tables a sentence meets: facts beside each other, of which `refuse` tells the lowest.
+// Which of the refusals that look at the tables a sentence meets: flags, since it may meet several, of which `refuse` tells the lowest.
 #[derive(Clone, Copy, Default)]
 pub struct Met {
     pub unknown: bool,

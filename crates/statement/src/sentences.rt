@@ -3,39 +3,41 @@
 ghost use Rattle.std.specs.Prelude.{◌≡◌, true, false, ◌+◌, ◌≤◌, ◌<◌, length, drop};
 ghost use Rattle.meaning.specs.Limits.{most_text};
 ghost use Rattle.meaning.specs.Tokens.{tokens};
-ghost use Rattle.meaning.specs.Grammar.{sentence, is_paired, a_table, a_select, a_single, a_pair, an_insert, an_update, a_delete};
-ghost use Rattle.statement.specs.Sentences.{Expects, Names, Columns, Gives, Sizes, ring_in, is_value, rows_past, CountsRows, PutsItem, ends_list, is_comma_second, ReadsItem, ReadsList, ReadsWhere, Starts, ReadsForm, Lists, Deletes, ReadsAny, Noted};
+ghost use Rattle.meaning.specs.Grammar.{sentence, is_paired, a_table, a_select, a_single, a_pair, an_insert, an_update};
+ghost use Rattle.statement.specs.Sentences.{Names, Columns, Gives, Sizes, ring_in, is_value, rows_past, CountsRows, ends_list, is_comma_second, ReadsItem, ReadsList, ReadsWhere, Starts, ReadsForm, Lists, Deletes, ReadsAny, Noted};
 
 use super::conditions::{Cursor, Nested, Node, Parser};
-use super::{Table, conditions};
+use super::{Table, conditions, fetching};
 use token::{Kind, Token};
 
 // The form of a sentence, with what only it has: the place of the constant of ROWS or RING, and whether it is RING (A.4); of a question over two tables (A.1) the place of the
 // second one's name.
 #[derive(Clone, Copy)]
 pub enum Form {
-    Table { rows: u16, ring: bool },
+    Table { rows: usize, ring: bool },
     Select,
     Insert,
     Update,
     Delete,
-    Pair { second: u16 },
+    Pair { second: usize },
 }
 
-// A sentence as it is read: where the reader stands, its form, the place of its table's name, and how many items its list has.
+// A sentence as it is read: where the reader stands, its form, the place of its table's name, and how many items its list has: counted past the last place of the lent array, so that a
+// passed limit is seen (there is no heap for all of them).
 #[derive(Clone, Copy)]
 pub struct Entry {
     pub c: Cursor,
     pub form: Form,
-    pub table: u16,
-    pub listed: u16,
+    pub table: usize,
+    pub listed: usize,
 }
 
-// An item of a list as it is noted: the place of its name, and that of its value; 0 for what it has not, which is not read.
+// An item of a list as it is noted: the place of its name, and that of its value; 0 for what it has not, which is not read. No Options: the form of the sentence tells which of the
+// two there are, so each would be taken apart where that is known.
 #[derive(Clone, Copy, Default)]
 pub struct Item {
-    pub name: u16,
-    pub value: u16,
+    pub name: usize,
+    pub value: usize,
 }
 
 impl Item {
@@ -43,7 +45,8 @@ impl Item {
     pub const ITEMS: usize = Table::COLUMNS;
 }
 
-// What a list holds; columns are dotted ones.
+// What a list holds; columns are dotted ones. An enum, by which `read_item` chooses, and no closure that reads an item: its contract would want as ghost parameters what the grammar
+// reads, what of it is noted and how it is counted, which are three definitions over this enum.
 #[derive(Clone, Copy)]
 enum Contents {
     Names,
@@ -52,7 +55,7 @@ enum Contents {
     Columns,
 }
 
-// ---- tokens (a place is `as u16`: a text has at most 256 bytes, and u16 has no From of usize)
+// ---- tokens
 
 // Whether a token is a constant or a question mark.
 fn is_value(kind: Kind) -> bool
@@ -77,58 +80,35 @@ fn rows_past(kind: Kind) -> Option<bool>
     ensures { result ≡ rows_past kind }
 {
     match kind {
-        Kind::Constant(z) => Some((z < 1) | (i32::from(Table::ROWS) < z)),
+        Kind::Constant(z) => Some(fetching::rows_in(z).is_none()),
         Kind::Big => Some(true),
         _ => None,
     }
 }
 
+// What tells a token and what is counted differ from one of these readers to the other; what they share is `Cursor::behind`.
 impl Parser<'_> {
-    // A token that its kind tells.
-    fn expect(self, kind: Kind) -> Option<Cursor>
-        ensures { Expects self.entry.text.now kind self.entry.c result }
-    {
-        let t = self.next();
-        if t.kind != kind {
-            return None;
-        }
-        Some(Cursor {
-            at: t.next as u16,
-            ..self.c
-        })
-    }
-
     // A name, and where it starts.
-    fn read_name(self) -> Option<(Cursor, u16)>
+    fn read_name(self) -> Option<(Cursor, usize)>
         ensures { Names self.entry.text.now self.entry.c result }
     {
         let t = self.next();
         let Kind::Name = t.kind else {
             return None;
         };
-        let behind = Cursor {
-            over: self.c.over | conditions::is_past(t),
-            at: t.next as u16,
-            ..self.c
-        };
-        Some((behind, t.start as u16))
+        Some((self.c.behind(t.next, conditions::is_past(t)), t.start))
     }
 
     // A dotted column (A.1), and where it starts.
-    fn read_column(self) -> Option<(Cursor, u16)>
+    fn read_column(self) -> Option<(Cursor, usize)>
         ensures { Columns self.entry.text.now self.entry.c result }
     {
         let d = conditions::read_dotted(self.text, self.next())?;
-        let behind = Cursor {
-            over: self.c.over | d.over,
-            at: d.next as u16,
-            ..self.c
-        };
-        Some((behind, d.start as u16))
+        Some((self.c.behind(d.next, d.over), d.start))
     }
 
     // A constant or a question mark, and where it starts.
-    fn read_value(self) -> Option<(Cursor, u16)>
+    fn read_value(self) -> Option<(Cursor, usize)>
         ensures { Gives self.entry.text.now self.entry.c result }
     {
         let t = self.next();
@@ -136,12 +116,10 @@ impl Parser<'_> {
             return None;
         }
         let behind = Cursor {
-            over: self.c.over | conditions::is_past(t),
             marks: self.c.marks + conditions::marks_of(t.kind),
-            at: t.next as u16,
-            ..self.c
+            ..self.c.behind(t.next, conditions::is_past(t))
         };
-        Some((behind, t.start as u16))
+        Some((behind, t.start))
     }
 
     // ROWS or RING (A.4), and whether it is RING.
@@ -151,40 +129,23 @@ impl Parser<'_> {
         let t = self.next();
         let ring = ring_in(t.kind)?;
         let behind = Cursor {
-            at: t.next as u16,
+            at: t.next,
             ..self.c
         };
         Some((behind, ring))
     }
 
     // The constant of ROWS or RING, and where it starts.
-    fn read_rows(self) -> Option<(Cursor, u16)>
+    fn read_rows(self) -> Option<(Cursor, usize)>
         ensures { CountsRows self.entry.text.now self.entry.c result }
     {
         let t = self.next();
         let past = rows_past(t.kind)?;
-        let behind = Cursor {
-            over: self.c.over | past,
-            at: t.next as u16,
-            ..self.c
-        };
-        Some((behind, t.start as u16))
+        Some((self.c.behind(t.next, past), t.start))
     }
 }
 
 // ---- lists
-
-// An item at the end of the list. Past the last place none is noted, but it is counted.
-fn put_item(items: &mut [Item; Item::ITEMS], listed: u16, item: Item) -> u16
-    requires { listed ≤ most_text }
-    ensures { (result ≡ listed + 1) × PutsItem items.old listed item items.new }
-{
-    let i = usize::from(listed);
-    if i < items.len() {
-        items[i] = item;
-    }
-    listed + 1
-}
 
 impl Parser<'_> {
     // An item: a name, a value, a setting, or a dotted column.
@@ -215,24 +176,25 @@ impl Parser<'_> {
         }
     }
 
-    // Items, parted by commas, behind so many: how many those are then. The text that is left gets shorter.
+    // Items, parted by commas, behind so many: how many those are then. Past the last place none is noted, but it is counted. The text that is left gets shorter.
     fn read_list(
         self,
         items: &mut [Item; Item::ITEMS],
-        listed: u16,
+        listed: usize,
         holds: Contents,
-    ) -> Option<(Cursor, u16)>
+    ) -> Option<(Cursor, usize)>
         requires { listed ≤ self.c.at }
         ensures { ReadsList holds self.entry.text.now items.old self.entry.c listed items.new result }
     {
         let text = self.text;
         let (mut c, item) = self.read_item(holds)?;
-        let more = put_item(items, listed, item);
+        lists::put(items, listed, item);
+        let more = listed + 1;
         let t = Parser { text, c }.next();
         let Kind::Comma = t.kind else {
             return Some((c, more));
         };
-        c.at = t.next as u16;
+        c.at = t.next;
         Parser { text, c }.read_list(items, more, holds)
     }
 
@@ -247,7 +209,7 @@ impl Parser<'_> {
             return Some(self.c);
         };
         let c = Cursor {
-            at: t.next as u16,
+            at: t.next,
             ..self.c
         };
         let condition = Nested {
@@ -289,7 +251,7 @@ fn is_paired(text: &[u8], at: usize) -> bool
     is_comma_second(text, t)
 }
 
-// ---- the forms, after their first word
+// ---- the forms, after their first word (two arrays are lent and no struct of both: TABLE and INSERT write items alone and DELETE nodes alone, and their contracts speak of that one)
 
 // A text behind the first word of a sentence: nothing is counted yet.
 #[derive(Clone, Copy)]
@@ -377,7 +339,7 @@ impl Start<'_> {
     ) -> Option<Entry>
         ensures { ReadsForm a_select self.entry.p.text.now self.entry.p.c items.new nodes.new result }
     {
-        if is_paired(self.p.text, usize::from(self.p.c.at)) {
+        if is_paired(self.p.text, self.p.c.at) {
             return self.read_pair(items, nodes);
         }
         self.read_single(items, nodes)
@@ -460,7 +422,7 @@ fn read_form(
         dotted: false,
         nodes: 0,
         marks: 0,
-        at: t.next as u16,
+        at: t.next,
     };
     let start = Start {
         p: Parser { text, c },
@@ -485,7 +447,7 @@ pub fn read_sentence(
     ensures { Noted text.now items.new nodes.new result (sentence text.now) }
 {
     let e = read_form(text, items, nodes)?;
-    let t = token::next(text, usize::from(e.c.at));
+    let t = token::next(text, e.c.at);
     match t.kind {
         Kind::End => Some(e),
         _ => None,

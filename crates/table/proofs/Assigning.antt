@@ -1,34 +1,23 @@
--- The row of an INSERT, value by value. The settings of an UPDATE from an index on: past the last the row itself; before, the one at the index, made, and those after it. They keep a row's length.
+-- The row of an INSERT, value by value. The settings of an UPDATE keep a row's length.
 -- Assumes nothing.
 use Prim.Native.Nat.{ℕ, ◌+◌, ◌≤◌, ◌<◌}
-use mathlib.Core.Path.{◌≡◌, refl, sym, ap, ap₂, ◌∙◌}
+use mathlib.Core.Path.{◌≡◌, refl, sym, ap, ◌∙◌}
 use mathlib.Core.List.{List, [], ◌∷◌, map}
-use native.Mathlib.Numerals.{add-one}
 use native.Mathlib.Omega.{arith}
 use lib.IntN.{ℤ}
-use lib.ListN.{length, take, drop, get_or, set, length-set, length-map, drop_of_length-le, get_or-map}
-use lib.Seq.{paste, drop-cons, length-take-le}
+use lib.ListN.{length, take, get_or, set, length-set, length-map, get_or-map}
+use lib.Seq.{paste, length-take-le}
 use Rattle.meaning.specs.Statement as M
 use Rattle.meaning.specs.Meaning.{value_of, assigned}
 use Rattle.statement.specs.declared.Setting.{Setting}
 use Rattle.statement.specs.Compiled.{new_value}
 use Rattle.statement.specs.Sound.{value_read, setting_read}
 use Rattle.table.specs.Changed.{row_of}
-use Rattle.table.proofs.Copied.{pasted, paste-whole}
+use Rattle.table.proofs.Copied.{pasted}
 
 -- settings made on a row
 abbrev pub made : List ℤ → List Setting → List ℤ → List ℤ
 made vs ss row = assigned (map setting_read ss) vs row
-
-module _ (vs : List ℤ) (settings : List Setting) where
-  pub assign-done : (i : ℕ) (row : List ℤ) → length settings ≤ i → made vs (drop i settings) row ≡ row
-  assign-done i row h = ap (λ (l : List Setting). made vs l row) (drop_of_length-le settings h)
-
-  pub assign-next : (d : Setting) (i : ℕ) (row row' : List ℤ) → i < length settings → row' ≡ set row (get_or settings i d).column (value_of vs (value_read (new_value (get_or settings i d))))
-      → made vs (drop (i + 1) settings) row' ≡ made vs (drop i settings) row
-  assign-next d i row row' h er =
-      ap₂ (λ (k : ℕ) (r : List ℤ). made vs (drop k settings) r) (add-one i) er
-      ∙ sym (ap (λ (l : List Setting). made vs l row) (drop-cons settings i d h))
 
 -- the row of an INSERT, value by value
 module _ (vs : List ℤ) where
@@ -54,11 +43,6 @@ module _ (vs : List ℤ) where
       let n : length (row_of ss vs) ≡ length ss = ap length (row_is ss) ∙ length-map ss value_in in
       let v : z ≡ get_or (row_of ss vs) i (value_in d) = ez ∙ sym (ap (λ (l : List ℤ). get_or l i (value_in d)) (row_is ss) ∙ get_or-map value_in ss i d) in
       pasted row₀ 0 (row_of ss vs) i (value_in d) row i z (omega arith) (omega arith) er k v
-
-  pub row-done : (ss : List Setting) (i : ℕ) (row₀ row : List ℤ) → length row₀ ≡ length ss → i ≡ length ss → row ≡ paste row₀ 0 (row_of ss vs) i → row ≡ row_of ss vs
-  row-done ss i row₀ row el ei er =
-      let n : length (row_of ss vs) ≡ length row₀ = ap length (row_is ss) ∙ length-map ss value_in ∙ sym el in
-      er ∙ ap (paste row₀ 0 (row_of ss vs)) (ei ∙ sym el) ∙ paste-whole row₀ (row_of ss vs) n
 
 -- settings keep a row's length
 pub assigned-length : (ss : List (ℕ × M.Value)) (vs row : List ℤ) → length (assigned ss vs row) ≡ length row

@@ -369,13 +369,6 @@ module _ (u : Update) (s : M.Update) (A : AgreesUpdate u s) (t : Table) (start :
         ∙ ap (turned (oldest_after (is_full_ring t) (length (rows_before t start cells)) t.oldest u.form)) (rows_back u t start cells vs eight yes)
         ∙ laid-are
 
-    -- as many are in use as the sentence leaves
-    pub change-rows : (change_of u t start cells vs).rows ≡ length (changed s.change vs (remaining_rows t s.change (rows_used t start cells)))
-    change-rows =
-        sym (rows-length t.count (change_of u t start cells vs).rows (drop start (cells_after u t start cells vs)))
-        ∙ sym (length-turned (change_of u t start cells vs).oldest (rows_in t.count (change_of u t start cells vs).rows (drop start (cells_after u t start cells vs))))
-        ∙ ap length change-means
-
     -- so the table that has so many rows and that start holds them
     pub change-used : (t' : Table) → t'.count ≡ t.count → t'.rows ≡ (change_of u t start cells vs).rows → t'.oldest ≡ (change_of u t start cells vs).oldest
         → rows_used t' start (cells_after u t start cells vs) ≡ changed s.change vs (remaining_rows t s.change (rows_used t start cells))
@@ -400,11 +393,6 @@ oldest-first t start cells h n =
     go : (l : List Row) → 1 ≤ length l → take 1 l ≡ get_or l 0 [] ∷ []
     go [] h = absurd (omega arith)
     go (x ∷ l) h = refl
-
--- so of a ring that an INSERT pushes a row out of
-pub pushed-oldest : (t : Table) (start : ℕ) (cells : List ℤ) (c : M.Change) → t.count ≤ 8 → 1 ≤ length (rows_used t start cells)
-    → (t.ring && (is_insert c && leb t.capacity (length (rows_used t start cells)))) ≡ true → pushed_rows t c (rows_used t start cells) ≡ oldest_row t start cells ∷ []
-pushed-oldest t start cells c h n e = ap (λ (b : Bool). cond b (take 1 (rows_used t start cells)) []) e ∙ oldest-first t start cells h n
 
 -- ---- the start stays sound
 

@@ -1,12 +1,11 @@
 -- The loop of a DELETE, over the rows of an area.
 --     Closed          what holds with `left` rows left from cell `from` on, and the rows that stay moved up to cell `to`
---     delete-start    before the first row
 --     delete-gone     after a row that goes
 --     delete-stay     after a row that stays and was moved to `to`
 --     delete-done     after the last, with the cells between cleared
 -- Assumes nothing.
 use Prim.Native.Nat.{ℕ, zero, suc, ◌+◌, ◌-◌, ◌*◌, ◌≤◌, max}
-use mathlib.Core.Path.{◌≡◌, refl, sym, ap, ap₂, ◌∙◌, subst}
+use mathlib.Core.Path.{◌≡◌, sym, ap, ap₂, ◌∙◌, subst}
 use mathlib.Core.Bool.{Bool, true, false, not}
 use mathlib.Core.List.{List, ◌∷◌, ◌++◌, append_assoc, append-nil}
 use native.Mathlib.Nat.{zero-mul}
@@ -35,9 +34,6 @@ pub record Closed (p : List ℤ → Bool) (c used : ℕ) (a₀ a : List ℤ) (fr
   pub cells : take to a ++ flat (without p (rows_in c left (drop from a₀))) ≡ flat (without p (rows_in c used a₀))
 
 module _ (p : List ℤ → Bool) (c used : ℕ) (a₀ : List ℤ) where
-  pub delete-start : used * c ≤ length a₀ → Closed p c used a₀ a₀ 0 0 used 0
-  delete-start h = record { fits = h; room = omega arith; same = refl; order = omega arith; few = omega arith; ahead = refl; counted = omega arith; cells = refl }
-
   -- the row at `from`, as the loop has it
   abbrev row_at : List ℤ → ℕ → List ℤ
   row_at a from = take (from + c - from) (drop from a)

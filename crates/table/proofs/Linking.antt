@@ -4,12 +4,12 @@ use Prim.Native.Nat.{ℕ, zero, suc, ◌+◌, ◌-◌, ◌*◌, ◌≤◌, ◌<�
 use mathlib.Core.Path.{◌≡◌, refl, sym, ap, ap₂, ◌∙◌, subst}
 use mathlib.Core.Logic.{◌≢◌}
 use mathlib.Core.Bool.{Bool, true, false, cond, ◌&&◌, ◌||◌}
-use mathlib.Core.List.{List, [], ◌∷◌, ◌++◌, map, append-nil}
+use mathlib.Core.List.{List, [], ◌∷◌, ◌++◌, map}
 use native.Mathlib.Omega.{arith}
 use borrow.Author.Tests.{eq-eqb, ne_eqb, lt-ltb, le-ltb, le-leb, lt-leb, leb-true, leb-false, ltb-true, ltb-false, eqb-true, eqb-false}
 use lib.Dec.{eqb, ltb, leb}
-use lib.ListN.{length, get_or, set, take, drop, replicate, length-take, length-drop, length-map, length-append, length-set, length-replicate, get_or-replicate, get_or-append, drop_of_length-le, get_or-eq_default}
-use lib.Seq.{drop-cons, take-suc, take-length, drop-length, length-take-le, append_snoc, set_at, get_or_at, get_or-take, get_or-drop, get_or-append_right, get_or-set_same, get_or-set_other}
+use lib.ListN.{length, get_or, set, take, drop, replicate, length-drop, length-map, length-append, length-set, length-replicate, get_or-replicate, get_or-append, drop_of_length-le, get_or-eq_default}
+use lib.Seq.{drop-cons, take-suc, length-take-le, append_snoc, set_at, get_or_at, get_or-take, get_or-drop, get_or-append_right, get_or-set_same, get_or-set_other}
 use borrow.Rule.Slice.PartMut.{put_mid, mid_of}
 use native.Mathlib.Numerals.{add-one}
 use Rattle.lists.proofs.Lists.{map-append}
@@ -203,14 +203,11 @@ pub one-of : (b : Bool) → bool_byte b ≡ if_so b 1
 one-of true = refl
 one-of false = refl
 
-abbrev used_steps : List ℕ → ℕ → List ℕ
-used_steps steps n = take (2 * n - 1) steps
-
--- for each order of the comparisons' sides: the parts on the stack, and the steps left give what all steps give
+-- of the steps in use, for each order of the comparisons' sides: the parts on the stack, and the steps left give what all of them give
 record Standing (steps : List ℕ) (n : ℕ) (ord : ℕ → ℕ) (h : ℕ → Bool) (starts targets : List ℕ) (depth next i : ℕ) : Type 0 where
   stack : List Bool
   parts : Parts (λ (k : ℕ). get_or targets (4 * k + ord k) 0) (entry_of n next) (entries starts depth) stack
-  runs : length steps ≡ 15 → run_at (held_of n h) next (drop i (used_steps steps n)) stack ≡ run_at (held_of n h) 0 (used_steps steps n) []
+  runs : run_at (held_of n h) next (drop i steps) stack ≡ run_at (held_of n h) 0 steps []
 
 pub record Linking (steps : List ℕ) (n : ℕ) (t starts targets : List ℕ) (depth next i : ℕ) : Type 0 where
   pub targets-32 : length targets ≡ 32
@@ -285,7 +282,7 @@ run-emptied h next step ss starts zero few none z = run_join h next step ss [] z
 run-emptied h next step ss starts (suc zero) few (some {v = v} r none) z = run_join h next step ss (v ∷ []) z
 run-emptied h next step ss starts (suc (suc d)) few p z = absurd (omega arith)
 
-module _ (steps : List ℕ) (n : ℕ) (t : List ℕ) (n8 : n ≤ 8) where
+module _ (steps : List ℕ) (n : ℕ) (t : List ℕ) (n8 : n ≤ 8) (few15 : length steps ≤ 15) where
   pub link_start : (starts : List ℕ) → length starts ≡ 15 → Starts starts → Unlinked t → Linking steps n t starts t 0 0 0
   link_start starts l s U =
       record {
@@ -298,19 +295,17 @@ module _ (steps : List ℕ) (n : ℕ) (t : List ℕ) (n8 : n ≤ 8) where
         forward = λ i k h m. omega (arith, U.1 (4 * i + k) (omega arith));
         fresh = λ j _ _. refl;
         chain = 0;
-        standing = λ ord h _ _. record { stack = []; parts = none; runs = λ _. refl };
+        standing = λ ord h _ _. record { stack = []; parts = none; runs = refl };
       }
 
   module _ (starts targets : List ℕ) (depth next i : ℕ) (L : Linking steps n t starts targets depth next i) where
-    step_is : i + 1 < 2 * n → length steps ≡ 15 → drop i (used_steps steps n) ≡ get_or steps i 0 ∷ drop (i + 1) (used_steps steps n)
-    step_is lt l =
-        let len : i < length (used_steps steps n) = simp length-take (omega arith) in
+    step_is : i < length steps → drop i steps ≡ get_or steps i 0 ∷ drop (i + 1) steps
+    step_is lt =
         let s : suc i ≡ i + 1 = omega arith in
-        drop-cons (used_steps steps n) i 0 len
-        ∙ ap₂ (λ (k j : ℕ). k ∷ drop j (used_steps steps n)) (get_or-take (2 * n - 1) steps i 0 (omega arith)) s
+        drop-cons steps i 0 lt ∙ ap (λ (j : ℕ). get_or steps i 0 ∷ drop j steps) s
 
     -- the next comparison begins a part
-    link-pushed : i + 1 < 2 * n → (starts' : List ℕ) → get_or steps i 0 ≡ 0 → starts' ≡ set starts depth (entry_of n next)
+    link-pushed : i < length steps → (starts' : List ℕ) → get_or steps i 0 ≡ 0 → starts' ≡ set starts depth (entry_of n next)
         → Linking steps n t starts' targets (suc depth) (next + 1) (i + 1)
     link-pushed lt starts' z es = subst (λ (l : List ℕ). Linking steps n t l targets (suc depth) (next + 1) (i + 1)) (sym es)
         (record {
@@ -356,16 +351,16 @@ module _ (steps : List ℕ) (n : ℕ) (t : List ℕ) (n8 : n ≤ 8) where
               stack = held_of n h next ∷ S.stack;
               parts = subst (λ (l : List ℕ). Parts f (entry_of n (next + 1)) l (held_of n h next ∷ S.stack)) (sym now)
                   (parts-pushed f h n next n8 (λ l. L.fresh (4 * next + ord next) (omega arith) (omega (arith, four next)) ∙ each next l) S.parts);
-              runs = λ l.
+              runs =
                   let s : next + 1 ≡ suc next = omega arith in
-                  ap (λ (m : ℕ). run_at (held_of n h) m (drop (i + 1) (used_steps steps n)) (held_of n h next ∷ S.stack)) s
-                  ∙ ap (λ (k : ℕ). run_at (held_of n h) next (k ∷ drop (i + 1) (used_steps steps n)) S.stack) (sym z)
-                  ∙ ap (λ (ss : List ℕ). run_at (held_of n h) next ss S.stack) (sym (step_is lt l))
-                  ∙ S.runs l;
+                  ap (λ (m : ℕ). run_at (held_of n h) m (drop (i + 1) steps) (held_of n h next ∷ S.stack)) s
+                  ∙ ap (λ (k : ℕ). run_at (held_of n h) next (k ∷ drop (i + 1) steps) S.stack) (sym z)
+                  ∙ ap (λ (ss : List ℕ). run_at (held_of n h) next ss S.stack) (sym (step_is lt))
+                  ∙ S.runs;
             }
 
     -- too few parts for a step: none is left
-    link-emptied : i + 1 < 2 * n → get_or steps i 0 ≢ 0 → depth < 2 → Linking steps n t starts targets 0 (next + 0) (i + 1)
+    link-emptied : i < length steps → get_or steps i 0 ≢ 0 → depth < 2 → Linking steps n t starts targets 0 (next + 0) (i + 1)
     link-emptied lt z few =
         record {
           targets-32 = L.targets-32;
@@ -382,17 +377,17 @@ module _ (steps : List ℕ) (n : ℕ) (t : List ℕ) (n8 : n ≤ 8) where
               record {
                 stack = [];
                 parts = none;
-                runs = λ l.
+                runs =
                     let s : next + 0 ≡ next = omega arith in
-                    ap (λ (m : ℕ). run_at (held_of n h) m (drop (i + 1) (used_steps steps n)) []) s
-                    ∙ sym (run-emptied (held_of n h) next (get_or steps i 0) (drop (i + 1) (used_steps steps n)) starts depth few S.parts z)
-                    ∙ ap (λ (ss : List ℕ). run_at (held_of n h) next ss S.stack) (sym (step_is lt l))
-                    ∙ S.runs l;
+                    ap (λ (m : ℕ). run_at (held_of n h) m (drop (i + 1) steps) []) s
+                    ∙ sym (run-emptied (held_of n h) next (get_or steps i 0) (drop (i + 1) steps) starts depth few S.parts z)
+                    ∙ ap (λ (ss : List ℕ). run_at (held_of n h) next ss S.stack) (sym (step_is lt))
+                    ∙ S.runs;
               };
         }
 
     -- the two parts on top joined
-    link-joined : i + 1 < 2 * n → (depth' : ℕ) (targets' : List ℕ) → get_or steps i 0 ≢ 0 → 2 ≤ depth → suc depth' ≡ depth
+    link-joined : i < length steps → (depth' : ℕ) (targets' : List ℕ) → get_or steps i 0 ≢ 0 → 2 ≤ depth → suc depth' ≡ depth
         → Redirects (get_or starts (depth - 2) 0) (get_or starts (depth - 1) 0) (exit_of (get_or steps i 0)) targets targets' → Linking steps n t starts targets' depth' (next + 0) (i + 1)
     link-joined lt depth' targets' z two ed R = go depth' refl
       where
@@ -472,22 +467,22 @@ module _ (steps : List ℕ) (n : ℕ) (t : List ℕ) (n8 : n ≤ 8) where
                 f = λ (k : ℕ). get_or targets (4 * k + ord k) 0
 
                 taken : (st : List Bool) → Parts f (entry_of n next) (b ∷ a ∷ entries starts d) st
-                    → (length steps ≡ 15 → run_at (held_of n h) next (drop i (used_steps steps n)) st ≡ run_at (held_of n h) 0 (used_steps steps n) [])
+                    → run_at (held_of n h) next (drop i steps) st ≡ run_at (held_of n h) 0 steps []
                     → Standing steps n ord h starts targets' (suc d) (next + 0) (i + 1)
                 taken _ (some {v = vb} rb (some {v = va} {vs = vs} ra p)) runs =
                     record {
                       stack = join_of step va vb ∷ vs;
                       parts = subst (λ (k : ℕ). Parts (λ (j : ℕ). get_or targets' (4 * j + ord j) 0) (entry_of n k) (entries starts (suc d)) (join_of step va vb ∷ vs)) (sym s)
                           (parts_join ord four step (entry_of n next) a b (entries starts d) va vb vs targets targets' L.targets-32 (entry_in n next n8) C R' (some rb (some ra p)));
-                      runs = λ l.
-                          ap (λ (m : ℕ). run_at (held_of n h) m (drop (i + 1) (used_steps steps n)) (join_of step va vb ∷ vs)) s
-                          ∙ sym (run_join (held_of n h) next step (drop (i + 1) (used_steps steps n)) (vb ∷ va ∷ vs) z)
-                          ∙ ap (λ (ss : List ℕ). run_at (held_of n h) next ss (vb ∷ va ∷ vs)) (sym (step_is lt l))
-                          ∙ runs l;
+                      runs =
+                          ap (λ (m : ℕ). run_at (held_of n h) m (drop (i + 1) steps) (join_of step va vb ∷ vs)) s
+                          ∙ sym (run_join (held_of n h) next step (drop (i + 1) steps) (vb ∷ va ∷ vs) z)
+                          ∙ ap (λ (ss : List ℕ). run_at (held_of n h) next ss (vb ∷ va ∷ vs)) (sym (step_is lt))
+                          ∙ runs;
                     }
 
     -- one step
-    pub link-more : i + 1 < 2 * n → (depth' : ℕ) (starts' targets' : List ℕ) (more : ℕ) → more ≡ if_so (eqb (get_or steps i 0) 0) 1
+    pub link-more : i < length steps → (depth' : ℕ) (starts' targets' : List ℕ) (more : ℕ) → more ≡ if_so (eqb (get_or steps i 0) 0) 1
         → Links n (get_or steps i 0) next depth starts targets depth' starts' targets' → Linking steps n t starts' targets' depth' (next + more) (i + 1)
     link-more lt depth' starts' targets' more em (pushed z ed es et) =
         let one : more ≡ 1 = em ∙ ap (λ (b : Bool). if_so b 1) (eq-eqb (get_or steps i 0) 0 z) in
@@ -505,24 +500,22 @@ module _ (steps : List ℕ) (n : ℕ) (t : List ℕ) (n8 : n ≤ 8) where
         subst (λ (l : List ℕ). Linking steps n t l targets' depth' (next + more) (i + 1)) (sym es)
         (subst (λ (m : ℕ). Linking steps n t starts targets' depth' (next + m) (i + 1)) (sym none') (link-joined lt depth' targets' z two ed R))
 
-    -- the same of a step s, which is read from those in use
-    pub link-step : (m s : ℕ) → m ≡ 2 * n - 1 → s ≡ get_or (take m steps) i 0 → i < length (take m steps) → (depth' : ℕ) (starts' targets' : List ℕ) (more : ℕ) → more ≡ bool_byte (eqb s 0)
+    -- the same of a step s
+    pub link-step : (s : ℕ) → s ≡ get_or steps i 0 → i < length steps → (depth' : ℕ) (starts' targets' : List ℕ) (more : ℕ) → more ≡ bool_byte (eqb s 0)
         → Links n s next depth starts targets depth' starts' targets' → Linking steps n t starts' targets' depth' (next + more) (i + 1)
-    link-step m s em es h depth' starts' targets' more e K =
-        let l : i < m = omega (arith, length-take m steps) in
-        let q : s ≡ get_or steps i 0 = es ∙ get_or-take m steps i 0 l in
-        link-more (omega arith) depth' starts' targets' more (e ∙ one-of (eqb s 0) ∙ ap (λ (k : ℕ). if_so (eqb k 0) 1) q) (subst (λ (k : ℕ). Links n k next depth starts targets depth' starts' targets') q K)
+    link-step s q h depth' starts' targets' more e K =
+        link-more h depth' starts' targets' more (e ∙ one-of (eqb s 0) ∙ ap (λ (k : ℕ). if_so (eqb k 0) 1) q) (subst (λ (k : ℕ). Links n k next depth starts targets depth' starts' targets') q K)
 
     -- all steps are done
-    pub link-done : 2 * n ≤ i + 1 → length steps ≡ 15 → Linked steps n t targets (cond (eqb depth 0) met (get_or starts (depth - 1) 0))
-    link-done lt l =
+    pub link-done : length steps ≤ i → Linked steps n t targets (cond (eqb depth 0) met (get_or starts (depth - 1) 0))
+    link-done lt =
         record {
           forward = L.forward;
           arrives_at = λ ord h four each. ended ord h (L.standing ord h four each);
         }
       where
-        over : drop i (used_steps steps n) ≡ []
-        over = let len : length (used_steps steps n) ≤ i = simp length-take (omega arith) in drop_of_length-le (used_steps steps n) len
+        over : drop i steps ≡ []
+        over = drop_of_length-le steps lt
 
         top-ends : (f : ℕ → ℕ) (d : ℕ) (st : List Bool) → Parts f (entry_of n next) (entries starts d) st
             → arrives f met (cond (eqb d 0) met (get_or starts (d - 1) 0)) ≡ exit (top true st)
@@ -533,10 +526,10 @@ module _ (steps : List ℕ) (n : ℕ) (t : List ℕ) (n8 : n ≤ 8) where
             ap₂ (λ (b : Bool) (k : ℕ). arrives f met (cond b met (get_or starts k 0))) z q ∙ ends-arrives f r met (omega arith)
 
         ended : (ord : ℕ → ℕ) (h : ℕ → Bool) → Standing steps n ord h starts targets depth next i
-            → arrives (λ (k : ℕ). get_or targets (4 * k + ord k) 0) met (cond (eqb depth 0) met (get_or starts (depth - 1) 0)) ≡ exit (top true (run_at (held_of n h) 0 (used_steps steps n) []))
+            → arrives (λ (k : ℕ). get_or targets (4 * k + ord k) 0) met (cond (eqb depth 0) met (get_or starts (depth - 1) 0)) ≡ exit (top true (run_at (held_of n h) 0 steps []))
         ended ord h S =
             top-ends (λ (k : ℕ). get_or targets (4 * k + ord k) 0) depth S.stack S.parts
-            ∙ ap (λ (st : List Bool). exit (top true st)) (ap (λ (ss : List ℕ). run_at (held_of n h) next ss S.stack) (sym over) ∙ S.runs l)
+            ∙ ap (λ (st : List Bool). exit (top true st)) (ap (λ (ss : List ℕ). run_at (held_of n h) next ss S.stack) (sym over) ∙ S.runs)
 
 -- ---- to begin with
 
@@ -588,19 +581,8 @@ module _ (from b : ℕ) where
       ∙ ap (λ (y : ℕ). map (led_on from b) (take i t) ++ y ∷ drop (suc i) t) (sym x)
       ∙ sym (led-next t i h)
 
-  pub led-done : (t : List ℕ) (i : ℕ) → i ≡ length t → led from b t i ≡ map (led_on from b) t
-  led-done t i h = rw (h, take-length, drop-length) (append-nil (map (led_on from b) t))
-
 -- a part of the targets led on
 module _ (a b from : ℕ) (t : List ℕ) (len : length t ≡ 32) (b8 : b ≤ 8) where
-  pub redirect-none : b ≤ a → Redirects a b from t t
-  redirect-none h = (refl, λ j l. go j (leb (4 * a) j) refl (ltb j (4 * b)) refl)
-    where
-      go : (j : ℕ) → (p : Bool) → leb (4 * a) j ≡ p → (q : Bool) → ltb j (4 * b) ≡ q → get_or t j 0 ≡ cond (p && (q && eqb (get_or t j 0) from)) b (get_or t j 0)
-      go j false e q f = refl
-      go j true e false f = refl
-      go j true e true f = let g : 4 * a ≤ j = leb-true (4 * a) j e in let k : j < 4 * b = ltb-true j (4 * b) f in absurd (omega arith)
-
   pub redirect-part : a < b → (m r : List ℕ) → m ≡ map (led_on from b) (mid_of (4 * a) (4 * b - 4 * a) t) → r ≡ put_mid (4 * a) (4 * b - 4 * a) t m → Redirects a b from t r
   redirect-part h m r em er = (ap length er ∙ long, λ j l. ap (λ (x : List ℕ). get_or x j 0) er ∙ go j (omega (arith, len)) (leb (4 * a) j) refl (ltb j (4 * b)) refl)
     where

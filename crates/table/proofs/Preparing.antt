@@ -18,7 +18,7 @@ use Rattle.meaning.specs.Meaning.{Row, value_of, operand_value}
 use Rattle.statement.specs.Operators.{predicate_at, is_null_test, order_of, truth_by}
 use Rattle.statement.proofs.OperatorLaws.{tested-order}
 use Rattle.statement.specs.Compiled.{left_side, right_side}
-use Rattle.statement.specs.Sound.{operand_read, comparison_read}
+use Rattle.statement.specs.Sound.{operand_read, comparison_read, used_steps}
 use Rattle.statement.specs.declared.Comparison.{Comparison}
 use Rattle.statement.specs.declared.Condition.{Condition}
 use Rattle.statement.specs.declared.Operand.{Operand}
@@ -230,5 +230,5 @@ module _ (c : Condition) (vs : List ℤ) (targets places : List ℕ) (numbers : 
         fill_more d a b targets' places₁ places' numbers₁ numbers' h (ea ∙ ap left_side q) (eb ∙ ap right_tested q) (et ∙ ap (λ (y : Comparison). targets_put targets i y.op) q)
 
     -- all are prepared, and then linked
-    pub fill_done : n ≤ i → (targets' : List ℕ) (start : ℕ) → Linked c.steps n targets targets' start → Prepared c vs targets' places numbers start
+    pub fill_done : n ≤ i → (targets' : List ℕ) (start : ℕ) → Linked (used_steps c) n targets targets' start → Prepared c vs targets' places numbers start
     fill_done h targets' start K = prepared-by c vs n places numbers F.shaped targets targets' start K (λ k under d row short. F.done k (omega arith) d row short)

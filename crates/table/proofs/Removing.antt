@@ -5,7 +5,7 @@ use mathlib.Core.List.{List, [], ◌∷◌, ◌++◌, map}
 use native.Mathlib.Omega.{arith}
 use lib.IntN.{ℤ, pos}
 use lib.ListN.{length, drop, get_or, set, replicate, length-replicate}
-use lib.Seq.{paste, paste-zero, take_all}
+use lib.Seq.{paste, take_all}
 use Rattle.lists.specs.Lists.{turned}
 use Rattle.lists.proofs.Turned.{turned-past}
 use Rattle.meaning.specs.Statement as M
@@ -63,9 +63,6 @@ Writes list row i l = (length l ≡ 8) × (l ≡ paste list 0 (settings_from 0 r
 module _ (list : List Setting) (row : Row) (e : list ≡ replicate 8 no_setting) (h : length row ≤ 8) where
   list-long : length list ≡ 8
   list-long = ap length e ∙ length-replicate 8 no_setting
-
-  pub writes_start : Writes list row 0 list
-  writes_start = (list-long, paste-zero list 0 (settings_from 0 row))
 
   pub writes-turn : (i : ℕ) (l : List Setting) (s : Setting) → i < length row → l ≡ paste list 0 (settings_from 0 row) i → s ≡ record { column = i; mark = 0; number = get_or row i (pos 0) }
       → set l i s ≡ paste list 0 (settings_from 0 row) (i + 1)

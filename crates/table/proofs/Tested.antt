@@ -1,14 +1,14 @@
 -- The test of a row on prepared numbers: from comparison to comparison one arrives where the condition says. Assumes nothing.
-use Prim.Native.Nat.{ℕ, zero, suc, ◌+◌, ◌-◌, ◌*◌, ◌≤◌, ◌<◌, min}
+use Prim.Native.Nat.{ℕ, zero, suc, ◌+◌, ◌*◌, ◌≤◌, ◌<◌, min}
 use mathlib.Core.Path.{◌≡◌, refl, sym, ap, ap₂, ◌∙◌, subst}
 use mathlib.Core.Bool.{Bool, true, false, not, ◌&&◌, ◌||◌, cond}
 use mathlib.Core.List.{List, [], ◌∷◌, map}
 use native.Mathlib.Omega.{arith}
-use borrow.Author.Tests.{lt-ltb, le-ltb, ltb-true, ltb-false, leb-true, leb-false}
-use lib.Dec.{eqb, ltb, leb}
+use borrow.Author.Tests.{lt-ltb, le-ltb, ltb-true, ltb-false}
+use lib.Dec.{eqb, ltb}
 use lib.IntN.{ℤ}
 use lib.ListN.{length, take, drop, get_or, length-take, drop_of_length-le}
-use lib.Seq.{drop-cons, get_or-take, take_all}
+use lib.Seq.{drop-cons, get_or-take}
 use Rattle.lists.specs.Lists.{All, nil, cons, cons_if, keep}
 use Rattle.meaning.specs.Cells.{rows_in}
 use Rattle.meaning.specs.Condition as C
@@ -56,24 +56,8 @@ module _ (row vs : List ℤ) where
     run_is next (suc zero ∷ ss) st = run_is next ss (joined ◌&&◌ st)
     run_is next (suc (suc k) ∷ ss) st = run_is next ss (joined ◌||◌ st)
 
--- the steps in use
-steps-used : (k n : ℕ) (xs : List ℕ) → n ≡ min k 8 → length xs ≡ 15 → take (2 * n - 1) xs ≡ take (2 * k - 1) xs
-steps-used k n xs e l = go (leb k 8) refl
-  where
-    go : (b : Bool) → leb k 8 ≡ b → take (2 * n - 1) xs ≡ take (2 * k - 1) xs
-    go true t =
-        let h : k ≤ 8 = leb-true k 8 t in
-        let s : n ≡ k = omega arith in
-        ap (λ (m : ℕ). take (2 * m - 1) xs) s
-    go false t =
-        let h : 8 < k = leb-false k 8 t in
-        let a : length xs ≤ 2 * n - 1 = omega arith in
-        let b : length xs ≤ 2 * k - 1 = omega arith in
-        take_all (2 * n - 1) xs a ∙ sym (take_all (2 * k - 1) xs b)
-
--- a condition of n comparisons, as its type has it
+-- a condition of n comparisons
 pub record Shaped (c : Condition) (n : ℕ) : Type 0 where
-  pub fifteen : length c.steps ≡ 15
   pub eight : length c.comparisons ≡ 8
   pub count_is : n ≡ min c.count 8
 
@@ -106,12 +90,10 @@ module _ (c : Condition) (vs : List ℤ) (n : ℕ) (S : Shaped c n) (row : Row) 
           (subst (λ (l : List Comparison). Next row vs [] true l) (sym (drop_of_length-le cs b)) ended)
 
   -- the steps say what the condition says
-  runs-meets : top true (run_at (held_of n (held_in c vs row)) 0 (take (2 * n - 1) c.steps) []) ≡ meets_stored c vs row
+  runs-meets : top true (run_at (held_of n (held_in c vs row)) 0 (used_steps c) []) ≡ meets_stored c vs row
   unfolding meets_stored condition_nodes
   runs-meets =
-      ap (top true)
-      (ap (λ (ss : List ℕ). run_at (held_of n (held_in c vs row)) 0 ss []) (steps-used c.count n c.steps S.count_is S.fifteen)
-      ∙ run_is row vs (held_of n (held_in c vs row)) (used_comparisons c) each-is 0 (used_steps c) [])
+      ap (top true) (run_is row vs (held_of n (held_in c vs row)) (used_comparisons c) each-is 0 (used_steps c) [])
 
 exit-met : (b : Bool) → eqb (exit b) met ≡ b
 exit-met true = refl
@@ -119,7 +101,7 @@ exit-met false = refl
 
 -- comparisons that lead out by their truths, linked by the condition's steps, test what the condition says
 pub prepared-by : (c : Condition) (vs : List ℤ) (n : ℕ) (places : List ℕ) (numbers : List ℤ) → Shaped c n → (t targets : List ℕ) (start : ℕ)
-    → Linked c.steps n t targets start
+    → Linked (used_steps c) n t targets start
     → ((k : ℕ) → k < n → (d : Comparison) (row : Row) → length row ≤ longest
     → next_at t places numbers row k ≡ exit (C.holds (operand_value row vs) (comparison_read (get_or c.comparisons k d))))
     → Prepared c vs targets places numbers start
@@ -131,7 +113,7 @@ prepared-by c vs n places numbers S t targets start K each =
           ap (λ (k : ℕ). eqb k met)
           (K.arrives_at (λ (i : ℕ). target_place (order_of (side_at places numbers row (2 * i)) (side_at places numbers row (2 * i + 1)))) (held_in c vs row)
           (λ i. place-small (order_of (side_at places numbers row (2 * i)) (side_at places numbers row (2 * i + 1)))) (λ i h. each i h no_comparison row short))
-          ∙ exit-met (top true (run_at (held_of n (held_in c vs row)) 0 (take (2 * n - 1) c.steps) []))
+          ∙ exit-met (top true (run_at (held_of n (held_in c vs row)) 0 (used_steps c) []))
           ∙ runs-meets c vs n S row;
     }
 

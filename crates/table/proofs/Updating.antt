@@ -1,6 +1,5 @@
 -- The loop of an UPDATE, over the rows of an area.
 --     Left            what holds with `left` rows left from cell `at` on
---     update-start    before the first row
 --     update-turn     after a row: r is 1 where p holds of it, and row' is what it is then
 --     update-set      after a row of which p holds, and update-stay after any other
 --     update-done     after the last
@@ -52,9 +51,6 @@ pub record Left (p : List ℤ → Bool) (f : List ℤ → List ℤ) (c used : �
   pub cells : take at a ++ work (settled p f) c left (drop at a) ≡ work (settled p f) c used a₀
 
 module _ (p : List ℤ → Bool) (f : List ℤ → List ℤ) (c used : ℕ) (a₀ : List ℤ) where
-  pub update-start : used * c ≤ length a₀ → Left p f c used a₀ a₀ 0 used 0
-  update-start h = record { room = omega arith; same = refl; few = omega arith; counted = omega arith; cells = refl }
-
   module _ (keeps : (r : List ℤ) → length (f r) ≡ length r) where
     turn : (a : List ℤ) (at m found r : ℕ) (row' : List ℤ) → Left p f c used a₀ a at (suc m) found → r ≡ cond (p (take c (drop at a))) 1 0 → row' ≡ settled p f (take c (drop at a)) → Left p f c used a₀ (put_mid at c a row') (at + c) m (found + r)
     turn a at m found r row' L er ew =

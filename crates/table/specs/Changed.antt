@@ -90,10 +90,12 @@ changed_of full k form u vs rows =
 abbrev pub inserted_of : Bool → ℕ → ℕ → Changed
 inserted_of full used k = record { count = 1; rows = cond full used (used + 1); oldest = cond full (next_place used k) k }
 
+-- where nothing was done
+abbrev pub unchanged : Table → Changed
+unchanged t = record { count = 0; rows = t.rows; oldest = t.oldest }
+
 unfoldable pub change_of : Update → Table → ℕ → List ℤ → List ℤ → Changed
-change_of u t start cells vs =
-    cond (fits u t start cells) (changed_of (is_full_ring t) t.oldest u.form u vs (rows_before t start cells))
-    (record { count = 0; rows = t.rows; oldest = t.oldest })
+change_of u t start cells vs = cond (fits u t start cells) (changed_of (is_full_ring t) t.oldest u.form u vs (rows_before t start cells)) (unchanged t)
 
 -- the cells after it: all but the area as before
 unfoldable pub cells_after : Update → Table → ℕ → List ℤ → List ℤ → List ℤ

@@ -1,6 +1,6 @@
 -- How the targets of a test are made, as the code takes it: at first each comparison leads straight to `met` or `unmet`; then the steps of the condition join what they
 -- stand for, by leading the left part on to the right one. Assumes nothing: these are definitions.
-use Rattle.std.specs.Prelude.{◌≡◌, ◌≢◌, Bool, true, cond, ◌&&◌, ◌||◌, List, [], ◌∷◌, ℕ, zero, suc, ◌+◌, ◌*◌, ◌-◌, ◌≤◌, ◌<◌, ltb, leb, eqb, length, get_or, set, take}
+use Rattle.std.specs.Prelude.{◌≡◌, ◌≢◌, Bool, true, cond, ◌&&◌, ◌||◌, List, [], ◌∷◌, ℕ, zero, suc, ◌+◌, ◌*◌, ◌-◌, ◌≤◌, ◌<◌, ltb, leb, eqb, length, get_or, set}
 use Rattle.meaning.specs.Postfix.{top, joined}
 use Rattle.statement.specs.declared.Order.{Order}
 use Rattle.statement.specs.declared.Order.TheVariants.{Less, Equal, Greater, Unknown}
@@ -65,11 +65,11 @@ pub data Links (n step next depth : ℕ) (starts targets : List ℕ) (depth' : �
 abbrev pub Starts : List ℕ → Type 0
 Starts starts = (j : ℕ) → get_or starts j 0 ≤ met
 
--- the targets `t` became `r`, to be entered at `start`: whatever the order of each comparison's sides, one arrives where the steps say
+-- the targets `t` of n comparisons became `r`, to be entered at `start`: whatever the order of each comparison's sides, one arrives where the steps in use say
 pub record Linked (steps : List ℕ) (n : ℕ) (t r : List ℕ) (start : ℕ) : Type 0 where
   pub forward : Forward r
   pub arrives_at : (ord : ℕ → ℕ) (h : ℕ → Bool) → ((i : ℕ) → ord i ≤ 3) → ((i : ℕ) → i < n → get_or t (4 * i + ord i) 0 ≡ exit (h i))
-      → arrives (λ (i : ℕ). get_or r (4 * i + ord i) 0) met start ≡ exit (top true (run_at (held_of n h) 0 (take (2 * n - 1) steps) []))
+      → arrives (λ (i : ℕ). get_or r (4 * i + ord i) 0) met start ≡ exit (top true (run_at (held_of n h) 0 steps []))
 
 -- targets of comparisons that lead straight out
 abbrev pub Unlinked : List ℕ → Type 0

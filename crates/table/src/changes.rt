@@ -1,23 +1,23 @@
 // Rows in the lent cells are inserted, updated and deleted. A table's area is a lent part of the cells; its rows lie one after another from its start on, and where a ring is full the
 // oldest is any of them.
-ghost use Rattle.std.specs.Prelude.{◌≡◌, cond, not, false, true, ◌&&◌, [], ◌∷◌, ◌++◌, map, ◌+◌, ◌*◌, ◌≤◌, ◌<◌, leb, length, take, drop};
+ghost use Rattle.std.specs.Prelude.{◌≡◌, cond, not, false, true, ◌&&◌, [], ◌∷◌, ◌++◌, map, ◌+◌, ◌*◌, ◌≤◌, ◌<◌, leb, length, drop};
 ghost use Rattle.std.proofs.Math.Seq.{paste};
 ghost use Rattle.lists.specs.Lists.{keep, count};
 ghost use Rattle.meaning.specs.Cells.{stored};
 ghost use Rattle.meaning.specs.Limits.{most_items};
 ghost use Rattle.meaning.specs.Meaning.{value_of, assigned};
-ghost use Rattle.statement.specs.Sound.{value_read, setting_read};
+ghost use Rattle.statement.specs.Sound.{value_read, setting_read, settings_read};
 ghost use Rattle.statement.specs.Compiled.{no_setting};
-ghost use Rattle.table.specs.Tests.{longest};
 ghost use Rattle.table.specs.Evaluated.{meets_stored, area_rows};
-ghost use Rattle.table.specs.Changed.{row_of, settled, TurnsRows, laid, next_place, area_fits, is_full_ring, form_fits, ChangeFits, Insertable, inserted_of, changed_of, change_of, cells_after, constants_of, removal_of};
+ghost use Rattle.table.specs.Changed.{row_of, settled, TurnsRows, laid, next_place, area_fits, is_full_ring, form_fits, ChangeFits, Insertable, inserted_of, changed_of, change_of, cells_after, unchanged, constants_of, removal_of};
 
 use super::area::Rows;
 use super::{area, rows};
-use lists::in_use;
+use lists::filled;
 use statement::{Condition, Given, Setting, Table, Update, Value};
 
-// What an update did: how many rows it inserted, matched or deleted, how many are in use now, and which place is the oldest's.
+// What an update did: how many rows it inserted, matched or deleted, how many are in use now, and which place is the oldest's. (Of one that did nothing these are the table's own, so that a
+// caller stores them without asking: an Option would be taken apart first.)
 #[derive(Clone, Copy)]
 pub struct Changed {
     pub count: u16,
@@ -27,8 +27,8 @@ pub struct Changed {
 
 impl Changed {
     // Nothing was done.
-    fn none(table: &Table) -> Changed
-        ensures { result ≡ record { count = 0; rows = table.now.rows; oldest = table.now.oldest } }
+    pub fn none(table: &Table) -> Changed
+        ensures { result ≡ unchanged table.now }
     {
         Changed {
             count: 0,
@@ -50,7 +50,8 @@ fn value_of(value: Value, values: &[i32]) -> i32
     }
 }
 
-// Puts the values of the settings into a row.
+// Puts the values of the settings into a row. (By number: of a loop over `row.iter_mut().zip(settings)` the invariant has no word for the cells that are written. `settings` and `values`
+// stay two slices here, in `insert_row` and in `assign`: no fact joins them, so in a struct of both no clause would go, and each would name its two fields.)
 fn put_values(row: &mut [i32], settings: &[Setting], values: &[i32])
     requires { length row.old ≡ length settings.now }
     ensures { row.new ≡ row_of settings.now values.now }
@@ -83,24 +84,26 @@ fn assign(row: &mut [i32], settings: &[Setting], values: &[i32])
     }
 }
 
-// Sets columns of the rows that meet the condition, each tested as it was. Returns how many they are. (What is asked of the area stands at each of three
-// functions: of a struct that lends it, each would say what becomes of a borrow within, which is no plainer.)
-fn update_rows(area: &mut [i32], columns: usize, used: u16, update: &Update, values: &[i32]) -> u16
-    requires { (columns ≤ longest) × (used * columns ≤ length area.old) }
+// Sets columns of the rows that meet the condition, each tested as it was. Returns how many they are, counted where they are set. (That the rows lie inside the area is
+// asked by three functions: a struct that lends it would ask it once, but each clause would then say of a borrow within what it holds after the call and at its end. `at` is counted, since
+// `chunks_exact_mut` fails for a table of no columns, whose rows are still counted.)
+fn update_rows(area: &mut [i32], columns: u8, used: u16, update: &Update, values: &[i32]) -> u16
+    requires { used * columns ≤ length area.old }
     ensures count { result ≡ count (meets_stored update.now.condition values.now) (area_rows columns used area.old) }
-    ensures cells { area.new ≡ stored area.old (used * columns) (map (settled (meets_stored update.now.condition values.now) (assigned (map setting_read (take update.now.count update.now.settings)) values.now)) (area_rows columns used area.old)) }
+    ensures cells { area.new ≡ stored area.old (used * columns) (map (settled (meets_stored update.now.condition values.now) (assigned (settings_read update.now) values.now)) (area_rows columns used area.old)) }
 {
     let test = rows::prepare(&update.condition, values);
-    let settings = in_use(&update.settings, usize::from(update.count));
+    let settings = update.used();
+    let width = usize::from(columns);
     let mut found: u16 = 0;
     let mut at = 0;
     for _ in 0..used {
-        let row = &mut area[at..at + columns];
+        let row = &mut area[at..at + width];
         if test.meets(row) {
             assign(row, settings, values);
             found += 1;
         }
-        at += columns;
+        at += width;
     }
     found
 }
@@ -121,42 +124,45 @@ fn move_row(area: &mut [i32], from: usize, to: usize, columns: usize)
     }
 }
 
-// Closes up the rows that do not meet the condition, in order, and clears the cells that this vacates. Returns how many rows are gone.
+// Closes up the rows that do not meet the condition, in order, and clears the cells that this vacates. Returns how many rows are gone. (`from` is counted for the reason at `update_rows`,
+// and `to` goes on with each row that stays.)
 fn delete_rows(
     area: &mut [i32],
-    columns: usize,
+    columns: u8,
     used: u16,
     condition: &Condition,
     values: &[i32],
 ) -> u16
-    requires { (columns ≤ longest) × (used * columns ≤ length area.old) }
+    requires { used * columns ≤ length area.old }
     ensures count { result ≡ count (meets_stored condition.now values.now) (area_rows columns used area.old) }
     ensures cells { area.new ≡ stored area.old (used * columns) (keep (λ r. not (meets_stored condition.now values.now r)) (area_rows columns used area.old)) }
 {
     let test = rows::prepare(condition, values);
+    let width = usize::from(columns);
     let mut from = 0;
     let mut to = 0;
     let mut gone: u16 = 0;
     for _ in 0..used {
-        if test.meets(&area[from..from + columns]) {
+        if test.meets(&area[from..from + width]) {
             gone += 1;
         } else {
-            move_row(area, from, to, columns);
-            to += columns;
+            move_row(area, from, to, width);
+            to += width;
         }
-        from += columns;
+        from += width;
     }
     area[to..from].fill(0);
     gone
 }
 
 // Turns the rows in use so that the oldest, at place k, lies first.
-fn turn_rows(area: &mut [i32], columns: usize, used: u16, k: u16)
-    requires { (columns ≤ longest) × (used * columns ≤ length area.old) }
+fn turn_rows(area: &mut [i32], columns: u8, used: u16, k: u16)
+    requires { used * columns ≤ length area.old }
     ensures { TurnsRows columns used k area.old area.new }
 {
     if k < used {
-        area[..usize::from(used) * columns].rotate_left(usize::from(k) * columns);
+        let width = usize::from(columns);
+        area[..usize::from(used) * width].rotate_left(usize::from(k) * width);
     }
 }
 
@@ -166,15 +172,14 @@ fn turn_rows(area: &mut [i32], columns: usize, used: u16, k: u16)
 fn area_fits(table: &Table, start: usize, cells: usize) -> bool
     ensures { result ≡ area_fits table.now start cells }
 {
-    let size = usize::from(table.count) * usize::from(table.capacity);
-    area::is_inside(cells, start, size) && table.rows <= table.capacity
+    area::is_inside(cells, start, table.cells()) && table.rows <= table.capacity
 }
 
 // Whether a table is a ring that is full.
-fn is_full(table: &Table) -> bool
+fn is_full_ring(table: &Table) -> bool
     ensures { result ≡ is_full_ring table.now }
 {
-    table.ring && table.capacity <= table.rows
+    table.ring && table.is_full()
 }
 
 // Whether the settings are few enough, and an INSERT has a row free, or a ring's oldest row to take the place of, and a value for each column.
@@ -185,7 +190,7 @@ fn form_fits(update: &Update, table: &Table) -> bool
         return false;
     }
     if update.form == Update::INSERT {
-        let free = table.rows < table.capacity || (table.ring && table.oldest < table.rows);
+        let free = !table.is_full() || (table.ring && table.oldest < table.rows);
         return free && update.count == table.count;
     }
     true
@@ -203,7 +208,7 @@ fn next_place(n: u16, k: u16) -> u16
 fn new_place(table: &Table) -> u16
     ensures { result ≡ cond (is_full_ring table.now) table.now.oldest table.now.rows }
 {
-    if is_full(table) {
+    if is_full_ring(table) {
         table.oldest
     } else {
         table.rows
@@ -215,7 +220,7 @@ fn inserted(table: &Table) -> Changed
     requires { Insertable (is_full_ring table.now) table.now.rows table.now.oldest }
     ensures { result ≡ inserted_of (is_full_ring table.now) table.now.rows table.now.oldest }
 {
-    if is_full(table) {
+    if is_full_ring(table) {
         return Changed {
             count: 1,
             rows: table.rows,
@@ -235,21 +240,19 @@ fn change_area(area: &mut [i32], table: &Table, update: &Update, values: &[i32])
     ensures counted { result ≡ changed_of (is_full_ring table.now) table.now.oldest update.now.form update.now values.now (area_rows table.now.count table.now.rows area.old) }
     ensures cells { area.new ≡ stored area.old (table.now.rows * table.now.count) (laid (is_full_ring table.now) table.now.oldest update.now.form update.now values.now (area_rows table.now.count table.now.rows area.old)) }
 {
-    let settings = in_use(&update.settings, usize::from(update.count));
     if update.form == Update::INSERT {
-        insert_row(area, new_place(table), settings, values);
+        insert_row(area, new_place(table), update.used(), values);
         return inserted(table);
     }
-    let columns = table.count as usize;
     if update.form == Update::UPDATE {
         return Changed {
-            count: update_rows(area, columns, table.rows, update, values),
+            count: update_rows(area, table.count, table.rows, update, values),
             rows: table.rows,
             oldest: table.oldest,
         };
     }
-    turn_rows(area, columns, table.rows, table.oldest);
-    let count = delete_rows(area, columns, table.rows, &update.condition, values);
+    turn_rows(area, table.count, table.rows, table.oldest);
+    let count = delete_rows(area, table.count, table.rows, &update.condition, values);
     Changed {
         count,
         rows: table.rows - count,
@@ -271,18 +274,18 @@ pub fn change(
     if !area_fits(&table, start, cells.len()) || !form_fits(&update, &table) {
         return Changed::none(&table);
     }
-    let end = start + usize::from(table.count) * usize::from(table.capacity);
+    let end = start + table.cells();
     change_area(&mut cells[start..end], &table, &update, values)
 }
 
 // ---- the row that a full ring pushes out
 
-// A row's values as the first settings of an INSERT, as constants.
+// A row's values as the first settings of an INSERT, as constants. (By number, since a setting's place is its column.)
 fn constants(row: &[i32]) -> [Setting; Update::SETTINGS]
     requires { length row.now ≤ most_items }
     ensures { result ≡ constants_of row.now }
 {
-    let mut list = Update::default().settings;
+    let mut list: [Setting; Update::SETTINGS] = filled(Setting::default());
     for (i, number) in row.iter().enumerate() {
         list[i] = Setting {
             column: i as u8,
@@ -293,7 +296,8 @@ fn constants(row: &[i32]) -> [Setting; Update::SETTINGS]
     list
 }
 
-// The oldest row's values as an INSERT of constants into the table of that number; of a table without rows an INSERT of no values.
+// The oldest row's values as an INSERT of constants into the table of that number; of a table without rows an INSERT of no values. (No Option: it is total,
+// as `removal_of` is, and asked for only where a row is inserted into a full ring.)
 pub fn removal(number: u8, table: Table, start: usize, cells: &[i32]) -> Update
     ensures { result ≡ removal_of number table start cells.now }
 {

@@ -1,5 +1,6 @@
 // The table layer: statement texts (crate `statement`), answer records (crate `answer`), and here evaluation: rows in the lent cells are tested, listed and changed.
-// What lies above names this crate alone.
+// What lies above names this crate alone. (Casts are of lengths, counts and places to smaller numbers, for which there is no `From`, and one of an enum
+// to its place, `target_place`; the check shows that each fits.)
 #![tactic(auto)]
 
 mod area; // the rows of a table in the cells
@@ -8,7 +9,7 @@ mod listing; // questions: the rows listed, written as a record
 mod pairs; // questions over two tables: the pairs of rows listed
 mod rows; // the test of a row
 
-pub use answer::{row, row_refusal};
+pub use answer::{NoRow, check_row, row};
 pub use changes::{Changed, change, removal};
 pub use listing::{Selected, select};
 pub use pairs::select_pair;

@@ -1,18 +1,18 @@
 // The test of a row: a condition prepared once a question as numbers alone, and then run for each row from comparison to comparison, up to the first that decides.
-ghost use Rattle.std.specs.Prelude.{◌≡◌, cond, ◌+◌, ◌-◌, ◌*◌, ◌≤◌, ◌<◌, eqb, pos, length, take, get_or, map, set, replicate};
+ghost use Rattle.std.specs.Prelude.{◌≡◌, cond, ◌+◌, ◌-◌, ◌*◌, ◌≤◌, ◌<◌, eqb, pos, length, min, get_or, map, set};
 ghost use Rattle.statement.specs.Operators.{order_of};
+ghost use Rattle.statement.specs.Sound.{used_steps};
 ghost use Rattle.table.specs.Tests.{met, unmet, right_tested, place_of, number_of, target_place, next_at, passes, Forward, Prepared, TestsRow};
 ghost use Rattle.table.specs.Linking.{exit as exit_to, target_put, targets_put, entry_of, led_on, Redirects, Links, Starts, Unlinked, Linked};
 
-use lists::in_use;
+use lists::{filled, put};
 use statement::{Comparison, Condition, Operand, Order, Step, Term};
-use std::cmp::Ordering;
 
 // The number at a place; past the end, that other one.
 pub fn number_or(numbers: &[i32], i: usize, other: i32) -> i32
     ensures { result ≡ get_or numbers.now i other }
 {
-    if i < numbers.len() { numbers[i] } else { other }
+    numbers.get(i).copied().unwrap_or(other)
 }
 
 // ---- prepared, once a question: numbers alone
@@ -20,8 +20,8 @@ pub fn number_or(numbers: &[i32], i: usize, other: i32) -> i32
 // What the test of a row goes by. Comparison i has the sides 2 * i and 2 * i + 1: the cell at `places`, or where the row ends before that, the number at `numbers`. Its
 // `targets` from 4 * i on say where to go on if the left side is less than, equal to and greater than the right one, and if one is null: at a later comparison, or at MET or
 // UNMET.
-// (Flat: with an array of structs, each its two sides and a struct of four targets, an ask of 512 rows takes 11 to 15 % more instructions, and a DELETE by 8 comparisons 65,456, so
-// 52,627.)
+// (Flat: with an array of structs, each its two sides and an array of four targets, calls on 512 rows by 8 comparisons take 3 to 5 % more instructions: an ask 163,088 in place of
+// 158,701, an UPDATE 83,163 in place of 79,890, a DELETE 55,283 in place of 52,627.)
 #[derive(Clone, Copy)]
 pub struct Test {
     targets: [u8; Test::TARGETS],
@@ -77,7 +77,8 @@ fn target_place(order: Order) -> usize
     order as usize
 }
 
-// Puts the target of a comparison by itself for one order of its sides. (Here, below and in `next` i is one of eight comparisons, as an index needs.)
+// Puts the target of a comparison by itself for one order of its sides. (Here, below and in `next` i is one of eight comparisons: 4 * i has to fit its type, and in `next` and `side` a test of
+// the place would be one more for each comparison of each row.)
 fn put_target(targets: &mut [u8; Test::TARGETS], i: usize, op: u8, order: Order)
     requires { i < 8 }
     ensures { targets.new ≡ target_put targets.old i op order }
@@ -96,7 +97,7 @@ fn put_targets(targets: &mut [u8; Test::TARGETS], i: usize, op: u8)
     put_target(targets, i, op, Order::Unknown);
 }
 
-// Puts side j.
+// Puts side j. (Into two arrays, for the reason at `Test`.)
 fn put_side(
     places: &mut [u16; Test::SIDES],
     numbers: &mut [i32; Test::SIDES],
@@ -104,38 +105,12 @@ fn put_side(
     o: Operand,
     values: &[i32],
 )
-    requires { j < 16 }
     ensures place { places.new ≡ set places.old j (place_of o) }
     ensures number { numbers.new ≡ set numbers.old j (number_of values.now o) }
 {
     let side = side_of(o, values);
-    places[j] = side.place;
-    numbers[j] = side.number;
-}
-
-// Arrays to begin with, made in functions of their own: a loop's goals would print every entry.
-fn no_targets() -> [u8; Test::TARGETS]
-    ensures { result ≡ replicate 32 unmet }
-{
-    [Test::UNMET; Test::TARGETS]
-}
-
-fn no_places() -> [u16; Test::SIDES]
-    ensures { length result ≡ 16 }
-{
-    [0; Test::SIDES]
-}
-
-fn no_numbers() -> [i32; Test::SIDES]
-    ensures { length result ≡ 16 }
-{
-    [0; Test::SIDES]
-}
-
-fn no_starts() -> [u8; Condition::STEPS]
-    ensures { result ≡ replicate 15 met }
-{
-    [Test::MET; Condition::STEPS]
+    put(places, j, side.place);
+    put(numbers, j, side.number);
 }
 
 // The right side of a comparison as a row is tested: a null test (A.5) looks at its left side alone.
@@ -152,10 +127,10 @@ fn right_tested(c: Comparison) -> Operand
 pub fn prepare(condition: &Condition, values: &[i32]) -> Test
     ensures { Prepared condition.now values.now result.targets result.places result.numbers result.start }
 {
-    let list = in_use(&condition.comparisons, usize::from(condition.count));
-    let mut targets = no_targets();
-    let mut places = no_places();
-    let mut numbers = no_numbers();
+    let list = condition.used();
+    let mut targets: [u8; Test::TARGETS] = filled(Test::UNMET);
+    let mut places: [u16; Test::SIDES] = filled(0);
+    let mut numbers: [i32; Test::SIDES] = filled(0);
     for (i, c) in list.iter().enumerate() {
         put_targets(&mut targets, i, c.op);
         put_side(&mut places, &mut numbers, 2 * i, c.left_side(), values);
@@ -167,7 +142,7 @@ pub fn prepare(condition: &Condition, values: &[i32]) -> Test
             values,
         );
     }
-    let start = link(&mut targets, &condition.steps, list.len() as u8);
+    let start = link(&mut targets, condition);
     Test {
         targets,
         places,
@@ -185,7 +160,8 @@ fn entry_of(next: u8, n: u8) -> u8
     if next < n { next } else { Test::MET }
 }
 
-// Leads targets that led to `from` on to b.
+// Leads targets that led to `from` on to b. (Crate `pattern` has the same loop over labels of 64 bits: one for both would promise by the type's own `==` what each promises by its numbers, and
+// each caller would show that they are the same.)
 fn lead_on(targets: &mut [u8], from: u8, b: u8)
     ensures { targets.new ≡ map (led_on from b) targets.old }
 {
@@ -211,6 +187,7 @@ fn redirect(targets: &mut [u8; Test::TARGETS], a: u8, b: u8, from: u8)
 }
 
 // A step: the next comparison begins a part of the condition, or the two parts on top are joined; none is left of fewer than two. Gives how many parts there are then.
+// (Six parameters: what is lent, and a stack's depth. A struct that owns targets and starts would be built and taken apart again in `prepare`, where the targets become the test's.)
 fn link_step(
     targets: &mut [u8; Test::TARGETS],
     starts: &mut [u8; Condition::STEPS],
@@ -246,15 +223,16 @@ fn start_of(starts: &[u8; Condition::STEPS], depth: usize) -> u8
     }
 }
 
-// Joins n comparisons by the steps of their condition. Gives where to begin. (Where parts begin is a stack: an array and a depth, since there is no heap.)
-fn link(targets: &mut [u8; Test::TARGETS], steps: &[u8; Condition::STEPS], n: u8) -> u8
-    requires { (n ≤ 8) × Unlinked targets.old }
-    ensures { Linked steps.now n targets.old targets.new result }
+// Joins the comparisons of a condition by its steps. Gives where to begin. (Where parts begin is a stack: an array and a depth, since there is no heap.)
+fn link(targets: &mut [u8; Test::TARGETS], condition: &Condition) -> u8
+    requires { Unlinked targets.old }
+    ensures { Linked (used_steps condition.now) (min condition.now.count 8) targets.old targets.new result }
 {
-    let mut starts = no_starts();
+    let n = condition.used().len() as u8;
+    let mut starts: [u8; Condition::STEPS] = filled(Test::MET);
     let mut depth: usize = 0;
     let mut next: u8 = 0;
-    for step in steps[..(2 * usize::from(n)).saturating_sub(1)].iter() {
+    for step in condition.used_steps() {
         depth = link_step(targets, &mut starts, depth, next, n, *step);
         next += u8::from(*step == Step::COMPARISON);
     }
@@ -263,18 +241,15 @@ fn link(targets: &mut [u8; Test::TARGETS], steps: &[u8; Condition::STEPS], n: u8
 
 // ---- a row
 
-// How two numbers stand. The null is the least number, so one of two is null exactly if the lesser one is.
+// How two numbers stand. The null is the least number, so one of two is null exactly if the lesser one is. (Crate `pattern` has the same of its constants' numbers, of 64 bits and with
+// another null: what the two share is `Order::from`.)
 fn order(a: i32, b: i32) -> Order
     ensures { result ≡ order_of a b }
 {
     if a.min(b) == Operand::NULL {
         return Order::Unknown;
     }
-    match a.cmp(&b) {
-        Ordering::Less => Order::Less,
-        Ordering::Equal => Order::Equal,
-        Ordering::Greater => Order::Greater,
-    }
+    Order::from(a.cmp(&b))
 }
 
 impl Test {
@@ -301,7 +276,7 @@ impl Test {
         requires { i < 8 }
         ensures { result ≡ next_at self.now.targets self.now.places self.now.numbers row.now i }
     {
-        let k = i as usize;
+        let k = usize::from(i);
         let a = self.side(row, 2 * k);
         let b = self.side(row, 2 * k + 1);
         self.targets[4 * k + target_place(order(a, b))]

@@ -36,7 +36,8 @@ impl Store {
         self.updates = 0;
     }
 
-    // Compiles a text, prints what it comes to, and adds that.
+    // Compiles a text, prints what it comes to, and adds that. A refusal is printed in words of this program: the library has no output form, and a `Display` would make
+    // it no shorter.
     fn add<W: Write>(&mut self, text: &[u8], out: &mut W) -> io::Result<()> {
         let tables = self.tables.as_slice();
         match script::compile(text, tables, self.queries, self.updates, CELLS) {

@@ -3,7 +3,7 @@ use statement::{Comparison, Condition, Given, Operand, Query, Step, Table, Term,
 use std::fmt;
 
 // A part of a statement. A column is printed as `c` and its number, a parameter as `?` and its number from 1 on.
-// Each program has its own such type: a trait of std is written where the type is.
+// Programs have their own such type (`patterns` too): a trait of std is written where the type is, and what is shown differs.
 #[derive(Clone, Copy)]
 pub struct Shown<'a, T>(pub &'a T);
 
@@ -60,7 +60,7 @@ impl fmt::Display for Shown<'_, Condition> {
         }
         write!(f, " if")?;
         let mut comparisons = self.0.comparisons.iter();
-        for step in self.0.steps.iter().take(2 * usize::from(self.0.count) - 1) {
+        for step in self.0.used_steps() {
             match *step {
                 Step::COMPARISON => {
                     if let Some(comparison) = comparisons.next() {
@@ -81,11 +81,11 @@ impl fmt::Display for Shown<'_, Query> {
     fn fmt<W: fmt::Write>(&self, f: &mut fmt::Formatter<W>) -> fmt::Result {
         let query = self.0;
         write!(f, " on {}", query.table)?;
-        if query.second != 0 {
-            write!(f, " {}", query.second - 1)?;
+        if let Some(second) = query.second_table() {
+            write!(f, " {second}")?;
         }
         write!(f, " selects")?;
-        for column in query.selected.iter().take(usize::from(query.count)) {
+        for column in query.used() {
             write!(f, " {column}")?;
         }
         write!(f, " marks {}{}", query.parameters, Shown(&query.condition))
@@ -110,7 +110,7 @@ impl fmt::Display for Shown<'_, Update> {
             Update::UPDATE => write!(f, " update {} sets", update.table)?,
             _ => write!(f, " delete {}", update.table)?,
         }
-        for setting in update.settings.iter().take(usize::from(update.count)) {
+        for setting in update.used() {
             write!(f, " ")?;
             if update.form == Update::UPDATE {
                 write!(f, "c{}=", setting.column)?;

@@ -3,16 +3,17 @@ use mathlib.Core.Path.{refl, sym, ap, ◌∙◌}
 use Rattle.cache.specs.Calls.{updates}
 use Rattle.cache.specs.Given.{updated_as}
 use Rattle.cache.specs.Run.{update}
-use Rattle.cache.proofs.Given.{numbered}
+use Rattle.table.proofs.Recording.{numbered}
 use Rattle.console.proofs.Calling.{call-refused, call-done, update-is}
 use Rattle.console.proofs.respond_do.Goals as goal
+use Rattle.console.proofs.respond_do.Goals.{in-Ok, in-Err}
 
-pub returns-in-Err : goal.returns-in-Err
-returns-in-Err c =
-    let e = sym (ap (λ r. updates (updated_as r c.update-outcome.result.state) c.update-outcome.new.cells) c.in-Err.is) ∙ c.update-outcome.ensures in
-    call-refused _ _ _ _ _ (update _ _) _ (update-is _ _ _ _ _ _ e) _ _ (numbered c.in-Err.refusal) (c.write_refused-length.ensures.result, c.write_refused-length.ensures.text)
-
-pub returns-in-Ok : goal.returns-in-Ok
-returns-in-Ok c =
-    let e = sym (ap (λ r. updates (updated_as r c.update-outcome.result.state) c.update-outcome.new.cells) c.in-Ok.is) ∙ c.update-outcome.ensures in
-    call-done _ _ _ _ _ (update _ _) _ (update-is _ _ _ _ _ _ e) _ _ refl (c.write_updated-length.ensures.result, c.write_updated-length.ensures.text)
+pub returns : goal.returns
+returns c = elim c.match-outcome.branch [
+  | in-Ok w ↦
+      let e = sym (ap (λ r. updates (updated_as r c.update-outcome.result.state) c.update-outcome.new.cells) w.in-Ok.is) ∙ c.update-outcome.ensures in
+      call-done _ _ _ _ _ (update _ _) _ (update-is _ _ _ _ _ _ e) _ _ refl (w.length-is ∙ w.write_updated-length.ensures.result, w.out-is ∙ w.write_updated-length.ensures.text)
+  | in-Err w ↦
+      let e = sym (ap (λ r. updates (updated_as r c.update-outcome.result.state) c.update-outcome.new.cells) w.in-Err.is) ∙ c.update-outcome.ensures in
+      call-refused _ _ _ _ _ (update _ _) _ (update-is _ _ _ _ _ _ e) _ _ (numbered w.in-Err.refusal) (w.length-is ∙ w.write_refused-length.ensures.result, w.out-is ∙ w.write_refused-length.ensures.text)
+]

@@ -2,16 +2,17 @@
 use mathlib.Core.Path.{refl, sym, ap, ◌∙◌}
 use Rattle.cache.specs.Given.{flushed_as}
 use Rattle.cache.specs.Run.{flush}
-use Rattle.cache.proofs.Given.{numbered}
+use Rattle.table.proofs.Recording.{numbered}
 use Rattle.console.proofs.Calling.{call-refused, call-done, flush-is}
 use Rattle.console.proofs.respond_flush.Goals as goal
+use Rattle.console.proofs.respond_flush.Goals.{in-Ok, in-Err}
 
-pub returns-in-Err : goal.returns-in-Err
-returns-in-Err c =
-    let e = sym (ap (λ r. flushed_as r c.flush-outcome.result.state) c.in-Err.is) ∙ c.flush-outcome.ensures in
-    call-refused _ _ _ _ _ flush _ (flush-is _ _ _ _ e) _ _ (numbered c.in-Err.refusal) (c.write_refused-length.ensures.result, c.write_refused-length.ensures.text)
-
-pub returns-in-Ok : goal.returns-in-Ok
-returns-in-Ok c =
-    let e = sym (ap (λ r. flushed_as r c.flush-outcome.result.state) c.in-Ok.is) ∙ c.flush-outcome.ensures in
-    call-done _ _ _ _ _ flush _ (flush-is _ _ _ _ e) _ _ refl (c.write_flushed-length.ensures.result, c.write_flushed-length.ensures.text)
+pub returns : goal.returns
+returns c = elim c.match-outcome.branch [
+  | in-Ok w ↦
+      let e = sym (ap (λ r. flushed_as r c.flush-outcome.result.state) w.in-Ok.is) ∙ c.flush-outcome.ensures in
+      call-done _ _ _ _ _ flush _ (flush-is _ _ _ _ e) _ _ refl (w.length-is ∙ w.write_flushed-length.ensures.result, w.out-is ∙ w.write_flushed-length.ensures.text)
+  | in-Err w ↦
+      let e = sym (ap (λ r. flushed_as r c.flush-outcome.result.state) w.in-Err.is) ∙ c.flush-outcome.ensures in
+      call-refused _ _ _ _ _ flush _ (flush-is _ _ _ _ e) _ _ (numbered w.in-Err.refusal) (w.length-is ∙ w.write_refused-length.ensures.result, w.out-is ∙ w.write_refused-length.ensures.text)
+]

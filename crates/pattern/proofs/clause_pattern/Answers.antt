@@ -19,13 +19,13 @@ one q u i p m e = go (eqb i 0) refl
     go false h = let t = count-many q u m in let z = eqb-false i 0 h in at-past q u i (omega arith)
 
 pub returns-in-None : goal.returns-in-None
-returns-in-None c = c.then_some.ensures ∙ one c.args.query.now c.args.update.now c.args.i c.all_any.result c.in-None.ensures c.all_any.ensures
+returns-in-None c = c.then_some.ensures ∙ one c.args.query.now c.args.update.now c.args.i c.all_any.result (rw (c.of-pair.ensures.query, c.of-pair.ensures.update) at c.in-None.ensures) c.all_any.ensures
 
 pub returns-then-p-from : goal.returns-then-p-from
 returns-then-p-from c =
     let q = c.args.query.now in
     let u = c.args.update.now in
-    let w = c.in-Some.ensures in
+    let w = rw (c.of-pair.ensures.query, c.of-pair.ensures.update) at c.in-Some.ensures in
     let t = w.1.total_is ∙ count-worked q u w.0 in
     at-past q u c.args.i (omega (arith, c.from.ensures))
 
@@ -33,6 +33,6 @@ pub returns-else-p-from : goal.returns-else-p-from
 returns-else-p-from c =
     let q = c.args.query.now in
     let u = c.args.update.now in
-    let w = c.in-Some.ensures in
+    let w = rw (c.of-pair.ensures.query, c.of-pair.ensures.update) at c.in-Some.ensures in
     let t = w.1.total_is ∙ count-worked q u w.0 in
-    c.clause_at.ensures ∙ at-worked q u c.args.i (omega (arith, c.from.ensures)) w.0
+    (rw (c.of-pair.ensures.query, c.of-pair.ensures.update) at c.clause_at.ensures) ∙ at-worked q u c.args.i (omega (arith, c.from.ensures)) w.0

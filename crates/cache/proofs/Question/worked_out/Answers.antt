@@ -7,7 +7,7 @@ use Rattle.table.specs.declared.listing.Selected.{Selected}
 use Rattle.table.specs.Evaluated.{said}
 use Rattle.cache.specs.Outcomes.{Room, WorksOut}
 use Rattle.cache.proofs.Sounds.{sound-is}
-use Rattle.cache.proofs.Given.{numbered}
+use Rattle.table.proofs.Recording.{numbered}
 use Rattle.cache.proofs.Inside.{last-known}
 use Rattle.cache.proofs.AskReturns.{refused-is, place_kept, bytes-kept, new-short, new-inside, new-done}
 use Rattle.cache.proofs.Question.worked_out.Goals as goal

@@ -4,7 +4,8 @@ use native.Mathlib.Omega.{arith}
 use Rattle.std.specs.Prelude.{Ok, Err}
 use Rattle.statement.specs.Compiled.{compiled}
 use Rattle.cache.specs.Calls.{unfit, add_refused}
-use Rattle.cache.proofs.Given.{numbered, none-said}
+use Rattle.table.proofs.Recording.{numbered}
+use Rattle.cache.proofs.Given.{none-said}
 use Rattle.cache.proofs.Checks.{refused_if, passed_if}
 use Rattle.cache.proofs.Placing.{add-unfit, add-refused, add_done, add-place, added-exit, beside-same}
 use Rattle.cache.proofs.State.add_text.Goals as goal
@@ -21,7 +22,7 @@ returns-in_err-statement c =
     let s = a.self.now in
     let r = c.in_err-statement.field-0.0 in
     let fit = passed_if (unfit s a.cells a.memory) 2 (λ z. omega (arith, z)) c.in_ok-check.ensures in
-    let said = c.in_err-statement.ensures ∙ beside-same s a.text.now c.in_use-tables.result.now _ c.in_use-tables.ensures.size c.from.ensures c.in_use-tables.ensures.first in
+    let said = c.in_err-statement.ensures ∙ beside-same s a.text.now c.used_tables-tables.result.now c.used_tables-tables.ensures.size c.used_tables-tables.ensures.first in
     let out = c.from_residual-in_err-statement in
     add-refused s a.cells a.memory a.text.now _ refl fit (compiled (Err r)) said (numbered r) _ (added-exit out.result r s out.ensures.1)
 
@@ -31,8 +32,8 @@ put-requires c =
     let s = a.self.now in
     let st = c.in_ok-statement.statement in
     let fit = passed_if (unfit s a.cells a.memory) 2 (λ z. omega (arith, z)) c.in_ok-check.ensures in
-    let said = c.in_ok-statement.ensures ∙ beside-same s a.text.now c.in_use-tables.result.now _ c.in_use-tables.ensures.size c.from.ensures c.in_use-tables.ensures.first in
-    add-place s a.cells a.memory a.text.now _ refl fit (compiled (Ok st)) said c.in_use-tables.ensures.size (none-said st)
+    let said = c.in_ok-statement.ensures ∙ beside-same s a.text.now c.used_tables-tables.result.now c.used_tables-tables.ensures.size c.used_tables-tables.ensures.first in
+    add-place s a.cells a.memory a.text.now _ refl fit (compiled (Ok st)) said c.used_tables-tables.ensures.size (none-said st)
 
 pub returns : goal.returns
 returns c =
@@ -40,5 +41,5 @@ returns c =
     let s = a.self.now in
     let st = c.in_ok-statement.statement in
     let fit = passed_if (unfit s a.cells a.memory) 2 (λ z. omega (arith, z)) c.in_ok-check.ensures in
-    let said = c.in_ok-statement.ensures ∙ beside-same s a.text.now c.in_use-tables.result.now _ c.in_use-tables.ensures.size c.from.ensures c.in_use-tables.ensures.first in
+    let said = c.in_ok-statement.ensures ∙ beside-same s a.text.now c.used_tables-tables.result.now c.used_tables-tables.ensures.size c.used_tables-tables.ensures.first in
     add_done s a.cells a.memory a.text.now _ refl fit (compiled (Ok st)) said (none-said st) _ c.put.ensures

@@ -2,14 +2,11 @@
 use mathlib.Core.Path.{refl, sym, ◌∙◌}
 use Rattle.slots.specs.Keys.{held_twice}
 use borrow.Author.Tests.{not-true, not-false}
-use Rattle.cache.proofs.Tested.{counts-few, answers-tested, answers-past}
+use Rattle.cache.proofs.Tested.{answers-tested, answers-past}
 use Rattle.cache.proofs.State.answers_are_sound.Goals as goal
 
 pub returns-then-not-is_sound : goal.returns-then-not-is_sound
 returns-then-not-is_sound c = answers-past c.args.self.now (sym c.is_sound.ensures ∙ not-true _ c.if-not-is_sound.true-raw)
-
-pub held_fit-fit-requires : goal.held_fit-fit-requires
-held_fit-fit-requires c = (counts-few c.args.self.now c.requires).1
 
 pub returns-then-fit : goal.returns-then-fit
 returns-then-fit c =

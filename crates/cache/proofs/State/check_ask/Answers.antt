@@ -3,9 +3,9 @@ use mathlib.Core.Path.{ap, ◌∙◌}
 use mathlib.Core.Bool.{cond}
 use borrow.Author.Tests.{lt-leb}
 use native.Mathlib.Omega.{arith}
-use Prim.Native.Nat.{ℕ, ◌≤◌}
+use Prim.Native.Nat.{◌≤◌}
 use lib.Dec.{eqb}
-use lib.ListN.{length, take}
+use lib.ListN.{length}
 use Rattle.statement.specs.Refusals.{number_of}
 use Rattle.statement.specs.declared.Refusal.TheVariants.{Number}
 use Rattle.statement.specs.declared.Query.{Query}
@@ -27,8 +27,8 @@ returns-in_err-q c =
     let a = c.args in
     let s = a.self.now in
     let fit = passed_if (unfit s a.cells a.memory) 2 (λ z. omega (arith, z)) c.in_ok-check.ensures in
-    let few : s.query_count ≤ length s.queries = omega (arith, (sound-is s (fit_is s a.cells a.memory fit).sound).few_queries, c.in_use-queries.ensures.size) in
-    let used = c.in_use-queries.ensures.first ∙ ap (λ (k : ℕ). take k s.queries) c.from.ensures in
+    let few : s.query_count ≤ length s.queries = omega (arith, (sound-is s (fit_is s a.cells a.memory fit).sound).few_queries, c.used_queries-queries.ensures.size) in
+    let used = c.used_queries-queries.ensures.first in
     let u = asked-none c.get.result c.in_err-q.field-0.0 Number c.in_err-q.ensures.value in
     let out = c.from_residual-in_err-q in
     ask-none s a.cells a.memory a.query a.values _ fit (first-none s.queries s.query_count a.query no_query few _ used c.get.result c.get.ensures.lookup u.0) (exit-number out.result _ out.ensures.1 ∙ ap number_of u.1)
@@ -38,7 +38,7 @@ returns c =
     let a = c.args in
     let s = a.self.now in
     let fit = passed_if (unfit s a.cells a.memory) 2 (λ z. omega (arith, z)) c.in_ok-check.ensures in
-    let few : s.query_count ≤ length s.queries = omega (arith, (sound-is s (fit_is s a.cells a.memory fit).sound).few_queries, c.in_use-queries.ensures.size) in
-    let used = c.in_use-queries.ensures.first ∙ ap (λ (k : ℕ). take k s.queries) c.from.ensures in
+    let few : s.query_count ≤ length s.queries = omega (arith, (sound-is s (fit_is s a.cells a.memory fit).sound).few_queries, c.used_queries-queries.ensures.size) in
+    let used = c.used_queries-queries.ensures.first in
     let t = first-there s.queries s.query_count a.query no_query few _ used c.get.result c.get.ensures.lookup c.in_ok-q.q c.in_ok-q.ensures.ok_part in
     ask-counted s a.cells a.memory a.query a.values _ fit (lt-leb s.query_count a.query t.0) (c.check_values.ensures ∙ ap (λ (q : Query). cond (eqb a.values q.parameters) 0 11) t.1)

@@ -6,7 +6,7 @@ use borrow.Author.Tests.{lt-leb}
 use native.Mathlib.Omega.{arith}
 use Prim.Native.Nat.{ℕ, ◌≤◌, ◌<◌}
 use lib.Dec.{eqb}
-use lib.ListN.{length, take, get_or}
+use lib.ListN.{length, get_or}
 use Rattle.statement.specs.Refusals.{number_of}
 use Rattle.statement.specs.declared.Refusal.TheVariants.{Number}
 use Rattle.statement.specs.declared.Table.{Table}
@@ -31,8 +31,8 @@ returns-in_err-u c =
     let s = a.self.now in
     let fit = passed_if (unfit s a.cells a.memory) 2 (λ z. omega (arith, z)) c.in_ok-check.ensures in
     let h = (fit_is s a.cells a.memory fit).sound in
-    let few : s.update_count ≤ length s.updates = omega (arith, (sound-is s h).few_updates, c.in_use-updates.ensures.size) in
-    let used = c.in_use-updates.ensures.first ∙ ap (λ (k : ℕ). take k s.updates) c.from.ensures in
+    let few : s.update_count ≤ length s.updates = omega (arith, (sound-is s h).few_updates, c.used_updates-updates.ensures.size) in
+    let used = c.used_updates-updates.ensures.first in
     let u = asked-none c.get.result c.in_err-u.field-0.0 Number c.in_err-u.ensures.value in
     let out = c.from_residual-in_err-u in
     update-none s a.cells a.memory a.update a.values _ fit (first-none s.updates s.update_count a.update no_update few _ used c.get.result c.get.ensures.lookup u.0) (exit-number out.result _ out.ensures.1 ∙ ap number_of u.1)
@@ -43,8 +43,8 @@ returns-in_err-check_values c =
     let s = a.self.now in
     let fit = passed_if (unfit s a.cells a.memory) 2 (λ z. omega (arith, z)) c.in_ok-check.ensures in
     let h = (fit_is s a.cells a.memory fit).sound in
-    let few : s.update_count ≤ length s.updates = omega (arith, (sound-is s h).few_updates, c.in_use-updates.ensures.size) in
-    let used = c.in_use-updates.ensures.first ∙ ap (λ (k : ℕ). take k s.updates) c.from.ensures in
+    let few : s.update_count ≤ length s.updates = omega (arith, (sound-is s h).few_updates, c.used_updates-updates.ensures.size) in
+    let used = c.used_updates-updates.ensures.first in
     let t = first-there s.updates s.update_count a.update no_update few _ used c.get.result c.get.ensures.lookup c.in_ok-u.u c.in_ok-u.ensures.ok_part in
     let out = c.from_residual-in_err-check_values in
     let v = refused-count (eqb a.values (update_at s a.update).parameters) 11 c.in_err-check_values.field-0.0 (c.in_err-check_values.ensures ∙ ap (λ (u : Update). cond (eqb a.values u.parameters) 0 11) t.1) in
@@ -56,28 +56,28 @@ bounds-self-from c =
     let s = a.self.now in
     let fit = passed_if (unfit s a.cells a.memory) 2 (λ z. omega (arith, z)) c.in_ok-check.ensures in
     let h = (fit_is s a.cells a.memory fit).sound in
-    let few : s.update_count ≤ length s.updates = omega (arith, (sound-is s h).few_updates, c.in_use-updates.ensures.size) in
-    let used = c.in_use-updates.ensures.first ∙ ap (λ (k : ℕ). take k s.updates) c.from.ensures in
+    let few : s.update_count ≤ length s.updates = omega (arith, (sound-is s h).few_updates, c.used_updates-updates.ensures.size) in
+    let used = c.used_updates-updates.ensures.first in
     let t = first-there s.updates s.update_count a.update no_update few _ used c.get.result c.get.ensures.lookup c.in_ok-u.u c.in_ok-u.ensures.ok_part in
-    let L : Long s = record { tables = search rules depth 12; updates = c.in_use-updates.ensures.size } in
+    let L : Long s = record { tables = search rules depth 12; updates = c.used_updates-updates.ensures.size } in
     let there : c.in_ok-u.u.now.table < s.table_count = subst (λ (u : Update). u.table < s.table_count) (sym t.1) (table-there s h L a.update t.0 no_update) in
-    omega (arith, table_below s h _ there, c.from-2.ensures)
+    omega (arith, table_below s h _ there, c.from.ensures)
 
-pub returns-then-full : goal.returns-then-full
-returns-then-full c =
+pub returns-then-is_full : goal.returns-then-is_full
+returns-then-is_full c =
     let a = c.args in
     let s = a.self.now in
     let fit = passed_if (unfit s a.cells a.memory) 2 (λ z. omega (arith, z)) c.in_ok-check.ensures in
     let h = (fit_is s a.cells a.memory fit).sound in
-    let few : s.update_count ≤ length s.updates = omega (arith, (sound-is s h).few_updates, c.in_use-updates.ensures.size) in
-    let used = c.in_use-updates.ensures.first ∙ ap (λ (k : ℕ). take k s.updates) c.from.ensures in
+    let few : s.update_count ≤ length s.updates = omega (arith, (sound-is s h).few_updates, c.used_updates-updates.ensures.size) in
+    let used = c.used_updates-updates.ensures.first in
     let t = first-there s.updates s.update_count a.update no_update few _ used c.get.result c.get.ensures.lookup c.in_ok-u.u c.in_ok-u.ensures.ok_part in
-    let L : Long s = record { tables = search rules depth 12; updates = c.in_use-updates.ensures.size } in
+    let L : Long s = record { tables = search rules depth 12; updates = c.used_updates-updates.ensures.size } in
     let there : c.in_ok-u.u.now.table < s.table_count = subst (λ (u : Update). u.table < s.table_count) (sym t.1) (table-there s h L a.update t.0 no_update) in
     let v = passed-count (eqb a.values (update_at s a.update).parameters) 11 (λ z. omega (arith, z)) (c.in_ok-check_values.ensures ∙ ap (λ (u : Update). cond (eqb a.values u.parameters) 0 11) t.1) in
-    let read : (d : Table) → get_or s.tables c.from-2.result d ≡ table_at s c.in_ok-u.u.now.table = (λ d. ap (λ (k : ℕ). get_or s.tables k d) c.from-2.ensures ∙ table-read s h L.tables _ d there) in
-    let full = full-is s a.update c.in_ok-u.u.now _ c.fills.result c.fills.ensures t.1 (read _) in
-    update-tested s a.cells a.memory a.update a.values _ fit (lt-leb s.update_count a.update t.0) v (sym (ap (λ (b : Bool). cond b 12 0) (sym full ∙ c.if-full.true)))
+    let read : (d : Table) → get_or s.tables c.from.result d ≡ table_at s c.in_ok-u.u.now.table = (λ d. ap (λ (k : ℕ). get_or s.tables k d) c.from.ensures ∙ table-read s h L.tables _ d there) in
+    let full = full-is s a.update c.in_ok-u.u.now _ c.is_full.result c.is_full.ensures t.1 (read _) in
+    update-tested s a.cells a.memory a.update a.values _ fit (lt-leb s.update_count a.update t.0) v (sym (ap (λ (b : Bool). cond b 12 0) (sym full ∙ c.if-is_full.true)))
 
 pub returns : goal.returns
 returns c =
@@ -85,12 +85,12 @@ returns c =
     let s = a.self.now in
     let fit = passed_if (unfit s a.cells a.memory) 2 (λ z. omega (arith, z)) c.in_ok-check.ensures in
     let h = (fit_is s a.cells a.memory fit).sound in
-    let few : s.update_count ≤ length s.updates = omega (arith, (sound-is s h).few_updates, c.in_use-updates.ensures.size) in
-    let used = c.in_use-updates.ensures.first ∙ ap (λ (k : ℕ). take k s.updates) c.from.ensures in
+    let few : s.update_count ≤ length s.updates = omega (arith, (sound-is s h).few_updates, c.used_updates-updates.ensures.size) in
+    let used = c.used_updates-updates.ensures.first in
     let t = first-there s.updates s.update_count a.update no_update few _ used c.get.result c.get.ensures.lookup c.in_ok-u.u c.in_ok-u.ensures.ok_part in
-    let L : Long s = record { tables = search rules depth 12; updates = c.in_use-updates.ensures.size } in
+    let L : Long s = record { tables = search rules depth 12; updates = c.used_updates-updates.ensures.size } in
     let there : c.in_ok-u.u.now.table < s.table_count = subst (λ (u : Update). u.table < s.table_count) (sym t.1) (table-there s h L a.update t.0 no_update) in
     let v = passed-count (eqb a.values (update_at s a.update).parameters) 11 (λ z. omega (arith, z)) (c.in_ok-check_values.ensures ∙ ap (λ (u : Update). cond (eqb a.values u.parameters) 0 11) t.1) in
-    let read : (d : Table) → get_or s.tables c.from-2.result d ≡ table_at s c.in_ok-u.u.now.table = (λ d. ap (λ (k : ℕ). get_or s.tables k d) c.from-2.ensures ∙ table-read s h L.tables _ d there) in
-    let full = full-is s a.update c.in_ok-u.u.now _ c.fills.result c.fills.ensures t.1 (read _) in
-    update-tested s a.cells a.memory a.update a.values _ fit (lt-leb s.update_count a.update t.0) v (sym (ap (λ (b : Bool). cond b 12 0) (sym full ∙ c.if-full.false)))
+    let read : (d : Table) → get_or s.tables c.from.result d ≡ table_at s c.in_ok-u.u.now.table = (λ d. ap (λ (k : ℕ). get_or s.tables k d) c.from.ensures ∙ table-read s h L.tables _ d there) in
+    let full = full-is s a.update c.in_ok-u.u.now _ c.is_full.result c.is_full.ensures t.1 (read _) in
+    update-tested s a.cells a.memory a.update a.values _ fit (lt-leb s.update_count a.update t.0) v (sym (ap (λ (b : Bool). cond b 12 0) (sym full ∙ c.if-is_full.false)))

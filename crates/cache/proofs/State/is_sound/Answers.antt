@@ -5,17 +5,11 @@ use Prim.Native.Nat.{ℕ}
 use Rattle.meaning.specs.Plain.{opening_refused}
 use Rattle.cache.specs.Sound.{opening}
 use borrow.Author.Tests.{not-true, not-false}
-use Rattle.cache.proofs.Tested.{sound-fails, counts-hold, sound-rest}
+use Rattle.cache.proofs.Tested.{sound-fails, sound-rest}
 use Rattle.cache.proofs.State.is_sound.Goals as goal
 
 pub returns-then-not-sizes-counts : goal.returns-then-not-sizes-counts
 returns-then-not-sizes-counts c = sound-fails c.args.self.now _ _ (c.sizes_fit-sizes.ensures ∙ ap₂ (λ (n m : ℕ). not (opening_refused (opening c.args.self.now.cells c.args.self.now.memory n m))) c.from-count.ensures c.from-bytes.ensures) c.counts_fit-counts.ensures (not-true _ c.if-not-sizes-counts.true-raw)
-
-pub texts_are_sound-requires : goal.texts_are_sound-requires
-texts_are_sound-requires c = counts-hold c.args.self.now _ _ (c.sizes_fit-sizes.ensures ∙ ap₂ (λ (n m : ℕ). not (opening_refused (opening c.args.self.now.cells c.args.self.now.memory n m))) c.from-count.ensures c.from-bytes.ensures) c.counts_fit-counts.ensures (not-false _ c.if-not-sizes-counts.false-raw)
-
-pub answers_are_sound-requires : goal.answers_are_sound-requires
-answers_are_sound-requires c = counts-hold c.args.self.now _ _ (c.sizes_fit-sizes.ensures ∙ ap₂ (λ (n m : ℕ). not (opening_refused (opening c.args.self.now.cells c.args.self.now.memory n m))) c.from-count.ensures c.from-bytes.ensures) c.counts_fit-counts.ensures (not-false _ c.if-not-sizes-counts.false-raw)
 
 pub returns-then-texts_are_sound : goal.returns-then-texts_are_sound
 returns-then-texts_are_sound c =

@@ -1,21 +1,11 @@
 -- Assumes nothing.
 use mathlib.Core.Path.{sym, ap}
-use native.Mathlib.Omega.{arith}
 use Rattle.std.specs.Prelude.{Ok}
 use Rattle.statement.specs.declared.Statement.{Statement}
 use Rattle.statement.specs.Compiled.{compiled}
 use Rattle.cache.specs.Calls.{added_table, added_query, added_update}
-use Rattle.cache.proofs.Placing.{table_place, query_place, update_place, added-by}
+use Rattle.cache.proofs.Placing.{added-by}
 use Rattle.cache.proofs.State.put.Goals as goal
-
-pub put_behind-requires : goal.put_behind-requires
-put_behind-requires c = (omega arith, (table_place c.args.self.now _ c.requires (ap (λ (s : Statement). (compiled (Ok s)).kind) c.in-Table.is), omega arith))
-
-pub put_behind-requires-in-Query : goal.put_behind-requires-in-Query
-put_behind-requires-in-Query c = (omega arith, (query_place c.args.self.now _ c.requires (ap (λ (s : Statement). (compiled (Ok s)).kind) c.in-Query.is), omega arith))
-
-pub put_behind-requires-in-Update : goal.put_behind-requires-in-Update
-put_behind-requires-in-Update c = (omega arith, (update_place c.args.self.now _ c.requires (ap (λ (s : Statement). (compiled (Ok s)).kind) c.in-Update.is), omega arith))
 
 pub returns-in-Table : goal.returns-in-Table
 returns-in-Table c =

@@ -1,17 +1,11 @@
 -- Assumes nothing.
-use native.Mathlib.Omega.{arith}
 use Rattle.cache.specs.Calls.{with_cache}
-use Rattle.cache.proofs.AskReturns.{placed-slot, placed-past, placed-nowhere}
+use Rattle.cache.proofs.AskReturns.{placed-slot, placed-nowhere}
 use Rattle.cache.proofs.State.settle.Goals as goal
 
-pub returns-then-x-lt-SLOTS : goal.returns-then-x-lt-SLOTS
+pub returns-in-Some : goal.returns-in-Some
 unfolding with_cache
-returns-then-x-lt-SLOTS c = placed-slot c.args.self.now c.args.key c.args.place _ _ c.in-Some.is c.from-x.ensures
-
-pub returns-else-x-lt-SLOTS : goal.returns-else-x-lt-SLOTS
-unfolding with_cache
-returns-else-x-lt-SLOTS c =
-    placed-past c.args.self.now c.args.key c.args.place _ _ c.in-Some.is c.from-x.ensures (omega (arith, c.if-x-lt-SLOTS.false)) (omega (arith, c.if-x-lt-SLOTS.false))
+returns-in-Some c = rw (c.put.ensures, c.put-in-Some.ensures) (placed-slot c.args.self.now c.args.key c.args.place _ _ c.in-Some.is c.from-x.ensures)
 
 pub returns-in_default : goal.returns-in_default
 unfolding with_cache

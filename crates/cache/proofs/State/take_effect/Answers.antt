@@ -2,6 +2,7 @@
 use mathlib.Core.Path.{sym, ap, ◌∙◌}
 use Prim.Native.Nat.{ℕ}
 use lib.ListN.{take}
+use Rattle.table.specs.declared.changes.Changed.{Changed}
 use Rattle.cache.specs.Sound.{areas_of}
 use Rattle.cache.proofs.Given.{is-refused, is-taken}
 use Rattle.cache.proofs.Settled.{settled-refused}
@@ -9,10 +10,10 @@ use Rattle.cache.proofs.UpdateReturns.{effect-done, cells-done}
 use Rattle.cache.proofs.State.take_effect.Goals as goal
 
 pub returns-then-is_err : goal.returns-then-is_err
-returns-then-is_err c = record { effect = settled-refused _ _ _ (is-refused c.args.taken (sym c.is_err.ensures.value ∙ c.if-is_err.true)); cells = settled-refused _ _ _ (is-refused c.args.taken (sym c.is_err.ensures.value ∙ c.if-is_err.true)) }
-
-pub dropped_by-gone-requires : goal.dropped_by-gone-requires
-dropped_by-gone-requires c = let K = c.requires (is-taken c.args.taken (sym c.is_err.ensures.value ∙ c.if-is_err.false)) in (K.0, K.1)
+returns-then-is_err c =
+    let z = is-refused c.args.taken (sym c.is_err.ensures.value ∙ c.if-is_err.true) in
+    let e = ap (λ (d : Changed). record { done = d; slots = c.args.self.now.slots }) c.none-done.ensures in
+    record { effect = e ∙ settled-refused _ _ _ z; cells = settled-refused _ _ _ z }
 
 pub returns : goal.returns
 returns c =

@@ -10,18 +10,15 @@ pub returns : goal.returns
 unfolding sound_tables tables_sound queries_sound updates_sound
 returns c =
     let s = c.args.self.now in
-    let few : leb (length (take s.table_count s.tables)) 8 ≡ true = le-leb _ 8 (omega (arith, length-take s.table_count s.tables, c.in_use-used.ensures.size)) in
+    let few : leb (length (take s.table_count s.tables)) 8 ≡ true = le-leb _ 8 (omega (arith, length-take s.table_count s.tables, c.used_tables-used.ensures.size)) in
     rw (
       c.areas.ensures,
       c.rows_fit-rows.ensures,
       c.tables_are_sound-named.ensures,
       c.queries_are_sound-asked.ensures,
       c.updates_are_sound-changing.ensures,
-      c.in_use-used.ensures.first,
-      c.in_use-queries.ensures.first,
-      c.in_use-updates.ensures.first,
-      c.from.ensures,
-      c.from-2.ensures,
-      c.from-3.ensures,
+      c.used_tables-used.ensures.first,
+      c.used_queries-queries.ensures.first,
+      c.used_updates-updates.ensures.first,
       few,
     ) refl

@@ -1,8 +1,10 @@
 -- Assumes nothing.
 use borrow.Author.Rules.{rules}
+use Rattle.std.proofs.Common.{◌-◌, tests}
 use lib.ListN.{length}
 use Rattle.cache.specs.Calls.{with_change}
 use Rattle.cache.proofs.UpdateReturns.{Long, effective, fewer-at, given-at}
+use Rattle.cache.proofs.Given.{counted}
 use Rattle.cache.proofs.State.update.Goals as goal
 
 pub take_effect-effect-requires : goal.take_effect-effect-requires
@@ -25,4 +27,6 @@ returns c =
     let a = c.args in
     let L : Long a.self = record { tables = search rules; updates = search rules } in
     let done = c.take_effect-effect.ensures in
-    given-at a.self L (search rules) a.cells.now (length a.memory.now) a.update a.values.now _ _ c.check_update-taken.ensures c.from-i.result c.from-i.ensures _ _ _ done.effect done.cells _ _ _ c.counted.ensures.number c.counted.ensures.counts c.counted.ensures.none
+    let o = c.take_effect-effect.result in
+    let given = counted c.check_update-taken.result c.map.result o.done.count (a.self.slots.held - o.slots.held) c.map.ensures.cases (λ x y q. (search (rules, tests), search (rules, tests))) in
+    given-at a.self L (search rules) a.cells.now (length a.memory.now) a.update a.values.now _ _ c.check_update-taken.ensures c.from-i.result c.from-i.ensures _ _ _ done.effect done.cells _ _ _ given.number given.some given.none

@@ -12,8 +12,8 @@ returns-then-values-entries c =
     let values = c.args.values.now in
     let entries = c.in_use-entries.result.now in
     let e = c.in_use-entries.ensures.first ∙ ap (λ (k : ℕ). take k c.args.self.now.entries) c.from.ensures in
-    all_from_yields_List pair_agrees c.all.new.self _ _ c.all.ensures.ran (YieldsList-from_zip (YieldsList-from_slice values (cc)) (YieldsList-from_slice entries (cc))) (λ x b q k. search (rules, tests))
-    ∙ all-is pair_agrees (zip values entries)
+    all_from_yields_List pair_agrees c.all.new.self _ _ c.all.ensures.ran (YieldsList-from_zip (YieldsList-from_slice entries (cc)) (YieldsList-from_slice values (cc))) (λ x b q k. search (rules, tests))
+    ∙ all-is pair_agrees (zip entries values)
     ∙ pairs-agree values entries c.if-values-entries.true
     ∙ stored_is c.args.self.now values entries e
 

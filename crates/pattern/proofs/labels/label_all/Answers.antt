@@ -1,4 +1,4 @@
-use Rattle.std.proofs.Common.{◌≡◌, ◌+◌, true, false, length, refl, sym, ◌∙◌, arith, rules}
+use Rattle.std.proofs.Common.{◌≡◌, ◌+◌, true, false, length, refl, arith, rules}
 use Rattle.pattern.proofs.Labelling.{label-start, label-more, label-clash, label-done}
 use Rattle.pattern.proofs.labels.label_all.Goals as goal
 
@@ -6,7 +6,7 @@ pub loop-i-init : goal.loop-i-init
 loop-i-init c =
     let d = c.args.clause.now in
     let n : length d.codes ≡ 40 = search rules in
-    (n, label-start d.codes d.ops d.count c.requires.1)
+    (n, label-start d.codes d.ops d.count c.requires.readable)
 
 pub returns-then-clashes : goal.returns-then-clashes
 returns-then-clashes c =
@@ -14,7 +14,7 @@ returns-then-clashes c =
     let l = c.loop-i in
     let n : length d.codes ≡ 40 = search rules in
     label-clash d.codes d.ops d.count _ (l.i + 1)
-    (label-more d.codes d.ops d.count n (omega arith) l.labels false l.i l.invariant.1 (omega arith) _ true refl (sym c.if-clashes.true ∙ c.clashes.ensures))
+    (label-more d.codes d.ops d.count n (omega (arith, c.requires.few)) l.labels false l.i l.invariant.1 (omega arith) _ true refl (search rules))
 
 pub loop-i-preserved : goal.loop-i-preserved
 loop-i-preserved c =
@@ -22,7 +22,7 @@ loop-i-preserved c =
     let l = c.loop-i in
     let n : length d.codes ≡ 40 = search rules in (
       search rules,
-      label-more d.codes d.ops d.count n (omega arith) l.labels false l.i l.invariant.1 (omega arith) c.join.new.labels false c.join.ensures (sym c.if-clashes.false ∙ c.clashes.ensures),
+      label-more d.codes d.ops d.count n (omega (arith, c.requires.few)) l.labels false l.i l.invariant.1 (omega arith) c.join.new.labels false (search rules) (search rules),
     )
 
 pub returns : goal.returns

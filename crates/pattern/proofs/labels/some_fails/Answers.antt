@@ -1,4 +1,4 @@
-use Rattle.std.proofs.Common.{◌≡◌, ◌+◌, ◌<◌, true, false, length, get_or, ℕ, refl, sym, ap, ◌∙◌, arith, List, Bool}
+use Rattle.std.proofs.Common.{◌≡◌, ◌+◌, ◌<◌, true, false, length, get_or, ℕ, refl, sym, ap, ◌∙◌, arith, rules, List, Bool}
 use Rattle.pattern.specs.Flat.{failing, clause_at, comparison_at}
 use Rattle.pattern.proofs.Labelling.{clause-length, clause-at}
 use Rattle.pattern.proofs.Searching.{Seeking, seek-more, seek-done}
@@ -13,10 +13,10 @@ turned labels ops i b h e inv =
     seek-more failing cs i x false b b (omega (arith, clause-length labels ops (length ops))) refl (e ∙ ap failing (sym at)) inv
 
 pub returns-then-fails : goal.returns-then-fails
-returns-then-fails c = turned c.args.labels.now c.args.ops.now c.loop-i.i true (omega arith) c.if-fails.ensures c.loop-i.invariant
+returns-then-fails c = turned c.args.labels.now c.args.ops.now c.loop-i.i true (omega arith) (search rules) c.loop-i.invariant
 
 pub loop-i-preserved : goal.loop-i-preserved
-loop-i-preserved c = turned c.args.labels.now c.args.ops.now c.loop-i.i false (omega arith) c.if-fails.ensures c.loop-i.invariant
+loop-i-preserved c = turned c.args.labels.now c.args.ops.now c.loop-i.i false (omega arith) (search rules) c.loop-i.invariant
 
 pub returns : goal.returns
 returns c =

@@ -1,15 +1,12 @@
-use Rattle.std.proofs.Common.{◌≡◌, ◌+◌, length, replicate, ap₂, arith, rules}
-use lib.ListN.{length-set}
+use Rattle.std.proofs.Common.{◌≡◌, ◌+◌, length, arith, rules}
 use Rattle.statement.specs.declared.Setting.{Setting}
-use Rattle.pattern.proofs.Searching.{fill_more}
+use Rattle.statement.specs.Compiled.{no_setting}
+use Rattle.pattern.proofs.Mapped.{map-placed}
 use Rattle.pattern.proofs.relevance.columns_of.Goals as goal
 
-pub loop-i-preserved : goal.loop-i-preserved
-loop-i-preserved c =
-    let a = c.args in
-    let l = c.loop-i in
-    let n : length a.settings.now ≡ 8 = search rules in (
-      simp length-set l.invariant.0,
-      fill_more (λ (s : Setting). a.from + s.column) a.settings.now (replicate 8 0) (omega arith) l.i l.columns (c.from.result + c.from-in-loop-i.result) _ (omega arith)
-          (ap₂ ◌+◌ c.from.ensures c.from-in-loop-i.ensures) l.invariant.1,
-    )
+pub returns : goal.returns
+returns c =
+    let settings = c.args.settings.now in
+    let n : length settings ≡ 8 = search rules in
+    let m = c.map.ensures.items in
+    map-placed (λ (s : Setting). c.args.from + s.column) settings c.map.result no_setting 0 (omega (arith, m.long, n)) (λ k h. let r = m.at k no_setting 0 (omega arith) in search rules)

@@ -1,5 +1,5 @@
-use Rattle.std.proofs.Common.{arith, ◌≡◌, [], ◌++◌, take}
-use Rattle.serve.proofs.Turning.{feeds-none, feeds-both, consumes-none, consumes-both, consumes-nothing, reads_more, at-error}
+use Rattle.std.proofs.Common.{[], ◌++◌, take}
+use Rattle.serve.proofs.Turning.{feeds-none, feeds-both, consumes-none, consumes-both, reads_more, part_reads, at-error}
 use Rattle.serve.proofs.Server.answer_all.Goals as goal
 
 -- before the first turn nothing is read
@@ -18,17 +18,4 @@ loop-preserved g c =
     )
 
 pub returns-in_err-answer_piece-clause-reads : goal.returns-in_err-answer_piece-clause-reads
-returns-in_err-answer_piece-clause-reads g c = at-error c.from_residual.result (reads_more _ _ _ c.loop.invariant.0 c.in_err-answer_piece.ensures.reads c.loop.invariant.2.session)
-
-pub returns-after-loop-clause-feeds : goal.returns-after-loop-clause-feeds
-returns-after-loop-clause-feeds g c = c.loop.invariant
-
-pub returns-then-got-eq0-clause-feeds : goal.returns-then-got-eq0-clause-feeds
-returns-then-got-eq0-clause-feeds g c =
-    let v = c.loop.invariant in
-    let r = c.read_some-got in
-    let z : r.result ≡ 0 = omega arith in (
-      v.0,
-      consumes-nothing (g.R.Read.remaining c.args.input.now) (g.R.Read.remaining c.loop.input) (g.R.Read.remaining r.new.input) v.0 r.new.piece r.result z v.1 r.ensures.bytes,
-      v.2,
-    )
+returns-in_err-answer_piece-clause-reads g c = at-error c.from_residual.result (reads_more _ _ _ c.loop.invariant.0 (part_reads c.in_err-answer_piece.ensures.reads) c.loop.invariant.2.session)

@@ -1,4 +1,4 @@
-use Rattle.std.proofs.Common.{rules, ◌≡◌, length, take}
+use Rattle.std.proofs.Common.{rules, ◌≡◌, length}
 use Rattle.serve.proofs.Turning.{gathers-moves, gathers-inside, gathers-within, line-goes_on, line-fed, line-ends, at-error}
 use Rattle.serve.proofs.Server.answer_next.Goals as goal
 
@@ -21,11 +21,13 @@ returns-in_err-answer_line-clause-reads g c =
     let i = c.self.inside in
     let q = c.gather-gathered in
     let long : length i.line ≡ 513 = search rules in
-    at-error c.from_residual.result (
-      take q.result.next c.args.piece.now,
-      line-fed i.state i.cells i.memory i.answer i.line i.held c.args.self.now c.self.view_is c.args.piece.now q.result q.new.line q.ensures.result q.ensures.bytes c.self.invariant long
-          c.if-gathered.true _ c.answer_line.ensures.session,
-    )
+    at-error c.from_residual.result (record {
+      used = q.result.next;
+      inside = gathers-inside c.args.piece.now i.line i.held q.result q.new.line q.ensures.result q.ensures.bytes c.self.invariant long;
+      session =
+          line-fed i.state i.cells i.memory i.answer i.line i.held c.args.self.now c.self.view_is c.args.piece.now q.result q.new.line q.ensures.result q.ensures.bytes c.self.invariant long
+          c.if-gathered.true _ c.answer_line.ensures.session;
+    })
 
 pub returns-in_ok-answer_line-clause-used : goal.returns-in_ok-answer_line-clause-used
 returns-in_ok-answer_line-clause-used g c =

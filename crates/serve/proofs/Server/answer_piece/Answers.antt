@@ -1,5 +1,5 @@
-use Rattle.std.proofs.Common.{rules, arith, ◌≡◌, List, ℕ, [], ◌++◌, ◌-◌, length, take, drop, refl, sym, ap, ◌∙◌, append_assoc, length-drop}
-use Rattle.serve.proofs.Turning.{taken-on, feeds-none, feeds-both, feeds-whole, reads_more, at-error}
+use Rattle.std.proofs.Common.{List, ℕ, [], ◌++◌, ◌-◌, length, take, drop, refl, sym, ap, ◌∙◌, append_assoc}
+use Rattle.serve.proofs.Turning.{taken-on, feeds-none, feeds-both, part_more, at-error}
 use Rattle.serve.proofs.Server.answer_piece.Goals as goal
 
 -- before the first turn nothing is used up
@@ -17,15 +17,5 @@ loop-rest-preserved g c =
       feeds-both _ _ _ v.0 (take n rest) _ _ _ v.2 c.in_ok-next.ensures.feeds,
     )
 
-pub loop-rest-smaller : goal.loop-rest-smaller
-loop-rest-smaller g c = omega (arith, c.in_ok-next.ensures.used.0, c.in_ok-next.ensures.used.1, length-drop c.in_ok-next.next c.loop-rest.rest.now)
-
 pub returns-in_err-next-clause-reads : goal.returns-in_err-next-clause-reads
-returns-in_err-next-clause-reads g c = at-error c.from_residual.result (reads_more _ _ _ c.loop-rest.invariant.0 c.in_err-next.ensures.reads c.loop-rest.invariant.2.session)
-
--- the piece is used up
-pub returns-clause-feeds : goal.returns-clause-feeds
-returns-clause-feeds g c =
-    let v = c.loop-rest.invariant in
-    let z : length c.loop-rest.rest.now ≡ 0 = search rules in
-    feeds-whole _ _ c.args.piece.now v.0 c.loop-rest.rest.now _ _ v.1 z v.2
+returns-in_err-next-clause-reads g c = at-error c.from_residual.result (part_more _ c.loop-rest.invariant.1 c.loop-rest.invariant.2.session c.in_err-next.ensures.reads)

@@ -1,4 +1,4 @@
-use Rattle.std.proofs.Common.{refl, ap}
+use Rattle.std.proofs.Common.{rules, refl, ap}
 use Rattle.cache.specs.Run.{Store, store_of}
 use Rattle.serve.specs.Input.{beginning}
 use Rattle.serve.specs.Turns.{start_of}
@@ -8,6 +8,6 @@ pub returns : goal.returns
 returns c = (
   start_of c.filled-cells.result c.filled-memory.result,
   c.filled.result,
-  record { cells = c.filled-cells.ensures; memory = c.filled-memory.ensures; slots = refl; slot_bytes = refl; answers = c.filled.ensures },
+  record { cells = search rules; memory = search rules; slots = refl; slot_bytes = refl; answers = search rules },
   ap (λ (x : Store). beginning x c.filled.result) (ap store_of c.open-opened.ensures),
 )

@@ -46,7 +46,7 @@ invariant_of-reading c =
     let r = c.read_sentence in
     record {
       fits = compiled-reads a.text.now r.new.items r.new.nodes ts (min (length ts) 8) a.queries a.updates a.cells c.if-text-gt-TEXT.false c.in_ok-e.e (noted-as _ _ _ _ _ c.in_ok-e.ensures.ok_part r.ensures)
-          (sym c.is_over.ensures ∙ c.if-is_over.false) _ _ (c.in_use.ensures.first ∙ ap (λ (k : ℕ). take k r.new.items) c.from.ensures) (c.in_use-2.ensures.first ∙ ap (λ (k : ℕ). take k r.new.nodes) c.from-2.ensures);
+          (sym c.is_over.ensures ∙ c.if-is_over.false) _ _ c.in_use.ensures.first (c.in_use-2.ensures.first ∙ ap (λ (k : ℕ). take k r.new.nodes) c.from.ensures);
     }
 
 pub invariant_of-reading-in_default : goal.invariant_of-reading-in_default
@@ -56,7 +56,7 @@ invariant_of-reading-in_default c =
     let r = c.read_sentence in
     record {
       fits = compiled-reads a.text.now r.new.items r.new.nodes ts (min (length ts) 8) a.queries a.updates a.cells c.if-text-gt-TEXT.false c.in_ok-e.e (noted-as _ _ _ _ _ c.in_ok-e.ensures.ok_part r.ensures)
-          (sym c.is_over.ensures ∙ c.if-is_over.false) _ _ (c.in_use.ensures.first ∙ ap (λ (k : ℕ). take k r.new.items) c.from.ensures) (c.in_use-2.ensures.first ∙ ap (λ (k : ℕ). take k r.new.nodes) c.from-2.ensures);
+          (sym c.is_over.ensures ∙ c.if-is_over.false) _ _ c.in_use.ensures.first (c.in_use-2.ensures.first ∙ ap (λ (k : ℕ). take k r.new.nodes) c.from.ensures);
     }
 
 pub returns-in-Table : goal.returns-in-Table
@@ -67,7 +67,7 @@ returns-in-Table c =
     let r = c.read_sentence in
     let e = c.in_ok-e.e in
     let t = c.in-Table in
-    let ls : c.in_use.result.now ≡ take e.listed r.new.items = c.in_use.ensures.first ∙ ap (λ (k : ℕ). take k r.new.items) c.from.ensures in
+    let ls : c.in_use.result.now ≡ take e.listed r.new.items = c.in_use.ensures.first in
     compiled-table s r.new.items r.new.nodes ts (min (length ts) 8) a.queries a.updates a.cells c.if-text-gt-TEXT.false e (noted-as s _ _ _ _ c.in_ok-e.ensures.ok_part r.ensures) (sym c.is_over.ensures ∙ c.if-is_over.false) _
     t.rows t.ring t.is (c.table.ensures ∙ λ j. table_on s (ls j) e.table t.rows t.ring (map schema_of (take (c.min.ensures j) ts)) a.cells)
 
@@ -78,7 +78,7 @@ returns-in_default c =
     let ts = a.tables.now in
     let r = c.read_sentence in
     let e = c.in_ok-e.e in
-    let ls : c.in_use.result.now ≡ take e.listed r.new.items = c.in_use.ensures.first ∙ ap (λ (k : ℕ). take k r.new.items) c.from.ensures in
-    let ps : c.in_use-2.result.now ≡ take e.c.nodes r.new.nodes = c.in_use-2.ensures.first ∙ ap (λ (k : ℕ). take k r.new.nodes) c.from-2.ensures in
+    let ls : c.in_use.result.now ≡ take e.listed r.new.items = c.in_use.ensures.first in
+    let ps : c.in_use-2.result.now ≡ take e.c.nodes r.new.nodes = c.in_use-2.ensures.first ∙ ap (λ (k : ℕ). take k r.new.nodes) c.from.ensures in
     compiled-beside s r.new.items r.new.nodes ts (min (length ts) 8) a.queries a.updates a.cells c.if-text-gt-TEXT.false e (noted-as s _ _ _ _ c.in_ok-e.ensures.ok_part r.ensures) (sym c.is_over.ensures ∙ c.if-is_over.false) _
     c.in_default.not-Table (c.beside.ensures ∙ λ j. beside_on s (ls j) (ps j) e (map schema_of (take (c.min.ensures j) ts)) a.queries a.updates)

@@ -1,9 +1,7 @@
-use Rattle.std.proofs.Common.{◌≡◌, ◌∙◌, ℕ, ◌+◌, ap, rules}
+use Rattle.std.proofs.Common.{◌≡◌, ℕ, ◌+◌, ap, rules}
 use mir.Syntax.{w32}
 use mir.Val.{to_z, of_z}
-use Rattle.meaning.specs.Statement.{operand_of}
-use Rattle.statement.specs.Compiled.{operand_struct}
-use Rattle.statement.specs.Built.{dotted, place_in, side_on}
+use Rattle.statement.specs.Built.{dotted, place_in}
 use Rattle.statement.proofs.Parts.{comparison-made}
 use Rattle.statement.proofs.assembling.comparison_at.Goals as goal
 
@@ -18,5 +16,5 @@ returns c =
     let e : to_z w32 (of_z w32 l.number) ≡ l.number = search rules in
     let f : to_z w32 (of_z w32 r.number) ≡ r.number = search rules in
     rw (e, f)
-    (comparison-made d s p a.op a.left a.right a.marks _ _ _ _ c.operator.ensures (c.operand_at-a.ensures ∙ ap (λ (k : ℕ). operand_struct (operand_of p a.marks (side_on d s k))) c.from.ensures)
-    (ap (λ (k : ℕ). a.marks + k) c.mark_of.ensures) (c.operand_at-b.ensures ∙ ap (λ (k : ℕ). operand_struct (operand_of p (a.marks + c.mark_of.result) (side_on d s k))) c.from-2.ensures))
+    (comparison-made d s p a.op a.left a.right a.marks _ _ _ _ c.operator.ensures c.operand_at-a.ensures
+    (ap (λ (k : ℕ). a.marks + k) c.marks.ensures) c.operand_at-b.ensures)

@@ -17,4 +17,4 @@ pub returns : goal.returns
 returns c =
     let a = c.args in
     λ at e.
-    dotted-found a.text.now at a.first e c.in-Name.is _ c.next-dot.ensures c.in-Dot.is _ c.next-t.ensures c.in-Name-kind.is _ _ c.is_past.ensures c.is_past-2.ensures
+    dotted-found a.text.now at a.first e c.in-Name.is _ c.next-dot.ensures c.in-Dot.is _ c.next-t.ensures c.in-Name-kind.is _ _ _ c.is_past.ensures c.is_past-2.ensures

@@ -1,19 +1,12 @@
 -- `sentences::read_form` meets its contract.
 -- Assumes nothing.
 use mathlib.Core.Path.{refl}
-use native.Mathlib.Omega.{arith}
 use Rattle.meaning.specs.Grammar.{a_table, a_select, an_insert, an_update, a_delete}
 use Rattle.meaning.specs.Tokens.{keyword, TABLE, SELECT, INSERT, UPDATE, DELETE}
 use Rattle.statement.proofs.Steps.{goes, stops}
 use Rattle.statement.proofs.SentenceTexts.{stands-here, starts_with, starts-not, first-table, first-select, first-insert, first-update, first-delete}
 use Rattle.statement.proofs.SentenceTokens.{stays}
 use Rattle.statement.proofs.sentences.read_form.Goals as goal
-
-pub overflow_cast-c : goal.overflow_cast-c
-overflow_cast-c c =
-    let z = c in
-    let a = z.args in
-    omega (arith, stays a.text.now 0 c.next-t.result c.next-t.ensures, z.requires)
 
 pub invariant_of-start : goal.invariant_of-start
 invariant_of-start c =

@@ -1,5 +1,5 @@
 -- What an update does to its area, among all cells.
-use Rattle.std.proofs.Common.{◌≡◌, ℕ, ◌+◌, ◌-◌, ◌*◌, ◌≤◌, length, false, sym, ap₂, ◌∙◌, arith, rules}
+use Rattle.std.proofs.Common.{◌≡◌, ◌+◌, ◌-◌, ◌*◌, ◌≤◌, length, false, sym, ◌∙◌, arith, rules}
 use Rattle.table.specs.Changed.{fits}
 use Rattle.table.proofs.Fitting.{area-inside, refused, refused-area, refused-form, change-fits, done}
 use Rattle.table.proofs.changes.change.Goals as goal
@@ -20,7 +20,7 @@ returns-then-not-area_fits c =
 pub overflow_add-end : goal.overflow_add-end
 overflow_add-end c =
     let a = c.args in
-    omega (arith, area-inside a.table a.start (length a.cells.now) (sym c.area_fits.ensures ∙ c.if-not-area_fits.false), ap₂ (λ (x y : ℕ). x * y) c.from.ensures c.from-2.ensures)
+    omega (arith, area-inside a.table a.start (length a.cells.now) (sym c.area_fits.ensures ∙ c.if-not-area_fits.false), c.cells.ensures.are)
 
 pub offset_bounds-cells-start : goal.offset_bounds-cells-start
 offset_bounds-cells-start c =
@@ -30,24 +30,23 @@ offset_bounds-cells-start c =
 pub slice_bounds-change_area-end : goal.slice_bounds-change_area-end
 slice_bounds-change_area-end c =
     let a = c.args in
-    let k : a.start + c.from.result * c.from-2.result ≤ length a.cells.now =
-    omega (arith, area-inside a.table a.start (length a.cells.now) (sym c.area_fits.ensures ∙ c.if-not-area_fits.false), ap₂ (λ (x y : ℕ). x * y) c.from.ensures c.from-2.ensures) in
+    let k : a.start + c.cells.result ≤ length a.cells.now = omega (arith, area-inside a.table a.start (length a.cells.now) (sym c.area_fits.ensures ∙ c.if-not-area_fits.false), c.cells.ensures.are) in
     search rules
 
 pub change_area-requires : goal.change_area-requires
 change_area-requires c =
     let a = c.args in
     let t = a.table in
-    let k : t.capacity ≤ 65535 = omega (arith, c.from-2.ensures) in
-    let size : a.start + c.from.result * c.from-2.result - a.start ≡ t.count * t.capacity = omega (arith, ap₂ (λ (x y : ℕ). x * y) c.from.ensures c.from-2.ensures) in
+    let k : t.capacity ≤ 65535 = omega arith in
+    let size : a.start + c.cells.result - a.start ≡ t.count * t.capacity = omega (arith, c.cells.ensures.are) in
     change-fits a.update t a.start a.cells.now a.values.now (sym c.area_fits.ensures ∙ c.if-not-area_fits.false) (sym c.form_fits.ensures ∙ c.if-not-form_fits.false)
-    (a.start + c.from.result * c.from-2.result - a.start) size k
+    (a.start + c.cells.result - a.start) size k
 
 pub returns : goal.returns
 returns c =
     let a = c.args in
     let t = a.table in
-    let size : a.start + c.from.result * c.from-2.result - a.start ≡ t.count * t.capacity = omega (arith, ap₂ (λ (x y : ℕ). x * y) c.from.ensures c.from-2.ensures) in
+    let size : a.start + c.cells.result - a.start ≡ t.count * t.capacity = omega (arith, c.cells.ensures.are) in
     let d = done a.update t a.start a.cells.now a.values.now (sym c.area_fits.ensures ∙ c.if-not-area_fits.false) (sym c.form_fits.ensures ∙ c.if-not-form_fits.false)
-    (a.start + c.from.result * c.from-2.result - a.start) size c.change_area.result c.change_area.new.area (c.change_area.ensures.counted, c.change_area.ensures.cells) in
+    (a.start + c.cells.result - a.start) size c.change_area.result c.change_area.new.area (c.change_area.ensures.counted, c.change_area.ensures.cells) in
     record { counted = d.0; cells = d.1 }

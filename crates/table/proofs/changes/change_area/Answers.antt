@@ -15,7 +15,7 @@ insert_row-requires c =
     let u = a.update.now in
     let p = c.requires in
     let z = c.if-update-eq-INSERT.true in
-    let n : length c.in_use-settings.result.now ≡ t.count = omega (arith, ap length c.in_use-settings.ensures.first, c.from.ensures, length-take c.from.result u.settings, c.in_use-settings.ensures.size, p.few, p.given z) in
+    let n : length c.used.result.now ≡ t.count = omega (arith, ap length c.used.ensures.are, length-take u.count u.settings, c.used.ensures.size, p.few, p.given z) in
     subst (λ (k : ℕ). c.new_place.result * k + k ≤ length a.area.now) (sym n)
     (place-room (is_full_ring t) t.count t.rows t.oldest (length a.area.now) p.inside (p.place z) (p.room z) c.new_place.result c.new_place.ensures)
 
@@ -26,12 +26,12 @@ returns-then-update-eq-INSERT c =
     let u = a.update.now in
     let p = c.requires in
     let z = c.if-update-eq-INSERT.true in
-    let ss = c.in_use-settings.result.now in
-    let n : length ss ≡ t.count = omega (arith, ap length c.in_use-settings.ensures.first, c.from.ensures, length-take c.from.result u.settings, c.in_use-settings.ensures.size, p.few, p.given z) in
-    let is : ss ≡ take t.count u.settings = c.in_use-settings.ensures.first ∙ ap (λ (k : ℕ). take k u.settings) (c.from.ensures ∙ p.given z) in
+    let ss = c.used.result.now in
+    let n : length ss ≡ t.count = omega (arith, ap length c.used.ensures.are, length-take u.count u.settings, c.used.ensures.size, p.few, p.given z) in
+    let is : ss ≡ take t.count u.settings = c.used.ensures.are ∙ ap (λ (k : ℕ). take k u.settings) (p.given z) in
     let e = c.insert_row.ensures
     ∙ ap₂ (λ (k : ℕ) (l : List Setting). stored a.area.now (c.new_place.result * k) (area_rows k c.new_place.result a.area.now ++ (row_of l a.values.now ∷ []))) n is in
-    let d = inserted u a.values.now t.count t.rows a.area.now (is_full_ring t) t.oldest u.form c.insert_row.new.area z c.in_use-settings.ensures.size p.few (p.given z) p.inside (p.place z) c.new_place.result
+    let d = inserted u a.values.now t.count t.rows a.area.now (is_full_ring t) t.oldest u.form c.insert_row.new.area z c.used.ensures.size p.few (p.given z) p.inside (p.place z) c.new_place.result
     c.new_place.ensures e c.inserted.result c.inserted.ensures in
     record { counted = d.0; cells = d.1 }
 

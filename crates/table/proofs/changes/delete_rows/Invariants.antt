@@ -5,4 +5,4 @@ use Rattle.table.proofs.Deleting.{Closed}
 use Rattle.table.proofs.changes.delete_rows.Given as goal
 
 abbrev pub invariant-loop : goal.invariant-loop
-invariant-loop l = Closed (passes_by l.test) l.columns l.used l.fn.area l.area l.from l.to (l.used - l.counter) l.gone
+invariant-loop l = Closed (passes_by l.test) l.width l.used l.fn.area l.area l.from l.to (l.used - l.counter) l.gone

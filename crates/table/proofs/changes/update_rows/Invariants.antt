@@ -6,4 +6,4 @@ use Rattle.table.proofs.Updating.{Left}
 use Rattle.table.proofs.changes.update_rows.Given as goal
 
 abbrev pub invariant-loop : goal.invariant-loop
-invariant-loop l = Left (passes_by l.test) (made l.values l.settings) l.columns l.used l.fn.area l.area l.at (l.used - l.counter) l.found
+invariant-loop l = Left (passes_by l.test) (made l.values l.settings) l.width l.used l.fn.area l.area l.at (l.used - l.counter) l.found

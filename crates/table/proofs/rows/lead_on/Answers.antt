@@ -1,7 +1,7 @@
 -- A target that led to `from`, and any other.
-use Rattle.std.proofs.Common.{◌∙◌, arith}
+use Rattle.std.proofs.Common.{◌∙◌}
 use Rattle.std.proofs.lemmas.List.{set-get_or}
-use Rattle.table.proofs.Linking.{led-met, led-stay, led-done}
+use Rattle.table.proofs.Linking.{led-met, led-stay}
 use Rattle.table.proofs.rows.lead_on.Goals.{then-target-from, else-target-from}
 use Rattle.table.proofs.rows.lead_on.Goals as goal
 
@@ -13,6 +13,3 @@ loop-target-preserved c =
       | then-target-from w ↦ w.targets-is ∙ led-met a.from a.b a.targets.now l.targets l.target-index c.loop-target-test.true l.invariant w.if-target-from.true
       | else-target-from w ↦ w.targets-is ∙ set-get_or l.targets l.target-index 0 ∙ led-stay a.from a.b a.targets.now l.targets l.target-index c.loop-target-test.true l.invariant w.if-target-from.false
     ]
-
-pub returns : goal.returns
-returns c = c.loop-target.invariant ∙ led-done c.args.from c.args.b c.args.targets.now c.loop-target.target-index (omega arith)

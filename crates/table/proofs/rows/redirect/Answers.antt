@@ -1,8 +1,8 @@
 -- A part of the targets, or none.
-use Rattle.std.proofs.Common.{ℕ, ◌-◌, ◌*◌, map, ap₂, ◌∙◌, arith}
+use Rattle.std.proofs.Common.{ℕ, ◌-◌, ◌*◌, map, ap₂, ◌∙◌}
 use borrow.Rule.Slice.PartMut.{put_mid, mid_of}
 use Rattle.table.specs.Linking.{led_on}
-use Rattle.table.proofs.Linking.{redirect-none, redirect-part}
+use Rattle.table.proofs.Linking.{redirect-part}
 use Rattle.table.proofs.rows.redirect.Goals as goal
 
 pub returns-then-a-b : goal.returns-then-a-b
@@ -13,6 +13,3 @@ returns-then-a-b c =
     redirect-part a.a a.b a.from t c.requires.2 c.requires.1 c.if-a-b.true m _
     (c.lead_on.ensures ∙ ap₂ (λ (x y : ℕ). map (led_on a.from a.b) (mid_of (4 * x) (4 * y - 4 * x) t)) c.from.ensures c.from-then-a-b.ensures)
     (ap₂ (λ (x y : ℕ). put_mid (4 * x) (4 * y - 4 * x) t m) c.from.ensures c.from-then-a-b.ensures)
-
-pub returns-else-a-b : goal.returns-else-a-b
-returns-else-a-b c = redirect-none _ _ _ _ c.requires.2 c.requires.1 (omega arith)

@@ -1,4 +1,4 @@
-use Rattle.std.proofs.Common.{◌≡◌, ◌+◌, ◌≤◌, ◌<◌, length, true, get_or, set, ℕ, sym, ap, subst, ◌∙◌, arith, Bool, List, ◌&&◌, eqb, refl}
+use Rattle.std.proofs.Common.{◌≡◌, ◌+◌, ◌≤◌, ◌<◌, length, true, get_or, set, ℕ, sym, ap, subst, ◌∙◌, arith, Bool, List, ◌&&◌, eqb}
 use Rattle.lists.proofs.Places.{All-at}
 use Rattle.cache.specs.Marks.{agrees_at}
 use Rattle.slots.specs.Keys.{slot_key, values_of}
@@ -10,14 +10,11 @@ use Rattle.cache.proofs.Marking.{Marking, marking-yes, marking-no, marking-end, 
 use Rattle.cache.proofs.matching.Matching.mark_agreeing.Goals.{then-agrees_key, else-agrees_key}
 use Rattle.cache.proofs.matching.Matching.mark_agreeing.Goals as goal
 
-pub loop-x-init : goal.loop-x-init
-loop-x-init c = (c.held_slots-x-items.ensures, refl)
-
-pub bounds-self-slot : goal.bounds-self-slot
-bounds-self-slot c =
+pub bounds-keys-slot : goal.bounds-keys-slot
+bounds-keys-slot c =
     let s = c.args.self.now.state.now in
     let i = c.loop-x.x-index in
-    let e = c.loop-x.invariant.0 in
+    let e = c.held_slots-held.ensures in
     let h = All-at i 0 (subst (λ (l : List ℕ). i < length l) e c.loop-x-test.true) (held-below s.slots c.args.self.now.sound) in
     omega (arith, h, c.from-slot.ensures ∙ ap (λ (l : List ℕ). get_or l i 0) e)
 
@@ -25,7 +22,7 @@ pub bounds-marks-slot : goal.bounds-marks-slot
 bounds-marks-slot c =
     let s = c.args.self.now.state.now in
     let i = c.loop-x.x-index in
-    let e = c.loop-x.invariant.0 in
+    let e = c.held_slots-held.ensures in
     let h = All-at i 0 (subst (λ (l : List ℕ). i < length l) e c.loop-x-test.true) (held-below s.slots c.args.self.now.sound) in
     omega (arith, h, c.from-slot.ensures ∙ ap (λ (l : List ℕ). get_or l i 0) e)
 
@@ -38,7 +35,7 @@ loop-x-preserved c =
     let held = held_slots s.slots in
     let i = c.loop-x.x-index in
     let marks = c.loop-x.marks in
-    let same = c.loop-x.invariant.0 in
+    let same = c.held_slots-held.ensures in
     let lt : i < length held = subst (λ (l : List ℕ). i < length l) same c.loop-x-test.true in
     let test : ℕ → Bool = agrees_at keys q p in
     let h = All-at i 0 lt (held-below s.slots c.args.self.now.sound) in
@@ -49,21 +46,17 @@ loop-x-preserved c =
     let r : get_or keys x d ≡ slot_key keys (get_or held i 0) = key-at keys x d long (omega (arith, h, e)) ∙ ap (slot_key keys) e in
     let t : test (get_or held i 0) ≡ c.agrees_key.result = sym (c.agrees_key.ensures ∙ ap (λ (k : Key). eqb k.query q && agrees_stored p (values_of k)) r) in
     elim c.if-agrees_key.branch [
-      | then-agrees_key w ↦ (
-        same,
-        subst (Marking test held c.args.marks.now (i + 1)) (sym (w.marks-is ∙ ap (λ (k : ℕ). set marks k true) e))
-            (marking-yes test held c.args.marks.now i marks lt c.loop-x.invariant.1 (t ∙ w.if-agrees_key.true)),
-      )
-      | else-agrees_key w ↦ (
-        same,
-        subst (Marking test held c.args.marks.now (i + 1)) (sym w.marks-is)
-            (marking-no test held c.args.marks.now i marks lt c.loop-x.invariant.1 (t ∙ w.if-agrees_key.false)),
-      )
+      | then-agrees_key w ↦
+          subst (Marking test held c.args.marks.now (i + 1)) (sym (w.marks-is ∙ ap (λ (k : ℕ). set marks k true) e))
+          (marking-yes test held c.args.marks.now i marks lt c.loop-x.invariant (t ∙ w.if-agrees_key.true))
+      | else-agrees_key w ↦
+          subst (Marking test held c.args.marks.now (i + 1)) (sym w.marks-is)
+          (marking-no test held c.args.marks.now i marks lt c.loop-x.invariant (t ∙ w.if-agrees_key.false))
     ]
 
 pub returns : goal.returns
 returns c =
     let s = c.args.self.now.state.now in
     let held = held_slots s.slots in
-    let le : length held ≤ c.loop-x.x-index = subst (λ (l : List ℕ). length l ≤ c.loop-x.x-index) c.loop-x.invariant.0 c.loop-x-test.false in
-    marking-end (agrees_at s.keys c.args.q c.args.p.now) held c.args.marks.now c.loop-x.x-index c.loop-x.marks le c.loop-x.invariant.1
+    let le : length held ≤ c.loop-x.x-index = subst (λ (l : List ℕ). length l ≤ c.loop-x.x-index) c.held_slots-held.ensures c.loop-x-test.false in
+    marking-end (agrees_at s.keys c.args.q c.args.p.now) held c.args.marks.now c.loop-x.x-index c.loop-x.marks le c.loop-x.invariant

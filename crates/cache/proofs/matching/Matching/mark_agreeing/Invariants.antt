@@ -1,10 +1,7 @@
-use mathlib.Core.Path.{◌≡◌}
 use Rattle.slots.specs.Order.{held_slots}
 use Rattle.cache.specs.Marks.{agrees_at}
 use Rattle.cache.proofs.Marking.{Marking}
 use Rattle.cache.proofs.matching.Matching.mark_agreeing.Given as goal
 
 abbrev pub invariant-loop-x : goal.invariant-loop-x
-invariant-loop-x l =
-    (l.x-items ≡ held_slots l.self.state.now.slots)
-    × Marking (agrees_at l.self.state.now.keys l.q l.p) (held_slots l.self.state.now.slots) l.fn.marks l.x-index l.marks
+invariant-loop-x l = Marking (agrees_at l.self.state.now.keys l.q l.p) (held_slots l.self.state.now.slots) l.fn.marks l.x-index l.marks

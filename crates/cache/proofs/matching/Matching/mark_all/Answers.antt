@@ -22,11 +22,11 @@ loop-q-preserved c =
     let q = c.loop-q.q in
     let marks = c.loop-q.marks in
     let found = c.queries_held-found.result in
-    let used = c.in_use-queries.result.now in
-    let size = c.in_use-queries.ensures.size in
-    let many = used-many s.queries _ used _ size m.few c.from.ensures c.in_use-queries.ensures.first in
-    let lt : q < s.query_count = omega (arith, c.loop-q-test.true, many.0) in
-    let at : (d : Query) → get_or used q d ≡ get_or s.queries q no_query = (λ d. ap (λ (l : List Query). get_or l q d) many.1 ∙ query-at s.queries s.query_count q d size m.few lt) in
+    let used = c.used_queries-queries.result.now in
+    let size = c.used_queries-queries.ensures.size in
+    let many = used-many s.queries _ used size m.few c.used_queries-queries.ensures.first in
+    let lt : q < s.query_count = omega (arith, c.loop-q-test.true, many) in
+    let at : (d : Query) → get_or used q d ≡ get_or s.queries q no_query = (λ d. ap (λ (l : List Query). get_or l q d) c.used_queries-queries.ensures.first ∙ query-at s.queries s.query_count q d size m.few lt) in
     elim c.if-found-q.branch [
       | then-found-q w ↦ subst (Queries s.keys s.slots s.queries s.query_count u us a.marks.now (q + 1)) (sym w.marks-is)
           (queries-yes s.keys s.slots s.queries s.query_count u us a.marks.now q marks lt c.loop-q.invariant found m.few c.queries_held-found.ensures _ w.mark_query.new.marks (at _) (and_left _ _ w.if-found-q.true) w.mark_query.ensures)
@@ -38,5 +38,5 @@ pub returns : goal.returns
 returns c =
     let m = c.args.self.now in
     let s = m.state.now in
-    let many = used-many s.queries _ c.in_use-queries.result.now _ c.in_use-queries.ensures.size m.few c.from.ensures c.in_use-queries.ensures.first in
-    queries-end s.keys s.slots s.queries s.query_count c.args.update.now m.values.now c.args.marks.now c.loop-q.q c.loop-q.marks (omega (arith, c.loop-q-test.false, many.0)) c.loop-q.invariant
+    let many = used-many s.queries _ c.used_queries-queries.result.now c.used_queries-queries.ensures.size m.few c.used_queries-queries.ensures.first in
+    queries-end s.keys s.slots s.queries s.query_count c.args.update.now m.values.now c.args.marks.now c.loop-q.q c.loop-q.marks (omega (arith, c.loop-q-test.false, many)) c.loop-q.invariant

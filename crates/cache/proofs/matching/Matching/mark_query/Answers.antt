@@ -3,15 +3,9 @@ use Rattle.slots.specs.Order.{held_slots}
 use Rattle.cache.specs.Marks.{agrees_at, marked}
 use Rattle.pattern.specs.declared.Pattern.{Pattern}
 use Rattle.pattern.specs.Stored.{clause_total}
-use Rattle.cache.proofs.Marking.{Clauses, clauses-start, clauses-more, clauses-stay, clauses-end}
+use Rattle.cache.proofs.Marking.{Clauses, clauses-more, clauses-stay, clauses-end}
 use Rattle.cache.proofs.matching.Matching.mark_query.Goals.{in-Some, in_default}
 use Rattle.cache.proofs.matching.Matching.mark_query.Goals as goal
-
-pub loop-i-init : goal.loop-i-init
-loop-i-init c =
-    let m = c.args.self.now in
-    let s = m.state.now in
-    clauses-start s.keys (held_slots s.slots) c.args.q c.args.query.now c.args.update.now m.values.now c.args.marks.now
 
 pub loop-i-preserved : goal.loop-i-preserved
 loop-i-preserved c =

@@ -9,15 +9,13 @@ use Rattle.cache.proofs.matching.Matching.queries_held.Goals.{then-q-lt-QUERIES,
 use Rattle.cache.proofs.matching.Matching.queries_held.Goals as goal
 
 pub loop-x-init : goal.loop-x-init
-loop-x-init c =
-    let s = c.args.self.now.state.now in
-    (c.held_slots-x-items.ensures, finding-start s.keys (held_slots s.slots))
+loop-x-init c = let s = c.args.self.now.state.now in finding-start s.keys (held_slots s.slots)
 
-pub bounds-self-from : goal.bounds-self-from
-bounds-self-from c =
+pub bounds-keys-from : goal.bounds-keys-from
+bounds-keys-from c =
     let s = c.args.self.now.state.now in
     let i = c.loop-x.x-index in
-    let e = c.loop-x.invariant.0 in
+    let e = c.held_slots-held.ensures in
     let h = All-at i 0 (subst (λ (l : List ℕ). i < length l) e c.loop-x-test.true) (held-below s.slots c.args.self.now.sound) in
     omega (arith, h, c.from.ensures ∙ ap (λ (l : List ℕ). get_or l i 0) e)
 
@@ -28,7 +26,7 @@ loop-x-preserved c =
     let held = held_slots s.slots in
     let i = c.loop-x.x-index in
     let found = c.loop-x.found in
-    let same = c.loop-x.invariant.0 in
+    let same = c.held_slots-held.ensures in
     let lt : i < length held = subst (λ (l : List ℕ). i < length l) same c.loop-x-test.true in
     let h = All-at i 0 lt (held-below s.slots c.args.self.now.sound) in
     let x : ℕ = c.from.result in
@@ -38,20 +36,16 @@ loop-x-preserved c =
     let long : length keys ≡ 64 = c.args.self.now.all_keys in
     let r : k ≡ slot_key keys (get_or held i 0) = key-at keys x d long (omega (arith, h, e)) ∙ ap (slot_key keys) e in
     elim c.if-q-lt-QUERIES.branch [
-      | then-q-lt-QUERIES w ↦ (
-        same,
-        subst (Finding keys held (i + 1)) (sym (w.found-is ∙ ap (λ (q : ℕ). set found q true) c.from-q.ensures))
-            (finding-more keys held i found lt c.loop-x.invariant.1 k r (omega (arith, c.from-q.ensures, w.if-q-lt-QUERIES.true))),
-      )
-      | else-q-lt-QUERIES w ↦ (
-        same,
-        subst (Finding keys held (i + 1)) (sym w.found-is)
-            (finding-skip keys held i found lt c.loop-x.invariant.1 k r (omega (arith, c.from-q.ensures, w.if-q-lt-QUERIES.false))),
-      )
+      | then-q-lt-QUERIES w ↦
+          subst (Finding keys held (i + 1)) (sym (w.found-is ∙ ap (λ (q : ℕ). set found q true) c.from-q.ensures))
+          (finding-more keys held i found lt c.loop-x.invariant k r (omega (arith, c.from-q.ensures, w.if-q-lt-QUERIES.true)))
+      | else-q-lt-QUERIES w ↦
+          subst (Finding keys held (i + 1)) (sym w.found-is)
+          (finding-skip keys held i found lt c.loop-x.invariant k r (omega (arith, c.from-q.ensures, w.if-q-lt-QUERIES.false)))
     ]
 
 pub returns : goal.returns
 returns c =
     let s = c.args.self.now.state.now in
-    let le : length (held_slots s.slots) ≤ c.loop-x.x-index = subst (λ (l : List ℕ). length l ≤ c.loop-x.x-index) c.loop-x.invariant.0 c.loop-x-test.false in
-    finding-end s.keys (held_slots s.slots) c.loop-x.x-index c.loop-x.found le c.loop-x.invariant.1
+    let le : length (held_slots s.slots) ≤ c.loop-x.x-index = subst (λ (l : List ℕ). length l ≤ c.loop-x.x-index) c.held_slots-held.ensures c.loop-x-test.false in
+    finding-end s.keys (held_slots s.slots) c.loop-x.x-index c.loop-x.found le c.loop-x.invariant

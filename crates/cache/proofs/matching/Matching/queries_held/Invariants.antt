@@ -1,7 +1,6 @@
-use mathlib.Core.Path.{◌≡◌}
 use Rattle.slots.specs.Order.{held_slots}
 use Rattle.cache.proofs.Marking.{Finding}
 use Rattle.cache.proofs.matching.Matching.queries_held.Given as goal
 
 abbrev pub invariant-loop-x : goal.invariant-loop-x
-invariant-loop-x l = (l.x-items ≡ held_slots l.self.state.now.slots) × Finding l.self.state.now.keys (held_slots l.self.state.now.slots) l.x-index l.found
+invariant-loop-x l = Finding l.self.state.now.keys (held_slots l.self.state.now.slots) l.x-index l.found

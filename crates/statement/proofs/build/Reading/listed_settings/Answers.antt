@@ -1,10 +1,6 @@
-use Rattle.std.proofs.Common.{◌≡◌, ◌∙◌, ap, ℕ, replicate, get_or, arith, rules}
+use Rattle.std.proofs.Common.{◌≡◌, ap, replicate, get_or, arith, rules}
 use mir.Syntax.{w32}
 use mir.Val.{to_z, of_z}
-use Rattle.meaning.specs.Statement.{numbered}
-use Rattle.statement.specs.Places.{given_on}
-use Rattle.statement.specs.Compiled.{value_struct}
-use Rattle.statement.specs.Built.{short_given}
 use Rattle.statement.proofs.Empty.{setting-empty}
 use Rattle.statement.proofs.Filled.{left-cons}
 use Rattle.statement.proofs.Sets.{set-start, set_more, set-end}
@@ -19,10 +15,10 @@ loop-i-preserved c =
     let l = c.loop-i in
     let v = c.value_at-value in
     let e : to_z w32 (of_z w32 v.result.number) ≡ v.result.number = search rules in
-    let f = v.ensures ∙ ap (λ (p : ℕ). value_struct (numbered l.marks (short_given (given_on a.self.now.text.now p)))) c.from.ensures in
+    let f = v.ensures in
     rw e
-    (set_more a.self.now.text.now a.self.now.items.now a.columns.now l.all l.marks l.i c.mark_in-marks.result (get_or a.columns.now l.i 0) _ v.result (left-cons a.columns.now l.i 0 (omega (arith, c.requires, c.loop-i-test.true)))
-    (left-cons a.self.now.items.now l.i _ c.loop-i-test.true) f c.mark_in-marks.ensures l.invariant)
+    (set_more a.self.now.text.now a.self.now.items.now a.columns.now l.all l.marks l.i c.marks-marks.result (get_or a.columns.now l.i 0) _ v.result (left-cons a.columns.now l.i 0 (omega (arith, c.requires, c.loop-i-test.true)))
+    (left-cons a.self.now.items.now l.i _ c.loop-i-test.true) f c.marks-marks.ensures l.invariant)
 
 pub returns : goal.returns
 returns c = let l = c.loop-i in set-end _ _ _ _ _ l.i (omega (arith, c.requires, c.loop-i-test.false)) c.loop-i-test.false l.invariant

@@ -22,7 +22,7 @@ loop-node-preserved c =
     elim c.match-node.branch [
       | in-Comparison w ↦ resolving-as d s ns p a.marks w.comparisons-is w.found-is w.m-is
           (resolving-more d s ns p a.marks l.comparisons l.found l.m l.node-index l.invariant _ _ _ _ (q ∙ ap (λ (x : Node). x ∷ drop (l.node-index + 1) ns) w.in-Comparison.is)
-          w.comparison_at-c.result w.marks_of-m.result w.comparison_at-c.ensures w.marks_of-m.ensures)
+          w.comparison_at-c.result w.marks-m.result w.comparison_at-c.ensures w.marks-m.ensures)
       | in_default w ↦ resolving-as d s ns p a.marks w.comparisons-is w.found-is w.m-is
           (resolving-pass d s ns p a.marks l.comparisons l.found l.m l.node-index l.invariant _ q w.in_default.not-Comparison)
     ]
@@ -31,4 +31,4 @@ pub returns : goal.returns
 returns c =
     let a = c.args in
     let l = c.loop-node in
-    resolving-end (dotted a.scope.now) a.self.now.text.now a.self.now.nodes.now (place_in a.scope.now) a.marks _ _ _ l.node-index _ c.loop-node-test.false l.invariant c.steps_at.ensures
+    resolving-end (dotted a.scope.now) a.self.now.text.now a.self.now.nodes.now (place_in a.scope.now) a.marks _ _ _ l.node-index _ c.loop-node-test.false l.invariant c.placed.ensures

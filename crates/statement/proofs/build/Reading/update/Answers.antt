@@ -17,7 +17,7 @@ pub returns-in_err-refuse : goal.returns-in_err-refuse
 returns-in_err-refuse c =
     let d = c.default.ensures in
     let r = c.args.self.now in
-    update-made r.text.now r.items.now r.nodes.now r.e (column_names c.args.t.now) _ _ c.listed_names-names.result c.positions-at.result c.listed_settings-s.result _ _ c.width.result c.is_repeated.result (number_of c.in_err-refuse.field-0.0) _
+    update-made r.text.now r.items.now r.nodes.now r.e (column_names c.args.found.now.table.now) _ _ c.listed_names-names.result c.positions-at.result c.listed_settings-s.result _ _ c.width.result c.is_repeated.result (number_of c.in_err-refuse.field-0.0) _
     c.listed_names-names.ensures c.positions-at.ensures c.listed_settings-s.ensures refl c.noted_condition-condition.ensures c.width.ensures c.is_repeated.ensures
     (c.in_err-refuse.ensures ∙ λ j. lowest_by (c.is_unknown.ensures j) c.is_repeated.result (d.1.1.0 j) (d.1.1.1.0 j) (leb 16 (c.from.ensures j)))
     (refused-is c.from_residual.result c.in_err-refuse.field-0.0 _ c.from_residual.ensures.1)
@@ -26,7 +26,7 @@ pub returns : goal.returns
 returns c =
     let d = c.default.ensures in
     let r = c.args.self.now in
-    update-made r.text.now r.items.now r.nodes.now r.e (column_names c.args.t.now) _ _ c.listed_names-names.result c.positions-at.result c.listed_settings-s.result _ _ c.width.result c.is_repeated.result 0 _
+    update-made r.text.now r.items.now r.nodes.now r.e (column_names c.args.found.now.table.now) _ _ c.listed_names-names.result c.positions-at.result c.listed_settings-s.result _ _ c.width.result c.is_repeated.result 0 _
     c.listed_names-names.ensures c.positions-at.ensures c.listed_settings-s.ensures refl c.noted_condition-condition.ensures c.width.ensures c.is_repeated.ensures
     (c.in_ok-refuse.ensures ∙ λ j. lowest_by (c.is_unknown.ensures j) c.is_repeated.result (d.1.1.0 j) (d.1.1.1.0 j) (leb 16 (c.from.ensures j)))
     refl

@@ -30,14 +30,6 @@ read_and-returns-in_default t c =
     let p = c.in_ok-p.p in
     first_alone ands a.self.now.p.text.now a.self.now.positive a.self.now.depth a.self.now.p.c a.nodes.now c.read_one.new.nodes p c.in_ok-p.ensures (stops a.self.now.p.text.now p.at c.next-t.result c.next-t.ensures (keyword AND) c.in_default.not-And)
 
-pub read_and-overflow_cast-p : goal.read_and-overflow_cast-p
-read_and-overflow_cast-p t c =
-    let a = c.args in
-    let p = c.in_ok-p.p in
-    let g = goes a.self.now.p.text.now p.at c.next-t.result c.next-t.ensures (keyword AND) refl c.in-And.is in
-    let on = found-on atom a.self.now.p.text.now a.self.now.positive a.self.now.depth a.self.now.p.c a.nodes.now p c.read_one.new.nodes c.in_ok-p.ensures in
-    omega (arith, g.within, on.0.short)
-
 pub read_and-invariant_of-rest : goal.read_and-invariant_of-rest
 read_and-invariant_of-rest t c =
     let a = c.args in
@@ -105,14 +97,6 @@ read_or-returns-in_default t c =
     let p = c.in_ok-p.p in
     first_alone ors a.self.now.p.text.now a.self.now.positive a.self.now.depth a.self.now.p.c a.nodes.now c.read_and.new.nodes p c.in_ok-p.ensures (stops a.self.now.p.text.now p.at c.next-t.result c.next-t.ensures (keyword OR) c.in_default.not-Or)
 
-pub read_or-overflow_cast-p : goal.read_or-overflow_cast-p
-read_or-overflow_cast-p t c =
-    let a = c.args in
-    let p = c.in_ok-p.p in
-    let g = goes a.self.now.p.text.now p.at c.next-t.result c.next-t.ensures (keyword OR) refl c.in-Or.is in
-    let on = found-on conjunction a.self.now.p.text.now a.self.now.positive a.self.now.depth a.self.now.p.c a.nodes.now p c.read_and.new.nodes c.in_ok-p.ensures in
-    omega (arith, g.within, on.0.short)
-
 pub read_or-invariant_of-rest : goal.read_or-invariant_of-rest
 read_or-invariant_of-rest t c =
     let a = c.args in
@@ -162,12 +146,6 @@ read_or-returns t c =
 
 -- ---- `read_one`
 
-pub read_one-overflow_cast-here : goal.read_one-overflow_cast-here
-read_one-overflow_cast-here t c =
-    let a = c.args in
-    let g = goes a.self.now.p.text.now a.self.now.p.c.at c.next-t.result c.next-t.ensures (keyword NOT) refl c.in-Not.is in
-    omega (arith, g.within, c.args.self.now.p.stands.short)
-
 pub read_one-invariant_of-negated : goal.read_one-invariant_of-negated
 read_one-invariant_of-negated t c =
     let a = c.args in
@@ -191,12 +169,6 @@ read_one-returns-in-Not t c =
     let a = c.args in
     let g = goes a.self.now.p.text.now a.self.now.p.c.at c.next-t.result c.next-t.ensures (keyword NOT) refl c.in-Not.is in
     one-negates a.self.now.p.text.now a.self.now.positive a.self.now.depth a.self.now.p.c a.nodes.now _ _ _ g c.read_one.ensures
-
-pub read_one-overflow_cast-here-in-Open : goal.read_one-overflow_cast-here-in-Open
-read_one-overflow_cast-here-in-Open t c =
-    let a = c.args in
-    let g = goes a.self.now.p.text.now a.self.now.p.c.at c.next-t.result c.next-t.ensures lparen refl c.in-Open.is in
-    omega (arith, g.within, c.args.self.now.p.stands.short)
 
 pub read_one-invariant_of-inner : goal.read_one-invariant_of-inner
 read_one-invariant_of-inner t c =
@@ -222,8 +194,8 @@ read_one-returns-in_err-inside-in-Open t c =
     let g = goes a.self.now.p.text.now a.self.now.p.c.at c.next-t.result c.next-t.ensures lparen refl c.in-Open.is in
     one-empty a.self.now.p.text.now a.self.now.positive a.self.now.depth a.self.now.p.c a.nodes.now _ _ _ (cc) g c.in_err-inside-in-Open.ensures
 
-pub read_one-invariant_of-closed : goal.read_one-invariant_of-closed
-read_one-invariant_of-closed t c =
+pub read_one-invariant_of-expect : goal.read_one-invariant_of-expect
+read_one-invariant_of-expect t c =
     let a = c.args in
     record { stands = (found-on disjunction a.self.now.p.text.now a.self.now.positive (a.self.now.depth + 1) (moved_to c.next-t.result.next a.self.now.p.c) a.nodes.now c.in_ok-inside-in-Open.inside c.read_or.new.nodes c.in_ok-inside-in-Open.ensures).0 }
 
@@ -231,7 +203,7 @@ pub read_one-returns-in_ok-inside-in-Open : goal.read_one-returns-in_ok-inside-i
 read_one-returns-in_ok-inside-in-Open t c =
     let a = c.args in
     let g = goes a.self.now.p.text.now a.self.now.p.c.at c.next-t.result c.next-t.ensures lparen refl c.in-Open.is in
-    one-closes a.self.now.p.text.now a.self.now.positive a.self.now.depth a.self.now.p.c a.nodes.now c.read_or.new.nodes _ c.in_ok-inside-in-Open.inside g c.in_ok-inside-in-Open.ensures c.closed.result c.closed.ensures
+    one-closes a.self.now.p.text.now a.self.now.positive a.self.now.depth a.self.now.p.c a.nodes.now c.read_or.new.nodes _ c.in_ok-inside-in-Open.inside g c.in_ok-inside-in-Open.ensures c.expect.result c.expect.ensures
 
 pub read_one-returns-in_default : goal.read_one-returns-in_default
 read_one-returns-in_default t c =

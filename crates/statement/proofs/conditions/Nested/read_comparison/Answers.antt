@@ -1,7 +1,7 @@
 -- `Nested::read_comparison` meets its contract. Assumes nothing.
 use mathlib.Core.Path.{refl, sym, ◌∙◌}
 use Rattle.std.specs.Prelude.{Some, None}
-use Rattle.statement.proofs.Comparisons.{no-left, null-reaches, tests, no_sign, no-right, fits, compared, side-as}
+use Rattle.statement.proofs.Comparisons.{no-left, null-reaches, tests, no_sign, no-right, compared, side-as}
 use Rattle.statement.proofs.conditions.Nested.read_comparison.Goals as goal
 
 pub returns-in_err-a : goal.returns-in_err-a
@@ -38,14 +38,6 @@ returns-in_err-b c =
     λ b e. no-right b s a.self.now.positive a.self.now.depth a.self.now.p.c e a.nodes.now _ _ a.first c.requires
     c.in_ok-a.a (side-as s a.first (Some c.in_ok-a.a) a.self.now.p.c.dotted b e c.in_ok-a.ensures a.self.now.p.c.at c.requires) c.next-t.result c.next-t.ensures (sym c.tests_null.ensures ∙ c.if-tests_null.false) c.in_ok-op.op (sym c.in_ok-op.ensures)
     (side-as s c.next.result None a.self.now.p.c.dotted b e c.in_err-b.ensures c.next-t.result.next c.next.ensures) (cc)
-
-pub put_comparison-requires : goal.put_comparison-requires
-put_comparison-requires c =
-    let a = c.args in
-    let s = a.self.now.p.text.now in
-    fits a.self.now.p.c.dotted s a.self.now.positive a.self.now.depth a.self.now.p.c refl a.nodes.now None a.nodes.now a.first c.requires
-    c.in_ok-a.a (c.in_ok-a.ensures a.self.now.p.c.at c.requires) c.next-t.result c.next-t.ensures (sym c.tests_null.ensures ∙ c.if-tests_null.false) c.in_ok-op.op (sym c.in_ok-op.ensures)
-    c.in_ok-b.b (c.in_ok-b.ensures c.next-t.result.next c.next.ensures) a.self.now.p.stands
 
 pub returns : goal.returns
 returns c =

@@ -1,13 +1,6 @@
 -- `Nested::read_null` meets its contract. Assumes nothing.
-use Rattle.statement.proofs.Comparisons.{null-fits, null-negated, null-plain}
+use Rattle.statement.proofs.Comparisons.{null-negated, null-plain}
 use Rattle.statement.proofs.conditions.Nested.read_null.Goals as goal
-
-pub put_null-requires : goal.put_null-requires
-put_null-requires c =
-    let z = c in
-    let a = z.args in
-    null-fits a.self.now.p.text.now a.self.now.p.c a.a a.at a.self.now.p.stands z.requires
-    c.next-t.result.next c.next-u.result c.next-u.ensures
 
 pub returns-in-Not : goal.returns-in-Not
 returns-in-Not c =
@@ -18,12 +11,6 @@ returns-in-Not c =
     λ b e x p.
     null-negated b a.self.now.p.text.now a.self.now.positive a.self.now.depth a.self.now.p.c e a.nodes.now a.a a.at a.self.now.p.stands z.requires x p _ _
     t.result t.ensures c.in-Not.is u.result u.ensures c.put_null.ensures
-
-pub put_null-requires-2 : goal.put_null-requires-2
-put_null-requires-2 c =
-    let z = c in
-    let a = z.args in
-    null-fits a.self.now.p.text.now a.self.now.p.c a.a a.at a.self.now.p.stands z.requires a.at c.next-t.result c.next-t.ensures
 
 pub returns : goal.returns
 returns c =

@@ -1,21 +1,15 @@
 -- `Parser::expect` meets its contract. Assumes nothing.
 use mathlib.Core.Path.{◌≡◌, sym}
-use native.Mathlib.Omega.{arith}
 use borrow.Author.Tests.{not-false}
 use borrow.Author.Rules.{rules}
 use Rattle.statement.proofs.Tells.{asked-same}
-use Rattle.statement.proofs.SentenceTokens.{stays, expect-none, expect-found}
+use Rattle.statement.proofs.SentenceTokens.{expect-none, expect-found}
 use Rattle.statement.proofs.conditions.Parser.expect.Goals as goal
 
 pub returns-then-ne : goal.returns-then-ne
 returns-then-ne c =
     let a = c.args in
     expect-none a.self.text.now a.kind a.self.c c.next-t.result c.next-t.ensures (let h : c.next-t.result.kind ≡ a.kind → ⊥ = search rules in h)
-
-pub overflow_cast-result : goal.overflow_cast-result
-overflow_cast-result c =
-    let s = c.args.self.text.now in
-    omega (arith, stays s c.args.self.c.at c.next-t.result c.next-t.ensures, c.args.self.stands.short)
 
 pub returns : goal.returns
 returns c =

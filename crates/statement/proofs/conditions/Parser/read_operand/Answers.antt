@@ -30,5 +30,5 @@ returns c =
     single-side a.self.text.now at a.first e a.self.c.dotted
     (λ x y. clash (and_both a.self.c.dotted (is_name a.first.kind) x (ap is_name y)) (sym c.is_dotted.ensures ∙ c.if-is_dotted.false))
     (sym c.is_operand.ensures ∙ c.if-not-is_operand.false)
-    (record { over = c.is_past.result; marks = c.marks_of.result; start = a.first.start; next = a.first.next })
+    _
     c.is_past.ensures c.marks_of.ensures refl refl

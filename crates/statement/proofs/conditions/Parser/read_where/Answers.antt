@@ -1,10 +1,8 @@
 -- `Parser::read_where` meets its contract. Assumes nothing.
 use mathlib.Core.Path.{refl}
-use native.Mathlib.Omega.{arith}
 use Rattle.meaning.specs.Tokens.{keyword, WHERE}
 use Rattle.statement.proofs.Steps.{goes, stops, stands-past}
 use Rattle.statement.proofs.SentenceForms.{where-absent, where-read}
-use Rattle.statement.proofs.SentenceTokens.{stays}
 use Rattle.statement.proofs.conditions.Parser.read_where.Goals as goal
 
 pub returns-in_default : goal.returns-in_default
@@ -12,11 +10,6 @@ returns-in_default c =
     let a = c.args in
     let s = a.self.text.now in
     where-absent s a.self.c a.nodes.now a.self.stands (stops s a.self.c.at c.next-t.result c.next-t.ensures (keyword WHERE) c.in_default.not-Where)
-
-pub overflow_cast-c : goal.overflow_cast-c
-overflow_cast-c c =
-    let s = c.args.self.text.now in
-    omega (arith, stays s c.args.self.c.at c.next-t.result c.next-t.ensures, c.args.self.stands.short)
 
 pub invariant_of-condition : goal.invariant_of-condition
 invariant_of-condition c =

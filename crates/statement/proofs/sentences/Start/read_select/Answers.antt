@@ -1,17 +1,14 @@
 -- `Start::read_select` meets its contract. Assumes nothing.
-use mathlib.Core.Path.{sym, ap, ◌∙◌}
-use lib.ListN.{drop}
-use Rattle.meaning.specs.Tokens.{tokens}
-use Rattle.meaning.specs.Grammar.{is_paired}
+use mathlib.Core.Path.{sym, ◌∙◌}
 use Rattle.statement.proofs.Paired.{of-pair-form, of-single-form}
 use Rattle.statement.proofs.sentences.Start.read_select.Goals as goal
 
 pub returns-then-is_paired : goal.returns-then-is_paired
 returns-then-is_paired c =
     let a = c.args in
-    of-pair-form a.self.p.text.now a.self.p.c _ _ _ (ap (λ n. is_paired (tokens (drop n a.self.p.text.now))) (sym c.from.ensures) ∙ sym c.is_paired.ensures ∙ c.if-is_paired.true) c.read_pair.ensures
+    of-pair-form a.self.p.text.now a.self.p.c _ _ _ (sym c.is_paired.ensures ∙ c.if-is_paired.true) c.read_pair.ensures
 
 pub returns : goal.returns
 returns c =
     let a = c.args in
-    of-single-form a.self.p.text.now a.self.p.c _ _ _ (ap (λ n. is_paired (tokens (drop n a.self.p.text.now))) (sym c.from.ensures) ∙ sym c.is_paired.ensures ∙ c.if-is_paired.false) c.read_single.ensures
+    of-single-form a.self.p.text.now a.self.p.c _ _ _ (sym c.is_paired.ensures ∙ c.if-is_paired.false) c.read_single.ensures

@@ -11,6 +11,6 @@ unfolding next_at
 returns c =
     let t = c.args.self.now in
     let i = c.args.i in
-    let ea : to_z w32 (of_z w32 c.side-a.result) ≡ side_at t.places t.numbers c.args.row.now (2 * i) = search rules ∙ c.side-a.ensures in
-    let eb : to_z w32 (of_z w32 c.side-b.result) ≡ side_at t.places t.numbers c.args.row.now (2 * i + 1) = search rules ∙ c.side-b.ensures in
-    ap (λ (k : ℕ). get_or t.targets (4 * i + k) 0) (c.target_place.ensures.place ∙ ap target_place (c.order.ensures ∙ ap₂ order_of ea eb))
+    let ea : to_z w32 (of_z w32 c.side-a.result) ≡ side_at t.places t.numbers c.args.row.now (2 * i) = search rules ∙ c.side-a.ensures ∙ ap (λ (j : ℕ). side_at t.places t.numbers c.args.row.now (2 * j)) c.from-k.ensures in
+    let eb : to_z w32 (of_z w32 c.side-b.result) ≡ side_at t.places t.numbers c.args.row.now (2 * i + 1) = search rules ∙ c.side-b.ensures ∙ ap (λ (j : ℕ). side_at t.places t.numbers c.args.row.now (2 * j + 1)) c.from-k.ensures in
+    ap₂ (λ (j k : ℕ). get_or t.targets (4 * j + k) 0) c.from-k.ensures (c.target_place.ensures.place ∙ ap target_place (c.order.ensures ∙ ap₂ order_of ea eb))
