@@ -271,6 +271,43 @@ UPDATES = {
 }
 
 
+# ---- matched answers that an update cannot affect (A.7), for (d) and (f)
+
+def spared(count):
+    """Of site 1 so many kept answers, each of the days above another level from 100 on: two comparisons each."""
+    adds = [
+        "O 64",
+        "A TABLE stages (site, day, level) ROWS 8",
+        "A SELECT day FROM stages WHERE site = ? AND level > ?",
+        "A INSERT INTO stages VALUES (?, ?, ?)",
+        "A UPDATE stages SET level = ? WHERE site = ? AND level < ?",
+    ]
+    rows = [line("U", 0, i, i, 90 + i) for i in range(1, 9)]
+    return made(adds) + made(rows) + (made([line("Q", 0, 1, 100 + i) for i in range(count)]) if count else [])
+
+
+CORRECTIONS = {
+    "of another site, matches none": line("U", 1, 60, 2, 50),
+    "matches all and reaches none": line("U", 1, 60, 1, 50),
+    "matches all and reaches all": line("U", 1, 200, 1, 50),
+}
+
+
+def hardest(count):
+    """A question of 16 clauses beside an UPDATE of 18, which sets seven columns that are selected: too many clauses for patterns (rule 5). All comparisons are of the last column, so that
+    each conjunction tries every number beside it, and none is possible. Of the pairs that were tried the one with the most instructions."""
+    adds = [
+        "O 64",
+        "A TABLE t (a, b, c, d, e, f, g, h) ROWS 8",
+        "A SELECT a, b, c, d, e, f, g FROM t WHERE (h <> 6 OR h <> 5) AND (h <> 7 OR h <> 4) AND (h <> 8 OR h <> 3) AND (h > 15 OR h > 16)",
+        "A UPDATE t SET a = 1, b = 2, c = 3, d = 4, e = 5, f = 6, g = 7 WHERE (h > 1 OR h > 2 OR h > 3) AND (h <> 0 OR h <> 4 OR h <> 5) AND (h < 8 OR h < 9)",
+    ]
+    return made(adds) + (made([line("Q", 0)]) if count else [])
+
+
+HARDEST = line("U", 0)
+
+
 # ---- the fullest state: 8 tables, 16 queries, 16 updates, 64 kept answers of keys with 8 values
 
 def fullest(keys=64, rows=512):
@@ -354,6 +391,8 @@ def gate():
     piece("a ring, wrapped", ring(more=WRAPPED), ["L", RING_ROW, RING_EIGHTH, "C 4"], ["L", RING_INSERT, RING_EIGHTH, "C 200"])
     piece("a ring beside kept answers", ring(more=WRAPPED, slots=8), ["L", RING_EIGHTH, RING_INSERT, RING_ROW, "C 120"])
     piece("rows with nulls", iced(8), ["L", LOW_WATER, NOT_LOW, ICED, "C 4"])
+    piece("matched answers that are not reached", spared(40), *[["L", call, "K 2"] for call in CORRECTIONS.values()])
+    piece("the most conjunctions", hardest(1), ["L", HARDEST, "K 2"])
     piece("clauses at rule 5's limit", clauses(), ["L", CLAUSES_UPDATE, "K 2"])
     piece("adding", one_table(8, 64), *[["L", text, "K 1"] for text in ADDS.values()])
     piece("the fullest state", fullest(rows=64), *[["L", call, "K 2"] for call in (FULL_FIRST, FULL_LAST, FULL_NEW, FULL_UPDATE, "S", "N", "F", "W 0", DEEPEST)])

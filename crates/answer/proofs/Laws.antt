@@ -8,7 +8,8 @@ use native.Mathlib.Omega.{arith}
 use lib.ListN.{length, drop}
 use Rattle.lists.specs.Lists.{All, flat, written}
 use Rattle.lists.proofs.Places.{flat-length}
-use Rattle.meaning.specs.Demand.{ReadsBack, IsRow}
+use Rattle.meaning.specs.Demand.{ReadsBack}
+use Rattle.meaning.specs.Exact.{IsRow}
 use Rattle.meaning.specs.Limits.{most_items, most_listed}
 use Rattle.meaning.specs.Meaning.{Row}
 use Rattle.meaning.specs.Record.{bytes4, bytes2, number_bytes, body, encode}

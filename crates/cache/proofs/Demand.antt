@@ -9,12 +9,12 @@ use mathlib.Core.Path.{◌≡◌, refl, sym, ap, ◌∙◌, subst, subst₂}
 use mathlib.Core.Logic.{◌≢◌, ◌⊎◌, inl, inr}
 use mathlib.Core.Bool.{Bool, true, false, cond}
 use mathlib.Core.Option.{Option, none, some}
-use mathlib.Core.List.{List, map}
+use mathlib.Core.List.{List, ◌∷◌, map}
 use Prim.Native.Nat.{ℕ, zero, suc, ◌+◌}
 use native.Mathlib.Omega.{arith}
 use lib.ListN.{length, drop}
-use Rattle.lists.specs.Lists.{written}
-use Rattle.lists.proofs.Lists.{All-map, All-image}
+use Rattle.lists.specs.Lists.{All, written}
+use Rattle.lists.proofs.Lists.{All-map, All-left, All-image}
 use Rattle.meaning.specs.Key.{Key, same_key}
 use Rattle.meaning.specs.Demand.{ReadsBack, Call32, rows_listed}
 use Rattle.meaning.specs.Plain as P
@@ -24,7 +24,7 @@ use Rattle.trace.specs.Slots.{Held, slot_bytes, find}
 use Rattle.trace.specs.Model as T
 use Rattle.trace.specs.Model.{Model, turned, asked}
 use Rattle.trace.specs.Demand as D
-use Rattle.trace.proofs.Demand.{demands as on-model}
+use Rattle.trace.proofs.Demand.{stored-after, demands as on-model}
 use Rattle.cache.specs.Run.{Start, opening_of, opened, Call, add, ask, update, flush, Got, step, after, plain_call, got_of, plain_after}
 use Rattle.cache.specs.Means.{Means}
 use Rattle.cache.specs.Demand.{SameAsPlain, slot_count, slot_size, past, next_ask, AnewOnlyIf, ThirdDemand, StandsInList, DropsInList, KeptOtherwise, RowsRead, Values32, AnswerReadsBack, Demands}
@@ -88,13 +88,16 @@ values-32 (ask n vs buffer) v = v
 values-32 (update n vs) v = v
 values-32 flush v = v
 
+calls-32 : (cs : List Call) → All Values32 cs → All Call32 (map plain_call cs)
+calls-32 cs v = All-image plain_call (All-map values-32 v)
+
 pub follows : (o : Start) (cs : List Call)
     → Follows (opening_of o).lent (T.slot_size (opening_of o)) (after (opened o) cs) (D.after_calls (start_of o) (map plain_call cs))
 follows o cs = follows-after (follows-opened o) cs
 
 pub same_as_plain : SameAsPlain
-same_as_plain o cs =
-    let same = on-model.same_as_plain (start_of o) (map plain_call cs) in (
+same_as_plain o cs v =
+    let same = on-model.same_as_plain (start_of o) (map plain_call cs) (calls-32 cs v) in (
       follows-gets (follows-opened o) cs ∙ ap (gots_of cs) same.0 ∙ plain-gets (opening_of o).lent (P.opened (opening_of o)) cs,
       sym (follows o cs).means.tables_are ∙ ap (λ (p : Plain). p.tables) same.1,
     )
@@ -109,16 +112,16 @@ module _ (o : Start) (cs : List Call) (k : Key) (buffer : List ℕ) where
   next-answer e = answer_of buffer _ (ask_out _ _ (D.after_calls (start_of o) (map plain_call cs)) k (length buffer)) _ next.got e
 
 pub anew_only_if : AnewOnlyIf
-anew_only_if o cs k buffer e z =
+anew_only_if o cs v k buffer e z =
     let a = next-answer o cs k buffer e in
-    let g = on-model.anew_only_if (start_of o) (map plain_call cs) k (length buffer) a.0 a.1 (sym (next o cs k buffer).kept ∙ z) in
+    let g = on-model.anew_only_if (start_of o) (map plain_call cs) (calls-32 cs v) k (length buffer) a.0 a.1 (sym (next o cs k buffer).kept ∙ z) in
     subst₂ (λ (n size : ℕ). Ground same_key n size (record_of (plain_after o cs) k) k (past o cs)) (slots-are o) (size_is o) g
 
 pub kept_otherwise : KeptOtherwise
-kept_otherwise o cs k buffer e asked fit hit few =
+kept_otherwise o cs v k buffer e asked fit hit few =
     let a = next-answer o cs k buffer e in
     (next o cs k buffer).kept
-    ∙ on-model.kept_otherwise (start_of o) (map plain_call cs) k (length buffer) a.0 a.1 asked (rw (size_is o) fit) hit (rw (size_is o, slots-are o) few)
+    ∙ on-model.kept_otherwise (start_of o) (map plain_call cs) (calls-32 cs v) k (length buffer) a.0 a.1 asked (rw (size_is o) fit) hit (rw (size_is o, slots-are o) few)
 
 -- what a question gets in the model: a refusal, a kept answer and no row read, or the rows of its table or its two read
 abbrev AskSeen : Model → Key → T.Seen → Type 0
@@ -149,22 +152,22 @@ rows-read o cs k buffer e = go (ask-seen (opening_of o).lent (T.slot_size (openi
       (λ z. (next o cs k buffer).scanned ∙ y.1),
     )
     go (inr (inr y)) = (
-      (λ z. (next o cs k buffer).scanned ∙ y.1 ∙ ap (λ (p : Plain). P.rows_read p k) (on-model.same_as_plain (start_of o) (map plain_call cs)).1),
+      (λ z. (next o cs k buffer).scanned ∙ y.1 ∙ ap (λ (p : Plain). P.rows_read p k) (stored-after (start_of o) (map plain_call cs))),
       (λ z. absurd (z ((next o cs k buffer).kept ∙ y.0))),
     )
 
 -- ---- the list as a whole
 
 pub third_demand : ThirdDemand
-third_demand o cs = record {
-  same = (same_as_plain o cs).0;
-  tables = (same_as_plain o cs).1;
-  anew = λ before k buffer behind e. anew_only_if o before k buffer;
+third_demand o cs v = record {
+  same = (same_as_plain o cs v).0;
+  tables = (same_as_plain o cs v).1;
+  anew = λ before k buffer behind e. anew_only_if o before (All-left before (ask k.query k.values buffer ∷ behind) (subst (All Values32) e v)) k buffer;
 }
 
 pub stands_in_list : StandsInList
 stands_in_list o cs =
-    subst (Means (after (opened o) cs).state (after (opened o) cs).cells) (on-model.same_as_plain (start_of o) (map plain_call cs)).1 (follows o cs).means
+    subst (Means (after (opened o) cs).state (after (opened o) cs).cells) (stored-after (start_of o) (map plain_call cs)) (follows o cs).means
 
 pub drops_in_list : DropsInList
 drops_in_list o cs n us =
@@ -175,7 +178,7 @@ answer_reads_back o cs v k buffer e =
     let a = next-answer o cs k buffer e in
     let b : (next_ask o cs k buffer).got.answer ≡ written buffer 0 a.0 = ap (λ (x : Got). x.answer) ((next o cs k buffer).got ∙ ap (got_of buffer) a.1) in
     subst (λ (l : List ℕ). ReadsBack l (length (P.query_at (plain_after o cs) k.query).selected) (rows_listed (plain_after o cs) k)) (sym b)
-    (on-model.kept_reads_back (start_of o) (map plain_call cs) (All-image plain_call (All-map values-32 v)) k (length buffer) a.0 a.1 (drop (0 + length a.0) buffer))
+    (on-model.kept_reads_back (start_of o) (map plain_call cs) (calls-32 cs v) k (length buffer) a.0 a.1 (drop (0 + length a.0) buffer))
 
 -- ---- all claims
 

@@ -1,25 +1,30 @@
--- An update drops exactly the kept answers whose keys it matches on the plain store. What crate `pattern` states of stored statements is the parameter `mean`.
+-- An update drops exactly the kept answers that it drops on the plain store. What crate `pattern` states of stored statements is the parameter `mean`.
 -- Assumes nothing.
-use mathlib.Core.Path.{◌≡◌, refl, sym, ap, ◌∙◌}
-use mathlib.Core.Bool.{Bool, true, not}
+use mathlib.Core.Path.{◌≡◌, refl, sym, ap, ap₂, ◌∙◌}
+use mathlib.Core.Bool.{Bool, true, false, not, ◌&&◌, cond}
 use mathlib.Core.List.{List, [], ◌∷◌, map}
 use Prim.Native.Nat.{ℕ, zero, suc, ◌<◌}
 use native.Mathlib.Omega.{arith}
+use borrow.Author.Tests.{eqb-true}
+use lib.Dec.{eqb}
 use lib.IntN.{ℤ}
-use lib.ListN.{length, length-map}
-use Rattle.lists.specs.Lists.{All, any, keep, count}
-use Rattle.lists.proofs.Lists.{All-map, keep-map}
+use lib.ListN.{length, take, get_or, length-map, get_or-map}
+use Rattle.lists.specs.Lists.{All, nil, any, keep, count}
+use Rattle.lists.proofs.Bools.{and_left, and_right}
+use Rattle.lists.proofs.Lists.{All-map, All-take, keep-map}
 use Rattle.meaning.specs.Key.{Key}
-use Rattle.meaning.specs.Names.{Schema}
+use Rattle.meaning.specs.Names.{Schema, no_schema}
 use Rattle.meaning.specs.Meaning.{Row}
-use Rattle.meaning.specs.Pattern.{matches_two}
+use Rattle.meaning.specs.Exact.{drops}
 use Rattle.meaning.specs.Statement as M
 use Rattle.meaning.specs.Plain as P
-use Rattle.meaning.specs.Plain.{Plain, matches_key, refusal}
+use Rattle.meaning.specs.Plain.{Plain, drops_key, refusal}
+use Rattle.statement.specs.declared.Table.{Table}
 use Rattle.statement.specs.declared.Query.{Query}
 use Rattle.statement.specs.declared.Update.{Update}
 use Rattle.statement.specs.Sound.{sound_query, sound_update, AgreesQuery, AgreesUpdate}
-use Rattle.pattern.specs.Stored.{matches_stored}
+use Rattle.table.proofs.Outer.{used-wide}
+use Rattle.pattern.specs.Stored.{matches_stored, reaches_stored}
 use Rattle.pattern.proofs.Laws.{judged_stored}
 use Rattle.slots.specs.Keys.{key_read, slot_key, held_keys, values_of}
 use Rattle.slots.specs.Order.{held_slots, drop_by}
@@ -27,42 +32,80 @@ use Rattle.slots.proofs.Laws.{drop-held}
 use Rattle.cache.specs.declared.State.{State}
 use Rattle.cache.specs.Sound.{query_at, schemas_in}
 use Rattle.cache.specs.Means.{Means, Typed}
-use Rattle.cache.specs.Calls.{settled, updates, update_at, update_refusal, pushed_by, is_matched, with_change, update_refused, update_done, update_of}
+use Rattle.cache.specs.Calls.{settled, start_of, table_at, rows_at, updates, update_at, update_refusal, is_pushing, pushed_by, is_dropped, with_change, update_refused, update_done, update_of}
 use Rattle.cache.specs.Run.{Store, Seen, step_update, step}
 use Rattle.cache.specs.Demand.{lengths_lent, keys_held, DropsExactlyMatched}
 use Rattle.cache.proofs.Sounds.{Sound, sound-is, query-at, update-at}
-use Rattle.cache.proofs.Meanings.{query-agrees, update_agrees}
+use Rattle.cache.proofs.Standing.{update-table, columns-at}
+use Rattle.cache.proofs.Meanings.{schemas-mean, query-agrees, update_agrees}
 use Rattle.cache.proofs.Updating.{pushed-is, update-number, update-there, update-long}
 use Rattle.cache.proofs.Parts.{keep_same}
 
 -- ---- an update on a state that stands for the plain store
 
--- the patterns of sound stored statements, with those of the rows that the update pushes out, match as those of their sentences
-abbrev pub MatchesMean : Type 0
-MatchesMean = (ts : List Schema) (q : Query) (r : M.Query) → AgreesQuery q r → (u : Update) (s : M.Update) → AgreesUpdate u s → sound_query ts q ≡ true
-    → sound_update ts u ≡ true → (out : List Row) (us qs : List ℤ) → any (λ (v : Update). matches_stored q v us qs) (judged_stored u out) ≡ matches_two r s out us qs
+-- of sound stored statements, with the rows that the update pushes out, some pattern matches and some row is reached where their sentences say so; rows pushed out are an
+-- INSERT's, and as wide as the table
+abbrev pub DropsMean : Type 0
+DropsMean = (ts : List Schema) (q : Query) (r : M.Query) → AgreesQuery q r → (u : Update) (s : M.Update) → AgreesUpdate u s → sound_query ts q ≡ true
+    → sound_update ts u ≡ true → (n : ℕ) → n ≡ length (get_or ts u.table no_schema).columns → (out : List Row) → All (λ (x : Row). (length x ≡ n) × (u.form ≡ 0)) out
+    → (us qs : List ℤ)
+    → (any (λ (v : Update). matches_stored q v us qs) (judged_stored u out) && any (λ (v : Update). reaches_stored n q v us qs) (judged_stored u out)) ≡ drops n r s out us qs
 
-module _ (mean : MatchesMean) (s : State) (T : Typed s) (S : Sound s) (cells : List ℤ) (p : Plain) (m : Means s cells p) (n : ℕ)
+module _ (mean : DropsMean) (s : State) (T : Typed s) (S : Sound s) (cells : List ℤ) (p : Plain) (m : Means s cells p) (n : ℕ)
     (there : n < s.update_count) (long : length cells ≡ s.cells) (us : List ℤ) where
-  -- a held slot is matched exactly if its key is
-  pub matched-is : All (λ (x : ℕ). is_matched s cells (update_at s n) us x ≡ matches_key p n us (key_read (slot_key s.keys x))) (held_slots s.slots)
-  unfolding is_matched matches_key
-  matched-is =
+  abbrev u : Update
+  u = update_at s n
+
+  abbrev t : Table
+  t = table_at s u.table
+
+  table-there : u.table < s.table_count
+  table-there = update-table s T S n there
+
+  -- the rows that it pushes out
+  out-wide : All (λ (x : Row). (length x ≡ t.count) × (u.form ≡ 0)) (pushed_by s cells u)
+  out-wide = go (is_pushing t u) refl
+    where
+      go : (b : Bool) → is_pushing t u ≡ b → All (λ (x : Row). (length x ≡ t.count) × (u.form ≡ 0)) (cond b (take 1 (rows_at s cells u.table)) [])
+      go true e =
+          let z : u.form ≡ 0 = eqb-true u.form 0 (and_left (eqb u.form 0) _ (and_right t.ring _ e)) in
+          All-map (λ x w. (w, z)) (All-take 1 (used-wide t (start_of s u.table) cells))
+      go false e = nil
+
+  -- the columns of its table
+  width_is : t.count ≡ length (P.table_at p (P.update_at p n).table).schema.columns
+  width_is =
+      sym (columns-at s T S u.table table-there)
+      ∙ ap (λ (ts : List Schema). length (get_or ts u.table no_schema).columns) (sym (schemas-mean s T S cells p m))
+      ∙ ap (λ (t : Schema). length t.columns) (get_or-map (λ (t : P.Table). t.schema) p.tables u.table P.no_table)
+      ∙ ap (λ (i : ℕ). length (P.table_at p i).schema.columns) (update_agrees s T S cells p m n there).table_is
+
+  -- an answer under a key is dropped
+  abbrev dropped : ℕ → List ℤ → Bool
+  dropped q qs = drops (length (P.table_at p (P.update_at p n).table).schema.columns) (P.query_at p q) (P.update_at p n) (P.pushed_by p n) us qs
+
+  dropped-is : All (λ (x : ℕ). is_dropped s cells u us x ≡ dropped (slot_key s.keys x).query (values_of (slot_key s.keys x))) (held_slots s.slots)
+  unfolding is_dropped
+  dropped-is =
       All-map
       (λ x k.
-      mean (schemas_in s) (query_at s (slot_key s.keys x).query) (P.query_at p (slot_key s.keys x).query)
-      (query-agrees s T S cells p m (slot_key s.keys x).query k.there)
-      (update_at s n) (P.update_at p n) (update_agrees s T S cells p m n there)
-      (query-at s T S (slot_key s.keys x).query k.there) (update-at s T S n there) (pushed_by s cells (update_at s n)) us (values_of (slot_key s.keys x))
-      ∙ ap (λ (out : List Row). matches_two (P.query_at p (slot_key s.keys x).query) (P.update_at p n) out us (values_of (slot_key s.keys x)))
-      (pushed-is s T S cells p m n there long))
+      let q : ℕ = (slot_key s.keys x).query in
+      let qs : List ℤ = values_of (slot_key s.keys x) in
+      mean (schemas_in s) (query_at s q) (P.query_at p q) (query-agrees s T S cells p m q k.there) u (P.update_at p n) (update_agrees s T S cells p m n there)
+      (query-at s T S q k.there) (update-at s T S n there) t.count (sym (columns-at s T S u.table table-there)) (pushed_by s cells u) out-wide us qs
+      ∙ ap₂ (λ (c : ℕ) (out : List Row). drops c (P.query_at p q) (P.update_at p n) out us qs) width_is (pushed-is s T S cells p m n there long))
       S.keys
 
+  -- a held slot is dropped exactly if its key is
+  pub matched-is : All (λ (x : ℕ). is_dropped s cells u us x ≡ drops_key p n us (key_read (slot_key s.keys x))) (held_slots s.slots)
+  unfolding drops_key
+  matched-is = dropped-is
+
   abbrev test : ℕ → Bool
-  test = is_matched s cells (update_at s n) us
+  test = is_dropped s cells u us
 
   abbrev match : Key → Bool
-  match = matches_key p n us
+  match = drops_key p n us
 
   abbrev key_at : ℕ → Key
   key_at x = key_read (slot_key s.keys x)
@@ -87,7 +130,7 @@ module _ (mean : MatchesMean) (s : State) (T : Typed s) (S : Sound s) (cells : L
       ∙ sym (length-map (keep (λ x. match (key_at x)) (held_slots s.slots)) key_at)
       ∙ ap length (keep-map key_at match (held_slots s.slots) ∙ ap (keep match) (sym (keys_of (held_slots s.slots))))
 
-pub drops_exactly_matched : MatchesMean → DropsExactlyMatched
+pub drops_exactly_matched : DropsMean → DropsExactlyMatched
 unfolding step update_of settled update_done with_change
 drops_exactly_matched mean s n us p T h m = go (update_refusal s.state (length s.cells) (length s.memory) n (length us)) refl
   where
@@ -96,7 +139,7 @@ drops_exactly_matched mean s n us p T h m = go (update_refusal s.state (length s
         step_update s (settled k (update_done s.state s.cells (update_at s.state n) us) (updates (update_refused s.state k) s.cells))
 
     go : (k : ℕ) → update_refusal s.state (length s.cells) (length s.memory) n (length us) ≡ k → (after k).1.got.refusal ≡ 0
-        → (keys_held (after k).0 ≡ keep (λ (k : Key). not (matches_key p n us k)) (keys_held s)) × ((after k).1.drops ≡ count (matches_key p n us) (keys_held s))
+        → (keys_held (after k).0 ≡ keep (λ (k : Key). not (drops_key p n us k)) (keys_held s)) × ((after k).1.drops ≡ count (drops_key p n us) (keys_held s))
     go zero e z =
         let S : Sound s.state = sound-is s.state h in
         let r : refusal (lengths_lent s) p (P.change n us) ≡ 0 = sym (update-number s p T h m n us) ∙ e in

@@ -2,7 +2,7 @@
 -- left to be done. Assumes nothing.
 use Rattle.std.specs.Prelude.{Option, Some, None}
 use Rattle.pattern.proofs.Searching.{drop-next}
-use mathlib.Core.Path.{◌≡◌, refl, sym, ap, ◌∙◌}
+use mathlib.Core.Path.{◌≡◌, refl, sym, ap, ap₂, ◌∙◌}
 use mathlib.Core.Bool.{Bool, true, false, ◌&&◌, ◌||◌, cond, or-false}
 use mathlib.Core.List.{List, [], ◌∷◌, map}
 use Prim.Native.Nat.{ℕ, zero, suc, ◌+◌, ◌-◌, ◌≤◌, ◌<◌}
@@ -35,7 +35,7 @@ use Rattle.slots.specs.declared.SlotList.{SlotList}
 use Rattle.slots.specs.Keys.{slot_key}
 use Rattle.slots.specs.Order.{sound_slots, held_slots, is_marked}
 use Rattle.slots.proofs.Laws.{sound-is, held_below}
-use Rattle.cache.specs.Marks.{marked, marked_each, agrees_at, clause_at, clause_tests, query_marks, holds_answer, marks_over, marks_of, marks_both}
+use Rattle.cache.specs.Marks.{marked, marked_each, agrees_at, clause_at, clause_tests, query_marks, holds_answer, marks_over, marks_of, marks_judged, reached_at, marks_both}
 use Rattle.cache.specs.Calls.{is_pushing}
 use Rattle.cache.proofs.Marks.{no-mark, set-mark}
 
@@ -126,7 +126,7 @@ module _ (p : ℕ → Bool) (held : List ℕ) (marks₀ : List Bool) where
     marking-no e = rw e at turn
 
 -- a test that nothing passes marks nothing
-marked-none : (p : ℕ → Bool) → ((x : ℕ) → p x ≡ false) → (xs : List ℕ) (marks : List Bool) → marked p xs marks ≡ marks
+pub marked-none : (p : ℕ → Bool) → ((x : ℕ) → p x ≡ false) → (xs : List ℕ) (marks : List Bool) → marked p xs marks ≡ marks
 marked-none p f [] marks = refl
 marked-none p f (x ∷ xs) marks = marked-none p f xs _ ∙ ap (λ (b : Bool). cond b (set marks x true) marks) (f x)
 
@@ -231,47 +231,57 @@ used-many queries n used l f u = ap length u ∙ length-take-le n queries (omega
 pub query-at : (queries : List Query) (n q : ℕ) (d : Query) → length queries ≡ 16 → n ≤ 16 → q < n → get_or (take n queries) q d ≡ get_or queries q no_query
 query-at queries n q d l k h = get_or-take n queries q d h ∙ get_or-inside queries q d no_query (omega (arith, l))
 
--- ---- where no slot is held, nothing is marked
-
-module _ (keys : List Key) (s : SlotList) (queries : List Query) (h : s.held ≡ 0) where
-  none-holds : (q : ℕ) → holds_answer keys s q ≡ false
-  none-holds q = ap (λ (n : ℕ). any (λ (k : Key). eqb k.query q) (map (slot_key keys) (take n s.order))) h
-
-  marks-none : (n : ℕ) (u : Update) (us : List ℤ) (marks : List Bool) → marks_of keys s queries n u us marks ≡ marks
-  unfolding marks_of
-  marks-none n u us marks = go (from 0 n) marks
-    where
-      go : (qs : List ℕ) (marks : List Bool) → marks_over keys s queries u us qs marks ≡ marks
-      go [] marks = refl
-      go (q ∷ qs) marks = go qs _ ∙ ap (λ (b : Bool). cond b (query_marks keys s q (get_or queries q no_query) u us marks) marks) (none-holds q)
-
 -- ---- the update, and the removal of the row that it pushes out
 
 module _ (keys : List Key) (s : SlotList) (queries : List Query) (n : ℕ) (u : Update) (t : Table) (start : ℕ) (cells us : List ℤ) where
+  abbrev none : List Bool
+  none = replicate 64 false
+
+  abbrev gone : Update
+  gone = removal_of u.table t start cells
+
   abbrev over : Update → List Bool → List Bool
   over v marks = marks_of keys s queries n v us marks
+
+  -- of the slots matched those that an update reaches, beside others
+  abbrev reached : Update → List Bool → List Bool → List Bool
+  reached v matched marks = marked (reached_at keys queries t.count us v matched) (held_slots s) marks
 
   abbrev goal : List Bool
   goal = marks_both keys s queries n u t start cells us
 
   -- where none is held
-  pub none-goal : s.held ≡ 0 → replicate 64 false ≡ goal
+  pub none-goal : s.held ≡ 0 → none ≡ goal
   unfolding marks_both
-  none-goal h = sym (go (is_pushing t u))
+  none-goal h = go (is_pushing t u) ∙ sym (ap (λ (xs : List ℕ). at xs (is_pushing t u)) empty)
     where
-      none : (v : Update) (marks : List Bool) → over v marks ≡ marks
-      none v marks = marks-none keys s queries h n v us marks
+      matched : List Bool
+      matched = marks_judged keys s queries n u t start cells us
 
-      go : (b : Bool) → cond b (over (removal_of u.table t start cells) (over u (replicate 64 false))) (over u (replicate 64 false)) ≡ replicate 64 false
-      go true = none (removal_of u.table t start cells) _ ∙ none u _
-      go false = none u _
+      at : List ℕ → Bool → List Bool
+      at xs b =
+          marked (reached_at keys queries t.count us u matched) xs
+          (cond b (marked (reached_at keys queries t.count us gone matched) xs none) none)
 
-  module _ (marks : List Bool) (e : marks ≡ over u (replicate 64 false)) where
+      empty : held_slots s ≡ []
+      empty = ap (λ (k : ℕ). take k s.order) h
+
+      go : (b : Bool) → none ≡ at [] b
+      go true = refl
+      go false = refl
+
+  module _ (own : List Bool) (e : own ≡ over u none) where
     -- the row that goes out is judged too
-    pub both-goal : is_pushing t u ≡ true → over (removal_of u.table t start cells) marks ≡ goal
-    unfolding marks_both
-    both-goal p = ap (over (removal_of u.table t start cells)) e ∙ sym (ap (λ (b : Bool). cond b (over (removal_of u.table t start cells) (over u (replicate 64 false))) (over u (replicate 64 false))) p)
+    pub both-goal : (both dropped : List Bool) → both ≡ over gone own → dropped ≡ reached gone both none → is_pushing t u ≡ true → reached u both dropped ≡ goal
+    unfolding marks_both marks_judged
+    both-goal both dropped f g p =
+        let same : both ≡ cond (is_pushing t u) (over gone (over u none)) (over u none) = f ∙ ap (over gone) e ∙ sym (ap (λ (b : Bool). cond b (over gone (over u none)) (over u none)) p) in
+        ap₂ (reached u) same
+        (g ∙ ap (λ (marks : List Bool). reached gone marks none) same
+        ∙ sym (ap (λ (b : Bool). cond b (reached gone (cond (is_pushing t u) (over gone (over u none)) (over u none)) none) none) p))
 
-    pub own-goal : is_pushing t u ≡ false → marks ≡ goal
-    unfolding marks_both
-    own-goal p = e ∙ sym (ap (λ (b : Bool). cond b (over (removal_of u.table t start cells) (over u (replicate 64 false))) (over u (replicate 64 false))) p)
+    pub own-goal : is_pushing t u ≡ false → reached u own none ≡ goal
+    unfolding marks_both marks_judged
+    own-goal p =
+        let same : own ≡ cond (is_pushing t u) (over gone (over u none)) (over u none) = e ∙ sym (ap (λ (b : Bool). cond b (over gone (over u none)) (over u none)) p) in
+        ap₂ (reached u) same (sym (ap (λ (b : Bool). cond b (reached gone (cond (is_pushing t u) (over gone (over u none)) (over u none)) none) none) p))

@@ -98,7 +98,7 @@ marked-at n p (x ∷ xs) marks y h l =
 
 -- of the members of the list those are marked that pass one of the tests
 module _ (n : ℕ) (xs : List ℕ) (h : All (λ x. x < n) xs) (y : ℕ) (m : Member y xs) where
-  marked-one : (p : ℕ → Bool) (marks : List Bool) → length marks ≡ n → is_marked (marked p xs marks) y ≡ (is_marked marks y || p y)
+  pub marked-one : (p : ℕ → Bool) (marks : List Bool) → length marks ≡ n → is_marked (marked p xs marks) y ≡ (is_marked marks y || p y)
   marked-one p marks l =
       marked-at n p xs marks y h l
       ∙ ap (λ (b : Bool). is_marked marks y || b) (any-equal p y xs ∙ ap (λ (b : Bool). p y && b) (any-member y m) ∙ and-true (p y))

@@ -16,7 +16,7 @@ use Rattle.lists.proofs.Lists.{All-head, All-right, All-map, All-every, All-get_
 use Rattle.meaning.specs.Key.{Key, same_key}
 use Rattle.meaning.specs.Limits.{most_slots, most_marks}
 use Rattle.meaning.specs.Plain as P
-use Rattle.meaning.specs.Plain.{Lengths, Plain, other_lengths, refusal, record_of, rows_read, matches_key, Out, refused, answered, does, guard, or_else}
+use Rattle.meaning.specs.Plain.{Lengths, Plain, other_lengths, refusal, record_of, rows_read, drops_key, Out, refused, answered, does, guard, or_else}
 use Rattle.meaning.proofs.Accepted.{Asked, key-asked}
 use Rattle.trace.specs.History.{fits}
 use Rattle.trace.specs.Slots.{Held, find, put}
@@ -26,7 +26,7 @@ use Rattle.statement.specs.Compiled.{Compiled}
 use Rattle.statement.specs.Compiled.{no_update}
 use Rattle.statement.proofs.SoundQuery.{query-parts}
 use Rattle.table.proofs.ChangedMeans.{cells-length}
-use Rattle.pattern.proofs.Laws.{sound-few, judged-mean}
+use Rattle.pattern.proofs.Reached.{drops-mean}
 use Rattle.slots.specs.Keys.{Found}
 use Rattle.std.specs.Prelude.{Some, None}
 use Rattle.slots.specs.Keys.{key_of, slot_has}
@@ -36,7 +36,7 @@ use Rattle.cache.specs.declared.State.{State}
 use Rattle.cache.specs.Calls.{Added}
 use Rattle.cache.specs.Sound.{sound_state, length_at, query_at}
 use Rattle.cache.specs.Means.{Means, Typed}
-use Rattle.cache.specs.Calls.{settled, added_of, added_by, add_refusal, add_of, compiled_beside, add_refused, Asks, asks, ask_refused, ask_refusal, with_cache, bytes_at, ask_cached, record_at, new_refusal, newly, ask_new, ask_found, found_in, ask_of, Updates, updates, update_at, update_refused, update_refusal, is_matched, with_change, update_done, update_of, unfit, emptied, flush_of}
+use Rattle.cache.specs.Calls.{settled, added_of, added_by, add_refusal, add_of, compiled_beside, add_refused, Asks, asks, ask_refused, ask_refusal, with_cache, bytes_at, ask_cached, record_at, new_refusal, newly, ask_new, ask_found, found_in, ask_of, Updates, updates, update_at, update_refused, update_refusal, is_dropped, with_change, update_done, update_of, unfit, emptied, flush_of}
 use Rattle.cache.specs.Run.{Store, Call, add, ask, update, flush, Got, Seen, step_ask, step_update, step_flush, step, plain_call, buffer_of, got_of}
 use Rattle.cache.specs.Demand.{lengths_lent}
 use Rattle.cache.proofs.Sounds.{Sound, sound-is, held_below, held-sound, query-at}
@@ -44,7 +44,7 @@ use Rattle.cache.proofs.Meanings.{query-count, query-agrees}
 use Rattle.cache.proofs.Asking.{cache-means, read_asked, record_is, ask-number, new-number}
 use Rattle.cache.proofs.Updating.{update-there, update-long}
 use Rattle.cache.proofs.Plainly.{does_as_plain}
-use Rattle.cache.proofs.Dropping.{MatchesMean, matched-is}
+use Rattle.cache.proofs.Dropping.{DropsMean, matched-is}
 use Rattle.cache.proofs.Model.{held_in, cache_of}
 use Rattle.cache.proofs.Finds.{as_key, find-held, find-missed}
 use Rattle.cache.proofs.Caches.{cached-front, cached-drop, cached-put, kept-is, bytes-long, kept-long}
@@ -248,8 +248,8 @@ module _ (s : Store) (p : Plain) (Ty : Typed s.state) (h : sound_state s.state �
 -- ---- a text, an update, a flush: what they get, and the plain store after them, is known
 
 -- what crate `pattern` states of sound statements
-pub patterns-mean : MatchesMean
-patterns-mean ts q r A u s B h k out us qs = judged-mean q r A u s B (sound-few ts q u h k) out us qs
+pub patterns-mean : DropsMean
+patterns-mean = drops-mean
 
 module _ (s : Store) (p : Plain) (Ty : Typed s.state) (h : sound_state s.state ≡ true)
     (m : Means s.state s.cells p) where
@@ -317,12 +317,12 @@ module _ (s : Store) (p : Plain) (Ty : Typed s.state) (h : sound_state s.state �
 
     drops-meet : refusal lent p (P.change n us) ≡ 0 → (step_update s done).1.got ≡ got_of [] (does p (P.change n us)).1
         → Means done.result.state done.cells (does p (P.change n us)).0
-        → Meets s [] (step_update s done) (dropping lent bytes (model_of s p) (P.change n us) (matches_key p n us))
+        → Meets s [] (step_update s done) (dropping lent bytes (model_of s p) (P.change n us) (drops_key p n us))
     unfolding update_done with_change
     drops-meet e g M = record {
       means = M;
       cached =
-          sym (cached-drop s.state Ty (sound-is s.state h) s.memory (is_matched s.state s.cells (update_at s.state n) us) (matches_key p n us) (matched-is patterns-mean s.state Ty (sound-is s.state h) s.cells p m n (update-there s p Ty h m n us e) (update-long s p Ty h m n us e) us));
+          sym (cached-drop s.state Ty (sound-is s.state h) s.memory (is_dropped s.state s.cells (update_at s.state n) us) (drops_key p n us) (matched-is patterns-mean s.state Ty (sound-is s.state h) s.cells p m n (update-there s p Ty h m n us e) (update-long s p Ty h m n us e) us));
       cells_long = cells-length (update_at s.state n) _ _ s.cells us (eight n);
       memory_long = refl;
       bytes_same = refl;
@@ -333,7 +333,7 @@ module _ (s : Store) (p : Plain) (Ty : Typed s.state) (h : sound_state s.state �
 
     by_number : (j k : ℕ) → refusal lent p (P.change n us) ≡ k → (step_update s (outcome j)).1.got ≡ got_of [] (guard k p refused (does p (P.change n us))).1
         → Means (outcome j).result.state (outcome j).cells (guard k p refused (does p (P.change n us))).0
-        → Meets s [] (step_update s (outcome j)) (guard k (model_of s p) turned (dropping lent bytes (model_of s p) (P.change n us) (matches_key p n us)))
+        → Meets s [] (step_update s (outcome j)) (guard k (model_of s p) turned (dropping lent bytes (model_of s p) (P.change n us) (drops_key p n us)))
     unfolding settled update_done
     by_number zero zero e g M = drops-meet e g M
     by_number zero (suc k) e g M = one-zero k (ap (λ (x : Got). x.refusal) g)

@@ -25,7 +25,7 @@ use Rattle.table.proofs.ChangedMeans.{after-few, change-starts}
 use Rattle.slots.specs.Order.{drop_by}
 use Rattle.cache.specs.declared.State.{State}
 use Rattle.cache.specs.Sound.{used_tables, areas_of, used_queries, used_updates, schemas_in, start_fits}
-use Rattle.cache.specs.Calls.{with_cache, start_of, table_at, update_at, update_conditions, update_refusal, is_matched, with_rows, with_change, update_done}
+use Rattle.cache.specs.Calls.{with_cache, start_of, table_at, update_at, update_conditions, update_refusal, is_dropped, with_rows, with_change, update_done}
 use Rattle.cache.specs.Means.{Typed}
 use Rattle.cache.specs.Run.{Store, update, step}
 use Rattle.cache.proofs.Sounds.{Sound, rows_at, start-at, update-at, schemas-long}
@@ -106,7 +106,7 @@ module _ (s : Store) (number : ℕ) (values : List ℤ) (T : Typed s.state) (S :
   u = update_at st number
 
   abbrev test : ℕ → Bool
-  test = is_matched st s.cells u values
+  test = is_dropped st s.cells u values
 
   -- the state with the answers dropped
   abbrev dropped : State

@@ -24,7 +24,7 @@ use Rattle.slots.proofs.Fronts.{front_length}
 use Rattle.slots.proofs.Laws.{drop-length}
 use Rattle.cache.specs.declared.State.{State}
 use Rattle.cache.specs.Sound.{opening}
-use Rattle.cache.specs.Calls.{empty_state, added_table, added_query, added_update, compiled_beside, record_at, is_matched, with_cache, put_in, table_at, update_at, with_rows, with_change, update_done}
+use Rattle.cache.specs.Calls.{empty_state, added_table, added_query, added_update, compiled_beside, record_at, is_dropped, with_cache, put_in, table_at, update_at, with_rows, with_change, update_done}
 use Rattle.cache.specs.Means.{Typed}
 use Rattle.cache.specs.Run.{Store, Start, opening_of, opened, Call, add, ask, update, flush, step}
 use Rattle.cache.proofs.StaysCases.{by-opened, by-add, by-ask, by-update, by-flush}
@@ -163,7 +163,7 @@ step_typed s (ask n vs buffer) T =
 step_typed s (update n vs) T =
     let st : State = s.state in
     by-update Typed s T n vs
-    (λ a. change-typed st T (update_at st n).table _ _ (rows-typed st T (update_at st n).table _ _) (drop-length st.slots (is_matched st s.cells (update_at st n) vs)))
+    (λ a. change-typed st T (update_at st n).table _ _ (rows-typed st T (update_at st n).table _ _) (drop-length st.slots (is_dropped st s.cells (update_at st n) vs)))
 step_typed s flush T =
     let st : State = s.state in
     by-flush Typed s T (cache-typed st T _ st.keys st.lengths (drop-length st.slots (λ x. true)) refl refl T.keys_fit)

@@ -32,7 +32,7 @@ use Rattle.cache.specs.declared.Effect.{Effect}
 use Rattle.cache.specs.Sound.{areas_of, used_tables, sound_state, schemas_in}
 use Rattle.cache.specs.Marks.{marks_both}
 use Rattle.cache.specs.Outcomes.{Effective, no_effect, effect_of}
-use Rattle.cache.specs.Calls.{settled, table_at, start_of, update_at, Updates, updates, update_conditions, update_refusal, is_matched, with_rows, with_change, update_refused, update_done, update_of}
+use Rattle.cache.specs.Calls.{settled, table_at, start_of, update_at, Updates, updates, update_conditions, update_refusal, is_dropped, with_rows, with_change, update_refused, update_done, update_of}
 use Rattle.cache.proofs.Sounds.{Sound, sound-is, All-first}
 use Rattle.cache.proofs.Settled.{settled-refused, settled-done, fit_is}
 use Rattle.cache.proofs.Pushing.{first-row}
@@ -129,7 +129,7 @@ cells-done u t cells us k z start from es after e = e ∙ ap (λ (i : ℕ). cell
 module _ (s : State) (L : Long s) (h : sound_state s ≡ true) (long : length s.slots.order ≡ most_slots) (u : Update) (k : u.table < s.table_count) (cells values : List ℤ) (lent : length cells ≡ s.cells)
     (t : Table) (et : t ≡ table_at s u.table) where
   abbrev test : ℕ → Bool
-  test = is_matched s cells u values
+  test = is_dropped s cells u values
 
   abbrev start : ℕ
   start = start_of s u.table

@@ -30,7 +30,7 @@ use Rattle.slots.specs.Order.{drop_by}
 use Rattle.cache.specs.declared.State.{State}
 use Rattle.cache.specs.Sound.{used_tables, areas_of, sound_state, schemas_in}
 use Rattle.cache.specs.Means.{tables_from, Means, Typed}
-use Rattle.cache.specs.Calls.{start_of, table_at, updates, update_at, is_full, update_refusal, pushed_by, is_matched, with_rows, with_change, update_refused, update_done, update_of}
+use Rattle.cache.specs.Calls.{start_of, table_at, updates, update_at, is_full, update_refusal, pushed_by, is_dropped, with_rows, with_change, update_refused, update_done, update_of}
 use Rattle.cache.specs.Run.{Store, got_of, step_update, step}
 use Rattle.cache.specs.Run as R
 use Rattle.cache.specs.Demand.{lengths_lent}
@@ -209,7 +209,7 @@ module _ (s : Store) (p : Plain) (T : Typed s.state) (h : sound_state s.state â‰
     unfolding update_done
     done-same = (
       ap (Î» k. got_of [] (rows k)) (count_is s.state T S s.cells p m n update-there update-long us taken.room),
-      change-stands s.state T S s.cells p m n update-there update-long us taken.room (drop_by (is_matched s.state s.cells (update_at s.state n) us) s.state.slots),
+      change-stands s.state T S s.cells p m n update-there update-long us taken.room (drop_by (is_dropped s.state s.cells (update_at s.state n) us) s.state.slots),
     )
 
   pub update_same : Same [] (step s (R.update n us)) (P.step (lengths_lent s) p (change n us))

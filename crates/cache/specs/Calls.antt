@@ -15,7 +15,7 @@ use Rattle.statement.specs.Compiled.{no_table, no_query, no_update, update_struc
 use Rattle.statement.specs.Sound.{second_read}
 use Rattle.table.specs.Evaluated.{rows_used, passes_stored, pairs_read, answer_stored, record_stored}
 use Rattle.table.specs.Changed.{change_of, cells_after}
-use Rattle.pattern.specs.Stored.{matches_stored}
+use Rattle.pattern.specs.Stored.{matches_stored, reaches_stored}
 use Rattle.slots.specs.declared.Key.{Key}
 use Rattle.slots.specs.Keys.{Found}
 use Rattle.std.specs.Prelude.{Some, None}
@@ -385,11 +385,14 @@ pushed_by s cells u = cond (is_pushing (table_at s u.table) u) (take 1 (rows_at 
 abbrev pub judged : State → List ℤ → Update → List Update
 judged s cells u = u ∷ map (λ (r : List ℤ). update_struct (removal u.table r)) (pushed_by s cells u)
 
--- "A kept answer is dropped when a pattern, filled with the update's values, agrees with its key": that of the slot x
-unfoldable pub is_matched : State → List ℤ → Update → List ℤ → ℕ → Bool
-is_matched s cells u values x =
+-- "A kept answer is dropped when a pattern, filled with the update's values, agrees with its key": that of the slot x; A.7: and the update, or the row that it pushes out,
+-- reaches it
+unfoldable pub is_dropped : State → List ℤ → Update → List ℤ → ℕ → Bool
+is_dropped s cells u values x =
     let k = slot_key s.keys x in
-    any (λ (v : Update). matches_stored (query_at s k.query) v values (values_of k)) (judged s cells u)
+    let q = query_at s k.query in
+    any (λ (v : Update). matches_stored q v values (values_of k)) (judged s cells u)
+    && any (λ (v : Update). reaches_stored (table_at s u.table).count q v values (values_of k)) (judged s cells u)
 
 -- the table with so many rows in use, the oldest of them at that place
 abbrev pub with_rows : Table → ℕ → ℕ → Table
@@ -423,8 +426,8 @@ update_done s cells u values =
       result = record {
         refusal = 0;
         rows = c.count;
-        invalidated = count (is_matched s cells u values) (held_slots s.slots);
-        state = with_change s u.table (with_rows t c.rows c.oldest) (drop_by (is_matched s cells u values) s.slots);
+        invalidated = count (is_dropped s cells u values) (held_slots s.slots);
+        state = with_change s u.table (with_rows t c.rows c.oldest) (drop_by (is_dropped s cells u values) s.slots);
       };
       cells = cells_after u t (start_of s u.table) cells values;
     }

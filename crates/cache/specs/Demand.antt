@@ -10,7 +10,7 @@ use Rattle.meaning.specs.Grammar.{items, Sentence, spell}
 use Rattle.meaning.specs.Names.{Schema, unknown, taken, miscounted, twice}
 use Rattle.meaning.specs.Statement.{creates, asks, changes, statement_of}
 use Rattle.meaning.specs.Plain as P
-use Rattle.meaning.specs.Plain.{Plain, schemas, Opening, opening_refused, record_of, matches_key}
+use Rattle.meaning.specs.Plain.{Plain, schemas, Opening, opening_refused, record_of, drops_key}
 use Rattle.trace.specs.History.{Event, history, fits, Answered, hits, since, Filled, Ground}
 use Rattle.statement.specs.Catalog.{catalog}
 use Rattle.statement.specs.Compiled.{text_conditions}
@@ -198,15 +198,16 @@ KeptAnswer = (s : Store) (k : Key) (buffer : List ℕ) → Typed s.state → sou
     → let r : Seen = (step s (ask k.query k.values buffer)).1 in
     r.got.refusal ≡ 0 → r.kept ≢ 0 → ItsSlotsBytes s k buffer r
 
--- "The kept answers an update drops are exactly those matched by the patterns"
+-- "The kept answers an update drops are exactly those matched by the patterns"; A.7: under its premises "a matched answer is dropped exactly if some row of 32-bit numbers .. through
+-- the update, enters or leaves what the question takes, or is taken before and after and alters in a selected column" (`Plain.drops_key`, `Exact.drops`)
 abbrev pub keys_held : Store → List Key
 keys_held s = keys_in s.state
 
 abbrev pub DropsExactlyMatched : Type 0
 DropsExactlyMatched = (s : Store) (n : ℕ) (us : List ℤ) (p : Plain) → Typed s.state → sound_state s.state ≡ true → Means s.state s.cells p
     → (step s (update n us)).1.got.refusal ≡ 0
-    → (keys_held (step s (update n us)).0 ≡ keep (λ (k : Key). not (matches_key p n us k)) (keys_held s))
-    × ((step s (update n us)).1.drops ≡ count (matches_key p n us) (keys_held s))
+    → (keys_held (step s (update n us)).0 ≡ keep (λ (k : Key). not (drops_key p n us k)) (keys_held s))
+    × ((step s (update n us)).1.drops ≡ count (drops_key p n us) (keys_held s))
 
 -- "flush (drop every kept answer)"; "Drops put held slots first and free ones after, each in the order they had."
 abbrev pub FlushDropsAll : Type 0
@@ -217,14 +218,21 @@ FlushDropsAll = (s : Store) → (step s flush).1.got.refusal ≡ 0 → (keys_hel
 -- the count of rows inserted, matched or deleted that the same call gets from the plain store of document 01, which keeps no answer, and after the list the tables hold
 -- the same rows as that store's."
 
+-- the values of a call have 32 bits, as their type says: of the calls of a list, where a claim needs it, and never of the one after them
+abbrev pub Values32 : Call → Type 0
+Values32 (add text) = Unit {0}
+Values32 (ask n vs buffer) = All Is32 vs
+Values32 (update n vs) = All Is32 vs
+Values32 flush = Unit {0}
+
 abbrev pub SameAsPlain : Type 0
-SameAsPlain = (o : Start) (cs : List Call)
+SameAsPlain = (o : Start) (cs : List Call) → All Values32 cs
     → (map (λ (x : Seen). x.got) (gets (opened o) cs) ≡ plain_gets (opening_of o).lent (P.opened (opening_of o)) cs)
     × (tables_in (after (opened o) cs).state (after (opened o) cs).cells ≡ (plain_after o cs).tables)
 
 -- "In every such list a question with its values is worked out anew only if it was never answered since opening, its record doesn't fit a slot, a matching update or a
 -- flush came since its last answer, or at least as many different others as there are slots were answered since." The number of slots is the opening's, 0 if it was
--- refused.
+-- refused. A.7: "Such a question is then worked out anew for such an update only where this rule drops it, or would if it were kept.": an update is a ground by `Plain.drops_key` alone.
 
 abbrev pub slot_count : Start → ℕ
 slot_count o = cond (opening_refused (opening_of o)) 0 o.slots
@@ -239,7 +247,7 @@ abbrev pub next_ask : Start → List Call → Key → List ℕ → Seen
 next_ask o cs k buffer = (step (after (opened o) cs) (ask k.query k.values buffer)).1
 
 abbrev pub AnewOnlyIf : Type 0
-AnewOnlyIf = (o : Start) (cs : List Call) (k : Key) (buffer : List ℕ) → (next_ask o cs k buffer).got.refusal ≡ 0 → (next_ask o cs k buffer).kept ≡ 0
+AnewOnlyIf = (o : Start) (cs : List Call) → All Values32 cs → (k : Key) (buffer : List ℕ) → (next_ask o cs k buffer).got.refusal ≡ 0 → (next_ask o cs k buffer).kept ≡ 0
     → Ground same_key (slot_count o) (slot_size o) (record_of (plain_after o cs) k) k (past o cs)
 
 -- All of demand 3, as one claim about the whole list
@@ -255,7 +263,7 @@ pub record Demand3 (o : Start) (cs : List Call) : Type 0 where
       → Ground same_key (slot_count o) (slot_size o) (record_of (plain_after o before) k) k (past o before)
 
 abbrev pub ThirdDemand : Type 0
-ThirdDemand = (o : Start) (cs : List Call) → Demand3 o cs
+ThirdDemand = (o : Start) (cs : List Call) → All Values32 cs → Demand3 o cs
 
 -- Demand 2 in such a list: the plain store of the list is the one that the state stands for, and the kept answers that an update drops are those that it matches there
 abbrev pub StandsInList : Type 0
@@ -266,13 +274,13 @@ DropsInList = (o : Start) (cs : List Call) (n : ℕ) (us : List ℤ)
     → let s : Store = after (opened o) cs in
     let p : Plain = plain_after o cs in
     (step s (update n us)).1.got.refusal ≡ 0
-    → (keys_held (step s (update n us)).0 ≡ keep (λ (k : Key). not (matches_key p n us k)) (keys_held s))
-    × ((step s (update n us)).1.drops ≡ count (matches_key p n us) (keys_held s))
+    → (keys_held (step s (update n us)).0 ≡ keep (λ (k : Key). not (drops_key p n us k)) (keys_held s))
+    × ((step s (update n us)).1.drops ≡ count (drops_key p n us) (keys_held s))
 
 -- The converse, by the slot rules: a question that was answered before, whose record fits, with no matching update or flush since, and with fewer different others than
 -- there are slots answered since with records that fit, is kept.
 abbrev pub KeptOtherwise : Type 0
-KeptOtherwise = (o : Start) (cs : List Call) (k : Key) (buffer : List ℕ) → (next_ask o cs k buffer).got.refusal ≡ 0 → Answered k (past o cs)
+KeptOtherwise = (o : Start) (cs : List Call) → All Values32 cs → (k : Key) (buffer : List ℕ) → (next_ask o cs k buffer).got.refusal ≡ 0 → Answered k (past o cs)
     → fits (slot_size o) (record_of (plain_after o cs) k) ≡ true → any (hits k) (since same_key k (past o cs)) ≡ false
     → ¬ Filled (slot_size o) (slot_count o) k (since same_key k (past o cs)) → (next_ask o cs k buffer).kept ≡ 1
 
@@ -285,13 +293,6 @@ RowsRead = (o : Start) (cs : List Call) (k : Key) (buffer : List ℕ) → (next_
 
 -- Demand 2, "A new answer, and under 3's premises a kept one, holds exactly the rows, in order, that the SQL meaning set down there gives, and its record reads back as
 -- those rows": the answer buffer of every question that is answered, with whatever stands behind the record.
-
--- the values of a call have 32 bits, as their type says
-abbrev pub Values32 : Call → Type 0
-Values32 (add text) = Unit {0}
-Values32 (ask n vs buffer) = All Is32 vs
-Values32 (update n vs) = All Is32 vs
-Values32 flush = Unit {0}
 
 abbrev pub AnswerReadsBack : Type 0
 AnswerReadsBack = (o : Start) (cs : List Call) → All Values32 cs → (k : Key) (buffer : List ℕ) → (next_ask o cs k buffer).got.refusal ≡ 0

@@ -18,17 +18,17 @@ use Rattle.statement.specs.Sound.{condition_nodes, sound_condition, sound_condit
 use Rattle.table.specs.Evaluated.{answer_stored, meets_stored}
 use Rattle.table.specs.Changed.{area_fits, cells_after, change_of, changed_of, count_after, fits, laid, oldest_after}
 use Rattle.soundness.specs.Soundness.{tables_sound, queries_sound, updates_sound}
-use Rattle.pattern.specs.Stored.{all_any, clauses_read, is_formed, joint_clauses, matches_stored, patterns_stored, relevant, start_read}
+use Rattle.pattern.specs.Stored.{all_any, affects_stored, clauses_read, is_formed, joint_clauses, matches_stored, patterns_stored, reaches_stored, relevant, separate_stored, start_read}
 use Rattle.slots.specs.Keys.{same_key, key_of, slot_has, find_of, held_twice}
 use Rattle.slots.specs.Order.{slots_of, sound_slots, front_of, drop_by, open_of as slots_open}
 use Rattle.cache.specs.Sound.{opening, sound_tables, sound_answers, sound_state}
 use Rattle.cache.specs.declared.State.{State}
-use Rattle.cache.specs.Calls.{settled, unfit, empty_state, open_of, added_by, add_refusal, add_of, ask_refusal, with_cache, ask_cached, kept, kept_memory, record_at, too_many, new_refusal, ask_new, ask_of, update_refusal, is_matched, with_change, update_done, update_of, flush_of}
+use Rattle.cache.specs.Calls.{settled, unfit, empty_state, open_of, added_by, add_refusal, add_of, ask_refusal, with_cache, ask_cached, kept, kept_memory, record_at, too_many, new_refusal, ask_new, ask_of, update_refusal, is_dropped, with_change, update_done, update_of, flush_of}
 use Rattle.cache.specs.Run.{Start, opened, Call, add, ask, update, flush, Seen, step, after, gets, got_of}
 
 -- what the computations open
 unfoldable pub computing : Unit {0}
-unfolding is_name_byte is_word_byte decimal is_name word negative token_from first_token scan tokens a_condition a_sentence read past_limit unknown taken miscounted twice statement_of body encode stored opening_refused no_place compiled_of struct_of condition_nodes sound_condition sound_condition_on sound_query sound_table sound_update answer_stored meets_stored area_fits cells_after change_of changed_of count_after fits laid oldest_after tables_sound queries_sound updates_sound contradictory class entry all_any clauses_read is_formed joint_clauses matches_stored patterns_stored relevant start_read same_key key_of slot_has find_of held_twice sound_slots front_of slots_open sound_tables sound_answers sound_state settled unfit empty_state open_of added_by add_refusal add_of ask_refusal with_cache ask_cached kept kept_memory record_at too_many new_refusal ask_new ask_of update_refusal is_matched drop_by with_change update_done update_of flush_of step
+unfolding is_name_byte is_word_byte decimal is_name word negative token_from first_token scan tokens a_condition a_sentence read past_limit unknown taken miscounted twice statement_of body encode stored opening_refused no_place compiled_of struct_of condition_nodes sound_condition sound_condition_on sound_query sound_table sound_update answer_stored meets_stored area_fits cells_after change_of changed_of count_after fits laid oldest_after tables_sound queries_sound updates_sound contradictory class entry affects_stored all_any clauses_read is_formed joint_clauses matches_stored patterns_stored reaches_stored relevant separate_stored start_read same_key key_of slot_has find_of held_twice sound_slots front_of slots_open sound_tables sound_answers sound_state settled unfit empty_state open_of added_by add_refusal add_of ask_refusal with_cache ask_cached kept kept_memory record_at too_many new_refusal ask_new ask_of update_refusal is_dropped drop_by with_change update_done update_of flush_of step
 computing = tt
 
 -- 4,096 cells, 256 bytes of kept memory, 4 slots of 64 bytes
@@ -212,6 +212,35 @@ pub one-is : gets (opened desk)
     ∷ []
 unfolding computing
 one-is = refl
+
+-- A.7: no level below 50 that becomes 60, nor a new one of 45, enters or leaves the levels above 100, though the patterns match; one that becomes 101 does
+pub spared-is : gets (opened desk)
+    (ADD "TABLE stage (site, level) ROWS 3"
+    ∷ ADD "INSERT INTO stage VALUES (?, ?)"
+    ∷ ADD "SELECT site FROM stage WHERE level > ?"
+    ∷ ADD "UPDATE stage SET level = ? WHERE level < 50"
+    ∷ DO 0 (7 ∷ 40 ∷ [])
+    ∷ ASK 0 (100 ∷ [])
+    ∷ DO 1 (60 ∷ [])
+    ∷ DO 0 (8 ∷ 45 ∷ [])
+    ∷ ASK 0 (100 ∷ [])
+    ∷ DO 1 (101 ∷ [])
+    ∷ ASK 0 (100 ∷ [])
+    ∷ [])
+    ≡ plain (added a_table 0)
+    ∷ plain (added an_update 0)
+    ∷ plain (added a_query 0)
+    ∷ plain (added an_update 1)
+    ∷ plain (rows 1)
+    ∷ new [] 1
+    ∷ plain (rows 1)
+    ∷ plain (rows 1)
+    ∷ old []
+    ∷ line [] (rows 1) 0 0 1
+    ∷ new (8 ∷ []) 2
+    ∷ []
+unfolding computing
+spared-is = refl
 
 -- A.5: an inserted null drops the answer to IS NULL, which lists it then, and no other; the key of null is found again
 pub null_is : gets (opened desk)

@@ -1,6 +1,6 @@
 -- Which held slots an update invalidates, as the code marks them beside those that are marked already: each joint clause of a query and the update once, and beside it every held key of that query.
--- proofs/Marks shows that the slots marked are those whose key the update matches. Assumes nothing: these are definitions.
-use Rattle.std.specs.Prelude.{Option, Bool, true, false, ◌&&◌, cond, List, [], ◌∷◌, map, ℕ, eqb, ℤ, get_or, set, replicate}
+-- proofs/Marks shows that the slots marked are those whose key the update matches, and proofs/DropsMarked that of them those are dropped whose answer it reaches. Assumes nothing: these are definitions.
+use Rattle.std.specs.Prelude.{Option, Bool, true, false, ◌&&◌, cond, List, [], ◌∷◌, map, ℕ, ◌%◌, eqb, ℤ, get_or, set, replicate}
 use Rattle.lists.specs.Lists.{any, from}
 use Rattle.statement.specs.declared.Table.{Table}
 use Rattle.statement.specs.declared.Query.{Query}
@@ -8,11 +8,11 @@ use Rattle.statement.specs.declared.Update.{Update}
 use Rattle.statement.specs.Compiled.{no_query}
 use Rattle.table.specs.Changed.{removal_of}
 use Rattle.pattern.specs.declared.Pattern.{Pattern}
-use Rattle.pattern.specs.Stored.{clause_total, pattern_at, agrees_stored, clause_agrees}
+use Rattle.pattern.specs.Stored.{clause_total, pattern_at, agrees_stored, clause_agrees, reaches_stored}
 use Rattle.slots.specs.declared.Key.{Key}
 use Rattle.slots.specs.declared.SlotList.{SlotList}
 use Rattle.slots.specs.Keys.{values_of, slot_key, held_keys}
-use Rattle.slots.specs.Order.{held_slots}
+use Rattle.slots.specs.Order.{held_slots, is_marked}
 use Rattle.cache.specs.Calls.{is_pushing}
 
 -- marks with those members of a list marked that pass the test
@@ -53,8 +53,28 @@ marks_over keys s queries u us (q ∷ qs) marks =
 unfoldable pub marks_of : List Key → SlotList → List Query → ℕ → Update → List ℤ → List Bool → List Bool
 marks_of keys s queries n u us marks = marks_over keys s queries u us (from 0 n) marks
 
--- the marks of an update of the table t, whose area starts there: its own and, where it pushes a row out, beside them those of the removal of that row
-unfoldable pub marks_both : List Key → SlotList → List Query → ℕ → Update → Table → ℕ → List ℤ → List ℤ → List Bool
-marks_both keys s queries n u t start cells us =
+-- the matches of an update of the table t, whose area starts there: its own and, where it pushes a row out, beside them those of the removal of that row
+unfoldable pub marks_judged : List Key → SlotList → List Query → ℕ → Update → Table → ℕ → List ℤ → List ℤ → List Bool
+marks_judged keys s queries n u t start cells us =
     let marks = marks_of keys s queries n u us (replicate 64 false) in
     cond (is_pushing t u) (marks_of keys s queries n (removal_of u.table t start cells) us marks) marks
+
+-- ---- A.7: of the slots matched those are dropped whose answer is reached
+
+-- the update reaches the answer in the slot x, in a table of so many columns
+abbrev pub reaches_at : List Key → List Query → ℕ → List ℤ → Update → ℕ → Bool
+reaches_at keys queries width us v x =
+    let k = slot_key keys x in
+    reaches_stored width (get_or queries (k.query % 16) no_query) v us (values_of k)
+
+-- and the slot is matched
+abbrev pub reached_at : List Key → List Query → ℕ → List ℤ → Update → List Bool → ℕ → Bool
+reached_at keys queries width us v matched x = is_marked matched x && reaches_at keys queries width us v x
+
+-- the slots matched that the update reaches, or the removal where it pushes a row out
+unfoldable pub marks_both : List Key → SlotList → List Query → ℕ → Update → Table → ℕ → List ℤ → List ℤ → List Bool
+marks_both keys s queries n u t start cells us =
+    let matched = marks_judged keys s queries n u t start cells us in
+    let none = replicate 64 false in
+    let out = marked (reached_at keys queries t.count us (removal_of u.table t start cells) matched) (held_slots s) none in
+    marked (reached_at keys queries t.count us u matched) (held_slots s) (cond (is_pushing t u) out none)

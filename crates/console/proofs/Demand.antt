@@ -16,7 +16,7 @@ use Rattle.std.specs.Prelude.{Some, None}
 use Rattle.cache.specs.declared.State.{State}
 use Rattle.cache.specs.Calls.{Asked}
 use Rattle.cache.specs.Calls.{settled, Asks, asks, ask_refusal, cached_length, ask_cached, new_refusal, ask_new, ask_found, found_in, ask_of}
-use Rattle.cache.specs.Run.{Store, opening_of, opened, Call, add, ask, update, flush, Got, Seen, step, after, gets, plain_call, buffer_of, got_of, plain_gets}
+use Rattle.cache.specs.Run.{Store, Start, opening_of, opened, Call, add, ask, update, flush, Got, Seen, step, after, gets, plain_call, buffer_of, got_of, plain_after, plain_gets}
 use Rattle.cache.specs.Means.{tables_in}
 use Rattle.cache.specs.Demand.{refused_with}
 use Rattle.cache.proofs.Settled.{settled-refused}
@@ -26,6 +26,7 @@ use Rattle.console.specs.Lines.{Command, command_of}
 use Rattle.console.specs.Printed.{refused_text, answer_text}
 use Rattle.console.specs.Desk.{text_of, buffer_after, Answered, called, commanded, answered_of, printed_for}
 use Rattle.console.proofs.Calling.{written-length}
+use Rattle.console.proofs.Values.{calls-32}
 use Rattle.console.specs.Demand.{BadChangesNothing, refusal_of, RefusedChangesNothing, Unsaid, seen_with, plain_called, plain_commanded, lines_of, plain_printed, PrintsAsPlain, BufferDoesNotMatter, calls_by, calls_for, LinesMakeCalls, unsaid_by, seen_after, said_of, PrintsItsCalls, TablesAsPlain, AnewOnlyIf, Demands}
 
 -- ---- bad and refused lines
@@ -142,15 +143,22 @@ module _ (lent : Lengths) where
       (printed-said a.store b.store a.buffer ls k.rest ∙ ap (λ (x : List ℕ). plain_printed lent b.store x xs) k.buffers)
       ∙ ap₂ (λ (u : Unsaid) (x : List Seen). plain_printed lent p buffer ((l, u) ∷ said_of ls x)) q.0 q.1
 
+-- the calls of a list of lines, from an opening on: their values have 32 bits
+same_as_plain : (o : Start) (buffer : List ℕ) (ls : List (List ℕ))
+    → Same (opening_of o).lent (opened o) (P.opened (opening_of o)) (calls_for (opened o) buffer ls)
+    × (tables_in (after (opened o) (calls_for (opened o) buffer ls)).state (after (opened o) (calls_for (opened o) buffer ls)).cells
+    ≡ (plain_after o (calls_for (opened o) buffer ls)).tables)
+same_as_plain o buffer ls = of-store.same_as_plain o (calls_for (opened o) buffer ls) (calls-32 (opened o) buffer ls)
+
 prints_as_plain : PrintsAsPlain
 prints_as_plain o buffer ls =
-    printed-same (opening_of o).lent (opened o) (P.opened (opening_of o)) buffer ls (of-store.same_as_plain o (calls_for (opened o) buffer ls)).0
+    printed-same (opening_of o).lent (opened o) (P.opened (opening_of o)) buffer ls (same_as_plain o buffer ls).0
 
 -- ---- the calls that the lines make
 
 prints_its_calls : PrintsItsCalls
 prints_its_calls o buffer ls =
-    printed-said (opening_of o).lent (opened o) (P.opened (opening_of o)) buffer ls (of-store.same_as_plain o (calls_for (opened o) buffer ls)).0
+    printed-said (opening_of o).lent (opened o) (P.opened (opening_of o)) buffer ls (same_as_plain o buffer ls).0
 
 command-after : (s : Store) (buffer : List ℕ) (c : Command) (cs : List Call) → after s (calls_by buffer c cs) ≡ after (commanded s buffer c).store cs
 command-after s buffer (L.add text) cs = refl
@@ -168,13 +176,13 @@ lines_make_calls s buffer (l ∷ ls) =
 
 tables_as_plain : TablesAsPlain
 tables_as_plain o buffer ls =
-    ap (λ (s : Store). tables_in s.state s.cells) (lines_make_calls (opened o) buffer ls) ∙ (of-store.same_as_plain o (calls_for (opened o) buffer ls)).1
+    ap (λ (s : Store). tables_in s.state s.cells) (lines_make_calls (opened o) buffer ls) ∙ (same_as_plain o buffer ls).1
 
 anew_only_if : AnewOnlyIf
 anew_only_if o buffer ls k lent h g =
     let cs = calls_for (opened o) buffer ls in
     let e = lines_make_calls (opened o) buffer ls in
-    of-store.anew_only_if o cs k lent
+    of-store.anew_only_if o cs (calls-32 (opened o) buffer ls) k lent
     (subst (λ (s : Store). (step s (ask k.query k.values lent)).1.got.refusal ≡ 0) e h)
     (subst (λ (s : Store). (step s (ask k.query k.values lent)).1.kept ≡ 0) e g)
 
@@ -293,7 +301,7 @@ module _ (lent : Lengths) where
 
 buffer_does_not_matter : BufferDoesNotMatter
 buffer_does_not_matter o b c ls e =
-    let same : (x : List ℕ) → Same (opening_of o).lent (opened o) (P.opened (opening_of o)) (calls_for (opened o) x ls) = λ x. (of-store.same_as_plain o (calls_for (opened o) x ls)).0 in
+    let same : (x : List ℕ) → Same (opening_of o).lent (opened o) (P.opened (opening_of o)) (calls_for (opened o) x ls) = λ x. (same_as_plain o x ls).0 in
     buffers-alike (opening_of o).lent (opened o) (P.opened (opening_of o)) b c ls e (same b) (same c)
 
 -- ---- all claims

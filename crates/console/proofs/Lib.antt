@@ -11,6 +11,7 @@ pub mod Prints
 pub mod Calling
 pub mod Said
 pub mod Replying
+pub mod Values
 pub mod Demand
 pub mod Bounds
 pub mod Finding

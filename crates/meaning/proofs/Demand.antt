@@ -12,6 +12,8 @@ use Rattle.meaning.proofs.Within32.{answer_reads_back}
 use Rattle.meaning.proofs.Weakening.{patterns_weaken, pushed_weakens, answer_stays}
 use Rattle.meaning.proofs.Nulls.{null_unknown, others_known, three_values, takes_true, null_tests, opposites, null_tests_in_patterns, never_true}
 use Rattle.meaning.proofs.Outer.{no_pair_listed}
+use Rattle.meaning.proofs.Drops.{affected_means, drops_exactly_if, insert_known, patterns_alone, affected_matched}
+use Rattle.meaning.proofs.Stays.{stays_undropped}
 
 pub demands : Demands
 demands = record {
@@ -46,4 +48,10 @@ demands = record {
   null_tests_in_patterns = null_tests_in_patterns;
   never_true = never_true;
   no_pair_listed = no_pair_listed;
+  affected_means = affected_means;
+  drops_exactly_if = drops_exactly_if;
+  insert_known = insert_known;
+  patterns_alone = patterns_alone;
+  affected_matched = affected_matched;
+  stays_undropped = stays_undropped;
 }

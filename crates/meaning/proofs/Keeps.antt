@@ -1,4 +1,4 @@
--- What adding and updates leave of a question: it can still be asked, and its record stays unless the update matches its key. Assumes nothing.
+-- What adding and updates leave of a question: it can still be asked, and its record stays unless the update drops its key. Assumes nothing.
 use mathlib.Core.Path.{◌≡◌, refl, sym, ap, ap₂, ◌∙◌, subst}
 use mathlib.Core.Bool.{Bool, true, false, not, ◌&&◌, cond}
 use mathlib.Core.Option.{Option, none, some}
@@ -12,7 +12,7 @@ use lib.IntN.{ℤ}
 use lib.ListN.{length, get_or, set, length-append, get_or-append}
 use lib.Seq.{get_or-set_same, get_or-set_other}
 use Rattle.lists.specs.Lists.{All, nil, cons, pairs}
-use Rattle.lists.proofs.Lists.{All-head, All-tail, All-map, All-every}
+use Rattle.lists.proofs.Lists.{All-head, All-tail, All-map, All-both, All-every}
 use Rattle.lists.proofs.Places.{All-at}
 use Rattle.meaning.specs.Grammar.{Sentence, sentence}
 use Rattle.meaning.specs.Names.{Schema}
@@ -23,12 +23,14 @@ use Rattle.meaning.specs.Meaning.{Row, answer, changed}
 use Rattle.meaning.specs.Limits.{most_listed}
 use Rattle.meaning.specs.Record.{encode}
 use Rattle.meaning.specs.Key.{Key}
-use Rattle.meaning.specs.Plain.{Lengths, Table, Plain, schemas, no_table, no_query, no_update, table_at, rows_over, rows_for, query_at, update_at, record_of, too_many, pushed, remaining, matches_key, add, change, other_lengths, ask_conditions, lowest_of, refusal, adding, added_text, changed_by, does}
+use Rattle.meaning.specs.Plain.{Lengths, Table, Plain, schemas, no_table, no_query, no_update, table_at, rows_over, rows_for, query_at, update_at, record_of, too_many, pushed, remaining, drops_key, add, change, other_lengths, ask_conditions, lowest_of, refusal, adding, added_text, changed_by, does}
 use Rattle.meaning.specs.Pattern.{Side, neither, first, second, second_side, side_of, is_side, start_of, second_start}
-use Rattle.meaning.specs.Demand.{Acceptable, IsColumn, ChangesWithin, StandsBeside, rows_beside, AnswerStays}
+use Rattle.meaning.specs.Exact.{IsRow}
+use Rattle.meaning.specs.Demand.{Acceptable, IsColumn, ChangesWithin, StandsBeside, rows_beside, StaysUndropped}
 use Rattle.meaning.proofs.Pushed.{pushed-remaining, remaining-has}
 use Rattle.meaning.proofs.Accepted.{clear, text-taken, Asked, key-asked, Changing, update-taken}
 use Rattle.meaning.proofs.WellFormed.{FitsTable, tests, SecondFits, WellFormed}
+use Rattle.meaning.proofs.Within32.{Store32}
 use Rattle.meaning.proofs.Resolved.{Within}
 
 -- a question with the number and the values of one that could be asked
@@ -107,7 +109,7 @@ change-within n t (delete g) rows d f w h = All-map (λ r e. columns-within r n 
 change-within n t (update ss g) rows d f w h =
     All-map (λ r e. (subst (λ (n : ℕ). All (λ (s : ℕ × Value). s.0 < n) ss) (sym d ∙ sym e) f, columns-within r n e (operands_in g) w)) h
 
-module _ (stays : AnswerStays) (lent : Lengths) (p : Plain) (n : ℕ) (us : List ℤ) (k : Key) (W : WellFormed p) (A : Asked lent p k) (C : Changing lent p n us) where
+module _ (stays : StaysUndropped) (lent : Lengths) (p : Plain) (n : ℕ) (us : List ℤ) (k : Key) (W : WellFormed p) (small : Store32 p) (A : Asked lent p k) (C : Changing lent p n us) where
   abbrev q : Query
   q = query_at p k.query
 
@@ -140,6 +142,10 @@ module _ (stays : AnswerStays) (lent : Lengths) (p : Plain) (n : ℕ) (us : List
   before : (i : ℕ) → i ≡ u.table → t.rows ≡ (table_at p i).rows
   before i e = ap (λ (i : ℕ). (table_at p i).rows) (sym e)
 
+  -- the rows that the change finds are of the table's width, in numbers of 32 bits
+  found_rows : All (IsRow (length t.schema.columns)) (remaining t u.change)
+  found_rows = remaining-has t u.change (All-both (All-at u.table no_table fits.0 W.rows_wide) (All-at u.table no_table fits.0 small.rows))
+
   within : All (ChangesWithin u.change) (remaining t u.change)
   within =
       change-within (length t.schema.columns) t.schema u.change (remaining t u.change) refl fits.1 (All-at n no_update C.there W.updates_in).tested_in
@@ -150,10 +156,10 @@ module _ (stays : AnswerStays) (lent : Lengths) (p : Plain) (n : ℕ) (us : List
   first-is e = ap (λ (b : Bool). cond b first (second_side q.second u.table)) (eq-eqb q.table u.table e)
 
   -- with these rows of the other table
-  stays-beside : (m : Option Second) (s : Side) → q.second ≡ m → side_of q u ≡ s → is_side s ≡ true → matches_key p n us k ≡ false
+  stays-beside : (m : Option Second) (s : Side) → q.second ≡ m → side_of q u ≡ s → is_side s ≡ true → drops_key p n us k ≡ false
       → (others : List Row) → All (StandsBeside q s) others
       → answer q k.values (rows_beside m s (changed u.change us (remaining t u.change)) others) ≡ answer q k.values (rows_beside m s t.rows others)
-  unfolding matches_key
+  unfolding drops_key
   stays-beside m s d e is free others b =
       let c : Change = u.change in
       let found : List Row = remaining t c in
@@ -161,12 +167,13 @@ module _ (stays : AnswerStays) (lent : Lengths) (p : Plain) (n : ℕ) (us : List
       ≡ answer q k.values (rows_beside m s (pushed t c ++ found) others)) d
       (subst (λ (s : Side). answer q k.values (rows_beside q.second s (changed c us found) others)
       ≡ answer q k.values (rows_beside q.second s (pushed t c ++ found) others)) e
-      (stays q k.values u us (pushed t c) found others A.values within (subst (λ (s : Side). All (StandsBeside q s) others) (sym e) b) (ap is_side e ∙ is) free))
+      (stays (length t.schema.columns) q k.values u us (pushed t c) found others A.values found_rows within
+      (subst (λ (s : Side). All (StandsBeside q s) others) (sym e) b) (ap is_side e ∙ is) free))
       ∙ ap (λ (l : List Row). answer q k.values (rows_beside m s l others)) (pushed-remaining t c)
 
-  answer-over : (s : Option Second) → q.second ≡ s → SecondFits p.tables q s → matches_key p n us k ≡ false
+  answer-over : (s : Option Second) → q.second ≡ s → SecondFits p.tables q s → drops_key p n us k ≡ false
       → answer q k.values (rows_over (changed_by p n us).tables q s) ≡ answer q k.values (rows_over p.tables q s)
-  unfolding matches_key side_of
+  unfolding drops_key side_of
   answer-over none d f m = go (ℕ_discrete q.table u.table)
     where
       go : Dec (q.table ≡ u.table) → answer q k.values (rows_after q.table) ≡ answer q k.values (table_at p q.table).rows
@@ -207,14 +214,15 @@ module _ (stays : AnswerStays) (lent : Lengths) (p : Plain) (n : ℕ) (us : List
           ∙ ap (λ (l : List Row). answer q k.values (pairs rows₁ l)) (before s.table h)
       go (no ne) (no nh) = ap (answer q k.values) (ap₂ pairs (other-table q.table ne) (other-table s.table nh))
 
-  answer_stays : matches_key p n us k ≡ false → answer q k.values (rows_for (changed_by p n us) q) ≡ answer q k.values (rows_for p q)
+  answer_stays : drops_key p n us k ≡ false → answer q k.values (rows_for (changed_by p n us) q) ≡ answer q k.values (rows_for p q)
   answer_stays m = answer-over q.second refl (All-at k.query no_query A.there W.pairs_fit) m
 
-  changed-keeps : (lowest_of (ask_conditions lent (changed_by p n us) k) ≡ 0) × (matches_key p n us k ≡ false → SameAnswer (changed_by p n us) p k)
+  changed-keeps : (lowest_of (ask_conditions lent (changed_by p n us) k) ≡ 0) × (drops_key p n us k ≡ false → SameAnswer (changed_by p n us) p k)
   unfolding changed_by
   changed-keeps = (asked-still lent p (changed_by p n us) k A refl A.there refl, λ m. record-stays p (changed_by p n us) k refl (answer_stays m))
 
--- an update leaves every question that could be asked, and the record of each whose key it does not match
-pub change_keeps : AnswerStays → (lent : Lengths) (p : Plain) (n : ℕ) (us : List ℤ) (k : Key) → WellFormed p → lowest_of (ask_conditions lent p k) ≡ 0 → refusal lent p (change n us) ≡ 0
-    → (lowest_of (ask_conditions lent (changed_by p n us) k) ≡ 0) × (matches_key p n us k ≡ false → SameAnswer (changed_by p n us) p k)
-change_keeps stays lent p n us k W a h = changed-keeps stays lent p n us k W (key-asked lent p k a) (update-taken lent p n us h)
+-- an update leaves every question that could be asked, and the record of each whose key it does not drop
+pub change_keeps : StaysUndropped → (lent : Lengths) (p : Plain) (n : ℕ) (us : List ℤ) (k : Key) → WellFormed p → Store32 p
+    → lowest_of (ask_conditions lent p k) ≡ 0 → refusal lent p (change n us) ≡ 0
+    → (lowest_of (ask_conditions lent (changed_by p n us) k) ≡ 0) × (drops_key p n us k ≡ false → SameAnswer (changed_by p n us) p k)
+change_keeps stays lent p n us k W small a h = changed-keeps stays lent p n us k W small (key-asked lent p k a) (update-taken lent p n us h)

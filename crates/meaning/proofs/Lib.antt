@@ -21,6 +21,9 @@ pub mod Few
 pub mod Classes
 pub mod Weakening
 pub mod Nulls
+pub mod Exact
+pub mod Stays
+pub mod Drops
 pub mod Demand
 pub mod Postfix
 pub mod Outer

@@ -18,7 +18,8 @@ use Rattle.lists.proofs.Places.{All-at, flat-length}
 use Rattle.meaning.specs.Limits.{most_items, most_listed, is_within32}
 use Rattle.meaning.specs.Meaning.{Row}
 use Rattle.meaning.specs.Record.{bits_of, bytes4, bytes2, number_bytes, body, encode, four_at, row_count, row_bytes, is_record, has_row, row_part, number_of, numbers_of}
-use Rattle.meaning.specs.Demand.{ReadsBack, IsRow, RecordReadsBack}
+use Rattle.meaning.specs.Exact.{IsRow}
+use Rattle.meaning.specs.Demand.{ReadsBack, RecordReadsBack}
 
 -- ---- numbers
 

@@ -282,7 +282,7 @@ unset-same us is (a ∷ ss) r h =
     (All-both (any_false (eqb a.0) is (or_left (any (eqb a.0) is) (any (λ (s : ℕ × Value). any (eqb s.0) is) ss) h))
     (unset-same us is ss (set r a.0 (value_of us a.1)) (or_right (any (eqb a.0) is) (any (λ (s : ℕ × Value). any (eqb s.0) is) ss) h)))
 
-eq_list-same : (xs : Row) → eq_list eq_z xs xs ≡ true
+pub eq_list-same : (xs : Row) → eq_list eq_z xs xs ≡ true
 eq_list-same xs = T→true (eq_list eq_z xs xs) (eq_list-refl eq_z eq_z-refl xs)
 
 same_differs : (a e : Bool) → e ≡ true → ((a && not a) || ((not a && a) || (a && (a && not e)))) ≡ false
@@ -380,6 +380,17 @@ quiet-blocks (update ss g) us f (r ∷ rows) h = ap₂ ◌++◌ (go (meets_where
     go true e = e refl
     go false e = refl
 
+-- the rows through which a change is judged: of INSERT the new row alone, whatever other row is named
+abbrev pub Seen : Change → List Row → List Row
+Seen (insert os) rows = [] ∷ []
+Seen (delete g) rows = rows
+Seen (update ss g) rows = rows
+
+seen-within : (c : Change) (rows : List Row) → All (ChangesWithin c) rows → All (ChangesWithin c) (Seen c rows)
+seen-within (insert os) rows w = cons tt nil
+seen-within (delete g) rows w = w
+seen-within (update ss g) rows w = w
+
 -- ---- answers of pairs, row by row
 
 -- a row that does not differ is taken after if it is before, and then with the same selected columns
@@ -450,38 +461,37 @@ module _ (q : Query) (qs : List ℤ) where
   past-false true c h e = h
   past-false false c h e = absurd (false≢true e)
 
-  quiet-first : (c : Change) (us : List ℤ) (rows others : List Row) → ((r : Row) → ChangesWithin c r → All (Unmoved first c us r) others) → All (ChangesWithin c) rows
+  quiet-first : (c : Change) (us : List ℤ) (rows others : List Row) → All (λ r. All (Unmoved first c us r) others) (Seen c rows)
       → Quiet c us (λ r. answer q qs (map (λ (o : Row). r ++ o) others)) rows
   unfolding Quiet Unmoved
-  quiet-first (insert os) us rows others f w = all_none (new_row os us) others (f [] tt)
-  quiet-first (delete g) us rows others f w =
-      All-map (λ r k e. all_none r others (All-map (λ o h. past-false (meets_where g us r) (takes q qs (r ++ o)) h e) (f r k))) w
-  quiet-first (update ss g) us rows others f w =
-      All-map (λ r k e. all_same r (assigned ss us r) others (All-map (λ o h. past-false (meets_where g us r) (differs q qs (r ++ o) (assigned ss us r ++ o)) h e) (f r k))) w
+  quiet-first (insert os) us rows others f = all_none (new_row os us) others (All-head f)
+  quiet-first (delete g) us rows others f =
+      All-map (λ r k e. all_none r others (All-map (λ o h. past-false (meets_where g us r) (takes q qs (r ++ o)) h e) k)) f
+  quiet-first (update ss g) us rows others f =
+      All-map (λ r k e. all_same r (assigned ss us r) others (All-map (λ o h. past-false (meets_where g us r) (differs q qs (r ++ o) (assigned ss us r ++ o)) h e) k)) f
 
-  quiet-second : (c : Change) (us : List ℤ) (rows : List Row) (o : Row) → ((r : Row) → ChangesWithin c r → Unmoved second c us r o) → All (ChangesWithin c) rows
-      → Quiet c us (λ r. one (o ++ r)) rows
+  quiet-second : (c : Change) (us : List ℤ) (rows : List Row) (o : Row) → All (λ r. Unmoved second c us r o) (Seen c rows) → Quiet c us (λ r. one (o ++ r)) rows
   unfolding Quiet Unmoved
-  quiet-second (insert os) us rows o f w = one_none (o ++ new_row os us) (f [] tt)
-  quiet-second (delete g) us rows o f w = All-map (λ r k e. one_none (o ++ r) (past-false (meets_where g us r) (takes q qs (o ++ r)) (f r k) e)) w
-  quiet-second (update ss g) us rows o f w =
-      All-map (λ r k e. one_same (o ++ r) (o ++ assigned ss us r) (past-false (meets_where g us r) (differs q qs (o ++ r) (o ++ assigned ss us r)) (f r k) e)) w
+  quiet-second (insert os) us rows o f = one_none (o ++ new_row os us) (All-head f)
+  quiet-second (delete g) us rows o f = All-map (λ r k e. one_none (o ++ r) (past-false (meets_where g us r) (takes q qs (o ++ r)) k e)) f
+  quiet-second (update ss g) us rows o f =
+      All-map (λ r k e. one_same (o ++ r) (o ++ assigned ss us r) (past-false (meets_where g us r) (differs q qs (o ++ r) (o ++ assigned ss us r)) k e)) f
 
-  first-stays : (c : Change) (us : List ℤ) (rows others : List Row) → ((r : Row) → ChangesWithin c r → All (Unmoved first c us r) others) → All (ChangesWithin c) rows
+  first-stays : (c : Change) (us : List ℤ) (rows others : List Row) → All (λ r. All (Unmoved first c us r) others) (Seen c rows)
       → answer q qs (pairs (changed c us rows) others) ≡ answer q qs (pairs rows others)
-  first-stays c us rows others f w =
+  first-stays c us rows others f =
       first-blocks (changed c us rows) others
-      ∙ quiet-blocks c us (λ r. answer q qs (map (λ (o : Row). r ++ o) others)) rows (quiet-first c us rows others f w)
+      ∙ quiet-blocks c us (λ r. answer q qs (map (λ (o : Row). r ++ o) others)) rows (quiet-first c us rows others f)
       ∙ sym (first-blocks rows others)
 
-  second-stays : (c : Change) (us : List ℤ) (rows others : List Row) → All (λ o. (r : Row) → ChangesWithin c r → Unmoved second c us r o) others → All (ChangesWithin c) rows
+  second-stays : (c : Change) (us : List ℤ) (rows others : List Row) → All (λ o. All (λ r. Unmoved second c us r o) (Seen c rows)) others
       → answer q qs (pairs others (changed c us rows)) ≡ answer q qs (pairs others rows)
-  second-stays c us rows [] f w = refl
-  second-stays c us rows (o ∷ others) f w =
+  second-stays c us rows [] f = refl
+  second-stays c us rows (o ∷ others) f =
       answer-append (map (λ (r : Row). o ++ r) (changed c us rows)) (pairs others (changed c us rows))
       ∙ ap₂ ◌++◌
-      (row-blocks o (changed c us rows) ∙ quiet-blocks c us (λ r. one (o ++ r)) rows (quiet-second c us rows o (All-head f) w) ∙ sym (row-blocks o rows))
-      (second-stays c us rows others (All-tail f) w)
+      (row-blocks o (changed c us rows) ∙ quiet-blocks c us (λ r. one (o ++ r)) rows (quiet-second c us rows o (All-head f)) ∙ sym (row-blocks o rows))
+      (second-stays c us rows others (All-tail f))
       ∙ sym (answer-append (map (λ (r : Row). o ++ r) rows) (pairs others rows))
 
 -- a question over one table is one over pairs with the row of no columns
@@ -492,6 +502,15 @@ pairs-alone (r ∷ rows) = ap₂ ◌∷◌ (append-nil r) (pairs-alone rows)
 pairs-behind : (rows : List Row) → pairs ([] ∷ []) rows ≡ rows
 pairs-behind [] = refl
 pairs-behind (r ∷ rows) = ap (λ (l : List Row). r ∷ l) (pairs-behind rows)
+
+-- where the change matters through no row of a question's one table the answer stays
+pub alone-stays : (q : Query) (qs : List ℤ) (c : Change) (us : List ℤ) (rows : List Row) → All (λ r. matters_in q qs first c us r [] ≡ false) (Seen c rows)
+    → answer q qs (changed c us rows) ≡ answer q qs rows
+unfolding Unmoved
+alone-stays q qs c us rows f =
+    ap (answer q qs) (sym (pairs-alone (changed c us rows)))
+    ∙ first-stays q qs c us rows ([] ∷ []) (All-map (λ r h. cons h nil) f)
+    ∙ ap (answer q qs) (pairs-alone rows)
 
 -- where no pattern of the update agrees the answer stays
 unmatched-stays : (q : Query) (qs : List ℤ) (u : Update) (us : List ℤ) (rows others : List Row) → length qs ≡ q.parameters → All (ChangesWithin u.change) rows
@@ -507,19 +526,19 @@ unmatched-stays q qs u us rows others n w b is h = go q.second refl (side_of q u
         ∙ contra (matters q qs u us r o) (matches q u us qs) (patterns_weaken q qs u us r o n k (subst (λ (s : Side). StandsBeside q s o) (sym e) j)) h in
         subst (λ (s : Side). matters_in q qs s u.change us r o ≡ false) e d
 
+    seen : All (ChangesWithin u.change) (Seen u.change rows)
+    seen = seen-within u.change rows w
+
     go : (m : Option Second) → q.second ≡ m → (s : Side) → side_of q u ≡ s → All (StandsBeside q s) others
         → answer q qs (rows_beside m s (changed u.change us rows) others) ≡ answer q qs (rows_beside m s rows others)
     go m d neither e b = clash is (ap is_side e)
-    go none d first e b =
-        ap (answer q qs) (sym (pairs-alone (changed u.change us rows)))
-        ∙ first-stays q qs u.change us rows ([] ∷ []) (λ r k. cons (unmoved first e r [] k tt) nil) w
-        ∙ ap (answer q qs) (pairs-alone rows)
+    go none d first e b = alone-stays q qs u.change us rows (All-map (λ r k. unmoved first e r [] k tt) seen)
     go none d second e b =
         ap (answer q qs) (sym (pairs-behind (changed u.change us rows)))
-        ∙ second-stays q qs u.change us rows ([] ∷ []) (cons (λ r k. unmoved second e r [] k (sym (ap second_start d))) nil) w
+        ∙ second-stays q qs u.change us rows ([] ∷ []) (cons (All-map (λ r k. unmoved second e r [] k (sym (ap second_start d))) seen) nil)
         ∙ ap (answer q qs) (pairs-behind rows)
-    go (some x) d first e b = first-stays q qs u.change us rows others (λ r k. All-map (λ o j. unmoved first e r o k j) b) w
-    go (some x) d second e b = second-stays q qs u.change us rows others (All-map (λ o j r k. unmoved second e r o k j) b) w
+    go (some x) d first e b = first-stays q qs u.change us rows others (All-map (λ r k. All-map (λ o j. unmoved first e r o k j) b) seen)
+    go (some x) d second e b = second-stays q qs u.change us rows others (All-map (λ o j. All-map (λ r k. unmoved second e r o k j) seen) b)
 
 -- ---- rows that a ring pushed out
 
@@ -564,6 +583,12 @@ module _ (q : Query) (qs : List ℤ) (out rows : List Row) where
       (second-unseen others (All-tail h))
       ∙ sym (answer-append q qs (map (λ (r : Row). o ++ r) rows) (pairs others rows))
 
+  pub alone-unseen : All (λ r. takes q qs (r ++ []) ≡ false) out → answer q qs (out ++ rows) ≡ answer q qs rows
+  alone-unseen h =
+      ap (answer q qs) (sym (pairs-alone (out ++ rows)))
+      ∙ first-unseen ([] ∷ []) (All-map (λ r k. cons k nil) h)
+      ∙ ap (answer q qs) (pairs-alone rows)
+
 -- where no pattern that is worked out for one of the rows agrees they show nowhere
 unmatched-unseen : (q : Query) (qs : List ℤ) (u : Update) (us : List ℤ) (out rows others : List Row) → length qs ≡ q.parameters
     → All (StandsBeside q (side_of q u)) others → same_table q u ≡ true → All (λ r. matches q (removal u.table r) us qs ≡ false) out
@@ -573,10 +598,7 @@ unmatched-unseen q qs u us out rows others n b is h = go q.second refl (side_of 
     go : (m : Option Second) → q.second ≡ m → (s : Side) → side_of q u ≡ s → All (StandsBeside q s) others
         → answer q qs (rows_beside m s (out ++ rows) others) ≡ answer q qs (rows_beside m s rows others)
     go m d neither e b = clash is (ap is_side e)
-    go none d first e b =
-        ap (answer q qs) (sym (pairs-alone (out ++ rows)))
-        ∙ first-unseen q qs out rows ([] ∷ []) (All-map (λ r k. cons (untaken q qs u us r [] n is first e tt k) nil) h)
-        ∙ ap (answer q qs) (pairs-alone rows)
+    go none d first e b = alone-unseen q qs out rows (All-map (λ r k. untaken q qs u us r [] n is first e tt k) h)
     go none d second e b =
         ap (answer q qs) (sym (pairs-behind (out ++ rows)))
         ∙ second-unseen q qs out rows ([] ∷ []) (cons (All-map (λ r k. untaken q qs u us r [] n is second e (sym (ap second_start d)) k) h) nil)

@@ -23,7 +23,8 @@ use Rattle.meaning.specs.Statement.{Value, constant, parameter, Operand, Second,
 use Rattle.meaning.specs.Meaning.{Row, cell, value_of, meets_where, takes, selected, answer, assigned, updated_row, changed}
 use Rattle.meaning.specs.Key.{Key}
 use Rattle.meaning.specs.Plain.{Lengths, Table, Plain, schemas, no_table, no_query, no_update, table_at, query_at, update_at, rows_over, rows_for, record_of, remaining, too_many, Opening, opened, Call, add, ask, change, flush, ask_conditions, conditions, refusal, refused, answered, adding, added_text, changed_by, does, guard, step, after}
-use Rattle.meaning.specs.Demand.{Acceptable, ReadsBack, IsRow, Is32, Call32, rows_listed, AnswerReadsBack}
+use Rattle.meaning.specs.Exact.{IsRow}
+use Rattle.meaning.specs.Demand.{Acceptable, ReadsBack, Is32, Call32, rows_listed, AnswerReadsBack}
 use Rattle.meaning.proofs.Accepted.{clear, text-taken, key-asked}
 use Rattle.meaning.proofs.Pushed.{remaining-has}
 use Rattle.meaning.proofs.WellFormed.{SecondFits, WellFormed, Reads, opened-well, after-well}

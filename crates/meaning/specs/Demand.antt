@@ -15,9 +15,10 @@ use Rattle.meaning.specs.Key.{Key}
 use Rattle.meaning.specs.Limits.{most_text, most_items, most_listed, rows_of, where_of, all_names, givens, mark_count, is_within32, past_limit}
 use Rattle.meaning.specs.Names.{Schema, unknown, taken, miscounted, twice}
 use Rattle.meaning.specs.Statement.{Value, constant, parameter, Operand, column, value, Second, Query, Change, insert, delete, update, Update, Statement, creates, asks, changes, statement_of}
-use Rattle.meaning.specs.Meaning.{Row, operand_value, meets_where, takes, answer, changed}
+use Rattle.meaning.specs.Meaning.{Row, operand_value, meets_where, takes, selected, answer, new_row, assigned, changed}
 use Rattle.meaning.specs.Record.{encode, is_record, columns_in, row_count, row_refusal, row_part, numbers_of}
 use Rattle.meaning.specs.Pattern.{Side, neither, first, second, side_of, same_table, start_of, beside, matters, Joint, Clause, class, constants, broken, contradictory, matches, removal, matches_two}
+use Rattle.meaning.specs.Exact.{is_separate, IsRow, Affected, affects, drops}
 use Rattle.meaning.specs.Plain.{Lengths, Plain, schemas, rows_for, passes_first, query_at, Opening, opened, Call, add, ask, change, flush, other_lengths, no_place, conditions, refusal, refused, answered, adding, placed, step, after}
 
 -- ---- Demand 1: "If a call brings a text, number, state or lent memory that the store can't take, it gives the refusal number of document 01 and changes
@@ -202,10 +203,6 @@ pub record ReadsBack (bs : List ℕ) (columns : ℕ) (rows : List Row) : Type 0 
   pub shown : (i : ℕ) → i < length rows → (row_refusal bs i ≡ 0) × (numbers_of (row_part bs i) ≡ get_or rows i [])
   pub not_shown : (i : ℕ) → length rows ≤ i → (row_refusal bs i ≡ 14) × (row_part bs i ≡ [])
 
--- a row of so many 32-bit numbers
-abbrev pub IsRow : ℕ → Row → Type 0
-IsRow columns r = (length r ≡ columns) × All (λ z. is_within32 z ≡ true) r
-
 -- the record of rows, also with later bytes behind it
 abbrev pub RecordReadsBack : Type 0
 RecordReadsBack = (columns : ℕ) (rows : List Row) (later : List ℕ) → 1 ≤ columns → columns ≤ most_items → length rows ≤ most_listed → All (IsRow columns) rows
@@ -331,6 +328,50 @@ NeverTrue = (before after : Clause) (c : Comparison Joint) (o : Operator) → c.
 abbrev pub NoPairListed : Type 0
 NoPairListed = (q : Query) (s : Second) (vs : List ℤ) (r : Row) (others : List Row) → passes_first q s vs r ≡ false → length r ≡ s.start → answer q vs (pairs (r ∷ []) others) ≡ []
 
+-- ---- A.7: "Where question and update are of one table and neither compares a column with a column, a matched answer is dropped exactly if some row of 32-bit numbers, null
+-- allowed, meets the update's condition and, through the update, enters or leaves what the question takes, or is taken before and after and alters in a selected column."
+
+-- what the row meets and how it is taken, by the update's form
+abbrev pub Altered : Query → List ℤ → Row → Row → Type 0
+Altered q qs r s =
+    ((takes q qs r ≡ true) × (takes q qs s ≡ false))
+    ⊎ (((takes q qs r ≡ false) × (takes q qs s ≡ true))
+    ⊎ ((takes q qs r ≡ true) × (takes q qs s ≡ true) × (selected q r ≢ selected q s)))
+
+abbrev pub AlteredBy : Query → List ℤ → Change → List ℤ → Row → Type 0
+AlteredBy q qs (insert os) us r = takes q qs (new_row os us) ≡ true
+AlteredBy q qs (delete g) us r = (meets_where g us r ≡ true) × (takes q qs r ≡ true)
+AlteredBy q qs (update ss g) us r = (meets_where g us r ≡ true) × Altered q qs r (assigned ss us r)
+
+abbrev pub AffectedMeans : Type 0
+AffectedMeans = (columns : ℕ) (q : Query) (qs : List ℤ) (u : Update) (us : List ℤ) → is_separate q u ≡ true
+    → Affected columns q qs u us ↔ ((r : Row) × IsRow columns r × AlteredBy q qs u.change us r)
+
+-- and the rows `out` that it pushes out of a ring: "the row is known, and the test is whether the question takes it"
+abbrev pub DropsExactlyIf : Type 0
+DropsExactlyIf = (columns : ℕ) (q : Query) (u : Update) (out : List Row) (us qs : List ℤ) → is_separate q u ≡ true
+    → (drops columns q u out us qs ≡ true) ↔ ((matches_two q u out us qs ≡ true) × (Affected columns q qs u us ⊎ (any (takes q qs) out ≡ true)))
+
+-- "For an INSERT under these premises .. the row is known, and the test is whether the question takes it"
+abbrev pub InsertKnown : Type 0
+InsertKnown = (columns : ℕ) (q : Query) (qs : List ℤ) (u : Update) (us : List ℤ) (os : List Value) → is_separate q u ≡ true → u.change ≡ insert os
+    → affects columns q qs u us ≡ takes q qs (new_row os us)
+
+-- where these premises do not hold the patterns alone decide
+abbrev pub PatternsAlone : Type 0
+PatternsAlone = (columns : ℕ) (q : Query) (u : Update) (out : List Row) (us qs : List ℤ) → is_separate q u ≡ false → drops columns q u out us qs ≡ matches_two q u out us qs
+
+-- where they hold the patterns are a filter alone: what is affected is matched
+abbrev pub AffectedMatched : Type 0
+AffectedMatched = (columns : ℕ) (q : Query) (u : Update) (us qs : List ℤ) → length qs ≡ q.parameters → is_separate q u ≡ true
+    → ((r : Row) → IsRow columns r → ChangesWithin u.change r) → Affected columns q qs u us → matches q u us qs ≡ true
+
+-- an answer that is not dropped stays, in a table of rows of 32-bit numbers
+abbrev pub StaysUndropped : Type 0
+StaysUndropped = (columns : ℕ) (q : Query) (qs : List ℤ) (u : Update) (us : List ℤ) (out rows others : List Row) → length qs ≡ q.parameters → All (IsRow columns) rows
+    → All (ChangesWithin u.change) rows → All (StandsBeside q (side_of q u)) others → same_table q u ≡ true → drops columns q u out us qs ≡ false
+    → answer q qs (rows_beside q.second (side_of q u) (changed u.change us rows) others) ≡ answer q qs (rows_beside q.second (side_of q u) (out ++ rows) others)
+
 -- ---- all of these
 
 pub record Demands : Type 0 where
@@ -365,3 +406,9 @@ pub record Demands : Type 0 where
   pub null_tests_in_patterns : NullTestsInPatterns
   pub never_true : NeverTrue
   pub no_pair_listed : NoPairListed
+  pub affected_means : AffectedMeans
+  pub drops_exactly_if : DropsExactlyIf
+  pub insert_known : InsertKnown
+  pub patterns_alone : PatternsAlone
+  pub affected_matched : AffectedMatched
+  pub stays_undropped : StaysUndropped

@@ -1,5 +1,5 @@
 -- Document 01, "Examples": the ten starred rows as one table, from the texts of the statements, and "Slips a marker would catch", each by computation;
--- with them the names of request A.2; those of A.1, A.4, A.5 and A.6 are in `Paired`, `Rings`, `Nulls` and `Outer`. Assumes nothing.
+-- with them the names of request A.2; those of A.1, A.4, A.5, A.6 and A.7 are in `Paired`, `Rings`, `Nulls`, `Outer` and `Exactly`. Assumes nothing.
 use Rattle.std.specs.Prelude.{◌≡◌, refl, Bool, true, false, cond, List, [], ◌∷◌, ◌++◌, map, ℕ, ◌-◌, ℤ, pos, ltb, get_or}
 use Prim.Native.String.{String}
 use Rattle.lists.specs.Lists.{bytes, all}
@@ -13,12 +13,13 @@ use Rattle.meaning.specs.Names.{Schema, unknown, taken, miscounted, twice}
 use Rattle.meaning.specs.Statement.{Change, insert, delete, update, statement_of}
 use Rattle.meaning.specs.Meaning.{Row, answer, changed, rows_changed}
 use Rattle.meaning.specs.Record.{body, encode}
-use Rattle.meaning.specs.Pattern.{Pattern, number, mark, anything, joint_clauses, joint_count, most_clauses, class, contradictory, entry, side_of, patterns, matches, matches_two}
-use Rattle.meaning.specs.Plain.{Lengths, Plain, schemas, table_at, query_at, update_at, record_of, matches_key, too_many, opening_refused, opened, Call, add, ask, change, other_lengths, no_place, full, refusal, a_table, a_query, an_update, Out, refused, added, answered, rows, flushed, added_text, changed_by, rows_by, step, after, outs}
+use Rattle.meaning.specs.Pattern.{Pattern, number, mark, anything, joint_clauses, joint_count, most_clauses, class, contradictory, entry, side_of, matters, patterns, matches, matches_two}
+use Rattle.meaning.specs.Exact.{is_separate, affects, drops}
+use Rattle.meaning.specs.Plain.{Lengths, Plain, schemas, table_at, query_at, update_at, record_of, drops_key, too_many, opening_refused, opened, Call, add, ask, change, other_lengths, no_place, full, refusal, a_table, a_query, an_update, Out, refused, added, answered, rows, flushed, added_text, changed_by, rows_by, step, after, outs}
 
 -- what the computations open
 unfoldable pub computing : Unit {0}
-unfolding is_name_byte is_word_byte decimal is_name word negative token_from first_token scan tokens a_condition a_sentence read past_limit unknown taken miscounted twice statement_of answer changed rows_changed side_of joint_clauses class contradictory entry patterns matches matches_two body encode record_of matches_key too_many opening_refused other_lengths no_place full refusal added_text changed_by rows_by
+unfolding is_name_byte is_word_byte decimal is_name word negative token_from first_token scan tokens a_condition a_sentence read past_limit unknown taken miscounted twice statement_of answer changed rows_changed side_of joint_clauses class contradictory entry patterns matches matches_two matters is_separate affects drops body encode record_of drops_key too_many opening_refused other_lengths no_place full refusal added_text changed_by rows_by
 computing = tt
 
 -- six cells, and no kept memory

@@ -12,6 +12,7 @@ pub mod Cells
 pub mod Record
 pub mod Key
 pub mod Pattern
+pub mod Exact
 pub mod Plain
 pub mod Demand
 pub mod Examples
@@ -20,3 +21,4 @@ pub mod Paired
 pub mod Rings
 pub mod Nulls
 pub mod Outer
+pub mod Exactly

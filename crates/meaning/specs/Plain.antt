@@ -14,7 +14,7 @@ use Rattle.meaning.specs.Statement.{Operand, Second, Query, Change, insert, dele
 use Rattle.meaning.specs.Meaning.{Row, operand_value, answer, changed, rows_changed}
 use Rattle.meaning.specs.Cells.{areas_size}
 use Rattle.meaning.specs.Record.{encode}
-use Rattle.meaning.specs.Pattern.{matches_two}
+use Rattle.meaning.specs.Exact.{drops}
 
 -- ---- what it holds
 
@@ -118,9 +118,12 @@ abbrev pub pushed_by : Plain → ℕ → List Row
 pushed_by p n = pushed (table_at p (update_at p n).table) (update_at p n).change
 
 -- "An update not refused matches a key when a pattern of the two, filled with the update's values, agrees with the key, kept or not." A.4: those of a row
--- pushed out "count among the patterns of the two"
-unfoldable pub matches_key : Plain → ℕ → List ℤ → Key → Bool
-matches_key p n us k = matches_two (query_at p k.query) (update_at p n) (pushed_by p n) us k.values
+-- pushed out "count among the patterns of the two". A.7: a question over the updated table alone, neither comparing a column with a column, "is then worked out anew for such an
+-- update only where this rule drops it, or would if it were kept"
+unfoldable pub drops_key : Plain → ℕ → List ℤ → Key → Bool
+drops_key p n us k =
+    let u : Update = update_at p n in
+    drops (length (table_at p u.table).schema.columns) (query_at p k.query) u (pushed_by p n) us k.values
 
 -- ---- opening
 

@@ -5,7 +5,7 @@ use Prim.Native.String.{String}
 use Rattle.lists.specs.Lists.{bytes, all}
 use Rattle.meaning.specs.Meaning.{Row}
 use Rattle.meaning.specs.Pattern.{Pattern, number, mark, anything, removal, patterns, patterns_of_two}
-use Rattle.meaning.specs.Plain.{Lengths, Plain, table_at, query_at, update_at, pushed_by, matches_key, opened, Call, add, change, Out, refused, rows, step, after, outs}
+use Rattle.meaning.specs.Plain.{Lengths, Plain, table_at, query_at, update_at, pushed_by, drops_key, opened, Call, add, change, Out, refused, rows, step, after, outs}
 use Rattle.meaning.specs.Examples.{computing, is_taken, numbers}
 
 -- stage (site, level) is a ring of two rows and rating (site, flow) a table of two
@@ -143,7 +143,7 @@ holds-12 = (refl, refl)
 
 -- a kept answer of site 3 is dropped for the row that goes, one of site 5 for the new one, and one of site 4 stays
 abbrev drops : List Call → ℕ → Bool
-drops cs k = matches_key (store (Q ∷ []) cs) 0 (numbers (5 ∷ 50 ∷ [])) (record { query = 0; values = numbers (k ∷ []) })
+drops cs k = drops_key (store (Q ∷ []) cs) 0 (numbers (5 ∷ 50 ∷ [])) (record { query = 0; values = numbers (k ∷ []) })
 
 pub dropped : (drops full 3 ≡ true) × (drops full 5 ≡ true) × (drops full 4 ≡ false) × (drops (put 3 30 ∷ []) 3 ≡ false)
 unfolding computing
@@ -203,7 +203,7 @@ abbrev one : ℕ → Call
 one a = change 0 (numbers (a ∷ []))
 
 abbrev drops_one : List Call → ℕ → Bool
-drops_one cs a = matches_key (single cs) 0 (numbers (a ∷ [])) (record { query = 0; values = [] })
+drops_one cs a = drops_key (single cs) 0 (numbers (a ∷ [])) (record { query = 0; values = [] })
 
 pub ring-of-one :
     ((table_at (single (one 7 ∷ one 4 ∷ [])) 0).rows ≡ numbers (4 ∷ []) ∷ [])

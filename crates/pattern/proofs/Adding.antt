@@ -64,7 +64,7 @@ module _ (codes ops : List ℕ) (n a b o : ℕ) (long : 2 * n + 1 < length codes
 -- ---- the comparisons that a mask selects
 
 module _ {A : Type 0} where
-  all-select : {P : A → Type 0} {l : List A} (m : ℕ) → All P l → All P (select l m)
+  pub all-select : {P : A → Type 0} {l : List A} (m : ℕ) → All P l → All P (select l m)
   all-select m nil = nil
   all-select {P} m (cons {x = x} {xs = xs} p h) = go (eqb (m % 2) 1) (all-select (m / 2) h)
     where

@@ -18,3 +18,11 @@ pub mod ClausePatterns
 pub mod JointClauses
 pub mod Agreeing
 pub mod Listed
+pub mod Choice
+pub mod Plain
+pub mod Altering
+pub mod Conjunctions
+pub mod Reached
+pub mod Trying
+pub mod FilledCodes
+pub mod Deciding

@@ -96,7 +96,7 @@ condition-columns c = columns-tested (used_steps c) (used_comparisons c)
 -- ---- the columns set, in either order
 
 module _ {A : Type 0} where
-  any-or : (p q : A → Bool) (xs : List A) → any (λ (x : A). p x || q x) xs ≡ (any p xs || any q xs)
+  pub any-or : (p q : A → Bool) (xs : List A) → any (λ (x : A). p x || q x) xs ≡ (any p xs || any q xs)
   any-or p q [] = refl
   any-or p q (x ∷ xs) = ap (λ (b : Bool). (p x || q x) || b) (any-or p q xs) ∙ go (p x) (q x) (any p xs) (any q xs)
     where

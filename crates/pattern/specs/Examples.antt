@@ -1,6 +1,6 @@
 -- Document 01, "Examples": the starred rows on patterns, from the texts of the statements, by computation on what the texts compile to; A.1, a question over two
--- tables; and A.5, null. Assumes nothing: each holds by computing.
-use Rattle.std.specs.Prelude.{Some, None, ◌≡◌, refl, true, false, List, [], ◌∷◌, pos}
+-- tables; A.5, null; and A.7, fewer answers dropped. Assumes nothing: each holds by computing.
+use Rattle.std.specs.Prelude.{Some, None, ◌≡◌, refl, Bool, true, false, List, [], ◌∷◌, ℤ, pos}
 use Prim.Native.String.{String}
 use Rattle.lists.specs.Lists.{bytes}
 use Rattle.meaning.specs.Tokens.{is_name_byte, is_word_byte, decimal, is_name, word, negative, token_from, first_token, scan, tokens}
@@ -13,11 +13,12 @@ use Rattle.meaning.specs.Plain.{other_lengths, no_place}
 use Rattle.meaning.specs.Pattern.{Pattern, number, mark, anything, class, contradictory, entry}
 use Rattle.statement.specs.Compiled.{padded, struct_of, compiled_of}
 use Rattle.statement.specs.Sound.{condition_nodes}
+use Rattle.table.specs.Evaluated.{meets_stored}
 use Rattle.statement.specs.declared.Table.{Table}
 use Rattle.statement.specs.Compiled.{Compiled}
 use Rattle.pattern.specs.declared.Entry.TheVariants.{Parameter, Any}
 use Rattle.pattern.specs.declared.Pattern as S
-use Rattle.pattern.specs.Stored.{start_read, relevant, clauses_read, joint_clauses, is_formed, all_any, patterns_stored, clause_total, blank, pattern_at, pattern_list, filled_of, agrees_stored}
+use Rattle.pattern.specs.Stored.{start_read, relevant, clauses_read, joint_clauses, is_formed, all_any, patterns_stored, clause_total, blank, pattern_at, pattern_list, filled_of, agrees_stored, matches_stored, separate_stored, affects_stored, reaches_stored}
 
 -- what the computations open
 computing : Unit {0}
@@ -216,3 +217,36 @@ delete-null = (refl, refl, refl)
 pub null-agrees : agrees_stored (filled_of (pos 120 ∷ null ∷ []) second) (null ∷ []) ≡ true
 unfolding computing
 null-agrees = refl
+
+-- ---- A.7: fewer answers dropped
+
+-- what these computations open besides
+reaching : Unit {0}
+unfolding matches_stored meets_stored separate_stored affects_stored reaches_stored
+reaching = tt
+
+-- the texts are a query and an update; whether a pattern matches the query's values, and whether the update reaches the answer, in the table's two columns
+abbrev Judges : String → List ℤ → String → List ℤ → Bool → Bool → Type 0
+Judges q qs u us matched reached =
+    ((compiled q).kind ≡ 2) × ((compiled u).kind ≡ 3) × (matches_stored (compiled q).query (compiled u).update us qs ≡ matched)
+    × (reaches_stored 2 (compiled q).query (compiled u).update us qs ≡ reached)
+
+-- the pattern is `any`, but no level is above 100 and below 50
+pub delete-below : Judges "SELECT site FROM stage WHERE level > ?" (pos 100 ∷ []) "DELETE FROM stage WHERE level < ?" (pos 50 ∷ []) true false
+unfolding computing reaching
+delete-below = (refl, refl, refl, refl)
+
+-- 101 is above 100 and below 102
+pub delete-between : Judges "SELECT site FROM stage WHERE level > ?" (pos 100 ∷ []) "DELETE FROM stage WHERE level < ?" (pos 102 ∷ []) true true
+unfolding computing reaching
+delete-between = (refl, refl, refl, refl)
+
+-- a column is compared with a column: the patterns alone decide
+pub delete-compared : Judges "SELECT site FROM stage WHERE level > ? AND level < site" (pos 100 ∷ []) "DELETE FROM stage WHERE level < ?" (pos 50 ∷ []) true true
+unfolding computing reaching
+delete-compared = (refl, refl, refl, refl)
+
+-- of an INSERT the row is known
+pub insert-below : Judges "SELECT site FROM stage WHERE level > ?" (pos 100 ∷ []) "INSERT INTO stage VALUES (7, ?)" (pos 100 ∷ []) true false
+unfolding computing reaching
+insert-below = (refl, refl, refl, refl)

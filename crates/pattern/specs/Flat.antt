@@ -50,7 +50,7 @@ is_join is-not-null = false
 abbrev pub Narrow : Joint → Type 0
 Narrow (column i) = i < 512
 Narrow (constant z) = is_within32 z ≡ true
-Narrow (asked k) = k ≤ 256
+Narrow (asked k) = (1 ≤ k) × (k ≤ 256)
 Narrow (given k) = (1 ≤ k) × (k ≤ 256)
 
 -- a number whose entry can be read: it is no question mark of the update, or one that a struct holds

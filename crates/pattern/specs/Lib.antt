@@ -4,4 +4,6 @@ pub mod Masks
 pub mod Flat
 pub mod Relevance
 pub mod Pairs
+pub mod Literals
+pub mod Deciding
 pub mod Examples

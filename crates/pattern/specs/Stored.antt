@@ -3,18 +3,22 @@
 -- as one with too many clauses. Assumes nothing: these are definitions.
 use Rattle.std.specs.Prelude.{Option, Some, None, Bool, true, false, not, ◌&&◌, ◌||◌, cond, List, [], ◌++◌, map, ℕ, zero, suc, min, eqb, leb, ltb, ℤ, pos, length, get_or, take, set, ◌+◌, replicate}
 use Rattle.std.proofs.Math.Option as Maybe
-use Rattle.lists.specs.Lists.{any, pairs}
-use Rattle.lists.specs.Tests.{eq_list}
+use Rattle.lists.specs.Lists.{any, all, pairs}
+use Rattle.lists.specs.Tests.{eq_z, eq_list}
 use Rattle.meaning.specs.Condition as C
 use Rattle.meaning.specs.Condition.{sides, renamed}
 use Rattle.meaning.specs.Postfix.{clauses_of_nodes, leaves, is_postfix}
+use Rattle.meaning.specs.Resolve.{is_below}
 use Rattle.meaning.specs.Statement as M
+use Rattle.meaning.specs.Meaning.{Row, new_row, assigned}
+use Rattle.meaning.specs.Exact.{with_columns, numbers_in, critical, rows_from}
 use Rattle.meaning.specs.Pattern as P
 use Rattle.meaning.specs.Pattern.{Side, neither, first, second, second_side, is_side, second_start, moved, column, of_update, of_query, placed_from, replacing, operand_columns, Clause, contradictory, pattern, chosen, most_clauses, number, mark, anything, same_entry, agrees}
 use Rattle.statement.specs.declared.Condition.{Condition}
 use Rattle.statement.specs.declared.Query.{Query}
 use Rattle.statement.specs.declared.Update.{Update}
 use Rattle.statement.specs.Compiled.{padded, mark_place}
+use Rattle.table.specs.Evaluated.{meets_stored, selected_stored}
 use Rattle.statement.specs.Sound.{condition_nodes, second_read, settings_read, setting_values}
 use Rattle.pattern.specs.declared.Entry.{Entry}
 use Rattle.pattern.specs.declared.Entry.TheVariants.{Constant, Parameter, Any}
@@ -165,3 +169,50 @@ agrees_stored p qs = agrees [] qs (map entry_read (take p.count p.entries))
 abbrev pub clause_agrees : List ℤ → List ℤ → Option Pattern → Bool
 clause_agrees us qs None = false
 clause_agrees us qs (Some p) = agrees_stored (filled_of us p) qs
+
+-- ---- A.7: whether an update with its values us can change the answer of a query with its values qs, in a table of n columns. Of structs that no text compiles to the patterns
+-- alone decide.
+
+-- "question and update are of one table and neither compares a column with a column"; their conditions may come from texts, and columns in them are the table's; an INSERT has
+-- a value for each column
+abbrev pub is_plain : ℕ → C.Comparison M.Operand → Bool
+is_plain n c = not (with_columns c) && (is_below n c.left && is_below n c.right)
+
+abbrev pub plain_condition : ℕ → Condition → Bool
+plain_condition n c = is_formed c && all (is_plain n) (leaves (condition_nodes c))
+
+unfoldable pub separate_stored : ℕ → Query → Update → Bool
+separate_stored n q u =
+    (eqb q.second 0 && eqb q.table u.table)
+    && ((ltb 0 n && (not (eqb u.form 0) || leb n (length (settings_read u))))
+    && (plain_condition n q.condition && plain_condition n u.condition))
+
+-- a row that is r before and s after: it leaves, enters, or is taken before and after and differs in a selected column
+abbrev pub differs_stored : Query → List ℤ → Row → Row → Bool
+differs_stored q qs r s =
+    (meets_stored q.condition qs r && not (meets_stored q.condition qs s))
+    || ((not (meets_stored q.condition qs r) && meets_stored q.condition qs s)
+    || (meets_stored q.condition qs r && (meets_stored q.condition qs s && not (eq_list eq_z (selected_stored q r) (selected_stored q s)))))
+
+-- through the row r, by the update's form, 0 INSERT, 1 UPDATE, any other DELETE
+abbrev pub matters_stored : ℕ → Query → List ℤ → Update → List ℤ → Row → Bool
+matters_stored zero q qs u us r = meets_stored q.condition qs (new_row (setting_values u) us)
+matters_stored (suc zero) q qs u us r = meets_stored u.condition us r && differs_stored q qs r (assigned (settings_read u) us r)
+matters_stored (suc (suc f)) q qs u us r = meets_stored u.condition us r && meets_stored q.condition qs r
+
+abbrev pub numbers_stored : Condition → List ℤ → List ℤ
+numbers_stored c vs = numbers_in vs (sides (leaves (condition_nodes c)))
+
+-- the numbers in the update with its values
+abbrev pub change_numbers_stored : ℕ → Update → List ℤ → List ℤ
+change_numbers_stored zero u us = []
+change_numbers_stored (suc zero) u us = new_row (setting_values u) us ++ numbers_stored u.condition us
+change_numbers_stored (suc (suc f)) u us = numbers_stored u.condition us
+
+unfoldable pub affects_stored : ℕ → Query → List ℤ → Update → List ℤ → Bool
+affects_stored n q qs u us =
+    any (matters_stored u.form q qs u us) (rows_from (critical (numbers_stored q.condition qs ++ change_numbers_stored u.form u us)) n)
+
+-- as far as A.7 says the update can change the answer
+unfoldable pub reaches_stored : ℕ → Query → Update → List ℤ → List ℤ → Bool
+reaches_stored n q u us qs = not (separate_stored n q u) || affects_stored n q qs u us

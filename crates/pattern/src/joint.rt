@@ -97,7 +97,7 @@ impl Joined {
 // ---- operands
 
 // A constant's number.
-fn constant_code(z: i32) -> u64
+pub fn constant_code(z: i32) -> u64
     ensures { (result ≡ constant_code z) × (is_within32 z ≡ true) }
 {
     u64::from(z.abs_diff(i32::MIN))
@@ -149,7 +149,7 @@ impl Reading<'_> {
     }
 
     // A column's number: its own, the updated table's counted through both tables, or of what the update puts there.
-    fn column(self, column: u8) -> u64
+    pub fn column(self, column: u8) -> u64
         ensures { Coding (column_of self.entry.role self.entry.from (map setting_read self.entry.settings.now) column) result }
     {
         match self.role {
@@ -173,7 +173,7 @@ impl Reading<'_> {
     }
 
     // A side of a comparison.
-    fn operand(self, o: Operand) -> u64
+    pub fn operand(self, o: Operand) -> u64
         ensures { Coding (operand_of self.entry.role self.entry.from (map setting_read self.entry.settings.now) (operand_read o)) result }
     {
         match o.read() {

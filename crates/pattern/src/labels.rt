@@ -7,6 +7,7 @@ ghost use Rattle.meaning.specs.Pattern.{strict as strict_of};
 ghost use Rattle.statement.specs.Operators.{predicate_at, order_of};
 ghost use Rattle.pattern.specs.Least.{rename_code, join_least, clashes as clash_of, never_code, is_constant, fails as fail_of, code_constant, entry_of_code};
 ghost use Rattle.pattern.specs.Stored.{entry_struct};
+ghost use Rattle.pattern.specs.Deciding.{replaced, is_open};
 ghost use Rattle.pattern.specs.Flat.{is_join, failing, clause_at, Readable, Ready, Labelled, entries_of, coded_pattern};
 
 use super::joint::Joined;
@@ -35,10 +36,10 @@ fn relabel(labels: &mut [u64; Joined::OPERANDS], from: u64, to: u64)
 
 // A comparison of a clause: its operator, by its number in the state, and the labels of its sides.
 #[derive(Clone, Copy)]
-struct Compared {
-    op: u8,
-    left: u64,
-    right: u64,
+pub struct Compared {
+    pub op: u8,
+    pub left: u64,
+    pub right: u64,
 }
 
 // Whether a comparison by this number is false of equal sides, whatever they are.
@@ -103,8 +104,27 @@ impl Compared {
         self.joins() & self.is_constant() & (self.left != self.right)
     }
 
-    // Whether it is true of two constants. A null test (A.5) looks at the left one alone.
-    fn holds(self) -> bool
+    // It with a number in place of another.
+    pub fn replaced(self, from: u64, to: u64) -> Compared
+        ensures { result ≡ replaced from to self }
+    {
+        Compared {
+            op: self.op,
+            left: renamed(from, to, self.left),
+            right: renamed(from, to, self.right),
+        }
+    }
+
+    // Whether a side that it looks at is no constant. A null test (A.5) looks at the left one alone.
+    pub fn is_open(self) -> bool
+        ensures { result ≡ is_open self }
+    {
+        Joined::FROM_MARKS <= self.left
+            || Joined::FROM_MARKS <= self.right && !Comparison::tests_null(self.op)
+    }
+
+    // Whether it is true of two constants. A null test looks at the left one alone.
+    pub fn holds(self) -> bool
         ensures { result ≡ truth (predicate_at self.op) (code_constant self.left) (code_constant self.right) }
     {
         if Comparison::tests_null(self.op) {

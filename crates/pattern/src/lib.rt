@@ -2,10 +2,13 @@
 // (Casts are of lengths, counts and bits to smaller numbers, and to and from the codes of operands, which are u64. For these there is no `From`, and the check shows that each fits.)
 #![tactic(auto)]
 
+mod affected; // whether an update with its values can change an answer
+mod filled; // comparisons with their values filled in
 mod filling; // entries with the update's values
 mod joint; // a joint clause in arrays
 mod labels; // the classes of a joint clause, and its pattern
 mod listing; // the list of patterns
+mod literals; // whether some row meets comparisons
 mod masks; // the clauses of a condition
 mod pairing; // the joint clauses of a query and an update
 mod relevance; // rules 1 and 2
@@ -13,6 +16,7 @@ mod relevance; // rules 1 and 2
 ghost use Rattle.std.specs.Prelude.{◌≡◌};
 ghost use Rattle.pattern.specs.Stored.{clause_total, pattern_at, pattern_list, filled_of, agrees_stored};
 
+pub use affected::reaches;
 use lists::in_use;
 use relevance::Pair;
 pub use relevance::reads;

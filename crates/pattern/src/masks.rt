@@ -2,7 +2,7 @@
 ghost use Rattle.std.specs.Prelude.{◌≡◌, true, map, ◌+◌, ◌*◌, ◌≤◌, ◌<◌, length};
 ghost use Rattle.lists.specs.Lists.{All, written};
 ghost use Rattle.pattern.specs.Stored.{is_formed};
-ghost use Rattle.pattern.specs.Masks.{sums, no_stack, pushed_of, either_of, both_of, stepped_of, Pushes, Joins, Steps, MasksOf};
+ghost use Rattle.pattern.specs.Masks.{sums, no_stack, pushed_of, either_of, both_of, stepped_of, Pushes, Joins, Steps, Masked, MasksOf};
 
 use table::{Condition, Step};
 
@@ -30,11 +30,13 @@ pub struct Stack {
 
 // Whether a condition may come from a text: few enough comparisons, each AND and OR finds two values, and one value is left.
 // (`soundness` has another test, `steps_are_sound`, which refuses a step of no kind: here that is an OR, since every condition has patterns.)
-fn is_formed(condition: &Condition) -> bool
+pub fn is_formed(condition: &Condition) -> bool
     ensures formed { result ≡ is_formed condition.now }
     ensures size { length condition.now.comparisons ≡ 8 }
+    ensures steps { length condition.now.steps ≡ 15 }
 {
     let comparisons = condition.used();
+    let steps = condition.used_steps();
     if comparisons.len() < usize::from(condition.count) {
         return false;
     }
@@ -42,7 +44,7 @@ fn is_formed(condition: &Condition) -> bool
         return true;
     }
     let mut depth: usize = 0;
-    for step in condition.used_steps() {
+    for step in steps {
         if *step == Step::COMPARISON {
             depth += 1;
         } else {
@@ -149,6 +151,27 @@ impl Stack {
     }
 }
 
+// The clauses of a condition that may come from a text.
+pub fn formed_masks(condition: &Condition) -> Clauses
+    requires { is_formed condition.now ≡ true }
+    ensures { Masked condition.now result }
+{
+    if condition.used().is_empty() {
+        return Clauses {
+            masks: [0; Clauses::MOST],
+            count: 1,
+        };
+    }
+    let mut s = Stack::empty();
+    for step in condition.used_steps() {
+        s.step(*step);
+    }
+    Clauses {
+        masks: s.masks,
+        count: s.total as u8,
+    }
+}
+
 // The clauses of a condition, if it may come from a text.
 pub fn masks_of(condition: &Condition) -> Option<Clauses>
     ensures { MasksOf condition.now result }
@@ -156,18 +179,5 @@ pub fn masks_of(condition: &Condition) -> Option<Clauses>
     if !is_formed(condition) {
         return None;
     }
-    if condition.count == 0 {
-        return Some(Clauses {
-            masks: [0; Clauses::MOST],
-            count: 1,
-        });
-    }
-    let mut s = Stack::empty();
-    for step in condition.used_steps() {
-        s.step(*step);
-    }
-    Some(Clauses {
-        masks: s.masks,
-        count: s.total as u8,
-    })
+    Some(formed_masks(condition))
 }

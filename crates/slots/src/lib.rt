@@ -1,5 +1,5 @@
 // The key of a cached answer, and the slot list: the order of use of the slots. Every function answers for every struct, also one that is not sound.
-// Lengths and places become bytes by casts: each is at most 64, and `try_from` would have an answer for a case that can't be.
+// Lengths and places become smaller numbers by casts: each is at most 64, and `try_from` would have an answer for a case that can't be.
 #![tactic(auto)]
 
 mod twice; // fingerprints of keys, and whether a key is held twice

@@ -110,7 +110,7 @@ pub fn outer_is_sound(c: &Condition, outer: u8) -> bool
 fn after_side(o: Operand, columns: u8, m: u8) -> Option<u8>
     ensures { result ≡ after_side columns m o }
 {
-    // By its code: read as a `Term` the test of a state takes 5 to 8 percent more instructions (11,173 and 41,327 against 10,604 and 38,196).
+    // By its code: read as a `Term` the test of a state takes 5 to 8 percent more instructions (11,173 and 41,327 against 10,604 and 38,196, in one build).
     let place = o.code / 2;
     if o.code % 2 == 1 {
         return (place == m).then_some(place + 1);

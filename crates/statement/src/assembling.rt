@@ -84,7 +84,7 @@ fn operator(op: u8) -> u8
     }
 }
 
-// A comparison, by its operator and the places of its sides.
+// A comparison, by its operator and the places of its sides. (Why `text` and `scope` are no struct is said in `fetching`, "columns and operands".)
 fn comparison_at(
     text: &[u8],
     op: u8,

@@ -24,7 +24,8 @@ use Rattle.lists.proofs.Bools.{and_left, and_right}
 use Rattle.lists.proofs.Lists.{All-take, All-drop, All-every, All-get_or, All-keep, All-image}
 use Rattle.lists.proofs.Places.{length-keep}
 use Rattle.lists.proofs.Turned.{All-turned, length-turned}
-use Rattle.meaning.specs.Demand.{Is32, IsRow, ReadsBack}
+use Rattle.meaning.specs.Exact.{IsRow}
+use Rattle.meaning.specs.Demand.{Is32, ReadsBack}
 use Rattle.meaning.specs.Limits.{most_items, most_rows, most_listed}
 use Rattle.meaning.specs.Meaning.{Row, cell, answer}
 use Rattle.meaning.specs.Cells.{rows_in}

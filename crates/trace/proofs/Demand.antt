@@ -13,12 +13,13 @@ use lib.IntN.{ℤ}
 use borrow.Author.Tests.{ltb-false}
 use Rattle.lists.specs.Lists.{All, nil, keep, count}
 use Rattle.lists.proofs.Bools.{or_right}
-use Rattle.lists.proofs.Lists.{All-map, All-both, All-image, All-source, distinct-source, keep-map}
+use Rattle.lists.proofs.Lists.{All-head, All-tail, All-map, All-both, All-image, All-source, distinct-source, keep-map}
 use Rattle.meaning.proofs.Within32.{answer_reads_back}
 use Rattle.meaning.specs.Key.{Key, same_key}
+use Rattle.meaning.specs.Demand.{Call32}
 use Rattle.meaning.specs.Limits.{most_cells, most_memory, most_slots, least_slot_bytes, most_slot_bytes}
 use Rattle.meaning.specs.Plain as P
-use Rattle.meaning.specs.Plain.{Lengths, Plain, Opening, opening_refused, Call, ask, change, refusal, record_of, matches_key, answered, guard}
+use Rattle.meaning.specs.Plain.{Lengths, Plain, Opening, opening_refused, Call, ask, change, refusal, record_of, drops_key, answered, guard}
 use Rattle.trace.specs.History.{Event, note, history_on, history, Ground}
 use Rattle.trace.specs.Recent.{Entry, recent}
 use Rattle.trace.specs.Slots.{Held, slot_bytes, find}
@@ -29,7 +30,7 @@ use Rattle.trace.proofs.Tables.{plain-laws}
 use Rattle.trace.proofs.Past.{Past, start, past-step, Current, current, apart}
 use Rattle.trace.proofs.Order.{names-from}
 use Rattle.trace.proofs.Kept.{entry, Found, find-is, Sound}
-use Rattle.trace.proofs.Same.{Agrees, step-agrees}
+use Rattle.trace.proofs.Same.{Agrees, step-agrees, after_store}
 use Rattle.trace.proofs.Anew.{filled, anew}
 
 -- ---- opening: the memory has room for the slots
@@ -73,15 +74,15 @@ kept-or-missing lent size s k b r = go (ask_refusal lent s.store k) (find same_k
 
 module _ (lent : Lengths) (size : ℕ) (s : Model) (n : ℕ) (us : List ℤ) where
   abbrev DropsMatched : Plain → Type 0
-  DropsMatched p = (keys_held (step lent size s (change n us)).0 ≡ keep (λ (k : Key). not (matches_key p n us k)) (keys_held s))
-      × ((step lent size s (change n us)).1.drops ≡ count (matches_key p n us) (keys_held s))
+  DropsMatched p = (keys_held (step lent size s (change n us)).0 ≡ keep (λ (k : Key). not (drops_key p n us k)) (keys_held s))
+      × ((step lent size s (change n us)).1.drops ≡ count (drops_key p n us) (keys_held s))
 
   drops-own : refusal lent s.store (change n us) ≡ 0 → DropsMatched s.store
   drops-own e =
       rw e (
-        keep-map (λ (x : Held Key). x.key) (λ (k : Key). not (matches_key s.store n us k)) s.cache.held,
-        sym (length-map (keep (λ (x : Held Key). matches_key s.store n us x.key) s.cache.held) (λ (x : Held Key). x.key))
-            ∙ ap length (keep-map (λ (x : Held Key). x.key) (matches_key s.store n us) s.cache.held),
+        keep-map (λ (x : Held Key). x.key) (λ (k : Key). not (drops_key s.store n us k)) s.cache.held,
+        sym (length-map (keep (λ (x : Held Key). drops_key s.store n us x.key) s.cache.held) (λ (x : Held Key). x.key))
+            ∙ ap length (keep-map (λ (x : Held Key). x.key) (drops_key s.store n us) s.cache.held),
       )
 
   drops-at : (p : Plain) → s.store ≡ p → refusal lent p (change n us) ≡ 0 → DropsMatched p
@@ -110,27 +111,27 @@ module _ (𝓛 : TableLaws) (lent : Lengths) (n size : ℕ) where
       subst (λ (x : Plain). Agrees lent n size (note (refusal lent x c) x c h) (P.step lent x c) (step lent size s c)) a.stored
       (step-agrees lent n size s h (rw a.stored a.past) a.sound c)
 
-  pub agree-step : {s : Model} {p : Plain} {h : List (Event Key)} → Agree s p h → (c : Call)
+  pub agree-step : {s : Model} {p : Plain} {h : List (Event Key)} → Agree s p h → (c : Call) → Call32 c
       → Agree (step lent size s c).0 (P.step lent p c).0 (note (refusal lent p c) p c h)
-  agree-step {s} {p} {h} a c = record {
+  agree-step {s} {p} {h} a c v = record {
     stored = (agrees a c).stored;
-    fine = 𝓛.good_step lent p a.fine c;
+    fine = 𝓛.good_step lent p a.fine c v;
     past = past-step 𝓛 lent a.fine a.past c;
     sound = (agrees a c).sound;
   }
 
-  pub agree_after : {s : Model} {p : Plain} {h : List (Event Key)} → Agree s p h → (cs : List Call)
+  pub agree_after : {s : Model} {p : Plain} {h : List (Event Key)} → Agree s p h → (cs : List Call) → All Call32 cs
       → Agree (after lent size s cs) (P.after lent p cs) (history_on lent p h cs)
-  agree_after a [] = a
-  agree_after {s = s} {p = p} {h = h} a (c ∷ cs) =
-      agree_after {s = (step lent size s c).0} {p = (P.step lent p c).0} {h = note (refusal lent p c) p c h} (agree-step a c) cs
+  agree_after a [] v = a
+  agree_after {s = s} {p = p} {h = h} a (c ∷ cs) v =
+      agree_after {s = (step lent size s c).0} {p = (P.step lent p c).0} {h = note (refusal lent p c) p c h} (agree-step a c (All-head v)) cs (All-tail v)
 
-  agree-outs : {s : Model} {p : Plain} {h : List (Event Key)} → Agree s p h → (cs : List Call)
+  agree-outs : {s : Model} {p : Plain} {h : List (Event Key)} → Agree s p h → (cs : List Call) → All Call32 cs
       → map (λ (o : Seen). o.out) (outs lent size s cs) ≡ P.outs lent p cs
-  agree-outs a [] = refl
-  agree-outs {s = s} {p = p} {h = h} a (c ∷ cs) =
+  agree-outs a [] v = refl
+  agree-outs {s = s} {p = p} {h = h} a (c ∷ cs) v =
       ap₂ (λ x l. x ∷ l) (agrees a c).got
-      (agree-outs {s = (step lent size s c).0} {p = (P.step lent p c).0} {h = note (refusal lent p c) p c h} (agree-step a c) cs)
+      (agree-outs {s = (step lent size s c).0} {p = (P.step lent p c).0} {h = note (refusal lent p c) p c h} (agree-step a c (All-head v)) cs (All-tail v))
 
   -- the keys held are those of `recent`
   missing-recent : {s : Model} {p : Plain} {h : List (Event Key)} → Agree s p h → (k : Key) → Missing s k → All (λ x. x.0 ≢ k) (recent same_key n size h)
@@ -150,6 +151,15 @@ module _ (𝓛 : TableLaws) (lent : Lengths) (n size : ℕ) where
 
 -- ---- the theorems
 
+-- after an opening and every list of calls the tables and statements are the plain store's
+pub stored-after : (s : Start) (cs : List Call) → (after_calls s cs).store ≡ plain_after s cs
+stored-after s cs = after_store s.opening.lent (slot_size s.opening) (opened s.opening s.memory) (P.opened s.opening) refl cs
+
+-- demand 2, of the kept answers
+drops_exactly_matched : DropsExactlyMatched
+drops_exactly_matched s cs n us e =
+    drops-at s.opening.lent (slot_size s.opening) (after_calls s cs) n us (plain_after s cs) (stored-after s cs) e
+
 module _ (𝓛 : TableLaws) where
   agree-opened : (s : Start)
       → Agree 𝓛 s.opening.lent (slot_count s.opening) (slot_size s.opening) (opened s.opening s.memory) (P.opened s.opening) []
@@ -166,58 +176,53 @@ module _ (𝓛 : TableLaws) where
   }
 
   -- after an opening and every list of calls the two stores agree
-  pub agree-calls : (s : Start) (cs : List Call)
+  pub agree-calls : (s : Start) (cs : List Call) → All Call32 cs
       → Agree 𝓛 s.opening.lent (slot_count s.opening) (slot_size s.opening) (after_calls s cs) (plain_after s cs)
       (history s.opening.lent (P.opened s.opening) cs)
-  agree-calls s cs = agree_after 𝓛 s.opening.lent (slot_count s.opening) (slot_size s.opening) (agree-opened s) cs
+  agree-calls s cs v = agree_after 𝓛 s.opening.lent (slot_count s.opening) (slot_size s.opening) (agree-opened s) cs v
 
   -- demand 3, first part
   pub same_as_plain : SameAsPlain
-  same_as_plain s cs = (
-    agree-outs 𝓛 s.opening.lent (slot_count s.opening) (slot_size s.opening) (agree-opened s) cs,
-    (agree-calls s cs).stored,
+  same_as_plain s cs v = (
+    agree-outs 𝓛 s.opening.lent (slot_count s.opening) (slot_size s.opening) (agree-opened s) cs v,
+    stored-after s cs,
   )
 
   -- a key that no slot holds is none of `recent`
-  gone : (s : Start) (cs : List Call) (k : Key) → Missing (after_calls s cs) k
+  gone : (s : Start) (cs : List Call) → All Call32 cs → (k : Key) → Missing (after_calls s cs) k
       → All (λ x. x.0 ≢ k) (recent same_key (slot_count s.opening) (slot_size s.opening) (history s.opening.lent (P.opened s.opening) cs))
-  gone s cs k m = missing-recent 𝓛 s.opening.lent (slot_count s.opening) (slot_size s.opening) (agree-calls s cs) k m
+  gone s cs v k m = missing-recent 𝓛 s.opening.lent (slot_count s.opening) (slot_size s.opening) (agree-calls s cs v) k m
 
   -- demand 3, second part
   pub anew_only_if : AnewOnlyIf
-  anew_only_if s cs k buffer r e z = go (kept-or-missing s.opening.lent (slot_size s.opening) (after_calls s cs) k buffer r e)
+  anew_only_if s cs v k buffer r e z = go (kept-or-missing s.opening.lent (slot_size s.opening) (after_calls s cs) k buffer r e)
     where
       go : ((next_call s cs (ask k buffer)).kept ≡ 1) ⊎ Missing (after_calls s cs) k
           → Ground same_key (slot_count s.opening) (slot_size s.opening) (record_of (plain_after s cs) k) k
           (history s.opening.lent (P.opened s.opening) cs)
       go (inl y) = absurd (omega arith)
-      go (inr m) = anew s.opening.lent (slot_count s.opening) (slot_size s.opening) (agree-calls s cs).past k (gone s cs k m)
+      go (inr m) = anew s.opening.lent (slot_count s.opening) (slot_size s.opening) (agree-calls s cs v).past k (gone s cs v k m)
 
   -- its converse
   pub kept_otherwise : KeptOtherwise
-  kept_otherwise s cs k buffer r e a f d few = go (kept-or-missing s.opening.lent (slot_size s.opening) (after_calls s cs) k buffer r e)
+  kept_otherwise s cs v k buffer r e a f d few = go (kept-or-missing s.opening.lent (slot_size s.opening) (after_calls s cs) k buffer r e)
     where
       go : ((next_call s cs (ask k buffer)).kept ≡ 1) ⊎ Missing (after_calls s cs) k → (next_call s cs (ask k buffer)).kept ≡ 1
       go (inl y) = y
       go (inr m) =
-          absurd (few (filled s.opening.lent (slot_count s.opening) (slot_size s.opening) (agree-calls s cs).past k (gone s cs k m) f a d))
-
-  -- demand 2, of the kept answers
-  pub drops_exactly_matched : DropsExactlyMatched
-  drops_exactly_matched s cs n us e =
-      drops-at s.opening.lent (slot_size s.opening) (after_calls s cs) n us (plain_after s cs) (agree-calls s cs).stored e
+          absurd (few (filled s.opening.lent (slot_count s.opening) (slot_size s.opening) (agree-calls s cs v).past k (gone s cs v k m) f a d))
 
   -- the kept answers after every list
   pub tidy_after : TidyAfter
-  tidy_after s cs = tidy-at 𝓛 s.opening.lent (slot_count s.opening) (slot_size s.opening) (agree-calls s cs)
+  tidy_after s cs v = tidy-at 𝓛 s.opening.lent (slot_count s.opening) (slot_size s.opening) (agree-calls s cs v)
 
   -- the next call gets what it gets from the plain store
-  pub next-same : (s : Start) (cs : List Call) (c : Call) → (next_call s cs c).out ≡ (P.step s.opening.lent (plain_after s cs) c).1
-  next-same s cs c = (agrees 𝓛 s.opening.lent (slot_count s.opening) (slot_size s.opening) (agree-calls s cs) c).got
+  pub next-same : (s : Start) (cs : List Call) → All Call32 cs → (c : Call) → (next_call s cs c).out ≡ (P.step s.opening.lent (plain_after s cs) c).1
+  next-same s cs v c = (agrees 𝓛 s.opening.lent (slot_count s.opening) (slot_size s.opening) (agree-calls s cs v) c).got
 
   -- so its record reads back
   pub kept_reads_back : KeptReadsBack
-  kept_reads_back s cs v k buffer r e later = answer_reads_back s.opening cs v k buffer r (sym (next-same s cs (ask k buffer)) ∙ e) later
+  kept_reads_back s cs v k buffer r e later = answer_reads_back s.opening cs v k buffer r (sym (next-same s cs v (ask k buffer)) ∙ e) later
 
 -- ---- outright
 
@@ -226,7 +231,7 @@ demands = record {
   same_as_plain = same_as_plain plain-laws;
   anew_only_if = anew_only_if plain-laws;
   kept_otherwise = kept_otherwise plain-laws;
-  drops_exactly_matched = drops_exactly_matched plain-laws;
+  drops_exactly_matched = drops_exactly_matched;
   kept_reads_back = kept_reads_back plain-laws;
   tidy_after = tidy_after plain-laws;
 }

@@ -11,7 +11,7 @@ use Rattle.lists.proofs.Bools.{not-true, is-yes, is-no, no_of}
 use Rattle.lists.proofs.Lists.{All-map, All-take, All-keep, All-kept, distinct-take, distinct-keep}
 use Rattle.meaning.specs.Key.{Key, same_key}
 use Rattle.meaning.specs.Plain as P
-use Rattle.meaning.specs.Plain.{Lengths, Plain, Call, add, ask, change, flush, refusal, is_short, or_else, record_of, too_many, matches_key, refused, does, guard}
+use Rattle.meaning.specs.Plain.{Lengths, Plain, Call, add, ask, change, flush, refusal, is_short, or_else, record_of, too_many, drops_key, refused, does, guard}
 use Rattle.trace.specs.History.{Event, answer_of, drop_of, note, fits, Answered}
 use Rattle.trace.specs.Recent.{Entry, spared, other, front, recent}
 use Rattle.trace.specs.Model.{ask_refusal}
@@ -110,7 +110,7 @@ module _ (𝓛 : TableLaws) (lent : Lengths) where
   past-step {p} {h} g s (change n us) = go (refusal lent p (change n us)) refl
     where
       go : (m : ℕ) → refusal lent p (change n us) ≡ m → Past lent (guard m p refused (does p (change n us))).0 (note m p (change n us) h)
-      go zero e = drops (matches_key p n us) (λ k a. 𝓛.change_keeps lent p n us k g a e) s
+      go zero e = drops (drops_key p n us) (λ k a. 𝓛.change_keeps lent p n us k g a e) s
       go (suc m) e = s
   past-step {p} {h} g s flush = go (refusal lent p flush)
     where

@@ -1,20 +1,55 @@
--- A call gets from the store that keeps answers what it gets from the plain store, and the slots keep what `recent` says of the history. Assumes nothing.
+-- A call gets from the store that keeps answers what it gets from the plain store, and the slots keep what `recent` says of the history; and whatever the
+-- slots keep, it leaves the tables and statements that it leaves there. Assumes nothing.
 use mathlib.Core.Path.{◌≡◌, refl, ap, ◌∙◌, sym}
 use mathlib.Core.Bool.{true, false}
 use mathlib.Core.Option.{Option, none, some}
-use mathlib.Core.List.{List, ◌∷◌, ◌++◌, map}
+use mathlib.Core.List.{List, [], ◌∷◌, ◌++◌, map}
 use Prim.Native.Nat.{ℕ, zero, suc}
 use Rattle.lists.specs.Lists.{All}
 use Rattle.lists.proofs.Lists.{All-head, All-right, All-source}
 use Rattle.meaning.specs.Key.{Key, same_key}
 use Rattle.meaning.specs.Plain as P
-use Rattle.meaning.specs.Plain.{Lengths, Plain, Call, add, ask, change, flush, refusal, record_of, too_many, matches_key, Out, refused, does, guard}
+use Rattle.meaning.specs.Plain.{Lengths, Plain, Call, add, ask, change, flush, refusal, record_of, too_many, drops_key, Out, refused, does, guard}
 use Rattle.trace.specs.History.{Event, answer_of, noted, note, fits}
 use Rattle.trace.specs.Slots.{Held, slot_bytes, find, move_to_front}
-use Rattle.trace.specs.Model.{Seen, turned, Model, ask_refusal, short_refusal, new_refusal, asked, step}
+use Rattle.trace.specs.Model.{Seen, turned, Model, ask_refusal, short_refusal, new_refusal, asked, step, after}
 use Rattle.trace.proofs.Laws.{first_of, ask-refusal}
 use Rattle.trace.proofs.Past.{Past, Current, current}
 use Rattle.trace.proofs.Kept.{entry, Found, find-is, Sound, hit, put-sound, drop-sound}
+
+-- ---- tables and statements, whatever the slots keep
+
+module _ (lent : Lengths) (size : ℕ) where
+  guard-store : (m : ℕ) (s : Model) (q : Model × Seen) (p : Plain × Out) → q.0.store ≡ p.0
+      → (guard m s turned q).0.store ≡ (guard m s.store refused p).0
+  guard-store zero s q p e = e
+  guard-store (suc m) s q p e = refl
+
+  -- a question leaves them as they were
+  guard-asked : (m : ℕ) (s : Model) (q : Model × Seen) → q.0.store ≡ s.store → (guard m s turned q).0.store ≡ s.store
+  guard-asked zero s q e = e
+  guard-asked (suc m) s q e = refl
+
+  asked-store : (s : Model) (k : Key) (b : ℕ) (o : Option (Held Key × List (Held Key))) → (asked lent size s k b o).0.store ≡ s.store
+  asked-store s k b none = guard-asked (new_refusal s.store k b) s _ refl
+  asked-store s k b (some w) = guard-asked (short_refusal b (slot_bytes size s.cache.memory w.0)) s _ refl
+
+  step-store : (s : Model) (c : Call) → (step lent size s c).0.store ≡ (P.step lent s.store c).0
+  step-store s (add text) = guard-store (refusal lent s.store (add text)) s _ _ refl
+  step-store s (ask k b) =
+      guard-asked (ask_refusal lent s.store k) s _ (asked-store s k b (find same_key k s.cache.held)) ∙ sym (stays (refusal lent s.store (ask k b)))
+    where
+      stays : (m : ℕ) → (guard m s.store refused (does s.store (ask k b))).0 ≡ s.store
+      stays zero = refl
+      stays (suc m) = refl
+  step-store s (change n us) = guard-store (refusal lent s.store (change n us)) s _ _ refl
+  step-store s flush = guard-store (refusal lent s.store flush) s _ _ refl
+
+  pub after_store : (s : Model) (p : Plain) → s.store ≡ p → (cs : List Call) → (after lent size s cs).store ≡ P.after lent p cs
+  after_store s p e [] = e
+  after_store s p e (c ∷ cs) = after_store (step lent size s c).0 (P.step lent p c).0 (step-store s c ∙ ap (λ (x : Plain). (P.step lent x c).0) e) cs
+
+-- ---- what a call gets
 
 module _ (lent : Lengths) (n size : ℕ) where
   -- what the two stores give for a call, and what holds after it
@@ -69,7 +104,7 @@ module _ (lent : Lengths) (n size : ℕ) where
         go (suc m) = record { stored = refl; got = refl; sound = ok }
     step-agrees (change i us) =
         guarded (refusal lent s.store (change i us)) (change i us) s h _ _ ok
-        (record { stored = refl; got = refl; sound = drop-sound same_key n size s.cache h (matches_key s.store i us) ok })
+        (record { stored = refl; got = refl; sound = drop-sound same_key n size s.cache h (drops_key s.store i us) ok })
     step-agrees flush =
         guarded (refusal lent s.store flush) flush s h _ _ ok
         (record { stored = refl; got = refl; sound = drop-sound same_key n size s.cache h (λ k. true) ok })

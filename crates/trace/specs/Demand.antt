@@ -4,7 +4,7 @@ use Rattle.lists.specs.Lists.{All, DistinctBy, keep, count, any}
 use Rattle.meaning.specs.Key.{Key, same_key}
 use Rattle.meaning.specs.Demand.{ReadsBack, Call32, rows_listed}
 use Rattle.meaning.specs.Plain as P
-use Rattle.meaning.specs.Plain.{Lengths, Plain, query_at, Opening, Call, ask, change, refusal, record_of, matches_key, answered}
+use Rattle.meaning.specs.Plain.{Lengths, Plain, query_at, Opening, Call, ask, change, refusal, record_of, drops_key, answered}
 use Rattle.trace.specs.History.{Event, history, fits, Answered, hits, since, Filled, Ground}
 use Rattle.trace.specs.Slots.{Names, Held, Cache, order, slot_bytes}
 use Rattle.trace.specs.Model.{Seen, Model, ask_refusal, step, after, outs, slot_count, slot_size, opened}
@@ -26,11 +26,13 @@ next_call s cs c = (step s.opening.lent (slot_size s.opening) (after_calls s cs)
 abbrev pub plain_after : Start → List Call → Plain
 plain_after s cs = P.after s.opening.lent (P.opened s.opening) cs
 
+-- In the claims over lists of calls the values of a call have 32 bits, as their type says (`Call32`); of the next call this is not asked.
+
 -- Demand 3: "For every opening and every list of calls after it .. every call gets the refusal number, the statement's kind and number, the record and the
 -- count of rows inserted, matched or deleted that the same call gets from the plain store of document 01, which keeps no answer, and after the list the
 -- tables hold the same rows as that store's."
 abbrev pub SameAsPlain : Type 0
-SameAsPlain = (s : Start) (cs : List Call)
+SameAsPlain = (s : Start) (cs : List Call) → All Call32 cs
     → (map (λ (o : Seen). o.out) (outs s.opening.lent (slot_size s.opening) (opened s.opening s.memory) cs)
     ≡ P.outs s.opening.lent (P.opened s.opening) cs)
     × ((after_calls s cs).store ≡ plain_after s cs)
@@ -38,7 +40,7 @@ SameAsPlain = (s : Start) (cs : List Call)
 -- Demand 3: "In every such list a question with its values is worked out anew only if it was never answered since opening, its record doesn't fit a slot, a
 -- matching update or a flush came since its last answer, or at least as many different others as there are slots were answered since."
 abbrev pub AnewOnlyIf : Type 0
-AnewOnlyIf = (s : Start) (cs : List Call) (k : Key) (buffer : ℕ) (r : List ℕ)
+AnewOnlyIf = (s : Start) (cs : List Call) → All Call32 cs → (k : Key) (buffer : ℕ) (r : List ℕ)
     → (next_call s cs (ask k buffer)).out ≡ answered r → (next_call s cs (ask k buffer)).kept ≡ 0
     → Ground same_key (slot_count s.opening) (slot_size s.opening) (record_of (plain_after s cs) k) k
     (history s.opening.lent (P.opened s.opening) cs)
@@ -46,14 +48,14 @@ AnewOnlyIf = (s : Start) (cs : List Call) (k : Key) (buffer : ℕ) (r : List ℕ
 -- The converse, by the slot rules: a question that was answered before, whose record fits, with no matching update or flush since, and with fewer different
 -- others than there are slots answered since with records that fit, is kept.
 abbrev pub KeptOtherwise : Type 0
-KeptOtherwise = (s : Start) (cs : List Call) (k : Key) (buffer : ℕ) (r : List ℕ)
+KeptOtherwise = (s : Start) (cs : List Call) → All Call32 cs → (k : Key) (buffer : ℕ) (r : List ℕ)
     → let h : List (Event Key) = history s.opening.lent (P.opened s.opening) cs in
     (next_call s cs (ask k buffer)).out ≡ answered r → Answered k h → fits (slot_size s.opening) (record_of (plain_after s cs) k) ≡ true
     → any (hits k) (since same_key k h) ≡ false → ¬ Filled (slot_size s.opening) (slot_count s.opening) k (since same_key k h)
     → (next_call s cs (ask k buffer)).kept ≡ 1
 
 -- Demand 2: "The kept answers an update drops are exactly those matched by the patterns": of the keys held before it, an update that is not refused leaves
--- those that it does not match, in their order, and its count is the number of the others.
+-- those that it does not match, in their order, and its count is the number of the others; whatever its values and those of the calls before it are.
 abbrev pub keys_held : Model → List Key
 keys_held m = map (λ (e : Held Key). e.key) m.cache.held
 
@@ -61,8 +63,8 @@ abbrev pub DropsExactlyMatched : Type 0
 DropsExactlyMatched = (s : Start) (cs : List Call) (n : ℕ) (us : List ℤ)
     → refusal s.opening.lent (plain_after s cs) (change n us) ≡ 0
     → (keys_held (step s.opening.lent (slot_size s.opening) (after_calls s cs) (change n us)).0
-    ≡ keep (λ (k : Key). not (matches_key (plain_after s cs) n us k)) (keys_held (after_calls s cs)))
-    × ((next_call s cs (change n us)).drops ≡ count (matches_key (plain_after s cs) n us) (keys_held (after_calls s cs)))
+    ≡ keep (λ (k : Key). not (drops_key (plain_after s cs) n us k)) (keys_held (after_calls s cs)))
+    × ((next_call s cs (change n us)).drops ≡ count (drops_key (plain_after s cs) n us) (keys_held (after_calls s cs)))
 
 -- The kept answers after a list: each slot is named once, no key is held twice, and each record is the plain store's of now and fits its slot.
 pub record Tidy (n size : ℕ) (lent : Lengths) (p : Plain) (c : Cache Key) : Type 0 where
@@ -71,7 +73,7 @@ pub record Tidy (n size : ℕ) (lent : Lengths) (p : Plain) (c : Cache Key) : Ty
   pub right : All (λ e. (ask_refusal lent p e.key ≡ 0) × (slot_bytes size c.memory e ≡ record_of p e.key) × (e.len ≤ size)) c.held
 
 abbrev pub TidyAfter : Type 0
-TidyAfter = (s : Start) (cs : List Call)
+TidyAfter = (s : Start) (cs : List Call) → All Call32 cs
     → Tidy (slot_count s.opening) (slot_size s.opening) s.opening.lent (plain_after s cs) (after_calls s cs).cache
 
 -- Demand 2, "under 3's premises a kept one": in every such list an answer, kept or new, leaves a record that reads back as the rows that Meaning lists on

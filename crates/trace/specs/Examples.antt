@@ -10,8 +10,9 @@ use Rattle.meaning.specs.Names.{unknown, taken, miscounted, twice}
 use Rattle.meaning.specs.Statement.{statement_of}
 use Rattle.meaning.specs.Meaning.{answer, changed, rows_changed}
 use Rattle.meaning.specs.Record.{body, encode}
-use Rattle.meaning.specs.Pattern.{side_of, joint_clauses, class, contradictory, entry, patterns, matches_two}
-use Rattle.meaning.specs.Plain.{Opening, opening_refused, Call, add, ask, change, flush, other_lengths, no_place, full, refusal, record_of, too_many, matches_key, Out, refused, added, answered, rows, flushed, a_table, a_query, an_update, added_text, changed_by, rows_by}
+use Rattle.meaning.specs.Pattern.{side_of, matters, joint_clauses, class, contradictory, entry, patterns, matches_two}
+use Rattle.meaning.specs.Exact.{is_separate, affects, drops}
+use Rattle.meaning.specs.Plain.{Opening, opening_refused, Call, add, ask, change, flush, other_lengths, no_place, full, refusal, record_of, too_many, drops_key, Out, refused, added, answered, rows, flushed, a_table, a_query, an_update, added_text, changed_by, rows_by}
 use Rattle.meaning.specs.Key.{Key}
 use Rattle.meaning.specs.Paired.{long, first_question}
 use Rattle.trace.specs.Slots.{Held}
@@ -19,7 +20,7 @@ use Rattle.trace.specs.Model.{Seen, Model, step, outs, slot_size, opened}
 
 -- what the computations open
 computing : Unit {0}
-unfolding is_name_byte is_word_byte decimal is_name word negative token_from first_token scan tokens a_condition a_sentence read past_limit unknown taken miscounted twice statement_of answer changed rows_changed body encode joint_clauses class contradictory entry patterns matches_two opening_refused other_lengths no_place full refusal record_of too_many side_of matches_key added_text changed_by rows_by
+unfolding is_name_byte is_word_byte decimal is_name word negative token_from first_token scan tokens a_condition a_sentence read past_limit unknown taken miscounted twice statement_of answer changed rows_changed body encode matters joint_clauses class contradictory entry patterns matches_two is_separate affects drops opening_refused other_lengths no_place full refusal record_of too_many side_of drops_key added_text changed_by rows_by
 computing = tt
 
 -- 4,096 cells, 256 bytes of kept memory, 4 slots of 64 bytes
@@ -175,3 +176,29 @@ sixteen-is = refl
 pub kept-is : line_of (asking (record { slot = 0; key = first_question []; len = 8 } ∷ [])) ≡ (answered (0 ∷ 0 ∷ 0 ∷ 4 ∷ 1 ∷ 1 ∷ 0 ∷ 0 ∷ []), 1, 0, 0)
 unfolding computing
 kept-is = refl
+
+-- ---- request A.7
+
+-- every INSERT has a pattern that matches the question for high water: one of a lower level leaves its answer kept, and one of a higher level drops it
+pub high_is : lines (ADD "TABLE stage (site, level) ROWS 3"
+    ∷ ADD "INSERT INTO stage VALUES (?, ?)"
+    ∷ ADD "SELECT site FROM stage WHERE level > ?"
+    ∷ DO 0 (7 ∷ 121 ∷ [])
+    ∷ ASK 0 (120 ∷ [])
+    ∷ DO 0 (8 ∷ 99 ∷ [])
+    ∷ ASK 0 (120 ∷ [])
+    ∷ DO 0 (9 ∷ 130 ∷ [])
+    ∷ ASK 0 (120 ∷ [])
+    ∷ [])
+    ≡ plain (added a_table 0)
+    ∷ plain (added an_update 0)
+    ∷ plain (added a_query 0)
+    ∷ plain (rows 1)
+    ∷ (answered (0 ∷ 0 ∷ 0 ∷ 8 ∷ 1 ∷ 1 ∷ 0 ∷ 1 ∷ levels (7 ∷ [])), 0, 1, 0)
+    ∷ plain (rows 1)
+    ∷ (answered (0 ∷ 0 ∷ 0 ∷ 8 ∷ 1 ∷ 1 ∷ 0 ∷ 1 ∷ levels (7 ∷ [])), 1, 0, 0)
+    ∷ (rows 1, 0, 0, 1)
+    ∷ (answered (0 ∷ 0 ∷ 0 ∷ 12 ∷ 1 ∷ 1 ∷ 0 ∷ 2 ∷ levels (7 ∷ 9 ∷ [])), 0, 3, 0)
+    ∷ []
+unfolding computing
+high_is = refl

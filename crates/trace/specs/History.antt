@@ -4,7 +4,7 @@ use Rattle.std.specs.Prelude.{◌≡◌, ◌≢◌, ◌⊎◌, Bool, true, false
 use mathlib.Core.HLevel.{Discrete}
 use Rattle.lists.specs.Lists.{All, Distinct, any}
 use Rattle.meaning.specs.Key.{Key}
-use Rattle.meaning.specs.Plain.{Lengths, Plain, Call, add, ask, change, flush, record_of, matches_key, refusal, step}
+use Rattle.meaning.specs.Plain.{Lengths, Plain, Call, add, ask, change, flush, record_of, drops_key, refusal, step}
 
 -- a key answered, with its record; an update or a flush, with the keys that it matches
 pub data Event (K : Type 0) : Type 0 where
@@ -15,7 +15,7 @@ pub data Event (K : Type 0) : Type 0 where
 abbrev pub noted : Plain → Call → List (Event Key) → List (Event Key)
 noted p (add text) h = h
 noted p (ask k buffer) h = answer_of k (record_of p k) ∷ h
-noted p (change n us) h = drop_of (matches_key p n us) ∷ h
+noted p (change n us) h = drop_of (drops_key p n us) ∷ h
 noted p flush h = drop_of (λ k. true) ∷ h
 
 -- a refused call is no event

@@ -4,7 +4,7 @@ use Rattle.std.specs.Prelude.{Bool, true, false, List, [], ◌∷◌, ℕ, lengt
 use Rattle.std.proofs.Math.Option.{Option, none, some}
 use Rattle.meaning.specs.Key.{Key, same_key}
 use Rattle.meaning.specs.Plain as P
-use Rattle.meaning.specs.Plain.{Lengths, Plain, Opening, opening_refused, Call, add, ask, change, flush, ask_conditions, is_short, or_else, lowest_of, refusal, record_of, too_many, rows_read, matches_key, Out, refused, answered, does, guard}
+use Rattle.meaning.specs.Plain.{Lengths, Plain, Opening, opening_refused, Call, add, ask, change, flush, ask_conditions, is_short, or_else, lowest_of, refusal, record_of, too_many, rows_read, drops_key, Out, refused, answered, does, guard}
 use Rattle.trace.specs.History.{fits}
 use Rattle.trace.specs.Slots.{Held, Cache, slot_bytes, empty, find, move_to_front, put, drop_by, drop_count}
 
@@ -66,7 +66,7 @@ module _ (lent : Lengths) (size : ℕ) where
       guard (refusal lent s.store (add text)) s turned
       (record { store = (does s.store (add text)).0; cache = s.cache }, plainly (does s.store (add text)).1)
   step s (ask k buffer) = guard (ask_refusal lent s.store k) s turned (asked s k buffer (find same_key k s.cache.held))
-  step s (change n us) = guard (refusal lent s.store (change n us)) s turned (dropping s (change n us) (matches_key s.store n us))
+  step s (change n us) = guard (refusal lent s.store (change n us)) s turned (dropping s (change n us) (drops_key s.store n us))
   step s flush = guard (refusal lent s.store flush) s turned (dropping s flush (λ k. true))
 
   -- the model after a list of calls, each given what the one before it left; what each gets

@@ -1,9 +1,11 @@
 //! The reference itself on document 01's examples, and on examples worked out by hand: questions over two tables, names
-//! in capitals, tables that run round, nulls, and rows read in a pair.
+//! in capitals, tables that run round, nulls, rows read in a pair, and fewer answers dropped.
 
+use crate::exact::{premise, Pair, Premise};
 use crate::front::{Front, Mode};
+use crate::generate::Random;
 use crate::meaning::{truth, Truth, NULL};
-use crate::pattern::{patterns, patterns_of_pushed, Place};
+use crate::pattern::{agrees, patterns, patterns_of_pushed, Place};
 use crate::shown::Texts;
 use crate::text::{Catalogue, Statement};
 
@@ -403,13 +405,13 @@ ASK 0 => new read 1 :
 ASK 1 4 => new read 1 : 4
 ASK 1 3 => new read 1 :
 ASK 1 2 => new read 1 :
-DO 0 3 => rows 1 dropped 3
-ASK 1 3 => new read 1 : 3
-ASK 0 => new read 1 :
 DO 0 3 => rows 1 dropped 2
 ASK 1 3 => new read 1 : 3
+ASK 0 => kept read 0 :
+DO 0 3 => rows 1 dropped 1
+ASK 1 3 => new read 1 : 3
 DO 1 => rows 0 dropped 0
-DO 0 8 => rows 1 dropped 1
+DO 0 8 => rows 1 dropped 2
 ASK 1 3 => new read 1 :
 ASK 1 8 => new read 1 : 8
 DO 1 => rows 0 dropped 0
@@ -639,7 +641,7 @@ ASK 2 => new read 3 : 1 -2147483648 / 3 -2147483648
 ADD DELETE FROM stage WHERE level <= -2147483648 => update 4
 DO 4 => rows 0 dropped 0
 ADD DELETE FROM stage WHERE level IS NULL AND site = ? => update 5
-DO 5 3 => rows 1 dropped 4
+DO 5 3 => rows 1 dropped 1
 ASK 2 => new read 2 : 1 -2147483648
 ADD SELECT site FROM stage WHERE level = level => query 4
 ASK 4 => new read 2 : 2
@@ -649,17 +651,17 @@ ADD SELECT site FROM stage WHERE NOT (site IS NULL OR level < 5) => query 6
 ASK 6 => new read 2 : 2
 ADD SELECT level FROM stage WHERE NOT level IS NOT NULL AND site = ? => query 7
 ASK 7 1 => new read 2 : -2147483648
-DO 0 -2147483648 7 => rows 1 dropped 2
+DO 0 -2147483648 7 => rows 1 dropped 1
 ASK 5 => kept read 0 :
-ASK 6 => new read 3 : 2
+ASK 6 => kept read 0 : 2
 ASK 4 => new read 3 : 2 / -2147483648
 ASK 7 -2147483648 => new read 3 :
 ASK 7 -2147483648 => kept read 0 :
-DO 0 -2147483648 -2147483648 => rows 1 dropped 3
-ASK 7 -2147483648 => new read 4 :
+DO 0 -2147483648 -2147483648 => rows 1 dropped 1
+ASK 7 -2147483648 => kept read 0 :
 ASK 2 => new read 4 : 1 -2147483648 / -2147483648 -2147483648
-DO 2 1 => rows 1 dropped 1
-DO 1 5 -2147483648 => rows 0 dropped 1
+DO 2 1 => rows 1 dropped 2
+DO 1 5 -2147483648 => rows 0 dropped 0
 ASK 5 => kept read 0 :
 ";
 
@@ -717,15 +719,15 @@ ASK 1 => kept read 0 :
 ASK 2 -2147483648 => kept read 0 :
 ASK 0 => new read 2 :
 ASK 3 1 => new read 2 :
-DO 0 4 -2147483648 => rows 1 dropped 3
+DO 0 4 -2147483648 => rows 1 dropped 1
 ASK 0 => new read 2 : 4
-ASK 1 => new read 2 :
+ASK 1 => kept read 0 :
 DO 1 5 => rows 1 dropped 0
 ASK 0 => kept read 0 : 4
 DO 1 6 => rows 1 dropped 1
 ASK 1 => kept read 0 :
 ASK 0 => new read 2 :
-DO 0 -2147483648 3 => rows 1 dropped 2
+DO 0 -2147483648 3 => rows 1 dropped 1
 ASK 1 => new read 2 : -2147483648
 ASK 3 -2147483648 => new read 2 :
 DO 1 7 => rows 1 dropped 0
@@ -1293,6 +1295,384 @@ FLUSH => flushed
 ASK 3 64 => new read 7 bytes 20 : 31 / 20 / 32
 ";
 
+/// Fewer answers dropped (A.7): a matched answer stays where no row is affected. `a = a`, `a < b` and a question over two
+/// tables go by the patterns.
+const EXACT: &str = "ADD TABLE stage (site, level) ROWS 8 => table 0
+ADD INSERT INTO stage VALUES (?, ?) => update 0
+ADD UPDATE stage SET level = ? WHERE level < 50 => update 1
+ADD DELETE FROM stage WHERE level <= ? => update 2
+ADD SELECT site FROM stage WHERE level > ? => query 0
+DO 0 1 40 => rows 1 dropped 0
+DO 0 2 120 => rows 1 dropped 0
+ASK 0 100 => new read 2 : 2
+DO 1 60 => rows 1 dropped 0
+ASK 0 100 => kept read 0 : 2
+DO 1 101 => rows 0 dropped 1
+ASK 0 100 => new read 2 : 2
+DO 1 100 => rows 0 dropped 0
+DO 1 -2147483648 => rows 0 dropped 0
+ASK 0 100 => kept read 0 : 2
+DO 2 100 => rows 1 dropped 0
+ASK 0 100 => kept read 0 : 2
+DO 2 101 => rows 0 dropped 1
+ASK 0 100 => new read 1 : 2
+DO 0 3 100 => rows 1 dropped 0
+DO 0 4 -2147483648 => rows 1 dropped 0
+ASK 0 100 => kept read 0 : 2
+DO 0 5 101 => rows 1 dropped 1
+ASK 0 100 => new read 4 : 2 / 5
+ADD SELECT site FROM stage WHERE level > 10 => query 1
+ADD SELECT level FROM stage WHERE level > 10 => query 2
+ADD UPDATE stage SET level = 60 WHERE level > 20 => update 3
+ASK 1 => new read 4 : 2 / 3 / 5
+ASK 2 => new read 4 : 120 / 100 / 101
+DO 3 => rows 3 dropped 2
+ASK 1 => kept read 0 : 2 / 3 / 5
+ASK 2 => new read 4 : 60 / 60 / 60
+ADD SELECT site FROM stage WHERE site < level AND level > 100 => query 3
+ASK 3 => new read 4 :
+DO 0 9 5 => rows 1 dropped 1
+ASK 3 => new read 5 :
+ASK 1 => kept read 0 : 2 / 3 / 5
+ADD SELECT site FROM stage WHERE site = site AND level > 100 => query 4
+ASK 4 => new read 5 :
+DO 0 9 6 => rows 1 dropped 2
+ASK 1 => kept read 0 : 2 / 3 / 5
+ADD TABLE rating (flow) ROWS 2 => table 1
+ADD SELECT stage.site FROM stage, rating WHERE stage.level > 100 => query 5
+ASK 5 => new read 6 :
+DO 0 9 7 => rows 1 dropped 1
+ASK 1 => kept read 0 : 2 / 3 / 5
+ADD DELETE FROM stage WHERE site = 1 AND level < 5 => update 4
+DO 4 => rows 0 dropped 0
+ADD DELETE FROM stage WHERE site = site AND level < 5 => update 5
+DO 5 => rows 0 dropped 2
+ASK 1 => new read 7 : 2 / 3 / 5
+";
+
+/// The lines of `EXACT`, for the generator.
+pub fn exact_lines() -> impl Iterator<Item = &'static str> {
+    EXACT.lines().map(|line| line.split_once(" => ").expect("each line has two sides").0)
+}
+
+/// Fewer answers dropped by a ring of one: of the row inserted and the row pushed out either may be taken, both or neither.
+const EXACT_RINGS: &str = "ADD TABLE one (a, b) RING 1 => table 0
+ADD INSERT INTO one VALUES (?, ?) => update 0
+ADD SELECT b FROM one WHERE a > ? => query 0
+DO 0 5 50 => rows 1 dropped 0
+ASK 0 5 => new read 1 :
+ASK 0 4 => new read 1 : 50
+DO 0 5 51 => rows 1 dropped 1
+ASK 0 5 => kept read 0 :
+ASK 0 4 => new read 1 : 51
+DO 0 4 52 => rows 1 dropped 1
+ASK 0 5 => kept read 0 :
+ASK 0 4 => new read 1 :
+DO 0 6 53 => rows 1 dropped 2
+ASK 0 5 => new read 1 : 53
+DO 0 6 53 => rows 1 dropped 1
+ASK 0 5 => new read 1 : 53
+DO 0 -2147483648 1 => rows 1 dropped 1
+ASK 0 5 => new read 1 :
+DO 0 -2147483648 2 => rows 1 dropped 0
+ASK 0 5 => kept read 0 :
+ADD SELECT b FROM one WHERE a < b AND b > 100 => query 1
+ASK 1 => new read 1 :
+DO 0 1 2 => rows 1 dropped 1
+ASK 0 5 => kept read 0 :
+ADD INSERT INTO one VALUES (9, 3) => update 1
+ADD SELECT b FROM one WHERE a < b AND b > ? => query 2
+ASK 2 100 => new read 1 :
+DO 1 => rows 1 dropped 2
+ADD SELECT b FROM one WHERE b > ? => query 3
+ASK 3 100 => new read 1 :
+DO 1 => rows 1 dropped 0
+ASK 3 100 => kept read 0 :
+";
+
+/// Fewer answers dropped beside a table without rows, which drops as one with rows does.
+const EXACT_EMPTY: &str = "ADD TABLE stage (site, level) ROWS 3 => table 0
+ADD SELECT site FROM stage WHERE level < 50 => query 0
+ADD SELECT level FROM stage => query 1
+ADD UPDATE stage SET level = 7 WHERE level IS NULL => update 0
+ADD UPDATE stage SET level = 7 WHERE level = 7 => update 1
+ADD UPDATE stage SET level = 7 WHERE level = 8 => update 2
+ADD DELETE FROM stage WHERE level >= 50 => update 3
+ADD DELETE FROM stage WHERE level = ? => update 4
+ASK 0 => new read 0 :
+ASK 1 => new read 0 :
+DO 1 => rows 0 dropped 0
+DO 2 => rows 0 dropped 1
+ASK 0 => kept read 0 :
+ASK 1 => new read 0 :
+DO 0 => rows 0 dropped 2
+ASK 0 => new read 0 :
+ASK 1 => new read 0 :
+DO 3 => rows 0 dropped 1
+ASK 1 => new read 0 :
+DO 4 -2147483648 => rows 0 dropped 0
+DO 4 50 => rows 0 dropped 1
+ASK 0 => kept read 0 :
+ASK 1 => new read 0 :
+DO 4 49 => rows 0 dropped 2
+";
+
+/// A question with its values, an update with its values, and what comes of a kept answer: no pattern, left though a pattern
+/// matched, dropped, or dropped by the patterns alone. W stands for `SELECT site FROM stage WHERE`, L for `SELECT level FROM
+/// stage WHERE`, D for `DELETE FROM stage WHERE`, U for `UPDATE stage SET`, I for `INSERT INTO stage VALUES`. The table is
+/// `stage (site, level, flow)`.
+const EXACT_PAIRS: &str = "
+W level > ? ; 100 ; U level = ? WHERE level < 50 ; 60 ; left
+W level > ? ; 100 ; U level = ? WHERE level < 50 ; 100 ; left
+W level > ? ; 100 ; U level = ? WHERE level < 50 ; 101 ; dropped
+W level > ? ; 48 ; U level = ? WHERE level < 50 ; 48 ; dropped
+W level > ? ; 48 ; U level = ? WHERE level < 50 ; 49 ; dropped
+W level > ? ; 49 ; U level = ? WHERE level < 50 ; 49 ; left
+W level > ? ; 49 ; U level = ? WHERE level < 50 ; 50 ; dropped
+W level >= ? ; 49 ; U level = ? WHERE level <= 49 ; 48 ; dropped
+W level >= ? ; 50 ; U level = ? WHERE level <= 49 ; 48 ; left
+W level > ? ; 100 ; U level = ? WHERE level < 50 ; -2147483648 ; left
+W level > ? ; 40 ; U level = ? WHERE level < 50 ; -2147483648 ; dropped
+W level > 3 AND level < 6 AND level <> 4 ; ; D level <> 5 ; ; left
+W level > 3 AND level < 6 AND level <> 4 ; ; D level <> 4 ; ; dropped
+W level > 3 AND level < 6 AND level <> 4 AND level <> 5 ; ; D level <> 9 ; ; left
+W level > 3 AND level < 5 ; ; D level <> 4 ; ; left
+W level > 3 AND level < 5 ; ; D level >= 4 ; ; dropped
+W level > 3 AND level < 4 ; ; D site = 1 ; ; left
+W level >= 3 AND level < 4 ; ; D site = 1 ; ; dropped
+W NOT (level <= 3 OR level >= 5) ; ; D level < 4 OR level > 4 ; ; left
+W NOT (level <= 3 OR level >= 5) ; ; D NOT level <> 4 ; ; dropped
+W level <> 4 AND level <> 5 AND level <> 6 ; ; D level > 3 AND level < 7 ; ; left
+W level <> 4 AND level <> 6 ; ; D level > 3 AND level < 7 ; ; dropped
+W level > ? ; 2147483647 ; D site = 1 ; ; left
+W level > ? ; 2147483646 ; D site = 1 ; ; dropped
+W level > ? ; 2147483646 ; D level < 2147483647 ; ; left
+W level >= ? ; 2147483647 ; D site = 1 ; ; dropped
+W level < -2147483647 ; ; D site = 1 ; ; left
+W level <= -2147483647 ; ; D site = 1 ; ; dropped
+W level < -2147483646 ; ; D level > -2147483647 ; ; left
+W level < -2147483646 ; ; D level >= -2147483647 ; ; dropped
+W level < ? ; -2147483647 ; U level = ? ; -2147483648 ; left
+W level <> ? ; 2147483647 ; D level >= 2147483646 ; ; dropped
+W level <> ? ; 2147483647 ; D level > 2147483646 ; ; left
+W NOT level < 2147483647 AND level <> 2147483647 ; ; D 1 = 1 ; ; left
+W NOT level > -2147483647 AND NOT level = -2147483647 ; ; D 1 = 1 ; ; left
+W level IS NULL ; ; D 1 = 1 ; ; dropped
+W level IS NULL ; ; D level < 5 ; ; left
+W level IS NULL ; ; D NOT level < 5 ; ; left
+W level IS NULL ; ; D level IS NOT NULL ; ; left
+W level IS NOT NULL ; ; D NOT level IS NOT NULL ; ; left
+W level IS NULL AND level IS NOT NULL ; ; D 1 = 1 ; ; left
+W level IS NULL OR level < 5 ; ; D level >= 5 ; ; left
+W NOT level < 5 ; ; D level IS NULL ; ; left
+W level < 5 OR NOT level < 5 ; ; D level IS NULL ; ; left
+W level < 50 ; ; U level = 7 WHERE level IS NULL ; ; dropped
+W level < 50 ; ; U level = 50 WHERE level IS NULL ; ; left
+W NOT level < 50 ; ; U level = 50 WHERE level IS NULL ; ; dropped
+L level IS NULL ; ; U level = ? WHERE level IS NULL ; -2147483648 ; left
+L level IS NULL ; ; U level = ? WHERE level IS NULL ; 0 ; dropped
+L site = 1 ; ; U level = -2147483648 WHERE level IS NULL ; ; left
+L site = 1 ; ; U level = -2147483648 WHERE NOT level IS NULL ; ; dropped
+L site = 1 ; ; U level = ? ; -2147483648 ; dropped
+SELECT level FROM stage ; ; U level = 7 WHERE level = 7 ; ; left
+SELECT level FROM stage ; ; U level = 7 WHERE level = 8 ; ; dropped
+SELECT level FROM stage ; ; U level = 7 ; ; dropped
+SELECT level FROM stage ; ; U level = 7 WHERE level > 6 AND level < 8 ; ; left
+SELECT level FROM stage ; ; U level = 7 WHERE level > 0 AND level < 14 ; ; dropped
+SELECT level FROM stage ; ; U level = ? WHERE level IS NOT NULL ; 0 ; dropped
+SELECT level FROM stage ; ; U level = ? WHERE level IS NULL ; -2147483648 ; left
+SELECT level FROM stage ; ; U level = ? WHERE level = ? ; 3 3 ; left
+SELECT level FROM stage ; ; U level = ? WHERE level = ? ; 3 4 ; dropped
+SELECT level FROM stage ; ; U level = ? WHERE level = ? ; -2147483648 -2147483648 ; left
+SELECT level FROM stage ; ; D level = ? ; -2147483648 ; left
+SELECT level FROM stage ; ; D level <> ? ; -2147483648 ; left
+SELECT level FROM stage ; ; D level < -2147483647 ; ; left
+SELECT level FROM stage ; ; D level = ? ; 2147483647 ; dropped
+SELECT level FROM stage ; ; DELETE FROM stage ; ; dropped
+SELECT level FROM stage ; ; D 1 = 2 ; ; no pattern
+SELECT level FROM stage ; ; D ? = 2 ; 1 ; left
+SELECT level FROM stage ; ; D ? = 2 ; 2 ; dropped
+SELECT level FROM stage ; ; I (1, ?, 3) ; -2147483648 ; dropped
+SELECT level FROM stage ; ; U site = 1 ; ; no pattern
+SELECT site, level FROM stage ; ; U site = 1, level = 2 WHERE site = 1 ; ; dropped
+SELECT site, level FROM stage ; ; U site = 1, level = 2 WHERE site = 1 AND level = 2 ; ; left
+SELECT site, level, flow FROM stage ; ; U flow = ?, level = 2 WHERE level = 2 AND flow = ? ; 9 9 ; left
+SELECT site, level, flow FROM stage ; ; U flow = ?, level = 2 WHERE level = 2 AND flow = ? ; 9 8 ; dropped
+SELECT flow FROM stage WHERE site = ? AND level = ? ; 1 2 ; U flow = ? WHERE site = ? AND level > ? ; 5 1 2 ; left
+SELECT flow FROM stage WHERE site = ? AND level = ? ; 1 2 ; U flow = ? WHERE site = ? AND level > ? ; 5 1 1 ; dropped
+W level = ? ; -2147483648 ; D 1 = 1 ; ; left
+W level = ? ; -2147483648 ; D level = ? ; -2147483648 ; left
+W level <> ? ; -2147483648 ; D 1 = 1 ; ; left
+W NOT level = ? ; -2147483648 ; I (1, ?, 3) ; 5 ; left
+W level = ? OR site = 1 ; -2147483648 ; D 1 = 1 ; ; dropped
+W level = ? AND site = 1 ; -2147483648 ; U level = ? ; -2147483648 ; left
+W ? = 1 ; 2 ; D 1 = 1 ; ; no pattern
+W ? = 1 ; 1 ; D 1 = 1 ; ; dropped
+W ? = ? ; 3 4 ; U site = 1 ; ; left
+W ? = ? ; 4 4 ; U site = 1 ; ; dropped
+W ? = ? ; 4 4 ; U site = 1 WHERE site = 1 ; ; left
+W level > 10 ; ; U level = 60 WHERE level > 20 ; ; left
+L level > 10 ; ; U level = 60 WHERE level > 20 ; ; dropped
+L level > 10 ; ; U level = 60 WHERE level = 60 ; ; left
+L level > 10 ; ; U level = 60 WHERE level > 58 AND level <= 60 AND level <> 59 ; ; left
+L level > 10 ; ; U level = 60 WHERE level > 58 AND level <= 60 ; ; dropped
+L level > 60 ; ; U level = 60 WHERE level < 60 ; ; left
+W site > 10 AND level > 10 ; ; U level = 60 WHERE level > 20 ; ; left
+W site > 10 AND level > 10 ; ; U level = 60 WHERE level > 9 ; ; dropped
+W site > 10 AND level > 10 ; ; U level = 60 WHERE level > 9 AND site < 11 ; ; left
+W site > 10 AND level > 10 ; ; U level = 60 WHERE level > 9 AND site < 12 ; ; dropped
+W level < 5 OR level > 7 ; ; U level = 9 WHERE level < 5 ; ; left
+W level < 5 OR level > 7 ; ; U level = 9 WHERE level < 6 ; ; dropped
+W level < 5 OR level > 7 ; ; D level >= 5 AND level <= 7 ; ; left
+W level < 5 OR level > 7 ; ; D level >= 5 AND level <= 8 ; ; dropped
+W level < ? ; 5 ; I (?, ?, ?) ; 1 5 1 ; left
+W level < ? ; 5 ; I (?, ?, ?) ; 1 4 1 ; dropped
+W level < ? ; 5 ; I (?, ?, ?) ; 1 -2147483648 1 ; left
+W NOT level < ? ; 5 ; I (?, ?, ?) ; 1 -2147483648 1 ; left
+W level IS NULL ; ; I (?, ?, ?) ; 1 5 1 ; left
+W level IS NULL ; ; I (?, ?, ?) ; 1 -2147483648 1 ; dropped
+W level = ? ; -2147483648 ; I (?, ?, ?) ; 1 -2147483648 1 ; left
+W level = ? ; 5 ; I (?, ?, ?) ; 1 6 1 ; no pattern
+W site = ? AND level > 3 ; 1 ; I (?, ?, ?) ; 1 3 1 ; left
+W site = ? AND level > 3 ; 1 ; I (?, ?, ?) ; 1 4 1 ; dropped
+W site < level AND level > 3 ; ; I (?, ?, ?) ; 5 4 1 ; by patterns
+W level = level AND level > 3 ; ; I (?, ?, ?) ; 5 3 1 ; by patterns
+W level > 3 ; ; D site = level AND level < 4 ; ; by patterns
+W level > 3 ; ; D level = level AND level < 4 ; ; by patterns
+W level > 3 ; ; D level < 4 AND (1 = 2 OR flow < flow) ; ; no pattern
+W level > 3 ; ; D level < 4 AND (1 = 1 OR flow < flow) ; ; by patterns
+W level > 3 OR 1 = 2 AND site = flow ; ; D level < 4 ; ; by patterns
+W level > 3 ; ; U level = 4 WHERE site <> flow AND level > 4 ; ; by patterns
+W level > 3 ; ; U level = 4 WHERE site <> 1 AND level > 4 ; ; left
+W level > 3 ; ; D level < 4 AND site IS NULL AND flow IS NOT NULL ; ; left
+SELECT stage.site FROM stage, rating WHERE stage.level > 3 ; ; D level < 4 ; ; by patterns
+SELECT stage.site FROM rating, stage WHERE stage.level > 3 ; ; I (?, ?, ?) ; 1 2 3 ; by patterns
+SELECT rating.site FROM rating, stage ; ; D ? = 1 ; 2 ; by patterns
+SELECT flow FROM rating WHERE flow > 3 ; ; D level > 3 ; ; no pattern
+";
+
+/// `EXACT_PAIRS`, with rows tried one by one as well.
+fn exact_pairs_hold() -> bool {
+    let short = [
+        ("W ", "SELECT site FROM stage WHERE "),
+        ("L ", "SELECT level FROM stage WHERE "),
+        ("D ", "DELETE FROM stage WHERE "),
+        ("U ", "UPDATE stage SET "),
+        ("I ", "INSERT INTO stage VALUES "),
+    ];
+    let text = |part: &str| match short.iter().find(|(letter, _)| part.starts_with(letter)) {
+        Some((letter, long)) => part.replacen(letter, long, 1),
+        None => part.to_string(),
+    };
+    let values = |part: &str| -> Vec<i32> { part.split_whitespace().map(|word| word.parse().expect("a value")).collect() };
+    let mut held = true;
+    for line in EXACT_PAIRS.lines().filter(|line| !line.is_empty()) {
+        let parts: Vec<&str> = line.split(';').map(str::trim).collect();
+        let [question, key, update, given, expected] = parts[..] else { panic!("five parts in `{line}`") };
+        let mut catalogue = Catalogue::default();
+        let tables = ["TABLE stage (site, level, flow) ROWS 3", "TABLE rating (site, flow) ROWS 3"].map(String::from);
+        for text in tables.into_iter().chain([text(question), text(update)]) {
+            let statement = catalogue.read(100, text.as_bytes()).expect("an example's text is taken");
+            catalogue.append(statement);
+        }
+        let (question, update) = (&catalogue.questions[0], &catalogue.updates[0]);
+        let (key, given) = (&values(key)[..], &values(given)[..]);
+        let pair = Pair { question, key, update, values: given, width: 3 };
+        let matches = patterns(question, update).iter().any(|pattern| agrees(pattern, given, key));
+        let found = match premise(question, update) {
+            _ if !matches => "no pattern",
+            Premise::TwoTables | Premise::ColumnWithColumn => "by patterns",
+            Premise::Holds if pair.drops(None) == (false, false) => "left",
+            Premise::Holds => "dropped",
+        };
+        let by_trial = match premise(question, update) {
+            Premise::Holds => pair.drops_by_trial(None, 1_000_000).expect("few rows"),
+            Premise::TwoTables | Premise::ColumnWithColumn => found == "dropped",
+        };
+        if found != expected || by_trial != (found == "dropped") {
+            println!("`{line}`: {found}, by trial dropped: {by_trial}");
+            held = false;
+        }
+    }
+    held
+}
+
+/// Regions and trial agree on statements by chance, of one to three columns, with numbers about 0, 5 and the ends.
+fn decisions_agree() -> bool {
+    let mut random = Random::new(7);
+    let pick = |random: &mut Random, from: &[&str]| from[random.below(from.len())].to_string();
+    let columns = ["a", "b", "c"];
+    let numbers = ["0", "1", "2", "3", "4", "5", "-1", "2147483647", "2147483646", "-2147483647", "-2147483646", "-2147483648"];
+    let relations = ["=", "<>", "<", "<=", ">", ">="];
+    let mut held = true;
+    for _ in 0..6_000 {
+        let width = 1 + random.below(3);
+        let near = if random.below(4) == 0 { numbers.len() } else { 6 };
+        let condition = |random: &mut Random| {
+            let mut text = String::new();
+            let count = 1 + random.below(5);
+            for i in 0..count {
+                if i > 0 {
+                    text.push_str(&pick(random, &[" AND ", " AND ", " OR ", " AND NOT ", " OR NOT "]));
+                }
+                let column = pick(random, &columns[..width]);
+                let number = pick(random, &numbers[..near]);
+                text.push_str(&match random.below(12) {
+                    0 => format!("{column} IS NULL"),
+                    1 => format!("{column} IS NOT NULL"),
+                    2 => format!("{number} {} {}", pick(random, &relations), pick(random, &numbers[..near])),
+                    3 => format!("{number} {} {column}", pick(random, &relations)),
+                    4 => format!("NOT ({column} {} {number} OR {column} = 4)", pick(random, &relations)),
+                    _ => format!("{column} {} {number}", pick(random, &relations)),
+                });
+            }
+            if random.below(4) == 0 { format!("NOT ({text})") } else { text }
+        };
+        let f = condition(&mut random);
+        let g = condition(&mut random);
+        let set: Vec<String> =
+            (0..1 + random.below(width)).map(|i| format!("{} = {}", columns[i], pick(&mut random, &numbers[..near]))).collect();
+        let question = match random.below(8) {
+            0 => format!("SELECT {} FROM t", pick(&mut random, &columns[..width])),
+            _ => format!("SELECT {} FROM t WHERE {f}", pick(&mut random, &columns[..width])),
+        };
+        let update = match random.below(5) {
+            0 => format!("UPDATE t SET {}", set.join(", ")),
+            1 | 2 => format!("UPDATE t SET {} WHERE {g}", set.join(", ")),
+            _ => format!("DELETE FROM t WHERE {g}"),
+        };
+        let mut catalogue = Catalogue::default();
+        let table = format!("TABLE t ({}) ROWS 1", columns[..width].join(", "));
+        let texts = [table, question, update];
+        let mut taken = true;
+        for text in &texts {
+            match catalogue.read(100, text.as_bytes()) {
+                Ok(statement) => {
+                    catalogue.append(statement);
+                }
+                // More comparisons than a statement has.
+                Err(number) => {
+                    assert_eq!(number, 5);
+                    taken = false;
+                }
+            }
+        }
+        if !taken {
+            continue;
+        }
+        let (question, update) = (&catalogue.questions[0], &catalogue.updates[0]);
+        let pair = Pair { question, key: &[], update, values: &[], width };
+        let by_regions = pair.drops(None) != (false, false);
+        let matches = !patterns(question, update).is_empty();
+        let by_trial = pair.drops_by_trial(None, 40_000);
+        if by_trial.is_some_and(|by_trial| by_trial != by_regions) || by_regions && !matches {
+            println!("{texts:?}: by regions {by_regions}, by trial {by_trial:?}, a pattern: {matches}");
+            held = false;
+        }
+    }
+    held
+}
+
 /// The standard's tables, asked by texts: T, F and U stand for a comparison that is true, false or unknown.
 fn truths_hold() -> bool {
     let written = |word: &str| match word {
@@ -1771,6 +2151,15 @@ pub fn check() -> bool {
     ];
     let outer_held = outer.iter().filter(|&&held| held).count();
     println!("examples of rows read in a pair: {outer_held} of {} lists hold of the reference", outer.len());
+    let exact = [
+        lines_hold(Mode::Desk, EXACT),
+        lines_hold(Mode::Desk, EXACT_RINGS),
+        lines_hold(Mode::Desk, EXACT_EMPTY),
+        exact_pairs_hold(),
+        decisions_agree(),
+    ];
+    let exact_held = exact.iter().filter(|&&held| held).count();
+    println!("examples of fewer answers dropped: {exact_held} of {} lists hold of the reference", exact.len());
     [
         (held, results.len()),
         (pairs_held, pairs.len()),
@@ -1778,6 +2167,7 @@ pub fn check() -> bool {
         (rings_held, rings.len()),
         (nulls_held, nulls.len()),
         (outer_held, outer.len()),
+        (exact_held, exact.len()),
     ]
     .iter()
     .all(|(held, all)| held == all)

@@ -172,6 +172,9 @@ impl Tally {
         for (what, n) in &made.outer {
             self.add(&format!("outer: {what}"), *n);
         }
+        for (what, n) in &made.exact {
+            self.add(&format!("exact: {what}"), *n);
+        }
     }
 
     pub fn print(&self) {

@@ -1,10 +1,11 @@
 //! Random scripts. A seed gives a profile and then the lines; the reference runs along, so that most lines can be
 //! biased to be taken (existing tables, columns, marks, keys kept, buffers that just fit).
 
-use crate::check::{keypad_lines, null_lines, outer_lines, ring_lines};
+use crate::check::{exact_lines, keypad_lines, null_lines, outer_lines, ring_lines};
+use crate::exact::{premise, Pair, Premise};
 use crate::front::{Front, Mode, BUFFER, CALLS_BYTES};
 use crate::meaning::{all_true, truth, Rows, Truth, NULL};
-use crate::pattern::{agrees, columns_tested, gone, patterns, Gone, Place};
+use crate::pattern::{agrees, columns_tested, gone, patterns, patterns_of_pushed, Gone, Place};
 use crate::text::{constant, is_name, same_name, Change, Column, Condition, NullTest, Operand, Question, Relation, Update};
 use crate::text::KEYWORDS;
 use std::collections::BTreeMap;
@@ -134,6 +135,8 @@ pub struct Generated {
     pub nulls: BTreeMap<String, usize>,
     /// What came of the comparisons that rows read in a pair go by.
     pub outer: BTreeMap<String, usize>,
+    /// What came of the rule that drops fewer answers.
+    pub exact: BTreeMap<String, usize>,
 }
 
 /// What an update finds: the rows of its table, the row that it would push out, and the keys kept.
@@ -157,6 +160,8 @@ struct Generator {
     nulls: bool,
     /// Begins with the examples of rows read in a pair.
     outer: bool,
+    /// Begins with the examples of fewer answers dropped.
+    exact: bool,
     front: Front,
     made: Generated,
 }
@@ -275,6 +280,123 @@ const WRAPPED: [&str; 32] = [
     "NOT x = ?", "NOT x = n", "NOT NOT x = ?", "NOT NOT x = n", "NOT NOT NOT x = n", "NOT ( x = ? )", "( NOT x = n )",
     "( x = ? OR y = n )", "( x = n OR v = n )", "NOT ( x = n AND y = n )", "NOT ( x = n OR v IS NULL )", "( ? = n )", "NOT ? = n",
     "( x IS NOT NULL )", "NOT x IS NULL", "NOT NOT x IS NOT NULL", "( y = ? )", "NOT x = y", "( ( x = n ) AND v >= n )",
+];
+
+fn kind_of(change: &Change) -> &'static str {
+    match change {
+        Change::Insert(_) => "INSERT",
+        Change::Set(_) => "UPDATE",
+        Change::Delete => "DELETE",
+    }
+}
+
+/// Of a matched answer that goes by the patterns alone.
+fn exact_broken(pair: &Pair, pushed: Option<&[i32]>, broken: Premise) -> String {
+    let kind = kind_of(&pair.update.change);
+    if broken == Premise::TwoTables {
+        return format!("two tables, dropped by {kind} by the patterns");
+    }
+    // With two columns compared this is no decision, but tells where the rule might leave it.
+    let though = match pair.drops_by_trial(pushed, 1_500) {
+        Some(false) => ", though no row tried is affected",
+        _ => "",
+    };
+    format!("a column with a column, dropped by {kind} by the patterns{though}")
+}
+
+/// Of a matched answer that goes by the rule: what came of it, and why.
+fn exact_reasons(pair: &Pair, pushed: Option<&[i32]>, by_pushed: bool, dropped: bool) -> Vec<String> {
+    let how = if dropped { "dropped" } else { "left" };
+    let kind = kind_of(&pair.update.change);
+    let mut all = vec![format!("{how} by {kind}")];
+    if pair.question.condition.is_none() {
+        all.push(format!("{how} by {kind}, the question without WHERE"));
+    }
+    if pair.update.condition.is_none() && kind != "INSERT" {
+        all.push(format!("{how} by {kind} without WHERE"));
+    }
+    // Is it close: does a value that is one off make it otherwise?
+    let one_off = (0..pair.values.len()).flat_map(|at| [-1, 1].map(|off| (at, off))).any(|(at, off)| {
+        let mut values = pair.values.to_vec();
+        values[at] = values[at].saturating_add(off);
+        (Pair { values: &values, ..*pair }.drops(pushed) != (false, false)) != dropped
+    });
+    if one_off {
+        all.push(format!("{how} by {kind}, otherwise with a value one off"));
+    }
+    if let Some(row) = pair.inserted() {
+        if pushed.is_some() {
+            let taken = match (pair.takes(&row), pushed.is_some_and(|row| pair.takes(row))) {
+                (true, true) => "both are taken",
+                (true, false) => "the row inserted is taken",
+                (false, true) => "the row pushed out is taken",
+                (false, false) if by_pushed => "neither is taken, though a pattern of the row pushed out matched",
+                (false, false) => "neither is taken",
+            };
+            all.push(format!("{how} by INSERT that pushes a row out, {taken}"));
+        }
+        if !dropped && truth(&pair.question.condition, &[(pair.update.table, &row)], pair.key) == Truth::Unknown {
+            all.push(String::from("left by INSERT, the row is unknown"));
+        }
+        return all;
+    }
+    if dropped {
+        let enters_from = |truth: Truth| pair.some_row(&|e| e.before == truth && e.after == Some(Truth::True)).is_some();
+        let other = pair.some_row(&|e| e.affects() && !(e.before == Truth::Unknown && e.after == Some(Truth::True)));
+        if enters_from(Truth::Unknown) {
+            let alone = if other.is_none() { " alone" } else { "" };
+            all.push(format!("dropped by UPDATE, a row may enter from unknown{alone}"));
+        }
+        if kind == "UPDATE" && pair.some_row(&|e| (e.before == Truth::True) != (e.after == Some(Truth::True))).is_none() {
+            all.push(String::from("dropped by UPDATE, no row enters or leaves, some alter"));
+        }
+        return all;
+    }
+    // Rows that the question takes, whatever the update.
+    let any = Update { table: pair.update.table, change: Change::Delete, condition: None, marks: 0 };
+    let takes_some = Pair { update: &any, values: &[], ..*pair }.some_row(&|e| e.before == Truth::True).is_some();
+    let is_end = |n: &i64| (*n - i64::from(i32::MAX)).abs() < 3 || (*n - i64::from(NULL)).abs() < 4;
+    let numbers = pair.numbers_given();
+    let has_null = pair.key.contains(&NULL) || pair.values.contains(&NULL);
+    let close = numbers.windows(2).any(|two| two[0] != two[1] && two[1] - two[0] <= 2);
+    let why = if !takes_some {
+        "the question takes no row"
+    } else if pair.some_row(&|_| true).is_none() {
+        "no row meets the update"
+    } else if pair.some_row(&|e| e.before == Truth::True && e.after == Some(Truth::True)).is_some() {
+        "rows taken before and after are unaltered"
+    } else {
+        "the rows met are not taken"
+    };
+    all.push(format!("left by {kind}, {why}"));
+    if has_null {
+        all.push(format!("left by {kind}, {why}, a null value"));
+    } else if numbers.iter().any(is_end) {
+        all.push(format!("left by {kind}, {why}, a number at an end of the range"));
+    } else if close {
+        all.push(format!("left by {kind}, {why}, numbers at most 2 apart"));
+    }
+    all
+}
+
+/// What `exact_question` asks: `c`, `d` and `e` are columns, `n`, `k` and `m` numbers that lie close together, in this order.
+const BOUNDED: [&str; 48] = [
+    "c > ?", "c >= ?", "c < ?", "c <= ?", "c <> ?", "c = ?", "c > n", "c <= n", "n > c", "? <= c",
+    "c > n AND c < m", "c >= n AND c < m", "c > n AND c < m AND c <> k", "c >= n AND c <= m AND c <> k", "c > ? AND c < ?",
+    "c >= ? AND c <= ?", "c <> n AND c <> m", "c <> n AND c <> k AND c <> m", "c < n OR c > m", "c <= ? OR c > ?",
+    "NOT ( c <= n OR c >= m )", "NOT ( c > n AND c < m )", "NOT c < ?", "NOT ( c < ? OR d <> n )", "NOT c = ? AND NOT c = ?",
+    "c IS NULL", "c IS NOT NULL", "c IS NULL AND d > ?", "c IS NOT NULL AND c < ?", "c IS NULL OR c > ?", "NOT c IS NULL AND c <> ?",
+    "c < n OR NOT c < n", "c > ? AND d < ?", "c = ? AND d > n", "c = n OR d = ?", "c > n AND d <= ? AND e <> m",
+    "c <> n AND d IS NULL", "? = n AND c > m", "c > ? OR ? = n", "c > 2147483647", "c > 2147483646", "c < -2147483647",
+    "c <= -2147483647", "c = -2147483648 OR c > n", "c > n AND c = c", "c <= d AND c > n", "c > ? AND d <> e", "c < n OR d = d",
+];
+/// What `exact_change` meets.
+const MET: [&str; 34] = [
+    "c < n", "c <= n", "c > n", "c >= ?", "c < ?", "c <= ?", "c <> n", "c <> ?", "c = ?", "c = n", "n < c", "c > n AND c < m",
+    "c > ? AND c < ?", "c >= n AND c <= m AND c <> k", "c < n OR c > m", "NOT ( c < n OR c > m )", "NOT c < ?", "c IS NULL",
+    "c IS NOT NULL", "c IS NULL AND d = ?", "c IS NOT NULL AND d <> ?", "c > n AND d < ?", "c <> ? AND d <> n", "d > ?", "d = n",
+    "? = n AND c < m", "c = ? OR d > m", "c < -2147483646", "c > 2147483646", "c <> 2147483647", "c = c AND c < n",
+    "d < c AND c > n", "c < n AND d <> e", "c <= ? AND d = d",
 ];
 
 impl Generator {
@@ -1283,6 +1405,251 @@ impl Generator {
             _ => "fewer than its own",
         };
         format!("marks of a question over {over}: {which}, {printed}")
+    }
+
+    // ------------------------------------------------------------ fewer answers dropped
+
+    /// A number that conditions are made of: small, or at an end of the range.
+    fn bound(&mut self) -> i32 {
+        let ends = match self.profile {
+            Profile::Edges => 55,
+            Profile::Mixed => 15,
+            _ => 5,
+        };
+        if self.random.chance(ends) {
+            let inside = self.random.below(3) as i32;
+            return if self.random.chance(50) { i32::MAX - inside } else { i32::MIN + 1 + inside };
+        }
+        self.random.below(7) as i32 - 1
+    }
+
+    /// Three of the columns, different ones where there are as many.
+    fn three(&mut self, columns: &[String]) -> [String; 3] {
+        let at = self.random.below(columns.len());
+        [0, 1, 2].map(|i| columns[(at + i) % columns.len()].clone())
+    }
+
+    /// A text of `BOUNDED` or `MET` with its columns and numbers.
+    fn bounded(&mut self, columns: &[String; 3], text: &str) -> String {
+        let n = self.bound();
+        let m = n.saturating_add(self.random.pick(&[0, 1, 2, 2, 3]));
+        let word = |word: &str| match word {
+            "c" => columns[0].clone(),
+            "d" => columns[1].clone(),
+            "e" => columns[2].clone(),
+            "n" => n.to_string(),
+            "k" => n.saturating_add(1).to_string(),
+            "m" => m.to_string(),
+            _ => word.to_string(),
+        };
+        text.split(' ').map(word).collect::<Vec<_>>().join(" ")
+    }
+
+    /// A question that takes a range of a column, a few numbers of it, or all but some; now and then over two tables, with a
+    /// column beside a column, or without WHERE.
+    fn exact_question(&mut self, table: &str, columns: &[String; 3]) -> Vec<String> {
+        let selected = self.random.pick(&["c", "c", "d", "d", "c , d", "d , e , c"]);
+        let selected = self.bounded(columns, selected);
+        if self.random.chance(8) {
+            return words(&format!("SELECT {selected} FROM {table}"));
+        }
+        let f = self.random.pick(&BOUNDED);
+        let f = self.bounded(columns, f);
+        if self.random.chance(25) {
+            return self.question_of(table, &selected, &f);
+        }
+        words(&format!("SELECT {selected} FROM {table} WHERE {f}"))
+    }
+
+    /// An update of such rows.
+    fn exact_change(&mut self, table: &Named, columns: &[String; 3]) -> Vec<String> {
+        let name = &table.0;
+        let met = self.random.pick(&MET);
+        let met = self.bounded(columns, met);
+        let met = if self.random.chance(8) { String::new() } else { format!(" WHERE {met}") };
+        let text = match self.random.below(20) {
+            0..=8 => {
+                let [c, d, _] = columns;
+                let value = match self.random.below(10) {
+                    0..=5 => String::from("?"),
+                    6 => self.random.pick(&NULLS).to_string(),
+                    _ => self.bound().to_string(),
+                };
+                match self.random.below(10) {
+                    0..=6 => format!("UPDATE {name} SET {c} = {value}{met}"),
+                    7 if c != d => format!("UPDATE {name} SET {c} = {value} , {d} = ?{met}"),
+                    _ => format!("UPDATE {name} SET {d} = {value}{met}"),
+                }
+            }
+            9..=15 => format!("DELETE FROM {name}{met}"),
+            _ => return self.insert_into(name, table.1.len()),
+        };
+        words(&text)
+    }
+
+    /// Questions and updates about ranges of one column of a table.
+    fn exact_statements(&mut self, table: &Named) {
+        let columns = self.three(&table.1);
+        for _ in 0..self.random.between(1, 2) {
+            let question = self.exact_question(&table.0, &columns);
+            self.add(&question);
+            let update = self.exact_change(table, &columns);
+            self.add(&update);
+        }
+    }
+
+    /// A question and an update about ranges of one column, tried together.
+    fn exact_pair(&mut self) {
+        let table = self.some_table();
+        let columns = self.three(&table.1);
+        let question = self.exact_question(&table.0, &columns);
+        self.add(&question);
+        let update = self.exact_change(&table, &columns);
+        self.add(&update);
+        let catalogue = &self.front.store.catalogue;
+        let (Some(question), Some(update)) = (catalogue.questions.len().checked_sub(1), catalogue.updates.len().checked_sub(1))
+        else {
+            return self.ask();
+        };
+        self.exact_try(question, update);
+    }
+
+    /// A question and an update that there are of one table, tried together.
+    fn exact_calls(&mut self) {
+        let (questions, updates) = (self.front.store.catalogue.questions.len(), self.front.store.catalogue.updates.len());
+        if questions == 0 || updates == 0 {
+            return self.ask();
+        }
+        let mut found = (0, 0);
+        for _ in 0..30 {
+            found = (self.random.below(questions), self.random.below(updates));
+            let store = &self.front.store;
+            let (question, update) = (&store.catalogue.questions[found.0], &store.catalogue.updates[found.1]);
+            let is_full = matches!(update.change, Change::Insert(_)) && store.is_full(update.table);
+            let such = question.tables.contains(&update.table) && !is_full && !patterns(question, update).is_empty();
+            // Most go by the rule, some beside it.
+            if such && (premise(question, update) == Premise::Holds || self.random.chance(20)) {
+                break;
+            }
+        }
+        self.exact_try(found.0, found.1);
+    }
+
+    /// Values at or close to these numbers, some at the ends of the range or null.
+    fn values_near(&mut self, numbers: &[i32], count: usize) -> Vec<i32> {
+        let mut values = Vec::new();
+        for _ in 0..count {
+            let near = self.random.pick(numbers).saturating_add(self.random.pick(&[0, 0, 0, 1, -1, 1, -1, 2, -2]));
+            values.push(match self.random.below(25) {
+                0 | 1 => NULL,
+                2 => self.random.pick(&[i32::MAX, i32::MIN + 1, i32::MAX - 1, i32::MIN + 2]),
+                3 => self.bound(),
+                _ => near,
+            });
+        }
+        values
+    }
+
+    /// The question asked, and perhaps others over the table; the update done with values close to the question's numbers,
+    /// and again with a value a little off; the same asked again.
+    fn exact_try(&mut self, question: usize, update: usize) {
+        let catalogue = &self.front.store.catalogue;
+        let (q, u) = (catalogue.questions[question].clone(), catalogue.updates[update].clone());
+        let mut numbers = vec![0];
+        for comparison in [&q.condition, &u.condition].into_iter().flatten().flat_map(Condition::comparisons) {
+            if let Condition::Compare(left, _, right) = comparison {
+                let constant = |operand: &Operand| if let Operand::Constant(n) = operand { Some(*n) } else { None };
+                numbers.extend([left, right].into_iter().filter_map(constant).filter(|n| *n != NULL));
+            }
+        }
+        let rows = self.front.store.rows_now(u.table).to_vec();
+        if !rows.is_empty() {
+            let row = self.random.pick(&rows);
+            numbers.push(self.random.pick(&row));
+        }
+        let key = self.values_near(&numbers, q.marks);
+        let mut keys = vec![(question, key.clone())];
+        if q.marks > 0 && self.random.chance(50) {
+            let mut beside = key.clone();
+            let at = self.random.below(beside.len());
+            beside[at] = beside[at].saturating_add(self.random.pick(&[1, -1]));
+            keys.push((question, beside));
+        }
+        if self.random.chance(40) {
+            let all = self.front.store.catalogue.questions.iter().enumerate();
+            let others: Vec<(usize, usize)> = all.filter(|(_, q)| q.tables == [u.table]).map(|(n, q)| (n, q.marks)).collect();
+            if !others.is_empty() {
+                let (n, marks) = self.random.pick(&others);
+                keys.push((n, self.values_near(&numbers, marks)));
+            }
+        }
+        let mut asked = Vec::new();
+        for (n, values) in keys {
+            let buffer = match self.mode {
+                Mode::Calls => format!(" {}", self.enough(n, &values)),
+                Mode::Desk => String::new(),
+            };
+            asked.push(format!("ASK {n}{buffer}{}", self.written(&values)));
+        }
+        asked.iter().for_each(|line| self.emit_text(line));
+        // The key's own values count twice.
+        numbers.extend(key.iter().filter(|n| **n != NULL));
+        numbers.extend(key.iter().filter(|n| **n != NULL));
+        let mut values = self.values_near(&numbers, u.marks);
+        for _ in 0..self.random.between(1, 4) {
+            let text = self.written(&values);
+            self.emit_text(&format!("DO {update}{text}"));
+            if self.random.chance(70) {
+                asked.iter().for_each(|line| self.emit_text(line));
+            }
+            if values.is_empty() {
+                break;
+            }
+            let at = self.random.below(values.len());
+            values[at] = match self.random.below(12) {
+                0 => NULL,
+                1 => self.random.pick(&numbers),
+                _ => values[at].saturating_add(self.random.pick(&[1, -1, 1, -1, 2, -2])),
+            };
+        }
+        if self.random.chance(50) {
+            asked.iter().for_each(|line| self.emit_text(line));
+        }
+    }
+
+    // ------------------------------------------------------------ what came of the rule that drops fewer
+
+    /// What the line's update made of the answers kept that a pattern matched.
+    fn exact_outcomes(&self, line: &[u8], printed: &str, before: Option<&Before>) -> Vec<String> {
+        let store = &self.front.store;
+        let text = String::from_utf8_lossy(line);
+        let (Some(before), Some(rest)) = (before.filter(|_| printed.starts_with("rows ")), text.strip_prefix("DO ")) else {
+            return vec![];
+        };
+        let mut words = rest.split(' ');
+        let n: usize = words.next().and_then(|word| word.parse().ok()).expect("an update done has a number");
+        let given: Option<Vec<i32>> = words.map(|word| constant(word.as_bytes()).flatten()).collect();
+        let values = given.expect("an update done has values");
+        let update = &store.catalogue.updates[n];
+        let width = store.catalogue.tables[update.table].columns.len();
+        let stayed = store.kept_keys();
+        let pushed = before.pushed.as_deref();
+        let mut all = Vec::new();
+        for (n, key) in &before.keys {
+            let question = &store.catalogue.questions[*n];
+            let agree = |list: Vec<_>| list.iter().any(|pattern| agrees(pattern, &values, key));
+            let by_pushed = pushed.is_some_and(|row| agree(patterns_of_pushed(question, update.table, row)));
+            if !agree(patterns(question, update)) && !by_pushed {
+                continue;
+            }
+            let dropped = !stayed.contains(&(*n, key.clone()));
+            let pair = Pair { question, key, update, values: &values, width };
+            match premise(question, update) {
+                Premise::Holds => all.extend(exact_reasons(&pair, pushed, by_pushed, dropped)),
+                broken => all.push(exact_broken(&pair, pushed, broken)),
+            }
+        }
+        all
     }
 
     // ------------------------------------------------------------ nulls
@@ -2391,6 +2758,9 @@ impl Generator {
         for what in self.ring_outcomes(line, printed) {
             *self.made.rings.entry(what).or_default() += 1;
         }
+        for what in self.exact_outcomes(line, printed, before.as_ref()) {
+            *self.made.exact.entry(what).or_default() += 1;
+        }
         for (what, n) in self.null_outcomes(line, printed, before) {
             *self.made.nulls.entry(what).or_default() += n;
         }
@@ -2900,6 +3270,12 @@ impl Generator {
         if self.random.chance(6) {
             return self.outer_calls();
         }
+        if places && self.random.chance(2) {
+            return self.exact_pair();
+        }
+        if self.random.chance(7) {
+            return self.exact_calls();
+        }
         if self.random.chance(if matches!(self.profile, Profile::Full | Profile::Repeats) { 8 } else { 4 }) {
             return self.ring_calls();
         }
@@ -2951,6 +3327,9 @@ impl Generator {
                 let update = self.iced_change(&named);
                 self.add(&update);
             }
+            if self.random.chance(75) {
+                self.exact_statements(&named);
+            }
         }
         for _ in 0..self.random.between(0, 2) {
             self.add_taken(Generator::insert_text);
@@ -2974,6 +3353,7 @@ impl Generator {
             self.add_taken(Generator::outer_text);
         }
         self.outer_calls();
+        self.exact_calls();
     }
 
     /// Two tables whose pairs are about as many as a record may hold (in `desk`: also about as many as its buffer takes),
@@ -3126,6 +3506,9 @@ impl Generator {
         if self.outer {
             self.examples(outer_lines());
         }
+        if self.exact {
+            self.examples(exact_lines());
+        }
         if self.square {
             self.square();
             length /= 5;
@@ -3209,6 +3592,7 @@ pub fn script(mode: Mode, seed: u64, length: usize) -> Generated {
         rings: BTreeMap::new(),
         nulls: BTreeMap::new(),
         outer: BTreeMap::new(),
+        exact: BTreeMap::new(),
     };
     let special = seed / 10 % 8 == 0;
     let generator = Generator {
@@ -3220,6 +3604,7 @@ pub fn script(mode: Mode, seed: u64, length: usize) -> Generated {
         rings: special && profile == Profile::Full,
         nulls: special && profile == Profile::Edges,
         outer: special && profile == Profile::Counts,
+        exact: special && profile == Profile::Patterns,
         front: Front::new(mode),
         made,
     };

@@ -1,9 +1,10 @@
-//! An independent reference of the table store, made from document 01 and requests A.1, A.2, A.4, A.5 and A.6 of document 02
+//! An independent reference of the table store, made from document 01 and requests A.1, A.2 and A.4 to A.7 of document 02
 //! alone, with a generator of random scripts and a comparison with a program. It shares no code with the project.
 
 mod bench;
 mod check;
 mod compare;
+mod exact;
 mod front;
 mod generate;
 mod meaning;

@@ -53,7 +53,7 @@ pub fn null_test(number: i32, test: NullTest) -> Truth {
 }
 
 /// The standard's table of NOT.
-fn not(truth: Truth) -> Truth {
+pub fn not(truth: Truth) -> Truth {
     match truth {
         True => False,
         False => True,
@@ -62,7 +62,7 @@ fn not(truth: Truth) -> Truth {
 }
 
 /// The standard's table of AND.
-fn and(left: Truth, right: Truth) -> Truth {
+pub fn and(left: Truth, right: Truth) -> Truth {
     match (left, right) {
         (True, True) => True,
         (True, False) => False,
@@ -77,7 +77,7 @@ fn and(left: Truth, right: Truth) -> Truth {
 }
 
 /// The standard's table of OR.
-fn or(left: Truth, right: Truth) -> Truth {
+pub fn or(left: Truth, right: Truth) -> Truth {
     match (left, right) {
         (True, True) => True,
         (True, False) => True,
@@ -106,7 +106,7 @@ pub fn number(operand: Operand, rows: &Rows, values: &[i32]) -> i32 {
 }
 
 /// The condition as it was written, NOT included.
-fn truth_as_written(condition: &Condition<Operand>, rows: &Rows, values: &[i32]) -> Truth {
+pub fn truth_as_written(condition: &Condition<Operand>, rows: &Rows, values: &[i32]) -> Truth {
     let of = |part: &Condition<Operand>| truth_as_written(part, rows, values);
     match condition {
         Condition::Compare(left, relation, right) => {

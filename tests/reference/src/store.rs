@@ -1,13 +1,18 @@
 //! The store that keeps answers: cells, slots, order of use. A plain store runs beside it, and every call asserts
-//! that both give the same results, that every kept answer is the plain store's, and that an answer is worked out
-//! anew only on one of four grounds. The calls whose names end in `_here` are the store alone, for `bench.rs`.
+//! that both give the same results, that every kept answer is the plain store's, that an update drops the answers that
+//! rows tried one by one say, and that an answer is worked out anew only on one of four grounds. The calls whose names
+//! end in `_here` are the store alone, for `bench.rs`.
 
+use crate::exact::{premise, Pair, Premise};
 use crate::meaning::{all_true, cell, holds, number, record, Rows, RECORD_ROWS};
 use crate::pattern::{agrees, patterns, patterns_of_pushed, stored};
 use crate::plain::{worked_out, Plain};
 use crate::sound::{sizes_pass, QuestionPart, State, TablePart, UpdatePart};
 use crate::text::{Catalogue, Change, Statement};
 use std::collections::HashMap;
+
+/// The rows that are tried one by one for a kept answer and an update.
+const TRIED: usize = 1_500;
 
 /// The question's number with its values.
 #[derive(Clone, PartialEq, Eq, Hash, Debug)]
@@ -300,6 +305,7 @@ impl Store {
     /// The rows inserted, matched or deleted, and the kept answers dropped.
     pub fn update(&mut self, lent: (usize, usize), n: u64, values: &[i32]) -> Result<(usize, usize), u8> {
         let pushed = self.plain.pushed_out(n);
+        let keys: Vec<Key> = self.kept.iter().flatten().map(|kept| kept.key.clone()).collect();
         let result = self.update_here(lent, n, values);
         if self.was_set {
             return result;
@@ -307,6 +313,10 @@ impl Store {
         let plain = self.plain.update(lent, n, values);
         assert_eq!(result.map(|(rows, _)| rows), plain, "an update agrees with the plain store");
         if result.is_ok() {
+            let stayed = |key: &Key| self.kept.iter().flatten().any(|kept| kept.key == *key);
+            for key in &keys {
+                self.check_dropping(n as usize, values, pushed.as_deref(), key, !stayed(key));
+            }
             self.history.push(Event::Updated(n as usize, values.to_vec(), pushed));
         }
         self.check();
@@ -379,7 +389,7 @@ impl Store {
         let mut report = RingReport { pushed: pushes, start, ..RingReport::default() };
         for slot in 0..self.slots {
             let Some(kept) = &self.kept[slot] else { continue };
-            let (by_update, by_pushed) = self.matching(n as usize, values, pushed.as_deref(), &kept.key);
+            let (by_update, by_pushed) = self.dropping(n as usize, values, pushed.as_deref(), &kept.key);
             if by_update || by_pushed {
                 dropped.push(slot);
             }
@@ -403,6 +413,25 @@ impl Store {
         let by_pushed = pushed.map_or(vec![], |row| patterns_of_pushed(question, update.table, row));
         let agree = |list: Vec<_>| list.iter().any(|pattern| agrees(pattern, values, &key.values));
         (agree(by_update), agree(by_pushed))
+    }
+
+    /// Is the key's answer dropped, or would it be if it were kept: for the update itself, and for the row that it pushed
+    /// out? A pattern matches, and under the premise of A.7 its rule says so too.
+    fn dropping(&self, update: usize, values: &[i32], pushed: Option<&[i32]>, key: &Key) -> (bool, bool) {
+        let matched = self.matching(update, values, pushed, key);
+        match self.pair(update, values, key) {
+            Some(pair) if matched != (false, false) => pair.drops(pushed),
+            _ => matched,
+        }
+    }
+
+    /// The two, if the premise of A.7 holds of them.
+    fn pair<'a>(&'a self, update: usize, values: &'a [i32], key: &'a Key) -> Option<Pair<'a>> {
+        let question = &self.catalogue.questions[key.question];
+        let update = &self.catalogue.updates[update];
+        let width = self.catalogue.tables[update.table].columns.len();
+        let holds = premise(question, update) == Premise::Holds;
+        holds.then_some(Pair { question, key: &key.values, update, values, width })
     }
 
     fn drop_slots(&mut self, dropped: &[usize]) {
@@ -499,7 +528,8 @@ impl Store {
     // ------------------------------------------------------------ what is asserted
 
     /// A ground for working a key out anew: it was not answered before; its record fits no slot; since it was last
-    /// answered a flush or a matching update came; since then as many other keys as there are slots were answered.
+    /// answered a flush came, or an update that drops it or would if it were kept; since then as many other keys as there
+    /// are slots were answered.
     fn ground(&self, key: &Key, length: usize) -> Option<Ground> {
         let last = self.history.iter().rposition(|event| matches!(event, Event::Answered(k) if k == key));
         let since = match last {
@@ -514,7 +544,7 @@ impl Store {
             match event {
                 Event::Flushed => return Some(Ground::UpdatedOrFlushed),
                 Event::Updated(update, values, pushed) => {
-                    let (by_update, by_pushed) = self.matching(*update, values, pushed.as_deref(), key);
+                    let (by_update, by_pushed) = self.dropping(*update, values, pushed.as_deref(), key);
                     if by_update || by_pushed {
                         return Some(Ground::UpdatedOrFlushed);
                     }
@@ -527,6 +557,17 @@ impl Store {
             }
         }
         (others.len() >= self.slots).then_some(Ground::OtherKeys)
+    }
+
+    /// Under the premise of A.7: a row that the rule finds is affected, rows tried one by one say the same, and no answer to
+    /// be dropped is left for want of a pattern.
+    fn check_dropping(&self, update: usize, values: &[i32], pushed: Option<&[i32]>, key: &Key, dropped: bool) {
+        let Some(pair) = self.pair(update, values, key) else { return };
+        let by_rule = pair.drops(pushed);
+        assert_eq!(dropped, by_rule != (false, false), "an answer is dropped by the rule, and a pattern matches then");
+        if let Some(by_trial) = pair.drops_by_trial(pushed, TRIED) {
+            assert_eq!(dropped, by_trial, "rows tried one by one say what the regions say");
+        }
     }
 
     /// The state is sound, the cells hold the plain store's rows, and every kept answer is the plain store's.

@@ -29,8 +29,8 @@ pub returns-then-depth-lt2-clause-formed : goal.returns-then-depth-lt2-clause-fo
 returns-then-depth-lt2-clause-formed c =
     let d = c.args.condition.now in
     let l = c.loop-step in
-    let items = c.used_steps-step-items.result.now in
-    let n = next d items l.step-index c.used_steps-step-items.ensures.are c.loop-step-test.true in
+    let items = c.used_steps-steps.result.now in
+    let n = next d items l.step-index c.used_steps-steps.ensures.are c.loop-step-test.true in
     let k : length d.steps ≡ 15 = search rules in
     sym (join-fails l.depth (get_or items l.step-index 0) (drop (l.step-index + 1) (used_steps d)) c.if-step-eq-COMPARISON.false c.if-depth-lt2.true)
     ∙ ap (balanced l.depth) (sym n) ∙ l.invariant.1
@@ -42,7 +42,7 @@ returns-clause-formed c =
     let d = c.args.condition.now in
     let l = c.loop-step in
     let k : length d.steps ≡ 15 = search rules in
-    let e : length (used_steps d) ≤ l.step-index = omega (arith, ap length c.used_steps-step-items.ensures.are) in
+    let e : length (used_steps d) ≤ l.step-index = omega (arith, ap length c.used_steps-steps.ensures.are) in
     sym (balanced-end l.depth) ∙ ap (balanced l.depth) (sym (drop_of_length-le (used_steps d) e)) ∙ l.invariant.1
     ∙ sym (formed-some d k (omega (arith, c.used-comparisons.ensures.few, c.from.ensures))
     (λ e. eqb-false _ 0 (sym c.if-is_empty.ensures) (omega (arith, ap length c.used-comparisons.ensures.are, length-take d.count d.comparisons))))

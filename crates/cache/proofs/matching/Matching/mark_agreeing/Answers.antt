@@ -1,3 +1,4 @@
+use Rattle.cache.specs.declared.matching.Marks.{Marks}
 use Rattle.std.proofs.Common.{◌≡◌, ◌+◌, ◌≤◌, ◌<◌, length, true, get_or, set, ℕ, sym, ap, subst, ◌∙◌, arith, Bool, List, ◌&&◌, eqb}
 use Rattle.lists.proofs.Places.{All-at}
 use Rattle.cache.specs.Marks.{agrees_at}
@@ -18,8 +19,8 @@ bounds-keys-slot c =
     let h = All-at i 0 (subst (λ (l : List ℕ). i < length l) e c.loop-x-test.true) (held-below s.slots c.args.self.now.sound) in
     omega (arith, h, c.from-slot.ensures ∙ ap (λ (l : List ℕ). get_or l i 0) e)
 
-pub bounds-marks-slot : goal.bounds-marks-slot
-bounds-marks-slot c =
+pub mark-requires : goal.mark-requires
+mark-requires c =
     let s = c.args.self.now.state.now in
     let i = c.loop-x.x-index in
     let e = c.held_slots-held.ensures in
@@ -34,7 +35,7 @@ loop-x-preserved c =
     let p = c.args.p.now in
     let held = held_slots s.slots in
     let i = c.loop-x.x-index in
-    let marks = c.loop-x.marks in
+    let marks = c.loop-x.marks.all in
     let same = c.held_slots-held.ensures in
     let lt : i < length held = subst (λ (l : List ℕ). i < length l) same c.loop-x-test.true in
     let test : ℕ → Bool = agrees_at keys q p in
@@ -47,11 +48,11 @@ loop-x-preserved c =
     let t : test (get_or held i 0) ≡ c.agrees_key.result = sym (c.agrees_key.ensures ∙ ap (λ (k : Key). eqb k.query q && agrees_stored p (values_of k)) r) in
     elim c.if-agrees_key.branch [
       | then-agrees_key w ↦
-          subst (Marking test held c.args.marks.now (i + 1)) (sym (w.marks-is ∙ ap (λ (k : ℕ). set marks k true) e))
-          (marking-yes test held c.args.marks.now i marks lt c.loop-x.invariant (t ∙ w.if-agrees_key.true))
+          subst (Marking test held c.args.marks.now.all (i + 1)) (sym (ap (λ (m : Marks). m.all) w.marks-is ∙ w.mark.ensures ∙ ap (λ (k : ℕ). set marks k true) e))
+          (marking-yes test held c.args.marks.now.all i marks lt c.loop-x.invariant (t ∙ w.if-agrees_key.true))
       | else-agrees_key w ↦
-          subst (Marking test held c.args.marks.now (i + 1)) (sym w.marks-is)
-          (marking-no test held c.args.marks.now i marks lt c.loop-x.invariant (t ∙ w.if-agrees_key.false))
+          subst (Marking test held c.args.marks.now.all (i + 1)) (sym (ap (λ (m : Marks). m.all) w.marks-is))
+          (marking-no test held c.args.marks.now.all i marks lt c.loop-x.invariant (t ∙ w.if-agrees_key.false))
     ]
 
 pub returns : goal.returns
@@ -59,4 +60,4 @@ returns c =
     let s = c.args.self.now.state.now in
     let held = held_slots s.slots in
     let le : length held ≤ c.loop-x.x-index = subst (λ (l : List ℕ). length l ≤ c.loop-x.x-index) c.held_slots-held.ensures c.loop-x-test.false in
-    marking-end (agrees_at s.keys c.args.q c.args.p.now) held c.args.marks.now c.loop-x.x-index c.loop-x.marks le c.loop-x.invariant
+    marking-end (agrees_at s.keys c.args.q c.args.p.now) held c.args.marks.now.all c.loop-x.x-index c.loop-x.marks.all le c.loop-x.invariant

@@ -4,4 +4,4 @@ use Rattle.cache.proofs.Marking.{Marking}
 use Rattle.cache.proofs.matching.Matching.mark_agreeing.Given as goal
 
 abbrev pub invariant-loop-x : goal.invariant-loop-x
-invariant-loop-x l = Marking (agrees_at l.self.state.now.keys l.q l.p) (held_slots l.self.state.now.slots) l.fn.marks l.x-index l.marks
+invariant-loop-x l = Marking (agrees_at l.self.state.now.keys l.q l.p) (held_slots l.self.state.now.slots) l.fn.marks.all l.x-index l.marks.all

@@ -1,3 +1,4 @@
+use Rattle.cache.specs.declared.matching.Marks.{Marks}
 use Rattle.std.proofs.Common.{◌+◌, ◌<◌, sym, ap, subst, ◌∙◌, arith}
 use Rattle.slots.specs.Order.{held_slots}
 use Rattle.cache.specs.Marks.{agrees_at, marked}
@@ -16,16 +17,16 @@ loop-i-preserved c =
     let u = a.update.now in
     let us = a.self.now.values.now in
     let q = a.query.now in
-    let next = Clauses s.keys h a.q q u us a.marks.now (i + 1) in
+    let next = Clauses s.keys h a.q q u us a.marks.now.all (i + 1) in
     let lt : i < clause_total q u = omega (arith, c.clause_total-i-end.ensures) in
     elim c.match-clause_pattern.branch [
-      | in-Some w ↦ subst next (sym w.marks-is) (clauses-more s.keys h a.q q u us a.marks.now i c.loop-i.marks lt c.loop-i.invariant w.in-Some.p w.mark_agreeing.new.marks (sym w.in-Some.ensures)
-          (w.mark_agreeing.ensures ∙ ap (λ (f : Pattern). marked (agrees_at s.keys a.q f) h c.loop-i.marks) w.filled.ensures))
-      | in_default w ↦ subst next (sym w.marks-is) (clauses-stay s.keys h a.q q u us a.marks.now i c.loop-i.marks lt c.loop-i.invariant (sym w.in_default.ensures))
+      | in-Some w ↦ subst next (sym (ap (λ (m : Marks). m.all) w.marks-is)) (clauses-more s.keys h a.q q u us a.marks.now.all i c.loop-i.marks.all lt c.loop-i.invariant w.in-Some.p w.mark_agreeing.new.marks.all (sym w.in-Some.ensures)
+          (w.mark_agreeing.ensures ∙ ap (λ (f : Pattern). marked (agrees_at s.keys a.q f) h c.loop-i.marks.all) w.filled.ensures))
+      | in_default w ↦ subst next (sym (ap (λ (m : Marks). m.all) w.marks-is)) (clauses-stay s.keys h a.q q u us a.marks.now.all i c.loop-i.marks.all lt c.loop-i.invariant (sym w.in_default.ensures))
     ]
 
 pub returns : goal.returns
 returns c =
     let a = c.args in
     let s = a.self.now.state.now in
-    clauses-end s.keys (held_slots s.slots) a.q a.query.now a.update.now a.self.now.values.now a.marks.now c.loop-i.i c.loop-i.marks (omega (arith, c.clause_total-i-end.ensures)) c.loop-i.invariant
+    clauses-end s.keys (held_slots s.slots) a.q a.query.now a.update.now a.self.now.values.now a.marks.now.all c.loop-i.i c.loop-i.marks.all (omega (arith, c.clause_total-i-end.ensures)) c.loop-i.invariant

@@ -1,0 +1,21 @@
+use Rattle.std.proofs.Common.{map, subst, List, ℕ}
+use Rattle.meaning.specs.Statement as M
+use Rattle.statement.specs.declared.Setting.{Setting}
+use Rattle.statement.specs.Sound.{setting_read}
+use Rattle.pattern.specs.Flat.{column_of, Coding}
+use Rattle.pattern.specs.Literals.{Sided}
+use Rattle.pattern.specs.declared.joint.Role.{Role}
+use Rattle.pattern.proofs.FilledCodes.{operand-filled}
+use Rattle.pattern.proofs.filled.Filling.column.Goals as goal
+
+pub returns : goal.returns
+returns c =
+    let s = c.args.self in
+    let ss = map setting_read s.settings.now in
+    let r = c.reading.ensures in
+    subst (λ (x : M.Operand). Sided x c.filled.result) (operand-filled s.given.now s.asked.now s.role ss (M.column c.args.column))
+    (c.filled.ensures.follows (column_of s.role 0 ss c.args.column)
+    (subst (λ (l : List Setting). Coding (column_of s.role 0 (map setting_read l) c.args.column) c.column.result) r.settings
+    (subst (λ (k : ℕ). Coding (column_of s.role k (map setting_read c.reading.result.settings.now) c.args.column) c.column.result) r.from
+    (subst (λ (x : Role). Coding (column_of x c.reading.result.from (map setting_read c.reading.result.settings.now) c.args.column) c.column.result) r.role
+    c.column.ensures))))
