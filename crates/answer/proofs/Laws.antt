@@ -8,11 +8,10 @@ use native.Mathlib.Omega.{arith}
 use lib.ListN.{length, drop}
 use Rattle.lists.specs.Lists.{All, flat, written}
 use Rattle.lists.proofs.Places.{flat-length}
-use Rattle.meaning.specs.Demand.{ReadsBack}
+use Rattle.meaning.specs.Record.{ReadsBack, bytes4, bytes2, number_bytes, body, encode}
 use Rattle.meaning.specs.Exact.{IsRow}
 use Rattle.meaning.specs.Limits.{most_items, most_listed}
 use Rattle.meaning.specs.Meaning.{Row}
-use Rattle.meaning.specs.Record.{bytes4, bytes2, number_bytes, body, encode}
 use Rattle.meaning.proofs.Record.{numbers-length, encode-length, record_reads_back}
 use Rattle.answer.specs.Answer.{record_length, header}
 

@@ -18,5 +18,5 @@ abbrev pub put : List ℕ → ℕ → List ℕ → List ℕ
 put out at bs = cond (leb (at + length bs) (length out)) (written out at bs) out
 
 -- where a slice starts, and so many bytes on: in the same block of memory, at an offset
-abbrev pub past : Bor (List ℕ) → ℕ → ℕ × ℕ
-past s n = (s.ref_ptr.0, s.ref_ptr.1 + n)
+abbrev pub pointer_past : Bor (List ℕ) → ℕ → ℕ × ℕ
+pointer_past s n = (s.ref_ptr.0, s.ref_ptr.1 + n)

@@ -1,7 +1,7 @@
 -- Refusal 14 as claims: document 01, "Meaning", second paragraph, and "Numbers for a call not taken". `row_refusal` and `row_part` are what the contracts of the functions `check_row` and
 -- `row` say that they give. Each claim is proved in proofs/Demand. Assumes nothing: these are definitions.
 use Rattle.std.specs.Prelude.{◌≡◌, ◌≢◌, ◌↔◌, List, [], ℕ, ◌+◌, ◌*◌, ◌≤◌, ◌<◌, length, get_or, take, drop}
-use Rattle.meaning.specs.Demand.{Between}
+use Rattle.meaning.specs.Limits.{Between}
 use Rattle.meaning.specs.Record.{four_at, columns_in, row_count, row_refusal, row_start, row_part}
 
 -- "Bytes are a record if version, columns (1 to 8), rows and length agree and the whole length is there; later bytes are ignored."

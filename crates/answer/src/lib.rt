@@ -4,7 +4,7 @@
 
 ghost use Rattle.std.specs.Prelude.{◌≡◌, true, false, ◌&&◌, ◌+◌, ◌*◌, ◌≤◌, ◌<◌, leb, eqb, length, get_or, MatchOption};
 ghost use Rattle.meaning.specs.Record.{bits_of, bytes4, four_at, columns_in, row_count, row_bytes, has_row, row_refusal, row_start, row_part};
-ghost use Rattle.answer.specs.Answer.{record_length, header, put, past};
+ghost use Rattle.answer.specs.Answer.{record_length, header, put, pointer_past};
 ghost use Rattle.answer.specs.Refusal.{number_of, number_in};
 
 use std::ops::Range;
@@ -102,7 +102,7 @@ fn row_range(bytes: &[u8], i: usize) -> Option<Range<usize>>
 // there is none is asked of `check_row`.)
 pub fn row(bytes: &[u8], i: usize) -> &[u8]
     ensures part { result.now ≡ row_part bytes.now i }
-    ensures place { result.ref_ptr ≡ past bytes.entry (row_start bytes.now i) }
+    ensures place { result.ref_ptr ≡ pointer_past bytes.entry (row_start bytes.now i) }
 {
     match row_range(bytes, i) {
         Some(range) => &bytes[range],

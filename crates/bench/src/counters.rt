@@ -38,7 +38,7 @@ impl Counters {
             self.cached = self.cached.wrapping_add(1);
         }
         self.read = self.read.wrapping_add(u64::from(answer.scanned));
-        self.show(answer.length);
+        self.show(answer.size);
     }
 
     pub fn show(&mut self, bytes: usize) {

@@ -60,7 +60,7 @@ impl Store {
         counters.refuse(asked.result.is_err());
         if let Ok(answer) = asked.result {
             counters.ask(answer);
-            counters.check(self.answer.get(..answer.length).unwrap_or(&[]));
+            counters.check(self.answer.get(..answer.size).unwrap_or(&[]));
         }
         self.state = asked.state;
     }

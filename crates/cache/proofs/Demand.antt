@@ -1,9 +1,10 @@
 -- The claims of specs/Demand, and the argument for demand 3 from top to bottom:
--- 1. what the table layer states: on a sound state each call does to tables and statements what it does to the plain store that the state stands for (proofs/Standing,
---    Plainly), the state stays sound (StaysSound), and the answers that an update drops are those that it matches (Dropping, from the patterns' laws);
--- 2. what the slots keep: finding, moving to the front, taking the last slot and dropping are those of the model of crate `trace` (Model, Finds, Caches);
--- 3. why they agree: so each call meets the model's step (Meets), and a list of calls follows the model's list (Follows). There the kept answers are those of `recent`,
---    read off the history of the plain store, and each is the plain store's record of now (trace/proofs/Past, Kept, Same, Anew);
+-- 1. what the table layer states: on a sound state each call does to tables and statements what it does to the plain store that the state stands for (Refinement/Standing,
+--    Calls), the state stays sound (Invariant/Stays), and the answers that an update drops are those that it matches (Refinement/Dropping, from the patterns' laws);
+-- 2. what the slots keep: finding, moving to the front, taking the last slot and dropping are those of the model of crate `trace` (Refinement/SlotsAsCache, Finding,
+--    Caching);
+-- 3. why they agree: so each call meets the model's step (Refinement/CallsOfModel), and a list of calls follows the model's list (ListsOfCalls). There the kept answers are
+--    those of `recent`, read off the history of the plain store, and each is the plain store's record of now (trace/proofs/Past, Kept, Same, Anew);
 -- 4. what follows: what holds of every list in the model holds of the state (below). Assumes nothing.
 use mathlib.Core.Path.{◌≡◌, refl, sym, ap, ◌∙◌, subst, subst₂}
 use mathlib.Core.Logic.{◌≢◌, ◌⊎◌, inl, inr}
@@ -16,29 +17,30 @@ use lib.ListN.{length, drop}
 use Rattle.lists.specs.Lists.{All, written}
 use Rattle.lists.proofs.Lists.{All-map, All-left, All-image}
 use Rattle.meaning.specs.Key.{Key, same_key}
-use Rattle.meaning.specs.Demand.{ReadsBack, Call32, rows_listed}
+use Rattle.meaning.specs.Plain.{rows_listed, Lengths, Plain, opening_refused, Out, refused, answered, record_of}
+use Rattle.meaning.specs.Record.{ReadsBack}
+use Rattle.meaning.specs.Call.{Call, add, ask, change, flush, Call32}
 use Rattle.meaning.specs.Plain as P
-use Rattle.meaning.specs.Plain.{Lengths, Plain, opening_refused, Out, refused, answered, record_of}
 use Rattle.trace.specs.History.{Ground}
-use Rattle.trace.specs.Slots.{Held, slot_bytes, find}
-use Rattle.trace.specs.Model as T
-use Rattle.trace.specs.Model.{Model, turned, asked}
-use Rattle.trace.specs.Demand as D
+use Rattle.trace.specs.Private.Slots.{Held, slot_bytes, find}
+use Rattle.trace.specs.Private.Model as T
+use Rattle.trace.specs.Private.Model.{Model, turned, asked}
+use Rattle.trace.specs.Private.Demand as D
 use Rattle.trace.proofs.Demand.{stored-after, demands as on-model}
-use Rattle.cache.specs.Run.{Start, opening_of, opened, Call, add, ask, update, flush, Got, step, after, plain_call, got_of, plain_after}
+use Rattle.cache.specs.Run.{Start, opening_of, opened, Got, step, after, plain_call, got_of, plain_after}
 use Rattle.cache.specs.Means.{Means}
-use Rattle.cache.specs.Demand.{SameAsPlain, slot_count, slot_size, past, next_ask, AnewOnlyIf, ThirdDemand, StandsInList, DropsInList, KeptOtherwise, RowsRead, Values32, AnswerReadsBack, Demands}
-use Rattle.cache.proofs.SoundMeans.{sound_exactly_if}
-use Rattle.cache.proofs.Openings.{opens_exactly_if, opening_taken, opening-refused, flush_drops_all}
-use Rattle.cache.proofs.Accepting.{accepted_exactly_if}
-use Rattle.cache.proofs.Answers.{new_answer, kept_answer}
-use Rattle.cache.proofs.Refusals.{lowest_number, rings_never_full, refused_changes_nothing}
-use Rattle.cache.proofs.StaysSound.{opens_sound, stays_sound}
-use Rattle.cache.proofs.Standing.{stands_for_plain}
-use Rattle.cache.proofs.Plainly.{does_as_plain}
-use Rattle.cache.proofs.Dropping.{drops_exactly_matched}
-use Rattle.cache.proofs.Meets.{Meets, patterns-mean}
-use Rattle.cache.proofs.Follows.{Follows, follows-opened, gots_of, plain-gets, meets, follows-after, follows-gets}
+use Rattle.cache.specs.Demand.{SameAsPlain, slot_count, slot_size, history_of, next_ask, AnewOnlyIf, ThirdDemand, StandsInList, DropsInList, KeptOtherwise, RowsRead, AnswerReadsBack, Demands}
+use Rattle.cache.proofs.Invariant.Sentence.{sound_exactly_if}
+use Rattle.cache.proofs.Claims.Openings.{opens_exactly_if, opening_taken, opening-refused, flush_drops_all}
+use Rattle.cache.proofs.Claims.Accepted.{accepted_exactly_if}
+use Rattle.cache.proofs.Claims.Answered.{new_answer, kept_answer}
+use Rattle.cache.proofs.Claims.Refusals.{lowest_number, rings_never_full, refused_changes_nothing}
+use Rattle.cache.proofs.Invariant.Stays.{opens_sound, stays_sound}
+use Rattle.cache.proofs.Refinement.Standing.{stands_for_plain}
+use Rattle.cache.proofs.Refinement.Calls.{does_as_plain}
+use Rattle.cache.proofs.Refinement.Dropping.{drops_exactly_matched}
+use Rattle.cache.proofs.Refinement.CallsOfModel.{Meets, patterns-mean}
+use Rattle.cache.proofs.Refinement.ListsOfCalls.{Follows, follows-opened, gots_of, plain-gets, meets, follows-after, follows-gets}
 
 -- ---- a question that is not refused is answered
 
@@ -49,7 +51,7 @@ guard_out : (n : ℕ) (m : Model) (q : Model × T.Seen) → AskOut q.1.out → A
 guard_out zero m q a = a
 guard_out (suc n) m q a = inl (n, refl)
 
-ask_out : (lent : Lengths) (size : ℕ) (m : Model) (k : Key) (b : ℕ) → AskOut (T.step lent size m (P.ask k b)).1.out
+ask_out : (lent : Lengths) (size : ℕ) (m : Model) (k : Key) (b : ℕ) → AskOut (T.step lent size m (ask k b)).1.out
 ask_out lent size m k b = guard_out (T.ask_refusal lent m.store k) m _ (go (find same_key k m.cache.held))
   where
     go : (o : Option (Held Key × List (Held Key))) → AskOut (asked lent size m k b o).1.out
@@ -65,7 +67,7 @@ answer_of buffer o (inr a) g i z = a
 -- ---- demand 3
 
 -- the opening, as the model has it
-abbrev start_of : Start → D.Start
+abbrev start_of : Start → D.ModelStart
 start_of o = record { opening = opening_of o; memory = o.memory; lent = refl }
 
 slots-are : (o : Start) → T.slot_count (opening_of o) ≡ slot_count o
@@ -82,16 +84,16 @@ size_is o = go (opening_refused (opening_of o))
     go true = refl
     go false = refl
 
-values-32 : (c : Call) → Values32 c → Call32 (plain_call c)
+values-32 : (c : Call (List ℕ)) → Call32 c → Call32 (plain_call c)
 values-32 (add text) v = v
-values-32 (ask n vs buffer) v = v
-values-32 (update n vs) v = v
+values-32 (ask k buffer) v = v
+values-32 (change n us) v = v
 values-32 flush v = v
 
-calls-32 : (cs : List Call) → All Values32 cs → All Call32 (map plain_call cs)
+calls-32 : (cs : List (Call (List ℕ))) → All Call32 cs → All Call32 (map plain_call cs)
 calls-32 cs v = All-image plain_call (All-map values-32 v)
 
-pub follows : (o : Start) (cs : List Call)
+pub follows : (o : Start) (cs : List (Call (List ℕ)))
     → Follows (opening_of o).lent (T.slot_size (opening_of o)) (after (opened o) cs) (D.after_calls (start_of o) (map plain_call cs))
 follows o cs = follows-after (follows-opened o) cs
 
@@ -103,19 +105,19 @@ same_as_plain o cs v =
     )
 
 -- the next question, on the state and in the model
-module _ (o : Start) (cs : List Call) (k : Key) (buffer : List ℕ) where
-  next : Meets (after (opened o) cs) buffer (step (after (opened o) cs) (ask k.query k.values buffer))
-      (T.step (opening_of o).lent (T.slot_size (opening_of o)) (D.after_calls (start_of o) (map plain_call cs)) (P.ask k (length buffer)))
-  next = meets (follows o cs) (ask k.query k.values buffer)
+module _ (o : Start) (cs : List (Call (List ℕ))) (k : Key) (buffer : List ℕ) where
+  next : Meets (after (opened o) cs) buffer (step (after (opened o) cs) (ask k buffer))
+      (T.step (opening_of o).lent (T.slot_size (opening_of o)) (D.after_calls (start_of o) (map plain_call cs)) (ask k (length buffer)))
+  next = meets (follows o cs) (ask k buffer)
 
-  next-answer : (next_ask o cs k buffer).got.refusal ≡ 0 → (r : List ℕ) × ((D.next_call (start_of o) (map plain_call cs) (P.ask k (length buffer))).out ≡ answered r)
+  next-answer : (next_ask o cs k buffer).got.refusal ≡ 0 → (r : List ℕ) × ((D.next_call (start_of o) (map plain_call cs) (ask k (length buffer))).out ≡ answered r)
   next-answer e = answer_of buffer _ (ask_out _ _ (D.after_calls (start_of o) (map plain_call cs)) k (length buffer)) _ next.got e
 
 pub anew_only_if : AnewOnlyIf
 anew_only_if o cs v k buffer e z =
     let a = next-answer o cs k buffer e in
     let g = on-model.anew_only_if (start_of o) (map plain_call cs) (calls-32 cs v) k (length buffer) a.0 a.1 (sym (next o cs k buffer).kept ∙ z) in
-    subst₂ (λ (n size : ℕ). Ground same_key n size (record_of (plain_after o cs) k) k (past o cs)) (slots-are o) (size_is o) g
+    subst₂ (λ (n size : ℕ). Ground same_key n size (record_of (plain_after o cs) k) k (history_of o cs)) (slots-are o) (size_is o) g
 
 pub kept_otherwise : KeptOtherwise
 kept_otherwise o cs v k buffer e asked fit hit few =
@@ -131,7 +133,7 @@ guard-seen : (n : ℕ) (m : Model) (k : Key) (q : Model × T.Seen) → AskSeen m
 guard-seen zero m k q a = a
 guard-seen (suc n) m k q a = inl (n, refl)
 
-ask-seen : (lent : Lengths) (size : ℕ) (m : Model) (k : Key) (b : ℕ) → AskSeen m k (T.step lent size m (P.ask k b)).1
+ask-seen : (lent : Lengths) (size : ℕ) (m : Model) (k : Key) (b : ℕ) → AskSeen m k (T.step lent size m (ask k b)).1
 ask-seen lent size m k b = guard-seen (T.ask_refusal lent m.store k) m k _ (go (find same_key k m.cache.held))
   where
     go : (o : Option (Held Key × List (Held Key))) → AskSeen m k (asked lent size m k b o).1
@@ -141,7 +143,7 @@ ask-seen lent size m k b = guard-seen (T.ask_refusal lent m.store k) m k _ (go (
 pub rows-read : RowsRead
 rows-read o cs k buffer e = go (ask-seen (opening_of o).lent (T.slot_size (opening_of o)) (D.after_calls (start_of o) (map plain_call cs)) k (length buffer))
   where
-    go : AskSeen (D.after_calls (start_of o) (map plain_call cs)) k (D.next_call (start_of o) (map plain_call cs) (P.ask k (length buffer)))
+    go : AskSeen (D.after_calls (start_of o) (map plain_call cs)) k (D.next_call (start_of o) (map plain_call cs) (ask k (length buffer)))
         → ((next_ask o cs k buffer).kept ≡ 0 → (next_ask o cs k buffer).scanned ≡ P.rows_read (plain_after o cs) k)
         × ((next_ask o cs k buffer).kept ≢ 0 → (next_ask o cs k buffer).scanned ≡ 0)
     go (inl (n, y)) =
@@ -162,7 +164,7 @@ pub third_demand : ThirdDemand
 third_demand o cs v = record {
   same = (same_as_plain o cs v).0;
   tables = (same_as_plain o cs v).1;
-  anew = λ before k buffer behind e. anew_only_if o before (All-left before (ask k.query k.values buffer ∷ behind) (subst (All Values32) e v)) k buffer;
+  anew = λ before k buffer behind e. anew_only_if o before (All-left before (ask k buffer ∷ behind) (subst (All Call32) e v)) k buffer;
 }
 
 pub stands_in_list : StandsInList

@@ -6,10 +6,11 @@ use native.Mathlib.Omega.{arith}
 use borrow.Author.Tests.{eqb-true}
 use lib.Dec.{eqb}
 use Rattle.lists.proofs.Bools.{and_left, and_right, or_left, or_right, not-false}
-use Rattle.meaning.specs.Plain.{or_else}
+use Rattle.meaning.specs.Plain.{Lengths}
+use Rattle.meaning.specs.Refusals.{or_else, settled}
 use Rattle.cache.specs.declared.State.{State}
-use Rattle.cache.specs.Sound.{sound_state}
-use Rattle.cache.specs.Calls.{settled, unfit}
+use Rattle.cache.specs.SoundTest.{sound_state}
+use Rattle.cache.specs.Calls.{unfit}
 
 module _ {X : Type 0} where
   pub settled-refused : (n : ℕ) (done refused : X) → (n ≡ 0 → ⊥) → refused ≡ settled n done refused
@@ -22,19 +23,19 @@ module _ {X : Type 0} where
   settled-done n done refused e = rw e
 
 -- where the state and the lengths are the opening's
-pub record Fit (s : State) (cells memory : ℕ) : Type 0 where
+pub record Fit (s : State) (l : Lengths) : Type 0 where
   pub sound : sound_state s ≡ true
-  pub cells_are : cells ≡ s.cells
-  pub memory_is : memory ≡ s.memory
+  pub cells_are : l.cells ≡ s.cells
+  pub memory_is : l.memory ≡ s.memory
 
-pub fit_is : (s : State) (cells memory : ℕ) → unfit s cells memory ≡ false → Fit s cells memory
+pub fit_is : (s : State) (l : Lengths) → unfit s l ≡ false → Fit s l
 unfolding unfit
-fit_is s cells memory h =
-    let a : (eqb cells s.cells && eqb memory s.memory) ≡ true = not-false _ (or_right (not (sound_state s)) _ h) in
+fit_is s l h =
+    let a : (eqb l.cells s.cells && eqb l.memory s.memory) ≡ true = not-false _ (or_right (not (sound_state s)) _ h) in
     record {
       sound = not-false (sound_state s) (or_left (not (sound_state s)) _ h);
-      cells_are = eqb-true cells s.cells (and_left (eqb cells s.cells) _ a);
-      memory_is = eqb-true memory s.memory (and_right (eqb cells s.cells) _ a);
+      cells_are = eqb-true l.cells s.cells (and_left (eqb l.cells s.cells) _ a);
+      memory_is = eqb-true l.memory s.memory (and_right (eqb l.cells s.cells) _ a);
     }
 
 -- the first condition fails, and so do the others

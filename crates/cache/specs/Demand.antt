@@ -1,78 +1,63 @@
--- The user's three demands, about the calls as the program makes them: `Calls` is what the contracts of the code say that it gives and leaves. Each claim stands below
+-- The user's three demands, about the calls as the program makes them: `Gives` is what the contracts of the code say that it gives and leaves. Each claim stands below
 -- its sentence, and is proved in proofs/Demand. Assumes nothing: these are definitions.
-use Rattle.std.specs.Prelude.{◌≡◌, ◌≢◌, ◌⊎◌, ◌↔◌, Bool, true, false, not, ◌&&◌, cond, List, [], ◌∷◌, ◌++◌, map, ℕ, ◌+◌, ◌*◌, ◌≤◌, ◌<◌, eqb, ltb, ℤ, pos, nat_abs, length, get_or, replicate}
+use Rattle.std.specs.Prelude.{◌≡◌, ◌≢◌, ◌⊎◌, ◌↔◌, true, false, not, cond, List, [], ◌∷◌, ◌++◌, map, ℕ, ◌+◌, ◌*◌, ◌≤◌, ◌<◌, ℤ, pos, nat_abs, length, get_or, replicate, Some, None}
 use Rattle.lists.specs.Lists.{All, any, keep, count, from, written}
 use Rattle.meaning.specs.Key.{Key, same_key}
-use Rattle.meaning.specs.Demand.{rank, WithinLimits, ReadsBack, Is32, rows_listed}
+use Rattle.meaning.specs.Plain.{rows_listed, Plain, schemas, Opening, opening_refused, record_of, drops_key}
+use Rattle.meaning.specs.Record.{ReadsBack}
+use Rattle.meaning.specs.Limits.{WithinLimits}
+use Rattle.meaning.specs.Call.{Call, add, ask, change, flush, Is32, Call32}
+use Rattle.meaning.specs.Refusals.{Conditions, kept_conditions, flush_conditions, is_short, Lowest}
 use Rattle.meaning.specs.Tokens.{tokens}
 use Rattle.meaning.specs.Grammar as G
 use Rattle.meaning.specs.Grammar.{items, Sentence, spell}
-use Rattle.meaning.specs.Names.{Schema, unknown, taken, miscounted, twice}
+use Rattle.meaning.specs.Names.{Schema, unknown_name, taken, miscounted, twice}
 use Rattle.meaning.specs.Statement.{creates, asks, changes, statement_of}
 use Rattle.meaning.specs.Plain as P
-use Rattle.meaning.specs.Plain.{Plain, schemas, Opening, opening_refused, record_of, drops_key}
-use Rattle.trace.specs.History.{Event, history, fits, Answered, hits, since, Filled, Ground}
-use Rattle.statement.specs.Catalog.{catalog}
-use Rattle.statement.specs.Compiled.{text_conditions}
+use Rattle.trace.specs.History.{Event, history, fits_slot, Answered, hits, since, Filled, Ground}
 use Rattle.statement.specs.Sound.{Passes}
-use Rattle.slots.specs.Keys.{Found}
-use Rattle.std.specs.Prelude.{Some, None}
-use Rattle.slots.specs.Keys.{key_read, slot_key}
-use Rattle.slots.specs.Order.{slots_of}
+use Rattle.slots.specs.Keys.{Found, key_read, slot_key, slots_of}
 use Rattle.cache.specs.declared.State.{State}
-use Rattle.cache.specs.Sound.{opening, sizes_of, used_tables, schemas_in, areas_of, length_at, keys_in, OpeningWithin, IsSound, sound_state}
+use Rattle.cache.specs.Sound.{lengths, opening, sizes_of, used_tables, schemas_in, areas_of, length_at, keys_in, OpeningWithin, IsSound}
+use Rattle.cache.specs.SoundTest.{sound_state}
 use Rattle.cache.specs.Means.{tables_in, Means, Typed}
-use Rattle.cache.specs.Calls.{unfit, ask_conditions, cached_length, bytes_at, new_conditions, found_in, table_at, update_at, update_conditions}
-use Rattle.cache.specs.Run.{Store, Start, opening_of, opened_by, opened, Call, add, ask, update, flush, Seen, step, after, gets, plain_call, buffer_of, got_of, plain_after, plain_gets}
+use Rattle.cache.specs.Calls.{unfit, add_conditions_in, ask_conditions, change_conditions, record_conditions, cached_length, bytes_at, found_in, table_at, update_at}
+use Rattle.cache.specs.Run.{Store, Start, opening_of, opened_by, opened, Seen, lent_by, step, after, gets, plain_call, buffer_of, got_of, plain_after, plain_gets}
 
 -- ---- Demand 1: "If a call brings a text, number, state or lent memory that the store can't take, it gives the refusal number of document 01 and changes nothing. Every
 -- other call ends with its work done." That each call ends, and touches no place outside the lent memories, is what it means for the code to be proved.
 
--- the numbers that a call can get, each with its condition, on any state, in the order in which they are looked for. An answer that is held is judged by its own length
--- alone: 16 is none of its numbers
-abbrev pub answer_conditions : Store → ℕ → List ℤ → ℕ → Found → List (ℕ × Bool)
-answer_conditions s n vs buffer (Some p) = (13, ltb buffer (cached_length s.state p)) ∷ []
-answer_conditions s n vs buffer None = new_conditions s.state s.cells buffer n vs
+-- the numbers that a call can get, each with its condition, on any state: the lists of `Refusals`. An answer that is held is judged by its own length alone: 16 is none of its numbers
+abbrev pub answer_conditions : Store → Key → ℕ → Found → Conditions
+answer_conditions s k buffer (Some p) = kept_conditions (is_short buffer (cached_length s.state p))
+answer_conditions s k buffer None = record_conditions s.state s.cells buffer k.query k.values
 
-abbrev pub conditions : Store → Call → List (ℕ × Bool)
-conditions s (add text) =
-    (2, unfit s.state (length s.cells) (length s.memory))
-    ∷ text_conditions
-    (catalog s.state.tables s.state.table_count s.state.query_count s.state.update_count s.state.cells)
-    text
-conditions s (ask n vs buffer) =
-    ask_conditions s.state (length s.cells) (length s.memory) n (length vs)
-    ++ answer_conditions s n vs (length buffer) (found_in s.state n vs)
-conditions s (update n vs) = update_conditions s.state (length s.cells) (length s.memory) n (length vs)
-conditions s flush = (2, unfit s.state (length s.cells) (length s.memory)) ∷ []
+abbrev pub conditions : Store → Call (List ℕ) → Conditions
+conditions s (add text) = add_conditions_in s.state (lent_by s) text
+conditions s (ask k buffer) =
+    ask_conditions s.state (lent_by s) k.query (length k.values) ++ answer_conditions s k (length buffer) (found_in s.state k.query k.values)
+conditions s (change n vs) = change_conditions s.state (lent_by s) n (length vs)
+conditions s flush = flush_conditions (unfit s.state (lent_by s))
 
-abbrev pub applies : Store → Call → ℕ → Bool
-applies s c n = any (λ (x : ℕ × Bool). eqb x.0 n && x.1) (conditions s c)
-
--- "The lowest number that applies is given, and only then.": in the order in which they are looked for (`rank`)
-pub record Lowest (s : Store) (c : Call) (n : ℕ) : Type 0 where
-  pub given : n ≢ 0 → applies s c n ≡ true
-  pub lower : (m : ℕ) → rank m < rank n → applies s c m ≡ false
-  pub only : n ≡ 0 → (m : ℕ) → applies s c m ≡ false
-
+-- "The lowest number that applies is given, and only then." (`Refusals.Lowest`)
 abbrev pub LowestNumber : Type 0
-LowestNumber = (s : Store) (c : Call) → Lowest s c (step s c).1.got.refusal
+LowestNumber = (s : Store) (c : Call (List ℕ)) → Lowest (conditions s c) (step s c).1.got.refusal
 
 -- A.4, of a ring: "12 isn't given for it"
 abbrev pub RingsNeverFull : Type 0
-RingsNeverFull = (s : Store) (n : ℕ) (vs : List ℤ) → (table_at s.state (update_at s.state n).table).ring ≡ true → (step s (update n vs)).1.got.refusal ≢ 12
+RingsNeverFull = (s : Store) (n : ℕ) (vs : List ℤ) → (table_at s.state (update_at s.state n).table).ring ≡ true → (step s (change n vs)).1.got.refusal ≢ 12
 
 -- "State and lent memories come back as they came, other results are 0"
 abbrev pub refused_with : ℕ → List ℕ → Seen
 refused_with n buffer = record {
-  got = record { refusal = n; kind = 0; number = 0; length = 0; rows = 0; answer = buffer };
+  got = record { refusal = n; kind = 0; number = 0; size = 0; rows = 0; answer = buffer };
   kept = 0;
   scanned = 0;
   drops = 0;
 }
 
 abbrev pub RefusedChangesNothing : Type 0
-RefusedChangesNothing = (s : Store) (c : Call) → (step s c).1.got.refusal ≢ 0 → step s c ≡ (s, refused_with (step s c).1.got.refusal (buffer_of c))
+RefusedChangesNothing = (s : Store) (c : Call (List ℕ)) → (step s c).1.got.refusal ≢ 0 → step s c ≡ (s, refused_with (step s c).1.got.refusal (buffer_of c))
 
 -- ---- opening: "1: opening outside the limits, or slots × bytes over the kept memory", and no other number
 
@@ -99,7 +84,7 @@ OpeningTaken = (o : Start) → (opened_by o).result.refusal ≡ 0
 abbrev pub OpeningRefused : Type 0
 OpeningRefused = (o : Start) → (opened_by o).result.refusal ≢ 0
     → ((opened_by o).result.refusal ≡ 1)
-    × Fresh (opened o).state (opening 0 0 0 8)
+    × Fresh (opened o).state (opening (lengths 0 0) 0 8)
     × ((opened o).cells ≡ o.cells)
     × ((opened o).memory ≡ o.memory)
 
@@ -112,7 +97,7 @@ abbrev pub OpensSound : Type 0
 OpensSound = (o : Start) → sound_state (opened o).state ≡ true
 
 abbrev pub StaysSound : Type 0
-StaysSound = (s : Store) (c : Call) → Typed s.state → sound_state s.state ≡ true → sound_state (step s c).0.state ≡ true
+StaysSound = (s : Store) (c : Call (List ℕ)) → Typed s.state → sound_state s.state ≡ true → sound_state (step s c).0.state ≡ true
 
 -- ---- Demand 2: "A text is accepted exactly if no refusal condition of document 01 holds.", of the program's `add`, beside every state of its type
 
@@ -137,7 +122,7 @@ pub record Accepted (s : Store) (text : List ℕ) (x : Sentence) : Type 0 where
   -- 5
   pub within : WithinLimits x
   -- 6, 7, 8, beside the tables that there are
-  pub known : unknown (schemas_in s.state) x ≡ false
+  pub known : unknown_name (schemas_in s.state) x ≡ false
   pub fresh : taken (schemas_in s.state) x ≡ false
   pub counted : miscounted (schemas_in s.state) x ≡ false
   -- 15, "looked for after 8"
@@ -161,26 +146,23 @@ pub record FromSentences (p : Plain) : Type 0 where
 abbrev pub StandsForPlain : Type 0
 StandsForPlain = (s : Store) → Typed s.state → sound_state s.state ≡ true → (p : Plain) × Means s.state s.cells p × FromSentences p
 
-abbrev pub lengths_lent : Store → P.Lengths
-lengths_lent s = record { cells = length s.cells; memory = length s.memory }
-
 -- no slot holds the answer, or the call is refused before that is looked for (of a held one 13 goes by the kept length)
-abbrev pub Anew : Store → Call → Type 0
+abbrev pub Anew : Store → Call (List ℕ) → Type 0
 Anew s (add text) = Unit {0}
-Anew s (ask n vs buffer) = (found_in s.state n vs ≡ None) ⊎ (((step s (ask n vs buffer)).1.got.refusal ≢ 0) × ((step s (ask n vs buffer)).1.got.refusal ≢ 13))
-Anew s (update n vs) = Unit {0}
+Anew s (ask k buffer) = (found_in s.state k.query k.values ≡ None) ⊎ (((step s (ask k buffer)).1.got.refusal ≢ 0) × ((step s (ask k buffer)).1.got.refusal ≢ 13))
+Anew s (change n vs) = Unit {0}
 Anew s flush = Unit {0}
 
 abbrev pub DoesAsPlain : Type 0
-DoesAsPlain = (s : Store) (c : Call) (p : Plain) → Typed s.state → sound_state s.state ≡ true → Means s.state s.cells p → Anew s c
-    → ((step s c).1.got ≡ got_of (buffer_of c) (P.step (lengths_lent s) p (plain_call c)).1)
-    × Means (step s c).0.state (step s c).0.cells (P.step (lengths_lent s) p (plain_call c)).0
+DoesAsPlain = (s : Store) (c : Call (List ℕ)) (p : Plain) → Typed s.state → sound_state s.state ≡ true → Means s.state s.cells p → Anew s c
+    → ((step s c).1.got ≡ got_of (buffer_of c) (P.step (lent_by s) p (plain_call c)).1)
+    × Means (step s c).0.state (step s c).0.cells (P.step (lent_by s) p (plain_call c)).0
 
 -- "A new answer .. holds exactly the rows, in order, that the SQL meaning set down there gives, and its record reads back as those rows", and the rows that it reads: on
 -- every sound state. Cells have 32 bits, as their type says
 abbrev pub NewAnswer : Type 0
 NewAnswer = (s : Store) (p : Plain) (k : Key) (buffer : List ℕ) → Typed s.state → sound_state s.state ≡ true → Means s.state s.cells p → All Is32 s.cells
-    → let r : Seen = (step s (ask k.query k.values buffer)).1 in
+    → let r : Seen = (step s (ask k buffer)).1 in
     r.got.refusal ≡ 0 → r.kept ≡ 0
     → ReadsBack r.got.answer (length (P.query_at p k.query).selected) (rows_listed p k) × (r.scanned ≡ P.rows_read p k)
 
@@ -189,13 +171,13 @@ pub record ItsSlotsBytes (s : Store) (k : Key) (buffer : List ℕ) (r : Seen) : 
   pub slot : ℕ
   pub held : (i : ℕ) × (i < s.state.slots.held) × (get_or s.state.slots.order i 0 ≡ slot)
   pub key_is : key_read (slot_key s.state.keys slot) ≡ k
-  pub length_is : r.got.length ≡ length_at s.state slot
+  pub length_is : r.got.size ≡ length_at s.state slot
   pub answer_is : r.got.answer ≡ written buffer 0 (bytes_at s.state s.memory slot)
   pub none_read : r.scanned ≡ 0
 
 abbrev pub KeptAnswer : Type 0
 KeptAnswer = (s : Store) (k : Key) (buffer : List ℕ) → Typed s.state → sound_state s.state ≡ true
-    → let r : Seen = (step s (ask k.query k.values buffer)).1 in
+    → let r : Seen = (step s (ask k buffer)).1 in
     r.got.refusal ≡ 0 → r.kept ≢ 0 → ItsSlotsBytes s k buffer r
 
 -- "The kept answers an update drops are exactly those matched by the patterns"; A.7: under its premises "a matched answer is dropped exactly if some row of 32-bit numbers .. through
@@ -205,9 +187,9 @@ keys_held s = keys_in s.state
 
 abbrev pub DropsExactlyMatched : Type 0
 DropsExactlyMatched = (s : Store) (n : ℕ) (us : List ℤ) (p : Plain) → Typed s.state → sound_state s.state ≡ true → Means s.state s.cells p
-    → (step s (update n us)).1.got.refusal ≡ 0
-    → (keys_held (step s (update n us)).0 ≡ keep (λ (k : Key). not (drops_key p n us k)) (keys_held s))
-    × ((step s (update n us)).1.drops ≡ count (drops_key p n us) (keys_held s))
+    → (step s (change n us)).1.got.refusal ≡ 0
+    → (keys_held (step s (change n us)).0 ≡ keep (λ (k : Key). not (drops_key p n us k)) (keys_held s))
+    × ((step s (change n us)).1.drops ≡ count (drops_key p n us) (keys_held s))
 
 -- "flush (drop every kept answer)"; "Drops put held slots first and free ones after, each in the order they had."
 abbrev pub FlushDropsAll : Type 0
@@ -218,15 +200,10 @@ FlushDropsAll = (s : Store) → (step s flush).1.got.refusal ≡ 0 → (keys_hel
 -- the count of rows inserted, matched or deleted that the same call gets from the plain store of document 01, which keeps no answer, and after the list the tables hold
 -- the same rows as that store's."
 
--- the values of a call have 32 bits, as their type says: of the calls of a list, where a claim needs it, and never of the one after them
-abbrev pub Values32 : Call → Type 0
-Values32 (add text) = Unit {0}
-Values32 (ask n vs buffer) = All Is32 vs
-Values32 (update n vs) = All Is32 vs
-Values32 flush = Unit {0}
+-- The values of a call have 32 bits, as their type says (`Call32`): of the calls of a list, where a claim needs it, and never of the one after them.
 
 abbrev pub SameAsPlain : Type 0
-SameAsPlain = (o : Start) (cs : List Call) → All Values32 cs
+SameAsPlain = (o : Start) (cs : List (Call (List ℕ))) → All Call32 cs
     → (map (λ (x : Seen). x.got) (gets (opened o) cs) ≡ plain_gets (opening_of o).lent (P.opened (opening_of o)) cs)
     × (tables_in (after (opened o) cs).state (after (opened o) cs).cells ≡ (plain_after o cs).tables)
 
@@ -240,54 +217,54 @@ slot_count o = cond (opening_refused (opening_of o)) 0 o.slots
 abbrev pub slot_size : Start → ℕ
 slot_size o = cond (opening_refused (opening_of o)) 8 o.slot_bytes
 
-abbrev pub past : Start → List Call → List (Event Key)
-past o cs = history (opening_of o).lent (P.opened (opening_of o)) (map plain_call cs)
+abbrev pub history_of : Start → List (Call (List ℕ)) → List (Event Key)
+history_of o cs = history (opening_of o).lent (P.opened (opening_of o)) (map plain_call cs)
 
-abbrev pub next_ask : Start → List Call → Key → List ℕ → Seen
-next_ask o cs k buffer = (step (after (opened o) cs) (ask k.query k.values buffer)).1
+abbrev pub next_ask : Start → List (Call (List ℕ)) → Key → List ℕ → Seen
+next_ask o cs k buffer = (step (after (opened o) cs) (ask k buffer)).1
 
 abbrev pub AnewOnlyIf : Type 0
-AnewOnlyIf = (o : Start) (cs : List Call) → All Values32 cs → (k : Key) (buffer : List ℕ) → (next_ask o cs k buffer).got.refusal ≡ 0 → (next_ask o cs k buffer).kept ≡ 0
-    → Ground same_key (slot_count o) (slot_size o) (record_of (plain_after o cs) k) k (past o cs)
+AnewOnlyIf = (o : Start) (cs : List (Call (List ℕ))) → All Call32 cs → (k : Key) (buffer : List ℕ) → (next_ask o cs k buffer).got.refusal ≡ 0 → (next_ask o cs k buffer).kept ≡ 0
+    → Ground same_key (slot_count o) (slot_size o) (record_of (plain_after o cs) k) k (history_of o cs)
 
 -- All of demand 3, as one claim about the whole list
-pub record Demand3 (o : Start) (cs : List Call) : Type 0 where
+pub record Demand3 (o : Start) (cs : List (Call (List ℕ))) : Type 0 where
   -- "every call gets the refusal number, the statement's kind and number, the record and the count of rows inserted, matched or deleted that the same call gets from the
   -- plain store of document 01, which keeps no answer"
   pub same : map (λ (x : Seen). x.got) (gets (opened o) cs) ≡ plain_gets (opening_of o).lent (P.opened (opening_of o)) cs
   -- "and after the list the tables hold the same rows as that store's"
   pub tables : tables_in (after (opened o) cs).state (after (opened o) cs).cells ≡ (plain_after o cs).tables
   -- "In every such list a question with its values is worked out anew only if ..": each question of the list, behind the calls before it
-  pub anew : (before : List Call) (k : Key) (buffer : List ℕ) (behind : List Call) → cs ≡ before ++ ask k.query k.values buffer ∷ behind
+  pub anew : (before : List (Call (List ℕ))) (k : Key) (buffer : List ℕ) (behind : List (Call (List ℕ))) → cs ≡ before ++ ask k buffer ∷ behind
       → (next_ask o before k buffer).got.refusal ≡ 0 → (next_ask o before k buffer).kept ≡ 0
-      → Ground same_key (slot_count o) (slot_size o) (record_of (plain_after o before) k) k (past o before)
+      → Ground same_key (slot_count o) (slot_size o) (record_of (plain_after o before) k) k (history_of o before)
 
 abbrev pub ThirdDemand : Type 0
-ThirdDemand = (o : Start) (cs : List Call) → All Values32 cs → Demand3 o cs
+ThirdDemand = (o : Start) (cs : List (Call (List ℕ))) → All Call32 cs → Demand3 o cs
 
 -- Demand 2 in such a list: the plain store of the list is the one that the state stands for, and the kept answers that an update drops are those that it matches there
 abbrev pub StandsInList : Type 0
-StandsInList = (o : Start) (cs : List Call) → Means (after (opened o) cs).state (after (opened o) cs).cells (plain_after o cs)
+StandsInList = (o : Start) (cs : List (Call (List ℕ))) → Means (after (opened o) cs).state (after (opened o) cs).cells (plain_after o cs)
 
 abbrev pub DropsInList : Type 0
-DropsInList = (o : Start) (cs : List Call) (n : ℕ) (us : List ℤ)
+DropsInList = (o : Start) (cs : List (Call (List ℕ))) (n : ℕ) (us : List ℤ)
     → let s : Store = after (opened o) cs in
     let p : Plain = plain_after o cs in
-    (step s (update n us)).1.got.refusal ≡ 0
-    → (keys_held (step s (update n us)).0 ≡ keep (λ (k : Key). not (drops_key p n us k)) (keys_held s))
-    × ((step s (update n us)).1.drops ≡ count (drops_key p n us) (keys_held s))
+    (step s (change n us)).1.got.refusal ≡ 0
+    → (keys_held (step s (change n us)).0 ≡ keep (λ (k : Key). not (drops_key p n us k)) (keys_held s))
+    × ((step s (change n us)).1.drops ≡ count (drops_key p n us) (keys_held s))
 
 -- The converse, by the slot rules: a question that was answered before, whose record fits, with no matching update or flush since, and with fewer different others than
 -- there are slots answered since with records that fit, is kept.
 abbrev pub KeptOtherwise : Type 0
-KeptOtherwise = (o : Start) (cs : List Call) → All Values32 cs → (k : Key) (buffer : List ℕ) → (next_ask o cs k buffer).got.refusal ≡ 0 → Answered k (past o cs)
-    → fits (slot_size o) (record_of (plain_after o cs) k) ≡ true → any (hits k) (since same_key k (past o cs)) ≡ false
-    → ¬ Filled (slot_size o) (slot_count o) k (since same_key k (past o cs)) → (next_ask o cs k buffer).kept ≡ 1
+KeptOtherwise = (o : Start) (cs : List (Call (List ℕ))) → All Call32 cs → (k : Key) (buffer : List ℕ) → (next_ask o cs k buffer).got.refusal ≡ 0 → Answered k (history_of o cs)
+    → fits_slot (slot_size o) (record_of (plain_after o cs) k) ≡ true → any (hits k) (since same_key k (history_of o cs)) ≡ false
+    → ¬ Filled (slot_size o) (slot_count o) k (since same_key k (history_of o cs)) → (next_ask o cs k buffer).kept ≡ 1
 
 -- "rows read (0 if kept, else the table's row count)": of a question that is worked out anew, the rows that its table has on the plain store; A.6: "For a question over two
 -- tables that is worked out anew the count becomes exactly r1 + m × r2."
 abbrev pub RowsRead : Type 0
-RowsRead = (o : Start) (cs : List Call) (k : Key) (buffer : List ℕ) → (next_ask o cs k buffer).got.refusal ≡ 0
+RowsRead = (o : Start) (cs : List (Call (List ℕ))) (k : Key) (buffer : List ℕ) → (next_ask o cs k buffer).got.refusal ≡ 0
     → (((next_ask o cs k buffer).kept ≡ 0) → (next_ask o cs k buffer).scanned ≡ P.rows_read (plain_after o cs) k)
     × (((next_ask o cs k buffer).kept ≢ 0) → (next_ask o cs k buffer).scanned ≡ 0)
 
@@ -295,7 +272,7 @@ RowsRead = (o : Start) (cs : List Call) (k : Key) (buffer : List ℕ) → (next_
 -- those rows": the answer buffer of every question that is answered, with whatever stands behind the record.
 
 abbrev pub AnswerReadsBack : Type 0
-AnswerReadsBack = (o : Start) (cs : List Call) → All Values32 cs → (k : Key) (buffer : List ℕ) → (next_ask o cs k buffer).got.refusal ≡ 0
+AnswerReadsBack = (o : Start) (cs : List (Call (List ℕ))) → All Call32 cs → (k : Key) (buffer : List ℕ) → (next_ask o cs k buffer).got.refusal ≡ 0
     → ReadsBack (next_ask o cs k buffer).got.answer (length (P.query_at (plain_after o cs) k.query).selected) (rows_listed (plain_after o cs) k)
 
 -- ---- all of these

@@ -4,31 +4,36 @@ use Rattle.std.specs.Prelude.{◌≡◌, refl, List, [], ◌∷◌, ◌++◌, ma
 use Prim.Native.String.{String}
 use Rattle.lists.specs.Lists.{bytes}
 use Rattle.meaning.specs.Tokens.{is_name_byte, is_word_byte, decimal, is_name, word, negative, token_from, first_token, scan, tokens}
-use Rattle.meaning.specs.Grammar.{a_condition, a_sentence, read}
+use Rattle.meaning.specs.Reader.{a_condition, a_sentence, read}
 use Rattle.meaning.specs.Limits.{past_limit}
-use Rattle.meaning.specs.Names.{unknown, taken, miscounted, twice}
+use Rattle.meaning.specs.Names.{unknown_name, taken, miscounted, twice}
 use Rattle.meaning.specs.Statement.{statement_of}
 use Rattle.meaning.specs.Operator.{null}
 use Rattle.meaning.specs.Record.{body, encode}
 use Rattle.meaning.specs.Cells.{stored}
 use Rattle.meaning.specs.Pattern.{contradictory, class, entry}
-use Rattle.meaning.specs.Plain.{opening_refused, no_place, Out, refused, added, answered, rows, flushed, a_table, a_query, an_update}
+use Rattle.meaning.specs.Call.{Call, add, ask, change, flush}
+use Rattle.meaning.specs.Plain.{opening_refused, Out, refused, added, answered, rows, flushed, table_kind, query_kind, update_kind}
+use Rattle.meaning.specs.Refusals.{no_place, settled}
 use Rattle.statement.specs.Compiled.{no_table, compiled_of, struct_of}
-use Rattle.statement.specs.Sound.{condition_nodes, sound_condition, sound_condition_on, sound_query, sound_table, sound_update}
-use Rattle.table.specs.Evaluated.{answer_stored, meets_stored}
-use Rattle.table.specs.Changed.{area_fits, cells_after, change_of, changed_of, count_after, fits, laid, oldest_after}
+use Rattle.statement.specs.Sound.{condition_nodes}
+use Rattle.statement.specs.SoundTest.{sound_condition, sound_condition_on, sound_query, sound_table, sound_update}
+use Rattle.table.specs.Rows.{answer_stored, meets_stored}
+use Rattle.table.specs.Changed.{area_fits, cells_after, change_of, changed_of, count_after, change_fits, laid, oldest_after}
 use Rattle.soundness.specs.Soundness.{tables_sound, queries_sound, updates_sound}
 use Rattle.pattern.specs.Stored.{all_any, affects_stored, clauses_read, is_formed, joint_clauses, matches_stored, patterns_stored, reaches_stored, relevant, separate_stored, start_read}
-use Rattle.slots.specs.Keys.{same_key, key_of, slot_has, find_of, held_twice}
-use Rattle.slots.specs.Order.{slots_of, sound_slots, front_of, drop_by, open_of as slots_open}
-use Rattle.cache.specs.Sound.{opening, sound_tables, sound_answers, sound_state}
+use Rattle.slots.specs.Keys.{same_key, key_of, slot_has, find_of, held_twice, slots_of}
+use Rattle.slots.specs.Order.{sound_slots, front_of, drop_by, open_of as slots_open}
+use Rattle.cache.specs.Sound.{lengths, opening}
+use Rattle.cache.specs.SoundTest.{sound_state, sound_tables, sound_answers}
 use Rattle.cache.specs.declared.State.{State}
-use Rattle.cache.specs.Calls.{settled, unfit, empty_state, open_of, added_by, add_refusal, add_of, ask_refusal, with_cache, ask_cached, kept, kept_memory, record_at, too_many, new_refusal, ask_new, ask_of, update_refusal, is_dropped, with_change, update_done, update_of, flush_of}
-use Rattle.cache.specs.Run.{Start, opened, Call, add, ask, update, flush, Seen, step, after, gets, got_of}
+use Rattle.cache.specs.Calls.{unfit, record_at, too_many}
+use Rattle.cache.specs.Gives.{open_of, add_of, ask_of, update_of, flush_of, empty_state, added_by, add_refusal, ask_refusal, with_cache, cached_refusal, ask_cached, kept, kept_bytes, new_refusal, ask_new, update_refusal, is_dropped, with_change, update_done}
+use Rattle.cache.specs.Run.{Start, opened, Seen, step, after, gets, got_of}
 
 -- what the computations open
 unfoldable pub computing : Unit {0}
-unfolding is_name_byte is_word_byte decimal is_name word negative token_from first_token scan tokens a_condition a_sentence read past_limit unknown taken miscounted twice statement_of body encode stored opening_refused no_place compiled_of struct_of condition_nodes sound_condition sound_condition_on sound_query sound_table sound_update answer_stored meets_stored area_fits cells_after change_of changed_of count_after fits laid oldest_after tables_sound queries_sound updates_sound contradictory class entry affects_stored all_any clauses_read is_formed joint_clauses matches_stored patterns_stored reaches_stored relevant separate_stored start_read same_key key_of slot_has find_of held_twice sound_slots front_of slots_open sound_tables sound_answers sound_state settled unfit empty_state open_of added_by add_refusal add_of ask_refusal with_cache ask_cached kept kept_memory record_at too_many new_refusal ask_new ask_of update_refusal is_dropped drop_by with_change update_done update_of flush_of step
+unfolding is_name_byte is_word_byte decimal is_name word negative token_from first_token scan tokens a_condition a_sentence read past_limit unknown_name taken miscounted twice statement_of body encode stored opening_refused no_place compiled_of struct_of condition_nodes sound_condition sound_condition_on sound_query sound_table sound_update answer_stored meets_stored area_fits cells_after change_of changed_of count_after change_fits laid oldest_after tables_sound queries_sound updates_sound contradictory class entry affects_stored all_any clauses_read is_formed joint_clauses matches_stored patterns_stored reaches_stored relevant separate_stored start_read same_key key_of slot_has find_of held_twice sound_slots front_of slots_open sound_tables sound_answers sound_state settled unfit empty_state open_of added_by add_refusal add_of ask_refusal with_cache cached_refusal ask_cached kept kept_bytes record_at too_many new_refusal ask_new ask_of update_refusal is_dropped drop_by with_change update_done update_of flush_of step
 computing = tt
 
 -- 4,096 cells, 256 bytes of kept memory, 4 slots of 64 bytes
@@ -39,14 +44,14 @@ desk = record { cells = replicate 4096 (pos 5); memory = replicate 256 7; slots 
 abbrev buffer : List ℕ
 buffer = replicate 20 9
 
-abbrev ADD : String → Call
+abbrev ADD : String → Call (List ℕ)
 ADD t = add (bytes t)
 
-abbrev ASK : ℕ → List ℕ → Call
-ASK n vs = ask n (map pos vs) buffer
+abbrev ASK : ℕ → List ℕ → Call (List ℕ)
+ASK n vs = ask (record { query = n; values = map pos vs }) buffer
 
-abbrev DO : ℕ → List ℕ → Call
-DO n vs = update n (map pos vs)
+abbrev DO : ℕ → List ℕ → Call (List ℕ)
+DO n vs = change n (map pos vs)
 
 -- what a call gets: what the plain store gives; kept, rows read, drops
 abbrev line : List ℕ → Out → ℕ → ℕ → ℕ → Seen
@@ -69,14 +74,14 @@ new ns scanned = line buffer (answer ns) 0 scanned 0
 abbrev old : List ℕ → Seen
 old ns = line buffer (answer ns) 1 0 0
 
-abbrev texts : List Call
+abbrev texts : List (Call (List ℕ))
 texts = ADD "TABLE stage (site, level) ROWS 3" ∷ ADD "INSERT INTO stage VALUES (?, ?)" ∷ ADD "SELECT level FROM stage WHERE site = ?" ∷ []
 
 abbrev added_lines : List Seen
-added_lines = plain (added a_table 0) ∷ plain (added an_update 0) ∷ plain (added a_query 0) ∷ []
+added_lines = plain (added table_kind 0) ∷ plain (added update_kind 0) ∷ plain (added query_kind 0) ∷ []
 
 -- document 01's transcript
-abbrev transcript : List Call
+abbrev transcript : List (Call (List ℕ))
 transcript =
     texts
     ++ (DO 0 (7 ∷ 120 ∷ [])
@@ -114,7 +119,7 @@ pub short-is : gets (opened desk) (texts
     ∷ ASK 0 (2 ∷ [])
     ∷ ASK 0 (3 ∷ [])
     ∷ ASK 0 (4 ∷ [])
-    ∷ ask 0 (pos 1 ∷ []) (9 ∷ 9 ∷ 9 ∷ [])
+    ∷ ask (record { query = 0; values = pos 1 ∷ [] }) (9 ∷ 9 ∷ 9 ∷ [])
     ∷ ASK 0 (5 ∷ [])
     ∷ ASK 0 (1 ∷ [])
     ∷ []))
@@ -125,7 +130,7 @@ short-is = refl
 
 -- the same of one question, the order of use alone: two slots are held, each with a record of 8 bytes, and the one at place 1 is asked for
 abbrev two_held : State
-two_held = with_cache (empty_state (opening 0 16 2 8)) (record { order = 0 ∷ 1 ∷ []; held = 2; count = 2 }) [] (8 ∷ 8 ∷ [])
+two_held = with_cache (empty_state (opening (lengths 0 16) 2 8)) (record { order = 0 ∷ 1 ∷ []; held = 2; count = 2 }) [] (8 ∷ 8 ∷ [])
 
 abbrev order_after : ℕ → List ℕ
 order_after n = slots_of (ask_cached two_held (replicate 16 7) (replicate n 9) 1).result.state.slots
@@ -141,12 +146,12 @@ found-moves = refl
 -- "Dropping by the old row only" is a slip: a row moved to site 9 drops site 9's answer
 pub moved-is : gets (opened desk) (texts
     ++ (ADD "UPDATE stage SET site = ? WHERE site = ?" ∷ DO 0 (7 ∷ 120 ∷ []) ∷ ASK 0 (9 ∷ []) ∷ DO 1 (9 ∷ 7 ∷ []) ∷ ASK 0 (9 ∷ []) ∷ []))
-    ≡ added_lines ++ (plain (added an_update 1) ∷ plain (rows 1) ∷ new [] 1 ∷ line [] (rows 1) 0 0 1 ∷ new (120 ∷ []) 1 ∷ [])
+    ≡ added_lines ++ (plain (added update_kind 1) ∷ plain (rows 1) ∷ new [] 1 ∷ line [] (rows 1) 0 0 1 ∷ new (120 ∷ []) 1 ∷ [])
 unfolding computing
 moved-is = refl
 
 -- A.4: a ring of three rows. The INSERT of minute 4 pushes minute 1 out, and drops the answers of both; that of minute 2 is kept
-abbrev ring_filled : List Call
+abbrev ring_filled : List (Call (List ℕ))
 ring_filled =
     ADD "TABLE recent (minute, level) RING 3"
     ∷ ADD "INSERT INTO recent VALUES (?, ?)"
@@ -160,7 +165,7 @@ ring_filled =
 pub ring_is : gets (opened desk) (ring_filled
     ++ (ASK 0 (1 ∷ []) ∷ ASK 0 (2 ∷ []) ∷ ASK 0 (4 ∷ []) ∷ DO 0 (4 ∷ 40 ∷ []) ∷ ASK 0 (2 ∷ []) ∷ ASK 0 (1 ∷ []) ∷ []))
     ≡ added_lines
-    ++ (plain (added an_update 1)
+    ++ (plain (added update_kind 1)
     ∷ plain (rows 1)
     ∷ plain (rows 1)
     ∷ plain (rows 1)
@@ -175,7 +180,7 @@ unfolding computing
 ring_is = refl
 
 -- where the oldest row lies then, and the cells of the three rows
-abbrev lying : List Call → ℕ × List ℤ
+abbrev lying : List (Call (List ℕ)) → ℕ × List ℤ
 lying cs =
     let s = after (opened desk) cs in
     ((get_or s.state.tables 0 no_table).oldest, take 6 s.cells)
@@ -201,10 +206,10 @@ pub one-is : gets (opened desk)
     ∷ DO 1 []
     ∷ ASK 0 []
     ∷ [])
-    ≡ plain (added a_table 0)
-    ∷ plain (added an_update 0)
-    ∷ plain (added an_update 1)
-    ∷ plain (added a_query 0)
+    ≡ plain (added table_kind 0)
+    ∷ plain (added update_kind 0)
+    ∷ plain (added update_kind 1)
+    ∷ plain (added query_kind 0)
     ∷ plain (rows 1)
     ∷ new (7 ∷ []) 1
     ∷ line [] (rows 1) 0 0 1
@@ -227,10 +232,10 @@ pub spared-is : gets (opened desk)
     ∷ DO 1 (101 ∷ [])
     ∷ ASK 0 (100 ∷ [])
     ∷ [])
-    ≡ plain (added a_table 0)
-    ∷ plain (added an_update 0)
-    ∷ plain (added a_query 0)
-    ∷ plain (added an_update 1)
+    ≡ plain (added table_kind 0)
+    ∷ plain (added update_kind 0)
+    ∷ plain (added query_kind 0)
+    ∷ plain (added update_kind 1)
     ∷ plain (rows 1)
     ∷ new [] 1
     ∷ plain (rows 1)
@@ -249,15 +254,15 @@ pub null_is : gets (opened desk)
     ∷ ADD "SELECT site FROM stage WHERE level IS NULL"
     ∷ ADD "SELECT site FROM stage WHERE level < ?"
     ∷ ASK 0 []
-    ∷ ask 1 (null ∷ []) buffer
+    ∷ ask (record { query = 1; values = null ∷ [] }) buffer
     ∷ DO 0 (7 ∷ [])
     ∷ ASK 0 []
-    ∷ ask 1 (null ∷ []) buffer
+    ∷ ask (record { query = 1; values = null ∷ [] }) buffer
     ∷ [])
-    ≡ plain (added a_table 0)
-    ∷ plain (added an_update 0)
-    ∷ plain (added a_query 0)
-    ∷ plain (added a_query 1)
+    ≡ plain (added table_kind 0)
+    ∷ plain (added update_kind 0)
+    ∷ plain (added query_kind 0)
+    ∷ plain (added query_kind 1)
     ∷ new [] 0
     ∷ new [] 0
     ∷ line [] (rows 1) 0 0 1

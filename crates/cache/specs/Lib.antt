@@ -1,9 +1,10 @@
 pub mod Sound
 pub mod Calls
-pub mod Outcomes
 pub mod Given
-pub mod Marks
 pub mod Means
 pub mod Run
 pub mod Demand
 pub mod Examples
+pub mod Private
+pub mod SoundTest
+pub mod Gives

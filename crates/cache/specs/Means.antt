@@ -8,7 +8,7 @@ use Rattle.meaning.specs.Plain.{Plain}
 use Rattle.statement.specs.declared.Table.{Table}
 use Rattle.statement.specs.Catalog.{schema_of}
 use Rattle.statement.specs.Sound.{AgreesQuery, AgreesUpdate, QueryFits, UpdateFits, TableStructFits}
-use Rattle.table.specs.Evaluated.{rows_used}
+use Rattle.table.specs.Rows.{rows_used}
 use Rattle.slots.specs.declared.Key.{Key}
 use Rattle.cache.specs.declared.State.{State}
 use Rattle.cache.specs.Sound.{used_tables, used_queries, used_updates}
@@ -22,16 +22,16 @@ abbrev pub tables_in : State → List ℤ → List P.Table
 tables_in s cells = tables_from 0 (used_tables s) cells
 
 -- as many, and each the compiled form of the other
-pub data Compiled {A B : Type 0} (R : A → B → Type 0) : List A → List B → Type 0 where
-  nil : Compiled R [] []
-  cons : {x : A} {y : B} {xs : List A} {ys : List B} → R x y → Compiled R xs ys → Compiled R (x ∷ xs) (y ∷ ys)
+pub data Pairwise {A B : Type 0} (R : A → B → Type 0) : List A → List B → Type 0 where
+  nil : Pairwise R [] []
+  cons : {x : A} {y : B} {xs : List A} {ys : List B} → R x y → Pairwise R xs ys → Pairwise R (x ∷ xs) (y ∷ ys)
 
 pub record Means (s : State) (cells : List ℤ) (p : Plain) : Type 0 where
   pub cells_are : p.lengths.cells ≡ s.cells
   pub memory_is : p.lengths.memory ≡ s.memory
   pub tables_are : p.tables ≡ tables_in s cells
-  pub queries_are : Compiled AgreesQuery (used_queries s) p.queries
-  pub updates_are : Compiled AgreesUpdate (used_updates s) p.updates
+  pub queries_are : Pairwise AgreesQuery (used_queries s) p.queries
+  pub updates_are : Pairwise AgreesUpdate (used_updates s) p.updates
 
 -- what the types of a state say: the lengths of its arrays, and 32 bits of constants
 pub record Typed (s : State) : Type 0 where

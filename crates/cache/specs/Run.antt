@@ -2,11 +2,14 @@
 -- from the plain store of document 01. Assumes nothing: these are definitions.
 use Rattle.std.specs.Prelude.{List, [], ◌∷◌, map, ℕ, ℤ, length}
 use Rattle.lists.specs.Lists.{written}
+use Rattle.meaning.specs.Call.{Call, add, ask, change, flush, with_buffer}
 use Rattle.meaning.specs.Plain as P
-use Rattle.meaning.specs.Plain.{Lengths, Plain, Opening, Kind, a_table, a_query, an_update, Out, refused, added, answered, rows, flushed}
+use Rattle.meaning.specs.Plain.{Lengths, Plain, Opening, Kind, table_kind, query_kind, update_kind, Out, refused, added, answered, rows, flushed}
 use Rattle.cache.specs.declared.State.{State}
 use Rattle.cache.specs.Sound.{opening}
-use Rattle.cache.specs.Calls.{Added, Flushed, Opens, open_of, add_of, Asks, ask_of, Updates, update_of, flush_of}
+use Rattle.statement.specs.Compiled.{of_table, of_query, of_update}
+use Rattle.cache.specs.Calls.{lengths_lent, Added, Flushed, Opens, Asks, Updates}
+use Rattle.cache.specs.Gives.{open_of, add_of, ask_of, update_of, flush_of}
 
 -- ---- the store: the state, and the memories that only it writes
 
@@ -23,7 +26,7 @@ pub record Start : Type 0 where
   pub slot_bytes : ℕ
 
 abbrev pub opening_of : Start → Opening
-opening_of o = opening (length o.cells) (length o.memory) o.slots o.slot_bytes
+opening_of o = opening (lengths_lent o.cells o.memory) o.slots o.slot_bytes
 
 abbrev pub store_of : Opens → Store
 store_of r = record { state = r.result.state; cells = r.cells; memory = r.memory }
@@ -34,13 +37,7 @@ opened_by o = open_of o.cells o.memory o.slots o.slot_bytes
 abbrev pub opened : Start → Store
 opened o = store_of (opened_by o)
 
--- ---- the calls, with what is lent to each besides: a text; a question's number, values and answer buffer; an update's number and values
-
-pub data Call : Type 0 where
-  add : List ℕ → Call
-  ask : ℕ → List ℤ → List ℕ → Call
-  update : ℕ → List ℤ → Call
-  flush : Call
+-- ---- the calls, each with the answer buffer that it is asked with
 
 -- what a call gets, 0 where it gets no such thing: the refusal's number, kind and number of a statement, the record's length, rows inserted, matched or deleted; and the
 -- answer buffer as it is then. Besides: 1 for a kept answer, rows read, and kept answers dropped
@@ -48,7 +45,7 @@ pub record Got : Type 0 where
   pub refusal : ℕ
   pub kind : ℕ
   pub number : ℕ
-  pub length : ℕ
+  pub size : ℕ
   pub rows : ℕ
   pub answer : List ℕ
 
@@ -61,14 +58,14 @@ pub record Seen : Type 0 where
 abbrev pub step_add : Store → Added → Store × Seen
 step_add s r = (
   record { state = r.state; cells = s.cells; memory = s.memory },
-  record { got = record { refusal = r.refusal; kind = r.kind; number = r.number; length = 0; rows = 0; answer = [] }; kept = 0; scanned = 0; drops = 0 },
+  record { got = record { refusal = r.refusal; kind = r.kind; number = r.number; size = 0; rows = 0; answer = [] }; kept = 0; scanned = 0; drops = 0 },
 )
 
 abbrev pub step_ask : Store → Asks → Store × Seen
 step_ask s r = (
   record { state = r.result.state; cells = s.cells; memory = r.memory },
   record {
-    got = record { refusal = r.result.refusal; kind = 0; number = 0; length = r.result.length; rows = 0; answer = r.answer };
+    got = record { refusal = r.result.refusal; kind = 0; number = 0; size = r.result.size; rows = 0; answer = r.answer };
     kept = r.result.cached;
     scanned = r.result.scanned;
     drops = 0;
@@ -79,7 +76,7 @@ abbrev pub step_update : Store → Updates → Store × Seen
 step_update s r = (
   record { state = r.result.state; cells = r.cells; memory = s.memory },
   record {
-    got = record { refusal = r.result.refusal; kind = 0; number = 0; length = 0; rows = r.result.rows; answer = [] };
+    got = record { refusal = r.result.refusal; kind = 0; number = 0; size = 0; rows = r.result.rows; answer = [] };
     kept = 0;
     scanned = 0;
     drops = r.result.invalidated;
@@ -89,56 +86,57 @@ step_update s r = (
 abbrev pub step_flush : Store → Flushed → Store × Seen
 step_flush s r = (
   record { state = r.state; cells = s.cells; memory = s.memory },
-  record { got = record { refusal = r.refusal; kind = 0; number = 0; length = 0; rows = 0; answer = [] }; kept = 0; scanned = 0; drops = 0 },
+  record { got = record { refusal = r.refusal; kind = 0; number = 0; size = 0; rows = 0; answer = [] }; kept = 0; scanned = 0; drops = 0 },
 )
 
-unfoldable pub step : Store → Call → Store × Seen
-step s (add text) = step_add s (add_of s.state (length s.cells) (length s.memory) text)
-step s (ask n vs buffer) = step_ask s (ask_of s.state s.cells s.memory n vs buffer)
-step s (update n vs) = step_update s (update_of s.state s.cells (length s.memory) n vs)
-step s flush = step_flush s (flush_of s.state (length s.cells) (length s.memory))
+-- the lengths of the store's memories
+abbrev pub lent_by : Store → Lengths
+lent_by s = lengths_lent s.cells s.memory
+
+unfoldable pub step : Store → Call (List ℕ) → Store × Seen
+step s (add text) = step_add s (add_of s.state (lent_by s) text)
+step s (ask k buffer) = step_ask s (ask_of s.state s.cells s.memory k.query k.values buffer)
+step s (change n vs) = step_update s (update_of s.state s.cells s.memory n vs)
+step s flush = step_flush s (flush_of s.state (lent_by s))
 
 -- the store after a list of calls; what each call gets
-abbrev pub after : Store → List Call → Store
+abbrev pub after : Store → List (Call (List ℕ)) → Store
 after s [] = s
 after s (c ∷ cs) = after (step s c).0 cs
 
-abbrev pub gets : Store → List Call → List Seen
+abbrev pub gets : Store → List (Call (List ℕ)) → List Seen
 gets s [] = []
 gets s (c ∷ cs) = (step s c).1 ∷ gets (step s c).0 cs
 
 -- ---- the same calls on the plain store, which "is fed only which call is made, its text or numbers, and the lengths lent"
 
-abbrev pub plain_call : Call → P.Call
-plain_call (add text) = P.add text
-plain_call (ask n vs buffer) = P.ask (record { query = n; values = vs }) (length buffer)
-plain_call (update n vs) = P.change n vs
-plain_call flush = P.flush
+-- of an answer buffer its length alone
+abbrev pub plain_call : Call (List ℕ) → Call ℕ
+plain_call c = with_buffer length c
 
 -- the answer buffer of a call
-abbrev pub buffer_of : Call → List ℕ
+abbrev pub buffer_of : Call (List ℕ) → List ℕ
 buffer_of (add text) = []
-buffer_of (ask n vs buffer) = buffer
-buffer_of (update n vs) = []
+buffer_of (ask k buffer) = buffer
+buffer_of (change n vs) = []
 buffer_of flush = []
 
--- 1 a table, 2 a question, 3 an update
 abbrev pub kind_number : Kind → ℕ
-kind_number a_table = 1
-kind_number a_query = 2
-kind_number an_update = 3
+kind_number table_kind = of_table
+kind_number query_kind = of_query
+kind_number update_kind = of_update
 
 -- what the plain store gives, as a call gets it: "the record at the answer buffer's start, whose later bytes stay"
 abbrev pub got_of : List ℕ → Out → Got
-got_of buffer (refused n) = record { refusal = n; kind = 0; number = 0; length = 0; rows = 0; answer = buffer }
-got_of buffer (added k n) = record { refusal = 0; kind = kind_number k; number = n; length = 0; rows = 0; answer = buffer }
-got_of buffer (answered r) = record { refusal = 0; kind = 0; number = 0; length = length r; rows = 0; answer = written buffer 0 r }
-got_of buffer (rows n) = record { refusal = 0; kind = 0; number = 0; length = 0; rows = n; answer = buffer }
-got_of buffer flushed = record { refusal = 0; kind = 0; number = 0; length = 0; rows = 0; answer = buffer }
+got_of buffer (refused n) = record { refusal = n; kind = 0; number = 0; size = 0; rows = 0; answer = buffer }
+got_of buffer (added k n) = record { refusal = 0; kind = kind_number k; number = n; size = 0; rows = 0; answer = buffer }
+got_of buffer (answered r) = record { refusal = 0; kind = 0; number = 0; size = length r; rows = 0; answer = written buffer 0 r }
+got_of buffer (rows n) = record { refusal = 0; kind = 0; number = 0; size = 0; rows = n; answer = buffer }
+got_of buffer flushed = record { refusal = 0; kind = 0; number = 0; size = 0; rows = 0; answer = buffer }
 
-abbrev pub plain_after : Start → List Call → Plain
+abbrev pub plain_after : Start → List (Call (List ℕ)) → Plain
 plain_after o cs = P.after (opening_of o).lent (P.opened (opening_of o)) (map plain_call cs)
 
-abbrev pub plain_gets : Lengths → Plain → List Call → List Got
-plain_gets lent p [] = []
-plain_gets lent p (c ∷ cs) = got_of (buffer_of c) (P.step lent p (plain_call c)).1 ∷ plain_gets lent (P.step lent p (plain_call c)).0 cs
+abbrev pub plain_gets : Lengths → Plain → List (Call (List ℕ)) → List Got
+plain_gets lengths_lent p [] = []
+plain_gets lengths_lent p (c ∷ cs) = got_of (buffer_of c) (P.step lengths_lent p (plain_call c)).1 ∷ plain_gets lengths_lent (P.step lengths_lent p (plain_call c)).0 cs

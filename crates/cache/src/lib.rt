@@ -5,16 +5,19 @@
 mod matching; // which cached answers an update invalidates
 mod sound; // the test of a state
 
-ghost use Rattle.std.specs.Prelude.{◌≡◌, Ok, true, not, cond, ◌&&◌, ◌+◌, ◌≤◌, ◌<◌, eqb, length, take, set};
+ghost use Rattle.std.specs.Prelude.{◌≡◌, Ok, true, cond, ◌&&◌, ◌+◌, ◌≤◌, ◌<◌, eqb, length, take, set};
+ghost use Rattle.meaning.specs.Refusals.{flush_conditions, lowest_of, settled};
 ghost use Rattle.statement.specs.Compiled.{compiled};
 ghost use Rattle.statement.specs.Refusals.{number_of, number_in};
 ghost use Rattle.table.specs.Evaluated.{said};
 ghost use Rattle.table.specs.Changed.{cells_after};
 ghost use Rattle.slots.specs.Keys.{key_of, find_of};
-ghost use Rattle.cache.specs.Sound.{opening, areas_of, sound_counts, sound_tables, sound_answers, sound_state};
-ghost use Rattle.cache.specs.Outcomes.{no_place, no_answer, placed, outcome_of, Caches, WorksOut, Room, place_of, place_bytes, Effective, no_effect, effect_of};
-ghost use Rattle.cache.specs.Given.{opened_as, added_as, asked_as, updated_as, flushed_as, told};
-ghost use Rattle.cache.specs.Calls.{unfit, empty_state, opens, open_of, has_place, added_by, add_of, asks, ask_refusal, ask_new, ask_found, ask_of, settled, updates, update_refusal, update_of, flush_of};
+ghost use Rattle.cache.specs.Sound.{lengths, opening, areas_of};
+ghost use Rattle.cache.specs.SoundTest.{sound_state, sound_counts, sound_tables, sound_answers};
+ghost use Rattle.cache.specs.Private.Outcomes.{lent_in, nowhere, no_answer, settled_state, outcome_of, Caches, WorksOut, Room, Keeps, Effective, no_effect, effect_of, told, has_place};
+ghost use Rattle.cache.specs.Given.{opened_as, added_as, asked_as, updated_as, flushed_as};
+ghost use Rattle.cache.specs.Calls.{lengths_lent, unfit};
+ghost use Rattle.cache.specs.Gives.{open_of, add_of, ask_of, update_of, flush_of, empty_state, open_gives, added_by, ask_gives, ask_refusal, kept_bytes, ask_new, ask_found, update_gives, update_refusal};
 
 use slots::{Key, SlotList};
 use table::{Query, Refusal, Selected, Statement, Table, Update};
@@ -75,7 +78,7 @@ pub enum Source {
 pub struct Answer {
     pub source: Source,
     pub scanned: u32,
-    pub length: usize,
+    pub size: usize,
 }
 
 // What an update gives: the rows inserted, matched or deleted, and how many cached answers it invalidated.
@@ -83,6 +86,24 @@ pub struct Answer {
 pub struct Changed {
     pub rows: u16,
     pub invalidated: u8,
+}
+
+// The lengths of the memories that are lent.
+#[derive(Clone, Copy)]
+struct Lengths {
+    cells: usize,
+    memory: usize,
+}
+
+impl Lengths {
+    fn of(cells: &[i32], memory: &[u8]) -> Lengths
+        ensures { lent_in result ≡ lengths_lent cells.now memory.now }
+    {
+        Lengths {
+            cells: cells.len(),
+            memory: memory.len(),
+        }
+    }
 }
 
 // A record put into a slot: the slot and the record's length.
@@ -130,7 +151,7 @@ struct Effect {
 
 // No slot is taken.
 fn nowhere(slots: SlotList) -> Place
-    ensures { result ≡ no_place slots }
+    ensures { result ≡ nowhere slots }
 {
     Place { kept: None, slots }
 }
@@ -147,8 +168,8 @@ fn not_answered(refusal: Refusal, slots: SlotList) -> Reply
 // A record that fits a slot of so many bytes takes the last one, which moves to the front.
 fn keep(slots: SlotList, slot_bytes: u16, size: usize, bytes: &[u8], memory: &mut [u8]) -> Place
     requires { (size ≤ length bytes.now) × Room slots slot_bytes (length memory.old) size }
-    ensures place { result ≡ place_of slots slot_bytes (take size bytes.now) }
-    ensures memory { memory.new ≡ place_bytes slots slot_bytes (take size bytes.now) memory.old }
+    ensures place { Keeps slots slot_bytes (take size bytes.now) result }
+    ensures memory { memory.new ≡ kept_bytes slots slot_bytes (take size bytes.now) memory.old }
 {
     let most = usize::from(slot_bytes);
     if most < size {
@@ -266,10 +287,10 @@ impl State {
     }
 
     // Refuses by 2: a state that is not sound, or lent lengths that are not those of its opening.
-    fn check(&self, cells: usize, memory: usize) -> Result<(), Refusal>
-        ensures { number_in result ≡ cond (unfit self.now cells memory) 2 0 }
+    fn check(&self, lent: Lengths) -> Result<(), Refusal>
+        ensures { number_in result ≡ lowest_of (flush_conditions (unfit self.now (lent_in lent))) }
     {
-        let same = (cells == self.cells as usize) & (memory == self.memory as usize);
+        let same = (lent.cells == self.cells as usize) & (lent.memory == self.memory as usize);
         let fit = self.is_sound() & same;
         if !fit {
             return Err(Refusal::State);
@@ -281,7 +302,7 @@ impl State {
 
     // A state without tables, statements or cached answers.
     fn empty(cells: u32, memory: u32, slots: u8, slot_bytes: u16) -> State
-        ensures { result ≡ empty_state (opening cells memory slots slot_bytes) }
+        ensures { result ≡ empty_state (opening (lengths cells memory) slots slot_bytes) }
     {
         State {
             tables: [Table::default(); Table::TABLES],
@@ -306,11 +327,11 @@ impl State {
         slots: usize,
         slot_bytes: usize,
     ) -> Outcome<()>
-        ensures { opens (opened_as result.result result.state) cells.new memory.new ≡ open_of cells.old memory.old slots slot_bytes }
+        ensures { open_gives (opened_as result.result result.state) cells.new memory.new ≡ open_of cells.old memory.old slots slot_bytes }
     {
-        let length = cells.len();
+        let count = cells.len();
         let size = memory.len();
-        if !sound::sizes_fit(length, size, slots, slot_bytes) {
+        if !sound::sizes_fit(count, size, slots, slot_bytes) {
             let state = State::empty(0, 0, 0, SlotList::LEAST_BYTES as u16);
             return Outcome {
                 result: Err(Refusal::Opening),
@@ -319,7 +340,7 @@ impl State {
         }
         cells.fill(0);
         memory.fill(0);
-        let state = State::empty(length as u32, size as u32, slots as u8, slot_bytes as u16);
+        let state = State::empty(count as u32, size as u32, slots as u8, slot_bytes as u16);
         Outcome {
             result: Ok(()),
             state,
@@ -330,19 +351,19 @@ impl State {
 
     // Adds the table, query or update that the text says. The memories are lent to be measured.
     pub fn add(mut self, cells: &[i32], memory: &[u8], text: &[u8]) -> Outcome<Added>
-        ensures { added_as result.result result.state ≡ add_of self (length cells.now) (length memory.now) text.now }
+        ensures { added_as result.result result.state ≡ add_of self (lengths_lent cells.now memory.now) text.now }
     {
-        let result = self.add_text(cells.len(), memory.len(), text);
+        let result = self.add_text(Lengths::of(cells, memory), text);
         Outcome {
             result,
             state: self,
         }
     }
 
-    fn add_text(&mut self, cells: usize, memory: usize, text: &[u8]) -> Result<Added, Refusal>
-        ensures { added_as result self.new ≡ add_of self.old cells memory text.now }
+    fn add_text(&mut self, lent: Lengths, text: &[u8]) -> Result<Added, Refusal>
+        ensures { added_as result self.new ≡ add_of self.old (lent_in lent) text.now }
     {
-        self.check(cells, memory)?;
+        self.check(lent)?;
         let tables = self.used_tables();
         let (queries, updates) = (self.query_count, self.update_count);
         let statement = Statement::compile(text, tables, queries, updates, self.cells)?;
@@ -382,9 +403,9 @@ impl State {
         values: &[i32],
         answer: &mut [u8],
     ) -> Outcome<Answer>
-        ensures { asks (asked_as result.result result.state) memory.new answer.new ≡ ask_of self cells.now memory.old query values.now answer.old }
+        ensures { ask_gives (asked_as result.result result.state) memory.new answer.new ≡ ask_of self cells.now memory.old query values.now answer.old }
     {
-        let taken = self.check_ask(cells.len(), memory.len(), query, values.len());
+        let taken = self.check_ask(Lengths::of(cells, memory), query, values.len());
         let key = Key::of((query % Query::QUERIES) as u8, values);
         let reply = match taken {
             Err(refusal) => not_answered(refusal, self.slots),
@@ -406,16 +427,10 @@ impl State {
     }
 
     // Refuses by 2, 10 or 11, the lowest that applies.
-    fn check_ask(
-        &self,
-        cells: usize,
-        memory: usize,
-        query: usize,
-        values: usize,
-    ) -> Result<(), Refusal>
-        ensures { number_in result ≡ ask_refusal self.now cells memory query values }
+    fn check_ask(&self, lent: Lengths, query: usize, values: usize) -> Result<(), Refusal>
+        ensures { number_in result ≡ ask_refusal self.now (lent_in lent) query values }
     {
-        self.check(cells, memory)?;
+        self.check(lent)?;
         let queries = self.used_queries();
         let q = queries.get(query).ok_or(Refusal::Number)?;
         check_values(q.parameters, values)
@@ -423,7 +438,7 @@ impl State {
 
     // The order of use is the one after the question, and the key and the length stand in the slot, if there is one.
     fn settle(&mut self, key: Key, place: Place)
-        ensures { self.new ≡ placed self.old key place }
+        ensures { self.new ≡ settled_state self.old key place }
     {
         self.slots = place.slots;
         if let Some(kept) = place.kept {
@@ -436,16 +451,10 @@ impl State {
     // ---- update
 
     // Refuses by 2, 10, 11 or 12, the lowest that applies.
-    fn check_update(
-        &self,
-        cells: usize,
-        memory: usize,
-        update: usize,
-        values: usize,
-    ) -> Result<(), Refusal>
-        ensures { number_in result ≡ update_refusal self.now cells memory update values }
+    fn check_update(&self, lent: Lengths, update: usize, values: usize) -> Result<(), Refusal>
+        ensures { number_in result ≡ update_refusal self.now (lent_in lent) update values }
     {
-        self.check(cells, memory)?;
+        self.check(lent)?;
         let updates = self.used_updates();
         let u = updates.get(update).ok_or(Refusal::Number)?;
         check_values(u.parameters, values)?;
@@ -493,9 +502,9 @@ impl State {
         update: usize,
         values: &[i32],
     ) -> Outcome<Changed>
-        ensures { updates (updated_as result.result result.state) cells.new ≡ update_of self cells.old (length memory.now) update values.now }
+        ensures { update_gives (updated_as result.result result.state) cells.new ≡ update_of self cells.old memory.now update values.now }
     {
-        let taken = self.check_update(cells.len(), memory.len(), update, values.len());
+        let taken = self.check_update(Lengths::of(cells, memory), update, values.len());
         let u = self.updates[update % Update::UPDATES];
         let i = usize::from(u.table) % Table::TABLES;
         let mut t = self.tables[i];
@@ -516,9 +525,9 @@ impl State {
 
     // Drops every cached answer: all slots are free, in the order that they had. The memories are lent to be measured.
     pub fn flush(mut self, cells: &[i32], memory: &[u8]) -> Outcome<()>
-        ensures { flushed_as result.result result.state ≡ flush_of self (length cells.now) (length memory.now) }
+        ensures { flushed_as result.result result.state ≡ flush_of self (lengths_lent cells.now memory.now) }
     {
-        let result = self.check(cells.len(), memory.len());
+        let result = self.check(Lengths::of(cells, memory));
         if result.is_ok() {
             self.slots = self.slots.clear();
         }
@@ -533,7 +542,7 @@ impl Question<'_> {
     // Its answer, from the cache or worked out.
     fn answered(&self, cells: &[i32], memory: &mut [u8], answer: &mut [u8]) -> Reply
         requires { length memory.old ≡ self.now.state.now.memory }
-        ensures { asks (outcome_of self.now.state.now self.now.key.now (told result)) memory.new answer.new ≡ ask_found (find_of self.now.state.now.keys self.now.state.now.slots self.now.key.now) self.now.state.now cells.now memory.old answer.old self.now.number self.now.values.now }
+        ensures { ask_gives (outcome_of self.now.state.now self.now.key.now (told result)) memory.new answer.new ≡ ask_found (find_of self.now.state.now.keys self.now.state.now.slots self.now.key.now) self.now.state.now cells.now memory.old answer.old self.now.number self.now.values.now }
     {
         match slots::find(&self.state.keys, &self.state.slots, self.key) {
             Some(p) => self.cached(memory, answer, p),
@@ -548,18 +557,18 @@ impl Question<'_> {
     {
         let s = self.state;
         let x = usize::from(s.slots.order[usize::from(p)]);
-        let length = usize::from(s.lengths[x]);
-        if answer.len() < length {
+        let size = usize::from(s.lengths[x]);
+        if answer.len() < size {
             return not_answered(Refusal::Buffer, s.slots);
         }
         let at = x * usize::from(s.slot_bytes);
-        let record = &memory[at..at + length];
-        answer[..length].copy_from_slice(record);
+        let record = &memory[at..at + size];
+        answer[..size].copy_from_slice(record);
         Reply {
             result: Ok(Answer {
                 source: Source::Cached,
                 scanned: 0,
-                length,
+                size,
             }),
             place: nowhere(s.slots.move_to_front(p)),
         }
@@ -568,7 +577,7 @@ impl Question<'_> {
     // The answer worked out; its record takes the last slot if it fits one.
     fn worked_out(&self, cells: &[i32], memory: &mut [u8], answer: &mut [u8]) -> Reply
         requires { length memory.old ≡ self.now.state.now.memory }
-        ensures { asks (outcome_of self.now.state.now self.now.key.now (told result)) memory.new answer.new ≡ ask_new self.now.state.now cells.now memory.old answer.old self.now.number self.now.values.now }
+        ensures { ask_gives (outcome_of self.now.state.now self.now.key.now (told result)) memory.new answer.new ≡ ask_new self.now.state.now cells.now memory.old answer.old self.now.number self.now.values.now }
     {
         let s = self.state;
         match self.put_record(cells, answer) {
@@ -577,9 +586,9 @@ impl Question<'_> {
                 result: Ok(Answer {
                     source: Source::New,
                     scanned: done.scanned,
-                    length: done.length,
+                    size: done.size,
                 }),
-                place: keep(s.slots, s.slot_bytes, done.length, answer, memory),
+                place: keep(s.slots, s.slot_bytes, done.size, answer, memory),
             },
         }
     }

@@ -3,9 +3,9 @@
 ghost use Rattle.std.specs.Prelude.{◌≡◌, ◌≤◌, ◌<◌, true, false, ◌&&◌, eqb, map, length, set, replicate};
 ghost use Rattle.lists.specs.Lists.{from};
 ghost use Rattle.pattern.specs.Stored.{agrees_stored};
-ghost use Rattle.slots.specs.Keys.{values_of};
-ghost use Rattle.slots.specs.Order.{sound_slots, held_slots};
-ghost use Rattle.cache.specs.Marks.{agrees_at, marked, query_marks, holds_answer, marks_of, reaches_at, reached_at, marks_both};
+ghost use Rattle.slots.specs.Keys.{values_of, held_slots};
+ghost use Rattle.slots.specs.Order.{sound_slots};
+ghost use Rattle.cache.specs.Private.Marks.{agrees_at, marked, query_marks, holds_answer, marks_of, reaches_at, reached_at, marks_both};
 
 use super::State;
 use pattern::Pattern;

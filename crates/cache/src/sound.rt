@@ -2,9 +2,10 @@
 ghost use Rattle.std.specs.Prelude.{◌≡◌, not, ◌&&◌, ◌||◌, ◌*◌, ◌≤◌, eqb, leb, ltb, length};
 ghost use Rattle.lists.specs.Lists.{all};
 ghost use Rattle.meaning.specs.Plain.{opening_refused};
-ghost use Rattle.slots.specs.Keys.{slot_key};
-ghost use Rattle.slots.specs.Order.{held_slots};
-ghost use Rattle.cache.specs.Sound.{opening, areas_of, rows_fit, length_at, length_fits, key_fits, slot_fits};
+ghost use Rattle.slots.specs.Keys.{slot_key, held_slots};
+ghost use Rattle.cache.specs.Sound.{lengths, opening, areas_of, length_at};
+ghost use Rattle.cache.specs.SoundTest.{rows_fit, length_fits};
+ghost use Rattle.cache.specs.Private.Outcomes.{key_fits, slot_fits};
 
 use super::State;
 use slots::{Key, SlotList};
@@ -12,7 +13,7 @@ use table::{Query, Table, Update};
 
 // Whether an opening is within the limits, and its slots within the cache memory.
 pub fn sizes_fit(cells: usize, memory: usize, slots: usize, bytes: usize) -> bool
-    ensures { result ≡ not (opening_refused (opening cells memory slots bytes)) }
+    ensures { result ≡ not (opening_refused (opening (lengths cells memory) slots bytes)) }
 {
     let within = (cells <= State::CELLS)
         & (memory <= State::MEMORY)
@@ -69,8 +70,8 @@ fn slot_fits(state: &State, queries: &[Query], slot: u8) -> bool
     if SlotList::SLOTS <= x {
         return false;
     }
-    let length = state.lengths[x];
-    let sized = (SlotList::LEAST_BYTES <= usize::from(length)) & (length <= state.slot_bytes);
+    let size = state.lengths[x];
+    let sized = (SlotList::LEAST_BYTES <= usize::from(size)) & (size <= state.slot_bytes);
     sized && key_fits(queries, &state.keys[x])
 }
 

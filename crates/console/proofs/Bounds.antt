@@ -28,6 +28,6 @@ pub gather-within : (input : List ℕ) (from : ℕ) (buffer : List ℕ) (held : 
 unfolding gathered_of
 gather-within input from buffer held h = filled_within buffer held (line_from input from) h
 
-pub reply-within : (s : State) (cells : List ℤ) (memory answer line out : List ℕ) → (reply_of s cells memory answer line out).result.length ≤ length out
+pub reply-within : (s : State) (cells : List ℤ) (memory answer line out : List ℕ) → (reply_of s cells memory answer line out).result.size ≤ length out
 unfolding reply_of
 reply-within s cells memory answer line out = filled_within out 0 (answered_of (record { state = s; cells = cells; memory = memory }) answer line).text (omega arith)

@@ -1,7 +1,6 @@
 -- What each return of a command owes: the call's step, and its text printed. Assumes nothing.
 use mathlib.Core.Path.{◌≡◌, refl, ap, ◌∙◌, subst⁻¹}
-use mathlib.Core.Bool.{Bool, true, false, cond}
-use mathlib.Core.List.{List, [], ◌∷◌}
+use mathlib.Core.List.{List}
 use Prim.Native.Nat.{ℕ, zero, suc, ◌+◌, ◌*◌, ◌-◌, ◌≤◌}
 use native.Mathlib.Omega.{arith}
 use borrow.Author.Tests.{ltb-false}
@@ -9,19 +8,20 @@ use lib.Dec.{ltb}
 use lib.IntN.{ℤ}
 use lib.ListN.{length, drop, get_or, length-append, length-take, length-drop}
 use Rattle.lists.specs.Lists.{written}
-use Rattle.meaning.specs.Plain.{lowest_of}
+use Rattle.meaning.specs.Refusals.{lowest_of, is_short, kept_conditions, settled}
 use Rattle.slots.specs.Keys.{Found}
 use Rattle.std.specs.Prelude.{Some, None}
 use Rattle.cache.specs.declared.State.{State}
-use Rattle.cache.specs.Calls.{Added}
-use Rattle.cache.specs.Calls.{Flushed}
-use Rattle.cache.specs.Calls.{settled, add_of, Asks, asks, ask_refused, ask_refusal, bytes_at, cached_length, ask_cached, record_at, too_many, new_refusal, ask_new, ask_found, found_in, ask_of, Updates, update_of, flush_of}
-use Rattle.cache.specs.Run.{Store, Call, add, ask, update, flush, Seen, step_add, step_ask, step_update, step_flush, step}
+use Rattle.cache.specs.Calls.{lengths_lent, Added, Flushed, Asks, bytes_at, cached_length, record_at, too_many, found_in, Updates}
+use Rattle.cache.specs.Gives.{add_of, ask_of, update_of, flush_of, ask_gives, ask_refused, ask_refusal, cached_refusal, ask_cached, new_refusal, ask_new, ask_found}
+use Rattle.meaning.specs.Key.{Key}
+use Rattle.meaning.specs.Call.{Call, add, ask, change, flush}
+use Rattle.cache.specs.Run.{Store, Seen, step_add, step_ask, step_update, step_flush, step}
 use Rattle.cache.proofs.Settled.{settled-refused, settled-done, or-else-zero}
 use Rattle.console.specs.Room.{filled, filled_to}
 use Rattle.console.specs.Printed.{refused_text}
 use Rattle.console.specs.Desk.{done_text, text_of, buffer_after, Replies, replies}
-use Rattle.console.specs.Commands.{reply_to}
+use Rattle.console.specs.Private.Commands.{reply_to}
 
 abbrev pub store_of : State → List ℤ → List ℕ → Store
 store_of s cells memory = record { state = s; cells = cells; memory = memory }
@@ -29,13 +29,13 @@ store_of s cells memory = record { state = s; cells = cells; memory = memory }
 -- ---- the text is that of a refusal, or of a call that is taken
 
 -- what a step leaves, with so many bytes of the text at the start of a buffer
-abbrev given : List ℕ → Call → ℕ → List ℕ → Store × Seen → Replies
-given answer c n new q = replies (record { length = n; state = q.0.state }) q.0.cells q.0.memory (buffer_after c answer q.1) new
+abbrev given : List ℕ → Call (List ℕ) → ℕ → List ℕ → Store × Seen → Replies
+given answer c n new q = replies (record { size = n; state = q.0.state }) q.0.cells q.0.memory (buffer_after c answer q.1) new
 
 abbrev Written : List ℕ → ℕ → List ℕ → List ℕ → Type 0
 Written out n new t = (n ≡ filled_to out 0 t) × (new ≡ filled out 0 t)
 
-module _ (s : State) (cells : List ℤ) (memory answer out : List ℕ) (c : Call) (p : Store × Seen) (e : p ≡ step (store_of s cells memory) c) (n : ℕ) (new : List ℕ) where
+module _ (s : State) (cells : List ℤ) (memory answer out : List ℕ) (c : Call (List ℕ)) (p : Store × Seen) (e : p ≡ step (store_of s cells memory) c) (n : ℕ) (new : List ℕ) where
   told : (t : List ℕ) → t ≡ text_of c p.1 → Written out n new t → given answer c n new p ≡ reply_to s cells memory answer c out
   unfolding reply_to
   told t h w =
@@ -52,22 +52,22 @@ module _ (s : State) (cells : List ℤ) (memory answer out : List ℕ) (c : Call
 -- ---- the steps, by what the store's functions promise
 
 module _ (s : State) (cells : List ℤ) (memory : List ℕ) where
-  pub add_is : (text : List ℕ) (a : Added) → a ≡ add_of s (length cells) (length memory) text
+  pub add_is : (text : List ℕ) (a : Added) → a ≡ add_of s (lengths_lent cells memory) text
       → step_add (store_of s cells memory) a ≡ step (store_of s cells memory) (add text)
   unfolding step
   add_is text a e = ap (step_add (store_of s cells memory)) e
 
   pub ask-is : (number : ℕ) (values : List ℤ) (answer : List ℕ) (a : Asks) → a ≡ ask_of s cells memory number values answer
-      → step_ask (store_of s cells memory) a ≡ step (store_of s cells memory) (ask number values answer)
+      → step_ask (store_of s cells memory) a ≡ step (store_of s cells memory) (ask (record { query = number; values = values }) answer)
   unfolding step
   ask-is number values answer a e = ap (step_ask (store_of s cells memory)) e
 
-  pub update-is : (number : ℕ) (values : List ℤ) (a : Updates) → a ≡ update_of s cells (length memory) number values
-      → step_update (store_of s cells memory) a ≡ step (store_of s cells memory) (update number values)
+  pub change-is : (number : ℕ) (values : List ℤ) (a : Updates) → a ≡ update_of s cells memory number values
+      → step_update (store_of s cells memory) a ≡ step (store_of s cells memory) (change number values)
   unfolding step
-  update-is number values a e = ap (step_update (store_of s cells memory)) e
+  change-is number values a e = ap (step_update (store_of s cells memory)) e
 
-  pub flush-is : (a : Flushed) → a ≡ flush_of s (length cells) (length memory) → step_flush (store_of s cells memory) a ≡ step (store_of s cells memory) flush
+  pub flush-is : (a : Flushed) → a ≡ flush_of s (lengths_lent cells memory) → step_flush (store_of s cells memory) a ≡ step (store_of s cells memory) flush
   unfolding step
   flush-is a e = ap (step_flush (store_of s cells memory)) e
 
@@ -77,41 +77,36 @@ pub written-length : (xs ys : List ℕ) → length (written xs 0 ys) ≡ length 
 written-length xs ys = length-append ys (drop (0 + length ys) xs) ∙ ap (λ (k : ℕ). length ys + k) (length-drop (0 + length ys) xs)
 
 pub record Inside (answer : List ℕ) (a : Asks) : Type 0 where
-  pub part : a.result.length ≤ length a.answer
+  pub part : a.result.size ≤ length a.answer
   pub long : length a.answer ≡ length answer
 
-fitting-inside : (answer : List ℕ) (n : ℕ) (refused done : Asks) → Inside answer refused → (n ≤ length answer → Inside answer done)
-    → Inside answer (cond (ltb (length answer) n) refused done)
-fitting-inside answer n refused done r d = go (ltb (length answer) n) refl
-  where
-    go : (b : Bool) → ltb (length answer) n ≡ b → Inside answer (cond b refused done)
-    go true e = r
-    go false e = d (ltb-false (length answer) n e)
+-- a record that is not refused has room
+has-room : (answer : List ℕ) (n : ℕ) → lowest_of (kept_conditions (is_short (length answer) n)) ≡ 0 → n ≤ length answer
+has-room answer n e = ltb-false (length answer) n (or-else-zero (ltb (length answer) n) 13 0 (omega arith) e).0
 
 module _ (s : State) (cells : List ℤ) (memory : List ℕ) (number : ℕ) (values : List ℤ) (answer : List ℕ) where
-  refused-inside : (n : ℕ) → Inside answer (asks (ask_refused s n) memory answer)
+  refused-inside : (n : ℕ) → Inside answer (ask_gives (ask_refused s n) memory answer)
   refused-inside n = record { part = omega arith; long = refl }
 
-  settled-inside : (n : ℕ) (done : Asks) → (n ≡ 0 → Inside answer done) → Inside answer (settled n done (asks (ask_refused s n) memory answer))
+  settled-inside : (n : ℕ) (done : Asks) → (n ≡ 0 → Inside answer done) → Inside answer (settled n done (ask_gives (ask_refused s n) memory answer))
   unfolding settled
   settled-inside zero done d = d refl
   settled-inside (suc n) done d = refused-inside (suc n)
 
   cached-inside : (p : ℕ) → Inside answer (ask_cached s memory answer p)
-  unfolding ask_cached
+  unfolding ask_cached cached_refusal
   cached-inside p =
       let bs = bytes_at s memory (get_or s.slots.order p 0) in
       let n : length bs ≤ cached_length s p = omega (arith, length-take (cached_length s p) (drop (get_or s.slots.order p 0 * s.slot_bytes) memory)) in
-      fitting-inside answer (cached_length s p) _ _ (refused-inside 13)
-      (λ h. record { part = omega (arith, h, n, written-length answer bs); long = omega (arith, h, n, written-length answer bs) })
+      settled-inside (cached_refusal s (length answer) p) _
+      (λ e. let h = has-room answer (cached_length s p) e in record { part = omega (arith, h, n, written-length answer bs); long = omega (arith, h, n, written-length answer bs) })
 
   -- an answer worked out that is not refused has room
   new-fits : new_refusal s cells (length answer) number values ≡ 0 → length (record_at s cells number values) ≤ length answer
   unfolding new_refusal
   new-fits e =
       let n = length (record_at s cells number values) in
-      let t = or-else-zero (too_many s cells number values) 16 (lowest_of ((13, ltb (length answer) n) ∷ [])) (omega arith) e in
-      ltb-false (length answer) n (or-else-zero (ltb (length answer) n) 13 0 (omega arith) t.1).0
+      has-room answer n (or-else-zero (too_many s cells number values) 16 (lowest_of (kept_conditions (is_short (length answer) n))) (omega arith) e).1
 
   new-inside : Inside answer (ask_new s cells memory answer number values)
   unfolding ask_new
@@ -126,12 +121,12 @@ module _ (s : State) (cells : List ℤ) (memory : List ℕ) (number : ℕ) (valu
 
   pub asked-inside : Inside answer (ask_of s cells memory number values answer)
   unfolding ask_of
-  asked-inside = settled-inside (ask_refusal s (length cells) (length memory) number (length values)) _ (λ _. found_inside (found_in s number values))
+  asked-inside = settled-inside (ask_refusal s (lengths_lent cells memory) number (length values)) _ (λ _. found_inside (found_in s number values))
 
-  pub answer-inside : (a : Asks) → a ≡ ask_of s cells memory number values answer → a.result.length ≤ length a.answer
+  pub answer-inside : (a : Asks) → a ≡ ask_of s cells memory number values answer → a.result.size ≤ length a.answer
   answer-inside a e = (subst⁻¹ (Inside answer) e asked-inside).part
 
 -- and so of a step
-pub step-long : (s : Store) (number : ℕ) (values : List ℤ) (answer : List ℕ) → length (step s (ask number values answer)).1.got.answer ≡ length answer
+pub step-long : (s : Store) (k : Key) (answer : List ℕ) → length (step s (ask k answer)).1.got.answer ≡ length answer
 unfolding step
-step-long s number values answer = (asked-inside s.state s.cells s.memory number values answer).long
+step-long s k answer = (asked-inside s.state s.cells s.memory k.query k.values answer).long

@@ -32,8 +32,8 @@ use Rattle.token.proofs.Words.{digit-word}
 use Rattle.std.specs.Prelude as P
 use Rattle.std.specs.Int.{FitsUnsignedBits}
 use Rattle.std.specs.Result.{result_ok}
-use Rattle.console.specs.Parts.{given}
-use Rattle.console.specs.Lines.{most_number, number_in, constant_in, whole_token, value_in}
+use Rattle.console.specs.Private.Parts.{as_option}
+use Rattle.console.specs.Lines.{most_number, word_number, token_value, whole_token, word_value}
 
 -- ---- a value, as the first token tells it
 
@@ -41,7 +41,7 @@ abbrev as_constant : Kind → Option ℤ
 as_constant (Constant z) = some z
 as_constant _ = none
 
-constant-kind : (t : M.Token) → constant_in t ≡ as_constant (kind_of t)
+constant-kind : (t : M.Token) → token_value t ≡ as_constant (kind_of t)
 constant-kind (constant z) = go (is_within32 z)
   where
     go : (b : Bool) → cond b (some z) none ≡ as_constant (cond b (Constant z) Big)
@@ -96,16 +96,16 @@ whole_is (t, []) n h k =
 whole_is (t, c ∷ u) n h k = sym (value-short n (token_of t (n - n) (n - suc (length u))) (λ e. omega arith))
 
 -- no value begins with a space
-space-here : (s : List ℕ) → value_in (32 ∷ s) ≡ none
-unfolding value_in token_from is_word_byte is_name_byte
+space-here : (s : List ℕ) → word_value (32 ∷ s) ≡ none
+unfolding word_value token_from is_word_byte is_name_byte
 space-here [] = refl
 space-here (c ∷ s) = refl
 
-space-none : (b : ℕ) (s : List ℕ) → is_space b ≡ true → value_in (b ∷ s) ≡ none
-space-none b s e = ap (λ (c : ℕ). value_in (c ∷ s)) (eqb-true b 32 e) ∙ space-here s
+space-none : (b : ℕ) (s : List ℕ) → is_space b ≡ true → word_value (b ∷ s) ≡ none
+space-none b s e = ap (λ (c : ℕ). word_value (c ∷ s)) (eqb-true b 32 e) ∙ space-here s
 
-pub value-is : (w : List ℕ) → value_in w ≡ value_by (length w) (token_at w 0)
-unfolding value_in token_at token_of first_token
+pub value-is : (w : List ℕ) → word_value w ≡ value_by (length w) (token_at w 0)
+unfolding word_value token_at token_of first_token
 value-is [] = refl
 value-is (b ∷ s) = go (is_space b) refl
   where
@@ -119,7 +119,7 @@ value-is (b ∷ s) = go (is_space b) refl
         (value-later (suc (length s)) (token_of x.0 (suc (length s) - length (drop_while is_space (b ∷ s))) (suc (length s) - length x.1))
         (λ q. omega (arith, ap length (drop-yes is_space b s e), drop-short is_space s)))
 
-    go : (x : Bool) → is_space b ≡ x → value_in (b ∷ s) ≡ value_by (suc (length s)) (token_at (b ∷ s) 0)
+    go : (x : Bool) → is_space b ≡ x → word_value (b ∷ s) ≡ value_by (suc (length s)) (token_at (b ∷ s) 0)
     go true e = space-none b s e ∙ sym (behind (first_token (b ∷ s)) e refl)
     go false e =
         let d = drop-no is_space b s e in
@@ -135,27 +135,27 @@ positive none = none
 positive (some n) = some (pos n)
 
 -- tokens that are no constant
-whole-none : (x : M.Token × List ℕ) → constant_in x.0 ≡ none → whole_token x ≡ none
+whole-none : (x : M.Token × List ℕ) → token_value x.0 ≡ none → whole_token x ≡ none
 whole-none (t, []) h = h
 whole-none (t, c ∷ u) h = refl
 
-sign-none : (xs : List (String × M.Token)) → All (λ x. constant_in x.1 ≡ none) xs → (b : ℕ) (u : List ℕ) → constant_in (sign_in xs b u).0 ≡ none
+sign-none : (xs : List (String × M.Token)) → All (λ x. token_value x.1 ≡ none) xs → (b : ℕ) (u : List ℕ) → token_value (sign_in xs b u).0 ≡ none
 sign-none [] h b u = refl
 sign-none (x ∷ xs) (cons p h) b u = go (behind_prefix (bytes x.0) (b ∷ u)) refl (sign-none xs h b u)
   where
-    go : (o : Option (List ℕ)) → behind_prefix (bytes x.0) (b ∷ u) ≡ o → constant_in (sign_in xs b u).0 ≡ none → constant_in (sign_in (x ∷ xs) b u).0 ≡ none
-    go none e k = ap (λ (y : M.Token × List ℕ). constant_in y.0) (sign-later x xs b u e) ∙ k
-    go (some left) e k = ap (λ (y : M.Token × List ℕ). constant_in y.0) (sign-here x xs b u left e) ∙ p
+    go : (o : Option (List ℕ)) → behind_prefix (bytes x.0) (b ∷ u) ≡ o → token_value (sign_in xs b u).0 ≡ none → token_value (sign_in (x ∷ xs) b u).0 ≡ none
+    go none e k = ap (λ (y : M.Token × List ℕ). token_value y.0) (sign-later x xs b u e) ∙ k
+    go (some left) e k = ap (λ (y : M.Token × List ℕ). token_value y.0) (sign-here x xs b u left e) ∙ p
 
-signs-none : (b : ℕ) (u : List ℕ) → constant_in (sign_in signs b u).0 ≡ none
+signs-none : (b : ℕ) (u : List ℕ) → token_value (sign_in signs b u).0 ≡ none
 signs-none b u =
     sign-none signs (cons refl (cons refl (cons refl (cons refl (cons refl (cons refl (cons refl (cons refl (cons refl (cons refl (cons refl nil))))))))))) b u
 
-keyword-none : (xs : List (String × Keyword)) (t : M.Token) (w : List ℕ) → constant_in t ≡ none → constant_in (keyword_or xs t w) ≡ none
+keyword-none : (xs : List (String × Keyword)) (t : M.Token) (w : List ℕ) → token_value t ≡ none → token_value (keyword_or xs t w) ≡ none
 keyword-none [] t w h = h
 keyword-none (x ∷ xs) t w h = go (eq_list eqb w (bytes x.0)) (keyword-none xs t w h)
   where
-    go : (b : Bool) → constant_in (keyword_or xs t w) ≡ none → constant_in (cond b (keyword x.1) (keyword_or xs t w)) ≡ none
+    go : (b : Bool) → token_value (keyword_or xs t w) ≡ none → token_value (cond b (keyword x.1) (keyword_or xs t w)) ≡ none
     go true h = refl
     go false h = h
 
@@ -163,18 +163,18 @@ keyword-none (x ∷ xs) t w h = go (eq_list eqb w (bytes x.0)) (keyword-none xs 
 abbrev unnumbered : List ℕ → M.Token
 unnumbered w = keyword_or keywords (cond (is_name (folded w)) (name (folded w)) other) w
 
-word_none : (w : List ℕ) → all is_digit w ≡ false → constant_in (word w) ≡ none
+word_none : (w : List ℕ) → all is_digit w ≡ false → token_value (word w) ≡ none
 unfolding word
 word_none w h =
-    ap (λ (d : Bool). constant_in (cond d (constant (pos (decimal w))) (unnumbered w))) h ∙ keyword-none keywords _ w (go (is_name (folded w)))
+    ap (λ (d : Bool). token_value (cond d (constant (pos (decimal w))) (unnumbered w))) h ∙ keyword-none keywords _ w (go (is_name (folded w)))
   where
-    go : (b : Bool) → constant_in (cond b (name (folded w)) other) ≡ none
+    go : (b : Bool) → token_value (cond b (name (folded w)) other) ≡ none
     go true = refl
     go false = refl
 
-word-digits : (w : List ℕ) → all is_digit w ≡ true → constant_in (word w) ≡ cond (leb (decimal w) most_number) (some (pos (decimal w))) none
+word-digits : (w : List ℕ) → all is_digit w ≡ true → token_value (word w) ≡ cond (leb (decimal w) most_number) (some (pos (decimal w))) none
 unfolding word
-word-digits w h = ap (λ (d : Bool). constant_in (cond d (constant (pos (decimal w))) (unnumbered w))) h
+word-digits w h = ap (λ (d : Bool). token_value (cond d (constant (pos (decimal w))) (unnumbered w))) h
 
 module _ (b : ℕ) (s : List ℕ) where
   abbrev w : List ℕ
@@ -190,20 +190,20 @@ module _ (b : ℕ) (s : List ℕ) where
   whole_run e = sym (append-nil (take_while is_word_byte s)) ∙ ap (λ (r : List ℕ). take_while is_word_byte s ++ r) (sym e) ∙ run-split is_word_byte s
 
   run_none : all is_digit w ≡ false → (d : List ℕ) → drop_while is_word_byte s ≡ d → whole_token (word (b ∷ take_while is_word_byte s), d) ≡ none
-  run_none h [] e = ap (λ (u : List ℕ). constant_in (word (b ∷ u))) (whole_run e) ∙ word_none w h
+  run_none h [] e = ap (λ (u : List ℕ). token_value (word (b ∷ u))) (whole_run e) ∙ word_none w h
   run_none h (c ∷ u) e = refl
 
   choose : Bool → Option ℕ
   choose d = cond (d && leb (decimal w) most_number) (some (decimal w)) none
 
-  number-value : (b ≡ 45 → ⊥) → value_in w ≡ positive (number_in w)
-  unfolding value_in number_in choose
+  number-value : (b ≡ 45 → ⊥) → word_value w ≡ positive (word_number w)
+  unfolding word_value word_number choose
   number-value h = go (is_word_byte b) refl (all is_digit w) refl
     where
       go : (x : Bool) → is_word_byte b ≡ x → (d : Bool) → all is_digit w ≡ d → whole_token (token_from b s) ≡ positive (choose (all is_digit w))
       go false e true f = clash (digit-word b (and_left (is_digit b) (all is_digit s) f)) e
       go false e false f =
-          whole-none (token_from b s) (ap (λ (x : M.Token × List ℕ). constant_in x.0) (from-sign b s e (ne_eqb b 45 h)) ∙ signs-none b s)
+          whole-none (token_from b s) (ap (λ (x : M.Token × List ℕ). token_value x.0) (from-sign b s e (ne_eqb b 45 h)) ∙ signs-none b s)
           ∙ sym (ap (λ (d : Bool). positive (choose d)) f)
       go true e false f = ap whole_token (from-word b s e) ∙ run_none f (drop_while is_word_byte s) refl ∙ sym (ap (λ (d : Bool). positive (choose d)) f)
       go true e true f =
@@ -216,44 +216,44 @@ module _ (b : ℕ) (s : List ℕ) where
           turn false = refl
 
 -- by whether the word begins with a minus
-pub number-found : (w : List ℕ) {m : Bool} → m ≡ pointwise eqb (45 ∷ []) (take 1 w) → m ≡ false → value_in w ≡ positive (number_in w)
-unfolding value_in number_in
+pub number-found : (w : List ℕ) {m : Bool} → m ≡ pointwise eqb (45 ∷ []) (take 1 w) → m ≡ false → word_value w ≡ positive (word_number w)
+unfolding word_value word_number
 number-found [] k h = refl
 number-found (b ∷ s) k h = number-value b s (λ e. clash (ap (λ (x : Bool). x && true) (eq-eqb 45 b (sym e))) (sym k ∙ h))
 
-pub number-minus : (w : List ℕ) {m : Bool} → m ≡ pointwise eqb (45 ∷ []) (take 1 w) → m ≡ true → number_in w ≡ none
-unfolding number_in
+pub number-minus : (w : List ℕ) {m : Bool} → m ≡ pointwise eqb (45 ∷ []) (take 1 w) → m ≡ true → word_number w ≡ none
+unfolding word_number
 number-minus [] k h = refl
-number-minus (b ∷ s) k h = ap (λ (c : ℕ). number_in (c ∷ s)) (sym (eqb-true 45 b (and_left (eqb 45 b) true (sym k ∙ h))))
+number-minus (b ∷ s) k h = ap (λ (c : ℕ). word_number (c ∷ s)) (sym (eqb-true 45 b (and_left (eqb 45 b) true (sym k ∙ h))))
 
 -- ---- as the program has them
 
 module _ (w : List ℕ) (t : Token) (e : t ≡ token_at w 0) where
-  found_by : given (value_by (length w) t) ≡ given (value_in w)
-  found_by = ap (λ (x : Token). given (value_by (length w) x)) e ∙ sym (ap given (value-is w))
+  found_by : as_option (value_by (length w) t) ≡ as_option (word_value w)
+  found_by = ap (λ (x : Token). as_option (value_by (length w) x)) e ∙ sym (ap as_option (value-is w))
 
-  pub found-value : (z : ℤ) → t.kind ≡ Constant z → t.start ≡ 0 → t.next ≡ length w → P.Some z ≡ given (value_in w)
+  pub found-value : (z : ℤ) → t.kind ≡ Constant z → t.start ≡ 0 → t.next ≡ length w → P.Some z ≡ as_option (word_value w)
   found-value z k a b =
-      ap (λ (o : Option ℤ). given o) (sym (ap₂ (λ (x y : Bool). cond (x && y) (as_constant t.kind) none) (eq-eqb t.start 0 a) (eq-eqb t.next (length w) b) ∙ ap as_constant k)) ∙ found_by
+      ap (λ (o : Option ℤ). as_option o) (sym (ap₂ (λ (x y : Bool). cond (x && y) (as_constant t.kind) none) (eq-eqb t.start 0 a) (eq-eqb t.next (length w) b) ∙ ap as_constant k)) ∙ found_by
 
-  found_none : value_by (length w) t ≡ none → P.None ≡ given (value_in w)
-  found_none h = ap given (sym h) ∙ found_by
+  found_none : value_by (length w) t ≡ none → P.None ≡ as_option (word_value w)
+  found_none h = ap as_option (sym h) ∙ found_by
 
-  pub found-later : (t.start ≡ 0 → ⊥) → P.None ≡ given (value_in w)
+  pub found-later : (t.start ≡ 0 → ⊥) → P.None ≡ as_option (word_value w)
   found-later h = found_none (value-later (length w) t h)
 
-  pub found-short : (t.next ≡ length w → ⊥) → P.None ≡ given (value_in w)
+  pub found-short : (t.next ≡ length w → ⊥) → P.None ≡ as_option (word_value w)
   found-short h = found_none (value-short (length w) t h)
 
-  pub found-other : ((z : ℤ) → t.kind ≡ Constant z → ⊥) → P.None ≡ given (value_in w)
+  pub found-other : ((z : ℤ) → t.kind ≡ Constant z → ⊥) → P.None ≡ as_option (word_value w)
   found-other h = found_none (value-none (length w) t h)
 
 -- a value of digits is no negative number
-pub found_number : (o : Option ℕ) (z : ℤ) → P.Some z ≡ given (positive o) → (n : ℕ) × (z ≡ pos n) × (given o ≡ P.Some n)
+pub found_number : (o : Option ℕ) (z : ℤ) → P.Some z ≡ as_option (positive o) → (n : ℕ) × (z ≡ pos n) × (as_option o ≡ P.Some n)
 found_number none z e = absurd (let q : ⊥ = cc in q)
 found_number (some n) z e = let q : z ≡ pos n = cc in (n, q, refl)
 
-pub found-no : (o : Option ℕ) → P.None ≡ given (positive o) → P.None ≡ given o
+pub found-no : (o : Option ℕ) → P.None ≡ as_option (positive o) → P.None ≡ as_option o
 found-no none e = refl
 found-no (some n) e = absurd (let q : ⊥ = cc in q)
 

@@ -23,17 +23,18 @@ use Rattle.lists.proofs.Bools.{and_left, and_right, and_both}
 use Rattle.lists.proofs.Lists.{All-map, all_append, all_true, all-of}
 use Rattle.lists.proofs.Runs.{run-split, drop_all}
 use Rattle.meaning.specs.Limits.{is_within32}
-use Rattle.meaning.specs.Record.{number_of, numbers_of, four_at, columns_in, row_count, row_bytes, is_record, has_row, row_part}
+use Rattle.meaning.specs.Record.{signed_of, numbers_of, four_at, columns_in, row_count, row_bytes, is_record, has_row, row_part}
 use Rattle.meaning.specs.Tokens.{constant, is_digit, is_name_byte, is_word_byte, decimal_on, decimal, word, negative, token_from}
 use Rattle.meaning.proofs.Stream.{from-word, from-minus}
 use Rattle.token.proofs.Words.{digit-word}
+use Rattle.statement.specs.Compiled.{of_table, of_query}
 use Rattle.console.specs.Room.{fitting, filled, filled_to}
-use Rattle.cache.specs.Calls.{settled}
-use Rattle.cache.specs.Run.{Store, Call, add, ask, update, flush, Seen, step}
-use Rattle.console.specs.Lines as L
-use Rattle.console.specs.Lines.{whole_token, value_in, Command, command_of}
+use Rattle.meaning.specs.Refusals.{settled}
+use Rattle.meaning.specs.Call.{Call, add, ask, change, flush}
+use Rattle.cache.specs.Run.{Store, Seen, step}
+use Rattle.console.specs.Lines.{whole_token, word_value, Command, command_of}
 use Rattle.console.specs.Printed.{digits_in, decimal_text, number_text, line, item, refused_text, added_text, updated_text, row_text, further_text, rows_text, rows_shown, source_word, answer_text}
-use Rattle.console.specs.Desk.{done_text, called, commanded, answered_of}
+use Rattle.console.specs.Desk.{done_text, called, lending, commanded, answered_of}
 use Rattle.console.proofs.Digits.{digits-one, digits_more}
 use Rattle.console.proofs.Shown.{limits}
 use Rattle.console.proofs.Calling.{step-long}
@@ -140,17 +141,17 @@ within : (z : ℤ) → is_within32 z ≡ true → whole_token (constant z, []) �
 within z k = ap (λ (c : Bool). cond c (some z) none) k
 
 -- a word of digits, and one behind a minus
-digits_value : (w : List ℕ) → 1 ≤ length w → all is_digit w ≡ true → is_within32 (pos (decimal w)) ≡ true → value_in w ≡ some (pos (decimal w))
-unfolding value_in
+digits_value : (w : List ℕ) → 1 ≤ length w → all is_digit w ≡ true → is_within32 (pos (decimal w)) ≡ true → word_value w ≡ some (pos (decimal w))
+unfolding word_value
 digits_value [] l h k = absurd (omega arith)
 digits_value (b ∷ w) l h k = ap whole_token (digits-token b w h) ∙ within _ k
 
-minus-value : (w : List ℕ) → 1 ≤ length w → all is_digit w ≡ true → is_within32 (neg_ℤ (pos (decimal w))) ≡ true → value_in (45 ∷ w) ≡ some (neg_ℤ (pos (decimal w)))
-unfolding value_in
+minus-value : (w : List ℕ) → 1 ≤ length w → all is_digit w ≡ true → is_within32 (neg_ℤ (pos (decimal w))) ≡ true → word_value (45 ∷ w) ≡ some (neg_ℤ (pos (decimal w)))
+unfolding word_value
 minus-value [] l h k = absurd (omega arith)
 minus-value (b ∷ w) l h k = ap whole_token (minus-token b w h) ∙ within _ k
 
-pub value-back : (z : ℤ) → is_within32 z ≡ true → value_in (number_text z) ≡ some z
+pub value-back : (z : ℤ) → is_within32 z ≡ true → word_value (number_text z) ≡ some z
 unfolding number_text
 value-back (pos n) h =
     let s : n ≤ 2147483647 = leb-true n 2147483647 (and_right true (leb n 2147483647) h) in
@@ -164,7 +165,7 @@ value-back (negsuc n) h =
 -- ---- lengths
 
 -- a value of 32 bits has at most 11 bytes
-number-length : (n : ℕ) → length (number_text (number_of n)) ≤ 11
+number-length : (n : ℕ) → length (number_text (signed_of n)) ≤ 11
 unfolding number_text
 number-length n = go (ltb n (2 ^ 31)) refl
   where
@@ -240,7 +241,7 @@ refused-short n = simp length-append (omega (arith, decimal-most n))
 
 added-short : (kind n : ℕ) → length (added_text kind n) ≤ 64
 unfolding added_text
-added-short kind n = go (eqb kind 1) (eqb kind 2)
+added-short kind n = go (eqb kind of_table) (eqb kind of_query)
   where
     go : (a b : Bool) → length (line (cond a (item "table" n) (cond b (item "query" n) (item "update" n)))) ≤ 64
     go true b = simp length-append (omega (arith, decimal-most n))
@@ -272,28 +273,25 @@ settled-short n zero done refused h i = h
 settled-short n (suc k) done refused h i = i
 
 -- a question's answer has no more bytes than the buffer, which keeps its length
-asked-short : (s : Seen) (n : ℕ) → length s.got.answer ≡ n → Short n (answer_text s.kept s.scanned (take s.got.length s.got.answer))
+asked-short : (s : Seen) (n : ℕ) → length s.got.answer ≡ n → Short n (answer_text s.kept s.scanned (take s.got.size s.got.answer))
 asked-short s n e =
-    let bs = take s.got.length s.got.answer in
-    omega (arith, e, length-take s.got.length s.got.answer, answer-short s.kept s.scanned bs)
+    let bs = take s.got.size s.got.answer in
+    omega (arith, e, length-take s.got.size s.got.answer, answer-short s.kept s.scanned bs)
 
-call-short : (s : Store) (buffer : List ℕ) (c : Call) (n : ℕ) → Short n (done_text c (step s c).1) → Short n (called s buffer c).text
+call-short : (s : Store) (buffer : List ℕ) (c : Call (List ℕ)) (n : ℕ) → Short n (done_text c (step s c).1) → Short n (called s buffer c).text
 call-short s buffer c n h =
     let x = (step s c).1 in
     settled-short n x.got.refusal (done_text c x) (refused_text x.got.refusal) h (omega (arith, refused-short x.got.refusal))
 
+taken-short : (s : Store) (buffer : List ℕ) (c : Call (Unit {0})) → let d = lending buffer c in Short (length buffer) (done_text d (step s d).1)
+taken-short s buffer (add text) = let g = (step s (add text)).1.got in omega (arith, added-short g.kind g.number)
+taken-short s buffer (ask k b) = asked-short (step s (ask k buffer)).1 (length buffer) (step-long s k buffer)
+taken-short s buffer (change n zs) = let x = (step s (change n zs)).1 in omega (arith, updated-short x.got.rows x.drops)
+taken-short s buffer flush = omega arith
+
 command-short : (s : Store) (buffer : List ℕ) (c : Command) → Short (length buffer) (commanded s buffer c).text
-command-short s buffer (L.add text) =
-    let g = (step s (add text)).1.got in
-    call-short s buffer (add text) (length buffer) (omega (arith, added-short g.kind g.number))
-command-short s buffer (L.ask n zs) =
-    let c = ask n zs buffer in
-    call-short s buffer c (length buffer) (asked-short (step s c).1 (length buffer) (step-long s n zs buffer))
-command-short s buffer (L.change n zs) =
-    let x = (step s (update n zs)).1 in
-    call-short s buffer (update n zs) (length buffer) (omega (arith, updated-short x.got.rows x.drops))
-command-short s buffer L.flush = call-short s buffer flush (length buffer) (omega arith)
-command-short s buffer L.bad = omega arith
+command-short s buffer (some c) = call-short s buffer (lending buffer c) (length buffer) (taken-short s buffer c)
+command-short s buffer none = omega arith
 
 text-length : (s : Store) (buffer line : List ℕ) → Short (length buffer) (answered_of s buffer line).text
 unfolding answered_of

@@ -3,7 +3,7 @@ use mathlib.Core.Path.{◌≡◌, refl, sym, ap₂, ◌∙◌, subst}
 use mathlib.Core.List.{List, [], ◌++◌}
 use Rattle.console.specs.declared.writer.Writer.{Writer}
 use Rattle.console.specs.Room.{filled, filled_to}
-use Rattle.console.specs.Pieces.{Puts}
+use Rattle.console.specs.Private.Pieces.{Puts}
 use Rattle.console.proofs.Rooms.{filled-nil, filled-append, filled_to-append}
 
 module _ {A : Type 0} where

@@ -10,14 +10,14 @@ use lib.Seq.{take_all}
 use Rattle.lists.specs.Lists.{written}
 use Rattle.lists.proofs.Written.{length-written, written-there}
 use Rattle.cache.specs.declared.State.{State}
-use Rattle.cache.specs.Run.{add, ask, update, flush}
+use Rattle.meaning.specs.Call.{add, ask, change, flush}
 use Rattle.console.specs.declared.Line.TheVariants.{Add, Ask, Do, Flush, Bad}
 use Rattle.console.specs.declared.Reply.{Reply}
 use Rattle.console.specs.Room.{filled, filled_to}
 use Rattle.console.specs.Lines.{Command, command_of, line_of, values_of}
 use Rattle.console.specs.Printed.{bad_text}
 use Rattle.console.specs.Desk.{commanded, answered_of, Replies, replies, replies_with, reply_of}
-use Rattle.console.specs.Commands.{reply_to}
+use Rattle.console.specs.Private.Commands.{reply_to}
 use Rattle.console.proofs.Calling.{store_of}
 use Rattle.console.proofs.Said.{command-says, is_ask, is-change, is-flush, is-bad}
 
@@ -71,25 +71,25 @@ module _ (line : List ℕ) where
         done _ (is-flush _ (sym h)) _ (ap (λ (x : Replies). replies x.result x.cells x.memory answer x.out) k)
 
     pub reply-bad : (n : ℕ) (new : List ℕ) → Bad ≡ line_of (command_of line) → (n ≡ filled_to out 0 bad_text) × (new ≡ filled out 0 bad_text)
-        → replies (record { length = n; state = s }) cells memory answer new ≡ reply_of s cells memory answer line out
+        → replies (record { size = n; state = s }) cells memory answer new ≡ reply_of s cells memory answer line out
     reply-bad n new h w =
         done _ (is-bad _ (sym h)) _
-        (λ m. replies (record { length = w.0 m; state = s }) cells memory answer (w.1 m))
+        (λ m. replies (record { size = w.0 m; state = s }) cells memory answer (w.1 m))
 
     module _ (room vs : List ℤ) (long : length room ≡ 512) (f : vs ≡ filled room 0 (values_of (command_of line))) (n k : ℕ) where
       pub reply-ask : (r : Reply) (kept answered new : List ℕ) → Ask n k ≡ line_of (command_of line)
-          → replies r cells kept answered new ≡ reply_to s cells memory answer (ask n (take k vs) answer) out
+          → replies r cells kept answered new ≡ reply_to s cells memory answer (ask (record { query = n; values = take k vs }) answer) out
           → replies r cells kept answered new ≡ reply_of s cells memory answer line out
       unfolding reply_to
       reply-ask r kept answered new h g =
           let c = is_ask _ n k (sym h) in
-          done _ c.0 _ (g ∙ ap (λ (zs : List ℤ). reply_to s cells memory answer (ask n zs answer) out) (values-there room vs long f k c.1))
+          done _ c.0 _ (g ∙ ap (λ (zs : List ℤ). reply_to s cells memory answer (ask (record { query = n; values = zs }) answer) out) (values-there room vs long f k c.1))
 
       pub reply-change : (r : Reply) (after : List ℤ) (new : List ℕ) → Do n k ≡ line_of (command_of line)
-          → replies r after memory [] new ≡ reply_to s cells memory [] (update n (take k vs)) out
+          → replies r after memory [] new ≡ reply_to s cells memory [] (change n (take k vs)) out
           → replies r after memory answer new ≡ reply_of s cells memory answer line out
       unfolding reply_to
       reply-change r after new h g =
           let c = is-change _ n k (sym h) in
-          let x = g ∙ ap (λ (zs : List ℤ). reply_to s cells memory [] (update n zs) out) (values-there room vs long f k c.1) in
+          let x = g ∙ ap (λ (zs : List ℤ). reply_to s cells memory [] (change n zs) out) (values-there room vs long f k c.1) in
           done _ c.0 _ (ap (λ (x : Replies). replies x.result x.cells x.memory answer x.out) x)

@@ -15,7 +15,8 @@ use Rattle.meaning.specs.Tokens.{is_space, behind_prefix}
 use Rattle.meaning.proofs.Readers.{some-none, some_same}
 use Rattle.meaning.proofs.Stream.{prefix-length}
 use Rattle.console.specs.declared.Line.TheVariants.{Add, Ask, Do, Flush, Bad}
-use Rattle.console.specs.Lines.{on_first, words, is_word, number_in, value_in, and_value, values_in, Command, add, ask, change, flush, bad, numbered, words_say, line_says, most_line, command_of, line_of, values_of}
+use Rattle.meaning.specs.Call.{add, ask, change, flush}
+use Rattle.console.specs.Lines.{on_first, words, is_word, word_number, word_value, and_value, word_values, Command, numbered, words_say, line_says, most_line, command_of, line_of, values_of}
 
 -- ---- no more values than bytes
 
@@ -40,10 +41,10 @@ and-size (some z) (some zs) = omega arith
 and-size (some z) none = omega arith
 and-size none p = omega arith
 
-values-size : (ws : List (List ℕ)) → size (values_in ws) ≤ length ws
-unfolding values_in
+values-size : (ws : List (List ℕ)) → size (word_values ws) ≤ length ws
+unfolding word_values
 values-size [] = omega arith
-values-size (w ∷ ws) = omega (arith, and-size (value_in w) (values_in ws), values-size ws)
+values-size (w ∷ ws) = omega (arith, and-size (word_value w) (word_values ws), values-size ws)
 
 -- a word and a number say ASK, DO or nothing
 numbered-size : (w : List ℕ) (o : Option ℕ) (p : Option (List ℤ)) → (length (values_of (numbered w o p)) ≤ size p) × (line_of (numbered w o p) ≢ Add)
@@ -51,7 +52,7 @@ numbered-size w (some n) none = (omega arith, λ e. let q : ⊥ = cc in q)
 numbered-size w none p = (omega arith, λ e. let q : ⊥ = cc in q)
 numbered-size w (some n) (some zs) = go (is_word "ASK" w) (is_word "DO" w)
   where
-    go : (a b : Bool) → let c = cond a (ask n zs) (cond b (change n zs) bad) in (length (values_of c) ≤ length zs) × (line_of c ≢ Add)
+    go : (a b : Bool) → let c = cond a (some (ask (record { query = n; values = zs }) tt)) (cond b (some (change n zs)) none) in (length (values_of c) ≤ length zs) × (line_of c ≢ Add)
     go true b = (omega arith, λ e. let q : ⊥ = cc in q)
     go false true = (omega arith, λ e. let q : ⊥ = cc in q)
     go false false = (omega arith, λ e. let q : ⊥ = cc in q)
@@ -60,10 +61,10 @@ words_size : (ws : List (List ℕ)) → (length (values_of (words_say ws)) ≤ l
 words_size [] = (omega arith, λ e. let q : ⊥ = cc in q)
 words_size (w ∷ []) = go (is_word "FLUSH" w)
   where
-    go : (t : Bool) → (length (values_of (cond t flush bad)) ≤ 0) × (line_of (cond t flush bad) ≢ Add)
+    go : (t : Bool) → (length (values_of (cond t (some flush) none)) ≤ 0) × (line_of (cond t (some flush) none) ≢ Add)
     go true = (omega arith, λ e. let q : ⊥ = cc in q)
     go false = (omega arith, λ e. let q : ⊥ = cc in q)
-words_size (w ∷ n ∷ vs) = let h = numbered-size w (number_in n) (values_in vs) in (omega (arith, h.0, values-size vs), h.1)
+words_size (w ∷ n ∷ vs) = let h = numbered-size w (word_number n) (word_values vs) in (omega (arith, h.0, values-size vs), h.1)
 
 -- ---- the text of ADD
 
@@ -79,15 +80,15 @@ prefix-drop (b ∷ p) (c ∷ s) left e = go (eqb b c) e (prefix-drop p s left)
 -- what is known of what a line says
 pub record Says (line : List ℕ) (c : Command) : Type 0 where
   pub few : length (values_of c) ≤ most_line
-  pub text : line_of c ≡ Add → (4 ≤ length line) × (c ≡ add (drop 4 line))
+  pub text : line_of c ≡ Add → (4 ≤ length line) × (c ≡ some (add (drop 4 line)))
 
 line-says : (line : List ℕ) → length line ≤ most_line → Says line (line_says line)
 line-says line h = go (behind_prefix (bytes "ADD ") line) refl
   where
-    go : (o : Option (List ℕ)) → behind_prefix (bytes "ADD ") line ≡ o → Says line (elim o [ some text ↦ add text | none ↦ words_say (words line) ])
+    go : (o : Option (List ℕ)) → behind_prefix (bytes "ADD ") line ≡ o → Says line (elim o [ some text ↦ some (add text) | none ↦ words_say (words line) ])
     go (some text) e =
         let l : 4 + length text ≡ length line = prefix-length (bytes "ADD ") line text e in
-        record { few = omega arith; text = λ _. (omega (arith, l), ap add (prefix-drop (bytes "ADD ") line text e)) }
+        record { few = omega arith; text = λ _. (omega (arith, l), ap (λ t. some (add t)) (prefix-drop (bytes "ADD ") line text e)) }
     go none e =
         let w = words_size (words line) in
         record { few = omega (arith, w.0, words_count line, h); text = λ f. absurd (w.1 f) }
@@ -96,36 +97,28 @@ pub command-says : (line : List ℕ) → Says line (command_of line)
 unfolding command_of
 command-says line = go (leb (length line) most_line) refl
   where
-    go : (t : Bool) → leb (length line) most_line ≡ t → Says line (elim t [ true ↦ line_says line | false ↦ bad ])
+    go : (t : Bool) → leb (length line) most_line ≡ t → Says line (elim t [ true ↦ line_says line | false ↦ none ])
     go true e = line-says line (leb-true (length line) most_line e)
     go false e = record { few = omega arith; text = λ f. absurd (let q : ⊥ = cc in q) }
 
 -- ---- the other commands
 
-pub is_ask : (c : Command) (n k : ℕ) → line_of c ≡ Ask n k → (c ≡ ask n (values_of c)) × (k ≡ length (values_of c))
-is_ask (add text) n k e = absurd (let q : ⊥ = cc in q)
-is_ask (ask m zs) n k e = let q : m ≡ n = cc in let r : k ≡ length zs = cc in (ap (λ (i : ℕ). ask i zs) q, r)
-is_ask (change m zs) n k e = absurd (let q : ⊥ = cc in q)
-is_ask flush n k e = absurd (let q : ⊥ = cc in q)
-is_ask bad n k e = absurd (let q : ⊥ = cc in q)
+pub is_ask : (c : Command) (n k : ℕ) → line_of c ≡ Ask n k → (c ≡ some (ask (record { query = n; values = values_of c }) tt)) × (k ≡ length (values_of c))
+is_ask (some (ask m b)) n k e = let q : m.query ≡ n = cc in let r : k ≡ length m.values = cc in (ap (λ (i : ℕ). some (ask (record { query = i; values = m.values }) tt)) q, r)
+is_ask (some _) n k e = absurd (let q : ⊥ = cc in q)
+is_ask none n k e = absurd (let q : ⊥ = cc in q)
 
-pub is-change : (c : Command) (n k : ℕ) → line_of c ≡ Do n k → (c ≡ change n (values_of c)) × (k ≡ length (values_of c))
-is-change (add text) n k e = absurd (let q : ⊥ = cc in q)
-is-change (ask m zs) n k e = absurd (let q : ⊥ = cc in q)
-is-change (change m zs) n k e = let q : m ≡ n = cc in let r : k ≡ length zs = cc in (ap (λ (i : ℕ). change i zs) q, r)
-is-change flush n k e = absurd (let q : ⊥ = cc in q)
-is-change bad n k e = absurd (let q : ⊥ = cc in q)
+pub is-change : (c : Command) (n k : ℕ) → line_of c ≡ Do n k → (c ≡ some (change n (values_of c))) × (k ≡ length (values_of c))
+is-change (some (change m zs)) n k e = let q : m ≡ n = cc in let r : k ≡ length zs = cc in (ap (λ (i : ℕ). some (change i zs)) q, r)
+is-change (some _) n k e = absurd (let q : ⊥ = cc in q)
+is-change none n k e = absurd (let q : ⊥ = cc in q)
 
-pub is-flush : (c : Command) → line_of c ≡ Flush → c ≡ flush
-is-flush (add text) e = absurd (let q : ⊥ = cc in q)
-is-flush (ask n zs) e = absurd (let q : ⊥ = cc in q)
-is-flush (change n zs) e = absurd (let q : ⊥ = cc in q)
-is-flush flush e = refl
-is-flush bad e = absurd (let q : ⊥ = cc in q)
+pub is-flush : (c : Command) → line_of c ≡ Flush → c ≡ some flush
+is-flush (some flush) e = refl
+is-flush (some _) e = absurd (let q : ⊥ = cc in q)
+is-flush none e = absurd (let q : ⊥ = cc in q)
 
-pub is-bad : (c : Command) → line_of c ≡ Bad → c ≡ bad
-is-bad (add text) e = absurd (let q : ⊥ = cc in q)
-is-bad (ask n zs) e = absurd (let q : ⊥ = cc in q)
-is-bad (change n zs) e = absurd (let q : ⊥ = cc in q)
-is-bad flush e = absurd (let q : ⊥ = cc in q)
-is-bad bad e = refl
+pub is-bad : (c : Command) → line_of c ≡ Bad → c ≡ none
+is-bad none e = refl
+is-bad (some (add text)) e = absurd (let q : ⊥ = cc in q)
+is-bad (some _) e = absurd (let q : ⊥ = cc in q)

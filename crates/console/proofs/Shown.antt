@@ -18,9 +18,10 @@ use Rattle.lists.specs.Lists.{bytes, from}
 use Rattle.lists.proofs.Bools.{and_left, and_right}
 use Rattle.lists.proofs.Walks.{from_cons, from-none}
 use Rattle.meaning.specs.Limits.{most_items}
-use Rattle.meaning.specs.Record.{number_of, numbers_of, four_at, columns_in, row_count, row_bytes, is_record, has_row, row_part, row_refusal}
+use Rattle.meaning.specs.Record.{signed_of, numbers_of, four_at, columns_in, row_count, row_bytes, is_record, has_row, row_part, row_refusal}
+use Rattle.statement.specs.Compiled.{of_table, of_query}
 use Rattle.console.specs.Printed.{line, item, added_text, decimal_text, number_text, row_text, further_text, rows_text, rows_there, rows_shown}
-use Rattle.console.specs.Pieces.{rows_from, kind_word}
+use Rattle.console.specs.Private.Pieces.{rows_from, kind_word}
 
 -- ---- numbers
 
@@ -39,7 +40,7 @@ number-positive (negsuc n) h = absurd (true≢false h)
 
 pub added-is : (kind n : ℕ) → line (kind_word kind ++ (32 ∷ decimal_text n)) ≡ added_text kind n
 unfolding added_text
-added-is kind n = go (eqb kind 1) (eqb kind 2)
+added-is kind n = go (eqb kind of_table) (eqb kind of_query)
   where
     go : (a b : Bool) → line (cond a (bytes "table") (cond b (bytes "query") (bytes "update")) ++ (32 ∷ decimal_text n)) ≡ line (cond a (item "table" n) (cond b (item "query" n) (item "update" n)))
     go true b = refl
@@ -50,10 +51,10 @@ added-is kind n = go (eqb kind 1) (eqb kind 2)
 
 -- the numbers of arrays of four bytes
 abbrev pub values_in : List (List ℕ) → List ℤ
-values_in cs = map (λ (c : List ℕ). number_of (four_at c 0)) cs
+values_in cs = map (λ (c : List ℕ). signed_of (four_at c 0)) cs
 
 -- as `i32::from_be_bytes` reads them
-pub value-is : (c : List ℕ) → to_z w32 (from_be_bytes w32 c) ≡ number_of (four_at c 0)
+pub value-is : (c : List ℕ) → to_z w32 (from_be_bytes w32 c) ≡ signed_of (four_at c 0)
 value-is c = let e : from_be_bytes w32 c ≡ four_at c 0 = omega arith in ap (to_z w32) e
 
 -- a row, four bytes a value
@@ -64,7 +65,7 @@ values-of (a ∷ b ∷ []) = refl
 values-of (a ∷ b ∷ c ∷ []) = refl
 values-of (a ∷ b ∷ c ∷ d ∷ l) =
     let e : length (a ∷ b ∷ c ∷ d ∷ l) / 4 ≡ suc (length l / 4) = omega arith in
-    ap (λ (k : ℕ). values_in (first_chunks 4 k (a ∷ b ∷ c ∷ d ∷ l))) e ∙ ap (λ (zs : List ℤ). number_of (four_at (a ∷ b ∷ c ∷ d ∷ []) 0) ∷ zs) (values-of l)
+    ap (λ (k : ℕ). values_in (first_chunks 4 k (a ∷ b ∷ c ∷ d ∷ l))) e ∙ ap (λ (zs : List ℤ). signed_of (four_at (a ∷ b ∷ c ∷ d ∷ []) 0) ∷ zs) (values-of l)
 
 -- ---- a result, by whether it is an error
 

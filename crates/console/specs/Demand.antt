@@ -3,28 +3,26 @@
 use Rattle.std.specs.Prelude.{◌≡◌, ◌≢◌, List, [], ◌∷◌, ℕ, length}
 use Rattle.meaning.specs.Plain as P
 use Rattle.meaning.specs.Plain.{Lengths, Plain, record_of}
+use Rattle.std.proofs.Math.Option.{none, some}
 use Rattle.meaning.specs.Key.{Key, same_key}
+use Rattle.meaning.specs.Call.{Call, ask}
 use Rattle.trace.specs.History.{Ground}
 use Rattle.cache.specs.Means.{tables_in}
-use Rattle.cache.specs.Run.{Store, Start, opening_of, opened, Call, add, ask, update, flush, Got, Seen, step, after, gets, plain_call, buffer_of, got_of, plain_after}
-use Rattle.cache.specs.Demand.{slot_count, slot_size, past}
-use Rattle.console.specs.Lines as L
+use Rattle.cache.specs.Run.{Store, Start, opening_of, opened, Got, Seen, step, after, gets, plain_call, buffer_of, got_of, plain_after}
+use Rattle.cache.specs.Demand.{slot_count, slot_size, history_of}
 use Rattle.console.specs.Lines.{Command, command_of}
 use Rattle.console.specs.Printed.{bad_text, refused_text}
-use Rattle.console.specs.Desk.{text_of, buffer_after, answered_of, printed_for}
+use Rattle.console.specs.Desk.{text_of, buffer_after, lending, answered_of, printed_for}
 
 -- ---- a bad line, and a line whose call is refused, change nothing
 
 abbrev pub BadChangesNothing : Type 0
-BadChangesNothing = (s : Store) (buffer line : List ℕ) → command_of line ≡ L.bad → answered_of s buffer line ≡ record { store = s; buffer = buffer; text = bad_text }
+BadChangesNothing = (s : Store) (buffer line : List ℕ) → command_of line ≡ none → answered_of s buffer line ≡ record { store = s; buffer = buffer; text = bad_text }
 
 -- the number that a command gets; 0 of a bad line, which makes no call
 abbrev pub refusal_of : Store → List ℕ → Command → ℕ
-refusal_of s buffer (L.add text) = (step s (add text)).1.got.refusal
-refusal_of s buffer (L.ask n zs) = (step s (ask n zs buffer)).1.got.refusal
-refusal_of s buffer (L.change n zs) = (step s (update n zs)).1.got.refusal
-refusal_of s buffer L.flush = (step s flush).1.got.refusal
-refusal_of s buffer L.bad = 0
+refusal_of s buffer (some c) = (step s (lending buffer c)).1.got.refusal
+refusal_of s buffer none = 0
 
 abbrev pub RefusedChangesNothing : Type 0
 RefusedChangesNothing = (s : Store) (buffer line : List ℕ) → refusal_of s buffer (command_of line) ≢ 0
@@ -47,18 +45,15 @@ pub record PlainAnswered : Type 0 where
   pub buffer : List ℕ
   pub text : List ℕ
 
-abbrev pub plain_called : Lengths → Plain → List ℕ → Unsaid → Call → PlainAnswered
+abbrev pub plain_called : Lengths → Plain → List ℕ → Unsaid → Call (List ℕ) → PlainAnswered
 plain_called lent p buffer u c =
     let r = P.step lent p (plain_call c) in
     let s : Seen = seen_with u (got_of (buffer_of c) r.1) in
     record { store = r.0; buffer = buffer_after c buffer s; text = text_of c s }
 
 abbrev pub plain_commanded : Lengths → Plain → List ℕ → Unsaid → Command → PlainAnswered
-plain_commanded lent p buffer u (L.add text) = plain_called lent p buffer u (add text)
-plain_commanded lent p buffer u (L.ask n zs) = plain_called lent p buffer u (ask n zs buffer)
-plain_commanded lent p buffer u (L.change n zs) = plain_called lent p buffer u (update n zs)
-plain_commanded lent p buffer u L.flush = plain_called lent p buffer u flush
-plain_commanded lent p buffer u L.bad = record { store = p; buffer = buffer; text = bad_text }
+plain_commanded lent p buffer u (some c) = plain_called lent p buffer u (lending buffer c)
+plain_commanded lent p buffer u none = record { store = p; buffer = buffer; text = bad_text }
 
 -- a list of lines, each with what is not said of it
 abbrev pub lines_of : List (List ℕ × Unsaid) → List (List ℕ)
@@ -83,14 +78,11 @@ BufferDoesNotMatter = (o : Start) (b c : List ℕ) (ls : List (List ℕ)) → le
 
 -- ---- the calls that a list of lines makes: one each, but a bad line makes none
 
-abbrev pub calls_by : List ℕ → Command → List Call → List Call
-calls_by buffer (L.add text) cs = add text ∷ cs
-calls_by buffer (L.ask n zs) cs = ask n zs buffer ∷ cs
-calls_by buffer (L.change n zs) cs = update n zs ∷ cs
-calls_by buffer L.flush cs = flush ∷ cs
-calls_by buffer L.bad cs = cs
+abbrev pub calls_by : List ℕ → Command → List (Call (List ℕ)) → List (Call (List ℕ))
+calls_by buffer (some c) cs = lending buffer c ∷ cs
+calls_by buffer none cs = cs
 
-abbrev pub calls_for : Store → List ℕ → List (List ℕ) → List Call
+abbrev pub calls_for : Store → List ℕ → List (List ℕ) → List (Call (List ℕ))
 calls_for s buffer [] = []
 calls_for s buffer (l ∷ ls) = calls_by buffer (command_of l) (calls_for (answered_of s buffer l).store (answered_of s buffer l).buffer ls)
 
@@ -112,18 +104,12 @@ tail [] = []
 tail (x ∷ xs) = xs
 
 abbrev pub unsaid_by : Command → List Seen → Unsaid
-unsaid_by (L.add text) xs = unsaid_in xs
-unsaid_by (L.ask n zs) xs = unsaid_in xs
-unsaid_by (L.change n zs) xs = unsaid_in xs
-unsaid_by L.flush xs = unsaid_in xs
-unsaid_by L.bad xs = unsaid_in []
+unsaid_by (some c) xs = unsaid_in xs
+unsaid_by none xs = unsaid_in []
 
 abbrev pub seen_after : Command → List Seen → List Seen
-seen_after (L.add text) xs = tail xs
-seen_after (L.ask n zs) xs = tail xs
-seen_after (L.change n zs) xs = tail xs
-seen_after L.flush xs = tail xs
-seen_after L.bad xs = xs
+seen_after (some c) xs = tail xs
+seen_after none xs = xs
 
 abbrev pub said_of : List (List ℕ) → List Seen → List (List ℕ × Unsaid)
 said_of [] xs = []
@@ -145,9 +131,9 @@ TablesAsPlain = (o : Start) (buffer : List ℕ) (ls : List (List ℕ))
 -- "a question with its values is worked out anew only if ..": of a question after a list of lines
 abbrev pub AnewOnlyIf : Type 0
 AnewOnlyIf = (o : Start) (buffer : List ℕ) (ls : List (List ℕ)) (k : Key) (lent : List ℕ)
-    → (step (store_after (opened o) buffer ls) (ask k.query k.values lent)).1.got.refusal ≡ 0
-    → (step (store_after (opened o) buffer ls) (ask k.query k.values lent)).1.kept ≡ 0
-    → Ground same_key (slot_count o) (slot_size o) (record_of (plain_after o (calls_for (opened o) buffer ls)) k) k (past o (calls_for (opened o) buffer ls))
+    → (step (store_after (opened o) buffer ls) (ask k lent)).1.got.refusal ≡ 0
+    → (step (store_after (opened o) buffer ls) (ask k lent)).1.kept ≡ 0
+    → Ground same_key (slot_count o) (slot_size o) (record_of (plain_after o (calls_for (opened o) buffer ls)) k) k (history_of o (calls_for (opened o) buffer ls))
 
 -- ---- all of these
 

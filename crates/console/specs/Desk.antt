@@ -1,30 +1,31 @@
 -- A line of `desk` answered: document 01, "Examples", last paragraph. A store is the state with its lent memories; a line makes one call, or is a bad line, which the store
 -- is not asked. Assumes nothing: these are definitions.
 use Rattle.std.specs.Prelude.{List, [], ◌∷◌, ℕ, ℤ, take}
+use Rattle.std.proofs.Math.Option.{none, some}
+use Rattle.meaning.specs.Call.{Call, add, ask, change, flush, with_buffer}
+use Rattle.meaning.specs.Refusals.{settled}
 use Rattle.cache.specs.declared.State.{State}
-use Rattle.cache.specs.Calls.{settled}
-use Rattle.cache.specs.Run.{Store, Call, add, ask, update, flush, Seen, step}
+use Rattle.cache.specs.Run.{Store, Seen, step}
 use Rattle.console.specs.declared.Reply.{Reply}
-use Rattle.console.specs.Lines as L
 use Rattle.console.specs.Lines.{Command, command_of}
 use Rattle.console.specs.Printed.{bad_text, refused_text, added_text, updated_text, flushed_text, answer_text}
 use Rattle.console.specs.Room.{filled, filled_to}
 
 -- what is printed of a call that is taken, by what it gets: of a question, the rows of its record
-abbrev pub done_text : Call → Seen → List ℕ
+abbrev pub done_text : {B : Type 0} → Call B → Seen → List ℕ
 done_text (add text) s = added_text s.got.kind s.got.number
-done_text (ask n zs buffer) s = answer_text s.kept s.scanned (take s.got.length s.got.answer)
-done_text (update n zs) s = updated_text s.got.rows s.drops
+done_text (ask k b) s = answer_text s.kept s.scanned (take s.got.size s.got.answer)
+done_text (change n zs) s = updated_text s.got.rows s.drops
 done_text flush s = flushed_text
 
-abbrev pub text_of : Call → Seen → List ℕ
+abbrev pub text_of : {B : Type 0} → Call B → Seen → List ℕ
 text_of c s = settled s.got.refusal (done_text c s) (refused_text s.got.refusal)
 
 -- the answer buffer after a call
-abbrev pub buffer_after : Call → List ℕ → Seen → List ℕ
+abbrev pub buffer_after : {B : Type 0} → Call B → List ℕ → Seen → List ℕ
 buffer_after (add text) buffer s = buffer
-buffer_after (ask n zs b) buffer s = s.got.answer
-buffer_after (update n zs) buffer s = buffer
+buffer_after (ask k b) buffer s = s.got.answer
+buffer_after (change n zs) buffer s = buffer
 buffer_after flush buffer s = buffer
 
 -- the store and the answer buffer after a line, and what is printed for it
@@ -33,15 +34,16 @@ pub record Answered : Type 0 where
   pub buffer : List ℕ
   pub text : List ℕ
 
-abbrev pub called : Store → List ℕ → Call → Answered
+abbrev pub called : Store → List ℕ → Call (List ℕ) → Answered
 called s buffer c = record { store = (step s c).0; buffer = buffer_after c buffer (step s c).1; text = text_of c (step s c).1 }
 
+-- the call of a line, with the answer buffer
+abbrev pub lending : List ℕ → Call (Unit {0}) → Call (List ℕ)
+lending buffer c = with_buffer (λ (u : Unit {0}). buffer) c
+
 abbrev pub commanded : Store → List ℕ → Command → Answered
-commanded s buffer (L.add text) = called s buffer (add text)
-commanded s buffer (L.ask n zs) = called s buffer (ask n zs buffer)
-commanded s buffer (L.change n zs) = called s buffer (update n zs)
-commanded s buffer L.flush = called s buffer flush
-commanded s buffer L.bad = record { store = s; buffer = buffer; text = bad_text }
+commanded s buffer (some c) = called s buffer (lending buffer c)
+commanded s buffer none = record { store = s; buffer = buffer; text = bad_text }
 
 unfoldable pub answered_of : Store → List ℕ → List ℕ → Answered
 answered_of s buffer line = commanded s buffer (command_of line)
@@ -65,7 +67,7 @@ replies r cells memory answer out = record { result = r; cells = cells; memory =
 
 abbrev pub replies_with : List ℕ → Answered → Replies
 replies_with out a =
-    replies (record { length = filled_to out 0 a.text; state = a.store.state }) a.store.cells a.store.memory a.buffer (filled out 0 a.text)
+    replies (record { size = filled_to out 0 a.text; state = a.store.state }) a.store.cells a.store.memory a.buffer (filled out 0 a.text)
 
 unfoldable pub reply_of : State → List ℤ → List ℕ → List ℕ → List ℕ → List ℕ → Replies
 reply_of s cells memory answer line out = replies_with out (answered_of (record { state = s; cells = cells; memory = memory }) answer line)

@@ -1,5 +1,5 @@
 -- Lines and what is printed for them, computed: document 01's transcript as `desk` prints it, and lines at the edges. Assumes nothing.
-use Rattle.std.specs.Prelude.{◌≡◌, refl, List, [], ◌∷◌, ◌++◌, map, ℕ, pos, neg_ℤ, replicate}
+use Rattle.std.specs.Prelude.{◌≡◌, refl, List, [], ◌∷◌, ◌++◌, map, ℕ, ℤ, pos, neg_ℤ, replicate}
 use Prim.Native.String.{String}
 use Rattle.lists.specs.Lists.{bytes}
 use Rattle.meaning.specs.Tokens.{is_name_byte, is_word_byte, decimal, is_name, word, negative, token_from}
@@ -7,43 +7,48 @@ use Rattle.meaning.specs.Record.{is_record, has_row, row_part}
 use Rattle.cache.specs.Examples as calls
 use Rattle.cache.specs.Examples.{desk}
 use Rattle.cache.specs.Run.{opened}
-use Rattle.console.specs.Lines.{Command, add, ask, change, flush, bad, number_in, value_in, values_in, command_of}
+use Rattle.std.proofs.Math.Option.{none, some}
+use Rattle.meaning.specs.Call.{add, ask, change, flush}
+use Rattle.console.specs.Lines.{Command, word_number, word_value, word_values, command_of}
 use Rattle.console.specs.Printed.{decimal_text, number_text, line, refused_text, added_text, updated_text, answer_text}
 use Rattle.console.specs.Desk.{answered_of, printed_for}
 
 -- what the computations open
 computing : Unit {0}
-unfolding calls.computing added_text updated_text refused_text answered_of is_name_byte is_word_byte decimal is_name word negative token_from is_record has_row row_part number_in value_in values_in command_of decimal_text number_text answer_text
+unfolding calls.computing added_text updated_text refused_text answered_of is_name_byte is_word_byte decimal is_name word negative token_from is_record has_row row_part word_number word_value word_values command_of decimal_text number_text answer_text
 computing = tt
+
+abbrev asking : ℕ → List ℤ → Command
+asking n zs = some (ask (record { query = n; values = zs }) tt)
 
 -- lines, and what they say
 abbrev lines : List (String × Command)
 lines =
-    ("FLUSH", flush)
-    ∷ ("FLUSH ", bad)
-    ∷ ("flush", bad)
-    ∷ ("", bad)
-    ∷ (" FLUSH", bad)
-    ∷ ("ADD", bad)
-    ∷ ("ADD ", add [])
-    ∷ ("ADD  a", add (32 ∷ 97 ∷ []))
-    ∷ ("ASK", bad)
-    ∷ ("ASK 0", ask 0 [])
-    ∷ ("ASK 007 -0 0012", ask 7 (pos 0 ∷ pos 12 ∷ []))
-    ∷ ("ASK 0 ", bad)
-    ∷ ("ASK  0", bad)
-    ∷ ("ASK 0  1", bad)
-    ∷ ("ASK -0", bad)
-    ∷ ("ASK 2147483647", ask 2147483647 [])
-    ∷ ("ASK 2147483648", bad)
-    ∷ ("ASK 0 2147483647 -2147483648", ask 0 (pos 2147483647 ∷ neg_ℤ (pos 2147483648) ∷ []))
-    ∷ ("ASK 0 2147483648", bad)
-    ∷ ("ASK 0 -2147483649", bad)
-    ∷ ("ASK 0 1a", bad)
-    ∷ ("ASK 0 - 1", bad)
-    ∷ ("ASK 0 1,2", bad)
-    ∷ ("DO 3 1 2 3 4 5 6 7 8 9", change 3 (map pos (1 ∷ 2 ∷ 3 ∷ 4 ∷ 5 ∷ 6 ∷ 7 ∷ 8 ∷ 9 ∷ [])))
-    ∷ ("DOO 3", bad)
+    ("FLUSH", some flush)
+    ∷ ("FLUSH ", none)
+    ∷ ("flush", none)
+    ∷ ("", none)
+    ∷ (" FLUSH", none)
+    ∷ ("ADD", none)
+    ∷ ("ADD ", some (add []))
+    ∷ ("ADD  a", some (add (32 ∷ 97 ∷ [])))
+    ∷ ("ASK", none)
+    ∷ ("ASK 0", asking 0 [])
+    ∷ ("ASK 007 -0 0012", asking 7 (pos 0 ∷ pos 12 ∷ []))
+    ∷ ("ASK 0 ", none)
+    ∷ ("ASK  0", none)
+    ∷ ("ASK 0  1", none)
+    ∷ ("ASK -0", none)
+    ∷ ("ASK 2147483647", asking 2147483647 [])
+    ∷ ("ASK 2147483648", none)
+    ∷ ("ASK 0 2147483647 -2147483648", asking 0 (pos 2147483647 ∷ neg_ℤ (pos 2147483648) ∷ []))
+    ∷ ("ASK 0 2147483648", none)
+    ∷ ("ASK 0 -2147483649", none)
+    ∷ ("ASK 0 1a", none)
+    ∷ ("ASK 0 - 1", none)
+    ∷ ("ASK 0 1,2", none)
+    ∷ ("DO 3 1 2 3 4 5 6 7 8 9", some (change 3 (map pos (1 ∷ 2 ∷ 3 ∷ 4 ∷ 5 ∷ 6 ∷ 7 ∷ 8 ∷ 9 ∷ []))))
+    ∷ ("DOO 3", none)
     ∷ []
 
 pub lines-say : map (λ (x : String × Command). command_of (bytes x.0)) lines ≡ map (λ (x : String × Command). x.1) lines
@@ -51,11 +56,11 @@ unfolding computing
 lines-say = refl
 
 -- a line of 512 bytes is read, and one of 513 is bad
-pub longest-line : command_of (bytes "ADD " ++ replicate 508 32) ≡ add (replicate 508 32)
+pub longest-line : command_of (bytes "ADD " ++ replicate 508 32) ≡ some (add (replicate 508 32))
 unfolding computing
 longest-line = refl
 
-pub longer-line : command_of (bytes "ADD " ++ replicate 509 32) ≡ bad
+pub longer-line : command_of (bytes "ADD " ++ replicate 509 32) ≡ none
 unfolding computing
 longer-line = refl
 

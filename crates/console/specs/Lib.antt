@@ -1,9 +1,7 @@
 pub mod Room
 pub mod Lines
-pub mod Parts
 pub mod Printed
-pub mod Pieces
 pub mod Desk
-pub mod Commands
 pub mod Demand
 pub mod Examples
+pub mod Private

@@ -6,6 +6,7 @@ use Rattle.std.proofs.Math.Option.{Option, none, some}
 use Prim.Native.String.{String}
 use Rattle.lists.specs.Lists.{bytes, all, take_while, drop_while}
 use Rattle.lists.specs.Tests.{eq_list}
+use Rattle.meaning.specs.Call.{Call, add, ask, change, flush}
 use Rattle.meaning.specs.Limits.{is_within32}
 use Rattle.meaning.specs.Tokens.{Token, keyword, name, constant, operator, mark, comma, lparen, rparen, dot, other, is_digit, is_space, decimal, behind_prefix, token_here}
 use Rattle.console.specs.declared.Line.{Line}
@@ -63,27 +64,27 @@ is_empty [] = true
 is_empty (b ∷ s) = false
 
 -- "a statement's number is digits only", within 32 bits
-unfoldable pub number_in : List ℕ → Option ℕ
-number_in w = cond (not (is_empty w) && (all is_digit w && leb (decimal w) most_number)) (some (decimal w)) none
+unfoldable pub word_number : List ℕ → Option ℕ
+word_number w = cond (not (is_empty w) && (all is_digit w && leb (decimal w) most_number)) (some (decimal w)) none
 
 -- "a value is a constant", within 32 bits: the word is one token
-abbrev pub constant_in : Token → Option ℤ
-constant_in (constant z) = cond (is_within32 z) (some z) none
-constant_in (keyword k) = none
-constant_in (name n) = none
-constant_in (operator o) = none
-constant_in mark = none
-constant_in comma = none
-constant_in lparen = none
-constant_in rparen = none
-constant_in dot = none
-constant_in other = none
+abbrev pub token_value : Token → Option ℤ
+token_value (constant z) = cond (is_within32 z) (some z) none
+token_value (keyword k) = none
+token_value (name n) = none
+token_value (operator o) = none
+token_value mark = none
+token_value comma = none
+token_value lparen = none
+token_value rparen = none
+token_value dot = none
+token_value other = none
 
 abbrev pub whole_token : Token × List ℕ → Option ℤ
-whole_token x = elim x.1 [ [] ↦ constant_in x.0 | b ∷ s ↦ none ]
+whole_token x = elim x.1 [ [] ↦ token_value x.0 | b ∷ s ↦ none ]
 
-unfoldable pub value_in : List ℕ → Option ℤ
-value_in w = elim (token_here w) [ none ↦ none | some x ↦ whole_token x ]
+unfoldable pub word_value : List ℕ → Option ℤ
+word_value w = elim (token_here w) [ none ↦ none | some x ↦ whole_token x ]
 
 abbrev pub and_value : Option ℤ → Option (List ℤ) → Option (List ℤ)
 and_value (some z) (some zs) = some (z ∷ zs)
@@ -91,51 +92,47 @@ and_value (some z) none = none
 and_value none zs = none
 
 -- any count of values, each good
-unfoldable pub values_in : List (List ℕ) → Option (List ℤ)
-values_in [] = some []
-values_in (w ∷ ws) = and_value (value_in w) (values_in ws)
+unfoldable pub word_values : List (List ℕ) → Option (List ℤ)
+word_values [] = some []
+word_values (w ∷ ws) = and_value (word_value w) (word_values ws)
 
--- ---- commands
+-- ---- what a line says: a call, but for the answer buffer that it is made with; none of a bad line
 
-pub data Command : Type 0 where
-  add : List ℕ → Command
-  ask : ℕ → List ℤ → Command
-  change : ℕ → List ℤ → Command
-  flush : Command
-  bad : Command
+abbrev pub Command : Type 0
+Command = Option (Call (Unit {0}))
 
 abbrev pub numbered : List ℕ → Option ℕ → Option (List ℤ) → Command
-numbered w (some n) (some zs) = cond (is_word "ASK" w) (ask n zs) (cond (is_word "DO" w) (change n zs) bad)
-numbered w (some n) none = bad
-numbered w none zs = bad
+numbered w (some n) (some zs) = cond (is_word "ASK" w) (some (ask (record { query = n; values = zs }) tt)) (cond (is_word "DO" w) (some (change n zs)) none)
+numbered w (some n) none = none
+numbered w none zs = none
 
 abbrev pub words_say : List (List ℕ) → Command
-words_say [] = bad
-words_say (w ∷ []) = cond (is_word "FLUSH" w) flush bad
-words_say (w ∷ n ∷ vs) = numbered w (number_in n) (values_in vs)
+words_say [] = none
+words_say (w ∷ []) = cond (is_word "FLUSH" w) (some flush) none
+words_say (w ∷ n ∷ vs) = numbered w (word_number n) (word_values vs)
 
 -- the text of ADD is everything behind its one space
 abbrev pub line_says : List ℕ → Command
-line_says line = elim (behind_prefix (bytes "ADD ") line) [ some text ↦ add text | none ↦ words_say (words line) ]
+line_says line = elim (behind_prefix (bytes "ADD ") line) [ some text ↦ some (add text) | none ↦ words_say (words line) ]
 
 abbrev pub most_line : ℕ
 most_line = 512
 
 unfoldable pub command_of : List ℕ → Command
-command_of line = elim (leb (length line) most_line) [ true ↦ line_says line | false ↦ bad ]
+command_of line = elim (leb (length line) most_line) [ true ↦ line_says line | false ↦ none ]
 
 -- ---- a command as the program has it: for ASK and DO the statement's number, and how many values
 
 abbrev pub line_of : Command → Line
-line_of (add text) = Add
-line_of (ask n zs) = Ask n (length zs)
-line_of (change n zs) = Do n (length zs)
-line_of flush = Flush
-line_of bad = Bad
+line_of (some (add text)) = Add
+line_of (some (ask k b)) = Ask k.query (length k.values)
+line_of (some (change n zs)) = Do n (length zs)
+line_of (some flush) = Flush
+line_of none = Bad
 
 abbrev pub values_of : Command → List ℤ
-values_of (add text) = []
-values_of (ask n zs) = zs
-values_of (change n zs) = zs
-values_of flush = []
-values_of bad = []
+values_of (some (add text)) = []
+values_of (some (ask k b)) = k.values
+values_of (some (change n zs)) = zs
+values_of (some flush) = []
+values_of none = []

@@ -5,6 +5,7 @@ use Rattle.std.specs.Prelude.{true, false, cond, List, [], ◌∷◌, ◌++◌, 
 use Prim.Native.String.{String}
 use Rattle.lists.specs.Lists.{bytes, from}
 use Rattle.meaning.specs.Record.{is_record, row_count, row_part, numbers_of}
+use Rattle.statement.specs.Compiled.{of_table, of_query}
 
 -- ---- numbers
 
@@ -36,9 +37,9 @@ bad_text = line (bytes "bad line")
 unfoldable pub refused_text : ℕ → List ℕ
 refused_text n = line (item "refused" n)
 
--- by the kind: 1 a table, 2 a question, else an update
+-- by the kind: a table, a question, else an update
 unfoldable pub added_text : ℕ → ℕ → List ℕ
-added_text kind n = line (cond (eqb kind 1) (item "table" n) (cond (eqb kind 2) (item "query" n) (item "update" n)))
+added_text kind n = line (cond (eqb kind of_table) (item "table" n) (cond (eqb kind of_query) (item "query" n) (item "update" n)))
 
 unfoldable pub updated_text : ℕ → ℕ → List ℕ
 updated_text rows drops = line (item "rows" rows ++ (32 ∷ item "dropped" drops))

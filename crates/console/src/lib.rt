@@ -6,9 +6,9 @@ mod text; // what is printed
 mod writer; // a lent buffer that is filled from a place on
 
 ghost use Rattle.std.specs.Prelude.{◌≡◌, []};
-ghost use Rattle.cache.specs.Run.{add, ask, update, flush};
+ghost use Rattle.meaning.specs.Call.{add, ask, change, flush};
 ghost use Rattle.console.specs.Desk.{replies, reply_of};
-ghost use Rattle.console.specs.Commands.{reply_to};
+ghost use Rattle.console.specs.Private.Commands.{reply_to};
 
 use cache::State;
 pub use lines::{gather, read_line};
@@ -44,7 +44,7 @@ pub struct Gathered {
 // What a line brought: how many bytes of the text are at the start of the lent buffer, and the state.
 #[derive(Clone, Copy)]
 pub struct Reply {
-    pub length: usize,
+    pub size: usize,
     pub state: State,
 }
 
@@ -70,8 +70,8 @@ pub fn respond(
         }
         Line::Flush => respond_flush(state, cells, memory, out),
         Line::Bad => {
-            let length = write_bad(out);
-            Reply { length, state }
+            let size = write_bad(out);
+            Reply { size, state }
         }
     }
 }
@@ -84,12 +84,12 @@ fn respond_add(state: State, cells: &[i32], memory: &[u8], text: &[u8], out: &mu
     ensures { replies result cells.now memory.now [] out.new ≡ reply_to state cells.now memory.now [] (add text.now) out.old }
 {
     let outcome = state.add(cells, memory, text);
-    let length = match outcome.result {
+    let size = match outcome.result {
         Ok(added) => write_added(out, added.kind, added.number),
         Err(refusal) => write_refused(out, refusal),
     };
     Reply {
-        length,
+        size,
         state: outcome.state,
     }
 }
@@ -103,18 +103,18 @@ fn respond_ask(
     answer: &mut [u8],
     out: &mut [u8],
 ) -> Reply
-    ensures { replies result cells.now memory.new answer.new out.new ≡ reply_to state cells.now memory.old answer.old (ask number values.now answer.old) out.old }
+    ensures { replies result cells.now memory.new answer.new out.new ≡ reply_to state cells.now memory.old answer.old (ask (record { query = number; values = values.now }) answer.old) out.old }
 {
     let outcome = state.ask(cells, memory, number, values, answer);
-    let length = match outcome.result {
+    let size = match outcome.result {
         Ok(asked) => {
-            let record = &answer[..asked.length];
+            let record = &answer[..asked.size];
             write_answer(out, asked.source, asked.scanned, record)
         }
         Err(refusal) => write_refused(out, refusal),
     };
     Reply {
-        length,
+        size,
         state: outcome.state,
     }
 }
@@ -127,15 +127,15 @@ fn respond_do(
     values: &[i32],
     out: &mut [u8],
 ) -> Reply
-    ensures { replies result cells.new memory.now [] out.new ≡ reply_to state cells.old memory.now [] (update number values.now) out.old }
+    ensures { replies result cells.new memory.now [] out.new ≡ reply_to state cells.old memory.now [] (change number values.now) out.old }
 {
     let outcome = state.update(cells, memory, number, values);
-    let length = match outcome.result {
+    let size = match outcome.result {
         Ok(changed) => write_updated(out, changed.rows, changed.invalidated),
         Err(refusal) => write_refused(out, refusal),
     };
     Reply {
-        length,
+        size,
         state: outcome.state,
     }
 }
@@ -144,12 +144,12 @@ fn respond_flush(state: State, cells: &[i32], memory: &[u8], out: &mut [u8]) -> 
     ensures { replies result cells.now memory.now [] out.new ≡ reply_to state cells.now memory.now [] flush out.old }
 {
     let outcome = state.flush(cells, memory);
-    let length = match outcome.result {
+    let size = match outcome.result {
         Ok(()) => write_flushed(out),
         Err(refusal) => write_refused(out, refusal),
     };
     Reply {
-        length,
+        size,
         state: outcome.state,
     }
 }

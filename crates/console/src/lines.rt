@@ -1,8 +1,8 @@
 // A line gathered from pieces of the input, and what it says.
 ghost use Rattle.std.specs.Prelude.{◌≡◌, drop, position};
 ghost use Rattle.console.specs.Room.{filled};
-ghost use Rattle.console.specs.Lines.{is_newline, line_from, gathered_of, command_of, line_of, values_of, words, number_in, value_in, values_in};
-ghost use Rattle.console.specs.Parts.{given, values_at, count_on, named_line, numbered_line};
+ghost use Rattle.console.specs.Lines.{is_newline, line_from, gathered_of, command_of, line_of, values_of, words, word_number, word_value, word_values};
+ghost use Rattle.console.specs.Private.Parts.{as_option, values_at, count_on, named_line, numbered_line};
 
 use super::writer::Writer;
 use super::{Gathered, Line};
@@ -33,11 +33,11 @@ pub fn gather(input: &[u8], from: usize, line: &mut [u8], held: usize) -> Gather
 {
     let rest = rest_of(input, from);
     let end = line_end(rest);
-    let length = end.unwrap_or(rest.len());
+    let size = end.unwrap_or(rest.len());
     let mut gathered = Writer::at(line, held);
-    gathered.put_all(&rest[..length]);
+    gathered.put_all(&rest[..size]);
     Gathered {
-        next: from + length + usize::from(end.is_some()),
+        next: from + size + usize::from(end.is_some()),
         held: gathered.place,
         ended: end.is_some(),
     }
@@ -47,7 +47,7 @@ pub fn gather(input: &[u8], from: usize, line: &mut [u8], held: usize) -> Gather
 
 // The value that a word is: one constant within 32 bits.
 fn value_in(word: &[u8]) -> Option<i32>
-    ensures { result ≡ given (value_in word.now) }
+    ensures { result ≡ as_option (word_value word.now) }
 {
     let t = token::next(word, 0);
     match t.kind {
@@ -58,7 +58,7 @@ fn value_in(word: &[u8]) -> Option<i32>
 
 // A statement's number is a value of digits only.
 fn number_in(word: &[u8]) -> Option<usize>
-    ensures { result ≡ given (number_in word.now) }
+    ensures { result ≡ as_option (word_number word.now) }
 {
     if word.starts_with(b"-") {
         return None;
@@ -69,7 +69,7 @@ fn number_in(word: &[u8]) -> Option<usize>
 
 // How many values stand behind the first two words of a line, if all are good.
 fn count_values(line: &[u8]) -> Option<usize>
-    ensures { result ≡ count_on 0 (values_in (drop 2 (words line.now))) }
+    ensures { result ≡ count_on 0 (word_values (drop 2 (words line.now))) }
 {
     let mut count = 0;
     for word in line.split(|b| *b == b' ').skip(2) {

@@ -4,7 +4,7 @@ ghost use Rattle.meaning.specs.Record.{numbers_of};
 ghost use Rattle.statement.specs.Refusals.{number_of as refusal_number};
 ghost use Rattle.cache.specs.Given.{kind_number, source_number};
 ghost use Rattle.console.specs.Room.{filled, filled_to};
-ghost use Rattle.console.specs.Pieces.{Puts, rows_from, kind_word};
+ghost use Rattle.console.specs.Private.Pieces.{Puts, rows_from, kind_word};
 ghost use Rattle.console.specs.Printed.{decimal_text, number_text, row_text, further_text, rows_text, rows_shown, source_word, bad_text, refused_text, added_text, updated_text, flushed_text, answer_text};
 
 use super::writer::Writer;

@@ -9,7 +9,7 @@ pub struct Writer<'a, T> {
 }
 
 impl<'a, T: Copy> Writer<'a, T> {
-    ghost use Rattle.console.specs.Pieces.{Puts};
+    ghost use Rattle.console.specs.Private.Pieces.{Puts};
 
     pub fn at(out: &'a mut [T], place: usize) -> Writer<'a, T>
         ensures same { result.out.ghost_name ≡ out.entry.ghost_name }

@@ -22,8 +22,8 @@ pub fn set_field(state: &mut State, name: &[u8], n: &[i32]) {
     if let Some(key) = state.keys.get_mut(i) {
         set_key(key, name, n);
     }
-    if let (b"length", Some(length)) = (name, state.lengths.get_mut(i)) {
-        *length = low16(number(n, 1));
+    if let (b"length", Some(size)) = (name, state.lengths.get_mut(i)) {
+        *size = low16(number(n, 1));
     }
     if let Some(table) = state.tables.get_mut(i) {
         set_table(table, name, n);

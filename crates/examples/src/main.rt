@@ -98,7 +98,7 @@ impl Store {
         writeln!(
             out,
             "{what} read {} bytes {} :{rows}",
-            answer.scanned, answer.length
+            answer.scanned, answer.size
         )
     }
 

@@ -1,8 +1,7 @@
 -- Lists whose members are changed, dropped or joined: what stays the same. Assumes nothing.
 use mathlib.Core.Path.{◌≡◌, refl, sym, ap, ap₂, subst, ◌∙◌}
 use mathlib.Core.Bool.{Bool, true, false, not, ◌||◌, false≢true}
-use mathlib.Core.List.Memᴰ.{head}
-use mathlib.Core.List.Memᴰ.{tail}
+use mathlib.Core.List.Memᴰ.{head, tail}
 use mathlib.Core.List.{List, [], ◌∷◌, ◌++◌, map, Memᴰ as Member}
 use Prim.Native.Nat.{ℕ, zero, suc, ◌+◌, ◌≤◌, ◌<◌, suc-le-suc}
 use native.Mathlib.Decide.{ℕ_discrete}

@@ -2,9 +2,9 @@
 -- accepted, and its statement added, exactly if no condition of refusals 2 to 9 holds. Assumes nothing.
 use mathlib.Core.Path.{◌≡◌, refl, sym, ap, subst, ◌∙◌}
 use mathlib.Core.Logic.{◌↔◌, ◌≢◌}
-use mathlib.Core.Bool.{Bool, true, false, ◌&&◌, ◌||◌, and-false}
+use mathlib.Core.Bool.{Bool, true, false, cond, ◌&&◌, ◌||◌, and-false, or-true}
 use mathlib.Core.Option.{Option, none, some}
-use mathlib.Core.List.{List, [], ◌∷◌}
+use mathlib.Core.List.{List, [], ◌∷◌, ◌++◌}
 use Prim.Native.Nat.{ℕ, zero, suc, ◌≤◌, ◌<◌}
 use native.Mathlib.Omega.{arith}
 use borrow.Author.Tests.{ltb-true, ltb-false, le-ltb, eq-eqb, ne_eqb, leb-false, eqb-true}
@@ -13,20 +13,31 @@ use lib.IntN.{ℤ}
 use lib.ListN.{length}
 use Rattle.lists.specs.Lists.{any, All, nil, cons}
 use Rattle.lists.proofs.Bools.{and_left, and_right, not-false, clash}
-use Rattle.lists.proofs.Lists.{All-head, All-tail}
+use Rattle.lists.proofs.Lists.{All-head, All-tail, All-map}
 use Rattle.meaning.specs.Tokens.{tokens}
-use Rattle.meaning.specs.Grammar.{Sentence, sentence}
+use Rattle.meaning.specs.Grammar.{Sentence}
+use Rattle.meaning.specs.Reader.{sentence}
 use Rattle.meaning.specs.Key.{Key}
 use Rattle.meaning.specs.Limits.{most_text}
-use Rattle.meaning.specs.Plain.{Lengths, Plain, query_at, update_at, Call, add, ask, change, flush, other_lengths, full, add_conditions, ask_conditions, change_conditions, conditions, or_else, lowest_of, refusal, refused, added_text, does, guard}
-use Rattle.meaning.specs.Demand.{rank, LowestNumber, RefusedChangesNothing, ReadsExactly, OneSentence, Acceptable, AcceptedExactlyIf, AcceptedIsAdded}
+use Rattle.meaning.specs.Plain.{Lengths, Plain, query_at, update_at, other_lengths, catalog_of, full, ask_conditions, change_conditions, conditions, refusal, refused, text_added, does, guard}
+use Rattle.meaning.specs.Refusals.{Conditions, order, or_else, lowest_of, add_conditions, applies, Lowest}
+use Rattle.meaning.specs.Call.{Call, add, ask, change, flush}
+use Rattle.meaning.specs.Demand.{LowestNumber, RefusedChangesNothing, ReadsExactly, OneSentence, Acceptable, AcceptedExactlyIf, AcceptedIsAdded}
 use Rattle.meaning.proofs.Decides.{decides, unique}
 
 -- ---- the lowest number that applies, in any list of numbers and conditions
 
--- the condition of the number n holds
-abbrev pub applies_in : List (ℕ × Bool) → ℕ → Bool
-applies_in cs n = any (λ (x : ℕ × Bool). eqb x.0 n && x.1) cs
+-- the place of a number in the order in which they are looked for, counted from 1; 0 where it is none of them
+abbrev later_place : ℕ → ℕ
+later_place zero = zero
+later_place (suc k) = suc (suc k)
+
+abbrev place_in : List ℕ → ℕ → ℕ
+place_in [] n = 0
+place_in (m ∷ ms) n = cond (eqb m n) 1 (later_place (place_in ms n))
+
+abbrev pub rank : ℕ → ℕ
+rank n = place_in order n
 
 -- the numbers stand in their order, all behind k
 abbrev pub ascends : ℕ → List (ℕ × Bool) → Bool
@@ -44,19 +55,19 @@ behind : (n m : ℕ) → rank m < rank n → n ≡ m → ⊥
 behind n m h e = let d : rank n ≡ rank m = ap rank e in let z : ⊥ = absurd (omega (arith, d, h)) in z
 
 -- no number up to k applies
-none_below : (k : ℕ) (cs : List (ℕ × Bool)) → ascends k cs ≡ true → (m : ℕ) → rank m ≤ k → applies_in cs m ≡ false
+none_below : (k : ℕ) (cs : List (ℕ × Bool)) → ascends k cs ≡ true → (m : ℕ) → rank m ≤ k → applies cs m ≡ false
 none_below k [] a m h = refl
 none_below k (c ∷ cs) a m h =
     let up : k < rank c.0 = above k c cs a in
     rw (ne_eqb c.0 m (λ e. behind c.0 m (omega (arith, up, h)) e)) (none_below (rank c.0) cs (later k c cs a) m (omega (arith, up, h)))
 
 pub record LowestIn (cs : List (ℕ × Bool)) (n : ℕ) : Type 0 where
-  pub given : n ≢ 0 → applies_in cs n ≡ true
-  pub lower : (m : ℕ) → rank m < rank n → applies_in cs m ≡ false
-  pub only : n ≡ 0 → (m : ℕ) → applies_in cs m ≡ false
+  pub given : n ≢ 0 → applies cs n ≡ true
+  pub lower : (m : ℕ) → rank m < rank n → applies cs m ≡ false
+  pub only : n ≡ 0 → (m : ℕ) → applies cs m ≡ false
 
-passed-by : (c : ℕ × Bool) (cs : List (ℕ × Bool)) → c.1 ≡ false → (m : ℕ) → applies_in (c ∷ cs) m ≡ applies_in cs m
-passed-by c cs e m = ap (λ b. (eqb c.0 m && b) || applies_in cs m) e ∙ ap (λ b. b || applies_in cs m) (and-false (eqb c.0 m))
+passed-by : (c : ℕ × Bool) (cs : List (ℕ × Bool)) → c.1 ≡ false → (m : ℕ) → applies (c ∷ cs) m ≡ applies cs m
+passed-by c cs e m = ap (λ b. (eqb c.0 m && b) || applies cs m) e ∙ ap (λ b. b || applies cs m) (and-false (eqb c.0 m))
 
 -- of numbers that ascend from above 0, the first whose condition holds is the lowest that applies
 pub lowest-in : (k : ℕ) (cs : List (ℕ × Bool)) → ascends k cs ≡ true → LowestIn cs (lowest_of cs)
@@ -66,7 +77,7 @@ lowest-in k (c ∷ cs) a = go c.1 refl (lowest-in (rank c.0) cs (later k c cs a)
     up : k < rank c.0
     up = above k c cs a
 
-    below : (m : ℕ) → rank m < rank c.0 → applies_in (c ∷ cs) m ≡ false
+    below : (m : ℕ) → rank m < rank c.0 → applies (c ∷ cs) m ≡ false
     below m h = rw (ne_eqb c.0 m (behind c.0 m h)) (none_below (rank c.0) cs (later k c cs a) m (omega (arith, h)))
 
     go : (b : Bool) → c.1 ≡ b → LowestIn cs (lowest_of cs) → LowestIn (c ∷ cs) (or_else b c.0 (lowest_of cs))
@@ -81,6 +92,50 @@ lowest-in k (c ∷ cs) a = go c.1 refl (lowest-in (rank c.0) cs (later k c cs a)
       only = λ q m. passed-by c cs e m ∙ ih.only q m;
     }
 
+later-placed : (k : ℕ) → 0 < later_place k → 0 < k
+later-placed zero h = h
+later-placed (suc k) h = omega arith
+
+-- a number with a place is in the list
+place-listed : (ms : List ℕ) (n : ℕ) → 0 < place_in ms n → any (eqb n) ms ≡ true
+place-listed [] n h = absurd (omega (arith, h))
+place-listed (m ∷ ms) n h = go (eqb m n) refl h (place-listed ms n)
+  where
+    go : (b : Bool) → eqb m n ≡ b → 0 < cond b 1 (later_place (place_in ms n)) → (0 < place_in ms n → any (eqb n) ms ≡ true) → any (eqb n) (m ∷ ms) ≡ true
+    go true e h ih = rw (eq-eqb n m (sym (eqb-true m n e)))
+    go false e h ih = rw (ih (later-placed (place_in ms n) h), or-true (eqb n m))
+
+-- the ranks of a list of numbers climb, all above k
+abbrev climbs : ℕ → List ℕ → Bool
+climbs k [] = true
+climbs k (m ∷ ms) = ltb k (rank m) && climbs (rank m) ms
+
+-- so those before a number have smaller ranks
+climbs-before : (k : ℕ) (before : List ℕ) (n : ℕ) (behind : List ℕ) → climbs k (before ++ n ∷ behind) ≡ true → (k < rank n) × All (λ (m : ℕ). rank m < rank n) before
+climbs-before k [] n behind h = (ltb-true k (rank n) (and_left (ltb k (rank n)) (climbs (rank n) behind) h), nil)
+climbs-before k (m ∷ ms) n behind h =
+    let up : k < rank m = ltb-true k (rank m) (and_left (ltb k (rank m)) (climbs (rank m) (ms ++ n ∷ behind)) h) in
+    let r = climbs-before (rank m) ms n behind (and_right (ltb k (rank m)) (climbs (rank m) (ms ++ n ∷ behind)) h) in
+    (omega (arith, up, r.0), cons r.0 r.1)
+
+-- of numbers that ascend the lowest that applies is given
+pub lowest-of : (cs : Conditions) → ascends 0 cs ≡ true → Lowest cs (lowest_of cs)
+lowest-of cs a =
+    let l : LowestIn cs (lowest_of cs) = lowest-in 0 cs a in
+    record {
+      listed = listed;
+      given = l.given;
+      lower = λ before behind e. All-map l.lower (climbs-before 0 before (lowest_of cs) behind (subst (λ (ms : List ℕ). climbs 0 ms ≡ true) e refl)).1;
+      only = l.only;
+    }
+  where
+    listed : (m : ℕ) → applies cs m ≡ true → any (eqb m) order ≡ true
+    listed m h = go (ltb 0 (rank m)) refl
+      where
+        go : (b : Bool) → ltb 0 (rank m) ≡ b → any (eqb m) order ≡ true
+        go true e = place-listed order m (ltb-true 0 (rank m) e)
+        go false e = clash h (none_below 0 cs a m (ltb-false 0 (rank m) e))
+
 -- 0 is given exactly if no condition holds
 pub clear : (k : ℕ) (cs : List (ℕ × Bool)) → ascends k cs ≡ true → (lowest_of cs ≡ 0) ↔ All (λ c. c.1 ≡ false) cs
 clear k [] a = ((λ e. nil), (λ h. refl))
@@ -94,7 +149,7 @@ clear k (c ∷ cs) a = go c.1 refl (clear (rank c.0) cs (later k c cs a))
     go false e ih = ((λ q. cons e (ih.0 q)), (λ h. ih.1 (All-tail h)))
 
 -- the numbers of a call ascend
-ascending : (lent : Lengths) (p : Plain) (c : Call) → ascends 0 (conditions lent p c) ≡ true
+ascending : (lent : Lengths) (p : Plain) (c : Call ℕ) → ascends 0 (conditions lent p c) ≡ true
 ascending lent p (add text) = refl
 ascending lent p (ask k buffer) = refl
 ascending lent p (change n us) = refl
@@ -105,9 +160,7 @@ ascending lent p flush = refl
 -- the lowest number that applies is given, and only then
 pub lowest_number : LowestNumber
 unfolding refusal
-lowest_number lent p c =
-    let l = lowest-in 0 (conditions lent p c) (ascending lent p c) in
-    record { given = l.given; lower = l.lower; only = l.only }
+lowest_number lent p c = lowest-of (conditions lent p c) (ascending lent p c)
 
 module _ {S O : Type 0} (s : S) (f : ℕ → O) (done : S × O) where
   pub guard-refused : (n : ℕ) → n ≢ 0 → guard n s f done ≡ (s, f n)
@@ -132,7 +185,7 @@ pub one_sentence : OneSentence
 one_sentence s t e = unique s t e
 
 module _ (lent : Lengths) (p : Plain) (text : List ℕ) where
-  acceptable-of : (o : Option Sentence) → sentence text ≡ o → All (λ c. c.1 ≡ false) (add_conditions lent p text o) → (s : Sentence) × Acceptable lent p text s
+  acceptable-of : (o : Option Sentence) → sentence text ≡ o → All (λ c. c.1 ≡ false) (add_conditions (other_lengths lent p) (catalog_of p) text o) → (s : Sentence) × Acceptable lent p text s
   acceptable-of none e h = clash refl (All-head (All-tail (All-tail h)))
   acceptable-of (some s) e h =
       let h₃ = All-tail h in
@@ -154,7 +207,7 @@ module _ (lent : Lengths) (p : Plain) (text : List ℕ) where
         },
       )
 
-  none-holds : (s : Sentence) → Acceptable lent p text s → All (λ c. c.1 ≡ false) (add_conditions lent p text (some s))
+  none-holds : (s : Sentence) → Acceptable lent p text s → All (λ c. c.1 ≡ false) (add_conditions (other_lengths lent p) (catalog_of p) text (some s))
   none-holds s h =
       cons h.lengths (cons (le-ltb most_text (length text) h.short) (cons refl (cons h.within
       (cons h.known (cons h.fresh (cons h.counted (cons h.different (cons h.place nil))))))))
@@ -166,7 +219,7 @@ module _ (lent : Lengths) (p : Plain) (text : List ℕ) where
   unfolding refusal
   not-refused s h =
       (clear 0 (conditions lent p (add text)) (ascending lent p (add text))).1
-      (subst (λ o. All (λ c. c.1 ≡ false) (add_conditions lent p text o)) (sym (its-sentence s h)) (none-holds s h))
+      (subst (λ o. All (λ c. c.1 ≡ false) (add_conditions (other_lengths lent p) (catalog_of p) text o)) (sym (its-sentence s h)) (none-holds s h))
 
 -- a text is accepted exactly if no condition holds
 pub accepted_exactly_if : AcceptedExactlyIf
@@ -178,10 +231,10 @@ accepted_exactly_if lent p text = (
 
 -- and then its statement is added
 pub accepted_is_added : AcceptedIsAdded
-unfolding added_text
+unfolding text_added
 accepted_is_added lent p text s h =
     guard-done p refused (does p (add text)) (refusal lent p (add text)) (not-refused lent p text s h)
-    ∙ ap (added_text p) (its-sentence lent p text s h)
+    ∙ ap (text_added p) (its-sentence lent p text s h)
 
 -- ---- what a call that is not refused tells
 

@@ -13,7 +13,7 @@ use Rattle.lists.proofs.Places.{flat_append}
 use Rattle.lists.proofs.Written.{length-written, written-there, written-before, written_after}
 use Rattle.meaning.specs.Names.{Schema, no_schema}
 use Rattle.meaning.specs.Meaning.{Row}
-use Rattle.meaning.specs.Cells.{area_size, areas_size, area_start, area_of, rows_in, stored, with_area}
+use Rattle.meaning.specs.Cells.{area_size, areas_size, area_of, rows_in, stored, with_area}
 
 -- ---- an area
 
@@ -133,6 +133,10 @@ module _ (start size : ℕ) (cells : List ℤ) (room : start + size ≤ length c
         ap (λ (x : List ℤ). take l (drop a x)) put_is ∙ ap (take l) (written_after cells start area fits a k)
 
 -- ---- the areas of tables follow one another
+
+-- where the area of table i starts
+abbrev pub area_start : List Schema → ℕ → ℕ
+area_start ts i = areas_size (take i ts)
 
 pub area-inside : (ts : List Schema) (i : ℕ) → i < length ts → area_start ts i + area_size (get_or ts i no_schema) ≤ areas_size ts
 area-inside [] i h = absurd (omega arith)

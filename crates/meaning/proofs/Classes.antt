@@ -17,9 +17,10 @@ use Rattle.lists.proofs.Bools.{clash, true→T, eq_z-same, eq_z-true, yes_of}
 use Rattle.lists.proofs.Lists.{All-head, All-tail, All-map, All-every, All-kept, all_true, any_none}
 use Rattle.lists.proofs.Changed.{member-has, members-have, map-from}
 use Rattle.meaning.specs.Operator.{Operator, eq, ne, lt, le, gt, ge, related, is_null, known, unknown, is_true, Predicate, by, is-null, is-not-null, truth}
-use Rattle.meaning.specs.Condition.{Comparison, sides, holds, meets}
+use Rattle.meaning.specs.Condition.{Comparison, sides, holds}
 use Rattle.meaning.specs.Meaning.{Row, cell, value_at}
 use Rattle.meaning.specs.Pattern.{Joint, Joint-discrete, column, constant, asked, given, Clause, same, rename, join, labels_on, label, class, constants, update_marks, differ, strict, never_of, false_of, broken, contradictory, Entry, lowest, class_entry, entry, pattern, agrees_at, agrees}
+use Rattle.meaning.proofs.Clauses.{meets}
 
 -- ---- the labels
 

@@ -7,15 +7,23 @@ use native.Mathlib.Omega.{arith}
 use lib.IntN.{ℤ}
 use lib.Signed.{lt_z}
 use lib.ListN.{length, length-append}
-use Rattle.lists.specs.Lists.{any, pairs}
+use Rattle.lists.specs.Lists.{any, all, pairs}
 use Rattle.lists.specs.Tests.{eq_z}
 use Rattle.lists.proofs.Bools.{not-not, le_z-not}
 use Rattle.lists.proofs.Lists.{any_append, any-pairs, length_pairs, map-append}
 use Rattle.lists.proofs.Changed.{pairs-map}
 use Rattle.meaning.specs.Operator.{Operator, eq, ne, lt, le, gt, ge, related, complement, is_null, Truth, known, unknown, not₃, and₃, or₃, is_true, Predicate, by, is-null, is-not-null, compared, opposite}
-use Rattle.meaning.specs.Condition.{Comparison, Level, Condition, compare, negate, group, alone, both, single, either, Where, always, under, comparisons, sides, operands_in, depth, holds, eval, eval_where, meets, opposed, clauses, clauses_of, clause_count, count_of, renamed, replaced, replaced_in}
+use Rattle.meaning.specs.Condition.{Comparison, Level, Condition, compare, negate, group, alone, both, single, either, Where, always, under, comparisons, sides, operands_in, depth, holds, eval, eval_where, opposed, clauses, clauses_of, clause_count, count_of, mapped, renamed, replaced_in}
 use Rattle.meaning.specs.Statement.{Operand, Query, Change, insert, delete, update}
 use Rattle.meaning.specs.Pattern.{Joint, column, of_query, of_update, moved, placed_from, replacing, query_clauses, update_clauses, both_clauses, joint_clauses, joint_count}
+
+-- a clause holds where all of its comparisons do
+abbrev pub meets : {O : Type 0} → (O → ℤ) → List (Comparison O) → Bool
+meets v = all (holds v)
+
+-- a condition with each operand replaced
+abbrev pub replaced : {O P : Type 0} {l : Level} → (O → P) → Condition O l → Condition P l
+replaced f = mapped (renamed f)
 
 -- ---- the table of opposites
 

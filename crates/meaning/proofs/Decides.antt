@@ -15,7 +15,8 @@ use Rattle.meaning.specs.Operator.{Operator}
 use Rattle.meaning.specs.Condition.{Level, atom, conjunction, disjunction, Tree, compare, negate, group, alone, both, single, either, Optional, always, under}
 use Rattle.meaning.specs.Tokens as T
 use Rattle.meaning.specs.Tokens.{Name, Token, keyword, name, operator, comma, lparen, rparen, dot, other, TABLE, SELECT, FROM, WHERE, INSERT, INTO, VALUES, UPDATE, SET, DELETE, AND, OR, NOT, IS, NULL}
-use Rattle.meaning.specs.Grammar.{Given, constant, mark, Term, column, given, Test, compares, tests_null, tests-not-null, Listed, last, next, Sentence, table, select, insert, update, delete, given_token, spell_name, spell_given, spell_setting, spell_list, spell_test, spell_condition, spell_where, size_word, spell, Reader, then, ◌>>=◌, ◌>>◌, done, passing, expect, name_of, constant_of, operator_of, a_name, a_given, a_term, a_dotted, comma_second, is_paired, a_single, a_pair, spell_dotted, spell_term, pair, a_setting, a_list, a_null, a_rest, behind, a_comparison, a_condition, a_where, a_size_word, a_sentence, whole, read}
+use Rattle.meaning.specs.Grammar.{Given, constant, mark, Term, column, given, Test, compares, tests_null, tests-not-null, Listed, last, next, Sentence, table, select, insert, update, delete, given_token, spell_name, spell_given, spell_setting, spell_list, spell_test, spell_condition, spell_where, size_word, spell, spell_dotted, spell_term, pair}
+use Rattle.meaning.specs.Reader.{Reader, then, ◌>>=◌, ◌>>◌, done, passing, expect, name_of, constant_of, operator_of, a_name, a_given, a_term, a_dotted, comma_second, is_paired, a_single, a_pair, a_setting, a_list, a_null, a_rest, a_test, a_comparison, a_condition, a_where, a_size_word, a_sentence, whole, read}
 use Rattle.meaning.proofs.Readers.{some-none, some_same, either_first, either_second, tested-sound, passing-stops, begins, then_some, Sound, sound-read, fails-sound, done-sound, passing-sound, either-sound, bind-sound, made-sound, a_token-sound, expect-sound}
 
 -- ---- soundness
@@ -86,7 +87,7 @@ module _ {C : Type 0} {col : C → List Token → List Token} {a_column : Reader
   rest-sound : (a : Term C) → Sound (spell_term col a) (spell_test col) (a_rest a_column a)
   rest-sound a = bind-sound (a_token-sound operator_of operator operator-is) (λ o. bind-sound (term-sound s) (λ b. done-sound (compares a o b) (λ ts. refl)))
 
-  behind-sound : (a : Term C) → Sound (spell_term col a) (spell_test col) (behind a_column a)
+  behind-sound : (a : Term C) → Sound (spell_term col a) (spell_test col) (a_test a_column a)
   behind-sound (column c) = passing-sound (null-sound c) (rest-sound (column c))
   behind-sound (given v) = rest-sound (given v)
 
@@ -271,7 +272,7 @@ module _ {C : Type 0} {col : C → List Token → List Token} {a_column : Reader
   spell-first (tests_null c) more = refl
   spell-first (tests-not-null c) more = refl
 
-  rest-complete : (c : Test C) (more : List Token) → behind a_column (first_term c) (spell_rest c more) ≡ some (c, more)
+  rest-complete : (c : Test C) (more : List Token) → a_test a_column (first_term c) (spell_rest c more) ≡ some (c, more)
   rest-complete (compares (column n) o b) more = then_some _ (term-complete b more)
   rest-complete (compares (given v) o b) more = then_some _ (term-complete b more)
   rest-complete (tests_null c) more = refl

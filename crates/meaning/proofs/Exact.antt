@@ -26,7 +26,7 @@ use Rattle.meaning.specs.Statement.{Value, Operand, value, Second, Query, Change
 use Rattle.meaning.specs.Meaning.{Row, cell, value_of, operand_value, meets_where, takes, new_row, assigned}
 use Rattle.meaning.specs.Pattern.{Side, first, second_side, side_of, is_side, differs, matters_in, matters}
 use Rattle.meaning.specs.Exact.{is_column, compares_columns, with_columns, comparisons_of, is_single, is_separate, IsRow, Affected, numbers_in, change_numbers, critical, rows_from, affects}
-use Rattle.meaning.specs.Demand.{Is32}
+use Rattle.meaning.specs.Call.{Is32}
 
 -- ---- order
 

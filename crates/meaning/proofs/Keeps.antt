@@ -14,7 +14,8 @@ use lib.Seq.{get_or-set_same, get_or-set_other}
 use Rattle.lists.specs.Lists.{All, nil, cons, pairs}
 use Rattle.lists.proofs.Lists.{All-head, All-tail, All-map, All-both, All-every}
 use Rattle.lists.proofs.Places.{All-at}
-use Rattle.meaning.specs.Grammar.{Sentence, sentence}
+use Rattle.meaning.specs.Grammar.{Sentence}
+use Rattle.meaning.specs.Reader.{sentence}
 use Rattle.meaning.specs.Names.{Schema}
 use Rattle.meaning.specs.Condition.{operands_in}
 use Rattle.meaning.specs.Statement as S
@@ -23,7 +24,9 @@ use Rattle.meaning.specs.Meaning.{Row, answer, changed}
 use Rattle.meaning.specs.Limits.{most_listed}
 use Rattle.meaning.specs.Record.{encode}
 use Rattle.meaning.specs.Key.{Key}
-use Rattle.meaning.specs.Plain.{Lengths, Table, Plain, schemas, no_table, no_query, no_update, table_at, rows_over, rows_for, query_at, update_at, record_of, too_many, pushed, remaining, drops_key, add, change, other_lengths, ask_conditions, lowest_of, refusal, adding, added_text, changed_by, does}
+use Rattle.meaning.specs.Plain.{Lengths, Table, Plain, schemas, no_table, no_query, no_update, table_at, rows_over, rows_for, query_at, update_at, record_of, too_many, pushed, remaining, drops_key, other_lengths, ask_conditions, refusal, adding, text_added, changed_by, does}
+use Rattle.meaning.specs.Refusals.{lowest_of}
+use Rattle.meaning.specs.Call.{add, change}
 use Rattle.meaning.specs.Pattern.{Side, neither, first, second, second_side, side_of, is_side, start_of, second_start}
 use Rattle.meaning.specs.Exact.{IsRow}
 use Rattle.meaning.specs.Demand.{Acceptable, IsColumn, ChangesWithin, StandsBeside, rows_beside, StaysUndropped}
@@ -89,10 +92,10 @@ adding-keeps lent p k A (changes u) =
 -- a text that is added leaves every question that could be asked, and its record
 pub add_keeps : (lent : Lengths) (p : Plain) (text : List ℕ) (k : Key) → lowest_of (ask_conditions lent p k) ≡ 0 → refusal lent p (add text) ≡ 0
     → (lowest_of (ask_conditions lent (does p (add text)).0 k) ≡ 0) × SameAnswer (does p (add text)).0 p k
-unfolding added_text
+unfolding text_added
 add_keeps lent p text k a h =
     let T : (s : Sentence) × (sentence text ≡ some s) × Acceptable lent p text s = text-taken lent p text h in
-    subst (λ (o : Option Sentence). Keeps lent p k (added_text p o).0) (sym T.1) (adding-keeps lent p k (key-asked lent p k a) (statement_of (schemas p) T.0))
+    subst (λ (o : Option Sentence). Keeps lent p k (text_added p o).0) (sym T.1) (adding-keeps lent p k (key-asked lent p k a) (statement_of (schemas p) T.0))
 
 -- ---- an update
 

@@ -17,8 +17,8 @@ use Rattle.meaning.specs.Condition.{comparisons_in, depth_in}
 use Rattle.meaning.specs.Tokens.{Name}
 use Rattle.meaning.specs.Grammar as G
 use Rattle.meaning.specs.Grammar.{Given, items, Dotted, Sentence}
-use Rattle.meaning.specs.Limits.{most_rows, most_name, rows_of, where_of, all_names, givens, mark_count, many_items, rows_outside, many_marks, many_comparisons, deep, long_name, is_within32, outside32, past_limit}
-use Rattle.meaning.specs.Demand.{Between, list_lengths, RowsWithin, ConstantWithin, GivenWithin, WithinLimits, WithinExactlyIf}
+use Rattle.meaning.specs.Limits.{most_rows, most_name, rows_of, where_of, all_names, givens, mark_count, many_items, rows_outside, many_marks, many_comparisons, deep, long_name, is_within32, outside32, past_limit, Between, list_lengths, RowsWithin, ConstantWithin, GivenWithin, WithinLimits}
+use Rattle.meaning.specs.Demand.{WithinExactlyIf}
 use Rattle.meaning.proofs.Resolved.{items-some}
 
 or-none : (a b : Bool) → a ≡ false → b ≡ false → (a || b) ≡ false

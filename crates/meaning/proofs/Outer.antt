@@ -15,8 +15,7 @@ use Rattle.meaning.specs.Operator.{is_true, truth}
 use Rattle.meaning.specs.Condition.{Comparison, Level, atom, conjunction, disjunction, Tree, Condition, compare, negate, group, alone, both, single, either, Optional, Where, always, under, comparisons, comparisons_in, outer, outer_in, depth, depth_in, holds, eval, eval_where, mapped, mapped_in}
 use Rattle.meaning.specs.Postfix.{Node, leaf, all_of, any_of, signed, nodes, nodes_in, leaves, balanced_on, is_postfix, size, outer_marks, outer_marks_in, marked, within, chained}
 use Rattle.meaning.specs.Grammar.{Term}
-use Rattle.meaning.specs.Resolve.{is_below}
-use Rattle.meaning.specs.Statement.{Operand, column, value, Second, Query, resolved, resolved_where}
+use Rattle.meaning.specs.Statement.{is_below, Operand, column, value, Second, Query, resolved, resolved_where}
 use Rattle.meaning.specs.Meaning.{Row, operand_value, takes, answer}
 use Rattle.meaning.specs.Plain.{of_first, passes_first}
 use Rattle.meaning.specs.Demand.{NoPairListed}

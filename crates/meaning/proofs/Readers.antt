@@ -11,7 +11,7 @@ use Rattle.lists.specs.Tests.{dec_bytes, dec_z}
 use Rattle.lists.proofs.Bools.{yes_of, is-yes, is-no}
 use Rattle.meaning.specs.Operator.{Operator-discrete}
 use Rattle.meaning.specs.Tokens.{Token, Token-discrete, Keyword-discrete, same_token}
-use Rattle.meaning.specs.Grammar.{Reader, then, ◌>>=◌, ◌>>◌, done, fails, passing, either_of, a_token, expect}
+use Rattle.meaning.specs.Reader.{Reader, then, ◌>>=◌, ◌>>◌, done, fails, passing, either_of, a_token, expect}
 
 -- ---- equality of tokens
 

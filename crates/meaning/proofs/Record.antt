@@ -17,9 +17,9 @@ use Rattle.lists.proofs.Lists.{All-append, All-head, All-tail, All-map}
 use Rattle.lists.proofs.Places.{All-at, flat-length}
 use Rattle.meaning.specs.Limits.{most_items, most_listed, is_within32}
 use Rattle.meaning.specs.Meaning.{Row}
-use Rattle.meaning.specs.Record.{bits_of, bytes4, bytes2, number_bytes, body, encode, four_at, row_count, row_bytes, is_record, has_row, row_part, number_of, numbers_of}
+use Rattle.meaning.specs.Record.{bits_of, bytes4, bytes2, number_bytes, body, encode, four_at, row_count, row_bytes, is_record, has_row, row_part, signed_of, numbers_of, ReadsBack}
 use Rattle.meaning.specs.Exact.{IsRow}
-use Rattle.meaning.specs.Demand.{ReadsBack, RecordReadsBack}
+use Rattle.meaning.specs.Demand.{RecordReadsBack}
 
 -- ---- numbers
 
@@ -33,7 +33,7 @@ within_low n h =
     let k : n ≤ 2147483647 = leb-true n 2147483647 (and_left (le_z (neg_ℤ (pos 2147483648)) (negsuc n)) (le_z (negsuc n) (pos 2147483647)) h) in
     omega arith
 
-bits_back : (z : ℤ) → is_within32 z ≡ true → number_of (bits_of z) ≡ z
+bits_back : (z : ℤ) → is_within32 z ≡ true → signed_of (bits_of z) ≡ z
 bits_back (pos n) h = ap (λ (b : Bool). cond b (pos n) (negsuc (2 ^ 32 - suc n))) (lt-ltb n (2 ^ 31) (within-high n h))
 bits_back (negsuc n) h =
     let k : n < 2 ^ 31 = within_low n h in
@@ -63,7 +63,7 @@ pub numbers-back : (zs : List ℤ) → All (λ z. is_within32 z ≡ true) zs →
 numbers-back [] h = refl
 numbers-back (z ∷ zs) h =
     ap₂ (λ (x : ℤ) (xs : List ℤ). x ∷ xs)
-    (ap number_of (four-back (bits_of z) (bits_small z (All-head h))) ∙ bits_back z (All-head h))
+    (ap signed_of (four-back (bits_of z) (bits_small z (All-head h))) ∙ bits_back z (All-head h))
     (numbers-back zs (All-tail h))
 
 -- ---- lengths

@@ -24,13 +24,40 @@ use Rattle.meaning.specs.Grammar as G
 use Rattle.meaning.specs.Grammar.{mark, Term, given, Test, comparison, Dotted}
 use Rattle.meaning.specs.Limits.{term_givens, term_columns, mark_count, is_within32, outside32}
 use Rattle.meaning.specs.Names.{same_name, has, position, is_of, pair_place}
-use Rattle.meaning.specs.Statement.{Operand, column, value, constant, parameter, mark_in_term, operand_of, comparison_of, resolved, resolved_where}
-use Rattle.meaning.specs.Resolve.{marks_past, marks_after, resolve_nodes, term_constants, operand_constants, mark_in_operand, parameter_count, is_numbered, numbered_on, numbered_from, is_below, columns_below, is_test_by, is_test, are_tests}
+use Rattle.meaning.specs.Statement.{Operand, column, value, constant, parameter, mark_in_term, operand_of, comparison_of, resolved, resolved_where, is_below}
+use Rattle.meaning.specs.Resolve.{mark_in_operand, parameter_count, is_numbered, numbered_on, numbered_from, columns_below, is_test_by, is_test}
+use Rattle.meaning.specs.Private.Walk.{marks_past, resolve_nodes}
 use Rattle.meaning.proofs.Names.{same-is, has-position}
 use Rattle.meaning.proofs.Dotted.{pair_inside}
 use Rattle.meaning.proofs.Postfix.{sides-nodes, sides-in, leaves_in, postfix-where}
 use Rattle.meaning.proofs.Outer.{where-marked, marks-mapped}
 use Rattle.meaning.proofs.Written.{IsTest, Fits, written, nodes-back, nodes-tests}
+
+-- ---- what is in a condition in postfix order
+
+-- the marks that stand before what follows the nodes
+abbrev pub marks_after : {C : Type 0} → ℕ → List (Node (Term C)) → ℕ
+marks_after m [] = m
+marks_after m (leaf c ∷ ns) = marks_after (marks_past m c) ns
+marks_after m (all_of ∷ ns) = marks_after m ns
+marks_after m (any_of ∷ ns) = marks_after m ns
+
+-- the constants
+abbrev pub term_constants : {C : Type 0} → List (Term C) → List ℤ
+term_constants [] = []
+term_constants (G.column n ∷ ts) = term_constants ts
+term_constants (given (G.constant z) ∷ ts) = z ∷ term_constants ts
+term_constants (given mark ∷ ts) = term_constants ts
+
+abbrev pub operand_constants : List Operand → List ℤ
+operand_constants [] = []
+operand_constants (column i ∷ os) = operand_constants os
+operand_constants (value (constant z) ∷ os) = z ∷ operand_constants os
+operand_constants (value (parameter k) ∷ os) = operand_constants os
+
+-- A.5: the null tests are of columns
+abbrev pub are_tests : List (Node Operand) → Bool
+are_tests ns = all is_test (leaves ns)
 
 -- ---- the marks passed
 

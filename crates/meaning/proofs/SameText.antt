@@ -13,9 +13,11 @@ use lib.ListN.{length, length-map, drop}
 use Rattle.lists.specs.Lists.{bytes, all, take_while, drop_while}
 use Rattle.lists.proofs.Bools.{and_left, and_right}
 use Rattle.meaning.specs.Tokens.{Keyword, Token, other, is_digit, is_capital, is_word_byte, is_space, is_minus, folded_byte, folded, negative, signs, behind_prefix, sign_in, token_from, token_here, first_token, scan, tokens}
-use Rattle.meaning.specs.Grammar.{Sentence, read, sentence}
+use Rattle.meaning.specs.Grammar.{Sentence}
+use Rattle.meaning.specs.Reader.{read, sentence}
 use Rattle.meaning.specs.Limits.{most_text}
-use Rattle.meaning.specs.Plain.{other_lengths, add_conditions, lowest_of, refusal, refused, added_text, guard}
+use Rattle.meaning.specs.Plain.{other_lengths, catalog_of, refusal, refused, text_added, guard}
+use Rattle.meaning.specs.Refusals.{add_conditions, text_conditions, lowest_of}
 use Rattle.meaning.specs.Demand.{keyword_of, SameTokens, SameText}
 use Rattle.meaning.proofs.Folding.{Capital, capital, no-capital, digit-folded, word-folded, all-folded, digits_same, chosen, chosen-same, word-chosen}
 use Rattle.meaning.proofs.Stream.{from-word, from-minus, from-sign, sign-here, sign-later, scan-none, scan-some}
@@ -25,8 +27,8 @@ use Rattle.meaning.proofs.Stream.{from-word, from-minus, from-sign, sign-here, s
 pub same_tokens : SameTokens
 unfolding refusal
 same_tokens lent p text text' l e =
-    ap (λ (s : Option Sentence). guard (lowest_of (add_conditions lent p text s)) p refused (added_text p s)) (ap read e)
-    ∙ ap (λ (n : ℕ). guard (lowest_of ((2, other_lengths lent p) ∷ (3, ltb most_text n) ∷ drop 2 (add_conditions lent p text (sentence text')))) p refused (added_text p (sentence text'))) l
+    ap (λ (s : Option Sentence). guard (lowest_of (add_conditions (other_lengths lent p) (catalog_of p) text s)) p refused (text_added p s)) (ap read e)
+    ∙ ap (λ (n : ℕ). guard (lowest_of ((2, other_lengths lent p) ∷ (3, ltb most_text n) ∷ drop 1 (text_conditions (catalog_of p) text (sentence text')))) p refused (text_added p (sentence text'))) l
 
 -- ---- bytes and runs of bytes in small letters
 

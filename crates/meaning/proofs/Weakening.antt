@@ -17,13 +17,13 @@ use Rattle.lists.proofs.Bools.{and-or, and_left, and_right, and_both, or_left, o
 use Rattle.lists.proofs.Lists.{All-head, All-tail, All-map, All-every, All-both, All-left, All-right, All-source, any_append, any_false, any-flat-map, any-implies, any-keep, any-map, any-pairs, keep_append, keep-no, map-append, map_same}
 use Rattle.lists.proofs.Changed.{eq_list-true, any-distinct}
 use Rattle.meaning.specs.Operator.{not₃, and₃, or₃, is_true, compared}
-use Rattle.meaning.specs.Condition.{Comparison, Level, Condition, compare, negate, group, alone, both, single, either, Where, always, under, comparisons, operands_in, sides, holds, eval, eval_where, meets, clauses_of, replaced_in}
+use Rattle.meaning.specs.Condition.{Comparison, Level, Condition, compare, negate, group, alone, both, single, either, Where, always, under, comparisons, operands_in, sides, holds, eval, eval_where, clauses_of, replaced_in}
 use Rattle.meaning.specs.Statement as S
 use Rattle.meaning.specs.Statement.{Value, parameter, Operand, value, Second, Query, Change, insert, delete, update, Update}
 use Rattle.meaning.specs.Meaning.{Row, cell, value_of, operand_value, meets_where, takes, selected, answer, new_row, assigned, changed}
 use Rattle.meaning.specs.Pattern.{differs, Side, neither, first, second, side_of, beside, matters_in, is_side, same_table, matters, second_start, start_of, operand_columns, columns_used, moved, touches, Joint, column, of_value, of_update, of_query, set_column, placed_from, replacing, Clause, query_clauses, update_clauses, both_clauses, joint_clauses, joint_count, most_clauses, contradictory, Entry-discrete, anything, same_entry, Pattern, pattern, clause_patterns, chosen, patterns, agrees, matches, removal, judged, matches_two}
 use Rattle.meaning.specs.Demand.{IsColumn, ChangesWithin, StandsBeside, PatternsWeaken, PushedWeakens, rows_beside, AnswerStays}
-use Rattle.meaning.proofs.Clauses.{clauses_of-mean, eval_where-replaced}
+use Rattle.meaning.proofs.Clauses.{meets, clauses_of-mean, eval_where-replaced}
 use Rattle.meaning.proofs.Classes.{joint_value, not-contradictory, pattern-agrees}
 
 -- ---- patterns and clauses

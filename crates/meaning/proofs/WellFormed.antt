@@ -19,13 +19,16 @@ use Rattle.lists.proofs.Places.{All-at, All-set, length-keep}
 use Rattle.meaning.specs.Condition.{Where, always, operands_in, mapped_in}
 use Rattle.meaning.specs.Tokens.{Name}
 use Rattle.meaning.specs.Grammar as G
-use Rattle.meaning.specs.Grammar.{Given, Term, comparison, items, Dotted, Sentence, sentence}
+use Rattle.meaning.specs.Grammar.{Given, Term, comparison, items, Dotted, Sentence}
+use Rattle.meaning.specs.Reader.{sentence}
 use Rattle.meaning.specs.Limits.{most_items, most_rows, most_marks, most_tables, most_queries, most_updates, list_columns, list_givens, givens, mark_count, columns_named, term_columns, many_items, rows_outside, many_marks, many_comparisons, deep, long_name, big_constant, past_limit}
-use Rattle.meaning.specs.Names.{Schema, no_schema, same_name, table_names, columns_of, has, position, pair_place, missing, unknown, miscounted, twice}
+use Rattle.meaning.specs.Names.{Schema, no_schema, same_name, table_names, columns_of, has, position, pair_place, missing, unknown_name, miscounted, twice}
 use Rattle.meaning.specs.Statement.{Value, Operand, Second, Query, Change, insert, delete, update, Update, creates, asks, changes, numbered_all, settings, resolved_where, setting_marks, statement_of}
 use Rattle.meaning.specs.Meaning.{Row, new_row, value_of, meets_where, assigned, updated_row, changed}
 use Rattle.meaning.specs.Cells.{area_size, areas_size}
-use Rattle.meaning.specs.Plain.{Lengths, Table, Plain, schemas, no_table, no_update, table_at, update_at, cells_left, Opening, opened, Call, add, ask, change, flush, no_place, is_insert, remaining, full, refusal, refused, adding, added_text, changed_by, does, guard, step, after}
+use Rattle.meaning.specs.Plain.{Lengths, Table, Plain, schemas, no_table, no_update, table_at, update_at, cells_left, Opening, opened, is_insert, remaining, full, refusal, refused, adding, text_added, changed_by, does, guard, step, after}
+use Rattle.meaning.specs.Refusals.{no_place}
+use Rattle.meaning.specs.Call.{Call, add, ask, change, flush}
 use Rattle.meaning.proofs.Names.{has-position, position-is, all_known}
 use Rattle.meaning.proofs.Dotted.{all-of-pair}
 use Rattle.meaning.proofs.Resolve.{same-name}
@@ -288,16 +291,16 @@ module _ (p : Plain) (W : WellFormed p) where
 
   -- the statement of a text that is not refused
   statement-well : (lent : Lengths) (text : List ℕ) (s : Sentence) → Acceptable lent p text s → WellFormed (adding p (statement_of (schemas p) s))
-  unfolding statement_of unknown miscounted twice no_place
+  unfolding statement_of unknown_name miscounted twice no_place
   statement-well lent text (G.table t cs ring z) T =
       let size : (1 ≤ nat_abs z) × (nat_abs z ≤ most_rows) = capacity-fits z (rows_inside (G.table t cs ring z) T.within) in
-      let full : leb most_tables (length p.tables) ≡ false = or_left (leb most_tables (length p.tables)) (ltb (cells_left p) (length (items cs) * nat_abs z)) T.place in
-      let few : ltb (cells_left p) (length (items cs) * nat_abs z) ≡ false = or_right (leb most_tables (length p.tables)) (ltb (cells_left p) (length (items cs) * nat_abs z)) T.place in
+      let full : leb most_tables (length (schemas p)) ≡ false = or_left (leb most_tables (length (schemas p))) (ltb (cells_left p) (length (items cs) * nat_abs z)) T.place in
+      let few : ltb (cells_left p) (length (items cs) * nat_abs z) ≡ false = or_right (leb most_tables (length (schemas p))) (ltb (cells_left p) (length (items cs) * nat_abs z)) T.place in
       let left : length (items cs) * nat_abs z ≤ p.lengths.cells - areas_size (schemas p) = ltb-false (cells_left p) (length (items cs) * nat_abs z) few in
       let fit : areas_size (schemas p) ≤ p.lengths.cells = W.areas_fit in
       table-well (record { name = t; columns = items cs; capacity = nat_abs z; ring = ring })
       (record { some_columns = items-some cs; few_columns = few-listed (G.table t cs ring z) T.within; some_rows = size.0; few_rows = size.1 })
-      (leb-false most_tables (length p.tables) full)
+      (subst (λ (n : ℕ). n < most_tables) (length-map p.tables (λ (t : Table). t.schema)) (leb-false most_tables (length (schemas p)) full))
       (omega arith)
   statement-well lent text (G.select cs t w) T =
       let s : Sentence = G.select cs t w in
@@ -486,11 +489,11 @@ module _ (p : Plain) (n : ℕ) (us : List ℤ) where
 -- ---- a call
 
 -- a call that is not refused
-does-well : (lent : Lengths) (p : Plain) → WellFormed p → (c : Call) → refusal lent p c ≡ 0 → WellFormed (does p c).0
-unfolding added_text
+does-well : (lent : Lengths) (p : Plain) → WellFormed p → (c : Call ℕ) → refusal lent p c ≡ 0 → WellFormed (does p c).0
+unfolding text_added
 does-well lent p W (add text) h =
     let T : (s : Sentence) × (sentence text ≡ some s) × Acceptable lent p text s = text-taken lent p text h in
-    subst (λ (o : Option Sentence). WellFormed (added_text p o).0) (sym T.1) (statement-well p W lent text T.0 T.2)
+    subst (λ (o : Option Sentence). WellFormed (text_added p o).0) (sym T.1) (statement-well p W lent text T.0 T.2)
 does-well lent p W (ask k buffer) h = W
 does-well lent p W (change n us) h =
     let C : Changing lent p n us = update-taken lent p n us h in
@@ -498,7 +501,7 @@ does-well lent p W (change n us) h =
 does-well lent p W flush h = W
 
 -- every call keeps it
-pub step-well : (lent : Lengths) (p : Plain) → WellFormed p → (c : Call) → WellFormed (step lent p c).0
+pub step-well : (lent : Lengths) (p : Plain) → WellFormed p → (c : Call ℕ) → WellFormed (step lent p c).0
 step-well lent p W c = go (refusal lent p c) refl
   where
     go : (k : ℕ) → refusal lent p c ≡ k → WellFormed (guard k p refused (does p c)).0
@@ -506,6 +509,6 @@ step-well lent p W c = go (refusal lent p c) refl
     go (suc k) e = W
 
 -- and so does every list of calls
-pub after-well : (lent : Lengths) (p : Plain) → WellFormed p → (cs : List Call) → WellFormed (after lent p cs)
+pub after-well : (lent : Lengths) (p : Plain) → WellFormed p → (cs : List (Call ℕ)) → WellFormed (after lent p cs)
 after-well lent p W [] = W
 after-well lent p W (c ∷ cs) = after-well lent (step lent p c).0 (step-well lent p W c) cs

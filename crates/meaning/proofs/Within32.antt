@@ -16,15 +16,18 @@ use Rattle.lists.proofs.Places.{All-at, All-set}
 use Rattle.meaning.specs.Condition.{Where}
 use Rattle.meaning.specs.Tokens.{Name}
 use Rattle.meaning.specs.Grammar as G
-use Rattle.meaning.specs.Grammar.{Given, mark, items, Sentence, sentence}
+use Rattle.meaning.specs.Grammar.{Given, mark, items, Sentence}
+use Rattle.meaning.specs.Reader.{sentence}
 use Rattle.meaning.specs.Limits.{most_listed, list_givens, givens, mark_in, is_within32, outside32, many_items, rows_outside, many_marks, many_comparisons, deep, long_name, big_constant, past_limit}
 use Rattle.meaning.specs.Names.{columns_of}
 use Rattle.meaning.specs.Statement.{Value, constant, parameter, Operand, Second, Query, Change, insert, delete, update, Update, numbered, numbered_all, settings, statement_of}
 use Rattle.meaning.specs.Meaning.{Row, cell, value_of, meets_where, takes, selected, answer, assigned, updated_row, changed}
 use Rattle.meaning.specs.Key.{Key}
-use Rattle.meaning.specs.Plain.{Lengths, Table, Plain, schemas, no_table, no_query, no_update, table_at, query_at, update_at, rows_over, rows_for, record_of, remaining, too_many, Opening, opened, Call, add, ask, change, flush, ask_conditions, conditions, refusal, refused, answered, adding, added_text, changed_by, does, guard, step, after}
+use Rattle.meaning.specs.Plain.{Lengths, Table, Plain, schemas, no_table, no_query, no_update, table_at, query_at, update_at, rows_over, rows_for, record_of, remaining, too_many, Opening, opened, ask_conditions, conditions, refusal, refused, answered, adding, text_added, changed_by, does, guard, step, after, rows_listed}
+use Rattle.meaning.specs.Call.{Call, add, ask, change, flush, Is32, Call32}
 use Rattle.meaning.specs.Exact.{IsRow}
-use Rattle.meaning.specs.Demand.{Acceptable, ReadsBack, Is32, Call32, rows_listed, AnswerReadsBack}
+use Rattle.meaning.specs.Demand.{Acceptable, AnswerReadsBack}
+use Rattle.meaning.specs.Record.{ReadsBack}
 use Rattle.meaning.proofs.Accepted.{clear, text-taken, key-asked}
 use Rattle.meaning.proofs.Pushed.{remaining-has}
 use Rattle.meaning.proofs.WellFormed.{SecondFits, WellFormed, Reads, opened-well, after-well}
@@ -125,24 +128,24 @@ module _ (us : List ℤ) (small : All Is32 us) where
 
 -- ---- calls
 
-does-32 : (lent : Lengths) (p : Plain) → Store32 p → (c : Call) → Call32 c → refusal lent p c ≡ 0 → Store32 (does p c).0
-unfolding added_text
+does-32 : (lent : Lengths) (p : Plain) → Store32 p → (c : Call ℕ) → Call32 c → refusal lent p c ≡ 0 → Store32 (does p c).0
+unfolding text_added
 does-32 lent p S (add text) v h =
     let T : (s : Sentence) × (sentence text ≡ some s) × Acceptable lent p text s = text-taken lent p text h in
-    subst (λ (o : Option Sentence). Store32 (added_text p o).0) (sym T.1) (statement-32 p S T.0 T.2.within)
+    subst (λ (o : Option Sentence). Store32 (text_added p o).0) (sym T.1) (statement-32 p S T.0 T.2.within)
 does-32 lent p S (ask k buffer) v h = S
 does-32 lent p S (change n us) v h = by-32 us v p n S
 does-32 lent p S flush v h = S
 
 -- every call with values of 32 bits keeps it
-pub step-32 : (lent : Lengths) (p : Plain) → Store32 p → (c : Call) → Call32 c → Store32 (step lent p c).0
+pub step-32 : (lent : Lengths) (p : Plain) → Store32 p → (c : Call ℕ) → Call32 c → Store32 (step lent p c).0
 step-32 lent p S c v = go (refusal lent p c) refl
   where
     go : (k : ℕ) → refusal lent p c ≡ k → Store32 (guard k p refused (does p c)).0
     go zero e = does-32 lent p S c v e
     go (suc k) e = S
 
-pub after-32 : (lent : Lengths) (p : Plain) → Store32 p → (cs : List Call) → All Call32 cs → Store32 (after lent p cs)
+pub after-32 : (lent : Lengths) (p : Plain) → Store32 p → (cs : List (Call ℕ)) → All Call32 cs → Store32 (after lent p cs)
 after-32 lent p S [] v = S
 after-32 lent p S (c ∷ cs) v = after-32 lent (step lent p c).0 (step-32 lent p S c (All-head v)) cs (All-tail v)
 

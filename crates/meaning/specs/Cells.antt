@@ -14,10 +14,6 @@ abbrev pub areas_size : List Schema → ℕ
 areas_size [] = 0
 areas_size (t ∷ ts) = area_size t + areas_size ts
 
--- where the area of table i starts
-abbrev pub area_start : List Schema → ℕ → ℕ
-area_start ts i = areas_size (take i ts)
-
 -- the `size` cells from `start` on
 abbrev pub area_of : ℕ → ℕ → List ℤ → List ℤ
 area_of start size cells = take size (drop start cells)

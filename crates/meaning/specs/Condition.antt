@@ -2,7 +2,7 @@
 -- OR and NOT." Their truth ("Meaning", and A.5 in three values), their clauses (rule 4), how many these are (rule 5), and their outer comparisons (A.6).
 -- Assumes nothing: these are definitions.
 use Rattle.std.specs.Prelude.{Bool, true, false, List, [], ◌∷◌, ◌++◌, ℕ, ◌+◌, ◌*◌, max, ℤ}
-use Rattle.lists.specs.Lists.{pairs, all}
+use Rattle.lists.specs.Lists.{pairs}
 use Rattle.meaning.specs.Operator.{Predicate, Truth, is_true, not₃, and₃, or₃, compared, truth, opposite}
 
 pub record Comparison (O : Type 0) : Type 0 where
@@ -111,10 +111,6 @@ module _ {O : Type 0} where
 
   -- ---- clauses (rule 4)
 
-  -- a clause holds where all of its comparisons do
-  abbrev pub meets : (O → ℤ) → List (Comparison O) → Bool
-  meets v = all (holds v)
-
   abbrev pub opposed : Comparison O → Comparison O
   opposed c = record { left = c.left; op = opposite c.op; right = c.right }
 
@@ -176,9 +172,6 @@ module _ {A B : Type 0} where
 module _ {O P : Type 0} where
   abbrev pub renamed : (O → P) → Comparison O → Comparison P
   renamed f c = record { left = f c.left; op = c.op; right = f c.right }
-
-  abbrev pub replaced : {l : Level} → (O → P) → Condition O l → Condition P l
-  replaced f = mapped (renamed f)
 
   abbrev pub replaced_in : (O → P) → Where O → Where P
   replaced_in f = mapped_in (renamed f)

@@ -1,48 +1,37 @@
 -- The demands as claims, as far as the definitions of document 01 and of the requests alone can say them. Each is proved in proofs/Demand.antt.
 -- Assumes nothing: these are definitions.
-use Rattle.std.specs.Prelude.{◌≡◌, ◌↔◌, ◌≢◌, ◌⊎◌, Bool, true, false, not, ◌&&◌, ◌||◌, cond, List, [], ◌∷◌, ◌++◌, map, ℕ, suc, ◌+◌, ◌*◌, ◌≤◌, ◌<◌, eqb, ℤ, pos, negsuc, length, get_or}
+use Rattle.std.specs.Prelude.{◌≡◌, ◌↔◌, ◌≢◌, ◌⊎◌, true, false, not, ◌||◌, List, [], ◌∷◌, ◌++◌, map, ℕ, ◌≤◌, ◌<◌, ℤ, length}
 use Rattle.std.proofs.Math.Option.{Option, none, some}
 use Prim.Native.String.{String}
 use Rattle.lists.specs.Lists.{All, bytes, any, all, from, pairs}
 use Rattle.meaning.specs.Operator as O
 use Rattle.meaning.specs.Operator.{Operator, related, null, is_null, Truth, known, not₃, and₃, or₃, Predicate, by, is-null, is-not-null, compared, truth, opposite}
-use Rattle.meaning.specs.Condition.{Comparison, Condition, disjunction, under, eval, comparisons_in, operands_in, depth_in}
+use Rattle.meaning.specs.Condition.{Comparison, Condition, disjunction, under, eval, operands_in}
 use Rattle.meaning.specs.Tokens as T
 use Rattle.meaning.specs.Tokens.{Token, Keyword, Name, is_small, is_capital, is_word_byte, is_name, folded, keywords, is_keyword, word, first_token, tokens}
-use Rattle.meaning.specs.Grammar as G
-use Rattle.meaning.specs.Grammar.{Given, items, Sentence, spell, sentence}
+use Rattle.meaning.specs.Grammar.{Sentence, spell}
+use Rattle.meaning.specs.Reader.{sentence}
 use Rattle.meaning.specs.Key.{Key}
-use Rattle.meaning.specs.Limits.{most_text, most_items, most_listed, rows_of, where_of, all_names, givens, mark_count, is_within32, past_limit}
-use Rattle.meaning.specs.Names.{Schema, unknown, taken, miscounted, twice}
+use Rattle.meaning.specs.Limits.{most_text, most_items, most_listed, all_names, past_limit, WithinLimits}
+use Rattle.meaning.specs.Names.{Schema, unknown_name, taken, miscounted, twice}
 use Rattle.meaning.specs.Statement.{Value, constant, parameter, Operand, column, value, Second, Query, Change, insert, delete, update, Update, Statement, creates, asks, changes, statement_of}
 use Rattle.meaning.specs.Meaning.{Row, operand_value, meets_where, takes, selected, answer, new_row, assigned, changed}
-use Rattle.meaning.specs.Record.{encode, is_record, columns_in, row_count, row_refusal, row_part, numbers_of}
+use Rattle.meaning.specs.Record.{encode, ReadsBack}
 use Rattle.meaning.specs.Pattern.{Side, neither, first, second, side_of, same_table, start_of, beside, matters, Joint, Clause, class, constants, broken, contradictory, matches, removal, matches_two}
 use Rattle.meaning.specs.Exact.{is_separate, IsRow, Affected, affects, drops}
-use Rattle.meaning.specs.Plain.{Lengths, Plain, schemas, rows_for, passes_first, query_at, Opening, opened, Call, add, ask, change, flush, other_lengths, no_place, conditions, refusal, refused, answered, adding, placed, step, after}
+use Rattle.meaning.specs.Plain.{Lengths, Plain, schemas, passes_first, query_at, Opening, opened, other_lengths, catalog_of, conditions, refusal, refused, answered, adding, kind_and_number, step, after, rows_listed}
+use Rattle.meaning.specs.Refusals.{no_place, Lowest}
+use Rattle.meaning.specs.Call.{Call, add, ask, Call32}
 
 -- ---- Demand 1: "If a call brings a text, number, state or lent memory that the store can't take, it gives the refusal number of document 01 and changes
 -- nothing."
 
--- the condition of the number n holds
-abbrev pub applies : Lengths → Plain → Call → ℕ → Bool
-applies lent p c n = any (λ (x : ℕ × Bool). eqb x.0 n && x.1) (conditions lent p c)
-
--- the place of a number in the order in which they are looked for: A.1 has 15 "after 8" and 16 "after 12"
-abbrev pub rank : ℕ → ℕ
-rank n = cond (eqb n 15) (2 * 8 + 1) (cond (eqb n 16) (2 * 12 + 1) (2 * n))
-
--- "The lowest number that applies is given, and only then.": none that stands before it applies
-pub record Lowest (lent : Lengths) (p : Plain) (c : Call) (n : ℕ) : Type 0 where
-  pub given : n ≢ 0 → applies lent p c n ≡ true
-  pub lower : (m : ℕ) → rank m < rank n → applies lent p c m ≡ false
-  pub only : n ≡ 0 → (m : ℕ) → applies lent p c m ≡ false
-
+-- "The lowest number that applies is given, and only then." (`Refusals.Lowest`)
 abbrev pub LowestNumber : Type 0
-LowestNumber = (lent : Lengths) (p : Plain) (c : Call) → Lowest lent p c (refusal lent p c)
+LowestNumber = (lent : Lengths) (p : Plain) (c : Call ℕ) → Lowest (conditions lent p c) (refusal lent p c)
 
 abbrev pub RefusedChangesNothing : Type 0
-RefusedChangesNothing = (lent : Lengths) (p : Plain) (c : Call) → refusal lent p c ≢ 0 → step lent p c ≡ (p, refused (refusal lent p c))
+RefusedChangesNothing = (lent : Lengths) (p : Plain) (c : Call ℕ) → refusal lent p c ≢ 0 → step lent p c ≡ (p, refused (refusal lent p c))
 
 -- ---- Demand 2: "A text is accepted exactly if no refusal condition of document 01 holds."
 
@@ -135,41 +124,6 @@ Numbered (changes u) = change_marks u.change ≡ from 1 u.parameters
 abbrev pub MarksNumbered : Type 0
 MarksNumbered = (ts : List Schema) (s : Sentence) → Numbered (statement_of ts s)
 
--- refusal 5: "past a limit, from columns to name in that table, or a constant outside 32 bits": the table of limits, row by row
-abbrev pub Between : ℕ → ℕ → ℕ → Type 0
-Between least most n = (least ≤ n) × (n ≤ most)
-
--- how many columns a table has, are selected, or set; how many values are inserted; DELETE has no list
-abbrev pub list_lengths : Sentence → List ℕ
-list_lengths (G.table t cs ring z) = length (items cs) ∷ []
-list_lengths (G.select cs t w) = length (items cs) ∷ []
-list_lengths (G.pair cs t u w) = length (items cs) ∷ []
-list_lengths (G.insert t vs) = length (items vs) ∷ []
-list_lengths (G.update t ss w) = length (items ss) ∷ []
-list_lengths (G.delete t w) = []
-
-abbrev pub RowsWithin : ℤ → Type 0
-RowsWithin (pos n) = Between 1 512 n
-RowsWithin (negsuc n) = ⊥
-
--- "The constant -2147483648 is taken and 2147483648 is not."; `negsuc n` is -(n + 1)
-abbrev pub ConstantWithin : ℤ → Type 0
-ConstantWithin (pos n) = n ≤ 2147483647
-ConstantWithin (negsuc n) = suc n ≤ 2147483648
-
-abbrev pub GivenWithin : Given → Type 0
-GivenWithin (G.constant z) = ConstantWithin z
-GivenWithin G.mark = Unit {0}
-
-pub record WithinLimits (s : Sentence) : Type 0 where
-  pub lists : All (Between 1 8) (list_lengths s)
-  pub rows : All RowsWithin (rows_of s)
-  pub marks : mark_count (givens s) ≤ 8
-  pub comparisons : length (comparisons_in (where_of s)) ≤ 8
-  pub depth : depth_in (where_of s) ≤ 8
-  pub names : All (λ n. length n ≤ 12) (all_names s)
-  pub constants : All GivenWithin (givens s)
-
 abbrev pub WithinExactlyIf : Type 0
 WithinExactlyIf = (s : Sentence) → (past_limit s ≡ false) ↔ WithinLimits s
 
@@ -179,11 +133,11 @@ pub record Acceptable (lent : Lengths) (p : Plain) (text : List ℕ) (s : Senten
   pub short : length text ≤ most_text
   pub spelled : tokens text ≡ spell s
   pub within : past_limit s ≡ false
-  pub known : unknown (schemas p) s ≡ false
+  pub known : unknown_name (schemas p) s ≡ false
   pub fresh : taken (schemas p) s ≡ false
   pub counted : miscounted (schemas p) s ≡ false
   pub different : twice s ≡ false
-  pub place : no_place p s ≡ false
+  pub place : no_place (catalog_of p) s ≡ false
 
 abbrev pub AcceptedExactlyIf : Type 0
 AcceptedExactlyIf = (lent : Lengths) (p : Plain) (text : List ℕ) → (refusal lent p (add text) ≡ 0) ↔ ((s : Sentence) × Acceptable lent p text s)
@@ -191,40 +145,18 @@ AcceptedExactlyIf = (lent : Lengths) (p : Plain) (text : List ℕ) → (refusal 
 -- and then its statement is added
 abbrev pub AcceptedIsAdded : Type 0
 AcceptedIsAdded = (lent : Lengths) (p : Plain) (text : List ℕ) (s : Sentence) → Acceptable lent p text s
-    → step lent p (add text) ≡ (adding p (statement_of (schemas p) s), placed p (statement_of (schemas p) s))
+    → step lent p (add text) ≡ (adding p (statement_of (schemas p) s), kind_and_number p (statement_of (schemas p) s))
 
 -- ---- Demand 2: "A new answer .. holds exactly the rows, in order, that the SQL meaning set down there gives, and its record reads back as those rows"
-
--- the bytes show the rows
-pub record ReadsBack (bs : List ℕ) (columns : ℕ) (rows : List Row) : Type 0 where
-  pub is-record : is_record bs ≡ true
-  pub columns_are : columns_in bs ≡ columns
-  pub rows_are : row_count bs ≡ length rows
-  pub shown : (i : ℕ) → i < length rows → (row_refusal bs i ≡ 0) × (numbers_of (row_part bs i) ≡ get_or rows i [])
-  pub not_shown : (i : ℕ) → length rows ≤ i → (row_refusal bs i ≡ 14) × (row_part bs i ≡ [])
 
 -- the record of rows, also with later bytes behind it
 abbrev pub RecordReadsBack : Type 0
 RecordReadsBack = (columns : ℕ) (rows : List Row) (later : List ℕ) → 1 ≤ columns → columns ≤ most_items → length rows ≤ most_listed → All (IsRow columns) rows
     → ReadsBack (encode columns rows ++ later) columns rows
 
--- the values of a call have 32 bits, as their type says
-abbrev pub Is32 : ℤ → Type 0
-Is32 z = is_within32 z ≡ true
-
-abbrev pub Call32 : Call → Type 0
-Call32 (add text) = Unit {0}
-Call32 (ask k buffer) = All Is32 k.values
-Call32 (change n us) = All Is32 us
-Call32 flush = Unit {0}
-
--- the rows that Meaning lists for a key
-abbrev pub rows_listed : Plain → Key → List Row
-rows_listed p k = answer (query_at p k.query) k.values (rows_for p (query_at p k.query))
-
 -- after every opening and list of calls, an answer's record reads back as the rows that Meaning lists on the plain store
 abbrev pub AnswerReadsBack : Type 0
-AnswerReadsBack = (o : Opening) (cs : List Call) → All Call32 cs → (k : Key) (buffer : ℕ) (r : List ℕ)
+AnswerReadsBack = (o : Opening) (cs : List (Call ℕ)) → All Call32 cs → (k : Key) (buffer : ℕ) (r : List ℕ)
     → let p : Plain = after o.lent (opened o) cs in
     (step o.lent p (ask k buffer)).1 ≡ answered r
     → (later : List ℕ) → ReadsBack (r ++ later) (length (query_at p k.query).selected) (rows_listed p k)

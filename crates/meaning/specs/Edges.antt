@@ -3,7 +3,8 @@
 use Rattle.std.specs.Prelude.{◌≡◌, refl, true, List, [], ◌∷◌, ◌++◌, map, ℕ, replicate}
 use Prim.Native.String.{String}
 use Rattle.lists.specs.Lists.{bytes, all}
-use Rattle.meaning.specs.Plain.{Lengths, Plain, opened, Call, add, refusal, after, outs}
+use Rattle.meaning.specs.Plain.{Lengths, Plain, opened, refusal, after, outs}
+use Rattle.meaning.specs.Call.{Call, add}
 use Rattle.meaning.specs.Examples.{computing, is_taken}
 
 -- a text and its number
@@ -22,7 +23,7 @@ lengths g = record { cells = g.cells; memory = 0 }
 abbrev begun : Group → Plain
 begun g = opened (record { lent = lengths g; slots = 0; slot_bytes = 8 })
 
-abbrev adds : Group → List Call
+abbrev adds : Group → List (Call ℕ)
 adds g = map (λ (t : String). add (bytes t)) g.before
 
 abbrev store : Group → Plain

@@ -7,7 +7,8 @@ use Rattle.meaning.specs.Operator.{null}
 use Rattle.meaning.specs.Meaning.{Row}
 use Rattle.meaning.specs.Pattern.{matches_two}
 use Rattle.meaning.specs.Key.{Key}
-use Rattle.meaning.specs.Plain.{Table, Lengths, Plain, query_at, update_at, pushed_by, drops_key, opened, add, ask, change, after, outs}
+use Rattle.meaning.specs.Plain.{Table, Lengths, Plain, query_at, update_at, pushed_by, drops_key, opened, after, outs}
+use Rattle.meaning.specs.Call.{add, ask, change}
 use Rattle.meaning.specs.Examples.{computing, is_taken, numbers}
 
 -- ---- stage and rating hold no row, whatever is judged: "some row" is any row; gauge is a ring of one row, (7, 120)

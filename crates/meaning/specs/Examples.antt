@@ -7,19 +7,21 @@ use Rattle.lists.specs.Tests.{eq_list}
 use Rattle.meaning.specs.Condition.{count_of}
 use Rattle.meaning.specs.Tokens as T
 use Rattle.meaning.specs.Tokens.{Token, same_token, is_small, is_name_byte, is_word_byte, decimal, is_name, word, negative, token_from, first_token, scan, tokens}
-use Rattle.meaning.specs.Grammar.{a_condition, a_sentence, read}
+use Rattle.meaning.specs.Reader.{a_condition, a_sentence, read}
 use Rattle.meaning.specs.Limits.{past_limit}
-use Rattle.meaning.specs.Names.{Schema, unknown, taken, miscounted, twice}
+use Rattle.meaning.specs.Names.{Schema, unknown_name, taken, miscounted, twice}
 use Rattle.meaning.specs.Statement.{Change, insert, delete, update, statement_of}
 use Rattle.meaning.specs.Meaning.{Row, answer, changed, rows_changed}
 use Rattle.meaning.specs.Record.{body, encode}
 use Rattle.meaning.specs.Pattern.{Pattern, number, mark, anything, joint_clauses, joint_count, most_clauses, class, contradictory, entry, side_of, matters, patterns, matches, matches_two}
 use Rattle.meaning.specs.Exact.{is_separate, affects, drops}
-use Rattle.meaning.specs.Plain.{Lengths, Plain, schemas, table_at, query_at, update_at, record_of, drops_key, too_many, opening_refused, opened, Call, add, ask, change, other_lengths, no_place, full, refusal, a_table, a_query, an_update, Out, refused, added, answered, rows, flushed, added_text, changed_by, rows_by, step, after, outs}
+use Rattle.meaning.specs.Plain.{Lengths, Plain, schemas, table_at, query_at, update_at, record_of, drops_key, too_many, opening_refused, opened, other_lengths, full, refusal, table_kind, query_kind, update_kind, Out, refused, added, answered, rows, flushed, text_added, changed_by, rows_by, step, after, outs}
+use Rattle.meaning.specs.Refusals.{no_place}
+use Rattle.meaning.specs.Call.{Call, add, ask, change}
 
 -- what the computations open
 unfoldable pub computing : Unit {0}
-unfolding is_name_byte is_word_byte decimal is_name word negative token_from first_token scan tokens a_condition a_sentence read past_limit unknown taken miscounted twice statement_of answer changed rows_changed side_of joint_clauses class contradictory entry patterns matches matches_two matters is_separate affects drops body encode record_of drops_key too_many opening_refused other_lengths no_place full refusal added_text changed_by rows_by
+unfolding is_name_byte is_word_byte decimal is_name word negative token_from first_token scan tokens a_condition a_sentence read past_limit unknown_name taken miscounted twice statement_of answer changed rows_changed side_of joint_clauses class contradictory entry patterns matches matches_two matters is_separate affects drops body encode record_of drops_key too_many opening_refused other_lengths no_place full refusal text_added changed_by rows_by
 computing = tt
 
 -- six cells, and no kept memory
@@ -33,9 +35,9 @@ start = opened (record { lent = six; slots = 0; slot_bytes = 8 })
 pub data Outcome : Type 0 where
   patterns_are : List Pattern → Outcome
   counts_are : ℕ → ℕ → List Pattern → Outcome
-  next_refused : Call → ℕ → Outcome
+  next_refused : Call ℕ → ℕ → Outcome
   lists : List Row → Outcome
-  next_record : Call → List ℕ → Outcome
+  next_record : Call ℕ → List ℕ → Outcome
 
 -- the clause count of an update
 abbrev change_count : Change → ℕ
@@ -53,7 +55,7 @@ Says p (next_record c r) = (step six p c).1 ≡ answered r
 
 pub record Example : Type 0 where
   pub texts : List String
-  pub calls : List Call
+  pub calls : List (Call ℕ)
   pub outcome : Outcome
 
 abbrev S : String
@@ -62,7 +64,7 @@ S = "TABLE stage (site, level) ROWS 3"
 abbrev Q : String
 Q = "SELECT level FROM stage WHERE site = ?"
 
-abbrev adds : Example → List Call
+abbrev adds : Example → List (Call ℕ)
 adds e = map (λ (t : String). add (bytes t)) (S ∷ e.texts)
 
 abbrev pub is_taken : Out → Bool
@@ -291,7 +293,7 @@ unfolding computing
 keyed-same = (refl, refl)
 
 -- and so the same statement: the first row, with the texts in capitals
-abbrev keyed_adds : Example → List Call
+abbrev keyed_adds : Example → List (Call ℕ)
 keyed_adds e = map (λ (t : String). add (keyed (bytes t))) (S ∷ e.texts)
 
 pub keyed-row : (all is_taken (outs six start (keyed_adds (row examples 0))) ≡ true) × Says (after six start (keyed_adds (row examples 0))) (row examples 0).outcome
@@ -329,26 +331,26 @@ words_are = refl
 -- texts, each added to the store that the last one left, and what each gets
 abbrev pub names_typed : List (String × Out)
 names_typed =
-    ("TABLE STAGE (SITE, Level_2) ROWS 1", added a_table 0)
+    ("TABLE STAGE (SITE, Level_2) ROWS 1", added table_kind 0)
     ∷ ("TABLE stage (a) ROWS 1", refused 7)
-    ∷ ("TABLE Table (Select, b) ROWS 1", added a_table 1)
+    ∷ ("TABLE Table (Select, b) ROWS 1", added table_kind 1)
     ∷ ("TABLE T (A, a) ROWS 1", refused 7)
-    ∷ ("TABLE T (ROWS3) ROWS 1", added a_table 2)
+    ∷ ("TABLE T (ROWS3) ROWS 1", added table_kind 2)
     ∷ ("SELECT SITE FROM Stage Where SITE = 1", refused 4)
-    ∷ ("SELECT site, LEVEL_2 FROM sTAGE WHERE Site = ?", added a_query 0)
+    ∷ ("SELECT site, LEVEL_2 FROM sTAGE WHERE Site = ?", added query_kind 0)
     ∷ ("UPDATE stage SET Site = 1, SITE = 2", refused 7)
-    ∷ ("INSERT INTO STAGE VALUES (?, ?)", added an_update 0)
+    ∷ ("INSERT INTO STAGE VALUES (?, ?)", added update_kind 0)
     ∷ ("select rows3 FROM t", refused 4)
     ∷ ("DELETE FROM TABLE", refused 4)
     ∷ ("DELETE FROM Table WHERE SELECT = 1", refused 4)
-    ∷ ("DELETE FROM tABLE WHERE select = B", added an_update 1)
+    ∷ ("DELETE FROM tABLE WHERE select = B", added update_kind 1)
     ∷ ("TABLE u (_A) ROWS 1", refused 4)
     ∷ ("TABLE u (1A) ROWS 1", refused 4)
     ∷ ("TABLE ABCDEFGHIJKLM (a) ROWS 1", refused 5)
     ∷ ("SELECT STAGE.site FROM Stage, STAGE", refused 15)
     ∷ []
 
-abbrev typed_calls : List Call
+abbrev typed_calls : List (Call ℕ)
 typed_calls = map (λ (x : String × Out). add (bytes x.0)) names_typed
 
 pub names-get : outs six start typed_calls ≡ map (λ (x : String × Out). x.1) names_typed

@@ -3,6 +3,7 @@ pub mod Tokens
 pub mod Condition
 pub mod Postfix
 pub mod Grammar
+pub mod Reader
 pub mod Limits
 pub mod Names
 pub mod Statement
@@ -11,6 +12,8 @@ pub mod Meaning
 pub mod Cells
 pub mod Record
 pub mod Key
+pub mod Call
+pub mod Refusals
 pub mod Pattern
 pub mod Exact
 pub mod Plain
@@ -22,3 +25,4 @@ pub mod Rings
 pub mod Nulls
 pub mod Outer
 pub mod Exactly
+pub mod Private

@@ -1,10 +1,11 @@
 -- The limits: document 01, "Limits", and refusals 3 and 5 of a text. Assumes nothing: these are definitions.
-use Rattle.std.specs.Prelude.{Bool, false, not, ◌&&◌, ◌||◌, List, [], ◌∷◌, ◌++◌, map, ℕ, ◌+◌, ltb, ℤ, pos, neg_ℤ, length}
+use Rattle.std.specs.Prelude.{Bool, false, not, ◌&&◌, ◌||◌, List, [], ◌∷◌, ◌++◌, map, ℕ, ◌+◌, ltb, ℤ, pos, neg_ℤ, length, suc, ◌≤◌, negsuc}
 use Rattle.std.specs.Int.Signed.{le_z}
-use Rattle.lists.specs.Lists.{any}
+use Rattle.lists.specs.Lists.{any, All}
 use Rattle.meaning.specs.Condition.{Where, always, mapped_in, replaced_in, comparisons_in, operands_in, depth_in}
 use Rattle.meaning.specs.Tokens.{Name}
 use Rattle.meaning.specs.Grammar.{Given, constant, mark, Term, column, given, comparison, items, Dotted, Sentence, table, select, pair, insert, update, delete}
+use Rattle.meaning.specs.Grammar as G
 
 -- ---- the table of limits
 
@@ -195,3 +196,38 @@ big_constant s = any outside32 (givens s)
 
 unfoldable pub past_limit : Sentence → Bool
 past_limit s = many_items s || (rows_outside s || (many_marks s || (many_comparisons s || (deep s || (long_name s || big_constant s)))))
+
+-- refusal 5: "past a limit, from columns to name in that table, or a constant outside 32 bits": the table of limits, row by row
+abbrev pub Between : ℕ → ℕ → ℕ → Type 0
+Between least most n = (least ≤ n) × (n ≤ most)
+
+-- how many columns a table has, are selected, or set; how many values are inserted; DELETE has no list
+abbrev pub list_lengths : Sentence → List ℕ
+list_lengths (G.table t cs ring z) = length (items cs) ∷ []
+list_lengths (G.select cs t w) = length (items cs) ∷ []
+list_lengths (G.pair cs t u w) = length (items cs) ∷ []
+list_lengths (G.insert t vs) = length (items vs) ∷ []
+list_lengths (G.update t ss w) = length (items ss) ∷ []
+list_lengths (G.delete t w) = []
+
+abbrev pub RowsWithin : ℤ → Type 0
+RowsWithin (pos n) = Between 1 512 n
+RowsWithin (negsuc n) = ⊥
+
+-- "The constant -2147483648 is taken and 2147483648 is not."; `negsuc n` is -(n + 1)
+abbrev pub ConstantWithin : ℤ → Type 0
+ConstantWithin (pos n) = n ≤ 2147483647
+ConstantWithin (negsuc n) = suc n ≤ 2147483648
+
+abbrev pub GivenWithin : Given → Type 0
+GivenWithin (G.constant z) = ConstantWithin z
+GivenWithin G.mark = Unit {0}
+
+pub record WithinLimits (s : Sentence) : Type 0 where
+  pub lists : All (Between 1 8) (list_lengths s)
+  pub rows : All RowsWithin (rows_of s)
+  pub marks : mark_count (givens s) ≤ 8
+  pub comparisons : length (comparisons_in (where_of s)) ≤ 8
+  pub depth : depth_in (where_of s) ≤ 8
+  pub names : All (λ n. length n ≤ 12) (all_names s)
+  pub constants : All GivenWithin (givens s)

@@ -55,13 +55,13 @@ pair_missing ts t u cs =
     || (not (has (table_names ts) u)
     || any (λ (c : Dotted). not (is_of t (columns_of ts t) c || is_of u (columns_of ts u) c)) cs)
 
-unfoldable pub unknown : List Schema → Sentence → Bool
-unknown ts (table t cs ring z) = false
-unknown ts (select cs t w) = missing ts t (columns_named (select cs t w))
-unknown ts (pair cs t u w) = pair_missing ts t u (dotted_named (pair cs t u w))
-unknown ts (insert t vs) = missing ts t (columns_named (insert t vs))
-unknown ts (update t ss w) = missing ts t (columns_named (update t ss w))
-unknown ts (delete t w) = missing ts t (columns_named (delete t w))
+unfoldable pub unknown_name : List Schema → Sentence → Bool
+unknown_name ts (table t cs ring z) = false
+unknown_name ts (select cs t w) = missing ts t (columns_named (select cs t w))
+unknown_name ts (pair cs t u w) = pair_missing ts t u (dotted_named (pair cs t u w))
+unknown_name ts (insert t vs) = missing ts t (columns_named (insert t vs))
+unknown_name ts (update t ss w) = missing ts t (columns_named (update t ss w))
+unknown_name ts (delete t w) = missing ts t (columns_named (delete t w))
 
 -- refusal 7: "table name taken, or column twice in TABLE or SET"; a column may be selected twice
 unfoldable pub taken : List Schema → Sentence → Bool

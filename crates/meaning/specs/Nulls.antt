@@ -6,8 +6,8 @@ use Rattle.lists.specs.Lists.{bytes, all}
 use Rattle.meaning.specs.Operator.{null}
 use Rattle.meaning.specs.Meaning.{Row}
 use Rattle.meaning.specs.Pattern.{Pattern, number, mark, anything, patterns, patterns_of_two, matches}
-use Rattle.meaning.specs.Plain.{Lengths, Plain, table_at, query_at, update_at, pushed_by, opened, Call, add, ask, change, Out, answered, rows, step, after, outs}
-use Rattle.meaning.specs.Demand.{rows_listed}
+use Rattle.meaning.specs.Plain.{Lengths, Plain, table_at, query_at, update_at, pushed_by, opened, Out, answered, rows, step, after, outs, rows_listed}
+use Rattle.meaning.specs.Call.{Call, add, ask, change}
 use Rattle.meaning.specs.Examples.{computing, is_taken, numbers}
 
 abbrev lent : Lengths
@@ -16,13 +16,13 @@ lent = record { cells = 12; memory = 0 }
 abbrev start : Plain
 start = opened (record { lent = lent; slots = 0; slot_bytes = 8 })
 
-abbrev adds : List String → List Call
+abbrev adds : List String → List (Call ℕ)
 adds ts = map (λ (t : String). add (bytes t)) ts
 
 -- ---- the rows that WHERE takes
 
 -- stage (site, level) and an INSERT, then these texts; the rows are inserted, and then the calls are made
-abbrev staged : List String → List Row → List Call → Plain
+abbrev staged : List String → List Row → List (Call ℕ) → Plain
 staged ts rs cs = after lent start (adds ("TABLE stage (site, level) ROWS 3" ∷ "INSERT INTO stage VALUES (?, ?)" ∷ ts) ++ (map (change 0) rs ++ cs))
 
 -- an hour in which the float was iced in, and two readings
@@ -164,7 +164,7 @@ unfolding computing
 marks-agree = (refl, refl, refl)
 
 -- a row that enters an answer from unknown: there is a pattern for it
-abbrev entering : List Call → Plain
+abbrev entering : List (Call ℕ) → Plain
 entering cs = staged ("SELECT site FROM stage WHERE NOT level < 50" ∷ "UPDATE stage SET level = 60" ∷ []) (iced ∷ []) cs
 
 pub enters :
@@ -204,7 +204,7 @@ pub record Judged : Type 0 where
 abbrev judge : String → String → List Pattern → Judged
 judge q u ps = record { question = q; update = u; list = ps }
 
-abbrev judging : Judged → List Call
+abbrev judging : Judged → List (Call ℕ)
 judging j = adds ("TABLE stage (site, level) ROWS 3" ∷ "TABLE rating (site, flow) ROWS 3" ∷ j.question ∷ j.update ∷ [])
 
 abbrev pub Holds : Judged → Type 0

@@ -4,7 +4,8 @@ use Prim.Native.String.{String}
 use Rattle.lists.specs.Lists.{bytes}
 use Rattle.meaning.specs.Operator.{null}
 use Rattle.meaning.specs.Meaning.{Row}
-use Rattle.meaning.specs.Plain.{Table, Lengths, Plain, query_at, rows_read, opened, add, change, Out, step, after}
+use Rattle.meaning.specs.Plain.{Table, Lengths, Plain, query_at, rows_read, opened, Out, step, after}
+use Rattle.meaning.specs.Call.{add, change}
 use Rattle.meaning.specs.Examples.{computing, is_taken, numbers}
 
 abbrev lent : Lengths

@@ -1,16 +1,17 @@
 -- The plain store: document 01, "The plain store" and "Numbers for a call not taken"; requests A.1, A.4 and A.6. It keeps no answer, and is fed only which call is made, its text
 -- or numbers, and the lengths lent. Assumes nothing: these are definitions.
-use Rattle.std.specs.Prelude.{Bool, true, false, not, ◌&&◌, ◌||◌, cond, List, [], ◌∷◌, ◌++◌, map, ℕ, zero, suc, ◌+◌, ◌*◌, ◌-◌, leb, ltb, eqb, ℤ, nat_abs, length, take, drop, get_or, set}
+use Rattle.std.specs.Prelude.{Bool, true, false, not, ◌&&◌, ◌||◌, cond, List, [], ◌∷◌, ◌++◌, map, ℕ, zero, suc, ◌+◌, ◌*◌, ◌-◌, leb, ltb, eqb, ℤ, length, take, drop, get_or, set}
 use Rattle.std.proofs.Math.Option.{Option, none, some}
 use Rattle.lists.specs.Lists.{all, keep, count, pairs}
 use Rattle.meaning.specs.Condition.{Comparison, always, outer_in, holds}
 use Rattle.meaning.specs.Key.{Key}
-use Rattle.meaning.specs.Grammar as G
-use Rattle.meaning.specs.Grammar.{items, Sentence, sentence}
-use Rattle.meaning.specs.Limits.{most_cells, most_memory, most_slots, least_slot_bytes, most_slot_bytes, most_tables, most_queries, most_updates, most_listed, too_long, past_limit}
-use Rattle.meaning.specs.Names.{Schema, no_schema, unknown, taken, miscounted, twice}
-use Rattle.meaning.specs.Resolve.{is_below}
-use Rattle.meaning.specs.Statement.{Operand, Second, Query, Change, insert, delete, update, Update, Statement, creates, asks, changes, statement_of}
+use Rattle.meaning.specs.Call.{Call, add, ask, change, flush}
+use Rattle.meaning.specs.Refusals.{Conditions, Catalog, is_short, is_many, statement_conditions, new_conditions, update_conditions, add_conditions, flush_conditions, lowest_of}
+use Rattle.meaning.specs.Grammar.{Sentence}
+use Rattle.meaning.specs.Reader.{sentence}
+use Rattle.meaning.specs.Limits.{most_cells, most_memory, most_slots, least_slot_bytes, most_slot_bytes}
+use Rattle.meaning.specs.Names.{Schema, no_schema}
+use Rattle.meaning.specs.Statement.{is_below, Operand, Second, Query, Change, insert, delete, update, Update, Statement, creates, asks, changes, statement_of}
 use Rattle.meaning.specs.Meaning.{Row, operand_value, answer, changed, rows_changed}
 use Rattle.meaning.specs.Cells.{areas_size}
 use Rattle.meaning.specs.Record.{encode}
@@ -150,38 +151,15 @@ lengths_of false l = l
 abbrev pub opened : Opening → Plain
 opened o = record { lengths = lengths_of (opening_refused o) o.lent; tables = []; queries = []; updates = [] }
 
--- ---- the calls; a question is asked with a buffer of so many bytes, an update is given by its number and values
-
-pub data Call : Type 0 where
-  add : List ℕ → Call
-  ask : Key → ℕ → Call
-  change : ℕ → List ℤ → Call
-  flush : Call
-
--- ---- "Numbers for a call not taken", each condition by itself
+-- ---- "Numbers for a call not taken": the facts that `Refusals` asks for, read on this store
 
 -- 2: "lent lengths not the opening's"
 unfoldable pub other_lengths : Lengths → Plain → Bool
 other_lengths lent p = not (eqb lent.cells p.lengths.cells && eqb lent.memory p.lengths.memory)
 
--- 4: "no sentence"
-abbrev pub is_none : {A : Type 0} → Option A → Bool
-is_none none = true
-is_none (some x) = false
-
--- the sentence, if there is one, has the property
-abbrev pub its_sentence : (Sentence → Bool) → Option Sentence → Bool
-its_sentence f none = false
-its_sentence f (some s) = f s
-
--- 9: "no table or statement place, or too few cells left"
-unfoldable pub no_place : Plain → Sentence → Bool
-no_place p (G.table t cs ring z) = leb most_tables (length p.tables) || ltb (cells_left p) (length (items cs) * nat_abs z)
-no_place p (G.select cs t w) = leb most_queries (length p.queries)
-no_place p (G.pair cs t u w) = leb most_queries (length p.queries)
-no_place p (G.insert t vs) = leb most_updates (length p.updates)
-no_place p (G.update t ss w) = leb most_updates (length p.updates)
-no_place p (G.delete t w) = leb most_updates (length p.updates)
+-- what a text is read beside
+abbrev pub catalog_of : Plain → Catalog
+catalog_of p = record { tables = schemas p; queries = length p.queries; updates = length p.updates; cells_left = cells_left p }
 
 -- 12: "INSERT, table full"; of a ring, A.4: "12 isn't given for it"
 unfoldable pub full : Plain → ℕ → Bool
@@ -190,69 +168,32 @@ full p n =
     let t : Table = table_at p u.table in
     is_insert u.change && (not t.schema.ring && leb t.schema.capacity (length t.rows))
 
--- the numbers that a call can get, each with its condition, in the order in which they are looked for: that of the table, and 15 "after 8", 16 "after 12"
-abbrev pub add_conditions : Lengths → Plain → List ℕ → Option Sentence → List (ℕ × Bool)
-add_conditions lent p text s =
-    (2, other_lengths lent p)
-    ∷ (3, too_long text)
-    ∷ (4, is_none s)
-    ∷ (5, its_sentence past_limit s)
-    ∷ (6, its_sentence (unknown (schemas p)) s)
-    ∷ (7, its_sentence (taken (schemas p)) s)
-    ∷ (8, its_sentence (miscounted (schemas p)) s)
-    ∷ (15, its_sentence twice s)
-    ∷ (9, its_sentence (no_place p) s)
-    ∷ []
-
--- 10 and 11: "no such question or update", "wrong number of values"; 16 and 13 come apart: a kept answer is judged by its own length alone
-abbrev pub ask_conditions : Lengths → Plain → Key → List (ℕ × Bool)
-ask_conditions lent p k =
-    (2, other_lengths lent p)
-    ∷ (10, leb (length p.queries) k.query)
-    ∷ (11, not (eqb (length k.values) (query_at p k.query).parameters))
-    ∷ []
-
-abbrev pub change_conditions : Lengths → Plain → ℕ → List ℤ → List (ℕ × Bool)
-change_conditions lent p n us =
-    (2, other_lengths lent p)
-    ∷ (10, leb (length p.updates) n)
-    ∷ (11, not (eqb (length us) (update_at p n).parameters))
-    ∷ (12, full p n)
-    ∷ []
-
--- 16: "an answer of more than 65,535 rows gives 16, after 12"
+-- 16
 unfoldable pub too_many : Plain → Key → Bool
 too_many p k =
     let q : Query = query_at p k.query in
-    ltb most_listed (length (answer q k.values (rows_for p q)))
+    is_many (length (answer q k.values (rows_for p q)))
 
--- 13: "answer buffer shorter than the record"
-abbrev pub is_short : ℕ → List ℕ → Bool
-is_short buffer bytes = ltb buffer (length bytes)
+abbrev pub ask_conditions : Lengths → Plain → Key → Conditions
+ask_conditions lent p k = statement_conditions (other_lengths lent p) (length p.queries) k.query (query_at p k.query).parameters (length k.values)
 
-abbrev pub conditions : Lengths → Plain → Call → List (ℕ × Bool)
-conditions lent p (add text) = add_conditions lent p text (sentence text)
-conditions lent p (ask k buffer) = ask_conditions lent p k ++ ((16, too_many p k) ∷ (13, is_short buffer (record_of p k)) ∷ [])
+abbrev pub change_conditions : Lengths → Plain → ℕ → List ℤ → Conditions
+change_conditions lent p n us = update_conditions (other_lengths lent p) (length p.updates) n (update_at p n).parameters (length us) (full p n)
+
+abbrev pub conditions : Lengths → Plain → Call ℕ → Conditions
+conditions lent p (add text) = add_conditions (other_lengths lent p) (catalog_of p) text (sentence text)
+conditions lent p (ask k buffer) = ask_conditions lent p k ++ new_conditions (too_many p k) (is_short buffer (length (record_of p k)))
 conditions lent p (change n us) = change_conditions lent p n us
-conditions lent p flush = (2, other_lengths lent p) ∷ []
+conditions lent p flush = flush_conditions (other_lengths lent p)
 
--- "The lowest number that applies is given, and only then": the first whose condition holds, or 0
-abbrev pub or_else : Bool → ℕ → ℕ → ℕ
-or_else true n m = n
-or_else false n m = m
-
-abbrev pub lowest_of : List (ℕ × Bool) → ℕ
-lowest_of [] = 0
-lowest_of (c ∷ cs) = or_else c.1 c.0 (lowest_of cs)
-
-unfoldable pub refusal : Lengths → Plain → Call → ℕ
+unfoldable pub refusal : Lengths → Plain → Call ℕ → ℕ
 refusal lent p c = lowest_of (conditions lent p c)
 
 -- ---- what a call gives and leaves
 
 -- "adding gives the kind and that number"
 pub data Kind : Type 0 where
-  a_table a_query an_update : Kind
+  table_kind query_kind update_kind : Kind
 
 pub data Out : Type 0 where
   refused : ℕ → Out
@@ -268,15 +209,15 @@ adding p (asks q) = record { lengths = p.lengths; tables = p.tables; queries = p
 adding p (changes u) = record { lengths = p.lengths; tables = p.tables; queries = p.queries; updates = p.updates ++ (u ∷ []) }
 
 -- "Tables, questions and updates are each numbered from 0"
-abbrev pub placed : Plain → Statement → Out
-placed p (creates t) = added a_table (length p.tables)
-placed p (asks q) = added a_query (length p.queries)
-placed p (changes u) = added an_update (length p.updates)
+abbrev pub kind_and_number : Plain → Statement → Out
+kind_and_number p (creates t) = added table_kind (length p.tables)
+kind_and_number p (asks q) = added query_kind (length p.queries)
+kind_and_number p (changes u) = added update_kind (length p.updates)
 
 -- a text that is not refused has a sentence
-unfoldable pub added_text : Plain → Option Sentence → Plain × Out
-added_text p none = (p, refused 4)
-added_text p (some s) = (adding p (statement_of (schemas p) s), placed p (statement_of (schemas p) s))
+unfoldable pub text_added : Plain → Option Sentence → Plain × Out
+text_added p none = (p, refused 4)
+text_added p (some s) = (adding p (statement_of (schemas p) s), kind_and_number p (statement_of (schemas p) s))
 
 -- "an update changes its table's list as Meaning says", and an INSERT into a full ring first removes the oldest row
 unfoldable pub changed_by : Plain → ℕ → List ℤ → Plain
@@ -295,8 +236,8 @@ unfoldable pub rows_by : Plain → ℕ → List ℤ → ℕ
 rows_by p n us = rows_changed (update_at p n).change us (table_at p (update_at p n).table).rows
 
 -- a call that is not refused
-abbrev pub does : Plain → Call → Plain × Out
-does p (add text) = added_text p (sentence text)
+abbrev pub does : Plain → Call ℕ → Plain × Out
+does p (add text) = text_added p (sentence text)
 does p (ask k buffer) = (p, answered (record_of p k))
 does p (change n us) = (changed_by p n us, rows (rows_by p n us))
 does p flush = (p, flushed)
@@ -306,15 +247,19 @@ abbrev pub guard : {S O : Type 0} → ℕ → S → (ℕ → O) → S × O → S
 guard zero s f done = done
 guard (suc n) s f done = (s, f (suc n))
 
-abbrev pub step : Lengths → Plain → Call → Plain × Out
+abbrev pub step : Lengths → Plain → Call ℕ → Plain × Out
 step lent p c = guard (refusal lent p c) p refused (does p c)
 
 -- ---- a list of calls, each on the store that the last one left; what each gets
 
-abbrev pub after : Lengths → Plain → List Call → Plain
+abbrev pub after : Lengths → Plain → List (Call ℕ) → Plain
 after lent p [] = p
 after lent p (c ∷ cs) = after lent (step lent p c).0 cs
 
-abbrev pub outs : Lengths → Plain → List Call → List Out
+abbrev pub outs : Lengths → Plain → List (Call ℕ) → List Out
 outs lent p [] = []
 outs lent p (c ∷ cs) = (step lent p c).1 ∷ outs lent (step lent p c).0 cs
+
+-- the rows that Meaning lists for a key
+abbrev pub rows_listed : Plain → Key → List Row
+rows_listed p k = answer (query_at p k.query) k.values (rows_for p (query_at p k.query))

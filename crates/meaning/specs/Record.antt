@@ -1,5 +1,5 @@
 -- Answer records: document 01, "Meaning", second paragraph, and refusal 14. Assumes nothing: these are definitions.
-use Rattle.std.specs.Prelude.{Bool, ◌&&◌, cond, List, [], ◌∷◌, ◌++◌, ℕ, suc, ◌+◌, ◌*◌, ◌-◌, ◌/◌, ◌%◌, ◌^◌, leb, ltb, eqb, ℤ, pos, negsuc, length, take, drop, get_or}
+use Rattle.std.specs.Prelude.{Bool, ◌&&◌, cond, List, [], ◌∷◌, ◌++◌, ℕ, suc, ◌+◌, ◌*◌, ◌-◌, ◌/◌, ◌%◌, ◌^◌, leb, ltb, eqb, ℤ, pos, negsuc, length, take, drop, get_or, ◌≡◌, true, ◌≤◌, ◌<◌}
 use Rattle.lists.specs.Lists.{flat}
 use Rattle.meaning.specs.Limits.{most_items, most_listed}
 use Rattle.meaning.specs.Meaning.{Row}
@@ -81,8 +81,8 @@ unfoldable pub row_part : List ℕ → ℕ → List ℕ
 row_part bs i = take (row_length bs i) (drop (row_start bs i) bs)
 
 -- a signed number of its 32 bits
-abbrev pub number_of : ℕ → ℤ
-number_of n = cond (ltb n (2 ^ 31)) (pos n) (negsuc (2 ^ 32 - suc n))
+abbrev pub signed_of : ℕ → ℤ
+signed_of n = cond (ltb n (2 ^ 31)) (pos n) (negsuc (2 ^ 32 - suc n))
 
 -- the numbers of a row's part
 abbrev pub numbers_of : List ℕ → List ℤ
@@ -90,4 +90,12 @@ numbers_of [] = []
 numbers_of (a ∷ []) = []
 numbers_of (a ∷ b ∷ []) = []
 numbers_of (a ∷ b ∷ c ∷ []) = []
-numbers_of (a ∷ b ∷ c ∷ d ∷ bs) = number_of (four_at (a ∷ b ∷ c ∷ d ∷ []) 0) ∷ numbers_of bs
+numbers_of (a ∷ b ∷ c ∷ d ∷ bs) = signed_of (four_at (a ∷ b ∷ c ∷ d ∷ []) 0) ∷ numbers_of bs
+
+-- the bytes show the rows
+pub record ReadsBack (bs : List ℕ) (columns : ℕ) (rows : List Row) : Type 0 where
+  pub is-record : is_record bs ≡ true
+  pub columns_are : columns_in bs ≡ columns
+  pub rows_are : row_count bs ≡ length rows
+  pub shown : (i : ℕ) → i < length rows → (row_refusal bs i ≡ 0) × (numbers_of (row_part bs i) ≡ get_or rows i [])
+  pub not_shown : (i : ℕ) → length rows ≤ i → (row_refusal bs i ≡ 14) × (row_part bs i ≡ [])

@@ -5,7 +5,8 @@ use Prim.Native.String.{String}
 use Rattle.lists.specs.Lists.{bytes, all}
 use Rattle.meaning.specs.Meaning.{Row}
 use Rattle.meaning.specs.Pattern.{Pattern, number, mark, anything, removal, patterns, patterns_of_two}
-use Rattle.meaning.specs.Plain.{Lengths, Plain, table_at, query_at, update_at, pushed_by, drops_key, opened, Call, add, change, Out, refused, rows, step, after, outs}
+use Rattle.meaning.specs.Plain.{Lengths, Plain, table_at, query_at, update_at, pushed_by, drops_key, opened, Out, refused, rows, step, after, outs}
+use Rattle.meaning.specs.Call.{Call, add, change}
 use Rattle.meaning.specs.Examples.{computing, is_taken, numbers}
 
 -- stage (site, level) is a ring of two rows and rating (site, flow) a table of two
@@ -21,22 +22,22 @@ lent = record { cells = 8; memory = 0 }
 abbrev start : Plain
 start = opened (record { lent = lent; slots = 0; slot_bytes = 8 })
 
-abbrev adds : List String → List Call
+abbrev adds : List String → List (Call ℕ)
 adds ts = map (λ (t : String). add (bytes t)) ts
 
 -- a row into stage, and one into rating
-abbrev put : ℕ → ℕ → Call
+abbrev put : ℕ → ℕ → Call ℕ
 put a b = change 0 (numbers (a ∷ b ∷ []))
 
-abbrev rate : ℕ → ℕ → Call
+abbrev rate : ℕ → ℕ → Call ℕ
 rate a b = change 1 (numbers (a ∷ b ∷ []))
 
 -- the store with these texts, after these calls
-abbrev store : List String → List Call → Plain
+abbrev store : List String → List (Call ℕ) → Plain
 store ts cs = after lent start (adds (tables ++ ts) ++ cs)
 
 -- the ring is full, and (3, 30) its oldest row
-abbrev full : List Call
+abbrev full : List (Call ℕ)
 full = put 3 30 ∷ put 4 40 ∷ []
 
 -- ---- "F with its columns replaced by that row's values is worked into patterns, after those of the INSERT"
@@ -45,10 +46,10 @@ full = put 3 30 ∷ put 4 40 ∷ []
 pub record Judged : Type 0 where
   pub question : String
   pub update : String
-  pub calls : List Call
+  pub calls : List (Call ℕ)
   pub list : List Pattern
 
-abbrev judge : String → String → List Call → List Pattern → Judged
+abbrev judge : String → String → List (Call ℕ) → List Pattern → Judged
 judge q u cs ps = record { question = q; update = u; calls = cs; list = ps }
 
 abbrev insert : String
@@ -142,7 +143,7 @@ unfolding computing
 holds-12 = (refl, refl)
 
 -- a kept answer of site 3 is dropped for the row that goes, one of site 5 for the new one, and one of site 4 stays
-abbrev drops : List Call → ℕ → Bool
+abbrev drops : List (Call ℕ) → ℕ → Bool
 drops cs k = drops_key (store (Q ∷ []) cs) 0 (numbers (5 ∷ 50 ∷ [])) (record { query = 0; values = numbers (k ∷ []) })
 
 pub dropped : (drops full 3 ≡ true) × (drops full 5 ≡ true) × (drops full 4 ≡ false) × (drops (put 3 30 ∷ []) 3 ≡ false)
@@ -157,10 +158,10 @@ of_row = refl
 -- ---- rows, and no 12
 
 -- the rows of stage after the calls, and what the last call gets
-abbrev left : List String → List Call → List Row
+abbrev left : List String → List (Call ℕ) → List Row
 left ts cs = (table_at (store ts cs) 0).rows
 
-abbrev next : List Call → Call → Out
+abbrev next : List (Call ℕ) → Call ℕ → Out
 next cs c = (step lent (store [] cs) c).1
 
 abbrev pair : ℕ → ℕ → Row
@@ -196,13 +197,13 @@ unfolding computing
 others-push-nothing = (refl, refl, refl, refl)
 
 -- RING 1: each row pushes the last one out, and an answer about that one is dropped
-abbrev single : List Call → Plain
+abbrev single : List (Call ℕ) → Plain
 single cs = after lent start (adds ("TABLE t (a) RING 1" ∷ "INSERT INTO t VALUES (?)" ∷ "SELECT a FROM t WHERE a > 5" ∷ []) ++ cs)
 
-abbrev one : ℕ → Call
+abbrev one : ℕ → Call ℕ
 one a = change 0 (numbers (a ∷ []))
 
-abbrev drops_one : List Call → ℕ → Bool
+abbrev drops_one : List (Call ℕ) → ℕ → Bool
 drops_one cs a = drops_key (single cs) 0 (numbers (a ∷ [])) (record { query = 0; values = [] })
 
 pub ring-of-one :

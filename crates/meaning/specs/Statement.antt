@@ -2,7 +2,7 @@
 -- "Question marks are numbered from 1, left to right" through the whole statement. Parentheses and NOTs stay.
 -- Document 01, "Statement texts"; requests A.1, A.4 and A.5. Assumes nothing: these are definitions.
 use Rattle.std.proofs.Math.Option.{Option, none, some}
-use Rattle.std.specs.Prelude.{List, [], ◌∷◌, map, ℕ, suc, ◌+◌, ℤ, nat_abs, length}
+use Rattle.std.specs.Prelude.{List, [], ◌∷◌, map, ℕ, suc, ◌+◌, ℤ, nat_abs, length, Bool, true, ltb}
 use Rattle.meaning.specs.Condition.{Comparison, Level, Condition, compare, negate, group, alone, both, single, either, comparisons, sides, Where, always, under, mapped_in}
 use Rattle.meaning.specs.Tokens.{Name}
 use Rattle.meaning.specs.Grammar as G
@@ -129,3 +129,8 @@ statement_of ts (G.delete t w) =
       change = delete (resolved_where (position (columns_of ts t)) 0 (mapped_in comparison w));
       parameters = mark_count (givens (G.delete t w));
     })
+
+-- a column is one of the first n
+abbrev pub is_below : ℕ → Operand → Bool
+is_below n (column i) = ltb i n
+is_below n (value v) = true

@@ -19,9 +19,9 @@ use Rattle.meaning.specs.Condition.{renamed, sides}
 use Rattle.meaning.specs.Statement as M
 use Rattle.meaning.specs.Pattern.{Joint}
 use Rattle.statement.specs.Operators.{predicate_at}
-use Rattle.pattern.specs.Least.{Coded, code_of, coded}
-use Rattle.pattern.specs.Masks.{select}
-use Rattle.pattern.specs.Flat.{comparison_at, clause_at, Narrow, Readable, Coding, Extended}
+use Rattle.pattern.specs.Private.Least.{Coded, code_of, coded}
+use Rattle.pattern.specs.Private.Masks.{select}
+use Rattle.pattern.specs.Private.Flat.{comparison_at, clause_at, Narrow, Readable, Coding, Extended}
 use Rattle.pattern.proofs.Mapped.{from_last}
 use Rattle.pattern.proofs.Numbering.{coding-readable}
 

@@ -23,8 +23,8 @@ use Rattle.meaning.proofs.Exact.{found}
 use Rattle.statement.specs.declared.Query.{Query}
 use Rattle.statement.specs.declared.Update.{Update}
 use Rattle.statement.specs.Sound.{settings_read}
-use Rattle.table.specs.Evaluated.{selected_stored}
-use Rattle.pattern.specs.Literals.{Literal, wanted, falses, set_operand, holds_number, alterations}
+use Rattle.table.specs.Rows.{selected_stored}
+use Rattle.pattern.specs.Private.Literals.{Literal, wanted, falses, set_operand, holds_number, alterations}
 use Rattle.pattern.proofs.Choice.{met, Proper}
 use Rattle.pattern.proofs.Plain.{set-cell}
 

@@ -20,10 +20,10 @@ use Rattle.meaning.specs.Limits.{is_within32}
 use Rattle.meaning.specs.Postfix.{Node, leaf, all_of, any_of, top, joined, run_on, clauses_of_nodes}
 use Rattle.meaning.specs.Statement.{Operand, column, value}
 use Rattle.meaning.specs.Meaning.{Row, cell, value_of, operand_value}
-use Rattle.meaning.specs.Demand.{Is32}
+use Rattle.meaning.specs.Call.{Is32}
 use Rattle.meaning.specs.Exact.{compares_columns, with_columns, IsRow, critical}
 use Rattle.meaning.proofs.Exact.{Apart, Stands, stands, ordered-left, ordered-right, found}
-use Rattle.pattern.specs.Literals.{Literal, agree, column_by, column_in, is_other, at_value, fits_at, number_beside, with_next, tried, column_possible, possible, exchanged, clauses_not}
+use Rattle.pattern.specs.Private.Literals.{Literal, agree, column_by, column_in, is_other, at_value, fits_at, number_beside, with_next, tried, column_possible, possible, exchanged, clauses_not}
 
 -- a row meets a literal
 abbrev pub met : Row → Literal → Bool

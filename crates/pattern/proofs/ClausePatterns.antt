@@ -14,9 +14,9 @@ use Rattle.pattern.specs.declared.Entry.TheVariants.{Any}
 use Rattle.pattern.specs.declared.Entry.{Entry}
 use Rattle.pattern.specs.declared.Pattern.{Pattern}
 use Rattle.pattern.specs.declared.joint.Joined.{Joined}
-use Rattle.pattern.specs.Least.{asked_from, code_of, Coded, coded}
+use Rattle.pattern.specs.Private.Least.{asked_from, code_of, Coded, coded}
 use Rattle.pattern.specs.Stored.{entry_struct, pattern_struct, clause_pattern}
-use Rattle.pattern.specs.Flat.{clause_at, Narrow, Readable, Ready, coded_pattern, no_clause, Extended}
+use Rattle.pattern.specs.Private.Flat.{clause_at, Narrow, Readable, Ready, coded_pattern, no_clause, Extended}
 use Rattle.pattern.proofs.OperandCodes.{Fits}
 use Rattle.pattern.proofs.Clauses.{least-pattern}
 

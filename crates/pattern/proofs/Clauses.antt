@@ -26,9 +26,10 @@ use Rattle.statement.specs.declared.Query.{Query}
 use Rattle.statement.specs.declared.Setting.{Setting}
 use Rattle.statement.specs.declared.Update.{Update}
 use Rattle.statement.specs.Compiled.{left_side, right_side, new_value}
-use Rattle.statement.specs.Sound.{value_read, operand_read, comparison_read, no_comparison, nodes_read, used_comparisons, used_steps, condition_nodes, used_settings, setting_read, settings_read, setting_values}
+use Rattle.statement.specs.Sound.{value_read, operand_read, comparison_read, no_comparison, nodes_read, used_comparisons, used_steps, condition_nodes, used_settings, setting_read, settings_read}
+use Rattle.statement.specs.SoundTest.{setting_values}
 use Rattle.pattern.specs.Stored.{clauses_read, query_clauses, both_clauses, joint_clauses, pattern_struct, clause_pattern}
-use Rattle.pattern.specs.Least.{coded, contradicts, least_entry}
+use Rattle.pattern.specs.Private.Least.{coded, contradicts, least_entry}
 use Rattle.pattern.proofs.OperandCodes.{Fits}
 use Rattle.pattern.proofs.Least.{least-contradicts, least-entry}
 

@@ -21,10 +21,11 @@ use Rattle.meaning.specs.Pattern.{placed_from}
 use Rattle.meaning.specs.Exact.{IsRow}
 use Rattle.statement.specs.declared.Query.{Query}
 use Rattle.statement.specs.declared.Update.{Update}
-use Rattle.statement.specs.Sound.{settings_read, setting_values}
-use Rattle.table.specs.Evaluated.{meets_stored, selected_stored}
+use Rattle.statement.specs.Sound.{settings_read}
+use Rattle.statement.specs.SoundTest.{setting_values}
+use Rattle.table.specs.Rows.{meets_stored, selected_stored}
 use Rattle.pattern.specs.Stored.{separate_stored, matters_stored}
-use Rattle.pattern.specs.Literals.{Literal, wanted, trues, falses, filled_operand, after_operand, possible, where_clauses, not_clauses, alterations, some_possible, decided}
+use Rattle.pattern.specs.Private.Literals.{Literal, wanted, trues, falses, filled_operand, after_operand, possible, where_clauses, not_clauses, alterations, some_possible, decided}
 use Rattle.pattern.proofs.Choice.{met, Proper, decides}
 use Rattle.pattern.proofs.Plain.{Plain, plain-proper, filled-tame, after-tame, Separate, separate-is, filled-where, filled-not, says-filled, says-set, says-placed, where-says, not-says}
 use Rattle.pattern.proofs.Altering.{alters, alterations-proper}

@@ -27,11 +27,11 @@ use Rattle.pattern.specs.declared.joint.Role.TheVariants.{Given, Asked, Inserted
 use Rattle.pattern.specs.declared.masks.Clauses.{Clauses}
 use Rattle.pattern.specs.declared.labels.Compared.{Compared}
 use Rattle.pattern.specs.declared.filled.Filled.{Filled}
-use Rattle.pattern.specs.Deciding as Deciding
-use Rattle.pattern.specs.Masks.{select, comparisons_read, Masked}
+use Rattle.pattern.specs.Private.Deciding as Deciding
+use Rattle.pattern.specs.Private.Masks.{select, comparisons_read, Masked}
 use Rattle.pattern.specs.Stored.{separate_stored, affects_stored, reaches_stored}
-use Rattle.pattern.specs.Literals.{Literal, wanted, trues, falses, possible, role_operand, set_operand, holds_number, alterations_of, alterations, where_clauses, not_clauses, NotMasked, some_possible, decided}
-use Rattle.pattern.specs.Deciding.{literal, tests_in, masks_in, clause_in, clauses_in, possible_code, some_beside, some_pair, changed_by, test_read, literal_read, Sides, Reads, FilledAs, altered_tests, IsApart, Sound, Stands, Each}
+use Rattle.pattern.specs.Private.Literals.{Literal, wanted, trues, falses, possible, role_operand, set_operand, holds_number, alterations_of, alterations, where_clauses, not_clauses, NotMasked, some_possible, decided}
+use Rattle.pattern.specs.Private.Deciding.{literal, tests_in, masks_in, clause_in, clauses_in, possible_code, some_beside, some_pair, changed_by, test_read, literal_read, Sides, Reads, FilledAs, altered_tests, IsApart, Sound, Stands, Each}
 use Rattle.pattern.proofs.Adding.{all-select}
 use Rattle.pattern.proofs.Relevant.{any-or}
 use Rattle.pattern.proofs.Plain.{apart-renamed, role-tame}

@@ -25,11 +25,11 @@ use Rattle.statement.specs.Sound.{comparison_read, no_comparison as none, nodes_
 use Rattle.pattern.specs.declared.masks.Clauses.{Clauses}
 use Rattle.pattern.specs.declared.joint.Role.{Role}
 use Rattle.pattern.specs.declared.joint.Role.TheVariants.{Given, Asked, Inserted, Set}
-use Rattle.pattern.specs.Masks.{select, comparisons_read, Masked}
-use Rattle.pattern.specs.Flat.{values_of, operand_of}
+use Rattle.pattern.specs.Private.Masks.{select, comparisons_read, Masked}
+use Rattle.pattern.specs.Private.Flat.{values_of, operand_of}
 use Rattle.pattern.specs.Stored.{clauses_read, is_formed, is_plain, plain_condition, separate_stored}
-use Rattle.pattern.specs.Literals.{set_operand, role_operand, exchanged, clauses_not, exchanged_step, exchanged_of, NotMasked, alike_stored}
-use Rattle.pattern.specs.Deciding.{filled_joint, IsApart, Separated}
+use Rattle.pattern.specs.Private.Literals.{set_operand, role_operand, exchanged, clauses_not, exchanged_step, exchanged_of, NotMasked, alike_stored}
+use Rattle.pattern.specs.Private.Deciding.{filled_joint, IsApart, Separated}
 use Rattle.pattern.proofs.Formed.{balanced-nodes, formed-some, formed-few}
 use Rattle.pattern.proofs.Plain.{formed-leaves, plain-formed, plain-leaves, plain-separate}
 

@@ -15,7 +15,7 @@ use Rattle.statement.specs.declared.Comparison.{Comparison}
 use Rattle.statement.specs.declared.Condition.{Condition}
 use Rattle.statement.specs.Sound.{nodes_read, used_steps, used_comparisons, condition_nodes}
 use Rattle.pattern.specs.Stored.{is_formed}
-use Rattle.pattern.specs.Masks.{balanced}
+use Rattle.pattern.specs.Private.Masks.{balanced}
 
 -- the comparisons do not matter
 pub balanced-nodes : (k : ℕ) (ss : List ℕ) (cs : List Comparison) → balanced_on k (nodes_read ss cs) ≡ balanced k ss

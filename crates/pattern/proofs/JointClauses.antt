@@ -23,9 +23,9 @@ use Rattle.statement.specs.declared.Update.{Update}
 use Rattle.statement.specs.Sound.{settings_read}
 use Rattle.pattern.specs.declared.masks.Clauses.{Clauses}
 use Rattle.pattern.specs.Stored.{start_read, clauses_read, query_clauses, update_clauses, both_clauses, joint_clauses, joint, is_formed, all_any}
-use Rattle.pattern.specs.Masks.{select, comparisons_read, Masked}
-use Rattle.pattern.specs.Flat.{column_of, operand_of, chosen_of}
-use Rattle.pattern.specs.Pairs.{total_of, role_clauses, pair_at, Worked, Paired}
+use Rattle.pattern.specs.Private.Masks.{select, comparisons_read, Masked}
+use Rattle.pattern.specs.Private.Flat.{column_of, operand_of, chosen_of}
+use Rattle.pattern.specs.Private.Pairs.{total_of, role_clauses, pair_at, Worked, Paired}
 use Rattle.pattern.specs.declared.joint.Role.{Role}
 use Rattle.pattern.specs.declared.joint.Role.TheVariants.{Given, Asked, Inserted, Set}
 use Rattle.pattern.specs.declared.pairing.Pairing.{Pairing}

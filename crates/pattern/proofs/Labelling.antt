@@ -22,9 +22,9 @@ use Rattle.statement.specs.Operators.{predicate_at}
 use Rattle.pattern.specs.declared.Entry.TheVariants.{Any}
 use Rattle.pattern.specs.declared.Entry.{Entry}
 use Rattle.pattern.specs.declared.Pattern.{Pattern}
-use Rattle.pattern.specs.Least.{asked_from, Coded, join_least, least_on, least, clashes, clashes_on, fails, contradicts, entry_of_code, least_entry}
+use Rattle.pattern.specs.Private.Least.{asked_from, Coded, join_least, least_on, least, clashes, clashes_on, fails, contradicts, entry_of_code, least_entry}
 use Rattle.pattern.specs.Stored.{entry_struct, pattern_struct}
-use Rattle.pattern.specs.Flat.{comparison_at, clause_at, failing, Readable, LabelsOf, entries_of, coded_pattern}
+use Rattle.pattern.specs.Private.Flat.{comparison_at, clause_at, failing, Readable, LabelsOf, entries_of, coded_pattern}
 use Rattle.pattern.proofs.Searching.{fill_more, fill_done}
 use Rattle.pattern.proofs.Mapped.{get_or-map-in, drop-replicate, from_at}
 

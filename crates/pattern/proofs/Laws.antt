@@ -34,7 +34,8 @@ use Rattle.meaning.proofs.Clauses.{clauses_of-replaced, joint-length}
 use Rattle.meaning.proofs.Postfix.{sides-in, postfix-where}
 use Rattle.meaning.proofs.Weakening.{any-clause, matches-two, answer_stays}
 use Rattle.statement.specs.Compiled.{padded, left_side, right_side, new_value, form_of_change, settings_of_change, where_of_change, update_struct}
-use Rattle.statement.specs.Sound.{value_read, operand_read, used_comparisons, used_settings, second_read, settings_read, setting_operands, condition_nodes, columns_at, sound_query, sound_update, AgreesCondition, AgreesQuery, AgreesUpdate}
+use Rattle.statement.specs.Sound.{value_read, operand_read, used_comparisons, used_settings, second_read, settings_read, condition_nodes, AgreesCondition, AgreesQuery, AgreesUpdate}
+use Rattle.statement.specs.SoundTest.{setting_operands, columns_at, sound_query, sound_update}
 use Rattle.statement.proofs.Assembled.{take-padded}
 use Rattle.statement.proofs.SoundSettings.{placed-values}
 use Rattle.statement.proofs.SoundCondition.{agrees-clauses, condition-parts}
@@ -46,12 +47,12 @@ use Rattle.statement.specs.declared.Condition.{Condition}
 use Rattle.statement.specs.declared.Query.{Query}
 use Rattle.statement.specs.declared.Value.{Value}
 use Rattle.statement.specs.declared.Update.{Update}
-use Rattle.table.specs.Evaluated.{answer_stored}
+use Rattle.table.specs.Rows.{answer_stored}
 use Rattle.table.proofs.Means.{answer-means}
 use Rattle.pattern.specs.declared.Pattern.{Pattern}
 use Rattle.pattern.specs.declared.Entry.TheVariants.{Any}
-use Rattle.pattern.specs.Relevance.{is_read}
-use Rattle.pattern.specs.Stored.{side_by, side_read, start_by, start_read, columns_used, touches, relevant, clauses_read, query_clauses, both_clauses, joint_clauses, joint, is_formed, all_any, entry_count, patterns_stored, matches_stored, clause_total, entry_struct, pattern_struct, clause_pattern, pattern_at, filled_entry, filled_of, entry_read, agrees_stored, clause_agrees}
+use Rattle.pattern.specs.Stored.{is_read, side_by, side_read, start_by, start_read, columns_used, touches, relevant, clauses_read, query_clauses, both_clauses, joint_clauses, joint, is_formed, all_any, entry_count, patterns_stored, matches_stored, clause_total, entry_struct, pattern_struct, clause_pattern, pattern_at, filled_entry, filled_of, entry_read, agrees_stored}
+use Rattle.pattern.specs.Private.Flat.{clause_agrees}
 use Rattle.pattern.proofs.Least.{lowest-within}
 use Rattle.pattern.proofs.Clauses.{joint-have}
 use Rattle.pattern.proofs.Removal.{removal-agrees}

@@ -25,7 +25,8 @@ use Rattle.pattern.specs.declared.Entry.{Entry}
 use Rattle.pattern.specs.declared.Entry.TheVariants.{Constant, Parameter, Any}
 use Rattle.pattern.specs.declared.Pattern.{Pattern}
 use Rattle.pattern.specs.declared.Patterns.{Patterns}
-use Rattle.pattern.specs.Stored.{relevant, joint, all_any, entry_count, clause_total, entry_struct, pattern_struct, blank, pattern_at, patterns_stored, pattern_list, with_pattern, same_struct, entry_read}
+use Rattle.pattern.specs.Stored.{relevant, joint, all_any, entry_count, clause_total, entry_struct, pattern_struct, blank, pattern_at, patterns_stored, pattern_list, entry_read}
+use Rattle.pattern.specs.Private.Flat.{with_pattern, same_struct}
 use Rattle.pattern.proofs.Laws.{CountedEntry, joint-counted, pattern-counted, any-counted, pattern-length}
 use Rattle.statement.proofs.Assembled.{take-padded}
 use Rattle.pattern.proofs.Agreeing.{total-few, at-many, at-worked}

@@ -15,8 +15,8 @@ use Rattle.meaning.specs.Pattern.{Joint, column, constant, asked, given, of_valu
 use Rattle.statement.specs.declared.Setting.{Setting}
 use Rattle.statement.specs.Compiled.{new_value}
 use Rattle.statement.specs.Sound.{value_read, setting_read}
-use Rattle.pattern.specs.Least.{columns_from}
-use Rattle.pattern.specs.Flat.{values_of, Coding, SetOnce, Readable}
+use Rattle.pattern.specs.Private.Least.{columns_from}
+use Rattle.pattern.specs.Private.Flat.{values_of, Coding, SetOnce, Readable}
 use Rattle.pattern.proofs.OperandCodes.{constant-below}
 use Rattle.pattern.proofs.Mapped.{get_or-map-in}
 

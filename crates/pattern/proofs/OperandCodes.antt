@@ -10,7 +10,7 @@ use borrow.Author.Tests.{leb-true, lt-ltb, le-ltb}
 use Rattle.lists.proofs.Bools.{and_left}
 use Rattle.meaning.specs.Limits.{is_within32}
 use Rattle.meaning.specs.Pattern.{Joint, column, constant, asked, given, Entry, number, mark, anything}
-use Rattle.pattern.specs.Least.{marks_from, asked_from, columns_from, constant_code, code_of, code_constant, entry_of_code}
+use Rattle.pattern.specs.Private.Least.{marks_from, asked_from, columns_from, constant_code, code_of, code_constant, entry_of_code}
 
 -- an operand of a stored statement: constants have 32 bits, and there is room for marks and columns
 abbrev pub Fits : Joint → Type 0

@@ -16,9 +16,8 @@ use Rattle.lists.proofs.Lists.{All-head, All-tail, All-map, All-image, all_true}
 use Rattle.meaning.specs.Operator.{Predicate, by, is-null, is-not-null, truth}
 use Rattle.meaning.specs.Condition.{Comparison, renamed, holds}
 use Rattle.meaning.specs.Postfix.{Node, leaf, all_of, any_of, top, joined, run_on, leaves, is_postfix, clauses_of_nodes}
-use Rattle.meaning.specs.Resolve.{is_below}
+use Rattle.meaning.specs.Statement.{is_below, Operand, column, value, constant}
 use Rattle.meaning.specs.Statement as M
-use Rattle.meaning.specs.Statement.{Operand, column, value, constant}
 use Rattle.meaning.specs.Meaning.{Row, cell, value_of, operand_value, new_row, assigned}
 use Rattle.meaning.specs.Pattern.{placed_from}
 use Rattle.meaning.specs.Exact.{is_column, compares_columns, with_columns}
@@ -28,11 +27,11 @@ use Rattle.statement.specs.declared.Query.{Query}
 use Rattle.statement.specs.declared.Update.{Update}
 use Rattle.statement.specs.Sound.{used_steps, used_comparisons, condition_nodes, settings_read}
 use Rattle.statement.proofs.Stored.{read_length, read-leaves, postfix-leaves}
-use Rattle.table.specs.Evaluated.{meets_stored}
+use Rattle.table.specs.Rows.{meets_stored}
 use Rattle.pattern.specs.Stored.{clauses_read, is_formed, is_plain, plain_condition, separate_stored}
-use Rattle.pattern.specs.Masks.{comparisons_read}
-use Rattle.pattern.specs.Flat.{values_of}
-use Rattle.pattern.specs.Literals.{column_by, wanted, filled_operand, set_operand, after_operand, role_operand, exchanged, clauses_not, where_clauses, not_clauses}
+use Rattle.pattern.specs.Private.Masks.{comparisons_read}
+use Rattle.pattern.specs.Private.Flat.{values_of}
+use Rattle.pattern.specs.Private.Literals.{column_by, wanted, filled_operand, set_operand, after_operand, role_operand, exchanged, clauses_not, where_clauses, not_clauses}
 use Rattle.pattern.specs.declared.joint.Role.{Role}
 use Rattle.pattern.specs.declared.joint.Role.TheVariants.{Given, Asked, Inserted, Set}
 use Rattle.pattern.proofs.Formed.{steps-length}

@@ -19,10 +19,10 @@ use Rattle.meaning.specs.Operator.{Predicate, by, is-null, is-not-null, opposite
 use Rattle.meaning.specs.Condition as C
 use Rattle.meaning.specs.Condition.{Comparison, Level, compare, negate, group, alone, both, single, either, Where, always, under, comparisons, sides, comparisons_in, operands_in, holds}
 use Rattle.meaning.specs.Postfix.{Node, leaf, all_of, any_of, top, joined, signed, nodes_in, leaves, run_on}
-use Rattle.meaning.specs.Resolve.{is_below, parameter_count}
+use Rattle.meaning.specs.Resolve.{parameter_count}
+use Rattle.meaning.specs.Statement.{is_below, Operand, constant, Change, insert, delete, update}
 use Rattle.meaning.specs.Names.{Schema, no_schema}
 use Rattle.meaning.specs.Statement as M
-use Rattle.meaning.specs.Statement.{Operand, constant, Change, insert, delete, update}
 use Rattle.meaning.specs.Meaning.{Row, cell, value_of, operand_value, takes, new_row, assigned}
 use Rattle.meaning.specs.Pattern.{matters, removal}
 use Rattle.meaning.specs.Exact.{compares_columns, with_columns, comparisons_of, is_single, is_separate, Affected, numbers_in, change_numbers, critical, rows_from, affects, drops}
@@ -32,13 +32,14 @@ use Rattle.statement.specs.declared.Condition.{Condition}
 use Rattle.statement.specs.declared.Query.{Query}
 use Rattle.statement.specs.declared.Update.{Update}
 use Rattle.statement.specs.Compiled.{form_of_change, settings_of_change, where_of_change, update_struct}
-use Rattle.statement.specs.Sound.{condition_nodes, second_by, settings_read, setting_values, setting_operands, sound_condition, sound_form, columns_at, columns_with, sound_query, sound_update, AgreesCondition, AgreesQuery, AgreesUpdate}
+use Rattle.statement.specs.Sound.{condition_nodes, second_by, settings_read, AgreesCondition, AgreesQuery, AgreesUpdate}
+use Rattle.statement.specs.SoundTest.{setting_values, setting_operands, sound_condition, sound_form, columns_at, columns_with, sound_query, sound_update}
 use Rattle.statement.proofs.Stored.{map-twice}
 use Rattle.statement.proofs.SoundSettings.{placed-values, placed-length}
 use Rattle.statement.proofs.SoundCondition.{condition-parts}
 use Rattle.statement.proofs.SoundQuery.{columns_for, query-parts}
 use Rattle.statement.proofs.SoundUpdate.{update-parts}
-use Rattle.table.specs.Evaluated.{meets_stored}
+use Rattle.table.specs.Rows.{meets_stored}
 use Rattle.table.proofs.Means.{meets-where}
 use Rattle.pattern.specs.Stored.{is_formed, is_plain, plain_condition, separate_stored, matters_stored, numbers_stored, change_numbers_stored, affects_stored, matches_stored, reaches_stored}
 use Rattle.pattern.proofs.Removal.{removal-agrees}

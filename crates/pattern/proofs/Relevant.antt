@@ -27,8 +27,8 @@ use Rattle.statement.specs.declared.Update.{Update}
 use Rattle.statement.specs.Compiled.{new_value}
 use Rattle.statement.specs.Terms.{second_said}
 use Rattle.statement.specs.Sound.{value_read, comparison_read, nodes_read, used_comparisons, used_steps, condition_nodes, second_by, second_read, setting_read, settings_read}
-use Rattle.pattern.specs.Stored.{side_read, start_by, start_read, columns_used, touches, relevant}
-use Rattle.pattern.specs.Relevance.{is_read, is_among, names_any, tests_any, comparison_steps, sets_used}
+use Rattle.pattern.specs.Stored.{side_read, start_by, start_read, columns_used, touches, relevant, is_read}
+use Rattle.pattern.specs.Private.Relevance.{is_among, names_any, tests_any, comparison_steps, sets_used}
 
 -- ---- the columns of sides
 

@@ -19,7 +19,7 @@ use Rattle.statement.specs.Sound.{comparison_read, nodes_read, used_comparisons,
 use Rattle.pattern.specs.Stored.{clauses_read}
 use Rattle.pattern.specs.declared.masks.Clauses.{Clauses}
 use Rattle.pattern.specs.declared.masks.Stack.{Stack}
-use Rattle.pattern.specs.Masks.{select, sums, balanced, no_stack, stepped_of, Steps, comparisons_read, Masked}
+use Rattle.pattern.specs.Private.Masks.{select, sums, balanced, no_stack, stepped_of, Steps, comparisons_read, Masked}
 use Rattle.pattern.proofs.Selecting.{select-one, and-clauses, most-18}
 use Rattle.pattern.proofs.Stacking.{Stacked, stacked-few, stacked-push, stacked-either, stacked-both, upper, Holds, pushes, push-holds, joins, either-holds, both-holds}
 use Rattle.pattern.proofs.Formed.{balanced-few, steps-length, steps_next}

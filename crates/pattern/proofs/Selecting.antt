@@ -14,7 +14,7 @@ use Rattle.lists.specs.Lists.{All, nil, cons, cons_if, all, pairs, from}
 use Rattle.lists.proofs.Bools.{and_left, and_right}
 use Rattle.lists.proofs.Lists.{All-map, All-append, map-append, all_true}
 use Rattle.lists.proofs.Changed.{from-has}
-use Rattle.pattern.specs.Masks.{select, sums}
+use Rattle.pattern.specs.Private.Masks.{select, sums}
 
 -- ---- no bit, one bit, and two masks that share no bit
 

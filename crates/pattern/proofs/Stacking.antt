@@ -11,7 +11,7 @@ use lib.Seq.{take_at, drop_at, take-suc-set, take-take, get_or-take, get_or_at, 
 use Rattle.lists.specs.Lists.{All, nil, cons}
 use Rattle.lists.proofs.Written.{length-written}
 use Rattle.pattern.specs.declared.masks.Stack.{Stack}
-use Rattle.pattern.specs.Masks.{sums, pushed_of, either_of, both_of, right_of, left_of, start_of, lefts, rights, Pushes, Joins}
+use Rattle.pattern.specs.Private.Masks.{sums, pushed_of, either_of, both_of, right_of, left_of, mask_start, lefts, rights, Pushes, Joins}
 use Rattle.pattern.proofs.Sums.{sums-length}
 use Rattle.pattern.proofs.Selecting.{Within, all_either, all_both, sums_fit, most, most-18, most-both}
 
@@ -176,7 +176,7 @@ module _ (s : Stack) (q : ℕ) (rs ls : List ℕ) (st : List (List ℕ)) (H : Ho
   in_all : length (masks_in (rs ∷ ls ∷ st)) ≡ length (masks_in st) + length ls + length rs
   in_all = omega (arith, length-append (masks_in st ++ ls) rs, length-append (masks_in st) ls)
 
-  start_is : start_of s ≡ length (masks_in st)
+  start_is : mask_start s ≡ length (masks_in st)
   start_is = omega (arith, in_all, H.total_is, left_is, right_is)
 
   abbrev rest : List ℕ
@@ -191,19 +191,19 @@ module _ (s : Stack) (q : ℕ) (rs ls : List ℕ) (st : List (List ℕ)) (H : Ho
 
   pub lefts-are : lefts s ≡ ls
   lefts-are =
-      ap₂ (λ (n : ℕ) (l : List ℕ). take n (drop (start_of s) l)) left_is parts
-      ∙ ap (take (length ls)) (drop_at (masks_in st) (ls ++ (rs ++ rest)) (start_of s) (sym start_is))
+      ap₂ (λ (n : ℕ) (l : List ℕ). take n (drop (mask_start s) l)) left_is parts
+      ∙ ap (take (length ls)) (drop_at (masks_in st) (ls ++ (rs ++ rest)) (mask_start s) (sym start_is))
       ∙ take_at ls (rs ++ rest) (length ls) refl
 
   pub rights-are : rights s ≡ rs
   rights-are =
-      let n : length (masks_in st ++ ls) ≡ start_of s + left_of s = omega (arith, start_is, left_is, length-append (masks_in st) ls) in
-      ap₂ (λ (k : ℕ) (l : List ℕ). take k (drop (start_of s + left_of s) l)) right_is (parts ∙ sym (append_assoc (masks_in st) ls (rs ++ rest)))
-      ∙ ap (take (length rs)) (drop_at (masks_in st ++ ls) (rs ++ rest) (start_of s + left_of s) n)
+      let n : length (masks_in st ++ ls) ≡ mask_start s + left_of s = omega (arith, start_is, left_is, length-append (masks_in st) ls) in
+      ap₂ (λ (k : ℕ) (l : List ℕ). take k (drop (mask_start s + left_of s) l)) right_is (parts ∙ sym (append_assoc (masks_in st) ls (rs ++ rest)))
+      ∙ ap (take (length rs)) (drop_at (masks_in st ++ ls) (rs ++ rest) (mask_start s + left_of s) n)
       ∙ take_at rs rest (length rs) refl
 
-  below-masks : take (start_of s) s.masks ≡ masks_in st
-  below-masks = ap (take (start_of s)) parts ∙ take_at (masks_in st) (ls ++ (rs ++ rest)) (start_of s) (sym start_is)
+  below-masks : take (mask_start s) s.masks ≡ masks_in st
+  below-masks = ap (take (mask_start s)) parts ∙ take_at (masks_in st) (ls ++ (rs ++ rest)) (mask_start s) (sym start_is)
 
   product_is : left_of s * right_of s ≡ length (sums ls rs)
   product_is = ap₂ ◌*◌ left_is right_is ∙ sym (sums-length ls rs)
@@ -238,13 +238,13 @@ module _ (s : Stack) (q : ℕ) (rs ls : List ℕ) (st : List (List ℕ)) (H : Ho
       let xs : List ℕ = sums (lefts s) (rights s) in
       let same : xs ≡ sums ls rs = ap₂ sums lefts-are rights-are in
       let n : length xs ≡ left_of s * right_of s = ap length same ∙ sym product_is in
-      let room : start_of s + length xs ≤ length s.masks = omega (arith, joins.sums_room, H.masks_long) in
-      let front : length (take (start_of s) s.masks ++ xs) ≡ start_of s + left_of s * right_of s =
-      length-append (take (start_of s) s.masks) xs ∙ ap₂ ◌+◌ (length-take-le (start_of s) s.masks (omega arith)) n in
+      let room : mask_start s + length xs ≤ length s.masks = omega (arith, joins.sums_room, H.masks_long) in
+      let front : length (take (mask_start s) s.masks ++ xs) ≡ mask_start s + left_of s * right_of s =
+      length-append (take (mask_start s) s.masks) xs ∙ ap₂ ◌+◌ (length-take-le (mask_start s) s.masks (omega arith)) n in
       record {
-        masks_long = length-written s.masks (start_of s) xs room ∙ H.masks_long;
+        masks_long = length-written s.masks (mask_start s) xs room ∙ H.masks_long;
         lengths_long = length-set s.lengths (s.depth - 2) (left_of s * right_of s) ∙ H.lengths_long;
-        masks_are = take_at (take (start_of s) s.masks ++ xs) (drop (start_of s + length xs) s.masks) (start_of s + left_of s * right_of s) front
+        masks_are = take_at (take (mask_start s) s.masks ++ xs) (drop (mask_start s + length xs) s.masks) (mask_start s + left_of s * right_of s) front
             ∙ ap₂ ◌++◌ below-masks same;
         total_is = omega (arith, start_is, product_is, length-append (masks_in st) (sums ls rs));
         lengths_are = joined-lengths (left_of s * right_of s) ∙ ap (λ (n : ℕ). lengths_in st ++ (n ∷ [])) product_is;
@@ -260,13 +260,13 @@ module _ (s : Stack) (long : length s.masks ≡ 18) (J : Joins s) (l r start : �
   lefts-there : take (start + l - start) (drop start s.masks) ≡ lefts s
   lefts-there =
       let n : start + l - start ≡ left_of s = omega arith in
-      let k : start ≡ start_of s = omega arith in
+      let k : start ≡ mask_start s = omega arith in
       ap₂ (λ (m at : ℕ). take m (drop at s.masks)) n k
 
   rights-there : take (start + l + r - (start + l)) (drop (start + l) s.masks) ≡ rights s
   rights-there =
       let n : start + l + r - (start + l) ≡ right_of s = omega arith in
-      let k : start + l ≡ start_of s + left_of s = omega arith in
+      let k : start + l ≡ mask_start s + left_of s = omega arith in
       ap₂ (λ (m at : ℕ). take m (drop at s.masks)) n k
 
   abbrev Fitting : List ℕ → List ℕ → Type 0
@@ -274,9 +274,9 @@ module _ (s : Stack) (long : length s.masks ≡ 18) (J : Joins s) (l r start : �
 
   pub products-fit : Fitting (take (start + l - start) (drop start s.masks)) (take (start + l + r - (start + l)) (drop (start + l) s.masks))
   products-fit =
-      let nl : length (lefts s) ≡ left_of s = length-take-le (left_of s) (drop (start_of s) s.masks) (simp length-drop (omega (arith, J.inside, J.within))) in
-      let nr : length (rights s) ≡ right_of s = length-take-le (right_of s) (drop (start_of s + left_of s) s.masks) (simp length-drop (omega (arith, J.inside, J.within))) in
-      let k : start ≡ start_of s = omega arith in
+      let nl : length (lefts s) ≡ left_of s = length-take-le (left_of s) (drop (mask_start s) s.masks) (simp length-drop (omega (arith, J.inside, J.within))) in
+      let nr : length (rights s) ≡ right_of s = length-take-le (right_of s) (drop (mask_start s + left_of s) s.masks) (simp length-drop (omega (arith, J.inside, J.within))) in
+      let k : start ≡ mask_start s = omega arith in
       subst (λ (x : List ℕ). Fitting x (take (start + l + r - (start + l)) (drop (start + l) s.masks))) (sym lefts-there)
       (subst (Fitting (lefts s)) (sym rights-there)
       (subst (λ (n : ℕ). n ≤ 18) (ap₂ ◌+◌ (sym k) (sym (ap₂ ◌*◌ nl nr))) J.sums_room, long, J.sums_fit))

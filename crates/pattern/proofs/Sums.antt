@@ -11,7 +11,7 @@ use Rattle.lists.specs.Lists.{All, written}
 use Rattle.lists.proofs.Places.{All-at}
 use Rattle.lists.proofs.Written.{written-append, length-written}
 use Rattle.table.proofs.Copied.{pasted}
-use Rattle.pattern.specs.Masks.{sums}
+use Rattle.pattern.specs.Private.Masks.{sums}
 
 -- ---- a row: a mask and each of a list
 

@@ -4,25 +4,25 @@ use Rattle.std.specs.Prelude.{Some, None, ◌≡◌, refl, Bool, true, false, Li
 use Prim.Native.String.{String}
 use Rattle.lists.specs.Lists.{bytes}
 use Rattle.meaning.specs.Tokens.{is_name_byte, is_word_byte, decimal, is_name, word, negative, token_from, first_token, scan, tokens}
-use Rattle.meaning.specs.Grammar.{a_condition, a_sentence, read}
+use Rattle.meaning.specs.Reader.{a_condition, a_sentence, read}
 use Rattle.meaning.specs.Limits.{past_limit}
-use Rattle.meaning.specs.Names.{unknown, taken, miscounted, twice}
+use Rattle.meaning.specs.Names.{unknown_name, taken, miscounted, twice}
 use Rattle.meaning.specs.Operator.{null}
 use Rattle.meaning.specs.Statement.{statement_of}
-use Rattle.meaning.specs.Plain.{other_lengths, no_place}
+use Rattle.meaning.specs.Plain.{other_lengths}
+use Rattle.meaning.specs.Refusals.{no_place}
 use Rattle.meaning.specs.Pattern.{Pattern, number, mark, anything, class, contradictory, entry}
-use Rattle.statement.specs.Compiled.{padded, struct_of, compiled_of}
+use Rattle.statement.specs.Compiled.{padded, struct_of, compiled_of, Compiled}
 use Rattle.statement.specs.Sound.{condition_nodes}
-use Rattle.table.specs.Evaluated.{meets_stored}
+use Rattle.table.specs.Rows.{meets_stored}
 use Rattle.statement.specs.declared.Table.{Table}
-use Rattle.statement.specs.Compiled.{Compiled}
 use Rattle.pattern.specs.declared.Entry.TheVariants.{Parameter, Any}
 use Rattle.pattern.specs.declared.Pattern as S
 use Rattle.pattern.specs.Stored.{start_read, relevant, clauses_read, joint_clauses, is_formed, all_any, patterns_stored, clause_total, blank, pattern_at, pattern_list, filled_of, agrees_stored, matches_stored, separate_stored, affects_stored, reaches_stored}
 
 -- what the computations open
 computing : Unit {0}
-unfolding is_name_byte is_word_byte decimal is_name word negative token_from first_token scan tokens a_condition a_sentence read past_limit unknown taken miscounted twice statement_of other_lengths no_place struct_of compiled_of condition_nodes start_read relevant clauses_read joint_clauses is_formed all_any patterns_stored clause_total pattern_at pattern_list filled_of agrees_stored class contradictory entry
+unfolding is_name_byte is_word_byte decimal is_name word negative token_from first_token scan tokens a_condition a_sentence read past_limit unknown_name taken miscounted twice statement_of other_lengths no_place struct_of compiled_of condition_nodes start_read relevant clauses_read joint_clauses is_formed all_any patterns_stored clause_total pattern_at pattern_list filled_of agrees_stored class contradictory entry
 computing = tt
 
 -- the table S, which takes all cells, and a text beside it

@@ -1,9 +1,3 @@
-pub mod Least
 pub mod Stored
-pub mod Masks
-pub mod Flat
-pub mod Relevance
-pub mod Pairs
-pub mod Literals
-pub mod Deciding
 pub mod Examples
+pub mod Private

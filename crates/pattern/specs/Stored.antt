@@ -1,14 +1,14 @@
 -- The patterns of a stored query and a stored update: document 01, "Patterns", rules 1 to 7, on the structs of the code. They are given for every two structs; of a
 -- query and an update that texts compile to, they are the patterns of their sentences (proofs/Laws). A struct whose condition no text compiles to is treated
 -- as one with too many clauses. Assumes nothing: these are definitions.
-use Rattle.std.specs.Prelude.{Option, Some, None, Bool, true, false, not, ◌&&◌, ◌||◌, cond, List, [], ◌++◌, map, ℕ, zero, suc, min, eqb, leb, ltb, ℤ, pos, length, get_or, take, set, ◌+◌, replicate}
+use Rattle.std.specs.Prelude.{Option, Some, None, Bool, true, not, ◌&&◌, ◌||◌, cond, List, [], ◌++◌, map, ℕ, zero, suc, min, eqb, leb, ltb, ℤ, pos, length, get_or, take, ◌+◌, replicate}
 use Rattle.std.proofs.Math.Option as Maybe
 use Rattle.lists.specs.Lists.{any, all, pairs}
 use Rattle.lists.specs.Tests.{eq_z, eq_list}
 use Rattle.meaning.specs.Condition as C
-use Rattle.meaning.specs.Condition.{sides, renamed}
+use Rattle.meaning.specs.Condition.{sides, renamed, Comparison}
 use Rattle.meaning.specs.Postfix.{clauses_of_nodes, leaves, is_postfix}
-use Rattle.meaning.specs.Resolve.{is_below}
+use Rattle.meaning.specs.Statement.{is_below}
 use Rattle.meaning.specs.Statement as M
 use Rattle.meaning.specs.Meaning.{Row, new_row, assigned}
 use Rattle.meaning.specs.Exact.{with_columns, numbers_in, critical, rows_from}
@@ -18,8 +18,9 @@ use Rattle.statement.specs.declared.Condition.{Condition}
 use Rattle.statement.specs.declared.Query.{Query}
 use Rattle.statement.specs.declared.Update.{Update}
 use Rattle.statement.specs.Compiled.{padded, mark_place}
-use Rattle.table.specs.Evaluated.{meets_stored, selected_stored}
-use Rattle.statement.specs.Sound.{condition_nodes, second_read, settings_read, setting_values}
+use Rattle.table.specs.Rows.{meets_stored, selected_stored}
+use Rattle.statement.specs.Sound.{condition_nodes, second_read, settings_read}
+use Rattle.statement.specs.SoundTest.{setting_values}
 use Rattle.pattern.specs.declared.Entry.{Entry}
 use Rattle.pattern.specs.declared.Entry.TheVariants.{Constant, Parameter, Any}
 use Rattle.pattern.specs.declared.Pattern.{Pattern}
@@ -43,6 +44,10 @@ unfoldable pub start_read : Query → Update → ℕ
 start_read q u = start_by (second_read q) (side_read q u)
 
 -- ---- rules 1 and 2
+
+-- rule 1 (A.1): whether the updated table t is the query's first, or its second one, given by its number and 1
+abbrev pub is_read : ℕ → ℕ → ℕ → Bool
+is_read table beside t = eqb table t || eqb beside (t + 1)
 
 abbrev pub columns_used : Query → List ℕ
 columns_used q = take q.count q.selected ++ operand_columns (sides (leaves (condition_nodes q.condition)))
@@ -135,13 +140,6 @@ blank = record { entries = replicate 8 Any; count = 0 }
 unfoldable pub pattern_list : Query → Update → Patterns
 pattern_list q u = record { items = padded 64 blank (map pattern_struct (patterns_stored q u)); count = length (patterns_stored q u) }
 
--- a list in the making
-abbrev pub no_patterns : Patterns
-no_patterns = record { items = replicate 64 blank; count = 0 }
-
-abbrev pub with_pattern : Patterns → Pattern → Patterns
-with_pattern l p = record { items = set l.items l.count p; count = l.count + 1 }
-
 -- ---- a pattern with the update's values, and whether it agrees with those of a key
 
 abbrev pub filled_entry : List ℤ → Entry → Entry
@@ -157,18 +155,9 @@ entry_read (Constant z) = number z
 entry_read (Parameter k) = mark (suc k)
 entry_read Any = anything
 
--- two patterns of the same entries
-abbrev pub same_struct : Pattern → Pattern → Bool
-same_struct a b = eq_list same_entry (map entry_read a.entries) (map entry_read b.entries)
-
 -- a question mark that is not filled in counts as 0
 unfoldable pub agrees_stored : Pattern → List ℤ → Bool
 agrees_stored p qs = agrees [] qs (map entry_read (take p.count p.entries))
-
--- the pattern of a clause, if it has one, agrees with the values of a key, filled with those of the update
-abbrev pub clause_agrees : List ℤ → List ℤ → Option Pattern → Bool
-clause_agrees us qs None = false
-clause_agrees us qs (Some p) = agrees_stored (filled_of us p) qs
 
 -- ---- A.7: whether an update with its values us can change the answer of a query with its values qs, in a table of n columns. Of structs that no text compiles to the patterns
 -- alone decide.

@@ -6,8 +6,8 @@ ghost use Rattle.meaning.specs.Condition.{renamed};
 ghost use Rattle.statement.specs.Terms.{used_selected};
 ghost use Rattle.statement.specs.Sound.{used_settings, settings_read};
 ghost use Rattle.pattern.specs.Stored.{reaches_stored};
-ghost use Rattle.pattern.specs.Masks.{comparisons_read};
-ghost use Rattle.pattern.specs.Deciding.{masks_in, trues_of, possible_code, clause_of, alternatives, some_beside, some_pair, FilledAs, altered_tests, Each, changed, operand_of, reached, IsDecided};
+ghost use Rattle.pattern.specs.Private.Masks.{comparisons_read};
+ghost use Rattle.pattern.specs.Private.Deciding.{masks_in, trues_of, possible_code, clause_of, alternatives, some_beside, some_pair, FilledAs, altered_tests, Each, changed, operand_of, reached, IsDecided};
 ghost use Rattle.pattern.specs.declared.joint.Role.TheVariants.{Set};
 
 use super::filled::{self, Filled, Filling};

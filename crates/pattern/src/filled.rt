@@ -4,12 +4,12 @@ ghost use Rattle.meaning.specs.Condition.{renamed};
 ghost use Rattle.meaning.specs.Exact.{is_column};
 ghost use Rattle.meaning.specs.Statement.{column as column_operand};
 ghost use Rattle.statement.specs.Sound.{comparison_read, operand_read, setting_read};
-ghost use Rattle.pattern.specs.Masks.{select, comparisons_read};
+ghost use Rattle.pattern.specs.Private.Masks.{select, comparisons_read};
 ghost use Rattle.pattern.specs.Stored.{is_formed, is_plain, plain_condition, separate_stored};
 ghost use Rattle.meaning.specs.Pattern.{constant};
-ghost use Rattle.pattern.specs.Flat.{Coding};
-ghost use Rattle.pattern.specs.Literals.{Sided, holds_number, exchanged_step, exchanged_of, NotMasked, alike_stored};
-ghost use Rattle.pattern.specs.Deciding.{no_tests, tests_in, operand_in, Fills, Reads, FilledAs, is_altered, altered_tests, IsApart, Separated};
+ghost use Rattle.pattern.specs.Private.Flat.{Coding};
+ghost use Rattle.pattern.specs.Private.Literals.{Sided, holds_number, exchanged_step, exchanged_of, NotMasked, alike_stored};
+ghost use Rattle.pattern.specs.Private.Deciding.{no_tests, tests_in, operand_in, Fills, Reads, FilledAs, is_altered, altered_tests, IsApart, Separated};
 
 use super::joint::{self, Joined, Reading, Role};
 use super::labels::Compared;

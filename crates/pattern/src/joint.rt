@@ -5,8 +5,8 @@ ghost use Rattle.lists.specs.Lists.{All};
 ghost use Rattle.meaning.specs.Limits.{is_within32};
 ghost use Rattle.meaning.specs.Pattern.{of_value, moved, placed_from, replacing};
 ghost use Rattle.statement.specs.Sound.{value_read, operand_read, setting_read};
-ghost use Rattle.pattern.specs.Least.{constant_code};
-ghost use Rattle.pattern.specs.Flat.{column_of, operand_of, values_of, Coding, Readable, chosen_of, no_clause, Extended, SetOnce, mark_of};
+ghost use Rattle.pattern.specs.Private.Least.{constant_code};
+ghost use Rattle.pattern.specs.Private.Flat.{column_of, operand_of, values_of, Coding, Readable, chosen_of, no_clause, Extended, SetOnce, mark_of};
 
 use super::Pattern;
 use std::array;

@@ -5,10 +5,10 @@ ghost use Rattle.lists.specs.Lists.{All, any};
 ghost use Rattle.meaning.specs.Operator.{truth};
 ghost use Rattle.meaning.specs.Pattern.{strict as strict_of};
 ghost use Rattle.statement.specs.Operators.{predicate_at, order_of};
-ghost use Rattle.pattern.specs.Least.{rename_code, join_least, clashes as clash_of, never_code, is_constant, fails as fail_of, code_constant, entry_of_code};
+ghost use Rattle.pattern.specs.Private.Least.{rename_code, join_least, clashes as clash_of, never_code, is_constant, fails as fail_of, code_constant, entry_of_code};
 ghost use Rattle.pattern.specs.Stored.{entry_struct};
-ghost use Rattle.pattern.specs.Deciding.{replaced, is_open};
-ghost use Rattle.pattern.specs.Flat.{is_join, failing, clause_at, Readable, Ready, Labelled, entries_of, coded_pattern};
+ghost use Rattle.pattern.specs.Private.Deciding.{replaced, is_open};
+ghost use Rattle.pattern.specs.Private.Flat.{is_join, failing, clause_at, Readable, Ready, Labelled, entries_of, coded_pattern};
 
 use super::joint::Joined;
 use super::{Entry, Pattern};

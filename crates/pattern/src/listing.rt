@@ -3,7 +3,8 @@ ghost use Rattle.std.specs.Prelude.{◌≡◌, map, ◌<◌, cond, take};
 ghost use Rattle.lists.specs.Lists.{any};
 ghost use Rattle.lists.specs.Tests.{eq_list};
 ghost use Rattle.meaning.specs.Pattern.{same_entry};
-ghost use Rattle.pattern.specs.Stored.{entry_read, same_struct, no_patterns, with_pattern};
+ghost use Rattle.pattern.specs.Stored.{entry_read};
+ghost use Rattle.pattern.specs.Private.Flat.{same_struct, no_patterns, with_pattern};
 
 use super::{Entry, Pattern, Patterns};
 

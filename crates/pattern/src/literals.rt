@@ -2,7 +2,7 @@
 // the column is compared with and the numbers after them.
 ghost use Rattle.std.specs.Prelude.{◌≡◌, ◌++◌, map};
 ghost use Rattle.lists.specs.Lists.{any};
-ghost use Rattle.pattern.specs.Deciding.{literal, fits_code, beside_code, all_fit, literals_of, number_fits, beside_fits, column_fits, possible_code};
+ghost use Rattle.pattern.specs.Private.Deciding.{literal, fits_code, beside_code, all_fit, literals_of, number_fits, beside_fits, column_fits, possible_code};
 
 use super::joint::Joined;
 use super::labels::Compared;

@@ -2,7 +2,7 @@
 ghost use Rattle.std.specs.Prelude.{◌≡◌, true, map, ◌+◌, ◌*◌, ◌≤◌, ◌<◌, length};
 ghost use Rattle.lists.specs.Lists.{All, written};
 ghost use Rattle.pattern.specs.Stored.{is_formed};
-ghost use Rattle.pattern.specs.Masks.{sums, no_stack, pushed_of, either_of, both_of, stepped_of, Pushes, Joins, Steps, Masked, MasksOf};
+ghost use Rattle.pattern.specs.Private.Masks.{sums, no_stack, pushed_of, either_of, both_of, stepped_of, Pushes, Joins, Steps, Masked, MasksOf};
 
 use table::{Condition, Step};
 

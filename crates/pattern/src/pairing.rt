@@ -3,9 +3,9 @@ ghost use Rattle.std.specs.Prelude.{◌≡◌, true, [], ◌++◌, ◌*◌, ◌�
 ghost use Rattle.meaning.specs.Pattern.{anything};
 ghost use Rattle.statement.specs.Sound.{settings_read};
 ghost use Rattle.pattern.specs.Stored.{entry_count, pattern_struct, clause_pattern, joint as joint_of};
-ghost use Rattle.pattern.specs.Flat.{chosen_of, Extended};
+ghost use Rattle.pattern.specs.Private.Flat.{chosen_of, Extended};
 ghost use Rattle.pattern.specs.declared.joint.Role.TheVariants.{Given, Inserted};
-ghost use Rattle.pattern.specs.Pairs.{total_of, pair_at, Worked, Paired};
+ghost use Rattle.pattern.specs.Private.Pairs.{total_of, pair_at, Worked, Paired};
 
 use super::joint::{Joined, Reading, Role};
 use super::masks::Clauses;

@@ -2,8 +2,8 @@
 ghost use Rattle.std.specs.Prelude.{◌≡◌, map, ◌+◌};
 ghost use Rattle.lists.specs.Lists.{any};
 ghost use Rattle.statement.specs.Sound.{comparison_read, operand_read, used_steps};
-ghost use Rattle.pattern.specs.Stored.{start_read, relevant as relevant_to};
-ghost use Rattle.pattern.specs.Relevance.{is_read, is_among, names_any, tests_any, comparison_steps, sets_used};
+ghost use Rattle.pattern.specs.Stored.{start_read, relevant as relevant_to, is_read};
+ghost use Rattle.pattern.specs.Private.Relevance.{is_among, names_any, tests_any, comparison_steps, sets_used};
 
 use lists::in_use;
 use table::{Comparison, Condition, Operand, Query, Setting, Step, Term, Update};

@@ -1,7 +1,7 @@
 // The constants of a line.
 ghost use Rattle.std.specs.Prelude.{◌≡◌, drop, IfOk};
 ghost use Rattle.std.specs.Iterator.{YieldsFirst, item_count};
-ghost use Rattle.script.specs.Script.{natural_of, number_at, constants_of};
+ghost use Rattle.script.specs.Script.{natural_of, number_at, constants_of, constants_left};
 
 use std::alloc::{AllocError, Global};
 use token::Kind;
@@ -14,8 +14,6 @@ pub struct Constants<'a> {
 }
 
 impl<'a> Constants<'a> {
-    ghost use Rattle.script.specs.Script.{constants_left, constants_of};
-
     pub fn new(text: &'a [u8]) -> Self
         ensures { constants_left result ≡ constants_of text.now }
     {
@@ -24,8 +22,6 @@ impl<'a> Constants<'a> {
 }
 
 impl Iterator for Constants<'_> {
-    ghost use Rattle.script.specs.Script.{constants_left};
-
     type Item = i32;
 
     ghost next_gives = { YieldsFirst constants_left };

@@ -2,6 +2,7 @@
 -- nothing.
 use mathlib.Core.Path.{◌≡◌, refl, sym, ap, ap₂, ◌∙◌}
 use mathlib.Core.Bool.{Bool, true, false}
+use mathlib.Core.Option.{none}
 use mathlib.Core.List.{List, [], ◌∷◌, ◌++◌, append_assoc, append-nil}
 use Prim.Native.Nat.{ℕ, ◌-◌, ◌≤◌, ◌<◌}
 use native.Mathlib.Decide.{dec_le}
@@ -11,12 +12,12 @@ use lib.ListN.{length, take}
 use lib.Seq.{take_all, take-take, length-take-le}
 use Rattle.lists.specs.Lists.{flat}
 use Rattle.cache.specs.Run.{Store, opened}
-use Rattle.console.specs.Lines.{is_newline, bad, line_says, most_line, command_of}
+use Rattle.console.specs.Lines.{is_newline, line_says, most_line, command_of}
 use Rattle.console.specs.Desk.{Answered, commanded, answered_of, printed_for}
 use Rattle.console.specs.Demand.{store_after}
 use Rattle.console.proofs.Demand.{demands}
 use Rattle.console.proofs.Rooms.{take-both}
-use Rattle.serve.specs.Input.{ended_in, held_after, last_line, Session, most_held, holding, answering, behind, fed_byte, text_at, fed, printed_in, printed_last, finished, PiecesJoin, lines_of, PrintsTheLines, EndsAsTheLines, PrintsAsPlain}
+use Rattle.serve.specs.Input.{ended_in, held_after, last_line, Session, most_held, holding, answering, next_session, fed_byte, text_at, fed, printed_in, printed_last, finished, PiecesJoin, lines_of, PrintsTheLines, EndsAsTheLines, PrintsAsPlain}
 
 -- ---- one piece after another
 
@@ -44,9 +45,9 @@ module _ {A : Type 0} where
           ∙ sym (take-both n xs ys)
 
 -- a line that is cut says what the line says: one of more than 512 bytes is a bad line
-long-bad : (line : List ℕ) → most_line < length line → command_of line ≡ bad
+long-bad : (line : List ℕ) → most_line < length line → command_of line ≡ none
 unfolding command_of
-long-bad line h = ap (λ (b : Bool). elim b [ true ↦ line_says line | false ↦ bad ]) (lt-leb (length line) most_line h)
+long-bad line h = ap (λ (b : Bool). elim b [ true ↦ line_says line | false ↦ none ]) (lt-leb (length line) most_line h)
 
 command-held : (line : List ℕ) → command_of (take most_held line) ≡ command_of line
 command-held line = go (dec_le (length line) most_held)
@@ -80,7 +81,7 @@ last-printed s buffer (b ∷ held) =
 
 -- a byte, by whether it ends the line
 abbrev pub fed_by : Session → ℕ → Bool → Session
-fed_by s b n = elim n [ true ↦ behind (answering s) | false ↦ holding s (b ∷ []) ]
+fed_by s b n = elim n [ true ↦ next_session (answering s) | false ↦ holding s (b ∷ []) ]
 
 abbrev pub text_by : Session → Bool → List ℕ
 text_by s n = elim n [ true ↦ (answering s).text | false ↦ [] ]
@@ -101,7 +102,7 @@ from-printed (b ∷ bs) s buffer held = go (is_newline b) (from-printed bs)
         (text_by p n ++ printed_in (fed_by p b n) bs) ++ printed_last (fed (fed_by p b n) bs) ≡ flat (printed_for s buffer (ended_by held b bs n ++ last_line (held_by held b bs n)))
     go true h =
         let a = answering (session_with s buffer held) in
-        append_assoc a.text (printed_in (behind a) bs) (printed_last (fed (behind a) bs))
+        append_assoc a.text (printed_in (next_session a) bs) (printed_last (fed (next_session a) bs))
         ∙ ap (λ (t : List ℕ). a.text ++ t) (h a.store a.buffer [])
         ∙ ap (λ (x : Answered). x.text ++ flat (printed_for x.store x.buffer (lines_from [] bs))) (answered-held s buffer held)
     go false h =

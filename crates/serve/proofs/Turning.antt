@@ -24,8 +24,8 @@ use Rattle.console.specs.Desk.{Replies, replies, reply_of}
 use Rattle.console.proofs.Rooms.{take-both}
 use Rattle.console.proofs.Prints.{text-short, all-printed}
 use Rattle.console.proofs.Bounds.{gather-moves, gather-within, reply-within}
-use Rattle.serve.specs.Input.{Session, most_held, holding, answering, behind, fed, printed_in, finished, printed_last, printed_of, beginning}
-use Rattle.serve.specs.Turns.{most_lent, most_printed, session_of, Feeds, Reads, ReadsPart, Runs}
+use Rattle.serve.specs.Input.{Session, most_held, holding, answering, next_session, fed, printed_in, finished, printed_last, printed_of, beginning}
+use Rattle.serve.specs.Private.Turns.{most_lent, most_printed, session_of, Feeds, Reads, ReadsPart, Runs}
 use Rattle.serve.proofs.Feeding.{pieces-join, take-held, fed_by, text_by, prints-the-lines}
 
 -- ---- bytes that are known grow and are used up, step by step
@@ -178,10 +178,10 @@ module _ (s : Session) (piece : List ℕ) (next : ℕ) (after : List ℕ) (ended
     ended-used = G.used ∙ ap (λ (b : Bool). line_from piece 0 ++ ending b) e
 
     -- the line ends, and is answered
-    pub turn-fed : behind (answering gathered) ≡ fed s (take next piece)
+    pub turn-fed : next_session (answering gathered) ≡ fed s (take next piece)
     unfolding fed
     turn-fed =
-        ap (λ (x : Session). behind (answering x)) gathered-fed
+        ap (λ (x : Session). next_session (answering x)) gathered-fed
         ∙ sym (ap (fed s) ended-used ∙ (pieces-join s (line_from piece 0) (10 ∷ [])).0)
 
     pub turn-printed : (answering gathered).text ≡ printed_in s (take next piece)
@@ -214,7 +214,7 @@ module _ (state : State) (cells : List ℤ) (memory answer line : List ℕ) (n :
   line-goes_on z p = subst (λ (x : Session). Feeds x (take g.next piece) second p p) v (turn_on first piece g.next (take g.held new) g.ended short G z p)
 
   -- it ends, and is answered
-  module _ (z : g.ended ≡ true) (t : Session) (y : t ≡ behind (answering second)) where
+  module _ (z : g.ended ≡ true) (t : Session) (y : t ≡ next_session (answering second)) where
     pub line-fed : t ≡ fed s (take g.next piece)
     line-fed = y ∙ turn-fed first piece g.next (take g.held new) g.ended short G z ∙ ap (λ (x : Session). fed x (take g.next piece)) v
 
@@ -228,16 +228,16 @@ module _ (state : State) (cells : List ℤ) (memory answer line : List ℕ) (n :
 
 -- ---- the input's end
 
-some-finished : (s : Session) → 0 < length s.held → (behind (answering s) ≡ finished s) × ((answering s).text ≡ printed_last s)
+some-finished : (s : Session) → 0 < length s.held → (next_session (answering s) ≡ finished s) × ((answering s).text ≡ printed_last s)
 some-finished s h = go s.held h
   where
     go : (held : List ℕ) → 0 < length held
-        → let x : Session = record { store = s.store; buffer = s.buffer; held = held } in (behind (answering x) ≡ finished x) × ((answering x).text ≡ printed_last x)
+        → let x : Session = record { store = s.store; buffer = s.buffer; held = held } in (next_session (answering x) ≡ finished x) × ((answering x).text ≡ printed_last x)
     go [] h = absurd (omega arith)
     go (b ∷ held) h = (refl, refl)
 
 pub held-finished : (s : Session) (n : ℕ) (line : List ℕ) → take n line ≡ s.held → 0 < n → length line ≡ most_held
-    → (behind (answering s) ≡ finished s) × ((answering s).text ≡ printed_last s)
+    → (next_session (answering s) ≡ finished s) × ((answering s).text ≡ printed_last s)
 held-finished s n line e h l = some-finished s (omega (arith, h, l, ap length e, length-take n line))
 
 -- ---- one turn after another
@@ -292,16 +292,16 @@ serves-lines o buffer s t input p r e R =
 
 module _ (r : Reply) (cells' : List ℤ) (memory' answer' out' : List ℕ) (state : State) (cells : List ℤ) (memory answer line out : List ℕ)
     (e : replies r cells' memory' answer' out' ≡ reply_of state cells memory answer line out) where
-  pub reply-inside : r.length ≤ length out
-  reply-inside = omega (arith, ap (λ (x : Replies). x.result.length) e, reply-within state cells memory answer line out)
+  pub reply-inside : r.size ≤ length out
+  reply-inside = omega (arith, ap (λ (x : Replies). x.result.size) e, reply-within state cells memory answer line out)
 
-  pub reply-session : session_of r.state cells' memory' answer' [] ≡ behind (answering (session_of state cells memory answer line))
+  pub reply-session : session_of r.state cells' memory' answer' [] ≡ next_session (answering (session_of state cells memory answer line))
   unfolding reply_of
   reply-session = ap (λ (x : Replies). session_of x.result.state x.cells x.memory x.answer []) e
 
-  pub reply-text : length answer ≤ most_lent → most_printed ≤ length out → take r.length out' ≡ (answering (session_of state cells memory answer line)).text
+  pub reply-text : length answer ≤ most_lent → most_printed ≤ length out → take r.size out' ≡ (answering (session_of state cells memory answer line)).text
   unfolding reply_of
   reply-text l h =
       let a = answering (session_of state cells memory answer line) in
       let p = all-printed out a.text (omega (arith, h, text-short (record { state = state; cells = cells; memory = memory }) answer line l)) in
-      ap (λ (x : Replies). take x.result.length x.out) e ∙ ap (λ (k : ℕ). take k (filled out 0 a.text)) p.0 ∙ p.1
+      ap (λ (x : Replies). take x.result.size x.out) e ∙ ap (λ (k : ℕ). take k (filled out 0 a.text)) p.0 ∙ p.1

@@ -31,7 +31,7 @@ abbrev pub printed_of : Store → List ℕ → List ℕ → List ℕ
 printed_of s buffer input = flat (printed_for s buffer (lines_of input))
 
 -- "opens 4,096 cells, 256 bytes of kept memory and 4 slots of 64 bytes, lends 65,536 bytes for answers"
-pub record Opening (o : Start) (buffer : List ℕ) : Type 0 where
+pub record DeskOpening (o : Start) (buffer : List ℕ) : Type 0 where
   pub cells : length o.cells ≡ 4096
   pub memory : length o.memory ≡ 256
   pub slots : o.slots ≡ 4
@@ -56,12 +56,12 @@ holding s bs = record { store = s.store; buffer = s.buffer; held = take most_hel
 abbrev pub answering : Session → Answered
 answering s = answered_of s.store s.buffer s.held
 
-abbrev pub behind : Answered → Session
-behind a = record { store = a.store; buffer = a.buffer; held = [] }
+abbrev pub next_session : Answered → Session
+next_session a = record { store = a.store; buffer = a.buffer; held = [] }
 
 -- a byte of the input: the session after it, and what is printed
 abbrev pub fed_byte : Session → ℕ → Session
-fed_byte s b = elim (is_newline b) [ true ↦ behind (answering s) | false ↦ holding s (b ∷ []) ]
+fed_byte s b = elim (is_newline b) [ true ↦ next_session (answering s) | false ↦ holding s (b ∷ []) ]
 
 abbrev pub text_at : Session → ℕ → List ℕ
 text_at s b = elim (is_newline b) [ true ↦ (answering s).text | false ↦ [] ]
@@ -77,7 +77,7 @@ printed_in s (b ∷ bs) = text_at s b ++ printed_in (fed_byte s b) bs
 
 -- the input's end
 abbrev pub finished : Session → Session
-finished s = elim s.held [ [] ↦ s | b ∷ bs ↦ behind (answering s) ]
+finished s = elim s.held [ [] ↦ s | b ∷ bs ↦ next_session (answering s) ]
 
 abbrev pub printed_last : Session → List ℕ
 printed_last s = elim s.held [ [] ↦ [] | b ∷ bs ↦ (answering s).text ]

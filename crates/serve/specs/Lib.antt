@@ -1,4 +1,3 @@
 pub mod Input
-pub mod Turns
-pub mod Served
 pub mod Examples
+pub mod Private

@@ -3,8 +3,8 @@
 
 ghost use Rattle.std.specs.Prelude.{◌≡◌, List, ℕ, ◌<◌, ◌≤◌, length, take, OnOk, IfOk, OnErr};
 ghost use Rattle.std.specs.Io.KnownBytes.{Appends, Consumes};
-ghost use Rattle.serve.specs.Input.{answering, behind, finished, printed_last};
-ghost use Rattle.serve.specs.Turns.{Feeds, Reads, ReadsPart, Runs, Opens, Serves};
+ghost use Rattle.serve.specs.Input.{answering, next_session, finished, printed_last};
+ghost use Rattle.serve.specs.Private.Turns.{Feeds, Reads, ReadsPart, Runs, Opens, Serves};
 
 use cache::State;
 use console::Line;
@@ -53,10 +53,9 @@ struct Server {
 
 impl Model for Server {
     ghost use Rattle.serve.specs.Input.{Session};
+    ghost use Rattle.serve.specs.Private.Served.{session, Fits};
 
     ghost Value = { Session };
-
-    ghost use Rattle.serve.specs.Served.{session, Fits};
 
     ghost view = { session };
 
@@ -83,7 +82,7 @@ impl Server {
 
     // Answers the line that is held: how many bytes are printed for it, which are at the start of `out`.
     fn answer_held(&mut self, out: &mut [u8; PRINTED]) -> usize
-        ensures session { self.new ≡ behind (answering self.old) }
+        ensures session { self.new ≡ next_session (answering self.old) }
         ensures text { take result out.new ≡ (answering self.old).text }
         ensures within { result ≤ length out.new }
     {
@@ -99,16 +98,16 @@ impl Server {
         );
         self.state = reply.state;
         self.held = 0;
-        reply.length
+        reply.size
     }
 
     // The same, and writes what is printed.
     fn answer_line<W: Write>(&mut self, out: &mut [u8; PRINTED], output: &mut W) -> Result<()>
-        ensures session { self.new ≡ behind (answering self.old) }
+        ensures session { self.new ≡ next_session (answering self.old) }
         ensures printed { OnOk result (Appends (W.contents output.old) (W.contents output.new) (answering self.old).text) }
     {
-        let length = self.answer_held(out);
-        output.write_all(&out[..length])
+        let size = self.answer_held(out);
+        output.write_all(&out[..size])
     }
 
     // Gathers the line on, and answers it if it ends: how many bytes of the piece are used up.

@@ -16,8 +16,8 @@ use Rattle.lists.proofs.Repeats.{distinct-repeats, distinct-map}
 use Rattle.meaning.specs.Limits.{most_slots}
 use Rattle.slots.specs.declared.Key.{Key}
 use Rattle.slots.specs.declared.SlotList.{SlotList}
-use Rattle.slots.specs.Order.{held_slots, front_of, last_taken, drop_by}
-use Rattle.slots.specs.Keys.{key_read, same_key, no_key, slot_key, held_keys, held_twice}
+use Rattle.slots.specs.Order.{front_of, last_taken, drop_by}
+use Rattle.slots.specs.Keys.{held_slots, key_read, same_key, no_key, slot_key, held_keys, held_twice}
 use Rattle.slots.proofs.KeyLaws.{read-other, not-twice, twice-not}
 use Rattle.slots.proofs.Laws.{Sound, held-front, drop-held, taken-below, taken_free, taken-held}
 

@@ -21,9 +21,8 @@ use Rattle.slots.specs.declared.SlotList.{SlotList}
 use Rattle.std.specs.Prelude.{Some, None}
 use Rattle.std.specs.List.{position_from}
 use Rattle.std.proofs.lemmas.Iterator.Adapters.{position_from-zero}
-use Rattle.slots.specs.Order.{held_slots}
+use Rattle.slots.specs.Keys.{held_slots, values_of, key_read, same_key, key_of, slot_key, held_keys, slot_has, find_of, held_twice}
 use Rattle.slots.specs.Same.{same_read, read_same}
-use Rattle.slots.specs.Keys.{values_of, key_read, same_key, key_of, slot_key, held_keys, slot_has, find_of, held_twice}
 
 -- ---- keys that differ
 

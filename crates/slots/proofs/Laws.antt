@@ -19,7 +19,8 @@ use Rattle.lists.proofs.Moved.{Moved, moved-last, moved-parted, parted-length, m
 use Rattle.lists.proofs.Repeats.{repeats-distinct, distinct-repeats}
 use Rattle.meaning.specs.Limits.{most_slots}
 use Rattle.slots.specs.declared.SlotList.{SlotList}
-use Rattle.slots.specs.Order.{slots_of, held_slots, free_slots, sound_slots, open_of, front, front_of, is_open, last_taken, drop_by, clear_of}
+use Rattle.slots.specs.Order.{free_slots, sound_slots, open_of, front, front_of, is_open, last_taken, drop_by, clear_of}
+use Rattle.slots.specs.Keys.{slots_of, held_slots}
 use Rattle.slots.proofs.Fronts.{front_at, take-front, drop-front, front-moved}
 use Rattle.slots.proofs.KeyLaws.{FoundAt, found_inside}
 

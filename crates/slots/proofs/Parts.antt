@@ -13,7 +13,8 @@ use Rattle.std.proofs.lemmas.List.{drop-drop}
 use Rattle.lists.specs.Lists.{keep}
 use Rattle.lists.proofs.Lists.{keep_append, keep-yes, keep-no}
 use Rattle.slots.specs.declared.SlotList.{SlotList}
-use Rattle.slots.specs.Order.{held_slots, is_marked, drop_of, drop_by}
+use Rattle.slots.specs.Order.{is_marked, drop_of, drop_by}
+use Rattle.slots.specs.Keys.{held_slots}
 
 -- one more is kept, or is not
 module _ (p : ℕ → Bool) (l : List ℕ) (i : ℕ) (h : i < length l) where

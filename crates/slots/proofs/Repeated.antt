@@ -9,8 +9,8 @@ use Rattle.lists.specs.Lists.{repeats}
 use Rattle.lists.proofs.Repeats.{repeats-image}
 use Rattle.slots.specs.declared.Key.{Key}
 use Rattle.slots.specs.declared.SlotList.{SlotList}
-use Rattle.slots.specs.Order.{held_slots}
-use Rattle.slots.specs.Keys.{key_read, same_key, slot_key, held_twice, fingerprint, slot_print}
+use Rattle.slots.specs.Keys.{held_slots, key_read, same_key, slot_key, held_twice}
+use Rattle.slots.specs.Private.Fingerprints.{fingerprint, slot_print}
 use Rattle.slots.specs.Same.{same_read}
 
 same-prints : (a b : Key) → same_key a b ≡ true → eqb (fingerprint (key_read a)) (fingerprint (key_read b)) ≡ true

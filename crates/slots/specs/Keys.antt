@@ -1,12 +1,11 @@
 -- The key of a cached answer as the program has it, and the keys of the held slots: document 01, "A key is the question's number with up to eight values", and of a sound
 -- state "no key is held twice". Assumes nothing: these are definitions.
-use Rattle.std.specs.Prelude.{Bool, ◌&&◌, List, [], ◌∷◌, map, ℕ, suc, ◌+◌, ◌-◌, ◌*◌, ◌%◌, ◌^◌, min, ltb, ℤ, pos, negsuc, length, take, get_or, replicate, Option, position}
+use Rattle.std.specs.Prelude.{Bool, ◌&&◌, List, map, ℕ, min, ltb, ℤ, pos, length, take, get_or, replicate, Option, position}
 use Rattle.lists.specs.Lists.{repeats, written}
 use Rattle.meaning.specs.Key as M
 use Rattle.meaning.specs.Limits.{most_slots, most_marks}
 use Rattle.slots.specs.declared.Key.{Key}
 use Rattle.slots.specs.declared.SlotList.{SlotList}
-use Rattle.slots.specs.Order.{held_slots}
 
 -- ---- keys
 
@@ -25,7 +24,14 @@ same_key a b = M.is_key (key_read a) (key_read b)
 unfoldable pub key_of : ℕ → List ℤ → Key
 key_of q vs = record { query = q; count = min (length vs) most_marks; values = written (replicate most_marks (pos 0)) 0 (take most_marks vs) }
 
--- ---- the keys of the held slots
+-- ---- the slots, and the keys of the held ones
+
+-- the slots, and those that hold an answer, each the most recently used first
+abbrev pub slots_of : SlotList → List ℕ
+slots_of s = take s.count s.order
+
+abbrev pub held_slots : SlotList → List ℕ
+held_slots s = take s.held s.order
 
 -- what stands for the key of a number that is no slot
 abbrev pub no_key : Key
@@ -52,25 +58,3 @@ find_of keys s k = position (slot_has keys k) (held_slots s)
 -- "no key is held twice"
 unfoldable pub held_twice : List Key → SlotList → Bool
 held_twice keys s = repeats same_key (held_keys keys s)
-
--- ---- parts of the code: fingerprints, numbers of 32 bits by which keys that differ are mostly told apart
-
--- a signed number of 32 bits, counted from the lowest
-abbrev pub raised : ℤ → ℕ
-raised (pos n) = n + 2 ^ 31
-raised (negsuc n) = 2 ^ 31 - suc n
-
--- one more value, by multiplicative hashing: the factor is 2 to the 32 divided by the golden ratio
-abbrev pub mixed : ℕ → ℤ → ℕ
-mixed h z = (h * 2654435761 + raised z) % 4294967296
-
-abbrev pub mixed_all : ℕ → List ℤ → ℕ
-mixed_all h [] = h
-mixed_all h (z ∷ zs) = mixed_all (mixed h z) zs
-
--- of the number, how many values there are, and the values
-unfoldable pub fingerprint : M.Key → ℕ
-fingerprint k = mixed_all (k.query * 16 + length k.values) k.values
-
-abbrev pub slot_print : List Key → ℕ → ℕ
-slot_print keys x = fingerprint (key_read (slot_key keys x))

@@ -5,13 +5,7 @@ use Rattle.lists.specs.Lists.{all, keep, repeats, from}
 use Rattle.meaning.specs.Limits.{most_slots}
 use Rattle.slots.specs.declared.SlotList.{SlotList}
 use Rattle.slots.specs.declared.Taken.{Taken}
-
--- the slots, those that hold an answer, and the free ones, each the most recently used first
-abbrev pub slots_of : SlotList → List ℕ
-slots_of s = take s.count s.order
-
-abbrev pub held_slots : SlotList → List ℕ
-held_slots s = take s.held s.order
+use Rattle.slots.specs.Keys.{slots_of, held_slots}
 
 abbrev pub free_slots : SlotList → List ℕ
 free_slots s = drop s.held (slots_of s)

@@ -6,8 +6,8 @@ mod twice; // fingerprints of keys, and whether a key is held twice
 
 ghost use Rattle.std.specs.Prelude.{◌≡◌, ◌&&◌, ◌≤◌, not, ℕ, ltb, eqb, length, take, drop, ◌++◌};
 ghost use Rattle.lists.specs.Lists.{all, repeats, keep};
-ghost use Rattle.slots.specs.Order.{sound_slots, open_of, front_of, taken_of, drop_of, clear_of, held_slots, is_marked};
-ghost use Rattle.slots.specs.Keys.{key_of, values_of, same_key, slot_has, find_of};
+ghost use Rattle.slots.specs.Order.{sound_slots, open_of, front_of, taken_of, drop_of, clear_of, is_marked};
+ghost use Rattle.slots.specs.Keys.{held_slots, key_of, values_of, same_key, slot_has, find_of};
 ghost use Rattle.slots.specs.Same.{same_laws};
 
 use std::array;

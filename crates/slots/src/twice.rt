@@ -1,7 +1,8 @@
 // Fingerprints of keys, and whether a key is held twice.
 ghost use Rattle.std.specs.Prelude.{◌≡◌, map};
 ghost use Rattle.lists.specs.Lists.{any, repeats};
-ghost use Rattle.slots.specs.Keys.{key_read, same_key, slot_key, mixed, fingerprint, slot_print, held_twice};
+ghost use Rattle.slots.specs.Keys.{key_read, same_key, slot_key, held_twice};
+ghost use Rattle.slots.specs.Private.Fingerprints.{mixed, fingerprint, slot_print};
 
 use super::{Key, SlotList};
 
@@ -17,7 +18,7 @@ fn mix(h: u32, v: i32) -> u32
 }
 
 // The fingerprint of a key: a number that is the same for the same keys.
-#[tactic(auto, unfolding(crate::specs::Keys::fingerprint))]
+#[tactic(auto, unfolding(crate::specs::Private::Fingerprints::fingerprint))]
 fn print_of(key: &Key) -> u32
     ensures { result ≡ fingerprint (key_read key.now) }
 {
@@ -30,7 +31,7 @@ fn print_of(key: &Key) -> u32
 }
 
 // The fingerprint of a slot's key, or of what stands for that of a number that is no slot.
-#[tactic(auto, unfolding(crate::specs::Keys::fingerprint))]
+#[tactic(auto, unfolding(crate::specs::Private::Fingerprints::fingerprint))]
 fn print_at(keys: &[Key; SlotList::SLOTS], x: u8) -> u32
     ensures { result ≡ slot_print keys.now x }
 {

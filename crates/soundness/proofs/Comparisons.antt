@@ -15,14 +15,16 @@ use Rattle.lists.proofs.Bools.{and_assoc, and_left, and_right}
 use Rattle.meaning.specs.Condition.{sides}
 use Rattle.meaning.specs.Postfix.{Node, leaves, is_postfix}
 use Rattle.meaning.specs.Statement as M
-use Rattle.meaning.specs.Resolve.{mark_in_operand, parameter_count, is_numbered, numbered_on, numbered_from, is_below, columns_below}
+use Rattle.meaning.specs.Resolve.{mark_in_operand, parameter_count, is_numbered, numbered_on, numbered_from, columns_below}
+use Rattle.meaning.specs.Statement.{is_below}
 use Rattle.meaning.specs.Limits.{most_comparisons, most_marks}
 use Rattle.statement.specs.Compiled.{left_side, right_side}
-use Rattle.statement.specs.Sound.{operand_read, comparison_read, used_steps, used_comparisons, condition_nodes, condition_marks, sound_predicate, sound_condition, sound_condition_on}
+use Rattle.statement.specs.Sound.{operand_read, comparison_read, used_steps, used_comparisons, condition_nodes}
+use Rattle.statement.specs.SoundTest.{condition_marks, sound_predicate, sound_condition, sound_condition_on}
 use Rattle.statement.specs.declared.Comparison.{Comparison}
 use Rattle.statement.specs.declared.Condition.{Condition}
 use Rattle.statement.proofs.Stored.{read_length, read-leaves, postfix-leaves}
-use Rattle.soundness.specs.Parts.{some_if, steps_on, Ordered, comparison_fits, comparison_marks, after_comparison, after_all}
+use Rattle.soundness.specs.Private.Parts.{some_if, steps_on, Ordered, comparison_fits, comparison_marks, after_comparison, after_all}
 use Rattle.soundness.proofs.Tests.{interchange}
 use Rattle.soundness.proofs.Steps.{steps-postfix}
 

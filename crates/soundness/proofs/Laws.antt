@@ -11,10 +11,11 @@ use lib.ListN.{length, length-append, get_or-append}
 use Rattle.lists.proofs.Bools.{and_left, and_right, and_both}
 use Rattle.meaning.specs.Names.{Schema, no_schema}
 use Rattle.meaning.specs.Statement as M
-use Rattle.statement.specs.Sound.{second_read, columns_at, columns_with, sound_second, sound_update_on, sound_query, sound_update}
+use Rattle.statement.specs.Sound.{second_read}
+use Rattle.statement.specs.SoundTest.{columns_at, columns_with, sound_second, sound_update_on, sound_query, sound_update}
 use Rattle.statement.specs.declared.Query.{Query}
 use Rattle.statement.specs.declared.Update.{Update}
-use Rattle.soundness.specs.Parts.{query_on}
+use Rattle.soundness.specs.Private.Parts.{query_on}
 
 module _ (ts us : List Schema) where
   columns-before : (i : ℕ) → i < length ts → columns_at (ts ++ us) i ≡ columns_at ts i

@@ -14,7 +14,7 @@ use Rattle.statement.specs.Sound.{nodes_read, used_steps, used_comparisons, cond
 use Rattle.statement.specs.declared.Comparison.{Comparison}
 use Rattle.statement.specs.declared.Condition.{Condition}
 use Rattle.statement.proofs.Stored.{read-steps}
-use Rattle.soundness.specs.Parts.{mark_fits, marks_after, need_after, outer_on, Ordered, outer_fits}
+use Rattle.soundness.specs.Private.Parts.{mark_fits, marks_after, need_after, outer_on, Ordered, outer_fits}
 use Rattle.soundness.proofs.Comparisons.{leaves-many}
 
 -- ---- the loop: the steps left tell

@@ -23,9 +23,9 @@ use Rattle.meaning.proofs.Names.{same-is}
 use Rattle.meaning.proofs.Resolve.{same-name}
 use Rattle.meaning.proofs.Folding.{small-name}
 use Rattle.statement.specs.Catalog.{name_of_struct}
-use Rattle.statement.specs.Sound.{sound_name}
+use Rattle.statement.specs.SoundTest.{sound_name}
 use Rattle.statement.specs.declared.Name.{Name}
-use Rattle.soundness.specs.Parts.{some_if, digit_of, digit_table, packed, packed_name, number_of, code_of}
+use Rattle.soundness.specs.Private.Parts.{some_if, digit_of, digit_table, packed, packed_name, name_number, code_of}
 
 -- ---- digits
 
@@ -236,21 +236,21 @@ module _ (n : Name) where
   code-packed e =
       let fits : (leb 1 n.len && leb n.len 12) ≡ true = and_left (leb 1 n.len && leb n.len 12) _ e in
       started n.len n.bytes (leb-true 1 n.len (and_left (leb 1 n.len) _ fits)) (and_right (leb 1 n.len && leb n.len 12) _ e)
-      ∙ ap (λ (t : Bool). some_if (t && is_name (name_of_struct n)) (number_of n)) (sym (and_right (leb 1 n.len) _ fits))
+      ∙ ap (λ (t : Bool). some_if (t && is_name (name_of_struct n)) (name_number n)) (sym (and_right (leb 1 n.len) _ fits))
 
   pub code-none : begins ≡ false → None ≡ code_of n
-  code-none e = ap (λ (t : Bool). some_if t (number_of n)) (sym (begins-sound e))
+  code-none e = ap (λ (t : Bool). some_if t (name_number n)) (sym (begins-sound e))
 
 -- sound names are the same exactly if their numbers are
-pub number_same : (m n : Name) → sound_name m ≡ true → sound_name n ≡ true → eqb (number_of m) (number_of n) ≡ same_name (name_of_struct m) (name_of_struct n)
+pub number_same : (m n : Name) → sound_name m ≡ true → sound_name n ≡ true → eqb (name_number m) (name_number n) ≡ same_name (name_of_struct m) (name_of_struct n)
 number_same m n h k = go (same_name (name_of_struct m) (name_of_struct n)) refl
   where
     named : (p : Name) → sound_name p ≡ true → all is_name_byte (name_of_struct p) ≡ true
     named p e = name-bytes (name_of_struct p) (and_right (leb p.len most_name) _ e)
 
-    go : (t : Bool) → same_name (name_of_struct m) (name_of_struct n) ≡ t → eqb (number_of m) (number_of n) ≡ t
-    go true e = eq-eqb (number_of m) (number_of n) (ap packed (same-is (name_of_struct m) (name_of_struct n) e))
+    go : (t : Bool) → same_name (name_of_struct m) (name_of_struct n) ≡ t → eqb (name_number m) (name_number n) ≡ t
+    go true e = eq-eqb (name_number m) (name_number n) (ap packed (same-is (name_of_struct m) (name_of_struct n) e))
     go false e =
-        ne_eqb (number_of m) (number_of n) (λ q.
+        ne_eqb (name_number m) (name_number n) (λ q.
         let same : name_of_struct m ≡ name_of_struct n = packed-once (name_of_struct m) (name_of_struct n) (named m h) (named n k) q in
         clash (ap (same_name (name_of_struct m)) (sym same) ∙ same-name (name_of_struct m)) e)

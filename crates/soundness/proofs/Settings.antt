@@ -16,12 +16,13 @@ use Rattle.lists.proofs.Bools.{and_assoc, and_left, and_right, clash}
 use Rattle.meaning.specs.Statement as M
 use Rattle.meaning.specs.Statement.{value}
 use Rattle.meaning.specs.Resolve.{mark_in_operand, parameter_count, is_numbered, numbered_on}
-use Rattle.statement.specs.Built.{mark_in_value}
+use Rattle.statement.specs.Private.Built.{mark_in_value}
 use Rattle.statement.specs.Compiled.{new_value}
-use Rattle.statement.specs.Sound.{value_read, setting_read, used_settings, setting_columns, setting_operands, sound_form, sound_condition_on, sound_update_on}
+use Rattle.statement.specs.Sound.{value_read, setting_read, used_settings}
+use Rattle.statement.specs.SoundTest.{setting_columns, setting_operands, sound_form, sound_condition_on, sound_update_on}
 use Rattle.statement.specs.declared.Setting.{Setting}
 use Rattle.statement.specs.declared.Update.{Update}
-use Rattle.soundness.specs.Parts.{some_if, same_column, form_fits, column_fits, setting_fits, settings_fit, setting_marks, settings_on}
+use Rattle.soundness.specs.Private.Parts.{some_if, same_column, form_fits, column_fits, setting_fits, settings_fit, setting_marks, settings_on}
 use Rattle.soundness.proofs.Tests.{interchange, counted}
 
 -- ---- settings as they are read

@@ -12,7 +12,7 @@ use Rattle.lists.specs.Lists.{all}
 use Rattle.meaning.specs.Postfix.{balanced_on, is_postfix}
 use Rattle.statement.specs.Sound.{nodes_read}
 use Rattle.statement.specs.declared.Comparison.{Comparison}
-use Rattle.soundness.specs.Parts.{passes, depth_after, steps_on}
+use Rattle.soundness.specs.Private.Parts.{passes, depth_after, steps_on}
 
 -- ---- steps and nodes
 

@@ -10,12 +10,13 @@ use Rattle.lists.proofs.Lists.{all_true, any_append, map-append}
 use Rattle.meaning.specs.Limits.{most_items, most_rows}
 use Rattle.meaning.specs.Names.{Schema, same_name, has, table_names}
 use Rattle.statement.specs.Catalog.{name_of_struct, schema_of}
-use Rattle.statement.specs.Sound.{used_columns, sound_name, sound_table, sound_tables}
+use Rattle.statement.specs.Sound.{used_columns}
+use Rattle.statement.specs.SoundTest.{sound_name, sound_table, sound_schemas}
 use Rattle.statement.specs.declared.Name.{Name}
 use Rattle.statement.specs.declared.Table.{Table}
 use Rattle.lists.proofs.Chains.{shuffled}
 use Rattle.statement.specs.Same.{same-sym}
-use Rattle.soundness.specs.Parts.{number_of, columns_on, table_on, single}
+use Rattle.soundness.specs.Private.Parts.{name_number, columns_on, table_on, single}
 use Rattle.soundness.proofs.Packed.{number_same}
 
 -- ---- names by their numbers
@@ -39,9 +40,9 @@ apart p f g k xs = go (all p xs) refl
     go true h = ap not (repeats-same f g eqb same_name k (all_true p xs h))
     go false h = refl
 
-pub columns-told : (ns : List Name) → (all sound_name ns && not (repeats eqb (map number_of ns))) ≡ columns_on ns
+pub columns-told : (ns : List Name) → (all sound_name ns && not (repeats eqb (map name_number ns))) ≡ columns_on ns
 unfolding columns_on
-columns-told ns = apart sound_name number_of name_of_struct (λ m n p q. number_same m n p q) ns
+columns-told ns = apart sound_name name_number name_of_struct (λ m n p q. number_same m n p q) ns
 
 -- ---- tables
 
@@ -49,7 +50,7 @@ abbrev pub table_name : Table → List ℕ
 table_name t = name_of_struct t.name
 
 abbrev pub table_number : Table → ℕ
-table_number t = number_of t.name
+table_number t = name_number t.name
 
 module _ (before : List Schema) where
   parted : (a b s l r h c : Bool) → (a && (b && (s && (l && (r && (h && c)))))) ≡ ((s && (a && (b && ((l && r) && c)))) && h)
@@ -85,7 +86,7 @@ met-more before t (u ∷ ts) =
     ∙ shuffled (has (table_names before) (table_name u)) (same_name (table_name t) (table_name u)) (met before ts) (any (same_name (table_name t)) (map table_name ts))
 
 tables-apart : (before : List Schema) (ts : List Table)
-    → sound_tables before ts ≡ ((all single ts && not (met before ts)) && not (repeats same_name (map table_name ts)))
+    → sound_schemas before ts ≡ ((all single ts && not (met before ts)) && not (repeats same_name (map table_name ts)))
 tables-apart before [] = refl
 tables-apart before (t ∷ ts) =
     ap₂ ◌&&◌ (table-apart before t)
@@ -105,12 +106,12 @@ none-met : (ts : List Table) → met [] ts ≡ false
 none-met [] = refl
 none-met (t ∷ ts) = none-met ts
 
-sound-tables : (ts : List Table) → sound_tables [] ts ≡ (all single ts && not (repeats same_name (map table_name ts)))
+sound-tables : (ts : List Table) → sound_schemas [] ts ≡ (all single ts && not (repeats same_name (map table_name ts)))
 sound-tables ts =
     tables-apart [] ts
     ∙ ap (λ (b : Bool). (all single ts && not b) && not (repeats same_name (map table_name ts))) (none-met ts)
     ∙ ap (λ (b : Bool). b && not (repeats same_name (map table_name ts))) (and-true (all single ts))
 
-pub tables-told : (ts : List Table) → (all single ts && not (repeats eqb (map table_number ts))) ≡ sound_tables [] ts
+pub tables-told : (ts : List Table) → (all single ts && not (repeats eqb (map table_number ts))) ≡ sound_schemas [] ts
 tables-told ts =
     apart single table_number table_name (λ t u p q. number_same t.name u.name (and_left (sound_name t.name) _ p) (and_left (sound_name u.name) _ q)) ts ∙ sym (sound-tables ts)

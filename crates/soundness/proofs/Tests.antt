@@ -10,7 +10,7 @@ use lib.Seq.{take-suc}
 use Rattle.std.specs.Prelude.{Some}
 use Rattle.lists.specs.Lists.{all}
 use Rattle.lists.proofs.Lists.{all_append}
-use Rattle.soundness.specs.Parts.{some_if}
+use Rattle.soundness.specs.Private.Parts.{some_if}
 
 pub interchange : (a b c d : Bool) → ((a && b) && (c && d)) ≡ ((a && c) && (b && d))
 interchange true true c d = refl

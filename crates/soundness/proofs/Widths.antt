@@ -11,11 +11,12 @@ use Rattle.std.specs.Prelude.{Option, Some, None, option_map, option_and_then, s
 use Rattle.std.proofs.lemmas.Bool.Decides.{nat_tests}
 use Rattle.lists.specs.Lists.{all}
 use Rattle.statement.specs.Catalog.{schema_of}
-use Rattle.statement.specs.Sound.{second_by, columns_at, columns_with, sound_second, sound_query, sound_update, sound_update_on}
+use Rattle.statement.specs.Sound.{second_by}
+use Rattle.statement.specs.SoundTest.{columns_at, columns_with, sound_second, sound_query, sound_update, sound_update_on}
 use Rattle.statement.specs.declared.Table.{Table}
 use Rattle.statement.specs.declared.Query.{Query}
 use Rattle.statement.specs.declared.Update.{Update}
-use Rattle.soundness.specs.Parts.{passes, some_if, width_of, fits_second, width_beside, query_on, query_at, update_at}
+use Rattle.soundness.specs.Private.Parts.{passes, some_if, width_of, fits_second, width_beside, query_on, query_at, update_at}
 
 -- ---- statements beside the tables
 

@@ -3,14 +3,14 @@
 use Rattle.std.specs.Prelude.{Bool, List, [], ℕ, take}
 use Rattle.lists.specs.Lists.{all}
 use Rattle.statement.specs.Catalog.{schemas_of}
-use Rattle.statement.specs.Sound.{sound_tables, sound_query, sound_update}
+use Rattle.statement.specs.SoundTest.{sound_schemas, sound_query, sound_update}
 use Rattle.statement.specs.declared.Table.{Table}
 use Rattle.statement.specs.declared.Query.{Query}
 use Rattle.statement.specs.declared.Update.{Update}
 
 -- the first `used` tables, each beside those before it
 unfoldable pub tables_sound : List Table → ℕ → Bool
-tables_sound tables used = sound_tables [] (take used tables)
+tables_sound tables used = sound_schemas [] (take used tables)
 
 -- the first n questions and updates, beside those tables
 unfoldable pub queries_sound : List Table → ℕ → List Query → ℕ → Bool

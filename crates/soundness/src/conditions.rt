@@ -1,7 +1,7 @@
 // A condition: its steps are a postfix order, its comparisons name columns of the table, and its parameters are numbered in order.
 ghost use Rattle.std.specs.Prelude.{◌≡◌, true, reverse, ◌-◌, ◌*◌, ◌≤◌, ◌<◌, length, take};
-ghost use Rattle.statement.specs.Sound.{sound_predicate, sound_condition_on};
-ghost use Rattle.soundness.specs.Parts.{depth_after, steps_on, mark_fits, marks_after, need_after, outer_on, Ordered, outer_fits, after_side, after_comparison, after_all};
+ghost use Rattle.statement.specs.SoundTest.{sound_predicate, sound_condition_on};
+ghost use Rattle.soundness.specs.Private.Parts.{depth_after, steps_on, mark_fits, marks_after, need_after, outer_on, Ordered, outer_fits, after_side, after_comparison, after_all};
 
 use table::{Comparison, Condition, Operand, Statement, Step};
 
@@ -129,7 +129,7 @@ fn operator_fits(c: &Comparison) -> bool
 }
 
 // The next number behind a comparison, if it fits.
-#[tactic(auto, unfolding(crate::specs::Parts::after_comparison))]
+#[tactic(auto, unfolding(crate::specs::Private::Parts::after_comparison))]
 fn after_comparison(c: &Comparison, columns: u8, m: u8) -> Option<u8>
     ensures { result ≡ after_comparison columns m c.now }
 {

@@ -9,14 +9,14 @@ mod statements; // questions and updates by themselves
 ghost use Rattle.std.specs.Prelude.{◌≡◌, [], ◌&&◌, map, leb, length};
 ghost use Rattle.lists.specs.Lists.{all};
 ghost use Rattle.statement.specs.Catalog.{schema_of};
-ghost use Rattle.statement.specs.Sound.{sound_tables, sound_query, sound_update};
+ghost use Rattle.statement.specs.SoundTest.{sound_schemas, sound_query, sound_update};
 
 use names::Digits;
 use table::{Query, Table, Update};
 
 // Whether tables are sound beside each other: not more than a store has places for, each sound by itself, no two of one name.
 pub fn tables_are_sound(tables: &[Table]) -> bool
-    ensures { result ≡ (leb (length tables.now) 8 && sound_tables [] tables.now) }
+    ensures { result ≡ (leb (length tables.now) 8 && sound_schemas [] tables.now) }
 {
     tables.len() <= Table::TABLES && Digits::new().are_apart(tables, Digits::table_code)
 }

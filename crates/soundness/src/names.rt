@@ -1,7 +1,7 @@
 // Names as numbers: two sound names are the same exactly if their numbers are, so that names are compared in one step. And what a table is but for its name.
 ghost use Rattle.std.specs.Prelude.{◌≡◌, Bool, not, ◌&&◌, Option, ℕ, ◌≤◌, eqb, map, length};
 ghost use Rattle.lists.specs.Lists.{all, repeats};
-ghost use Rattle.soundness.specs.Parts.{some_if, digit_of, digit_table, packed_name, number_of, code_of, columns_on, table_on, single};
+ghost use Rattle.soundness.specs.Private.Parts.{some_if, digit_of, digit_table, packed_name, name_number, code_of, columns_on, table_on, single};
 
 use std::array;
 use table::{Name, Table};
@@ -97,7 +97,7 @@ impl Digits {
     }
 
     // Whether a table's columns and ROWS are sound.
-    #[tactic(auto, unfolding(crate::specs::Parts::table_on))]
+    #[tactic(auto, unfolding(crate::specs::Private::Parts::table_on))]
     fn table_fits(&self, t: &Table) -> bool
         ensures { result ≡ table_on t.now }
     {
@@ -107,7 +107,7 @@ impl Digits {
 
     // The number of a table's name, if the table is sound by itself.
     pub fn table_code(&self, t: &Table) -> Option<u64>
-        ensures { result ≡ some_if (single t.now) (number_of t.now.name) }
+        ensures { result ≡ some_if (single t.now) (name_number t.now.name) }
     {
         let code = self.code(&t.name)?;
         self.table_fits(t).then_some(code)

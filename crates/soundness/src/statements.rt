@@ -1,8 +1,8 @@
 // Questions and updates, by how many columns their table has.
 ghost use Rattle.std.specs.Prelude.{◌≡◌, not, Some, ℕ, ◌≤◌, ltb, map, length, slice_get};
 ghost use Rattle.lists.specs.Lists.{any, all, repeats};
-ghost use Rattle.statement.specs.Sound.{sound_update_on};
-ghost use Rattle.soundness.specs.Parts.{width_of, width_with, query_on, query_at, update_at, same_column, form_fits, column_fits, value_fits, settings_on};
+ghost use Rattle.statement.specs.SoundTest.{sound_update_on};
+ghost use Rattle.soundness.specs.Private.Parts.{width_of, width_with, query_on, query_at, update_at, same_column, form_fits, column_fits, value_fits, settings_on};
 
 use super::conditions;
 use table::{Given, Query, Setting, Table, Update, Value};

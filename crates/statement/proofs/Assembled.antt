@@ -19,7 +19,7 @@ use Rattle.statement.specs.declared.Name.{Name}
 use Rattle.statement.specs.declared.Table.{Table}
 use Rattle.statement.specs.declared.Condition.{Condition}
 use Rattle.statement.specs.declared.Setting.{Setting}
-use Rattle.statement.specs.Compiled.{Compiled}
+use Rattle.statement.specs.Compiled.{Compiled, padded, name_struct, no_name, no_setting, condition_struct, compiled_table, compiled_query, compiled_update, compiled_refusal, compiled_by}
 use Rattle.statement.specs.declared.sentences.Form.{Form}
 use Rattle.statement.specs.declared.sentences.Form.TheVariants.{Pair}
 use Rattle.statement.specs.declared.sentences.Entry.{Entry}
@@ -27,11 +27,10 @@ use Rattle.statement.specs.declared.sentences.Item.{Item}
 use Rattle.statement.specs.declared.names.Found.{Found}
 use Rattle.statement.specs.declared.conditions.Node.{Node}
 use Rattle.statement.specs.declared.assembling.Settings.{Settings}
-use Rattle.statement.specs.Places.{name_on, given_on, Column, column_on, bare_marks_on}
-use Rattle.statement.specs.Sentences.{givens_on}
-use Rattle.statement.specs.Catalog.{name_of_struct, names_of, column_names, schema_of}
-use Rattle.statement.specs.Compiled.{padded, name_struct, no_name, no_setting, condition_struct, created, asked, changing, refused_by, settled}
-use Rattle.statement.specs.Built.{lowest_by, places_of, number_in, Finds, short_name, short_column, columns_on, rows_on, settings_on, outer_in, condition_below, places_below, Fits, condition_on, unknown_on, table_on, select_on, insert_on, sets_on, update_on, delete_on, form_as, form_on, number_on, pair_with, pair_on, beside_as, beside_on}
+use Rattle.statement.specs.Private.Places.{name_on, given_on, Column, column_on, bare_marks_on}
+use Rattle.statement.specs.Private.Sentences.{givens_on}
+use Rattle.statement.specs.Catalog.{name_of_struct, names_of, schema_of}
+use Rattle.statement.specs.Private.Built.{column_names, lowest_by, places_of, table_number, Finds, short_name, short_column, columns_on, rows_on, settings_on, outer_in, condition_below, places_below, Fits, condition_on, unknown_on, table_on, select_on, insert_on, sets_on, update_on, delete_on, form_as, form_on, number_on, pair_with, pair_on, beside_as, beside_on}
 use Rattle.statement.proofs.Values.{name_back}
 use Rattle.statement.proofs.Parts.{mark-one}
 use Rattle.statement.proofs.Sets.{marks-count}
@@ -86,15 +85,15 @@ module _ (d : Bool) (place : Column d → ℕ) (width : ℕ) (s : List ℕ) (ls 
   pub select-made : (queries : ℕ) (at : List ℕ) (c : Condition) (w : ℕ) (t : Bool) (k o number : ℕ) (r : Compiled)
       → at ≡ padded 8 0 (map place (columns_on d s ls)) → c ≡ condition_on d place s ps 0 → w ≡ width → t ≡ twice → k ≡ start → o ≡ outer_in d ps
       → number ≡ lowest_by (not (places_below w (take (length ls) at) && condition_below w c)) false false t (leb 16 queries)
-      → r ≡ settled number (asked (record { table = i; selected = at; count = length ls; parameters = e.c.marks; second = second; start = k; outer = o; condition = c }))
+      → r ≡ compiled_by number (compiled_query (record { table = i; selected = at; count = length ls; parameters = e.c.marks; second = second; start = k; outer = o; condition = c }))
       → r ≡ select_on d place width s ls ps e i second start twice queries
   unfolding select_on
   select-made queries at c w t k o number r ea ec ew et ek eo em er =
       let p : take (length ls) at ≡ map place (columns_on d s ls) = places-first d s ls place at ea in
       er
-      ∙ (λ j. settled
+      ∙ (λ j. compiled_by
       ((em ∙ (λ x. lowest_by (not (places_below (ew x) (p x) && condition_below (ew x) (ec x))) false false (et x) (leb 16 queries))) j)
-      (asked (record { table = i; selected = ea j; count = length ls; parameters = e.c.marks; second = second; start = ek j; outer = eo j; condition = ec j })))
+      (compiled_query (record { table = i; selected = ea j; count = length ls; parameters = e.c.marks; second = second; start = ek j; outer = eo j; condition = ec j })))
 
 module _ (s : List ℕ) (ls : List Item) (ps : List Node) (e : Entry) (columns : List (List ℕ)) (i : ℕ) where
   pub update-made : (updates : ℕ) (names : List Name) (at : List ℕ) (sets : Settings) (settings : List Setting) (c : Condition) (w : ℕ) (twice : Bool) (number : ℕ) (r : Compiled)
@@ -102,7 +101,7 @@ module _ (s : List ℕ) (ls : List Item) (ps : List Node) (e : Entry) (columns :
       → sets ≡ settings_on (take (length ls) at) (givens_on s ls) → settings ≡ sets.all
       → c ≡ condition_on false (position columns) s ps sets.marks → w ≡ length columns → twice ≡ repeats same_name (map name_of_struct (take (length ls) names))
       → number ≡ lowest_by (not (places_below w (take (length ls) at) && condition_below w c)) twice false false (leb 16 updates)
-      → r ≡ settled number (changing (record { form = 1; table = i; settings = settings; count = length ls; parameters = e.c.marks; condition = c }))
+      → r ≡ compiled_by number (compiled_update (record { form = 1; table = i; settings = settings; count = length ls; parameters = e.c.marks; condition = c }))
       → r ≡ update_on s ls ps e columns i updates
   unfolding update_on
   update-made updates names at sets settings c w twice number r en ea es el ec ew et em er =
@@ -112,34 +111,34 @@ module _ (s : List ℕ) (ls : List Item) (ps : List Node) (e : Entry) (columns :
       let d : c ≡ condition_on false (position columns) s ps (sets_on s ls columns).marks = ec ∙ ap (λ (y : Settings). condition_on false (position columns) s ps y.marks) x in
       let t : twice ≡ repeats same_name (columns_on false s ls) = et ∙ ap (repeats same_name) (names-are s ls columns names en) in
       er
-      ∙ (λ j. settled
+      ∙ (λ j. compiled_by
       ((em ∙ (λ y. lowest_by (not (places_below (ew y) (p y) && condition_below (ew y) (d y))) (t y) false false (leb 16 updates))) j)
-      (changing (record { form = 1; table = i; settings = q j; count = length ls; parameters = e.c.marks; condition = d j })))
+      (compiled_update (record { form = 1; table = i; settings = q j; count = length ls; parameters = e.c.marks; condition = d j })))
 
 module _ (s : List ℕ) (ls : List Item) (e : Entry) (columns : List (List ℕ)) (i : ℕ) where
   pub insert-made : (updates : ℕ) (sets : Settings) (settings : List Setting) (c : Condition) (w number : ℕ) (r : Compiled)
       → sets ≡ settings_on (take (length ls) (from 0 8)) (givens_on s ls) → settings ≡ sets.all → c ≡ condition_struct [] → w ≡ length columns
       → number ≡ lowest_by false false (not (eqb (length ls) w)) false (leb 16 updates)
-      → r ≡ settled number (changing (record { form = 0; table = i; settings = settings; count = length ls; parameters = e.c.marks; condition = c }))
+      → r ≡ compiled_by number (compiled_update (record { form = 0; table = i; settings = settings; count = length ls; parameters = e.c.marks; condition = c }))
       → r ≡ insert_on s ls e columns i updates
   unfolding insert_on
   insert-made updates sets settings c w number r es ea ec ew em er =
       let q : settings ≡ (settings_on (take (length ls) (from 0 8)) (givens_on s ls)).all = ea ∙ ap (λ (x : Settings). x.all) es in
       let m : number ≡ lowest_by false false (not (eqb (length ls) (length columns))) false (leb 16 updates) =
       em ∙ ap (λ (k : ℕ). lowest_by false false (not (eqb (length ls) k)) false (leb 16 updates)) ew in
-      er ∙ λ j. settled (m j) (changing (record { form = 0; table = i; settings = q j; count = length ls; parameters = e.c.marks; condition = ec j }))
+      er ∙ λ j. compiled_by (m j) (compiled_update (record { form = 0; table = i; settings = q j; count = length ls; parameters = e.c.marks; condition = ec j }))
 
 module _ (s : List ℕ) (ps : List Node) (e : Entry) (columns : List (List ℕ)) (i : ℕ) where
   pub delete-made : (updates : ℕ) (c : Condition) (settings : List Setting) (w number : ℕ) (r : Compiled)
       → c ≡ condition_on false (position columns) s ps 0 → settings ≡ replicate 8 no_setting → w ≡ length columns
       → number ≡ lowest_by (not (places_below w [] && condition_below w c)) false false false (leb 16 updates)
-      → r ≡ settled number (changing (record { form = 2; table = i; settings = settings; count = 0; parameters = e.c.marks; condition = c }))
+      → r ≡ compiled_by number (compiled_update (record { form = 2; table = i; settings = settings; count = 0; parameters = e.c.marks; condition = c }))
       → r ≡ delete_on s ps e columns i updates
   unfolding delete_on
   delete-made updates c settings w number r ec es ew em er =
       let m : number ≡ lowest_by (unknown_on (length columns) [] (condition_on false (position columns) s ps 0)) false false false (leb 16 updates) =
       em ∙ ap₂ (λ (k : ℕ) (x : Condition). lowest_by (not (places_below k [] && condition_below k x)) false false false (leb 16 updates)) ew ec in
-      er ∙ λ j. settled (m j) (changing (record { form = 2; table = i; settings = es j; count = 0; parameters = e.c.marks; condition = ec j }))
+      er ∙ λ j. compiled_by (m j) (compiled_update (record { form = 2; table = i; settings = es j; count = 0; parameters = e.c.marks; condition = ec j }))
 
 module _ (s : List ℕ) (ls : List Item) (place rows : ℕ) (ring : Bool) (ts : List Schema) (cells : ℕ) where
   pub table-made : (name : Name) (columns : List Name) (capacity : ℕ) (taken full : Bool) (size number : ℕ) (r : Compiled)
@@ -147,7 +146,7 @@ module _ (s : List ℕ) (ls : List Item) (place rows : ℕ) (ring : Bool) (ts : 
       → taken ≡ (has (table_names ts) (name_of_struct name) || repeats same_name (map name_of_struct (take (length ls) columns)))
       → size ≡ length ls * capacity → full ≡ (leb 8 (length ts) || ltb (cells - areas_size ts) size)
       → number ≡ lowest_by false taken false false full
-      → r ≡ settled number (created (record { name = name; columns = columns; count = length ls; capacity = capacity; rows = 0; oldest = 0; ring = ring }))
+      → r ≡ compiled_by number (compiled_table (record { name = name; columns = columns; count = length ls; capacity = capacity; rows = 0; oldest = 0; ring = ring }))
       → r ≡ table_on s ls place rows ring ts cells
   unfolding table_on
   table-made name columns capacity taken full size number r ea ec ek et ez ef em er =
@@ -157,8 +156,8 @@ module _ (s : List ℕ) (ls : List Item) (place rows : ℕ) (ring : Bool) (ts : 
       let f : full ≡ (leb 8 (length ts) || ltb (cells - areas_size ts) (length ls * rows_on s rows)) =
       ef ∙ ap (λ (k : ℕ). leb 8 (length ts) || ltb (cells - areas_size ts) k) (ez ∙ ap (λ (k : ℕ). length ls * k) ek) in
       let c : length ls ≡ length (columns_on false s ls) = sym (listed-count false s ls) in
-      er ∙ λ j. settled ((em ∙ ap₂ (λ (x y : Bool). lowest_by false x false false y) t f) j)
-      (created (record { name = ea j; columns = ec j; count = c j; capacity = ek j; rows = 0; oldest = 0; ring = ring }))
+      er ∙ λ j. compiled_by ((em ∙ ap₂ (λ (x y : Bool). lowest_by false x false false y) t f) j)
+      (compiled_table (record { name = ea j; columns = ec j; count = c j; capacity = ek j; rows = 0; oldest = 0; ring = ring }))
 
 -- ---- the table of a sentence
 
@@ -201,8 +200,8 @@ module _ (s : List ℕ) (p : ℕ) (tables : List Table) (name : Name) (en : name
   name_is : name_of_struct name ≡ short_name (name_on s p)
   name_is = ap name_of_struct en ∙ name_back (short_name (name_on s p))
 
-  number_is : number_in S (name_of_struct name) ≡ cond (ltb j (length S)) (Some j) None
-  number_is = ap (number_in S) name_is
+  number_is : table_number S (name_of_struct name) ≡ cond (ltb j (length S)) (Some j) None
+  number_is = ap (table_number S) name_is
 
   pub none-there : (o : Maybe Found) → Finds tables (name_of_struct name) o → o ≡ None → ltb j (length S) ≡ false
   none-there None f e = number-none (ltb j (length S)) j (sym number_is ∙ f)
@@ -249,12 +248,12 @@ module _ (s : List ℕ) (ls : List Item) (ps : List Node) (e : Entry) (ts : List
   abbrev first : ℕ
   first = number_on s e.table ts
 
-  pub beside-none : (r : Compiled) → ltb first (length ts) ≡ false → r ≡ refused_by 6 → r ≡ beside_on s ls ps e ts queries updates
+  pub beside-none : (r : Compiled) → ltb first (length ts) ≡ false → r ≡ compiled_refusal 6 → r ≡ beside_on s ls ps e ts queries updates
   beside-none r h q = rw h q
 
   module _ (t : Table) (i : ℕ) (h : ltb first (length ts) ≡ true) (k : i ≡ first) (c : column_names t ≡ columns_of ts name) where
     there : beside_as e.form name s ls ps e ts queries updates ≡ beside_on s ls ps e ts queries updates
-    there = sym (ap (λ (b : Bool). cond b (beside_as e.form name s ls ps e ts queries updates) (refused_by 6)) h)
+    there = sym (ap (λ (b : Bool). cond b (beside_as e.form name s ls ps e ts queries updates) (compiled_refusal 6)) h)
 
     pub beside-some : (r : Compiled) → r ≡ form_on s ls ps e (column_names t) i queries updates → ((p : ℕ) → e.form ≡ Pair p → ⊥) → r ≡ beside_on s ls ps e ts queries updates
     beside-some r q x = q ∙ ap₂ (λ (y : List (List ℕ)) (m : ℕ). form_on s ls ps e y m queries updates) c k ∙ go e.form x ∙ there
@@ -276,7 +275,7 @@ module _ (s : List ℕ) (ls : List Item) (ps : List Node) (e : Entry) (ts : List
   abbrev goal : Compiled
   goal = pair_on (name_of_struct t.name) (column_names t) p s ls ps e ts i queries
 
-  pub pair-none : (r : Compiled) → ltb second (length ts) ≡ false → r ≡ refused_by 6 → r ≡ goal
+  pub pair-none : (r : Compiled) → ltb second (length ts) ≡ false → r ≡ compiled_refusal 6 → r ≡ goal
   pair-none r h q = rw h q
 
   pub pair-some : (r : Compiled) (u : Table) (j k : ℕ)

@@ -11,7 +11,8 @@ use lib.ListN.{length, drop}
 use Rattle.lists.proofs.Bools.{clash}
 use Rattle.meaning.specs.Tokens as T
 use Rattle.meaning.specs.Tokens.{Name, name, dot, first_token, tokens}
-use Rattle.meaning.specs.Grammar.{Term, column, given, Dotted, Reader, ◌>>=◌, done, fails, expect, a_name, a_dotted, a_given, a_term, name_of}
+use Rattle.meaning.specs.Grammar.{Term, column, given, Dotted}
+use Rattle.meaning.specs.Reader.{Reader, ◌>>=◌, done, fails, expect, a_name, a_dotted, a_given, a_term, name_of}
 use Rattle.meaning.specs.Limits.{most_name}
 use Rattle.meaning.proofs.Readers.{a_token-some, a_token-none, passing-stops, expect-here, either_first, either_second, then_some, then-none}
 use Rattle.meaning.proofs.Stream.{tokens_none, tokens-some}
@@ -22,8 +23,8 @@ use Rattle.token.specs.Tokens.{kind_of, token_at}
 use Rattle.token.proofs.Laws.{Reads, token-again}
 use Rattle.token.proofs.TokenKinds.{kind-name}
 use Rattle.statement.specs.declared.sides.Side.{Side}
-use Rattle.statement.specs.Places.{first, token_on, or_empty, name_on, given_on, behind_dot, column_on, or_given}
-use Rattle.statement.specs.Reading.{token_past, past, is_operand, is_name, marks_at, a_column, IsDotted, IsOperand, Sides}
+use Rattle.statement.specs.Private.Places.{first, token_on, or_empty, name_on, given_on, behind_dot, column_on, or_given}
+use Rattle.statement.specs.Private.Reading.{token_past, tokens_past, is_operand, is_name, marks_at, a_column, IsDotted, IsOperand, Sides}
 use Rattle.statement.proofs.Operands.{term_of, Single, term-reader, no-term, term-none, is-term}
 use Rattle.statement.proofs.Steps.{Look, ended, seen, look, stands-there, name_length, goes, stops}
 use Rattle.statement.proofs.SentenceTokens.{no_name_lem, token-none, token-found}
@@ -43,7 +44,7 @@ pub record NameHere (s : List ℕ) (at : ℕ) (u : Token) (n : Name) : Type 0 wh
   pub reads : a_name (tokens (drop at s)) ≡ some (n, tokens (drop u.next s))
   pub there : name_of (token_on s at) ≡ some n
   pub here : name_of (token_on s u.start) ≡ some n
-  pub long : past u ≡ ltb most_name (length n)
+  pub long : tokens_past u ≡ ltb most_name (length n)
 
 never : {t : T.Token} {ts : List T.Token} → [] ≡ t ∷ ts → ⊥
 never q = let r : ◌≡◌ {A = ℕ} 0 1 = cc in omega arith
@@ -64,7 +65,7 @@ module _ (s : List ℕ) (at : ℕ) (u : Token) (e : u ≡ token_at s at) where
   pub name-not : (u.kind ≡ Named → ⊥) → a_name (tokens (drop at s)) ≡ none
   name-not h = token-none name_of s at u (look s at u e) (λ t q. no_name_lem t (λ z. h (sym q ∙ z)))
 
-  long-is : (n : Name) → u.kind ≡ Named → u.next - u.start ≡ length n → past u ≡ ltb most_name (length n)
+  long-is : (n : Name) → u.kind ≡ Named → u.next - u.start ≡ length n → tokens_past u ≡ ltb most_name (length n)
   unfolding token_past
   long-is n h l = rw (h, l)
 
@@ -118,7 +119,7 @@ module _ (s : List ℕ) (at : ℕ) (u : Token) (e : u ≡ token_at s at) where
         let q : token_at s u.start ≡ u = ap (λ (x : Token). token_at s x.start) e ∙ token-again s at ∙ sym e in
         ap (λ (x : Token). (token_at s x.next).next) q ∙ ap (λ (x : Token). x.next) (sym e₂)
 
-    pub dotted-found : (p q : Bool) (f : 0 ≤ 1) → p ≡ past u → q ≡ past w
+    pub dotted-found : (p q : Bool) (f : 0 ≤ 1) → p ≡ tokens_past u → q ≡ tokens_past w
         → Sides s at (Some (record { over = p || q; marks = 0; start = u.start; next = w.next; few = f })) (IsDotted s) (a_dotted (tokens (drop at s)))
     dotted-found p q f ep eq =
         let n = name-at s at u e h₁ in
@@ -188,7 +189,7 @@ module _ (s : List ℕ) (at : ℕ) (u : Token) (e : u ≡ token_at s at) where
           subst (Sides s at None (IsOperand b s))
           (sym (ap (a_term (a_column b)) v.left ∙ term-reader b t _ i ∙ a_token-none (term_of b) t _ (term-none b t (ap is_operand v.kind ∙ q)))) tt
 
-  pub single-side : (b : Bool) → (b ≡ true → u.kind ≡ Named → ⊥) → is_operand u.kind ≡ true → (r : Side) → r.over ≡ past u → r.marks ≡ marks_at u.kind → r.start ≡ u.start → r.next ≡ u.next
+  pub single-side : (b : Bool) → (b ≡ true → u.kind ≡ Named → ⊥) → is_operand u.kind ≡ true → (r : Side) → r.over ≡ tokens_past u → r.marks ≡ marks_at u.kind → r.start ≡ u.start → r.next ≡ u.next
       → Sides s at (Some r) (IsOperand b s) (a_term (a_column b) (tokens (drop at s)))
   single-side b h q r ep em es en = go (look s at u e)
     where

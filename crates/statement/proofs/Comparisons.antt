@@ -16,7 +16,8 @@ use Rattle.meaning.specs.Condition.{compare}
 use Rattle.meaning.specs.Postfix.{leaf, signed}
 use Rattle.meaning.specs.Tokens as T
 use Rattle.meaning.specs.Tokens.{tokens, keyword, NOT, IS, NULL}
-use Rattle.meaning.specs.Grammar.{constant, mark, Term, column, given, Test, compares, tests_null, tests-not-null, comparison, Reader, then, ◌>>◌, done, fails, expect, a_token, a_term, operator_of, a_null, a_rest, behind, a_comparison}
+use Rattle.meaning.specs.Grammar.{constant, mark, Term, column, given, Test, compares, tests_null, tests-not-null, comparison}
+use Rattle.meaning.specs.Reader.{Reader, then, ◌>>◌, done, fails, expect, a_token, a_term, operator_of, a_null, a_rest, a_test, a_comparison}
 use Rattle.meaning.specs.Limits.{most_depth, mark_count, term_givens}
 use Rattle.meaning.proofs.Readers.{begins, passing-yes, passing-stops, expect-here, a_token-some, a_token-none, then_some, then-none}
 use Rattle.token.specs.declared.Token.{Token}
@@ -25,8 +26,8 @@ use Rattle.token.specs.declared.Kind.TheVariants.{Not, Is, Null}
 use Rattle.token.specs.Tokens.{token_at}
 use Rattle.statement.specs.Operators.{operator_number, predicate_number, opposite_of}
 use Rattle.statement.specs.declared.conditions.Node.{Node}
-use Rattle.statement.specs.Places.{Column, term_on, comparison_node, node_on, nodes_on, bare_marks_on}
-use Rattle.statement.specs.Reading.{operator_in, is_name, is_is, Operand, a_column, with_sides, with_node, PutsNode, ended_at, PutsNull, Stands, Spans, IsOperand, Sides, ReadsSide, Found, Meets, Reaches, TestsNull}
+use Rattle.statement.specs.Private.Places.{Column, term_on, comparison_node, node_on, nodes_on, bare_marks_on}
+use Rattle.statement.specs.Private.Reading.{operator_in, is_name, is_is, Operand, a_column, with_sides, with_node, PutsNode, ended_at, PutsNull, Stands, Spans, IsOperand, Sides, ReadsSide, Found, Meets, Reaches, TestsNull}
 use Rattle.statement.specs.declared.conditions.Cursor.{Cursor}
 use Rattle.statement.specs.declared.sides.Side.{Side}
 use Rattle.statement.proofs.OperatorLaws.{predicate-back, predicate-few, opposite-is}
@@ -203,7 +204,7 @@ is-is Is e = refl
 is-is _ e = cc
 
 -- what follows an operand, but IS behind a column
-behind-rest : {C : Type 0} (a_column : Reader C) (x : Term C) (ts : List T.Token) → (is_column x ≡ true → begins (keyword IS) ts ≡ false) → behind a_column x ts ≡ a_rest a_column x ts
+behind-rest : {C : Type 0} (a_column : Reader C) (x : Term C) (ts : List T.Token) → (is_column x ≡ true → begins (keyword IS) ts ≡ false) → a_test a_column x ts ≡ a_rest a_column x ts
 behind-rest a_column (column n) ts h = passing-stops (keyword IS) (a_null a_column n) (a_rest a_column (column n)) ts (h refl)
 behind-rest a_column (given v) ts h = refl
 
@@ -250,7 +251,7 @@ module _ (d : Bool) (s : List ℕ) (positive : Bool) (depth : ℕ) (c : Cursor) 
             (sym
             (then_some _ left.found
             ∙ ap (λ o. then o (λ t. done (compare t)))
-            (ap₂ (behind (a_column d)) e is-there.after ∙ passing-yes (keyword IS) (a_null (a_column d) n) (a_rest (a_column d) (column n)) (tokens (drop v.next s)))))
+            (ap₂ (a_test (a_column d)) e is-there.after ∙ passing-yes (keyword IS) (a_null (a_column d) n) (a_rest (a_column d) (column n)) (tokens (drop v.next s)))))
             (h d eq n (subst (IsOperand d s a) e left.is))
 
       -- or it does not

@@ -3,12 +3,12 @@ use mathlib.Core.Path.{◌≡◌, refl, sym, ap, ap₂, subst, ◌∙◌}
 use mathlib.Core.Bool.{Bool, true, false, not, ◌||◌, cond}
 use mathlib.Core.Option.{Option, none, some}
 use mathlib.Core.List.{List, [], ◌∷◌, ◌++◌, map}
-use Prim.Native.Nat.{ℕ, suc, ◌+◌, ◌-◌, ◌*◌, ◌/◌, ◌≤◌, ◌<◌}
+use Prim.Native.Nat.{ℕ, suc, ◌+◌, ◌*◌, ◌/◌, ◌≤◌, ◌<◌}
 use native.Mathlib.Omega.{arith}
 use borrow.Author.Tests.{lt-ltb, le-ltb, ltb-false}
 use lib.Dec.{eqb, ltb, leb}
 use lib.IntN.{ℤ, nat_abs}
-use lib.ListN.{length, take, drop, length-map, length-take, length-replicate}
+use lib.ListN.{length, take, length-map, length-take}
 use Rattle.lists.specs.Lists.{any, repeats, from}
 use Rattle.lists.proofs.Bools.{or_left, or_right, clash}
 use Rattle.meaning.specs.Condition.{Optional, Where, always, under, mapped_in, comparisons_in, operands_in}
@@ -17,30 +17,29 @@ use Rattle.meaning.specs.Postfix as M
 use Rattle.meaning.specs.Postfix.{nodes_in, leaves, outer_marks_in}
 use Rattle.meaning.specs.Tokens as T
 use Rattle.meaning.specs.Tokens.{Name}
-use Rattle.meaning.specs.Grammar.{Given, Term, Test, comparison, Dotted, Listed, items, Sentence, table, select, pair, insert, update, delete, sentence}
+use Rattle.meaning.specs.Grammar.{Given, Term, Test, comparison, Dotted, Listed, items, Sentence, table, select, pair, insert, update, delete}
+use Rattle.meaning.specs.Reader.{sentence}
 use Rattle.meaning.specs.Limits.{too_long, table_named, where_of, term_columns, term_givens, outside32, mark_count, past_limit}
-use Rattle.meaning.specs.Names.{Schema, same_name, has, position, table_names, columns_of, missing, is_of, pair_place, pair_missing, unknown, taken, miscounted, twice}
+use Rattle.meaning.specs.Names.{Schema, same_name, has, position, table_names, columns_of, missing, is_of, pair_place, pair_missing, unknown_name, taken, miscounted, twice}
 use Rattle.meaning.specs.Statement.{settings, setting_marks, numbered_all, resolved_where, statement_of}
-use Rattle.meaning.specs.Cells.{areas_size}
-use Rattle.meaning.specs.Plain.{Plain, no_query, no_update, schemas, no_place, add_conditions, or_else, lowest_of}
-use Rattle.meaning.specs.Resolve.{resolve_nodes}
+use Rattle.meaning.specs.Refusals.{Catalog, no_place, text_conditions, or_else, lowest_of}
+use Rattle.meaning.specs.Private.Walk.{resolve_nodes}
 use Rattle.meaning.proofs.Postfix.{sides-in, leaves_in, nodes-count, few_nodes}
 use Rattle.meaning.proofs.Outer.{marks-resolved}
 use Rattle.meaning.proofs.Resolve.{resolve-where}
 use Rattle.token.specs.Tokens.{kind_of}
 use Rattle.meaning.specs.Pattern.{placed_from}
 use Rattle.statement.specs.declared.Table.{Table}
-use Rattle.statement.specs.Compiled.{Compiled}
+use Rattle.statement.specs.Compiled.{Compiled, padded, table_struct, no_setting, step_of, condition_struct, marks_number, setting_struct, compiled_table, compiled_query, compiled_update, compiled_refusal, struct_of, struct_of_text, compiled_by, compiled_of}
 use Rattle.statement.specs.declared.sentences.Form.TheVariants.{Table as TABLE, Select, Insert, Update, Delete, Pair}
 use Rattle.statement.specs.declared.sentences.Entry.{Entry}
 use Rattle.statement.specs.declared.sentences.Form.{Form}
 use Rattle.statement.specs.declared.sentences.Item.{Item}
 use Rattle.statement.specs.declared.conditions.Node.{Node}
-use Rattle.statement.specs.Places.{token_on, name_on, given_on, Column, column_on, node_on, nodes_on, bare_marks_on}
-use Rattle.statement.specs.Sentences.{givens_on, over_on, bare_marks_in, FormIs, NodesAt, Entered, Noted}
-use Rattle.statement.specs.Catalog.{schemas_of, rowless, catalog}
-use Rattle.statement.specs.Compiled.{padded, table_struct, no_setting, step_of, condition_struct, marks_number, setting_struct, created, asked, changing, refused_by, struct_of, struct_of_text, settled, compiled_of}
-use Rattle.statement.specs.Built.{lowest_by, places_of, short_name, short_column, short_nodes, kept_on, short_given, rows_as, rows_on, settings_from, last_of, outer_by, outer_on, columns_on, Fits, condition_on, unknown_on, table_on, select_on, insert_on, sets_on, update_on, delete_on, pair_with, pair_on, beside_as, beside_on}
+use Rattle.statement.specs.Private.Places.{token_on, name_on, given_on, Column, column_on, node_on, nodes_on, bare_marks_on}
+use Rattle.statement.specs.Private.Sentences.{givens_on, over_on, bare_marks_in, FormIs, NodesAt, Entered, Noted}
+use Rattle.statement.specs.Catalog.{schemas_of, catalog}
+use Rattle.statement.specs.Private.Built.{lowest_by, places_of, short_name, short_column, short_nodes, kept_on, short_given, rows_as, rows_on, settings_from, last_of, outer_by, outer_on, columns_on, Fits, condition_on, unknown_on, table_on, select_on, insert_on, sets_on, update_on, delete_on, pair_with, pair_on, beside_as, beside_on}
 use Rattle.statement.proofs.Found.{has-ltb}
 use Rattle.statement.proofs.Sets.{steps-noted, leaves-any}
 use Rattle.statement.proofs.Outer.{outer-in}
@@ -50,18 +49,8 @@ use Rattle.statement.proofs.Known.{name_below, dotted-below, unknown-is, setting
 -- ---- the catalog
 
 module _ (tables : List Table) (used queries updates cells : ℕ) where
-  abbrev store : Plain
+  abbrev store : Catalog
   store = catalog tables used queries updates cells
-
-  abbrev there : List Schema
-  there = schemas_of tables used
-
-  rows-less : (ts : List Schema) → map (λ t. t.schema) (map rowless ts) ≡ ts
-  rows-less [] = refl
-  rows-less (t ∷ ts) = ap (λ (xs : List Schema). t ∷ xs) (rows-less ts)
-
-  pub schemas-are : schemas store ≡ there
-  schemas-are = rows-less there
 
 -- ---- a sentence that was read, within the limits
 
@@ -170,8 +159,8 @@ module _ (d : Bool) (s : List ℕ) (ps : List Node) (q : Where (Term (Column d))
 -- ---- the forms
 
 -- what a sentence gives beside tables: a refusal from 6 on, or its statement
-abbrev decided : Plain → List Schema → Sentence → Compiled
-decided p ts x = settled (lowest_by (unknown ts x) (taken ts x) (miscounted ts x) (twice x) (no_place p x)) (struct_of (statement_of ts x))
+abbrev decided : Catalog → Sentence → Compiled
+decided c x = compiled_by (lowest_by (unknown_name c.tables x) (taken c.tables x) (miscounted c.tables x) (twice x) (no_place c x)) (struct_of (statement_of c.tables x))
 
 abbrev is_table : Sentence → Bool
 is_table (table t cs ring z) = true
@@ -214,32 +203,24 @@ module _ (s : List ℕ) (noted_items : List Item) (noted_nodes : List Node) (e :
   abbrev ps : List Node
   ps = take e.c.nodes noted_nodes
 
-  abbrev P : Plain
+  abbrev P : Catalog
   P = store tables used queries updates cells
 
   abbrev S : List Schema
-  S = there tables used queries updates cells
+  S = P.tables
 
   table-compiles : (t : Name) (cs : Listed Name) (b : Bool) (z : ℤ) (rows : ℕ) (ring : Bool) → Entered s noted_items noted_nodes e (table t cs b z) → past_limit (table t cs b z) ≡ false
-      → token_on s rows ≡ T.constant z → ring ≡ b → table_on s ls e.table rows ring S cells ≡ decided P S (table t cs b z)
-  unfolding table_on unknown taken miscounted twice no_place statement_of struct_of
+      → token_on s rows ≡ T.constant z → ring ≡ b → table_on s ls e.table rows ring S cells ≡ decided P (table t cs b z)
+  unfolding table_on unknown_name taken miscounted twice no_place statement_of struct_of
   table-compiles t cs b z rows ring E w er eb =
       let x = table t cs b z in
       let n : short_name (name_on s e.table) ≡ t = table_kept s x w e.table E.table in
       let l : columns_on false s ls ≡ items cs = ap (map short_name) (E.names few) ∙ whole-columns short_name is_long whole-name (items cs) (short-listed x w) in
       let c : length ls ≡ length (items cs) = as-many (λ (i : Item). name_on s i.name) ls (E.names few) in
       let r : rows_on s rows ≡ nat_abs z = ap (λ (k : T.Token). rows_as (kind_of k)) er ∙ whole-rows z (inside-rows x w) in
-      let q : S ≡ schemas P = sym (schemas-are tables used queries updates cells) in
-      let k : length S ≡ length P.tables = sym (length-map S rowless) in
-      λ j. settled
-      (lowest_by false (has (table_names S) (n j) || repeats same_name (l j)) false false (leb 8 (k j) || ltb (cells - areas_size (q j)) (c j * r j)))
-      (created (table_struct (record { name = n j; columns = l j; capacity = r j; ring = eb j })))
-
-  asks-few : leb 16 queries ≡ leb 16 (length P.queries)
-  asks-few = ap (leb 16) (sym (length-replicate queries no_query))
-
-  changes-few : leb 16 updates ≡ leb 16 (length P.updates)
-  changes-few = ap (leb 16) (sym (length-replicate updates no_update))
+      λ j. compiled_by
+      (lowest_by false (has (table_names S) (n j) || repeats same_name (l j)) false false (leb 8 (length S) || ltb P.cells_left (c j * r j)))
+      (compiled_table (table_struct (record { name = n j; columns = l j; capacity = r j; ring = eb j })))
 
   -- ---- of a table that is there
 
@@ -257,8 +238,8 @@ module _ (s : List ℕ) (noted_items : List Item) (noted_nodes : List Node) (e :
     missing-is cs = ap (λ (b : Bool). not b || any lacks cs) (sym known)
 
     select-compiles : (cs : Listed Name) (v : Optional (Test Name)) → Entered s noted_items noted_nodes e (select cs t v) → past_limit (select cs t v) ≡ false
-        → select_on false (position C) (length C) s ls ps e i 0 0 false queries ≡ decided P S (select cs t v)
-    unfolding select_on unknown taken miscounted twice no_place statement_of struct_of
+        → select_on false (position C) (length C) s ls ps e i 0 0 false queries ≡ decided P (select cs t v)
+    unfolding select_on unknown_name taken miscounted twice no_place statement_of struct_of
     select-compiles cs v E w =
         let x = select cs t v in
         let q : Where (Term Name) = mapped_in comparison v in
@@ -270,11 +251,11 @@ module _ (s : List ℕ) (noted_items : List Item) (noted_nodes : List Node) (e :
         ∙ missing-is (items cs ++ term_columns (operands_in q)) in
         let c : length ls ≡ length (map (position C) (items cs)) = as-many (λ (i : Item). name_on s i.name) ls (E.names few) ∙ sym (length-map (items cs) (position C)) in
         let d : condition_on false (position C) s ps 0 ≡ condition_struct (nodes_in (resolved_where (position C) 0 q)) = condition-kept false s ps q k (position C) 0 in
-        λ j. settled (lowest_by (u j) false false false (asks-few j))
-        (asked (record { table = i; selected = padded 8 0 (places_of C (l j)); count = c j; parameters = E.marks_are j; second = 0; start = 0; outer = 0; condition = d j }))
+        λ j. compiled_by (lowest_by (u j) false false false (leb 16 queries))
+        (compiled_query (record { table = i; selected = padded 8 0 (places_of C (l j)); count = c j; parameters = E.marks_are j; second = 0; start = 0; outer = 0; condition = d j }))
 
-    insert-compiles : (vs : Listed Given) → Entered s noted_items noted_nodes e (insert t vs) → past_limit (insert t vs) ≡ false → insert_on s ls e C i updates ≡ decided P S (insert t vs)
-    unfolding insert_on unknown taken miscounted twice no_place statement_of struct_of
+    insert-compiles : (vs : Listed Given) → Entered s noted_items noted_nodes e (insert t vs) → past_limit (insert t vs) ≡ false → insert_on s ls e C i updates ≡ decided P (insert t vs)
+    unfolding insert_on unknown_name taken miscounted twice no_place statement_of struct_of
     insert-compiles vs E w =
         let x = insert t vs in
         let g : map short_given (givens_on s ls) ≡ items vs = ap (map short_given) (E.givens few) ∙ whole-givens (items vs) (within-listed x w) in
@@ -284,12 +265,12 @@ module _ (s : List ℕ) (noted_items : List Item) (noted_nodes : List Node) (e :
         ap₂ (λ (k : ℕ) (v : List Given). settings_from 0 (take k (from 0 8)) v) h g ∙ placed-are 0 0 8 (items vs) n in
         let u : false ≡ missing S t [] = missing-is [] in
         let c : length ls ≡ length (placed_from 0 (numbered_all 0 (items vs))) = h ∙ sym (placed-count 0 0 (items vs)) in
-        λ j. settled (lowest_by (u j) false (not (eqb (h j) (length C))) false (changes-few j))
-        (changing (record { form = 0; table = i; settings = padded 8 no_setting (a j); count = c j; parameters = E.marks_are j; condition = condition_struct [] }))
+        λ j. compiled_by (lowest_by (u j) false (not (eqb (h j) (length C))) false (leb 16 updates))
+        (compiled_update (record { form = 0; table = i; settings = padded 8 no_setting (a j); count = c j; parameters = E.marks_are j; condition = condition_struct [] }))
 
     update-compiles : (ss : Listed (Name × Given)) (v : Optional (Test Name)) → Entered s noted_items noted_nodes e (update t ss v) → past_limit (update t ss v) ≡ false
-        → update_on s ls ps e C i updates ≡ decided P S (update t ss v)
-    unfolding update_on unknown taken miscounted twice no_place statement_of struct_of
+        → update_on s ls ps e C i updates ≡ decided P (update t ss v)
+    unfolding update_on unknown_name taken miscounted twice no_place statement_of struct_of
     update-compiles ss v E w =
         let x = update t ss v in
         let q : Where (Term Name) = mapped_in comparison v in
@@ -308,11 +289,11 @@ module _ (s : List ℕ) (noted_items : List Item) (noted_nodes : List Node) (e :
         let c : length ls ≡ length (settings C 0 (items ss)) = as-many (λ (i : Item). name_on s i.name) ls (E.names few) ∙ length-map (items ss) (λ (p : Name × Given). p.0) ∙ sym (settings-count C 0 (items ss)) in
         let d : condition_on false (position C) s ps (sets_on s ls C).marks ≡ condition_struct (nodes_in (resolved_where (position C) (setting_marks (items ss)) q)) =
         condition-kept false s ps q k (position C) (sets_on s ls C).marks ∙ ap (λ (n : ℕ). condition_struct (nodes_in (resolved_where (position C) n q))) m in
-        λ j. settled (lowest_by (u j) (repeats same_name (l j)) false false (changes-few j))
-        (changing (record { form = 1; table = i; settings = padded 8 no_setting (a j); count = c j; parameters = E.marks_are j; condition = d j }))
+        λ j. compiled_by (lowest_by (u j) (repeats same_name (l j)) false false (leb 16 updates))
+        (compiled_update (record { form = 1; table = i; settings = padded 8 no_setting (a j); count = c j; parameters = E.marks_are j; condition = d j }))
 
-    delete-compiles : (v : Optional (Test Name)) → Entered s noted_items noted_nodes e (delete t v) → past_limit (delete t v) ≡ false → delete_on s ps e C i updates ≡ decided P S (delete t v)
-    unfolding delete_on unknown taken miscounted twice no_place statement_of struct_of
+    delete-compiles : (v : Optional (Test Name)) → Entered s noted_items noted_nodes e (delete t v) → past_limit (delete t v) ≡ false → delete_on s ps e C i updates ≡ decided P (delete t v)
+    unfolding delete_on unknown_name taken miscounted twice no_place statement_of struct_of
     delete-compiles v E w =
         let x = delete t v in
         let q : Where (Term Name) = mapped_in comparison v in
@@ -320,8 +301,8 @@ module _ (s : List ℕ) (noted_items : List Item) (noted_nodes : List Node) (e :
         let u : unknown_on (length C) [] (condition_on false (position C) s ps 0) ≡ missing S t (term_columns (operands_in q)) =
         unknown-kept false s ps q k (position C) (length C) lacks (name_below C) [] 0 ∙ missing-is (term_columns (operands_in q)) in
         let d : condition_on false (position C) s ps 0 ≡ condition_struct (nodes_in (resolved_where (position C) 0 q)) = condition-kept false s ps q k (position C) 0 in
-        λ j. settled (lowest_by (u j) false false false (changes-few j))
-        (changing (record { form = 2; table = i; settings = padded 8 no_setting []; count = 0; parameters = E.marks_are j; condition = d j }))
+        λ j. compiled_by (lowest_by (u j) false false false (leb 16 updates))
+        (compiled_update (record { form = 2; table = i; settings = padded 8 no_setting []; count = 0; parameters = E.marks_are j; condition = d j }))
 
     -- ---- of two tables
 
@@ -338,8 +319,8 @@ module _ (s : List ℕ) (noted_items : List Item) (noted_nodes : List Node) (e :
       both-missing-is : has (table_names S) u ≡ true → (xs : List Dotted) → any lacks_both xs ≡ pair_missing S t u xs
       both-missing-is h xs = ap₂ (λ (a b : Bool). not a || (not b || any lacks_both xs)) (sym known) (sym h)
 
-      both-there : has (table_names S) u ≡ true → pair_with t C u D s ls ps e i (position (table_names S) u) queries ≡ decided P S (pair cs t u v)
-      unfolding select_on unknown taken miscounted twice no_place statement_of struct_of
+      both-there : has (table_names S) u ≡ true → pair_with t C u D s ls ps e i (position (table_names S) u) queries ≡ decided P (pair cs t u v)
+      unfolding select_on unknown_name taken miscounted twice no_place statement_of struct_of
       both-there h =
           let q : Where (Term Dotted) = mapped_in comparison v in
           let l : columns_on true s ls ≡ items cs = ap (map (short_column true)) (E.names few) ∙ whole-columns (short_column true) is_long_dotted whole-dotted (items cs) (dotted-listed cs t u v w) in
@@ -351,8 +332,8 @@ module _ (s : List ℕ) (noted_items : List Item) (noted_nodes : List Node) (e :
           let c : length ls ≡ length (map place (items cs)) = as-many (λ (i : Item). column_on true s i.name) ls (E.names few) ∙ sym (length-map (items cs) place) in
           let d : condition_on true place s ps 0 ≡ condition_struct (nodes_in (resolved_where place 0 q)) = condition-kept true s ps q k place 0 in
           let o : outer_on ps ≡ marks_number 0 (outer_marks_in (resolved_where place 0 q)) = outer-kept s ps q (E.noted nodes) (E.bare nodes) place in
-          λ j. settled (lowest_by (n j) false false (same_name t u) (asks-few j))
-          (asked (record {
+          λ j. compiled_by (lowest_by (n j) false false (same_name t u) (leb 16 queries))
+          (compiled_query (record {
             table = i;
             selected = padded 8 0 (map place (l j));
             count = c j;
@@ -363,20 +344,20 @@ module _ (s : List ℕ) (noted_items : List Item) (noted_nodes : List Node) (e :
             condition = d j;
           }))
 
-      second-unknown : has (table_names S) u ≡ false → refused_by 6 ≡ decided P S (pair cs t u v)
-      unfolding unknown
+      second-unknown : has (table_names S) u ≡ false → compiled_refusal 6 ≡ decided P (pair cs t u v)
+      unfolding unknown_name
       second-unknown h = rw (known, h)
 
       abbrev chosen : Name → Bool → Compiled
-      chosen n b = cond b (pair_with t C n (columns_of S n) s ls ps e i (position (table_names S) n) queries) (refused_by 6)
+      chosen n b = cond b (pair_with t C n (columns_of S n) s ls ps e i (position (table_names S) n) queries) (compiled_refusal 6)
 
-      pair-compiles : (second : ℕ) → name_on s second ≡ u → pair_on t C second s ls ps e S i queries ≡ decided P S (pair cs t u v)
+      pair-compiles : (second : ℕ) → name_on s second ≡ u → pair_on t C second s ls ps e S i queries ≡ decided P (pair cs t u v)
       pair-compiles second es =
           ap (λ (n : Name). chosen n (ltb (position (table_names S) n) (length S))) (ap short_name es ∙ whole-name u (short-second cs t u v w))
           ∙ ap (chosen u) (ap (ltb (position (table_names S) u)) (sym (length-map S (λ (t : Schema). t.name))) ∙ has-ltb (table_names S) u)
           ∙ go (has (table_names S) u) refl
         where
-          go : (b : Bool) → has (table_names S) u ≡ b → chosen u b ≡ decided P S (pair cs t u v)
+          go : (b : Bool) → has (table_names S) u ≡ b → chosen u b ≡ decided P (pair cs t u v)
           go true h = both-there h
           go false h = second-unknown h
 
@@ -385,7 +366,7 @@ module _ (s : List ℕ) (noted_items : List Item) (noted_nodes : List Node) (e :
   besides f t = beside_as f t s ls ps e S queries updates
 
   form-compiles : (x : Sentence) → is_table x ≡ false → Entered s noted_items noted_nodes e x → past_limit x ≡ false → e.c.nodes ≤ 15 → has (table_names S) (table_named x) ≡ true
-      → besides e.form (table_named x) ≡ decided P S x
+      → besides e.form (table_named x) ≡ decided P x
   form-compiles (table t cs ring z) b E w h k = clash refl b
   form-compiles (select cs t q) b E w h k = ap (λ (f : Form). besides f t) (is-select s cs t q e.form E.form) ∙ select-compiles t k h cs q E w
   form-compiles (pair cs t u q) b E w h k =
@@ -396,8 +377,8 @@ module _ (s : List ℕ) (noted_items : List Item) (noted_nodes : List Node) (e :
   form-compiles (delete t q) b E w h k = ap (λ (f : Form). besides f t) (is-delete s t q e.form E.form) ∙ delete-compiles t k h q E w
 
   -- a table that is not there
-  unknown-table : (x : Sentence) → is_table x ≡ false → has (table_names S) (table_named x) ≡ false → refused_by 6 ≡ decided P S x
-  unfolding unknown
+  unknown-table : (x : Sentence) → is_table x ≡ false → has (table_names S) (table_named x) ≡ false → compiled_refusal 6 ≡ decided P x
+  unfolding unknown_name
   unknown-table (table t cs ring z) b k = clash refl b
   unknown-table (select cs t q) b k = rw k
   unknown-table (pair cs t u q) b k = rw k
@@ -405,24 +386,24 @@ module _ (s : List ℕ) (noted_items : List Item) (noted_nodes : List Node) (e :
   unknown-table (update t ss q) b k = rw k
   unknown-table (delete t q) b k = rw k
 
-  beside-compiles : (x : Sentence) → is_table x ≡ false → Entered s noted_items noted_nodes e x → past_limit x ≡ false → e.c.nodes ≤ 15 → beside_on s ls ps e S queries updates ≡ decided P S x
+  beside-compiles : (x : Sentence) → is_table x ≡ false → Entered s noted_items noted_nodes e x → past_limit x ≡ false → e.c.nodes ≤ 15 → beside_on s ls ps e S queries updates ≡ decided P x
   beside-compiles x b E w h =
-      ap (λ (n : Name). cond (ltb (position (table_names S) n) (length S)) (besides e.form n) (refused_by 6)) (table_kept s x w e.table E.table)
-      ∙ ap (λ (c : Bool). cond c (besides e.form (table_named x)) (refused_by 6)) found
+      ap (λ (n : Name). cond (ltb (position (table_names S) n) (length S)) (besides e.form n) (compiled_refusal 6)) (table_kept s x w e.table E.table)
+      ∙ ap (λ (c : Bool). cond c (besides e.form (table_named x)) (compiled_refusal 6)) found
       ∙ go (has (table_names S) (table_named x)) refl
     where
       found : ltb (position (table_names S) (table_named x)) (length S) ≡ has (table_names S) (table_named x)
       found = ap (ltb (position (table_names S) (table_named x))) (sym (length-map S (λ (t : Schema). t.name))) ∙ has-ltb (table_names S) (table_named x)
 
-      go : (c : Bool) → has (table_names S) (table_named x) ≡ c → cond c (besides e.form (table_named x)) (refused_by 6) ≡ decided P S x
+      go : (c : Bool) → has (table_names S) (table_named x) ≡ c → cond c (besides e.form (table_named x)) (compiled_refusal 6) ≡ decided P x
       go true k = form-compiles x b E w h k
       go false k = unknown-table x b k
 
   -- a TABLE
-  of-table : (rows : ℕ) (ring : Bool) → e.form ≡ TABLE rows ring → (x : Sentence) → Entered s noted_items noted_nodes e x → past_limit x ≡ false → table_on s ls e.table rows ring S cells ≡ decided P S x
+  of-table : (rows : ℕ) (ring : Bool) → e.form ≡ TABLE rows ring → (x : Sentence) → Entered s noted_items noted_nodes e x → past_limit x ≡ false → table_on s ls e.table rows ring S cells ≡ decided P x
   of-table rows ring h x E w = go x (subst (λ (f : Form). FormIs s f x) h E.form) E w
     where
-      go : (x : Sentence) → FormIs s (TABLE rows ring) x → Entered s noted_items noted_nodes e x → past_limit x ≡ false → table_on s ls e.table rows ring S cells ≡ decided P S x
+      go : (x : Sentence) → FormIs s (TABLE rows ring) x → Entered s noted_items noted_nodes e x → past_limit x ≡ false → table_on s ls e.table rows ring S cells ≡ decided P x
       go (table t cs b z) f E w = table-compiles t cs b z rows ring E w f.0 f.1
       go (select cs t q) f E w = absurd f
       go (pair cs t u q) f E w = absurd f
@@ -442,28 +423,28 @@ no_table_lem s f (delete t q) E h = refl
 -- ---- the text
 
 -- a condition that holds, and one that does not
-first-is : (n : ℕ) (b : Bool) (k : ℕ) (done : Compiled) → b ≡ true → refused_by (suc n) ≡ settled (or_else b (suc n) k) done
-first-is n b k done h = ap (λ (c : Bool). settled (or_else c (suc n) k) done) (sym h)
+first-is : (n : ℕ) (b : Bool) (k : ℕ) (done : Compiled) → b ≡ true → compiled_refusal (suc n) ≡ compiled_by (or_else b (suc n) k) done
+first-is n b k done h = ap (λ (c : Bool). compiled_by (or_else c (suc n) k) done) (sym h)
 
-passed : (n : ℕ) (b : Bool) (k : ℕ) (done : Compiled) → b ≡ false → settled k done ≡ settled (or_else b n k) done
-passed n b k done h = ap (λ (c : Bool). settled (or_else c n k) done) (sym h)
+passed : (n : ℕ) (b : Bool) (k : ℕ) (done : Compiled) → b ≡ false → compiled_by k done ≡ compiled_by (or_else b n k) done
+passed n b k done h = ap (λ (c : Bool). compiled_by (or_else c n k) done) (sym h)
 
 module _ (s : List ℕ) (tables : List Table) (used queries updates cells : ℕ) where
   abbrev goal : Compiled
   goal = compiled_of s tables used queries updates cells
 
   -- the same for any reading of it
-  abbrev compiled_by : Option Sentence → Compiled
-  compiled_by o =
-      let p = store tables used queries updates cells in
-      settled (lowest_of (drop 1 (add_conditions p.lengths p s o))) (struct_of_text (schemas p) o)
+  abbrev as_read : Option Sentence → Compiled
+  as_read o =
+      let c : Catalog = store tables used queries updates cells in
+      compiled_by (lowest_of (text_conditions c s o)) (struct_of_text c.tables o)
 
-  by-reading : compiled_by (sentence s) ≡ goal
+  by-reading : as_read (sentence s) ≡ goal
   unfolding compiled_of
   by-reading = refl
 
   -- refusal 3
-  pub compiled-long : (r : Compiled) → 256 < length s → r ≡ refused_by 3 → r ≡ goal
+  pub compiled-long : (r : Compiled) → 256 < length s → r ≡ compiled_refusal 3 → r ≡ goal
   compiled-long r h q = q ∙ first-is 2 (too_long s) _ _ (lt-ltb 256 (length s) h) ∙ by-reading
 
 module _ (s : List ℕ) (ls : List Item) (ps : List Node) (tables : List Table) (used queries updates cells : ℕ) (short : length s ≤ 256) where
@@ -474,25 +455,25 @@ module _ (s : List ℕ) (ls : List Item) (ps : List Node) (tables : List Table) 
   fits-text = le-ltb 256 (length s) short
 
   -- refusal 4
-  pub compiled-none : Noted s ls ps None (sentence s) → (r : Compiled) → r ≡ refused_by 4 → goal_is r
+  pub compiled-none : Noted s ls ps None (sentence s) → (r : Compiled) → r ≡ compiled_refusal 4 → goal_is r
   compiled-none N r q = q ∙ go (sentence s) N ∙ by-reading s tables used queries updates cells
     where
-      go : (o : Option Sentence) → Noted s ls ps None o → refused_by 4 ≡ compiled_by s tables used queries updates cells o
+      go : (o : Option Sentence) → Noted s ls ps None o → compiled_refusal 4 ≡ as_read s tables used queries updates cells o
       go none M = passed 3 (too_long s) _ _ fits-text
       go (some x) M = absurd M
 
   module _ (e : Entry) (N : Noted s ls ps (Some e) (sentence s)) where
     -- what was read, whatever the sentence is
-    by-sentence : (done : Compiled) → ((x : Sentence) → Entered s ls ps e x → done ≡ compiled_by s tables used queries updates cells (some x)) → (r : Compiled) → r ≡ done → goal_is r
+    by-sentence : (done : Compiled) → ((x : Sentence) → Entered s ls ps e x → done ≡ as_read s tables used queries updates cells (some x)) → (r : Compiled) → r ≡ done → goal_is r
     by-sentence done f r q = q ∙ go (sentence s) N ∙ by-reading s tables used queries updates cells
       where
-        go : (o : Option Sentence) → Noted s ls ps (Some e) o → done ≡ compiled_by s tables used queries updates cells o
+        go : (o : Option Sentence) → Noted s ls ps (Some e) o → done ≡ as_read s tables used queries updates cells o
         go none M = absurd M
         go (some x) M = f x M
 
     -- refusal 5
-    pub compiled-over : (r : Compiled) → over_on e ≡ true → r ≡ refused_by 5 → goal_is r
-    compiled-over r h = by-sentence (refused_by 5) (λ x M. first-is 4 (past_limit x) _ _ (M.past ∙ h) ∙ passed 3 (too_long s) _ _ fits-text) r
+    pub compiled-over : (r : Compiled) → over_on e ≡ true → r ≡ compiled_refusal 5 → goal_is r
+    compiled-over r h = by-sentence (compiled_refusal 5) (λ x M. first-is 4 (past_limit x) _ _ (M.past ∙ h) ∙ passed 3 (too_long s) _ _ fits-text) r
 
     module _ (within : over_on e ≡ false) where
       compiled-fits : Fits s (take e.listed ls) (take e.c.nodes ps) e
@@ -508,10 +489,9 @@ module _ (s : List ℕ) (ls : List Item) (ps : List Node) (tables : List Table) 
 
       -- a sentence within the limits
       decided-is : (x : Sentence) → Entered s ls ps e x
-          → decided (store tables used queries updates cells) (there tables used queries updates cells) x ≡ compiled_by s tables used queries updates cells (some x)
+          → decided (store tables used queries updates cells) x ≡ as_read s tables used queries updates cells (some x)
       decided-is x M =
-          ap (λ (ts : List Schema). decided (store tables used queries updates cells) ts x) (sym (schemas-are tables used queries updates cells))
-          ∙ passed 5 (past_limit x) _ _ (M.past ∙ within)
+          passed 5 (past_limit x) _ _ (M.past ∙ within)
           ∙ passed 3 (too_long s) _ _ fits-text
 
       pub compiled-table : (r : Compiled) (rows : ℕ) (ring : Bool) → e.form ≡ TABLE rows ring → r ≡ table_on s (take e.listed ls) e.table rows ring (schemas_of tables used) cells → goal_is r

@@ -17,7 +17,7 @@ use Rattle.statement.specs.Same.{same-sym}
 use Rattle.statement.specs.declared.Name.{Name}
 use Rattle.statement.specs.declared.Table.{Table}
 use Rattle.statement.specs.Catalog.{name_of_struct, schema_of}
-use Rattle.statement.specs.Built.{place_of, number_in, Finds}
+use Rattle.statement.specs.Private.Built.{place_of, table_number, Finds}
 use Rattle.statement.specs.declared.names.Found.{Found}
 use Rattle.statement.proofs.Chains.{number-is}
 use Rattle.std.proofs.Common.{Option as Maybe, Some, None}
@@ -99,13 +99,13 @@ table-names (t ∷ ts) = ap (λ (ns : List (List ℕ)). name_of_struct t.name �
 -- the number of a table by its name
 pub number-of : (n : List ℕ) (ts : List Table) (r : Maybe ℕ)
     → r ≡ cond (ltb (position_or_len (λ (t : Table). same_name n (name_of_struct t.name)) ts) (length ts)) (Some (position_or_len (λ (t : Table). same_name n (name_of_struct t.name)) ts)) None
-    → r ≡ number_in (map schema_of ts) n
+    → r ≡ table_number (map schema_of ts) n
 number-of n ts r e =
     number-is (λ (t : Table). name_of_struct t.name) n ts r e
     ∙ ap₂ (λ (ns : List (List ℕ)) (l : ℕ). cond (ltb (position ns n) l) (Some (position ns n)) None) (sym (table-names ts)) (sym (length-map ts schema_of))
 
 -- what is returned where there is none
-pub none-found : (n : List ℕ) (ts : List Table) (o : Maybe Found) → o ≡ None → number_in (map schema_of ts) n ≡ None → Finds ts n o
+pub none-found : (n : List ℕ) (ts : List Table) (o : Maybe Found) → o ≡ None → table_number (map schema_of ts) n ≡ None → Finds ts n o
 none-found n ts None e h = h
 none-found n ts (Some f) e h = absurd (cc)
 
@@ -117,7 +117,7 @@ has-number ts n o h =
     ∙ ap (ltb (position (table_names (map schema_of ts)) n)) (sym e)
     ∙ has-ltb (table_names (map schema_of ts)) n
   where
-    some : (o : Maybe Found) → Finds ts n o → is_some o ≡ is_some (number_in (map schema_of ts) n)
+    some : (o : Maybe Found) → Finds ts n o → is_some o ≡ is_some (table_number (map schema_of ts) n)
     some None h = ap is_some (sym h)
     some (Some f) h = ap is_some (sym h.0)
 

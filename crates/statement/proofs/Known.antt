@@ -19,16 +19,15 @@ use Rattle.meaning.specs.Grammar.{Given, Term, Dotted}
 use Rattle.meaning.specs.Limits.{mark_in, term_columns}
 use Rattle.meaning.specs.Names.{has, position, is_of, pair_place}
 use Rattle.meaning.proofs.Dotted.{pair_inside, pair-past}
-use Rattle.meaning.specs.Statement.{numbered, numbered_all, settings, operand_of, comparison_of, mark_in_term}
-use Rattle.meaning.specs.Resolve.{marks_past, resolve_nodes}
-use Rattle.meaning.specs.Resolve.{is_below}
+use Rattle.meaning.specs.Statement.{numbered, numbered_all, settings, operand_of, comparison_of, mark_in_term, is_below}
+use Rattle.meaning.specs.Private.Walk.{marks_past, resolve_nodes}
 use Rattle.meaning.specs.Plain.{of_first}
 use Rattle.statement.specs.Sound.{operand_read, comparison_read}
 use Rattle.meaning.specs.Pattern.{placed_from}
 use Rattle.statement.proofs.ByKind.{column-read, parameter-read}
 use Rattle.statement.specs.declared.Setting.{Setting}
 use Rattle.statement.specs.Compiled.{operand_struct, comparison_struct, no_comparison, condition_struct, setting_struct}
-use Rattle.statement.specs.Built.{places_of, places_below, condition_below, unknown_on, settings_from}
+use Rattle.statement.specs.Private.Built.{places_of, places_below, condition_below, unknown_on, settings_from}
 use Rattle.statement.proofs.Found.{has-ltb}
 use Rattle.statement.proofs.Assembled.{take-padded}
 use Rattle.statement.proofs.Limited.{columns-cons}

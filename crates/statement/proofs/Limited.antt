@@ -21,7 +21,7 @@ use Rattle.meaning.specs.Grammar.{Given, constant, mark, Term, column, given, Te
 use Rattle.meaning.specs.Limits.{table_named, further_tables, list_columns, list_givens, where_of, term_columns, term_givens, is_within32, outside32, many_items, rows_outside, many_marks, many_comparisons, deep, long_name, big_constant, past_limit}
 use Rattle.meaning.proofs.Dotted.{bare-givens, bare-columns}
 use Rattle.token.specs.declared.Kind.TheVariants.{Constant, Big}
-use Rattle.statement.specs.Built.{short_name, short_given, short_column, short_term, short_nodes, rows_as}
+use Rattle.statement.specs.Private.Built.{short_name, short_given, short_column, short_term, short_nodes, rows_as}
 
 abbrev pub is_long : Name → Bool
 is_long n = ltb 12 (length n)

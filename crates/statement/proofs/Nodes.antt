@@ -5,7 +5,7 @@ use mathlib.Core.List.{List, [], ◌∷◌, ◌++◌, append-nil, append_assoc}
 use Prim.Native.Nat.{ℕ}
 use Rattle.lists.proofs.Lists.{map-append}
 use Rattle.statement.specs.declared.conditions.Node.{Node}
-use Rattle.statement.specs.Places.{node_on, nodes_on, bare_mark, bare_marks_on}
+use Rattle.statement.specs.Private.Places.{node_on, nodes_on, bare_mark, bare_marks_on}
 
 pub marks-append : (xs ys : List Node) → bare_marks_on (xs ++ ys) ≡ bare_marks_on xs ++ bare_marks_on ys
 marks-append [] ys = refl

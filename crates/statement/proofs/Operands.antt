@@ -14,7 +14,8 @@ use Rattle.meaning.specs.Operator.{Operator, eq, ne, lt, le, gt, ge}
 use Rattle.meaning.specs.Condition.{Comparison, sides}
 use Rattle.meaning.specs.Tokens as T
 use Rattle.meaning.specs.Tokens.{Token, tokens, Keyword, TABLE, keyword, name, operator, comma, lparen, rparen, dot, other}
-use Rattle.meaning.specs.Grammar.{constant, mark, Term, column, given, spell_name, spell_dotted, spell_term, a_token, a_term, name_of, operator_of}
+use Rattle.meaning.specs.Grammar.{constant, mark, Term, column, given, spell_name, spell_dotted, spell_term}
+use Rattle.meaning.specs.Reader.{a_token, a_term, name_of, operator_of}
 use Rattle.meaning.specs.Limits.{is_within32, mark_count, term_givens}
 use Rattle.meaning.proofs.Readers.{some-none, sound-read}
 use Rattle.meaning.proofs.Decides.{Exact, name_sound, dotted-sound, term-sound}
@@ -23,8 +24,8 @@ use Rattle.token.specs.declared.Kind.{Kind}
 use Rattle.token.specs.declared.Kind.TheVariants.{Constant, Big, Eq, Ne, Lt, Le, Gt, Ge}
 use Rattle.token.specs.Tokens.{operator_kind, keyword_kind, kind_of, token_at}
 use Rattle.statement.proofs.Tells.{Told, told}
-use Rattle.statement.specs.Places.{token_on, Column, term_on}
-use Rattle.statement.specs.Reading.{token_past, is_operand, operator_in, is_name, marks_at, Operand, a_column, term_past}
+use Rattle.statement.specs.Private.Places.{token_on, Column, term_on}
+use Rattle.statement.specs.Private.Reading.{token_past, is_operand, operator_in, is_name, marks_at, Operand, a_column, term_past}
 use Rattle.statement.specs.Operators.{operator_number}
 use Rattle.statement.proofs.Steps.{Look, ended, seen, look}
 

@@ -13,12 +13,12 @@ use Rattle.meaning.specs.Postfix.{Node, join_all, join_any, nodes, nodes_in, siz
 use Rattle.std.specs.Prelude.{Some, None}
 use Rattle.std.specs.List.{slice_get}
 use Rattle.statement.specs.declared.conditions.Node.{Node as Noted}
-use Rattle.statement.specs.Places.{bare_mark, bare_marks_on}
-use Rattle.statement.specs.Reading.{bare_marks}
-use Rattle.statement.specs.Sentences.{bare_marks_in}
+use Rattle.statement.specs.Private.Places.{bare_mark, bare_marks_on}
+use Rattle.statement.specs.Private.Reading.{bare_marks}
+use Rattle.statement.specs.Private.Sentences.{bare_marks_in}
 use Rattle.statement.specs.Compiled.{step_of, digit, marks_number}
 use Rattle.statement.specs.Sound.{digits_back}
-use Rattle.statement.specs.Built.{step_in, last_of, outer_by, outer_on}
+use Rattle.statement.specs.Private.Built.{step_in, last_of, outer_by, outer_on}
 
 -- ---- bare and outer
 

@@ -11,7 +11,7 @@ use lib.ListN.{length, drop}
 use Rattle.lists.proofs.Bools.{clash}
 use Rattle.meaning.specs.Tokens as T
 use Rattle.meaning.specs.Tokens.{keyword, comma, FROM, same_token, first_token, tokens}
-use Rattle.meaning.specs.Grammar.{comma_second, is_paired, a_single, a_pair, a_select}
+use Rattle.meaning.specs.Reader.{comma_second, is_paired, a_single, a_pair, a_select}
 use Rattle.meaning.proofs.Readers.{same_self, same_not}
 use Rattle.meaning.proofs.Stream.{tokens-some}
 use Rattle.token.specs.declared.Kind.{Kind}
@@ -25,8 +25,8 @@ use Rattle.statement.specs.declared.conditions.Cursor.{Cursor}
 use Rattle.statement.specs.declared.conditions.Node.{Node}
 use Rattle.statement.specs.declared.sentences.Item.{Item}
 use Rattle.statement.specs.declared.sentences.Entry.{Entry}
-use Rattle.statement.specs.Reading.{Stands}
-use Rattle.statement.specs.Sentences.{is_from, is_comma, ends_list, is_comma_second, Starts, ReadsForm}
+use Rattle.statement.specs.Private.Reading.{Stands}
+use Rattle.statement.specs.Private.Sentences.{is_from, is_comma, ends_list, is_comma_second, Starts, ReadsForm}
 use Rattle.statement.proofs.Steps.{Look, ended, seen, look, goes}
 use Rattle.statement.proofs.SentenceReaders.{reads_as}
 

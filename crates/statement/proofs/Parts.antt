@@ -15,9 +15,9 @@ use Rattle.statement.specs.declared.Operand.{Operand}
 use Rattle.statement.specs.Sound.{operand_read}
 use Rattle.statement.specs.Operators.{predicate_at, predicate_number}
 use Rattle.statement.proofs.ByKind.{column-read, parameter-read}
-use Rattle.statement.specs.Places.{Column}
+use Rattle.statement.specs.Private.Places.{Column}
 use Rattle.statement.specs.Compiled.{value_struct, operand_struct, comparison_with, comparison_struct}
-use Rattle.statement.specs.Built.{short_given, short_column, short_term, side_on, mark_in_value, mark_in_side, comparison_on}
+use Rattle.statement.specs.Private.Built.{short_given, short_column, short_term, side_on, mark_in_value, mark_in_side, comparison_on}
 
 -- ---- marks
 

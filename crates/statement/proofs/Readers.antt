@@ -13,14 +13,15 @@ use Rattle.meaning.specs.Condition.{Level, atom, conjunction, disjunction, mappe
 use Rattle.meaning.specs.Postfix.{Node, nodes, join_all, join_any}
 use Rattle.meaning.specs.Tokens as T
 use Rattle.meaning.specs.Tokens.{tokens, keyword, lparen, rparen, NOT, AND, OR}
-use Rattle.meaning.specs.Grammar.{comparison, Reader, then, ◌>>=◌, ◌>>◌, done, passing, expect, a_condition}
+use Rattle.meaning.specs.Grammar.{comparison}
+use Rattle.meaning.specs.Reader.{Reader, then, ◌>>=◌, ◌>>◌, done, passing, expect, a_condition}
 use Rattle.meaning.proofs.Readers.{begins, passing-yes, passing-stops}
 use Rattle.meaning.proofs.Decides.{reads-not, reads-open, reads-compare, reads-and, reads-or}
 use Rattle.statement.specs.declared.conditions.Node.{Node as Noted}
 use Rattle.statement.specs.declared.conditions.Node.TheVariants.{And, Or}
-use Rattle.statement.specs.Places.{node_on, nodes_on, bare_mark, bare_marks_on}
-use Rattle.statement.specs.Reading.{moved_to, with_node, PutsNode, Stands, Operand, Written, a_column, condition_past, bare_marks, marks_in, Found, Meets, rank, Compares, Reads}
-use Rattle.statement.specs.Sentences.{Before, Agree, Counts, Expects}
+use Rattle.statement.specs.Private.Places.{node_on, nodes_on, bare_mark, bare_marks_on}
+use Rattle.statement.specs.Private.Reading.{moved_to, with_node, PutsNode, Stands, Operand, Written, a_column, condition_past, bare_marks, marks_in, Found, Meets, rank, Compares, Reads}
+use Rattle.statement.specs.Private.Sentences.{Before, Agree, Counts, Expects}
 use Rattle.token.specs.declared.Kind.TheVariants.{Close}
 use Rattle.statement.specs.declared.conditions.Cursor.{Cursor}
 use Rattle.statement.proofs.Nodes.{nodes-put, marks-put}

@@ -9,13 +9,13 @@ use Rattle.meaning.specs.Condition.{renamed}
 use Rattle.meaning.specs.Postfix.{Node, leaf, all_of, any_of, leaves}
 use Rattle.meaning.specs.Grammar.{Term}
 use Rattle.meaning.specs.Statement.{mark_in_term, comparison_of}
-use Rattle.meaning.specs.Resolve.{marks_past, resolve_nodes}
+use Rattle.meaning.specs.Private.Walk.{marks_past, resolve_nodes}
 use Rattle.statement.specs.declared.Comparison.{Comparison}
 use Rattle.statement.specs.declared.conditions.Node.{Node as Noted}
 use Rattle.statement.specs.declared.conditions.Node.TheVariants as N
-use Rattle.statement.specs.Places.{Column, nodes_on}
+use Rattle.statement.specs.Private.Places.{Column, nodes_on}
 use Rattle.statement.specs.Compiled.{padded, left_side, right_side, comparison_struct, no_comparison, step_of, condition_struct}
-use Rattle.statement.specs.Built.{short_column, short_term, short_nodes, kept_on, mark_in_side, comparison_on, step_in}
+use Rattle.statement.specs.Private.Built.{short_column, short_term, short_nodes, kept_on, mark_in_side, comparison_on, step_in}
 use Rattle.lists.proofs.Walks.{Filling, filling-start, filling-more, filling-end}
 use Rattle.statement.proofs.Sets.{steps-noted}
 use Rattle.statement.proofs.Parts.{mark-side, mark-few}

@@ -8,11 +8,11 @@ use native.Mathlib.Nat.{add-zero}
 use native.Mathlib.Omega.{arith}
 use lib.ListN.{drop}
 use Rattle.meaning.specs.Tokens.{tokens}
-use Rattle.meaning.specs.Grammar.{a_dotted}
+use Rattle.meaning.specs.Reader.{a_dotted}
 use Rattle.statement.specs.declared.conditions.Cursor.{Cursor}
 use Rattle.statement.specs.declared.sides.Side.{Side}
-use Rattle.statement.specs.Reading.{Stands, IsDotted, Sides}
-use Rattle.statement.specs.Sentences.{Columns}
+use Rattle.statement.specs.Private.Reading.{Stands, IsDotted, Sides}
+use Rattle.statement.specs.Private.Sentences.{Columns}
 use Rattle.statement.proofs.Comparisons.{Reached, side-none, side}
 use Rattle.statement.proofs.SentenceReaders.{finds-none, finds}
 

@@ -12,7 +12,8 @@ use lib.ListN.{length, take, drop}
 use Rattle.meaning.specs.Condition.{disjunction, Optional, Where, always, under, mapped_in, operands_in}
 use Rattle.meaning.specs.Postfix.{nodes_in}
 use Rattle.meaning.specs.Tokens.{Name, Token, keyword, WHERE, tokens}
-use Rattle.meaning.specs.Grammar.{Given, Test, comparison, items, Sentence, table, select, pair, insert, update, delete, Reader, then, ◌>>=◌, done, a_condition, a_where, a_table, a_single, a_pair, an_insert, an_update}
+use Rattle.meaning.specs.Grammar.{Given, Test, comparison, items, Sentence, table, select, pair, insert, update, delete}
+use Rattle.meaning.specs.Reader.{Reader, then, ◌>>=◌, done, a_condition, a_where, a_table, a_single, a_pair, an_insert, an_update}
 use Rattle.meaning.specs.Limits.{most_items, table_named, list_givens, bare_term, where_of, term_givens, mark_count, givens}
 use Rattle.meaning.proofs.Dotted.{bare-givens}
 use Rattle.meaning.proofs.Readers.{begins, passing-stops, passing-yes}
@@ -23,9 +24,9 @@ use Rattle.statement.specs.declared.sentences.Contents.TheVariants.{Names as nam
 use Rattle.statement.specs.declared.sentences.Form.TheVariants.{Table, Select, Insert, Update, Delete, Pair}
 use Rattle.statement.specs.declared.sentences.Entry.{Entry}
 use Rattle.token.specs.declared.Kind.TheVariants.{Comma, Open, Close, From, Into, Values, Set}
-use Rattle.statement.specs.Places.{name_on, Column, nodes_on, bare_marks_on}
-use Rattle.statement.specs.Reading.{Stands, Operand, Written, a_column, moved_to, Meets, Reads}
-use Rattle.statement.specs.Sentences.{parts_of, item_on, Takes, Counts, Expects, is_long_name, Names, Sizes, outside_rows, CountsRows, list_past, ReadsList, where_past, Filters, ReadsWhere, FormIs, list_length, bare_marks_in, NodesAt, BareAt, NamesAt, GivensAt, Entered, Starts, ReadsForm, Lists, Deletes}
+use Rattle.statement.specs.Private.Places.{name_on, Column, nodes_on, bare_marks_on}
+use Rattle.statement.specs.Private.Reading.{Stands, Operand, Written, a_column, moved_to, Meets, Reads}
+use Rattle.statement.specs.Private.Sentences.{parts_of, item_on, Takes, Counts, Expects, is_long_name, Names, Sizes, outside_rows, CountsRows, list_past, ReadsList, where_past, Filters, ReadsWhere, FormIs, list_length, bare_marks_in, NodesAt, BareAt, NamesAt, GivensAt, Entered, Starts, ReadsForm, Lists, Deletes}
 use Rattle.statement.proofs.Steps.{Goes}
 use Rattle.statement.proofs.SentenceLimits.{sorted, own_past, past-limit, nodes-replaced}
 use Rattle.statement.proofs.SentenceReaders.{finds, finds-none, reads_as, goes_on, counts-then}

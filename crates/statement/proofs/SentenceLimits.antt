@@ -10,16 +10,16 @@ use lib.Dec.{ltb}
 use lib.ListN.{length, length-map}
 use Rattle.lists.specs.Lists.{any}
 use Rattle.lists.proofs.Lists.{any_append}
-use Rattle.meaning.specs.Condition.{Comparison, Level, Condition, compare, negate, group, alone, both, single, either, Optional, Where, always, under, mapped_in, comparisons, sides, comparisons_in, operands_in, depth, depth_in, atom, renamed, replaced, replaced_in}
+use Rattle.meaning.specs.Condition.{Comparison, Level, Condition, compare, negate, group, alone, both, single, either, Optional, Where, always, under, mapped_in, comparisons, sides, comparisons_in, operands_in, depth, depth_in, atom, renamed, replaced_in}
 use Rattle.meaning.specs.Postfix.{nodes_in}
 use Rattle.meaning.specs.Tokens.{Name}
 use Rattle.meaning.specs.Grammar.{Term, column, given, Test, comparison, Listed, Dotted, items, Sentence, table, select, pair, insert, update, delete}
 use Rattle.meaning.specs.Limits.{most_items, most_marks, most_comparisons, most_depth, table_named, list_columns, list_givens, bare_term, where_of, columns_named, further_tables, deep, long_name, big_constant, term_givens, term_columns, givens, mark_count, outside32, rows_outside, many_items, many_marks, many_comparisons, past_limit}
-use Rattle.meaning.proofs.Clauses.{comparisons-replaced, depth-replaced}
+use Rattle.meaning.proofs.Clauses.{replaced, comparisons-replaced, depth-replaced}
 use Rattle.meaning.proofs.Postfix.{nodes-count}
 use Rattle.meaning.proofs.Dotted.{bare-givens, bare-columns}
-use Rattle.statement.specs.Reading.{Operand, long_column, term_past, condition_past}
-use Rattle.statement.specs.Sentences.{is_long_name, parts_of, list_past, where_past, list_length}
+use Rattle.statement.specs.Private.Reading.{Operand, long_column, term_past, condition_past}
+use Rattle.statement.specs.Private.Sentences.{is_long_name, parts_of, list_past, where_past, list_length}
 
 -- ---- Booleans and tests of numbers
 

@@ -8,7 +8,8 @@ use native.Mathlib.Omega.{arith}
 use lib.ListN.{length, take, drop}
 use Rattle.lists.specs.Lists.{any}
 use Rattle.meaning.specs.Tokens.{Name, comma, tokens}
-use Rattle.meaning.specs.Grammar.{Given, Dotted, Listed, last, next, items, Reader, ◌>>=◌, done, passing, a_list}
+use Rattle.meaning.specs.Grammar.{Given, Dotted, Listed, last, next, items}
+use Rattle.meaning.specs.Reader.{Reader, ◌>>=◌, done, passing, a_list}
 use Rattle.meaning.specs.Limits.{outside32, mark_count}
 use Rattle.meaning.proofs.Readers.{begins, passing-stops, passing-yes}
 use Rattle.token.specs.declared.Kind.TheVariants.{Eq}
@@ -16,8 +17,8 @@ use Rattle.statement.specs.declared.conditions.Cursor.{Cursor}
 use Rattle.statement.specs.declared.sentences.Item.{Item}
 use Rattle.statement.specs.declared.sentences.Contents.{Contents}
 use Rattle.statement.specs.declared.sentences.Contents.TheVariants.{Names as names, Values as values, Settings as settings, Columns as columns}
-use Rattle.statement.specs.Reading.{Stands, moved_to}
-use Rattle.statement.specs.Sentences.{Takes, Counts, Expects, is_long_name, Names, Columns, Gives, Content, item_reader, item_on, parts_of, columns_in, values_in, list_past, PutsItem, CountsItems, Holds, ReadsItem, ReadsList}
+use Rattle.statement.specs.Private.Reading.{Stands, moved_to}
+use Rattle.statement.specs.Private.Sentences.{Takes, Counts, Expects, is_long_name, Names, Columns, Gives, Content, item_reader, item_on, parts_of, columns_in, values_in, list_past, PutsItem, CountsItems, Holds, ReadsItem, ReadsList}
 use Rattle.statement.proofs.Steps.{Goes, stands-past}
 use Rattle.statement.proofs.SentenceLimits.{sorted}
 use Rattle.statement.proofs.SentenceReaders.{finds, found, stands, found-more, reads_as, stops, goes_on, recount, counts-moved, counts-then}

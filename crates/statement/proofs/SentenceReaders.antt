@@ -9,10 +9,10 @@ use native.Mathlib.Nat.{add-zero}
 use native.Mathlib.Omega.{arith}
 use lib.ListN.{drop}
 use Rattle.meaning.specs.Tokens.{Token, tokens}
-use Rattle.meaning.specs.Grammar.{Reader, then}
+use Rattle.meaning.specs.Reader.{Reader, then}
 use Rattle.statement.specs.declared.conditions.Cursor.{Cursor}
-use Rattle.statement.specs.Reading.{Stands, moved_to}
-use Rattle.statement.specs.Sentences.{Before, Agree, Takes, Counts}
+use Rattle.statement.specs.Private.Reading.{Stands, moved_to}
+use Rattle.statement.specs.Private.Sentences.{Before, Agree, Takes, Counts}
 
 -- ---- one reader: o is what the grammar's finds
 

@@ -8,7 +8,8 @@ use Prim.Native.Nat.{ℕ, ◌+◌, ◌*◌, ◌≤◌}
 use native.Mathlib.Omega.{arith}
 use lib.ListN.{length, drop}
 use Rattle.meaning.specs.Tokens.{Token, Keyword, keyword, TABLE, SELECT, INSERT, UPDATE, DELETE, tokens}
-use Rattle.meaning.specs.Grammar.{Sentence, Reader, a_table, a_select, an_insert, an_update, a_delete, a_sentence, passing, fails, whole, read, sentence}
+use Rattle.meaning.specs.Grammar.{Sentence}
+use Rattle.meaning.specs.Reader.{Reader, a_table, a_select, an_insert, an_update, a_delete, a_sentence, passing, fails, whole, read, sentence}
 use Rattle.meaning.proofs.Readers.{some-none, begins, passing-stops}
 use Rattle.meaning.proofs.Decides.{decides, decides-from}
 use Rattle.token.specs.declared.Token.{Token as Read}
@@ -19,8 +20,8 @@ use Rattle.statement.specs.declared.conditions.Cursor.{Cursor}
 use Rattle.statement.specs.declared.conditions.Node.{Node}
 use Rattle.statement.specs.declared.sentences.Item.{Item}
 use Rattle.statement.specs.declared.sentences.Entry.{Entry}
-use Rattle.statement.specs.Reading.{Stands}
-use Rattle.statement.specs.Sentences.{Before, calls, Entered, Noted, ReadsForm, ReadsAny}
+use Rattle.statement.specs.Private.Reading.{Stands}
+use Rattle.statement.specs.Private.Sentences.{Before, calls, Entered, Noted, ReadsForm, ReadsAny}
 use Rattle.statement.proofs.Steps.{Goes}
 use Rattle.statement.proofs.SentenceReaders.{finds-none, reads_as, found, found-none}
 

@@ -15,7 +15,8 @@ use lib.Signed.{lt_z}
 use Rattle.lists.proofs.Bools.{and_right, clash, le_z-not, not-and, not-not}
 use Rattle.meaning.specs.Tokens as T
 use Rattle.meaning.specs.Tokens.{Name, keyword, name, operator, comma, lparen, rparen, dot, other, ROWS, RING, tokens}
-use Rattle.meaning.specs.Grammar.{Given, constant, mark, Reader, then, ◌>>◌, done, fails, expect, a_token, name_of, constant_of, a_given, a_size_word}
+use Rattle.meaning.specs.Grammar.{Given, constant, mark}
+use Rattle.meaning.specs.Reader.{Reader, then, ◌>>◌, done, fails, expect, a_token, name_of, constant_of, a_given, a_size_word}
 use Rattle.meaning.specs.Limits.{is_within32, outside32, mark_count}
 use Rattle.meaning.proofs.Readers.{a_token-some, a_token-none, passing-stops, passing-yes, expect-here}
 use Rattle.token.specs.declared.Token.{Token}
@@ -26,9 +27,9 @@ use Rattle.token.proofs.Laws.{Reads, next-inside}
 use Rattle.token.proofs.TokenKinds.{kind-name}
 use Rattle.statement.proofs.Tells.{Told, told, asked_fixed}
 use Rattle.statement.specs.declared.conditions.Cursor.{Cursor}
-use Rattle.statement.specs.Places.{token_on, given_on}
-use Rattle.statement.specs.Reading.{Stands, token_past, past, marks_at, moved_to}
-use Rattle.statement.specs.Sentences.{Before, Takes, Counts, asked, ExpectsToken, Expects, is_long_name, Names, Gives, Sizes, ring_in, is_value, outside_rows, rows_past, CountsRows}
+use Rattle.statement.specs.Private.Places.{token_on, given_on}
+use Rattle.statement.specs.Private.Reading.{Stands, token_past, tokens_past, marks_at, moved_to}
+use Rattle.statement.specs.Private.Sentences.{Before, Takes, Counts, asked, ExpectsToken, Expects, is_long_name, Names, Gives, Sizes, ring_in, is_value, outside_rows, rows_past, CountsRows}
 use Rattle.statement.proofs.Steps.{Look, ended, seen, look, stands-there, name_length, Goes, goes, stops, stands-past}
 use Rattle.statement.proofs.SentenceReaders.{finds-none, finds, reads_as, counts-moved}
 
@@ -259,25 +260,25 @@ module _ (s : List ℕ) (c : Cursor) (u : Token) (e : u ≡ token_at s c.at) whe
       (token-none constant_of s c.at u (look s c.at u e) (λ t q. no_constant t (ap rows_past q ∙ h)))
 
   module _ (st : Stands s c) where
-    long : (n : Name) → u.kind ≡ Named → u.next - u.start ≡ length n → past u ≡ is_long_name n
+    long : (n : Name) → u.kind ≡ Named → u.next - u.start ≡ length n → tokens_past u ≡ is_long_name n
     unfolding token_past
     long n h l = rw (h, l)
 
-    pub name-found : u.kind ≡ Named → Names s c (Some (stepped c u (past u) c.marks, u.start))
+    pub name-found : u.kind ≡ Named → Names s c (Some (stepped c u (tokens_past u) c.marks, u.start))
     name-found h = go (look s c.at u e)
       where
-        go : Look s c.at u → Names s c (Some (stepped c u (past u) c.marks, u.start))
+        go : Look s c.at u → Names s c (Some (stepped c u (tokens_past u) c.marks, u.start))
         go (ended z q) = absurd (cc)
         go (seen v) =
             let i = kind-name v.token (v.kind ∙ h) in
             let z : c.marks ≡ c.marks + 0 = sym (add-zero c.marks) in
-            one-found name_of s c u st v (past u) c.marks 0 z (omega arith) i.0 (ap name_of i.1)
-            (one-counts name_of s c u st v (past u) c.marks 0 z (omega arith) (is_long_name i.0) (long i.0 h (name_length v i.0 i.1)), rw (stands-there v ∙ i.1))
+            one-found name_of s c u st v (tokens_past u) c.marks 0 z (omega arith) i.0 (ap name_of i.1)
+            (one-counts name_of s c u st v (tokens_past u) c.marks 0 z (omega arith) (is_long_name i.0) (long i.0 h (name_length v i.0 i.1)), rw (stands-there v ∙ i.1))
 
-    pub value_found : is_value u.kind ≡ true → Gives s c (Some (stepped c u (past u) (c.marks + marks_at u.kind), u.start))
+    pub value_found : is_value u.kind ≡ true → Gives s c (Some (stepped c u (tokens_past u) (c.marks + marks_at u.kind), u.start))
     value_found h = go (look s c.at u e)
       where
-        go : Look s c.at u → Gives s c (Some (stepped c u (past u) (c.marks + marks_at u.kind), u.start))
+        go : Look s c.at u → Gives s c (Some (stepped c u (tokens_past u) (c.marks + marks_at u.kind), u.start))
         go (ended z q) = let x = ap is_value z in absurd (cc)
         go (seen v) =
             let i = is-given v.token (ap is_value v.kind ∙ h) in
@@ -286,8 +287,8 @@ module _ (s : List ℕ) (c : Cursor) (u : Token) (e : u ≡ token_at s c.at) whe
             let q : c.marks + marks_at u.kind ≡ c.marks + mark_count (i.0 ∷ []) = ap (λ n. c.marks + n) m in
             let l : mark_count (i.0 ∷ []) ≤ 1 = omega (arith, few_marks u.kind, m) in
             reads_as (given-reader (tokens (drop c.at s)))
-            (one-found given_of s c u st v (past u) (c.marks + marks_at u.kind) (mark_count (i.0 ∷ [])) q l i.0 w.is (
-              one-counts given_of s c u st v (past u) (c.marks + marks_at u.kind) (mark_count (i.0 ∷ [])) q l (outside32 i.0) (ap (λ n. token_past n u.start u.next) (sym v.kind) ∙ w.over u.start u.next),
+            (one-found given_of s c u st v (tokens_past u) (c.marks + marks_at u.kind) (mark_count (i.0 ∷ [])) q l i.0 w.is (
+              one-counts given_of s c u st v (tokens_past u) (c.marks + marks_at u.kind) (mark_count (i.0 ∷ [])) q l (outside32 i.0) (ap (λ n. token_past n u.start u.next) (sym v.kind) ∙ w.over u.start u.next),
               w.here s u.start (stands-there v),
             ))
 

@@ -15,10 +15,10 @@ use Rattle.statement.specs.declared.Setting.{Setting}
 use Rattle.statement.specs.declared.conditions.Node.{Node as Noted}
 use Rattle.statement.specs.declared.conditions.Node.TheVariants as N
 use Rattle.statement.specs.declared.sentences.Item.{Item}
-use Rattle.statement.specs.Places.{given_on, nodes_on, bare_marks_on}
-use Rattle.statement.specs.Sentences.{givens_on}
+use Rattle.statement.specs.Private.Places.{given_on, nodes_on, bare_marks_on}
+use Rattle.statement.specs.Private.Sentences.{givens_on}
 use Rattle.statement.specs.Compiled.{padded, value_struct, setting_with, no_setting, step_of}
-use Rattle.statement.specs.Built.{short_given, mark_in_value, settings_from, settings_on, step_in}
+use Rattle.statement.specs.Private.Built.{short_given, mark_in_value, settings_from, settings_on, step_in}
 use Rattle.statement.proofs.Parts.{mark-one, mark-given, short-mark}
 
 -- no more settings than columns

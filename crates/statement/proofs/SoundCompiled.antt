@@ -7,7 +7,7 @@ use mathlib.Core.List.{List, [], ◌∷◌, map, reverse}
 use Prim.Native.Nat.{ℕ, zero, suc, ◌+◌, ◌*◌, ◌-◌}
 use native.Mathlib.Omega.{arith}
 use borrow.Author.Tests.{eqb-true}
-use lib.ListN.{length, take, drop, length-map}
+use lib.ListN.{length, take, length-map}
 use Rattle.lists.specs.Lists.{All}
 use Rattle.lists.proofs.Bools.{and_left, and_right, clash}
 use Rattle.lists.proofs.Lists.{All-head, All-tail}
@@ -17,25 +17,25 @@ use Rattle.meaning.specs.Postfix.{Node, leaf, all_of, any_of, nodes_in, leaves, 
 use Rattle.meaning.specs.Resolve.{mark_in_operand, is_numbered, numbered_on, numbered_from}
 use Rattle.meaning.specs.Tokens as T
 use Rattle.meaning.specs.Grammar as G
-use Rattle.meaning.specs.Grammar.{Given, mark, Term, comparison, items, Sentence, sentence}
+use Rattle.meaning.specs.Grammar.{Given, mark, Term, comparison, items, Sentence}
+use Rattle.meaning.specs.Reader.{sentence}
 use Rattle.meaning.specs.Limits.{mark_in}
 use Rattle.meaning.specs.Names.{Schema, position, columns_of, pair_place}
 use Rattle.meaning.specs.Statement as M
 use Rattle.meaning.specs.Statement.{column, value, constant, parameter, creates, asks, changes, numbered, numbered_all, settings, setting_marks, resolved_where, statement_of}
-use Rattle.meaning.specs.Plain.{Plain, schemas, add_conditions, lowest_of}
+use Rattle.meaning.specs.Refusals.{Catalog, text_conditions, lowest_of}
 use Rattle.meaning.proofs.Accepted.{clear, reads_exactly}
 use Rattle.meaning.proofs.Postfix.{leaves_in}
 use Rattle.meaning.proofs.Outer.{marks-length}
 use Rattle.meaning.proofs.Resolve.{resolve-where, resolve-numbered}
 use Rattle.meaning.specs.Pattern.{placed_from}
 use Rattle.statement.specs.Catalog.{name_of_struct, schemas_of, catalog}
-use Rattle.statement.specs.Compiled.{padded, name_struct, no_name, table_struct, value_struct, operand_struct, comparison_struct, no_comparison, step_of, condition_struct, marks_number, query_struct, setting_struct, no_setting, update_struct, struct_of, text_conditions, struct_of_text, settled, compiled_of}
-use Rattle.statement.specs.Sound.{value_read, operand_read, comparison_read, nodes_read, condition_nodes, used_comparisons, used_steps, digits_back, used_columns, setting_read, sound_table, sound_query, sound_update, Passes, AgreesCondition, AgreesQuery, AgreesUpdate, AgreesTable}
+use Rattle.statement.specs.Compiled.{padded, name_struct, no_name, table_struct, value_struct, operand_struct, comparison_struct, no_comparison, step_of, condition_struct, marks_number, query_struct, setting_struct, no_setting, update_struct, struct_of, struct_of_text, compiled_by, compiled_of, Compiled}
+use Rattle.statement.specs.Sound.{value_read, operand_read, comparison_read, nodes_read, condition_nodes, used_comparisons, used_steps, digits_back, used_columns, setting_read, Passes, AgreesCondition, AgreesQuery, AgreesUpdate, AgreesTable}
+use Rattle.statement.specs.SoundTest.{sound_table, sound_query, sound_update}
 use Rattle.statement.specs.declared.Name.{Name}
 use Rattle.statement.specs.declared.Table.{Table}
 use Rattle.statement.specs.declared.Comparison.{Comparison}
-use Rattle.statement.specs.Compiled.{Compiled}
-use Rattle.statement.proofs.Compiles.{schemas-are}
 use Rattle.statement.proofs.OperatorLaws.{predicate-back}
 use Rattle.statement.proofs.Stored.{map-twice, where-count}
 use Rattle.statement.proofs.ByKind.{column-read, parameter-read}
@@ -244,23 +244,23 @@ struct-sound ts s P = go (statement_of ts s) refl
     }
 
 -- a text is not refused only where no condition holds
-unrefused : (n : ℕ) (done : Compiled) → (settled n done).refusal ≡ 0 → n ≡ 0
+unrefused : (n : ℕ) (done : Compiled) → (compiled_by n done).refusal ≡ 0 → n ≡ 0
 unrefused zero done h = refl
 unrefused (suc n) done h = h
 
 module _ (text : List ℕ) (tables : List Table) (used queries updates cells : ℕ) where
-  abbrev store : Plain
+  abbrev store : Catalog
   store = catalog tables used queries updates cells
 
-  text-sound : (o : Option Sentence) → sentence text ≡ o → All (λ c. c.1 ≡ false) (drop 1 (add_conditions store.lengths store text o))
-      → SoundStatement (schemas store) (struct_of_text (schemas store) o)
+  text-sound : (o : Option Sentence) → sentence text ≡ o → All (λ c. c.1 ≡ false) (text_conditions store text o)
+      → SoundStatement store.tables (struct_of_text store.tables o)
   text-sound none e a = clash refl (All-head (All-tail a))
   text-sound (some s) e a =
       let a₅ = All-tail (All-tail a) in
       let a₆ = All-tail a₅ in
       let a₇ = All-tail a₆ in
       let a₈ = All-tail a₇ in
-      struct-sound (schemas store) s (record {
+      struct-sound store.tables s (record {
         spelled = (text, (reads_exactly text s).0 e);
         within = All-head a₅;
         known = All-head a₆;
@@ -274,18 +274,16 @@ module _ (text : List ℕ) (tables : List Table) (used queries updates cells : �
       → SoundStatement (schemas_of tables used) (compiled_of text tables used queries updates cells)
   unfolding compiled_of
   compiled-sound h =
-      let done : Compiled = struct_of_text (schemas store) (sentence text) in
-      let clear-all : lowest_of (text_conditions store text) ≡ 0 = unrefused (lowest_of (text_conditions store text)) done h in
-      let s : SoundStatement (schemas store) done = text-sound (sentence text) refl ((clear 2 (text_conditions store text) refl).0 clear-all) in
-      let t : SoundStatement (schemas_of tables used) done = subst (λ ts. SoundStatement ts done) (schemas-are tables used queries updates cells) s in
-      subst (λ n. SoundStatement (schemas_of tables used) (settled n done)) (sym clear-all) t
+      let done : Compiled = struct_of_text store.tables (sentence text) in
+      let clear-all : lowest_of (text_conditions store text (sentence text)) ≡ 0 = unrefused (lowest_of (text_conditions store text (sentence text))) done h in
+      let s : SoundStatement store.tables done = text-sound (sentence text) refl ((clear 2 (text_conditions store text (sentence text)) refl).0 clear-all) in
+      subst (λ n. SoundStatement store.tables (compiled_by n done)) (sym clear-all) s
 
   -- and it is the struct of the text's sentence
   pub compiled-is : (s : Sentence) → sentence text ≡ some s → (compiled_of text tables used queries updates cells).refusal ≡ 0
       → compiled_of text tables used queries updates cells ≡ struct_of (statement_of (schemas_of tables used) s)
   unfolding compiled_of
   compiled-is s e h =
-      let done : Compiled = struct_of_text (schemas store) (sentence text) in
-      ap (λ (n : ℕ). settled n done) (unrefused (lowest_of (text_conditions store text)) done h)
-      ∙ ap (struct_of_text (schemas store)) e
-      ∙ ap (λ (ts : List Schema). struct_of (statement_of ts s)) (schemas-are tables used queries updates cells)
+      let done : Compiled = struct_of_text store.tables (sentence text) in
+      ap (λ (n : ℕ). compiled_by n done) (unrefused (lowest_of (text_conditions store text (sentence text))) done h)
+      ∙ ap (struct_of_text store.tables) e

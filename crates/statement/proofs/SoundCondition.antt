@@ -15,16 +15,17 @@ use Rattle.lists.proofs.Lists.{All-take, All-map, all_true, all-of, any_none}
 use Rattle.meaning.specs.Condition as C
 use Rattle.meaning.specs.Condition.{Optional, Where, mapped_in, sides, comparisons_in, operands_in, depth_in, eval_where, clauses_of}
 use Rattle.meaning.specs.Postfix.{Node, nodes_in, leaves, is_postfix, truth_of, clauses_of_nodes, outer_marks_in, within, chained}
-use Rattle.meaning.specs.Resolve.{operand_constants, parameter_count, numbered_from, columns_below, is_test, are_tests}
+use Rattle.meaning.specs.Resolve.{parameter_count, numbered_from, columns_below, is_test}
+use Rattle.meaning.proofs.Resolve.{operand_constants, are_tests, Columns, Source, where-source, where-passes, outside-constants, resolve-where, resolve-marks, resolve-leaves}
 use Rattle.meaning.specs.Grammar.{Term, Test, comparison}
 use Rattle.meaning.specs.Limits.{most_marks, most_comparisons, term_givens, term_columns, mark_count, is_within32, outside32}
 use Rattle.meaning.specs.Statement as M
 use Rattle.meaning.specs.Statement.{resolved_where}
 use Rattle.meaning.proofs.Postfix.{sides-in, leaves_in, truth-postfix, clauses-postfix}
 use Rattle.meaning.proofs.Outer.{unmarked-within}
-use Rattle.meaning.proofs.Resolve.{Columns, Source, where-source, where-passes, outside-constants, resolve-where, resolve-marks, resolve-leaves}
 use Rattle.statement.specs.Operators.{predicate_number}
-use Rattle.statement.specs.Sound.{comparison_read, used_comparisons, used_steps, condition_nodes, sound_predicate, sound_condition, condition_marks, sound_condition_on, AgreesCondition, ConditionFits}
+use Rattle.statement.specs.Sound.{comparison_read, used_comparisons, used_steps, condition_nodes, AgreesCondition, ConditionFits}
+use Rattle.statement.specs.SoundTest.{sound_predicate, sound_condition, condition_marks, sound_condition_on}
 use Rattle.statement.specs.Compiled.{step_of}
 use Rattle.statement.specs.declared.Comparison.{Comparison}
 use Rattle.statement.specs.declared.Condition.{Condition}

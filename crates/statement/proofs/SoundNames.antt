@@ -17,7 +17,7 @@ use Rattle.meaning.specs.Limits.{most_name, many_items, rows_outside, many_marks
 use Rattle.meaning.specs.Names.{Schema, no_schema, same_name, has, position, table_names, columns_of, missing}
 use Rattle.meaning.proofs.Names.{has-position, position-is}
 use Rattle.meaning.proofs.Resolve.{Columns, has-at, position_at, one_table, name-inside}
-use Rattle.statement.specs.Sound.{TableFits, TablesFit}
+use Rattle.statement.specs.SoundTest.{TableFits, TablesFit}
 use Rattle.statement.proofs.Stored.{all-of}
 
 -- ---- tests of some and of both

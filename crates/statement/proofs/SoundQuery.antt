@@ -19,7 +19,7 @@ use Rattle.meaning.specs.Tokens.{Name, is_name}
 use Rattle.meaning.specs.Grammar as G
 use Rattle.meaning.specs.Grammar.{Test, comparison, Listed, Dotted, items, Sentence}
 use Rattle.meaning.specs.Limits.{most_items, most_marks, most_comparisons, most_depth, most_name, term_givens, term_columns, columns_named, dotted_named, all_names, givens, mark_count, outside32}
-use Rattle.meaning.specs.Names.{Schema, no_schema, same_name, has, position, table_names, columns_of, is_of, pair_place, unknown, taken, miscounted, twice}
+use Rattle.meaning.specs.Names.{Schema, no_schema, same_name, has, position, table_names, columns_of, is_of, pair_place, unknown_name, taken, miscounted, twice}
 use Rattle.meaning.specs.Statement as M
 use Rattle.meaning.specs.Statement.{Statement, creates, asks, changes, resolved_where, statement_of}
 use Rattle.meaning.proofs.Names.{same-is, has-position, position-is}
@@ -28,7 +28,8 @@ use Rattle.meaning.proofs.Outer.{marks-mapped, marks-resolved, outer-chained}
 use Rattle.meaning.proofs.Resolve.{Columns, same-name, one_table, name-inside, two-tables, dotted_at, dotted-inside}
 use Rattle.meaning.proofs.Resolved.{items-some}
 use Rattle.meaning.proofs.Spelling.{has_text}
-use Rattle.statement.specs.Sound.{used_comparisons, condition_nodes, outer_back, outer_read, sound_condition, condition_marks, columns_at, columns_with, second_read, sound_second, sound_query_on, sound_outer, sound_query, Passes, AgreesCondition, AgreesQuery, FromQuery, TableFits, TablesFit, QueryFits}
+use Rattle.statement.specs.Sound.{used_comparisons, condition_nodes, outer_back, outer_read, second_read, Passes, AgreesCondition, AgreesQuery, FromQuery, QueryFits}
+use Rattle.statement.specs.SoundTest.{sound_condition, condition_marks, columns_at, columns_with, sound_second, sound_query_on, sound_outer, sound_query, TableFits, TablesFit}
 use Rattle.statement.specs.declared.Query.{Query}
 use Rattle.statement.proofs.Stored.{all-of}
 use Rattle.statement.proofs.Outer.{length_digits}
@@ -180,7 +181,7 @@ module _ (ts : List Schema) (T : TablesFit ts) (q : Query) (F : QueryFits q) (P 
         }
 
     sentence-passes : Passes ts sentence
-    unfolding unknown taken miscounted twice
+    unfolding unknown_name taken miscounted twice
     sentence-passes = record {
       spelled = (has_text sentence).0 (there-named ts T q.table P.there (columns_named sentence) named-known);
       within = limits-kept sentence limits;
@@ -319,7 +320,7 @@ module _ (ts : List Schema) (T : TablesFit ts) (q : Query) (F : QueryFits q) (P 
         }
 
     pair-passes : Passes ts pair_sentence
-    unfolding unknown taken miscounted twice
+    unfolding unknown_name taken miscounted twice
     pair-passes = record {
       spelled = (has_text pair_sentence).0
           (all-of is_name
@@ -404,7 +405,7 @@ module _ (ts : List Schema) (q : Query) where
 
   select-query : (cs : Listed Name) (t : Name) (v : Optional (Test Name)) → Passes ts (G.select cs t v)
       → AgreesQuery q (asked (statement_of ts (G.select cs t v))) → sound_query ts q ≡ true
-  unfolding statement_of unknown
+  unfolding statement_of unknown_name
   select-query cs t v P A =
       let s : Sentence = G.select cs t v in
       let w : Where (G.Term Name) = mapped_in comparison v in
@@ -447,7 +448,7 @@ module _ (ts : List Schema) (q : Query) where
 
   pair-query : (cs : Listed Dotted) (t u : Name) (v : Optional (Test Dotted)) → Passes ts (G.pair cs t u v)
       → AgreesQuery q (asked (statement_of ts (G.pair cs t u v))) → sound_query ts q ≡ true
-  unfolding statement_of unknown twice
+  unfolding statement_of unknown_name twice
   pair-query cs t u v P A =
       let s : Sentence = G.pair cs t u v in
       let w : Where (G.Term Dotted) = mapped_in comparison v in

@@ -19,12 +19,13 @@ use Rattle.meaning.specs.Tokens.{is_name}
 use Rattle.meaning.specs.Grammar as G
 use Rattle.meaning.specs.Grammar.{Listed, items, Sentence}
 use Rattle.meaning.specs.Limits.{most_items, most_rows, most_name}
-use Rattle.meaning.specs.Names.{Schema, same_name, has, table_names, unknown, taken, miscounted, twice}
+use Rattle.meaning.specs.Names.{Schema, same_name, has, table_names, unknown_name, taken, miscounted, twice}
 use Rattle.meaning.specs.Statement.{Statement, creates, asks, changes, statement_of}
 use Rattle.meaning.proofs.Resolved.{items-some}
 use Rattle.meaning.proofs.Spelling.{has_text}
 use Rattle.statement.specs.Catalog.{name_of_struct, schema_of}
-use Rattle.statement.specs.Sound.{used_columns, sound_name, sound_table, Passes, AgreesTable, FromTable, TableFits, NameFits, TableStructFits}
+use Rattle.statement.specs.Sound.{used_columns, Passes, AgreesTable, FromTable, NameFits, TableStructFits}
+use Rattle.statement.specs.SoundTest.{sound_name, sound_table, TableFits}
 use Rattle.statement.specs.declared.Name.{Name}
 use Rattle.statement.specs.declared.Table.{Table}
 use Rattle.statement.proofs.Stored.{all_both, all-of, all_map}
@@ -153,7 +154,7 @@ module _ (others : List Schema) (t : Table) (F : TableStructFits t) (P : Parts o
   }
 
   sentence-passes : Passes others sentence
-  unfolding unknown taken miscounted twice
+  unfolding unknown_name taken miscounted twice
   sentence-passes = record {
     spelled = (has_text sentence).0 (ap (λ ns. all is_name (name_of_struct t.name ∷ ns)) named ∙ all-of is_name sound-fits.names);
     within = limits-kept sentence limits;

@@ -12,7 +12,8 @@ use Rattle.meaning.specs.Names.{Schema, same_name, has, table_names}
 use Rattle.meaning.proofs.Names.{same-is}
 use Rattle.meaning.proofs.Resolve.{same-name, same-swap}
 use Rattle.statement.specs.Catalog.{name_of_struct, schema_of}
-use Rattle.statement.specs.Sound.{sound_table, sound_tables, TablesFit, TableStructFits}
+use Rattle.statement.specs.Sound.{TableStructFits}
+use Rattle.statement.specs.SoundTest.{sound_table, sound_schemas, TablesFit}
 use Rattle.statement.specs.declared.Table.{Table}
 use Rattle.statement.proofs.SoundNames.{or-none}
 use Rattle.statement.proofs.SoundTable.{Parts, table-parts, parts-table, sound-fits}
@@ -45,7 +46,7 @@ one-fits before t F h B =
       each = All-append B.each (cons (sound-fits before t F P) nil);
     }
 
-more-fit : (before : List Schema) (ts : List Table) → All TableStructFits ts → sound_tables before ts ≡ true → TablesFit before → TablesFit (before ++ map schema_of ts)
+more-fit : (before : List Schema) (ts : List Table) → All TableStructFits ts → sound_schemas before ts ≡ true → TablesFit before → TablesFit (before ++ map schema_of ts)
 more-fit before [] F h B = subst TablesFit (sym (append-nil before)) B
 more-fit before (t ∷ ts) F h B =
     subst TablesFit (append_assoc before (schema_of t ∷ []) (map schema_of ts))
@@ -53,7 +54,7 @@ more-fit before (t ∷ ts) F h B =
     (one-fits before t (All-head F) (and_left (sound_table before t) _ h) B))
 
 -- sound tables are such that statements can be compiled beside them
-pub tables_fit : (ts : List Table) → All TableStructFits ts → sound_tables [] ts ≡ true → TablesFit (map schema_of ts)
+pub tables_fit : (ts : List Table) → All TableStructFits ts → sound_schemas [] ts ≡ true → TablesFit (map schema_of ts)
 tables_fit ts F h = more-fit [] ts F h (record { different = refl; each = nil })
 
 -- ---- each beside all others
@@ -74,7 +75,7 @@ beside ts us t h k =
     })
 
 -- a name that is there before is none of the tables that follow
-later-fresh : (n : T.Name) (before : List Schema) (ts : List Table) → has (table_names before) n ≡ true → sound_tables before ts ≡ true
+later-fresh : (n : T.Name) (before : List Schema) (ts : List Table) → has (table_names before) n ≡ true → sound_schemas before ts ≡ true
     → has (table_names (map schema_of ts)) n ≡ false
 later-fresh n before [] there h = refl
 later-fresh n before (t ∷ ts) there h =
@@ -91,7 +92,7 @@ here before t =
     ∙ ap (λ b. has (table_names before) (name_of_struct t.name) || (b || false)) (same-name (name_of_struct t.name))
     ∙ or-true (has (table_names before) (name_of_struct t.name))
 
-each_of : (before : List Schema) (ls : List Table) (t : Table) (rs : List Table) → sound_tables before (ls ++ t ∷ rs) ≡ true
+each_of : (before : List Schema) (ls : List Table) (t : Table) (rs : List Table) → sound_schemas before (ls ++ t ∷ rs) ≡ true
     → sound_table (before ++ map schema_of (ls ++ rs)) t ≡ true
 each_of before [] t rs h =
     let s : sound_table before t ≡ true = and_left (sound_table before t) _ h in
@@ -107,7 +108,7 @@ each_of before (a ∷ ls) t rs h =
 abbrev pub EachBeside : List Table → Type 0
 EachBeside ts = (ls : List Table) (t : Table) (rs : List Table) → ts ≡ ls ++ t ∷ rs → sound_table (map schema_of (ls ++ rs)) t ≡ true
 
-of-each : (ls ts : List Table) → EachBeside (ls ++ ts) → sound_tables (map schema_of ls) ts ≡ true
+of-each : (ls ts : List Table) → EachBeside (ls ++ ts) → sound_schemas (map schema_of ls) ts ≡ true
 of-each ls [] E = refl
 of-each ls (t ∷ ts) E =
     let s : sound_table (map schema_of (ls ++ ts)) t ≡ true = E ls t ts refl in
@@ -116,9 +117,9 @@ of-each ls (t ∷ ts) E =
     and_both (sound_table (map schema_of ls) t) _
     (beside (map schema_of (ls ++ ts)) (map schema_of ls) t s
     (or_left (has (table_names (map schema_of ls)) (name_of_struct t.name)) _ (sym (has-append (map schema_of ls) (map schema_of ts) (name_of_struct t.name)) ∙ split)))
-    (subst (λ us. sound_tables us ts ≡ true) (map-append schema_of ls (t ∷ []))
+    (subst (λ us. sound_schemas us ts ≡ true) (map-append schema_of ls (t ∷ []))
     (of-each (ls ++ (t ∷ [])) ts (subst EachBeside (sym (append_assoc ls (t ∷ []) ts)) E)))
 
-pub tables-sound : (ts : List Table) → (sound_tables [] ts ≡ true) ↔ EachBeside ts
+pub tables-sound : (ts : List Table) → (sound_schemas [] ts ≡ true) ↔ EachBeside ts
 tables-sound ts =
-    ((λ h ls t rs e. each_of [] ls t rs (subst (λ us. sound_tables [] us ≡ true) e h)), of-each [] ts)
+    ((λ h ls t rs e. each_of [] ls t rs (subst (λ us. sound_schemas [] us ≡ true) e h)), of-each [] ts)

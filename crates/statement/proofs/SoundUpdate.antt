@@ -20,7 +20,7 @@ use Rattle.meaning.specs.Tokens.{Name}
 use Rattle.meaning.specs.Grammar as G
 use Rattle.meaning.specs.Grammar.{Given, Test, comparison, Listed, items, Sentence}
 use Rattle.meaning.specs.Limits.{most_items, most_marks, most_comparisons, most_depth, term_givens, term_columns, columns_named, givens, mark_count, outside32}
-use Rattle.meaning.specs.Names.{Schema, no_schema, same_name, has, position, table_names, columns_of, missing, unknown, taken, miscounted, twice}
+use Rattle.meaning.specs.Names.{Schema, no_schema, same_name, has, position, table_names, columns_of, missing, unknown_name, taken, miscounted, twice}
 use Rattle.meaning.specs.Statement as M
 use Rattle.meaning.specs.Statement.{Statement, creates, asks, changes, insert, delete, update, value, numbered_all, settings, setting_marks, resolved_where, statement_of}
 use Rattle.meaning.proofs.Names.{has-position}
@@ -28,7 +28,8 @@ use Rattle.meaning.proofs.Resolve.{one_table, name-inside}
 use Rattle.meaning.proofs.Resolved.{items-some, numbered-length}
 use Rattle.meaning.proofs.Spelling.{has_text}
 use Rattle.meaning.specs.Pattern.{placed_from}
-use Rattle.statement.specs.Sound.{condition_nodes, used_settings, setting_read, settings_read, setting_columns, setting_values, setting_operands, sound_condition, condition_marks, columns_at, sound_form, sound_update, Passes, AgreesCondition, AgreesUpdate, FromUpdate, TableFits, TablesFit, UpdateFits}
+use Rattle.statement.specs.Sound.{condition_nodes, used_settings, setting_read, settings_read, Passes, AgreesCondition, AgreesUpdate, FromUpdate, UpdateFits}
+use Rattle.statement.specs.SoundTest.{setting_columns, setting_values, setting_operands, sound_condition, condition_marks, columns_at, sound_form, sound_update, TableFits, TablesFit}
 use Rattle.statement.specs.declared.Condition.{Condition}
 use Rattle.statement.specs.declared.Update.{Update}
 use Rattle.statement.proofs.Stored.{map-twice}
@@ -162,7 +163,7 @@ module _ (ts : List Schema) (T : TablesFit ts) (u : Update) (F : UpdateFits u) (
     }
 
     insert-passes : Passes ts insert_sentence
-    unfolding unknown taken miscounted twice
+    unfolding unknown_name taken miscounted twice
     insert-passes = record {
       spelled = (has_text insert_sentence).0 (there-named ts T u.table P.there [] refl);
       within = limits-kept insert_sentence insert-limits;
@@ -272,7 +273,7 @@ module _ (ts : List Schema) (T : TablesFit ts) (u : Update) (F : UpdateFits u) (
         }
 
     update-passes : Passes ts update_sentence
-    unfolding unknown taken miscounted twice
+    unfolding unknown_name taken miscounted twice
     update-passes = record {
       spelled = (has_text update_sentence).0 (there-named ts T u.table P.there (columns_named update_sentence) update-known);
       within = limits-kept update_sentence update-limits;
@@ -345,7 +346,7 @@ module _ (ts : List Schema) (T : TablesFit ts) (u : Update) (F : UpdateFits u) (
     }
 
     delete-passes : Passes ts delete_sentence
-    unfolding unknown taken miscounted twice
+    unfolding unknown_name taken miscounted twice
     delete-passes = record {
       spelled = (has_text delete_sentence).0 (there-named ts T u.table P.there (columns_named delete_sentence) source.known);
       within = limits-kept delete_sentence delete-limits;
@@ -418,7 +419,7 @@ module _ (ts : List Schema) (u : Update) where
     second-known = or_right (any (λ (n : Name). not (has (columns_of ts t) n)) cs) _ both-known
 
   insert-update : (t : Name) (vs : Listed Given) → Passes ts (G.insert t vs) → AgreesUpdate u (changed (statement_of ts (G.insert t vs))) → sound_update ts u ≡ true
-  unfolding statement_of unknown miscounted
+  unfolding statement_of unknown_name miscounted
   insert-update t vs P A =
       let s : Sentence = G.insert t vs in
       let L : Limits s = limits_of s P.within in
@@ -449,7 +450,7 @@ module _ (ts : List Schema) (u : Update) where
       })
 
   delete-update : (t : Name) (v : Optional (Test Name)) → Passes ts (G.delete t v) → AgreesUpdate u (changed (statement_of ts (G.delete t v))) → sound_update ts u ≡ true
-  unfolding statement_of unknown
+  unfolding statement_of unknown_name
   delete-update t v P A =
       let s : Sentence = G.delete t v in
       let w : Where (G.Term Name) = mapped_in comparison v in
@@ -473,7 +474,7 @@ module _ (ts : List Schema) (u : Update) where
 
   update-update : (t : Name) (ss : Listed (Name × Given)) (v : Optional (Test Name)) → Passes ts (G.update t ss v)
       → AgreesUpdate u (changed (statement_of ts (G.update t ss v))) → sound_update ts u ≡ true
-  unfolding statement_of unknown taken
+  unfolding statement_of unknown_name taken
   update-update t ss v P A =
       let s : Sentence = G.update t ss v in
       let w : Where (G.Term Name) = mapped_in comparison v in

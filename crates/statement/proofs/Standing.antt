@@ -11,7 +11,7 @@ use lib.ListN.{take, drop}
 use Rattle.meaning.specs.Tokens as M
 use Rattle.meaning.specs.Tokens.{keyword, name, operator, mark, comma, lparen, rparen, dot, other, folded, first_token, tokens}
 use Rattle.meaning.specs.Grammar as G
-use Rattle.meaning.specs.Grammar.{name_of, constant_of}
+use Rattle.meaning.specs.Reader.{name_of, constant_of}
 use Rattle.meaning.specs.Limits.{is_within32}
 use Rattle.meaning.proofs.Stream.{tokens-some}
 use Rattle.token.specs.declared.Token.{Token}
@@ -21,8 +21,8 @@ use Rattle.token.specs.Tokens.{kind_of, token_of, token_at}
 use Rattle.token.proofs.Cases.{none_is, some_is}
 use Rattle.statement.proofs.Tells.{Told, told}
 use Rattle.token.proofs.Laws.{token-some}
-use Rattle.statement.specs.Places.{first, token_on, given_on, or_mark}
-use Rattle.statement.specs.Built.{short_given, constant_in, rows_as}
+use Rattle.statement.specs.Private.Places.{first, token_on, given_on, or_mark}
+use Rattle.statement.specs.Private.Built.{short_given, constant_in, rows_as}
 
 -- ---- kinds
 

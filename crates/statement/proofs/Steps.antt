@@ -16,8 +16,8 @@ use Rattle.token.proofs.Cases.{none_is, some_is}
 use Rattle.token.proofs.Laws.{Reads, token_end, token-some}
 use Rattle.token.proofs.TokenKinds.{is_fixed, kind-some, kind-fixed}
 use Rattle.statement.specs.declared.conditions.Cursor.{Cursor}
-use Rattle.statement.specs.Places.{first, token_on}
-use Rattle.statement.specs.Reading.{Stands, moved_to}
+use Rattle.statement.specs.Private.Places.{first, token_on}
+use Rattle.statement.specs.Private.Reading.{Stands, moved_to}
 
 -- no token is left, or one stands first
 pub data Look (s : List ℕ) (at : ℕ) (u : Token) : Type 0 where

@@ -12,7 +12,8 @@ use Rattle.lists.proofs.Bools.{and_left, and_right, and_both, clash}
 use Rattle.meaning.specs.Condition as C
 use Rattle.meaning.specs.Condition.{Where, always, under, sides, comparisons_in}
 use Rattle.meaning.specs.Postfix.{Node, leaf, all_of, any_of, nodes_in, leaves, balanced_on, is_postfix}
-use Rattle.meaning.specs.Resolve.{operand_constants, is_test, are_tests}
+use Rattle.meaning.specs.Resolve.{is_test}
+use Rattle.meaning.proofs.Resolve.{operand_constants, are_tests}
 use Rattle.meaning.specs.Limits.{is_within32}
 use Rattle.meaning.specs.Statement as M
 use Rattle.meaning.proofs.Postfix.{nodes-count}

@@ -13,7 +13,7 @@ use Rattle.token.specs.contracts.KindPartialEq.TheImpl.{ghosts}
 use Rattle.token.specs.Tokens.{kind_of}
 use Rattle.lists.proofs.Bools.{clash}
 use Rattle.meaning.proofs.Readers.{some-none}
-use Rattle.statement.specs.Sentences.{asked}
+use Rattle.statement.specs.Private.Sentences.{asked}
 use Rattle.token.proofs.TokenKinds.{is_fixed, kind-name, kind-within, kind-big, kind-fixed}
 
 abbrev pub Told : T.Token → Kind → Type 0

@@ -14,7 +14,8 @@ use lib.Seq.{take-append_seam, take-take, take_all}
 use Rattle.lists.proofs.Lists.{map-take}
 use Rattle.meaning.specs.Tokens.{folded_byte, folded}
 use Rattle.meaning.specs.Grammar as G
-use Rattle.meaning.specs.Grammar.{Given, Term, name_of}
+use Rattle.meaning.specs.Grammar.{Given, Term}
+use Rattle.meaning.specs.Reader.{name_of}
 use Rattle.meaning.specs.Statement as S
 use Rattle.meaning.specs.Statement.{numbered, operand_of}
 use Rattle.token.specs.declared.Kind.{Kind}
@@ -22,11 +23,11 @@ use Rattle.token.specs.declared.Kind.TheVariants.{Name as Named, Constant}
 use Rattle.token.specs.declared.Token.{Token}
 use Rattle.token.specs.Tokens.{token_at}
 use Rattle.token.proofs.Laws.{start-next, next-inside}
-use Rattle.statement.specs.Places.{token_on, name_on, given_on, Column, behind_dot, column_on, or_empty, or_given}
+use Rattle.statement.specs.Private.Places.{token_on, name_on, given_on, Column, behind_dot, column_on, or_empty, or_given}
 use Rattle.statement.specs.Catalog.{name_of_struct}
 use Rattle.statement.specs.declared.Name.{Name}
 use Rattle.statement.specs.Compiled.{padded, name_struct, no_name, value_struct, operand_struct}
-use Rattle.statement.specs.Built.{dotted, place_in, place_named, short_name, short_given, short_column, short_term, side_on, constant_in, rows_as, rows_on}
+use Rattle.statement.specs.Private.Built.{dotted, place_in, place_named, short_name, short_given, short_column, short_term, side_on, constant_in, rows_as, rows_on}
 use Rattle.statement.specs.declared.names.Scope.{Scope}
 use Rattle.statement.specs.declared.names.Scope.TheVariants.{One, Two}
 use Rattle.statement.proofs.Standing.{named-there, unnamed-there, given-there, mark-there, rows_there}

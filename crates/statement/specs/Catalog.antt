@@ -1,8 +1,8 @@
 -- The tables that there are, as the plain store has them: what a text is read beside. Assumes nothing: these are definitions.
-use Rattle.std.specs.Prelude.{List, [], map, ℕ, take, replicate}
+use Rattle.std.specs.Prelude.{List, map, ℕ, ◌-◌, take}
 use Rattle.meaning.specs.Names.{Schema}
-use Rattle.meaning.specs.Plain as P
-use Rattle.meaning.specs.Plain.{Plain, no_query, no_update}
+use Rattle.meaning.specs.Cells.{areas_size}
+use Rattle.meaning.specs.Refusals.{Catalog}
 use Rattle.statement.specs.declared.Name.{Name}
 use Rattle.statement.specs.declared.Table.{Table}
 
@@ -13,10 +13,6 @@ name_of_struct n = take n.len n.bytes
 abbrev pub names_of : List Name → ℕ → List (List ℕ)
 names_of names count = map name_of_struct (take count names)
 
--- the names of a table's columns
-abbrev pub column_names : Table → List (List ℕ)
-column_names t = names_of t.columns t.count
-
 -- what a table's TABLE text says
 abbrev pub schema_of : Table → Schema
 schema_of t = record { name = name_of_struct t.name; columns = names_of t.columns t.count; capacity = t.capacity; ring = t.ring }
@@ -24,15 +20,8 @@ schema_of t = record { name = name_of_struct t.name; columns = names_of t.column
 abbrev pub schemas_of : List Table → ℕ → List Schema
 schemas_of tables used = map schema_of (take used tables)
 
-abbrev pub rowless : Schema → P.Table
-rowless t = record { schema = t; rows = [] }
-
--- a plain store with the first `used` tables, so many questions and updates, and cells of that length. A text is compiled by the tables' TABLE texts and these
--- numbers alone.
-abbrev pub catalog : List Table → ℕ → ℕ → ℕ → ℕ → Plain
-catalog tables used queries updates cells = record {
-  lengths = record { cells = cells; memory = 0 };
-  tables = map rowless (schemas_of tables used);
-  queries = replicate queries no_query;
-  updates = replicate updates no_update;
-}
+-- what a text is read beside: the first `used` tables, so many questions and updates, and what cells of that length leave
+abbrev pub catalog : List Table → ℕ → ℕ → ℕ → ℕ → Catalog
+catalog tables used queries updates cells =
+    let schemas = schemas_of tables used in
+    record { tables = schemas; queries = queries; updates = updates; cells_left = cells - areas_size schemas }

@@ -1,15 +1,17 @@
 -- What a text compiles to: the statement of its sentence, in the types of the code, or the number of its refusal. Assumes nothing: these are definitions.
-use Rattle.std.specs.Prelude.{Result, Ok, Err, Bool, true, false, List, [], ◌∷◌, ◌++◌, map, ℕ, zero, suc, ◌+◌, ◌*◌, ◌-◌, pos, length, drop, replicate}
+use Rattle.std.specs.Prelude.{Result, Ok, Err, Bool, true, false, List, [], ◌∷◌, ◌++◌, map, ℕ, zero, suc, ◌+◌, ◌*◌, ◌-◌, pos, length, replicate}
 use Rattle.std.proofs.Math.Option.{Option, none, some}
 use Rattle.meaning.specs.Condition as C
 use Rattle.meaning.specs.Condition.{Where, always}
 use Rattle.meaning.specs.Postfix.{Node, leaf, all_of, any_of, nodes_in, leaves, outer_marks_in}
-use Rattle.meaning.specs.Grammar.{Sentence, sentence}
+use Rattle.meaning.specs.Grammar.{Sentence}
+use Rattle.meaning.specs.Reader.{sentence}
+use Rattle.meaning.specs.Limits.{most_items, most_comparisons, most_name}
 use Rattle.meaning.specs.Names.{Schema}
 use Rattle.meaning.specs.Statement as S
 use Rattle.meaning.specs.Statement.{statement_of}
 use Rattle.meaning.specs.Pattern.{placed_from}
-use Rattle.meaning.specs.Plain.{Plain, schemas, add_conditions, lowest_of}
+use Rattle.meaning.specs.Refusals.{Catalog, text_conditions, lowest_of}
 use Rattle.statement.specs.Operators.{predicate_number}
 use Rattle.statement.specs.Catalog.{catalog}
 use Rattle.statement.specs.declared.Name.{Name}
@@ -33,7 +35,7 @@ padded n d xs = xs ++ replicate (n - length xs) d
 -- ---- tables
 
 abbrev pub name_struct : List ℕ → Name
-name_struct n = record { bytes = padded 12 0 n; len = length n }
+name_struct n = record { bytes = padded most_name 0 n; len = length n }
 
 abbrev pub no_name : Name
 no_name = name_struct []
@@ -41,7 +43,7 @@ no_name = name_struct []
 abbrev pub table_struct : Schema → Table
 table_struct t = record {
   name = name_struct t.name;
-  columns = padded 8 no_name (map name_struct t.columns);
+  columns = padded most_items no_name (map name_struct t.columns);
   count = length t.columns;
   capacity = t.capacity;
   rows = 0;
@@ -53,6 +55,10 @@ abbrev pub no_table : Table
 no_table = table_struct (record { name = []; columns = []; capacity = 0; ring = false })
 
 -- ---- conditions
+
+-- a step for each comparison, and one for each AND and OR between two
+abbrev pub most_steps : ℕ
+most_steps = 2 * most_comparisons - 1
 
 -- question marks are counted from 0; a number that is not used is 0
 abbrev pub mark_place : ℕ → ℕ
@@ -91,8 +97,8 @@ step_of any_of = 2
 
 abbrev pub condition_struct : List (Node S.Operand) → Condition
 condition_struct ns = record {
-  comparisons = padded 8 no_comparison (map comparison_struct (leaves ns));
-  steps = padded 15 0 (map step_of ns);
+  comparisons = padded most_comparisons no_comparison (map comparison_struct (leaves ns));
+  steps = padded most_steps 0 (map step_of ns);
   count = length (leaves ns);
 }
 
@@ -124,7 +130,7 @@ outer_number (some s) w = marks_number 0 (outer_marks_in w)
 abbrev pub query_struct : S.Query → Query
 query_struct q = record {
   table = q.table;
-  selected = padded 8 0 q.selected;
+  selected = padded most_items 0 q.selected;
   count = length q.selected;
   parameters = q.parameters;
   second = second_code q.second;
@@ -151,10 +157,20 @@ setting_struct s = setting_with s.0 (value_struct s.1)
 abbrev pub no_setting : Setting
 no_setting = setting_with 0 (value_struct (S.constant (pos 0)))
 
+-- numbers of the forms of updates
+abbrev pub insert_form : ℕ
+insert_form = 0
+
+abbrev pub update_form : ℕ
+update_form = 1
+
+abbrev pub delete_form : ℕ
+delete_form = 2
+
 abbrev pub form_of_change : S.Change → ℕ
-form_of_change (S.insert vs) = 0
-form_of_change (S.update ss w) = 1
-form_of_change (S.delete w) = 2
+form_of_change (S.insert vs) = insert_form
+form_of_change (S.update ss w) = update_form
+form_of_change (S.delete w) = delete_form
 
 -- an INSERT sets each column in its place
 abbrev pub settings_of_change : S.Change → List (ℕ × S.Value)
@@ -171,7 +187,7 @@ abbrev pub update_struct : S.Update → Update
 update_struct u = record {
   form = form_of_change u.change;
   table = u.table;
-  settings = padded 8 no_setting (map setting_struct (settings_of_change u.change));
+  settings = padded most_items no_setting (map setting_struct (settings_of_change u.change));
   count = length (settings_of_change u.change);
   parameters = u.parameters;
   condition = condition_struct (nodes_in (where_of_change u.change));
@@ -180,7 +196,17 @@ update_struct u = record {
 abbrev pub no_update : Update
 no_update = update_struct (record { table = 0; change = S.insert []; parameters = 0 })
 
--- ---- statements, as numbers and what they say: the refusal's number or 0; 1 a table, 2 a question, 3 an update, 0 where refused; everything else is empty
+-- ---- statements, as numbers and what they say: the refusal's number or 0; the kind's number, 0 where refused; everything else is empty
+
+-- numbers of the kinds of statements
+abbrev pub of_table : ℕ
+of_table = 1
+
+abbrev pub of_query : ℕ
+of_query = 2
+
+abbrev pub of_update : ℕ
+of_update = 3
 
 pub record Compiled : Type 0 where
   pub refusal : ℕ
@@ -189,46 +215,43 @@ pub record Compiled : Type 0 where
   pub query : Query
   pub update : Update
 
-abbrev pub created : Table → Compiled
-created t = record { refusal = 0; kind = 1; table = t; query = no_query; update = no_update }
+abbrev pub compiled_table : Table → Compiled
+compiled_table t = record { refusal = 0; kind = of_table; table = t; query = no_query; update = no_update }
 
-abbrev pub asked : Query → Compiled
-asked q = record { refusal = 0; kind = 2; table = no_table; query = q; update = no_update }
+abbrev pub compiled_query : Query → Compiled
+compiled_query q = record { refusal = 0; kind = of_query; table = no_table; query = q; update = no_update }
 
-abbrev pub changing : Update → Compiled
-changing u = record { refusal = 0; kind = 3; table = no_table; query = no_query; update = u }
+abbrev pub compiled_update : Update → Compiled
+compiled_update u = record { refusal = 0; kind = of_update; table = no_table; query = no_query; update = u }
 
-abbrev pub refused_by : ℕ → Compiled
-refused_by n = record { refusal = n; kind = 0; table = no_table; query = no_query; update = no_update }
+abbrev pub compiled_refusal : ℕ → Compiled
+compiled_refusal n = record { refusal = n; kind = 0; table = no_table; query = no_query; update = no_update }
 
 -- what compiling gave, read so
 abbrev pub compiled : Result Statement Refusal → Compiled
-compiled (Ok (V.Table t)) = created t
-compiled (Ok (V.Query q)) = asked q
-compiled (Ok (V.Update u)) = changing u
-compiled (Err r) = refused_by (number_of r)
+compiled (Ok (V.Table t)) = compiled_table t
+compiled (Ok (V.Query q)) = compiled_query q
+compiled (Ok (V.Update u)) = compiled_update u
+compiled (Err r) = compiled_refusal (number_of r)
 
 unfoldable pub struct_of : S.Statement → Compiled
-struct_of (S.creates t) = created (table_struct t)
-struct_of (S.asks q) = asked (query_struct q)
-struct_of (S.changes u) = changing (update_struct u)
+struct_of (S.creates t) = compiled_table (table_struct t)
+struct_of (S.asks q) = compiled_query (query_struct q)
+struct_of (S.changes u) = compiled_update (update_struct u)
 
 -- ---- texts
 
--- all conditions of an added text but the first, which is about the lengths lent
-abbrev pub text_conditions : Plain → List ℕ → List (ℕ × Bool)
-text_conditions p text = drop 1 (add_conditions p.lengths p text (sentence text))
-
 abbrev pub struct_of_text : List Schema → Option Sentence → Compiled
-struct_of_text ts none = refused_by 0
+struct_of_text ts none = compiled_refusal 0
 struct_of_text ts (some s) = struct_of (statement_of ts s)
 
 -- the statement, or the number of the refusal if there is one
-abbrev pub settled : ℕ → Compiled → Compiled
-settled zero done = done
-settled (suc n) done = refused_by (suc n)
+abbrev pub compiled_by : ℕ → Compiled → Compiled
+compiled_by zero done = done
+compiled_by (suc n) done = compiled_refusal (suc n)
 
 unfoldable pub compiled_of : List ℕ → List Table → ℕ → ℕ → ℕ → ℕ → Compiled
 compiled_of text tables used queries updates cells =
-    let p : Plain = catalog tables used queries updates cells in
-    settled (lowest_of (text_conditions p text)) (struct_of_text (schemas p) (sentence text))
+    let c : Catalog = catalog tables used queries updates cells in
+    let s : Option Sentence = sentence text in
+    compiled_by (lowest_of (text_conditions c text s)) (struct_of_text c.tables s)

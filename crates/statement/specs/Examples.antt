@@ -3,19 +3,19 @@ use Rattle.std.specs.Prelude.{◌≡◌, refl, true, false, [], ◌∷◌, ℕ, 
 use Prim.Native.String.{String}
 use Rattle.lists.specs.Lists.{bytes}
 use Rattle.meaning.specs.Tokens.{is_name_byte, is_word_byte, decimal, is_name, word, negative, token_from, first_token, scan, tokens}
-use Rattle.meaning.specs.Grammar.{a_condition, a_sentence, read}
+use Rattle.meaning.specs.Reader.{a_condition, a_sentence, read}
 use Rattle.meaning.specs.Limits.{past_limit}
-use Rattle.meaning.specs.Names.{unknown, taken, miscounted, twice}
+use Rattle.meaning.specs.Names.{unknown_name, taken, miscounted, twice}
 use Rattle.meaning.specs.Statement.{statement_of}
-use Rattle.meaning.specs.Plain.{other_lengths, no_place}
-use Rattle.statement.specs.Compiled.{padded, table_struct, comparison_with, no_comparison, no_setting, created, asked, changing, refused_by, struct_of, compiled_of}
+use Rattle.meaning.specs.Plain.{other_lengths}
+use Rattle.meaning.specs.Refusals.{no_place}
+use Rattle.statement.specs.Compiled.{padded, table_struct, comparison_with, no_comparison, no_setting, compiled_table, compiled_query, compiled_update, compiled_refusal, struct_of, compiled_of, Compiled}
 use Rattle.statement.specs.declared.Operand.{Operand}
 use Rattle.statement.specs.declared.Table.{Table}
-use Rattle.statement.specs.Compiled.{Compiled}
 
 -- what the computations open
 computing : Unit {0}
-unfolding is_name_byte is_word_byte decimal is_name word negative token_from first_token scan tokens a_condition a_sentence read past_limit unknown taken miscounted twice statement_of other_lengths no_place struct_of compiled_of
+unfolding is_name_byte is_word_byte decimal is_name word negative token_from first_token scan tokens a_condition a_sentence read past_limit unknown_name taken miscounted twice statement_of other_lengths no_place struct_of compiled_of
 computing = tt
 
 abbrev t : Table
@@ -36,7 +36,7 @@ compiled text = compiled_of (bytes text) (t ∷ []) 1 0 0 6
 -- NOT goes down to the comparisons, and AND becomes OR
 select-b :
     compiled "SELECT b FROM t WHERE NOT (a = 1 AND b < ?)"
-    ≡ asked (record {
+    ≡ compiled_query (record {
       table = 0;
       selected = padded 8 0 (1 ∷ []);
       count = 1;
@@ -57,7 +57,7 @@ select-b = refl
 -- the marks of SET come before those of WHERE
 update-b-a :
     compiled "UPDATE t SET b = ?, a = 5 WHERE ? = a"
-    ≡ changing (record {
+    ≡ compiled_update (record {
       form = 1;
       table = 0;
       settings = padded 8 no_setting (record { column = 1; mark = 1; number = pos 0 } ∷ record { column = 0; mark = 0; number = pos 5 } ∷ []);
@@ -75,7 +75,7 @@ update-b-a = refl
 -- a null test (A.5) has its column on both sides; IS NULL is 6, and NOT makes it 7
 select-null :
     compiled "SELECT b FROM t WHERE a IS NULL AND NOT b IS NULL"
-    ≡ asked (record {
+    ≡ compiled_query (record {
       table = 0;
       selected = padded 8 0 (1 ∷ []);
       count = 1;
@@ -95,7 +95,7 @@ select-null = refl
 -- IS NOT NULL is 7, and NOT makes it 6
 delete-null :
     compiled "DELETE FROM t WHERE a IS NOT NULL OR NOT b IS NOT NULL"
-    ≡ changing (record {
+    ≡ compiled_update (record {
       form = 2;
       table = 0;
       settings = padded 8 no_setting [];
@@ -113,40 +113,40 @@ delete-null = refl
 -- RING is kept beside its size (A.4), where cells are left for it
 table-ring :
     compiled_of (bytes "TABLE r (c) RING 2") (t ∷ []) 1 0 0 8
-    ≡ created (table_struct (record { name = bytes "r"; columns = bytes "c" ∷ []; capacity = 2; ring = true }))
+    ≡ compiled_table (table_struct (record { name = bytes "r"; columns = bytes "c" ∷ []; capacity = 2; ring = true }))
 unfolding computing
 table-ring = refl
 
 -- no sentence; past a limit; an unknown column; a taken name; too few values; no cells left; a null test of a question mark, and of an unknown column
-refused-4 : compiled "SELECT FROM t" ≡ refused_by 4
+refused-4 : compiled "SELECT FROM t" ≡ compiled_refusal 4
 unfolding computing
 refused-4 = refl
 
-refused-4-null : compiled "DELETE FROM t WHERE ? IS NULL" ≡ refused_by 4
+refused-4-null : compiled "DELETE FROM t WHERE ? IS NULL" ≡ compiled_refusal 4
 unfolding computing
 refused-4-null = refl
 
-refused-5 : compiled "DELETE FROM a_name_too_long" ≡ refused_by 5
+refused-5 : compiled "DELETE FROM a_name_too_long" ≡ compiled_refusal 5
 unfolding computing
 refused-5 = refl
 
-refused-6 : compiled "DELETE FROM t WHERE c = 1" ≡ refused_by 6
+refused-6 : compiled "DELETE FROM t WHERE c = 1" ≡ compiled_refusal 6
 unfolding computing
 refused-6 = refl
 
-refused-6-null : compiled "DELETE FROM t WHERE c IS NULL" ≡ refused_by 6
+refused-6-null : compiled "DELETE FROM t WHERE c IS NULL" ≡ compiled_refusal 6
 unfolding computing
 refused-6-null = refl
 
-refused-7 : compiled "TABLE t (a) ROWS 1" ≡ refused_by 7
+refused-7 : compiled "TABLE t (a) ROWS 1" ≡ compiled_refusal 7
 unfolding computing
 refused-7 = refl
 
-refused-8 : compiled "INSERT INTO t VALUES (1)" ≡ refused_by 8
+refused-8 : compiled "INSERT INTO t VALUES (1)" ≡ compiled_refusal 8
 unfolding computing
 refused-8 = refl
 
-refused-9 : compiled "TABLE u (a) ROWS 1" ≡ refused_by 9
+refused-9 : compiled "TABLE u (a) ROWS 1" ≡ compiled_refusal 9
 unfolding computing
 refused-9 = refl
 
@@ -159,7 +159,7 @@ paired text = compiled_of (bytes text) (t ∷ u ∷ []) 2 0 0 12
 
 select-b-c :
     paired "SELECT t.b, u.c FROM t, u WHERE t.a = u.a"
-    ≡ asked (record {
+    ≡ compiled_query (record {
       table = 0;
       selected = padded 8 0 (1 ∷ 3 ∷ []);
       count = 2;
@@ -179,7 +179,7 @@ select-b-c = refl
 -- a null test of a column of the second table
 select-b-null :
     paired "SELECT t.b FROM t, u WHERE u.c IS NULL"
-    ≡ asked (record {
+    ≡ compiled_query (record {
       table = 0;
       selected = padded 8 0 (1 ∷ []);
       count = 1;
@@ -218,14 +218,14 @@ unfolding computing
 outer-negated = refl
 
 -- a column that t has not, which is none of u either; one table twice, with a column that is there and with one that is not
-refused-6-pair : paired "SELECT t.c FROM t, u" ≡ refused_by 6
+refused-6-pair : paired "SELECT t.c FROM t, u" ≡ compiled_refusal 6
 unfolding computing
 refused-6-pair = refl
 
-refused-15 : paired "SELECT t.a FROM t, t" ≡ refused_by 15
+refused-15 : paired "SELECT t.a FROM t, t" ≡ compiled_refusal 15
 unfolding computing
 refused-15 = refl
 
-refused-6-twice : paired "SELECT t.c FROM t, t" ≡ refused_by 6
+refused-6-twice : paired "SELECT t.c FROM t, t" ≡ compiled_refusal 6
 unfolding computing
 refused-6-twice = refl

@@ -1,13 +1,11 @@
 pub mod Operators
-pub mod Places
-pub mod Reading
-pub mod Sentences
 pub mod Catalog
 pub mod Refusals
 pub mod Compiled
-pub mod Built
 pub mod Sound
 pub mod Demand
 pub mod Examples
 pub mod Same
 pub mod Terms
+pub mod Private
+pub mod SoundTest

@@ -1,5 +1,5 @@
--- The papers' numbers for calls not taken: document 01, "Numbers for a call not taken"; 15 and 16 of request A.1. "If an answer is an enum, a definition tells you this paper's number and values for each of
--- its cases. The promises use that definition." (14, of a row that is not there, is of crate `answer`.) Assumes nothing: these are definitions.
+-- The papers' numbers for calls not taken: document 01, "Numbers for a call not taken"; 15 and 16 of request A.1. "If an answer is an enum, a definition tells you this paper's
+-- number and values for each of its cases. The promises use that definition." (14, of a row that is not there, is of crate `answer`.) Assumes nothing: these are definitions.
 use Rattle.std.specs.Prelude.{ℕ, Result, Ok, Err}
 use Rattle.statement.specs.declared.Refusal.{Refusal}
 use Rattle.statement.specs.declared.Refusal.TheVariants.{Opening, State, Text, Sentence, Limit, Unknown, Taken, Miscounted, Place, Number, Values, Full, Buffer, Twice, Rows}

@@ -3,12 +3,12 @@ ghost use Rattle.std.specs.Prelude.{◌≡◌, ◌+◌, ◌≤◌, ◌<◌, eqb,
 ghost use Rattle.meaning.specs.Condition.{renamed};
 ghost use Rattle.meaning.specs.Limits.{most_marks, most_comparisons};
 ghost use Rattle.meaning.specs.Statement.{comparison_of};
-ghost use Rattle.meaning.specs.Resolve.{resolve_nodes};
+ghost use Rattle.meaning.specs.Private.Walk.{resolve_nodes};
 ghost use Rattle.statement.specs.Operators.{predicate_at, predicate_number};
-ghost use Rattle.statement.specs.Places.{bare_mark, bare_marks_on};
-ghost use Rattle.statement.specs.Sentences.{givens_on};
+ghost use Rattle.statement.specs.Private.Places.{bare_mark, bare_marks_on};
+ghost use Rattle.statement.specs.Private.Sentences.{givens_on};
 ghost use Rattle.statement.specs.Compiled.{left_side, right_side, comparison_struct, condition_struct, marks_number};
-ghost use Rattle.statement.specs.Built.{place_in, dotted, short_column, short_term, kept_on, mark_in_value, mark_in_side, comparison_on, step_in, last_of, settings_on, outer_on, outer_in};
+ghost use Rattle.statement.specs.Private.Built.{place_in, dotted, short_column, short_term, kept_on, mark_in_value, mark_in_side, comparison_on, step_in, last_of, settings_on, outer_on, outer_in};
 
 use super::build::Reading;
 use super::conditions::Node;

@@ -1,8 +1,8 @@
 // The forms: statements from what was read, with names looked up in the tables that there are.
 ghost use Rattle.std.specs.Prelude.{◌≡◌, map};
-ghost use Rattle.statement.specs.Catalog.{name_of_struct, column_names, schema_of};
+ghost use Rattle.statement.specs.Catalog.{name_of_struct, schema_of};
+ghost use Rattle.statement.specs.Private.Built.{column_names, place_in, width_in, start_in, twice_in, dotted, Fits, table_on, select_on, insert_on, update_on, delete_on, form_on, pair_on, beside_on};
 ghost use Rattle.statement.specs.Compiled.{compiled};
-ghost use Rattle.statement.specs.Built.{place_in, width_in, start_in, twice_in, dotted, Fits, table_on, select_on, insert_on, update_on, delete_on, form_on, pair_on, beside_on};
 
 use super::conditions::Node;
 use super::names::{Catalog, Found, Scope};

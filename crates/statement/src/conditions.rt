@@ -4,9 +4,9 @@ ghost use Rattle.std.specs.Prelude.{◌≡◌, true, ◌&&◌, cond, ◌≤◌, 
 ghost use Rattle.meaning.specs.Condition.{atom, conjunction, disjunction};
 ghost use Rattle.token.specs.Tokens.{token_at};
 ghost use Rattle.statement.specs.Operators.{opposite_of};
-ghost use Rattle.statement.specs.Places.{comparison_node};
-ghost use Rattle.statement.specs.Reading.{past, is_operand, operator_in, is_name, is_is, marks_at, behind, ReadsDotted, ReadsSide, with_sides, PutsNode, PutsNull, Stands, Reaches, TestsNull, Compares, Reads};
-ghost use Rattle.statement.specs.Sentences.{Expects};
+ghost use Rattle.statement.specs.Private.Places.{comparison_node};
+ghost use Rattle.statement.specs.Private.Reading.{tokens_past, is_operand, operator_in, is_name, is_is, marks_at, behind, ReadsDotted, ReadsSide, with_sides, PutsNode, PutsNull, Stands, Reaches, TestsNull, Compares, Reads};
+ghost use Rattle.statement.specs.Private.Sentences.{Expects};
 
 use super::sides::Side;
 use super::{Comparison, Condition, Name, operators};
@@ -78,9 +78,9 @@ impl Node {
 // ---- tokens
 
 // A name that is too long, or a constant outside 32 bits.
-#[tactic(auto, unfolding(crate::specs::Reading::token_past))]
+#[tactic(auto, unfolding(crate::specs::Private::Reading::token_past))]
 pub fn is_past(t: Token) -> bool
-    ensures { result ≡ past t }
+    ensures { result ≡ tokens_past t }
 {
     match t.kind {
         Kind::Big => true,

@@ -4,10 +4,10 @@ ghost use Rattle.meaning.specs.Tokens.{folded};
 ghost use Rattle.meaning.specs.Limits.{most_items};
 ghost use Rattle.token.specs.Tokens.{token_at};
 ghost use Rattle.meaning.specs.Statement.{numbered, operand_of};
-ghost use Rattle.statement.specs.Places.{name_on, given_on, column_on};
-ghost use Rattle.statement.specs.Sentences.{names_on};
+ghost use Rattle.statement.specs.Private.Places.{name_on, given_on, column_on};
+ghost use Rattle.statement.specs.Private.Sentences.{names_on};
 ghost use Rattle.statement.specs.Compiled.{padded, name_struct, no_name, value_struct, operand_struct};
-ghost use Rattle.statement.specs.Built.{dotted, place_in, short_name, short_names, short_given, short_column, side_on, columns_on, constant_in, rows_in, rows_on};
+ghost use Rattle.statement.specs.Private.Built.{dotted, place_in, short_name, short_names, short_given, short_column, side_on, columns_on, constant_in, size_in, rows_on};
 
 use super::build::Reading;
 use super::names::Scope;
@@ -137,7 +137,7 @@ pub fn operand_at(text: &[u8], place: usize, scope: &Scope, marks: u8) -> Operan
 
 // A number of rows: 1 to 512. (Crate `soundness` tests a capacity so too: it is one expression of the library's, which a method of `Table` would only name.)
 pub fn rows_in(z: i32) -> Option<u16>
-    ensures { result ≡ rows_in z }
+    ensures { result ≡ size_in z }
 {
     match u16::try_from(z) {
         Ok(n) if (1..=Table::ROWS).contains(&n) => Some(n),

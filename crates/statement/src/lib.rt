@@ -13,7 +13,7 @@ mod build; // the six forms, names looked up
 
 ghost use Rattle.std.specs.Prelude.{◌≡◌, ◌*◌, ◌≤◌, leb, min, length};
 ghost use Rattle.meaning.specs.Plain.{of_first};
-ghost use Rattle.meaning.specs.Resolve.{is_below};
+ghost use Rattle.meaning.specs.Statement.{is_below};
 ghost use Rattle.statement.specs.Refusals.{number_of};
 ghost use Rattle.statement.specs.Sound.{used_columns, operand_read, comparison_read, used_comparisons, used_steps, used_settings, value_read};
 ghost use Rattle.statement.specs.Terms.{term_read, given_read, order_said, used_selected, second_said};

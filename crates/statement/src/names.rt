@@ -4,9 +4,9 @@ ghost use Rattle.lists.specs.Lists.{repeats};
 ghost use Rattle.meaning.specs.Limits.{most_tables, most_items};
 ghost use Rattle.meaning.specs.Names.{same_name, position, pair_place};
 ghost use Rattle.meaning.specs.Cells.{area_size, areas_size};
-ghost use Rattle.statement.specs.Catalog.{name_of_struct, column_names, schema_of};
+ghost use Rattle.statement.specs.Catalog.{name_of_struct, schema_of};
+ghost use Rattle.statement.specs.Private.Built.{column_names, places_of, place_of, Finds, width_in, start_in, twice_in};
 ghost use Rattle.statement.specs.Compiled.{padded};
-ghost use Rattle.statement.specs.Built.{places_of, place_of, Finds, width_in, start_in, twice_in};
 ghost use Rattle.statement.specs.Same.{same_laws};
 
 use super::sentences::Item;

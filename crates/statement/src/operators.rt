@@ -1,6 +1,7 @@
 // The operators of comparisons: the opposite of each, and what it says of two sides by their order.
 ghost use Rattle.std.specs.Prelude.{◌≡◌};
-ghost use Rattle.statement.specs.Operators.{predicate_at, is_null_test, opposite_of, truth_by};
+ghost use Rattle.statement.specs.Operators.{predicate_at, opposite_of};
+ghost use Rattle.statement.specs.Private.Truths.{is_null_test, truth_by};
 
 use super::{Comparison, Order};
 

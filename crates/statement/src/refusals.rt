@@ -4,10 +4,10 @@ ghost use Rattle.lists.specs.Lists.{repeats};
 ghost use Rattle.meaning.specs.Limits.{most_tables, most_items};
 ghost use Rattle.meaning.specs.Names.{same_name, has, table_names};
 ghost use Rattle.meaning.specs.Cells.{areas_size};
-ghost use Rattle.statement.specs.Sentences.{over_on};
+ghost use Rattle.statement.specs.Private.Sentences.{over_on};
 ghost use Rattle.statement.specs.Catalog.{name_of_struct, schema_of};
 ghost use Rattle.statement.specs.Refusals.{number_in};
-ghost use Rattle.statement.specs.Built.{lowest_by, condition_below, unknown_on};
+ghost use Rattle.statement.specs.Private.Built.{lowest_by, condition_below, unknown_on};
 
 use super::names::Catalog;
 use super::sentences::{Entry, Form};

@@ -3,8 +3,8 @@
 ghost use Rattle.std.specs.Prelude.{◌≡◌, true, false, ◌+◌, ◌≤◌, ◌<◌, length, drop};
 ghost use Rattle.meaning.specs.Limits.{most_text};
 ghost use Rattle.meaning.specs.Tokens.{tokens};
-ghost use Rattle.meaning.specs.Grammar.{sentence, is_paired, a_table, a_select, a_single, a_pair, an_insert, an_update};
-ghost use Rattle.statement.specs.Sentences.{Names, Columns, Gives, Sizes, ring_in, is_value, rows_past, CountsRows, ends_list, is_comma_second, ReadsItem, ReadsList, ReadsWhere, Starts, ReadsForm, Lists, Deletes, ReadsAny, Noted};
+ghost use Rattle.meaning.specs.Reader.{sentence, is_paired, a_table, a_select, a_single, a_pair, an_insert, an_update};
+ghost use Rattle.statement.specs.Private.Sentences.{Names, Columns, Gives, Sizes, ring_in, is_value, rows_past, CountsRows, ends_list, is_comma_second, ReadsItem, ReadsList, ReadsWhere, Starts, ReadsForm, Lists, Deletes, ReadsAny, Noted};
 
 use super::conditions::{Cursor, Nested, Node, Parser};
 use super::{Table, conditions, fetching};

@@ -12,7 +12,7 @@ use Rattle.meaning.specs.Meaning.{value_of, assigned}
 use Rattle.statement.specs.declared.Setting.{Setting}
 use Rattle.statement.specs.Compiled.{new_value}
 use Rattle.statement.specs.Sound.{value_read, setting_read}
-use Rattle.table.specs.Changed.{row_of}
+use Rattle.table.specs.Private.Changing.{row_of}
 use Rattle.table.proofs.Copied.{pasted}
 
 -- settings made on a row

@@ -26,10 +26,11 @@ use Rattle.meaning.specs.Plain.{is_insert}
 use Rattle.statement.specs.declared.Condition.{Condition}
 use Rattle.statement.specs.declared.Table.{Table}
 use Rattle.statement.specs.declared.Update.{Update}
-use Rattle.statement.specs.Sound.{settings_read, setting_values, sound_form, AgreesCondition, AgreesUpdate}
+use Rattle.statement.specs.Sound.{settings_read, AgreesCondition, AgreesUpdate}
+use Rattle.statement.specs.SoundTest.{setting_values, sound_form}
 use Rattle.statement.specs.Compiled.{settings_of_change, where_of_change, form_of_change}
-use Rattle.table.specs.Evaluated.{meets_stored, row_cells, rows_used}
-use Rattle.table.specs.Changed.{settled, laid, next_place, oldest_after, count_after, area_fits, is_full_ring, form_fits, fits, rows_before, changed_of, change_of, cells_after, oldest_row}
+use Rattle.table.specs.Rows.{meets_stored, row_cells, rows_used}
+use Rattle.table.specs.Changed.{updated_if, laid, next_place, oldest_after, count_after, area_fits, is_full_ring, form_fits, change_fits, rows_before, changed_of, change_of, cells_after, oldest_row}
 use Rattle.table.specs.declared.changes.Changed.{Changed}
 use Rattle.table.proofs.Means.{meets-where}
 use Rattle.table.proofs.Assigning.{assigned-length, row-long}
@@ -49,7 +50,7 @@ placed-values i (o ∷ os) = ap (λ (l : List M.Value). o ∷ l) (placed-values 
 -- the rows after an update of this form, as they are read
 unfoldable pub rows_after : ℕ → Update → List ℤ → List Row → List Row
 rows_after zero u vs rows = rows ++ (new_row (setting_values u) vs ∷ [])
-rows_after (suc zero) u vs rows = map (settled (meets_stored u.condition vs) (assigned (settings_read u) vs)) rows
+rows_after (suc zero) u vs rows = map (updated_if (meets_stored u.condition vs) (assigned (settings_read u) vs)) rows
 rows_after (suc (suc k)) u vs rows = keep (λ (r : Row). not (meets_stored u.condition vs r)) rows
 
 -- the values of an INSERT's sentence
@@ -68,7 +69,7 @@ module _ (u : Update) (vs : List ℤ) (rows : List Row) where
       ∙ ap (λ (p : Row → Bool). keep (λ (r : Row). not (p r)) rows) (meets-means u.condition w A vs)
   rows-by (update ss w) f s A =
       ap (λ (k : ℕ). rows_after k u vs rows) f
-      ∙ ap₂ (λ (p : Row → Bool) (l : List (ℕ × M.Value)). map (settled p (assigned l vs)) rows) (meets-means u.condition w A vs) s
+      ∙ ap₂ (λ (p : Row → Bool) (l : List (ℕ × M.Value)). map (updated_if p (assigned l vs)) rows) (meets-means u.condition w A vs) s
 
   count_by : (ch : M.Change) → u.form ≡ form_of_change ch → AgreesCondition u.condition (where_of_change ch)
       → count_after u.form u vs rows ≡ rows_changed ch vs rows
@@ -113,7 +114,7 @@ laid-means false k zero u vs rows S =
     ap (λ (i : ℕ). turned i (rows ++ new)) (S.first refl)
     ∙ turned_zero (rows ++ new)
     ∙ ap (λ (l : List Row). l ++ new) (sym (turned_zero rows) ∙ ap (λ (i : ℕ). turned i rows) (sym (S.first refl)))
-laid-means full k (suc zero) u vs rows S = turned-map (settled (meets_stored u.condition vs) (assigned (settings_read u) vs)) k rows
+laid-means full k (suc zero) u vs rows S = turned-map (updated_if (meets_stored u.condition vs) (assigned (settings_read u) vs)) k rows
 laid-means full k (suc (suc j)) u vs rows S = turned_zero (keep (λ (r : Row). not (meets_stored u.condition vs r)) (turned k rows))
 
 -- ---- the rows after an update have the table's columns, and there are at most as many as fit
@@ -132,7 +133,7 @@ module _ (u : Update) (vs : List ℤ) (c n : ℕ) (l : List ℤ) (eight : length
   wide_by full k (suc zero) given =
       let p : Row → Bool = meets_stored u.condition vs in
       let f : Row → Row = assigned (settings_read u) vs in
-      All-image (settled p f)
+      All-image (updated_if p f)
       (All-map (λ (r : Row) (e : length r ≡ c). settled-length p f (λ r. assigned-length (settings_read u) vs r) r ∙ e) (rows_wide c n l room))
   wide_by full k (suc (suc j)) given = All-keep (λ (r : Row). not (meets_stored u.condition vs r)) (λ (r : Row) (e : length r ≡ c) h. e) (All-turned k (rows_wide c n l room))
 
@@ -148,7 +149,7 @@ few-by u vs c n l most false k zero h free =
     let g : n < most = free refl refl in
     omega arith
 few-by u vs c n l most full k (suc zero) h free =
-    let g : Row → Row = settled (meets_stored u.condition vs) (assigned (settings_read u) vs) in
+    let g : Row → Row = updated_if (meets_stored u.condition vs) (assigned (settings_read u) vs) in
     let e : length (map g (rows_in c n l)) ≡ n = length-map (rows_in c n l) g ∙ rows-length c n l in
     omega arith
 few-by u vs c n l most full k (suc (suc j)) h free =
@@ -174,18 +175,18 @@ module _ (u : Update) (t : Table) (start : ℕ) (cells vs : List ℤ) (eight : l
   area' = stored area (t.count * t.rows) after
 
   -- where it does not fit
-  cells_same : fits u t start cells ≡ false → cells_after u t start cells vs ≡ cells
+  cells_same : change_fits u t start cells ≡ false → cells_after u t start cells vs ≡ cells
   unfolding cells_after
   cells_same e = ap (λ (b : Bool). cond b (with_area start size cells area') cells) e
 
   -- where it fits
-  module _ (yes : fits u t start cells ≡ true) where
+  module _ (yes : change_fits u t start cells ≡ true) where
     area-yes : area_fits t start (length cells) ≡ true
-    unfolding fits
+    unfolding change_fits
     area-yes = and_left (area_fits t start (length cells)) (form_test u t) yes
 
     pub form-yes : form_test u t ≡ true
-    unfolding fits
+    unfolding change_fits
     form-yes = and_right (area_fits t start (length cells)) (form_test u t) yes
 
     pub cells_are : cells_after u t start cells vs ≡ with_area start size cells area'
@@ -241,10 +242,10 @@ module _ (u : Update) (t : Table) (start : ℕ) (cells vs : List ℤ) (eight : l
         ∙ ap (rows_in t.count (length after)) (put-there start size cells inside area' area-long)
         ∙ rows-stored t.count area (t.count * t.rows) after after-wide
 
-  either : (P : List ℤ → Type 0) → P cells → ((yes : fits u t start cells ≡ true) → P (with_area start size cells area')) → P (cells_after u t start cells vs)
-  either P p q = go (fits u t start cells) refl
+  either : (P : List ℤ → Type 0) → P cells → ((yes : change_fits u t start cells ≡ true) → P (with_area start size cells area')) → P (cells_after u t start cells vs)
+  either P p q = go (change_fits u t start cells) refl
     where
-      go : (b : Bool) → fits u t start cells ≡ b → P (cells_after u t start cells vs)
+      go : (b : Bool) → change_fits u t start cells ≡ b → P (cells_after u t start cells vs)
       go true e = subst P (sym (cells_are e)) (q e)
       go false e = subst P (sym (cells_same e)) p
 
@@ -300,7 +301,7 @@ remaining_rows t c rows = drop (length (pushed_rows t c rows)) rows
 
 -- ---- an update that a sentence's agrees with, where it fits
 
-module _ (u : Update) (s : M.Update) (A : AgreesUpdate u s) (t : Table) (start : ℕ) (cells vs : List ℤ) (eight : length u.settings ≡ 8) (yes : fits u t start cells ≡ true) where
+module _ (u : Update) (s : M.Update) (A : AgreesUpdate u s) (t : Table) (start : ℕ) (cells vs : List ℤ) (eight : length u.settings ≡ 8) (yes : change_fits u t start cells ≡ true) where
   -- the rows before it, as they are read
   abbrev pub rows_round : List Row
   rows_round = turned t.oldest (rows_before t start cells)
@@ -397,7 +398,7 @@ oldest-first t start cells h n =
 -- ---- the start stays sound
 
 module _ (u : Update) (t : Table) (start : ℕ) (cells vs : List ℤ) (eight : length u.settings ≡ 8) (h : start_sound t.ring t.capacity t.rows t.oldest ≡ true) where
-  start-by : fits u t start cells ≡ true → (full : Bool) → is_full_ring t ≡ full → (k : ℕ) → u.form ≡ k
+  start-by : change_fits u t start cells ≡ true → (full : Bool) → is_full_ring t ≡ full → (k : ℕ) → u.form ≡ k
       → start_sound t.ring t.capacity (length (laid full t.oldest k u vs (rows_before t start cells))) (oldest_after full (length (rows_before t start cells)) t.oldest k) ≡ true
   unfolding laid oldest_after
   start-by ok true f zero z =
@@ -425,15 +426,15 @@ module _ (u : Update) (t : Table) (start : ℕ) (cells vs : List ℤ) (eight : l
       ap (λ (b : Bool). b || (t.ring && (eqb (length (rows_before t start cells ++ (new_row (setting_values u) vs ∷ []))) t.capacity && ltb t.oldest t.capacity)))
       (eq-eqb t.oldest 0 (starts_first t h f))
   start-by ok full f (suc zero) z =
-      let g : Row → Row = settled (meets_stored u.condition vs) (assigned (settings_read u) vs) in
+      let g : Row → Row = updated_if (meets_stored u.condition vs) (assigned (settings_read u) vs) in
       ap (λ (n : ℕ). start_sound t.ring t.capacity n t.oldest) (length-map (rows_before t start cells) g ∙ rows-length t.count t.rows (drop start cells)) ∙ h
   start-by ok full f (suc (suc k)) z = refl
 
   pub change-starts : start_sound t.ring t.capacity (change_of u t start cells vs).rows (change_of u t start cells vs).oldest ≡ true
   unfolding changed_of
-  change-starts = go (fits u t start cells) refl
+  change-starts = go (change_fits u t start cells) refl
     where
-      go : (b : Bool) → fits u t start cells ≡ b → start_sound t.ring t.capacity (change_of u t start cells vs).rows (change_of u t start cells vs).oldest ≡ true
+      go : (b : Bool) → change_fits u t start cells ≡ b → start_sound t.ring t.capacity (change_of u t start cells vs).rows (change_of u t start cells vs).oldest ≡ true
       go true e =
           ap (λ (r : Changed). start_sound t.ring t.capacity r.rows r.oldest) (changed-are u t start cells vs eight e)
           ∙ start-by e (is_full_ring t) refl u.form refl
@@ -475,8 +476,8 @@ module _ (u : Update) (t : Table) where
 
   -- a sound update of a table whose area lies in the cells fits, but an INSERT without a free row into a table that is no ring
   pub fits-sound : (start : ℕ) (cells : List ℤ) → area_fits t start (length cells) ≡ true → t.count ≤ 8 → sound_form u.form t.count u ≡ true
-      → start_sound t.ring t.capacity t.rows t.oldest ≡ true → 1 ≤ t.capacity → (u.form ≡ 0 → t.ring ≡ false → t.rows < t.capacity) → fits u t start cells ≡ true
-  unfolding fits
+      → start_sound t.ring t.capacity t.rows t.oldest ≡ true → 1 ≤ t.capacity → (u.form ≡ 0 → t.ring ≡ false → t.rows < t.capacity) → change_fits u t start cells ≡ true
+  unfolding change_fits
   fits-sound start cells a h e sound one free =
       and_both (area_fits t start (length cells)) (form_test u t) a
       (form-by u.form h e (λ z. place-free sound (rows_inside t start (length cells) a) one (free z)))

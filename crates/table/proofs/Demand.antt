@@ -14,8 +14,8 @@ use mathlib.Core.List.{List, [], ◌++◌, map}
 use Prim.Native.Nat.{ℕ, zero, suc, ◌+◌, ◌*◌, ◌≤◌, ◌<◌}
 use native.Mathlib.Nat.{mul-le-mul}
 use native.Mathlib.Omega.{arith}
-use borrow.Author.Tests.{leb-true, leb-false, le-leb, ltb-true, ltb-false, lt-ltb}
-use lib.Dec.{leb, ltb}
+use borrow.Author.Tests.{leb-true, le-leb, ltb-true, ltb-false, lt-ltb}
+use lib.Dec.{leb}
 use lib.IntN.{ℤ, pos}
 use lib.ListN.{length, take, drop, length-map, length-append}
 use lib.Seq.{length-take-le}
@@ -25,15 +25,16 @@ use Rattle.lists.proofs.Lists.{All-take, All-drop, All-every, All-get_or, All-ke
 use Rattle.lists.proofs.Places.{length-keep}
 use Rattle.lists.proofs.Turned.{All-turned, length-turned}
 use Rattle.meaning.specs.Exact.{IsRow}
-use Rattle.meaning.specs.Demand.{Is32, ReadsBack}
+use Rattle.meaning.specs.Record.{ReadsBack, encode}
+use Rattle.meaning.specs.Call.{Is32}
 use Rattle.meaning.specs.Limits.{most_items, most_rows, most_listed}
+use Rattle.meaning.specs.Refusals.{is_short, is_many, kept_conditions, lowest_of}
 use Rattle.meaning.specs.Meaning.{Row, cell, answer}
 use Rattle.meaning.specs.Cells.{rows_in}
 use Rattle.meaning.specs.Names.{Schema, same_name, has, table_names}
 use Rattle.meaning.specs.Plain.{passes_first}
 use Rattle.meaning.specs.Statement as M
 use Rattle.meaning.proofs.Cells.{rows-length}
-use Rattle.meaning.specs.Record.{encode}
 use Rattle.meaning.proofs.Outer.{skipped-pairs}
 use Rattle.meaning.proofs.Within32.{Row32, pairs-32}
 use Rattle.answer.specs.Answer.{put}
@@ -43,9 +44,12 @@ use Rattle.statement.specs.declared.Query.{Query}
 use Rattle.statement.specs.declared.Table.{Table}
 use Rattle.statement.specs.Catalog.{name_of_struct}
 use Rattle.statement.proofs.SoundQuery.{query-parts}
-use Rattle.statement.specs.Sound.{AgreesQuery, QueryFits, sound_name, used_columns, sound_query, sound_table}
+use Rattle.statement.specs.Sound.{AgreesQuery, QueryFits, used_columns}
+use Rattle.statement.specs.SoundTest.{sound_name, sound_query, sound_table}
 use Rattle.table.specs.Demand.{leaves, Askable, SelectReadsBack, SelectMeans, RowsRead, RowTestMeans, PairAskable, SelectPairReadsBack, SelectPairMeans, TooManyExactlyIf, RefusedLeavesBuffer, PairRowsRead, PairReadsAtMost, PairTestMeans}
-use Rattle.table.specs.Evaluated.{meets_stored, row_cells, rows_used, selected_stored, answer_stored, record_stored, selected_by, selected_in, rows_paired, passes_stored, pairs_used, pairs_read, paired_refusal, said_by, paired_in, paired_put, pair_says, pair_leaves}
+use Rattle.table.specs.Evaluated.{selected_in, rows_paired, pairs_used, pairs_read, said_by, paired_in, paired_put, pair_says, pair_leaves}
+use Rattle.table.specs.Rows.{meets_stored, row_cells, rows_used, selected_stored, answer_stored, record_stored, passes_stored}
+use Rattle.table.proofs.Recording.{refused_by, refusal_of}
 use Rattle.table.proofs.Means.{meets-where, answer-means}
 use Rattle.table.proofs.Outer.{passes-means, used-wide}
 
@@ -81,12 +85,12 @@ module _ (t : Table) (start : ℕ) (cells : List ℤ) where
 
 -- a record that is not refused fits, and the rows were read
 taken : (out : List ℕ) (rows : List Row) (bs : List ℕ) → (selected_in out rows bs).refusal ≡ 0 → (length bs ≤ length out) × ((selected_in out rows bs).scanned ≡ length rows)
-taken out rows bs e = go (leb (length bs) (length out)) refl e
+taken out rows bs e = go (is_short (length out) (length bs)) refl e
   where
-    go : (b : Bool) → leb (length bs) (length out) ≡ b → (selected_by b (length rows) (length bs)).refusal ≡ 0
-        → (length bs ≤ length out) × ((selected_by b (length rows) (length bs)).scanned ≡ length rows)
-    go true k z = (leb-true (length bs) (length out) k, refl)
-    go false k z = absurd (omega arith)
+    go : (b : Bool) → is_short (length out) (length bs) ≡ b → (said_by (lowest_of (kept_conditions b)) (length rows) (length bs)).refusal ≡ 0
+        → (length bs ≤ length out) × ((said_by (lowest_of (kept_conditions b)) (length rows) (length bs)).scanned ≡ length rows)
+    go true k z = absurd (omega arith)
+    go false k z = (ltb-false (length out) (length bs) k, refl)
 
 module _ (q : Query) (vs : List ℤ) (rows : List Row) where
   pub listed-rows : All Row32 rows → All (IsRow (length (take q.count q.selected))) (answer_stored q vs rows)
@@ -163,37 +167,37 @@ module _ (t : Table) (start : ℕ) (cells : List ℤ) where
 module _ (out : List ℕ) (scanned n : ℕ) (rows : List Row) where
   pair-taken : (paired_in out scanned n rows).refusal ≡ 0
       → (length rows ≤ most_listed) × (length (encode n rows) ≤ length out) × ((paired_in out scanned n rows).scanned ≡ scanned) × (paired_put out n rows ≡ put out 0 (encode n rows))
-  pair-taken e = go (ltb most_listed (length rows)) (leb (length (encode n rows)) (length out)) refl refl e
+  pair-taken e = go (is_many (length rows)) (is_short (length out) (length (encode n rows))) refl refl e
     where
-      go : (b f : Bool) → ltb most_listed (length rows) ≡ b → leb (length (encode n rows)) (length out) ≡ f → (said_by (paired_refusal b f) scanned (length (encode n rows))).refusal ≡ 0
-          → (length rows ≤ most_listed) × (length (encode n rows) ≤ length out) × ((said_by (paired_refusal b f) scanned (length (encode n rows))).scanned ≡ scanned)
+      go : (b f : Bool) → is_many (length rows) ≡ b → is_short (length out) (length (encode n rows)) ≡ f → (said_by (refused_by b f) scanned (length (encode n rows))).refusal ≡ 0
+          → (length rows ≤ most_listed) × (length (encode n rows) ≤ length out) × ((said_by (refused_by b f) scanned (length (encode n rows))).scanned ≡ scanned)
           × (cond b out (put out 0 (encode n rows)) ≡ put out 0 (encode n rows))
       go true f eb ef z = absurd (omega arith)
-      go false true eb ef z = (ltb-false most_listed (length rows) eb, leb-true (length (encode n rows)) (length out) ef, refl, refl)
-      go false false eb ef z = absurd (omega arith)
+      go false true eb ef z = absurd (omega arith)
+      go false false eb ef z = (ltb-false most_listed (length rows) eb, ltb-false (length out) (length (encode n rows)) ef, refl, refl)
 
   pair-many : ((paired_in out scanned n rows).refusal ≡ 16) ↔ (most_listed < length rows)
-  pair-many = (go (ltb most_listed (length rows)) (leb (length (encode n rows)) (length out)) refl, back)
+  pair-many = (go (is_many (length rows)) (is_short (length out) (length (encode n rows))) refl, back)
     where
-      go : (b f : Bool) → ltb most_listed (length rows) ≡ b → (said_by (paired_refusal b f) scanned (length (encode n rows))).refusal ≡ 16 → most_listed < length rows
+      go : (b f : Bool) → is_many (length rows) ≡ b → (said_by (refused_by b f) scanned (length (encode n rows))).refusal ≡ 16 → most_listed < length rows
       go true f eb z = ltb-true most_listed (length rows) eb
       go false true eb z = absurd (omega arith)
       go false false eb z = absurd (omega arith)
 
       back : most_listed < length rows → (paired_in out scanned n rows).refusal ≡ 16
-      back h = ap (λ (b : Bool). (said_by (paired_refusal b (leb (length (encode n rows)) (length out))) scanned (length (encode n rows))).refusal) (lt-ltb most_listed (length rows) h)
+      back h = ap (λ (b : Bool). (said_by (refused_by b (is_short (length out) (length (encode n rows)))) scanned (length (encode n rows))).refusal) (lt-ltb most_listed (length rows) h)
 
   pair-kept : (paired_in out scanned n rows).refusal ≢ 0 → paired_put out n rows ≡ out
-  pair-kept h = go (ltb most_listed (length rows)) (leb (length (encode n rows)) (length out)) refl h
+  pair-kept h = go (is_many (length rows)) (is_short (length out) (length (encode n rows))) refl h
     where
-      go : (b f : Bool) → leb (length (encode n rows)) (length out) ≡ f → (said_by (paired_refusal b f) scanned (length (encode n rows))).refusal ≢ 0
+      go : (b f : Bool) → is_short (length out) (length (encode n rows)) ≡ f → (said_by (refused_by b f) scanned (length (encode n rows))).refusal ≢ 0
           → cond b out (put out 0 (encode n rows)) ≡ out
       go true f ef z = refl
-      go false true ef z = absurd (z refl)
-      go false false ef z = put-not out 0 (encode n rows) (omega (arith, leb-false (length (encode n rows)) (length out) ef))
+      go false true ef z = put-not out 0 (encode n rows) (omega (arith, ltb-true (length out) (length (encode n rows)) ef))
+      go false false ef z = absurd (z refl)
 
   pair-scanned : (paired_in out scanned n rows).scanned ≤ scanned
-  pair-scanned = go (paired_refusal (ltb most_listed (length rows)) (leb (length (encode n rows)) (length out)))
+  pair-scanned = go (refusal_of (length rows) (length (encode n rows)) (length out))
     where
       go : (k : ℕ) → (said_by k scanned (length (encode n rows))).scanned ≤ scanned
       go zero = omega arith

@@ -23,12 +23,13 @@ use Rattle.meaning.specs.Cells.{area_of, rows_in, stored, with_area}
 use Rattle.meaning.proofs.Cells.{rows-front, insert-stored, area-length}
 use Rattle.statement.specs.declared.Table.{Table}
 use Rattle.statement.specs.declared.Update.{Update}
-use Rattle.statement.specs.Sound.{AgreesCondition, setting_values}
+use Rattle.statement.specs.Sound.{AgreesCondition}
+use Rattle.statement.specs.SoundTest.{setting_values}
 use Rattle.statement.specs.Compiled.{settings_of_change, where_of_change, form_of_change}
-use Rattle.table.specs.Scanned.{place_round}
+use Rattle.table.specs.Evaluated.{place_round}
+use Rattle.table.specs.Rows.{row_cells, rows_used}
 use Rattle.table.specs.Demand.{ReadsOldestFirst, Makes, table_after, FullRingPushes, NewRowTakesCells, DeleteLaysOldestFirst, UpdateStaysInPlace}
-use Rattle.table.specs.Evaluated.{row_cells, rows_used}
-use Rattle.table.specs.Changed.{settled, laid, oldest_after, is_full_ring, rows_before, changed_of, change_of, cells_after}
+use Rattle.table.specs.Changed.{updated_if, laid, oldest_after, is_full_ring, rows_before, changed_of, change_of, cells_after}
 use Rattle.table.specs.declared.changes.Changed.{Changed}
 use Rattle.table.proofs.Assigning.{row-long}
 use Rattle.table.proofs.Fitting.{form_test, value-each, few-settings, oldest-there, set-stored}
@@ -172,7 +173,7 @@ module _ (u : Update) (s : M.Update) (t : Table) (start : ℕ) (cells vs : List 
   updates ss w e = (
     starts 1 (form_of (update ss w) e),
     lie 1 (form_of (update ss w) e)
-        ∙ ap₂ (λ (p : Row → Bool) (l : List (ℕ × M.Value)). map (settled p (assigned l vs)) (rows_before t start cells)) (meets-means u.condition w (condition-of (update ss w) e) vs) (m.agrees.settings_are ∙ ap settings_of_change e),
+        ∙ ap₂ (λ (p : Row → Bool) (l : List (ℕ × M.Value)). map (updated_if p (assigned l vs)) (rows_before t start cells)) (meets-means u.condition w (condition-of (update ss w) e) vs) (m.agrees.settings_are ∙ ap settings_of_change e),
   )
 
 -- ---- the claims

@@ -5,12 +5,12 @@ use mathlib.Core.List.{List, map}
 use lib.ListN.{take}
 use Rattle.meaning.specs.Condition.{mapped_in}
 use Rattle.meaning.specs.Grammar as G
-use Rattle.meaning.specs.Grammar.{Sentence, comparison, items, sentence}
+use Rattle.meaning.specs.Grammar.{Sentence, comparison, items}
+use Rattle.meaning.specs.Reader.{sentence}
 use Rattle.meaning.specs.Names.{Schema, columns_of, position, pair_place}
 use Rattle.meaning.specs.Statement.{setting_marks, resolved_where, statement_of}
-use Rattle.statement.specs.Compiled.{Compiled}
+use Rattle.statement.specs.Compiled.{Compiled, struct_of, compiled_of}
 use Rattle.statement.specs.Catalog.{schemas_of}
-use Rattle.statement.specs.Compiled.{struct_of, compiled_of}
 use Rattle.statement.specs.Sound.{AgreesCondition}
 use Rattle.statement.proofs.SoundCompiled.{query-agrees, update_agrees, compiled-is}
 use Rattle.table.specs.Demand.{PositionsFound, Demands}

@@ -22,8 +22,9 @@ use Rattle.meaning.proofs.Cells.{rows-length, rows-front, rows_wide, flat_rows, 
 use Rattle.statement.specs.declared.Table.{Table}
 use Rattle.statement.specs.declared.Update.{Update}
 use Rattle.statement.specs.Sound.{settings_read}
-use Rattle.table.specs.Evaluated.{meets_stored}
-use Rattle.table.specs.Changed.{row_of, settled, laid, oldest_after, next_place, count_after, area_fits, is_full_ring, form_fits, fits, Insertable, ChangeFits, rows_before, inserted_of, changed_of, change_of, cells_after, TurnsRows}
+use Rattle.table.specs.Rows.{meets_stored}
+use Rattle.table.specs.Changed.{updated_if, laid, oldest_after, next_place, count_after, area_fits, is_full_ring, form_fits, change_fits, rows_before, changed_of, change_of, cells_after}
+use Rattle.table.specs.Private.Changing.{row_of, Insertable, ChangeFits, inserted_of, TurnsRows}
 use Rattle.table.specs.declared.changes.Changed.{Changed}
 use Rattle.table.proofs.Assigning.{row-long}
 use Rattle.table.proofs.Round.{rows-parts}
@@ -218,11 +219,11 @@ module _ (u : Update) (vs : List ℤ) (columns used : ℕ) (area : List ℤ) (fu
       )
 
   pub updated : (k n : ℕ) (area' : List ℤ) → k ≡ 1 → n ≡ count (meets_stored u.condition vs) rows_there
-      → area' ≡ stored area (used * columns) (map (settled (meets_stored u.condition vs) (assigned (settings_read u) vs)) rows_there)
+      → area' ≡ stored area (used * columns) (map (updated_if (meets_stored u.condition vs) (assigned (settings_read u) vs)) rows_there)
       → Promised k (record { count = n; rows = used; oldest = oldest }) area'
   unfolding changed_of laid count_after oldest_after
   updated k n area' e m h =
-      let g : Row → Row = settled (meets_stored u.condition vs) (assigned (settings_read u) vs) in
+      let g : Row → Row = updated_if (meets_stored u.condition vs) (assigned (settings_read u) vs) in
       let l : used ≡ length (map g rows_there) = sym (length-map rows_there g ∙ rows-length columns used area) in (
         ap₂ (λ (x y : ℕ). record { count = x; rows = y; oldest = oldest }) m l ∙ ap (λ (j : ℕ). changed_of full oldest j u vs rows_there) (sym e),
         h ∙ ap (λ (j : ℕ). stored area (used * columns) (laid full oldest j u vs rows_there)) (sym e),
@@ -277,19 +278,19 @@ module _ (u : Update) (vs : List ℤ) (columns used : ℕ) (area : List ℤ) (fu
 
 module _ (u : Update) (t : Table) (start : ℕ) (cells vs : List ℤ) where
   -- nothing happens
-  pub refused : fits u t start cells ≡ false → (record { count = 0; rows = t.rows; oldest = t.oldest } ≡ change_of u t start cells vs) × (cells ≡ cells_after u t start cells vs)
+  pub refused : change_fits u t start cells ≡ false → (record { count = 0; rows = t.rows; oldest = t.oldest } ≡ change_of u t start cells vs) × (cells ≡ cells_after u t start cells vs)
   unfolding change_of cells_after
   refused e = (
     sym (ap (λ (b : Bool). cond b (changed_of (is_full_ring t) t.oldest u.form u vs (rows_before t start cells)) (record { count = 0; rows = t.rows; oldest = t.oldest })) e),
     sym (ap (λ (b : Bool). cond b (put_mid start (t.count * t.capacity) cells (stored (take (t.count * t.capacity) (drop start cells)) (t.count * t.rows) (laid (is_full_ring t) t.oldest u.form u vs (rows_before t start cells)))) cells) e),
   )
 
-  pub refused-area : area_fits t start (length cells) ≡ false → fits u t start cells ≡ false
-  unfolding fits
+  pub refused-area : area_fits t start (length cells) ≡ false → change_fits u t start cells ≡ false
+  unfolding change_fits
   refused-area e = ap (λ (b : Bool). b && form_test u t) e
 
-  pub refused-form : area_fits t start (length cells) ≡ true → form_test u t ≡ false → fits u t start cells ≡ false
-  unfolding fits
+  pub refused-form : area_fits t start (length cells) ≡ true → form_test u t ≡ false → change_fits u t start cells ≡ false
+  unfolding change_fits
   refused-form a e = ap₂ (λ (x y : Bool). x && y) a e
 
   module _ (a : area_fits t start (length cells) ≡ true) (f : form_test u t ≡ true) (k : ℕ) (size : k ≡ t.count * t.capacity) where
@@ -320,8 +321,8 @@ module _ (u : Update) (t : Table) (start : ℕ) (cells vs : List ℤ) where
     rows_are : rows_in t.count t.rows area ≡ rows_before t start cells
     rows_are = rows-front t.count t.rows k (drop start cells) used-inside
 
-    both : fits u t start cells ≡ true
-    unfolding fits
+    both : change_fits u t start cells ≡ true
+    unfolding change_fits
     both = ap₂ (λ (x y : Bool). x && y) a f
 
     pub done : (r : Changed) (area' : List ℤ) → Promised u vs t.count t.rows area (is_full_ring t) t.oldest u.form r area'

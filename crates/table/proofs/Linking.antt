@@ -17,8 +17,9 @@ use Rattle.std.proofs.lemmas.List.{get_or-map as get_or-map-in}
 use mir.Val.{bool_byte}
 use Rattle.meaning.specs.Postfix.{top, joined}
 use Rattle.table.specs.Evaluated.{if_so}
-use Rattle.table.specs.Tests.{met, unmet, arrives, Forward}
-use Rattle.table.specs.Linking.{exit, run_at, held_of, entry_of, exit_of, led_on, Redirects, Links, pushed, emptied, joins, Starts, Linked, Unlinked}
+use Rattle.table.specs.Tests.{met, arrives, Forward}
+use Rattle.table.specs.Private.Testing.{unmet}
+use Rattle.table.specs.Private.Linking.{exit, run_at, held_of, entry_of, exit_of, led_on, Redirects, Links, pushed, emptied, joins, Starts, Linked, Unlinked}
 
 -- ---- where one arrives
 

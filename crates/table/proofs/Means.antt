@@ -14,7 +14,7 @@ use Rattle.statement.specs.Sound.{AgreesCondition, AgreesQuery}
 use Rattle.statement.specs.declared.Condition.{Condition}
 use Rattle.statement.specs.declared.Query.{Query}
 use Rattle.statement.proofs.SoundCondition.{agrees-truth}
-use Rattle.table.specs.Evaluated.{meets_stored, answer_stored, record_stored}
+use Rattle.table.specs.Rows.{meets_stored, answer_stored, record_stored}
 
 -- a row meets a stored condition exactly if it meets the WHERE that the condition agrees with
 pub meets-where : (c : Condition) (w : Where M.Operand) → AgreesCondition c w → (vs : List ℤ) (r : Row) → meets_stored c vs r ≡ meets_where w vs r

@@ -15,7 +15,8 @@ use Rattle.meaning.specs.Operator.{Predicate}
 use Rattle.meaning.specs.Statement as M
 use Rattle.meaning.specs.Statement.{column, value}
 use Rattle.meaning.specs.Meaning.{Row, value_of, operand_value}
-use Rattle.statement.specs.Operators.{predicate_at, is_null_test, order_of, truth_by}
+use Rattle.statement.specs.Operators.{predicate_at, order_of}
+use Rattle.statement.specs.Private.Truths.{is_null_test, truth_by}
 use Rattle.statement.proofs.OperatorLaws.{tested-order}
 use Rattle.statement.specs.Compiled.{left_side, right_side}
 use Rattle.statement.specs.Sound.{operand_read, comparison_read, used_steps}
@@ -24,8 +25,9 @@ use Rattle.statement.specs.declared.Condition.{Condition}
 use Rattle.statement.specs.declared.Operand.{Operand}
 use Rattle.statement.specs.declared.Order.{Order}
 use Rattle.statement.specs.declared.Order.TheVariants.{Less, Equal, Greater, Unknown}
-use Rattle.table.specs.Tests.{longest, met, right_tested, place_in, number_in, place_of, number_of, target_place, side_at, next_at, Prepared}
-use Rattle.table.specs.Linking.{exit, target_by, target_put, targets_put, Unlinked, Linked}
+use Rattle.table.specs.Tests.{longest, met, target_place, side_at, next_at, Prepared}
+use Rattle.table.specs.Private.Testing.{right_tested, place_in, number_in, place_of, number_of}
+use Rattle.table.specs.Private.Linking.{exit, target_by, target_put, targets_put, Unlinked, Linked}
 use Rattle.table.proofs.Linking.{exit_out}
 use Rattle.table.proofs.Tested.{Shaped, place-small, prepared-by}
 

@@ -17,8 +17,9 @@ use Rattle.statement.specs.declared.Setting.{Setting}
 use Rattle.statement.specs.declared.Table.{Table}
 use Rattle.statement.specs.Compiled.{no_setting, setting_struct, no_update}
 use Rattle.table.specs.Evaluated.{rows_paired}
-use Rattle.table.specs.Scanned.{rows_of}
-use Rattle.table.specs.Changed.{constants_of, oldest_row, removal_of}
+use Rattle.table.specs.Private.Scanned.{rows_of}
+use Rattle.table.specs.Changed.{oldest_row, removal_of}
+use Rattle.table.specs.Private.Changing.{constants_of}
 use Rattle.table.specs.declared.area.Rows.{Rows}
 use Rattle.table.proofs.Copied.{pasted}
 

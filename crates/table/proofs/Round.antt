@@ -16,9 +16,9 @@ use Rattle.meaning.specs.Meaning.{Row}
 use Rattle.meaning.specs.Cells.{rows_in}
 use Rattle.meaning.proofs.Cells.{rows-length, rows-front}
 use Rattle.statement.specs.declared.Table.{Table}
-use Rattle.table.specs.Evaluated.{if_so, row_cells, rows_used}
-use Rattle.table.specs.Scanned.{place_round}
-use Rattle.table.specs.Changed.{TurnsRows}
+use Rattle.table.specs.Evaluated.{if_so, place_round}
+use Rattle.table.specs.Rows.{row_cells, rows_used}
+use Rattle.table.specs.Private.Changing.{TurnsRows}
 
 -- ---- the rows of an area in two parts
 

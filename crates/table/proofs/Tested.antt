@@ -21,10 +21,11 @@ use Rattle.statement.specs.declared.Comparison.{Comparison}
 use Rattle.statement.specs.declared.Condition.{Condition}
 use Rattle.statement.specs.declared.Order.{Order}
 use Rattle.statement.specs.declared.Order.TheVariants.{Less, Equal, Greater, Unknown}
-use Rattle.table.specs.Evaluated.{meets_stored}
-use Rattle.table.specs.Changed.{settled}
-use Rattle.table.specs.Tests.{longest, met, side_at, target_place, next_at, arrives, Forward, passes, Prepared, TestsRow}
-use Rattle.table.specs.Linking.{exit, run_at, held_of, Linked}
+use Rattle.table.specs.Rows.{meets_stored}
+use Rattle.table.specs.Changed.{updated_if}
+use Rattle.table.specs.Tests.{longest, met, side_at, target_place, next_at, arrives, Forward, passes, Prepared}
+use Rattle.table.specs.Private.Testing.{TestsRow}
+use Rattle.table.specs.Private.Linking.{exit, run_at, held_of, Linked}
 use Rattle.table.proofs.Means.{meets-where}
 
 -- a comparison has four targets
@@ -189,6 +190,6 @@ module _ (p q : Row → Bool) where
   without-same nil = refl
   without-same (cons {x} e h) = ap₂ (λ (b : Bool) t. cons_if (not b) x t) e (without-same h)
 
-  pub settled_same : (f : Row → Row) {l : List Row} → All (λ x. p x ≡ q x) l → map (settled p f) l ≡ map (settled q f) l
+  pub settled_same : (f : Row → Row) {l : List Row} → All (λ x. p x ≡ q x) l → map (updated_if p f) l ≡ map (updated_if q f) l
   settled_same f nil = refl
   settled_same f (cons {x} e h) = ap₂ (λ (b : Bool) t. cond b (f x) x ∷ t) e (settled_same f h)

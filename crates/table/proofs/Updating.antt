@@ -15,7 +15,7 @@ use lib.ListN.{length, take, drop, length-drop, take-append-drop}
 use lib.Seq.{length-take-le}
 use Rattle.lists.specs.Lists.{cons_if, keep, count}
 use Rattle.meaning.specs.Cells.{rows_in, stored}
-use Rattle.table.specs.Changed.{settled}
+use Rattle.table.specs.Changed.{updated_if}
 use Rattle.table.proofs.Work.{work, work-zero, work-suc, work-stored, row_room, put-take, put-drop}
 
 -- a choice by a test whose outcome is known
@@ -35,7 +35,7 @@ count-cons true x l = omega arith
 count-cons false x l = omega arith
 
 module _ (p : List ℤ → Bool) (f : List ℤ → List ℤ) (keeps : (r : List ℤ) → length (f r) ≡ length r) where
-  pub settled-length : (r : List ℤ) → length (settled p f r) ≡ length r
+  pub settled-length : (r : List ℤ) → length (updated_if p f r) ≡ length r
   settled-length r = go (p r)
     where
       go : (b : Bool) → length (cond b (f r) r) ≡ length r
@@ -48,11 +48,11 @@ pub record Left (p : List ℤ → Bool) (f : List ℤ → List ℤ) (c used : �
   pub same : length a ≡ length a₀
   pub few : found + left ≤ used
   pub counted : found + count p (rows_in c left (drop at a)) ≡ count p (rows_in c used a₀)
-  pub cells : take at a ++ work (settled p f) c left (drop at a) ≡ work (settled p f) c used a₀
+  pub cells : take at a ++ work (updated_if p f) c left (drop at a) ≡ work (updated_if p f) c used a₀
 
 module _ (p : List ℤ → Bool) (f : List ℤ → List ℤ) (c used : ℕ) (a₀ : List ℤ) where
   module _ (keeps : (r : List ℤ) → length (f r) ≡ length r) where
-    turn : (a : List ℤ) (at m found r : ℕ) (row' : List ℤ) → Left p f c used a₀ a at (suc m) found → r ≡ cond (p (take c (drop at a))) 1 0 → row' ≡ settled p f (take c (drop at a)) → Left p f c used a₀ (put_mid at c a row') (at + c) m (found + r)
+    turn : (a : List ℤ) (at m found r : ℕ) (row' : List ℤ) → Left p f c used a₀ a at (suc m) found → r ≡ cond (p (take c (drop at a))) 1 0 → row' ≡ updated_if p f (take c (drop at a)) → Left p f c used a₀ (put_mid at c a row') (at + c) m (found + r)
     turn a at m found r row' L er ew =
         let row : List ℤ = take c (drop at a) in
         let q : suc m * c ≡ c + (suc m - 1) * c = row_room (suc m) c (omega arith) in
@@ -75,21 +75,21 @@ module _ (p : List ℤ → Bool) (f : List ℤ → List ℤ) (c used : ℕ) (a�
           same = same ∙ L.same;
           few = omega arith;
           counted = ap (λ (l : List ℤ). found + r + count p (rows_in c m l)) past ∙ cnt';
-          cells = ap₂ (λ (x y : List ℤ). x ++ work (settled p f) c m y) (put-take at c a row' (omega arith) len') past
-              ∙ append_assoc (take at a) row' (work (settled p f) c m (drop c (drop at a)))
-              ∙ ap (λ (x : List ℤ). take at a ++ (x ++ work (settled p f) c m (drop c (drop at a)))) ew
-              ∙ ap (λ (x : List ℤ). take at a ++ x) (sym (work-suc (settled p f) c m (drop at a)))
+          cells = ap₂ (λ (x y : List ℤ). x ++ work (updated_if p f) c m y) (put-take at c a row' (omega arith) len') past
+              ∙ append_assoc (take at a) row' (work (updated_if p f) c m (drop c (drop at a)))
+              ∙ ap (λ (x : List ℤ). take at a ++ (x ++ work (updated_if p f) c m (drop c (drop at a)))) ew
+              ∙ ap (λ (x : List ℤ). take at a ++ x) (sym (work-suc (updated_if p f) c m (drop at a)))
               ∙ L.cells;
         }
 
     -- as the loop has it: the part's length is written as a difference
-    pub update-turn : (a : List ℤ) (at left found r : ℕ) (row' : List ℤ) → 1 ≤ left → Left p f c used a₀ a at left found → r ≡ cond (p (take (at + c - at) (drop at a))) 1 0 → row' ≡ settled p f (take (at + c - at) (drop at a)) → Left p f c used a₀ (put_mid at (at + c - at) a row') (at + c) (left - 1) (found + r)
+    pub update-turn : (a : List ℤ) (at left found r : ℕ) (row' : List ℤ) → 1 ≤ left → Left p f c used a₀ a at left found → r ≡ cond (p (take (at + c - at) (drop at a))) 1 0 → row' ≡ updated_if p f (take (at + c - at) (drop at a)) → Left p f c used a₀ (put_mid at (at + c - at) a row') (at + c) (left - 1) (found + r)
     update-turn a at zero found r row' h L = absurd (omega arith)
     update-turn a at (suc m) found r row' h L =
         let e : c ≡ at + c - at = omega arith in
         let o : m ≡ suc m - 1 = omega arith in
-        subst (λ (k : ℕ). r ≡ cond (p (take k (drop at a))) 1 0 → row' ≡ settled p f (take k (drop at a)) → Left p f c used a₀ (put_mid at k a row') (at + c) (suc m - 1) (found + r)) e
-        (subst (λ (k : ℕ). r ≡ cond (p (take c (drop at a))) 1 0 → row' ≡ settled p f (take c (drop at a)) → Left p f c used a₀ (put_mid at c a row') (at + c) k (found + r)) o
+        subst (λ (k : ℕ). r ≡ cond (p (take k (drop at a))) 1 0 → row' ≡ updated_if p f (take k (drop at a)) → Left p f c used a₀ (put_mid at k a row') (at + c) (suc m - 1) (found + r)) e
+        (subst (λ (k : ℕ). r ≡ cond (p (take c (drop at a))) 1 0 → row' ≡ updated_if p f (take c (drop at a)) → Left p f c used a₀ (put_mid at c a row') (at + c) k (found + r)) o
         (turn a at m found r row' L))
 
     -- a row that meets the condition is set, and any other stays as it was; a' and found' are the area and the count then
@@ -117,11 +117,11 @@ module _ (p : List ℤ → Bool) (f : List ℤ → List ℤ) (c used : ℕ) (a�
     pub row-next : (a : List ℤ) (i at found : ℕ) → Left p f c used a₀ a at (used - i - 1) found → Left p f c used a₀ a at (used - (i + 1)) found
     row-next a i at found L = let n : used - i - 1 ≡ used - (i + 1) = omega arith in subst (λ (k : ℕ). Left p f c used a₀ a at k found) n L
 
-    pub update-done : (a : List ℤ) (at left found : ℕ) → left ≤ 0 → used * c ≤ length a₀ → Left p f c used a₀ a at left found → (found ≡ count p (rows_in c used a₀)) × (a ≡ stored a₀ (used * c) (map (settled p f) (rows_in c used a₀)))
+    pub update-done : (a : List ℤ) (at left found : ℕ) → left ≤ 0 → used * c ≤ length a₀ → Left p f c used a₀ a at left found → (found ≡ count p (rows_in c used a₀)) × (a ≡ stored a₀ (used * c) (map (updated_if p f) (rows_in c used a₀)))
     update-done a at zero found z h L =
         let n : found + 0 ≡ count p (rows_in c used a₀) = L.counted in (
           omega arith,
-          sym (ap (λ (x : List ℤ). take at a ++ x) (work-zero (settled p f) c (drop at a)) ∙ take-append-drop at a)
-              ∙ L.cells ∙ work-stored (settled p f) (settled-length p f keeps) c used a₀ h,
+          sym (ap (λ (x : List ℤ). take at a ++ x) (work-zero (updated_if p f) c (drop at a)) ∙ take-append-drop at a)
+              ∙ L.cells ∙ work-stored (updated_if p f) (settled-length p f keeps) c used a₀ h,
         )
     update-done a at (suc m) found z h L = absurd (omega arith)

@@ -1,35 +1,31 @@
 -- What an update does to the cells of its table, and what it counts: document 01, "Meaning", and request A.4. Of every struct and all cells; where something does not fit, nothing
 -- happens. proofs/ChangedMeans shows that this is what `Meaning` says of the sentence it was compiled from. Assumes nothing: these are definitions.
-use Rattle.std.specs.Prelude.{◌≡◌, Bool, true, false, not, cond, ◌&&◌, ◌||◌, List, [], ◌∷◌, ◌++◌, map, ℕ, zero, suc, ◌+◌, ◌*◌, ◌≤◌, ◌<◌, eqb, leb, ltb, ℤ, length, drop, get_or, set}
+use Rattle.std.specs.Prelude.{Bool, true, not, cond, ◌&&◌, ◌||◌, List, [], ◌∷◌, ◌++◌, map, ℕ, zero, suc, ◌+◌, ◌*◌, eqb, leb, ltb, ℤ, length, drop, get_or, set}
 use Rattle.lists.specs.Lists.{keep, count, turned}
-use Rattle.meaning.specs.Statement as M
 use Rattle.meaning.specs.Meaning.{Row, new_row, assigned}
 use Rattle.meaning.specs.Cells.{area_of, stored, with_area}
 use Rattle.meaning.specs.Limits.{most_items}
-use Rattle.meaning.specs.Pattern.{placed_from, removal}
-use Rattle.statement.specs.declared.Setting.{Setting}
+use Rattle.meaning.specs.Pattern.{removal}
 use Rattle.statement.specs.declared.Table.{Table}
 use Rattle.statement.specs.declared.Update.{Update}
-use Rattle.statement.specs.Compiled.{padded, no_setting, setting_struct, update_struct}
-use Rattle.statement.specs.Sound.{setting_read, settings_read, setting_values}
-use Rattle.table.specs.Evaluated.{meets_stored, area_rows, rows_paired}
+use Rattle.statement.specs.Compiled.{update_struct}
+use Rattle.statement.specs.Sound.{settings_read}
+use Rattle.statement.specs.SoundTest.{setting_values}
+use Rattle.table.specs.Evaluated.{rows_paired}
+use Rattle.table.specs.Rows.{meets_stored, area_rows}
 use Rattle.table.specs.declared.changes.Changed.{Changed}
 
 -- ---- rows
 
--- the row of an INSERT of these settings
-abbrev pub row_of : List Setting → List ℤ → Row
-row_of ss vs = new_row (map (λ (s : ℕ × M.Value). s.1) (map setting_read ss)) vs
-
 -- a row after an UPDATE: "UPDATE tests each row as it was, then sets."
-abbrev pub settled : (Row → Bool) → (Row → Row) → Row → Row
-settled p f r = cond (p r) (f r) r
+abbrev pub updated_if : (Row → Bool) → (Row → Row) → Row → Row
+updated_if p f r = cond (p r) (f r) r
 
 -- the rows as they lie in the area after an update of this form, 0 INSERT, 1 UPDATE, any other DELETE, where the oldest lies at place k; `full` says of a ring that it is
 -- full. A.4: "The new row takes the cells of the one removed; after any DELETE the oldest row lies first in the area again."
 unfoldable pub laid : Bool → ℕ → ℕ → Update → List ℤ → List Row → List Row
 laid full k zero u vs rows = cond full (set rows k (new_row (setting_values u) vs)) (rows ++ (new_row (setting_values u) vs ∷ []))
-laid full k (suc zero) u vs rows = map (settled (meets_stored u.condition vs) (assigned (settings_read u) vs)) rows
+laid full k (suc zero) u vs rows = map (updated_if (meets_stored u.condition vs) (assigned (settings_read u) vs)) rows
 laid full k (suc (suc n)) u vs rows = keep (λ (r : Row). not (meets_stored u.condition vs r)) (turned k rows)
 
 -- where the oldest of n rows lies then
@@ -61,21 +57,8 @@ abbrev pub form_fits : ℕ → Update → Table → Bool
 form_fits zero u t = (ltb t.rows t.capacity || (t.ring && ltb t.oldest t.rows)) && eqb u.count t.count
 form_fits (suc k) u t = true
 
-unfoldable pub fits : Update → Table → ℕ → List ℤ → Bool
-fits u t start cells = area_fits t start (length cells) && (leb u.count most_items && form_fits u.form u t)
-
--- an INSERT into a full ring finds an oldest row, and any other can be counted
-pub record Insertable (full : Bool) (used oldest : ℕ) : Type 0 where
-  pub free : full ≡ false → used < 65535
-  pub there : full ≡ true → oldest < used
-
--- the same of an area of so many cells by itself
-pub record ChangeFits (full : Bool) (oldest form settings columns used size : ℕ) : Type 0 where
-  pub few : settings ≤ most_items
-  pub inside : used * columns ≤ size
-  pub place : form ≡ 0 → Insertable full used oldest
-  pub given : form ≡ 0 → settings ≡ columns
-  pub room : form ≡ 0 → full ≡ false → used * columns + columns ≤ size
+unfoldable pub change_fits : Update → Table → ℕ → List ℤ → Bool
+change_fits u t start cells = area_fits t start (length cells) && (leb u.count most_items && form_fits u.form u t)
 
 -- the rows in use as they lie in the area that starts there
 abbrev pub rows_before : Table → ℕ → List ℤ → List Row
@@ -86,42 +69,26 @@ unfoldable pub changed_of : Bool → ℕ → ℕ → Update → List ℤ → Lis
 changed_of full k form u vs rows =
     record { count = count_after form u vs rows; rows = length (laid full k form u vs rows); oldest = oldest_after full (length rows) k form }
 
--- the same of an INSERT
-abbrev pub inserted_of : Bool → ℕ → ℕ → Changed
-inserted_of full used k = record { count = 1; rows = cond full used (used + 1); oldest = cond full (next_place used k) k }
-
 -- where nothing was done
 abbrev pub unchanged : Table → Changed
 unchanged t = record { count = 0; rows = t.rows; oldest = t.oldest }
 
 unfoldable pub change_of : Update → Table → ℕ → List ℤ → List ℤ → Changed
-change_of u t start cells vs = cond (fits u t start cells) (changed_of (is_full_ring t) t.oldest u.form u vs (rows_before t start cells)) (unchanged t)
+change_of u t start cells vs = cond (change_fits u t start cells) (changed_of (is_full_ring t) t.oldest u.form u vs (rows_before t start cells)) (unchanged t)
 
 -- the cells after it: all but the area as before
 unfoldable pub cells_after : Update → Table → ℕ → List ℤ → List ℤ → List ℤ
 cells_after u t start cells vs =
-    cond (fits u t start cells)
+    cond (change_fits u t start cells)
     (with_area start (t.count * t.capacity) cells
     (stored (area_of start (t.count * t.capacity) cells) (t.count * t.rows) (laid (is_full_ring t) t.oldest u.form u vs (rows_before t start cells))))
     cells
-
--- ---- the cells of a ring turned, so that its oldest row lies first
-
--- the rows of an area turned by k rows, other cells as they were
-pub record TurnsRows (columns used k : ℕ) (area area' : List ℤ) : Type 0 where
-  pub same : length area' ≡ length area
-  pub rows_are : area_rows columns used area' ≡ turned k (area_rows columns used area)
-  pub rest_is : drop (used * columns) area' ≡ drop (used * columns) area
 
 -- ---- A.4: the row that an INSERT into a full ring pushes out, "judged as well"
 
 -- the oldest row; of a table that has none, or more than 8 columns, a row of no columns
 abbrev pub oldest_row : Table → ℕ → List ℤ → Row
 oldest_row t start cells = get_or (rows_paired t start cells) 0 []
-
--- a row's values as the settings of an INSERT of constants
-abbrev pub constants_of : Row → List Setting
-constants_of r = padded most_items no_setting (map setting_struct (placed_from 0 (map M.constant r)))
 
 -- its removal from table n as a stored update: an INSERT of its values as constants
 unfoldable pub removal_of : ℕ → Table → ℕ → List ℤ → Update

@@ -3,11 +3,13 @@
 use Rattle.std.specs.Prelude.{◌≡◌, ◌≢◌, ◌↔◌, true, not, List, [], ◌∷◌, ◌++◌, map, ℕ, ◌+◌, ◌*◌, ◌≤◌, ◌<◌, ℤ, length, take, drop, get_or}
 use Rattle.std.proofs.Math.Option.{some}
 use Rattle.lists.specs.Lists.{All, keep, count, pairs, written}
-use Rattle.meaning.specs.Demand.{Is32, ReadsBack}
+use Rattle.meaning.specs.Record.{ReadsBack}
+use Rattle.meaning.specs.Call.{Is32}
 use Rattle.meaning.specs.Limits.{most_items, most_rows, most_listed}
 use Rattle.meaning.specs.Condition.{Optional, Where, mapped_in}
 use Rattle.meaning.specs.Grammar as G
-use Rattle.meaning.specs.Grammar.{Given, Test, comparison, Listed, Dotted, items, sentence}
+use Rattle.meaning.specs.Grammar.{Given, Test, comparison, Listed, Dotted, items}
+use Rattle.meaning.specs.Reader.{sentence}
 use Rattle.meaning.specs.Meaning.{Row, meets_where, new_row, updated_row, answer}
 use Rattle.meaning.specs.Cells.{area_of, rows_in}
 use Rattle.meaning.specs.Plain.{passes_first}
@@ -18,16 +20,15 @@ use Rattle.meaning.specs.Tokens.{Name}
 use Rattle.answer.specs.Answer.{put}
 use Rattle.statement.specs.declared.Condition.{Condition}
 use Rattle.statement.specs.declared.Query.{Query}
-use Rattle.statement.specs.Compiled.{Compiled}
+use Rattle.statement.specs.Compiled.{Compiled, compiled_of}
 use Rattle.statement.specs.declared.Table.{Table}
 use Rattle.statement.specs.declared.Update.{Update}
 use Rattle.statement.specs.Catalog.{schemas_of}
-use Rattle.statement.specs.Compiled.{compiled_of}
 use Rattle.statement.specs.Sound.{AgreesCondition, AgreesQuery, AgreesUpdate}
-use Rattle.table.specs.Evaluated.{Said, row_cells, rows_used, answer_stored, record_stored, selected_in, passes_stored, pairs_used, pair_says, pair_leaves}
+use Rattle.table.specs.Evaluated.{Said, selected_in, pairs_used, pair_says, pair_leaves, place_round}
+use Rattle.table.specs.Rows.{row_cells, rows_used, answer_stored, record_stored, passes_stored}
 use Rattle.table.specs.Tests.{longest, passes, Prepared}
-use Rattle.table.specs.Scanned.{place_round}
-use Rattle.table.specs.Changed.{is_full_ring, fits, rows_before, change_of, cells_after}
+use Rattle.table.specs.Changed.{is_full_ring, change_fits, rows_before, change_of, cells_after}
 use Rattle.table.specs.declared.changes.Changed.{Changed}
 
 -- what `select` promises: its result, and the buffer
@@ -112,7 +113,8 @@ SelectPairReadsBack = (q : Query) (t : Table) (start : ℕ) (u : Table) (beside 
 
 -- and these are the rows that Meaning lists of all pairs for its sentence, where the second table's columns start behind the first's
 abbrev pub SelectPairMeans : Type 0
-SelectPairMeans = (q : Query) (q' : M.Query) (s : M.Second) → AgreesQuery q q' → q'.second ≡ some s → (t : Table) (start : ℕ) (u : Table) (beside : ℕ) (cells vs : List ℤ) (out : List ℕ) → PairAskable q t u cells → s.start ≡ t.count
+SelectPairMeans = (q : Query) (q' : M.Query) (s : M.Second) → AgreesQuery q q' → q'.second ≡ some s
+    → (t : Table) (start : ℕ) (u : Table) (beside : ℕ) (cells vs : List ℤ) (out : List ℕ) → PairAskable q t u cells → s.start ≡ t.count
     → (pair_says q t start u beside cells vs out).refusal ≡ 0
     → ReadsBack (pair_leaves q t start u beside cells vs out) (length q'.selected) (answer q' vs (pairs (rows_used t start cells) (rows_used u beside cells)))
 
@@ -155,7 +157,7 @@ ReadsOldestFirst = (t : Table) (start : ℕ) (cells : List ℤ) → start + row_
 pub record Makes (u : Update) (s : M.Update) (t : Table) (start : ℕ) (cells : List ℤ) : Type 0 where
   pub array : length u.settings ≡ most_items
   pub agrees : AgreesUpdate u s
-  pub fits_in : fits u t start cells ≡ true
+  pub fits_in : change_fits u t start cells ≡ true
 
 -- the table after an update
 abbrev pub table_after : Table → Changed → Table

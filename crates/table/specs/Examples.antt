@@ -4,28 +4,29 @@ use Prim.Native.String.{String}
 use Rattle.lists.specs.Lists.{bytes}
 use Rattle.meaning.specs.Operator.{null}
 use Rattle.meaning.specs.Tokens.{is_name_byte, is_word_byte, decimal, is_name, word, negative, token_from, first_token, scan, tokens}
-use Rattle.meaning.specs.Grammar.{a_condition, a_sentence, read}
+use Rattle.meaning.specs.Reader.{a_condition, a_sentence, read}
 use Rattle.meaning.specs.Limits.{past_limit}
-use Rattle.meaning.specs.Names.{unknown, taken, miscounted, twice}
+use Rattle.meaning.specs.Names.{unknown_name, taken, miscounted, twice}
 use Rattle.meaning.specs.Statement.{insert, constant, statement_of}
-use Rattle.meaning.specs.Plain.{other_lengths, no_place}
+use Rattle.meaning.specs.Plain.{other_lengths}
+use Rattle.meaning.specs.Refusals.{no_place}
 use Rattle.meaning.specs.Meaning.{Row}
 use Rattle.meaning.specs.Cells.{stored}
 use Rattle.meaning.specs.Record.{body, encode}
 use Rattle.answer.specs.Answer.{put}
 use Rattle.statement.specs.declared.Query.{Query}
 use Rattle.statement.specs.declared.Table.{Table}
-use Rattle.statement.specs.Compiled.{Compiled}
-use Rattle.statement.specs.Compiled.{name_struct, update_struct, struct_of, compiled_of}
+use Rattle.statement.specs.Compiled.{Compiled, name_struct, update_struct, struct_of, compiled_of}
 use Rattle.statement.specs.Sound.{condition_nodes}
-use Rattle.table.specs.Changed.{laid, oldest_after, count_after, area_fits, fits, changed_of, change_of, cells_after, oldest_row, removal_of}
-use Rattle.table.specs.Evaluated.{Said, meets_stored, passes_stored, rows_used, answer_stored, record_stored, selected_in, pairs_used, paired_in, pair_says, pair_leaves}
+use Rattle.table.specs.Changed.{laid, oldest_after, count_after, area_fits, change_fits, changed_of, change_of, cells_after, oldest_row, removal_of}
+use Rattle.table.specs.Evaluated.{Said, selected_in, pairs_used, paired_in, pair_says, pair_leaves}
+use Rattle.table.specs.Rows.{meets_stored, passes_stored, rows_used, answer_stored, record_stored}
 use Rattle.table.specs.Tests.{next_at, passes}
 use Rattle.table.specs.declared.changes.Changed.{Changed}
 
 -- what the computations open
 computing : Unit {0}
-unfolding is_name_byte is_word_byte decimal is_name word negative token_from first_token scan tokens a_condition a_sentence read past_limit unknown taken miscounted twice statement_of other_lengths no_place struct_of compiled_of condition_nodes meets_stored passes_stored answer_stored body encode stored laid oldest_after count_after area_fits fits changed_of change_of cells_after next_at passes removal_of
+unfolding is_name_byte is_word_byte decimal is_name word negative token_from first_token scan tokens a_condition a_sentence read past_limit unknown_name taken miscounted twice statement_of other_lengths no_place struct_of compiled_of condition_nodes meets_stored passes_stored answer_stored body encode stored laid oldest_after count_after area_fits change_fits changed_of change_of cells_after next_at passes removal_of
 computing = tt
 
 abbrev t : Table
@@ -129,11 +130,11 @@ unfolding computing
 positions = refl
 
 -- 12 bytes of one row, of two rows read; 11 bytes are too few
-pub just-fits : said "SELECT b FROM t WHERE a = 7" 12 ≡ record { refusal = 0; scanned = 2; length = 12 }
+pub just-fits : said "SELECT b FROM t WHERE a = 7" 12 ≡ record { refusal = 0; scanned = 2; size = 12 }
 unfolding computing
 just-fits = refl
 
-pub too_short : said "SELECT b FROM t WHERE a = 7" 11 ≡ record { refusal = 13; scanned = 0; length = 0 }
+pub too_short : said "SELECT b FROM t WHERE a = 7" 11 ≡ record { refusal = 13; scanned = 0; size = 0 }
 unfolding computing
 too_short = refl
 
@@ -177,16 +178,16 @@ unfolding computing
 no_pairs = (refl, refl)
 
 -- rows read: 2 + 2 × 3; with no second row 2, with no first row 0. 20 bytes hold the three rows, 19 do not
-pub pair_fits : pair_said t u "SELECT u.c FROM t, u WHERE t.a = u.a" 20 ≡ record { refusal = 0; scanned = 8; length = 20 }
+pub pair_fits : pair_said t u "SELECT u.c FROM t, u WHERE t.a = u.a" 20 ≡ record { refusal = 0; scanned = 8; size = 20 }
 unfolding computing
 pair_fits = refl
 
-pub pair-short : pair_said t u "SELECT u.c FROM t, u WHERE t.a = u.a" 19 ≡ record { refusal = 13; scanned = 0; length = 0 }
+pub pair-short : pair_said t u "SELECT u.c FROM t, u WHERE t.a = u.a" 19 ≡ record { refusal = 13; scanned = 0; size = 0 }
 unfolding computing
 pair-short = refl
 
-pub pair-empty : (pair_said t (none_of u) "SELECT u.c FROM t, u" 8 ≡ record { refusal = 0; scanned = 2; length = 8 })
-    × (pair_said (none_of t) u "SELECT u.c FROM t, u" 8 ≡ record { refusal = 0; scanned = 0; length = 8 })
+pub pair-empty : (pair_said t (none_of u) "SELECT u.c FROM t, u" 8 ≡ record { refusal = 0; scanned = 2; size = 8 })
+    × (pair_said (none_of t) u "SELECT u.c FROM t, u" 8 ≡ record { refusal = 0; scanned = 0; size = 8 })
 unfolding computing
 pair-empty = (refl, refl)
 
@@ -230,8 +231,8 @@ pub too_wide : pairs_used (paired "SELECT t.b FROM t, u") [] (record { name = t.
 too_wide = refl
 
 -- "an answer of more than 65,535 rows gives 16", whatever the buffer; 65,535 rows in a short buffer give 13
-pub most-rows-said : (paired_in [] 7 0 (replicate 65536 []) ≡ record { refusal = 16; scanned = 0; length = 0 })
-    × (paired_in [] 7 0 (replicate 65535 []) ≡ record { refusal = 13; scanned = 0; length = 0 })
+pub most-rows-said : (paired_in [] 7 0 (replicate 65536 []) ≡ record { refusal = 16; scanned = 0; size = 0 })
+    × (paired_in [] 7 0 (replicate 65535 []) ≡ record { refusal = 13; scanned = 0; size = 0 })
 unfolding computing
 most-rows-said = (refl, refl)
 
@@ -307,7 +308,7 @@ unfolding computing
 read-round = refl
 
 pub said-round : selected_in (replicate 32 0) (rows_used (recent 3 1) 0 wrapped) (record_stored (of_ring "SELECT minute, level FROM recent").query [] (rows_used (recent 3 1) 0 wrapped))
-    ≡ record { refusal = 0; scanned = 3; length = 32 }
+    ≡ record { refusal = 0; scanned = 3; size = 32 }
 unfolding computing
 said-round = refl
 
@@ -321,7 +322,8 @@ unfolding computing
 paired-round = refl
 
 -- the row that the next INSERT pushes out, and its removal: an INSERT of 2 and 20 into table 5; of a table without rows an INSERT of no values
-pub goes-next : (oldest_row (recent 3 1) 0 wrapped ≡ pos 2 ∷ pos 20 ∷ []) × (removal_of 5 (recent 3 1) 0 wrapped ≡ update_struct (record { table = 5; change = insert (constant (pos 2) ∷ constant (pos 20) ∷ []); parameters = 0 }))
+pub goes-next : (oldest_row (recent 3 1) 0 wrapped ≡ pos 2 ∷ pos 20 ∷ [])
+    × (removal_of 5 (recent 3 1) 0 wrapped ≡ update_struct (record { table = 5; change = insert (constant (pos 2) ∷ constant (pos 20) ∷ []); parameters = 0 }))
     × ((removal_of 5 (recent 0 0) 0 wrapped).count ≡ 0)
 unfolding computing
 goes-next = (refl, refl, refl)

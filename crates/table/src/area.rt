@@ -23,8 +23,9 @@ pub struct Rows<'a> {
 }
 
 impl<'a> Rows<'a> {
-    ghost use Rattle.table.specs.Evaluated.{rows_used, rows_paired};
-    ghost use Rattle.table.specs.Scanned.{lying_in, rows_of, place_round};
+    ghost use Rattle.table.specs.Evaluated.{rows_paired, place_round};
+    ghost use Rattle.table.specs.Rows.{rows_used};
+    ghost use Rattle.table.specs.Private.Scanned.{lying_in, rows_of};
 
     // None, in a table of so many columns.
     fn none(cells: &'a [i32], width: usize) -> Rows<'a>

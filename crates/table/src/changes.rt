@@ -8,8 +8,9 @@ ghost use Rattle.meaning.specs.Limits.{most_items};
 ghost use Rattle.meaning.specs.Meaning.{value_of, assigned};
 ghost use Rattle.statement.specs.Sound.{value_read, setting_read, settings_read};
 ghost use Rattle.statement.specs.Compiled.{no_setting};
-ghost use Rattle.table.specs.Evaluated.{meets_stored, area_rows};
-ghost use Rattle.table.specs.Changed.{row_of, settled, TurnsRows, laid, next_place, area_fits, is_full_ring, form_fits, ChangeFits, Insertable, inserted_of, changed_of, change_of, cells_after, unchanged, constants_of, removal_of};
+ghost use Rattle.table.specs.Rows.{meets_stored, area_rows};
+ghost use Rattle.table.specs.Changed.{updated_if, laid, next_place, area_fits, is_full_ring, form_fits, changed_of, change_of, cells_after, unchanged, removal_of};
+ghost use Rattle.table.specs.Private.Changing.{row_of, TurnsRows, ChangeFits, Insertable, inserted_of, constants_of};
 
 use super::area::Rows;
 use super::{area, rows};
@@ -90,7 +91,7 @@ fn assign(row: &mut [i32], settings: &[Setting], values: &[i32])
 fn update_rows(area: &mut [i32], columns: u8, used: u16, update: &Update, values: &[i32]) -> u16
     requires { used * columns ≤ length area.old }
     ensures count { result ≡ count (meets_stored update.now.condition values.now) (area_rows columns used area.old) }
-    ensures cells { area.new ≡ stored area.old (used * columns) (map (settled (meets_stored update.now.condition values.now) (assigned (settings_read update.now) values.now)) (area_rows columns used area.old)) }
+    ensures cells { area.new ≡ stored area.old (used * columns) (map (updated_if (meets_stored update.now.condition values.now) (assigned (settings_read update.now) values.now)) (area_rows columns used area.old)) }
 {
     let test = rows::prepare(&update.condition, values);
     let settings = update.used();

@@ -2,8 +2,9 @@
 ghost use Rattle.std.specs.Prelude.{◌≡◌, cond, ◌+◌, ◌-◌, ◌*◌, ◌≤◌, ◌<◌, eqb, pos, length, min, get_or, map, set};
 ghost use Rattle.statement.specs.Operators.{order_of};
 ghost use Rattle.statement.specs.Sound.{used_steps};
-ghost use Rattle.table.specs.Tests.{met, unmet, right_tested, place_of, number_of, target_place, next_at, passes, Forward, Prepared, TestsRow};
-ghost use Rattle.table.specs.Linking.{exit as exit_to, target_put, targets_put, entry_of, led_on, Redirects, Links, Starts, Unlinked, Linked};
+ghost use Rattle.table.specs.Tests.{met, target_place, next_at, passes, Forward, Prepared};
+ghost use Rattle.table.specs.Private.Testing.{unmet, right_tested, place_of, number_of, TestsRow};
+ghost use Rattle.table.specs.Private.Linking.{exit as exit_to, target_put, targets_put, entry_of, led_on, Redirects, Links, Starts, Unlinked, Linked};
 
 use lists::{filled, put};
 use statement::{Comparison, Condition, Operand, Order, Step, Term};

@@ -16,7 +16,7 @@ use Rattle.meaning.proofs.Stream.{from-word, from-minus, from-sign}
 use Rattle.token.specs.declared.Kind.{Kind}
 use Rattle.token.specs.declared.Kind.TheVariants.{End}
 use Rattle.token.specs.Tokens.{kind_of, made, token_of, token_at}
-use Rattle.token.specs.Parts.{part, sign_of, read_at}
+use Rattle.token.specs.Private.Parts.{part, sign_of, read_at}
 use Rattle.token.proofs.Runs.{drop_here}
 use Rattle.token.proofs.Signs.{sign-at}
 

@@ -11,7 +11,7 @@ use Rattle.meaning.specs.Tokens.{decimal_on, decimal, constant}
 use Rattle.meaning.specs.Limits.{is_within32}
 use Rattle.token.specs.declared.Kind.TheVariants.{Constant, Big}
 use Rattle.token.specs.Tokens.{kind_of}
-use Rattle.token.specs.Parts.{signed}
+use Rattle.token.specs.Private.Parts.{signed}
 
 on-snoc : (n : ℕ) (ds : List ℕ) (d : ℕ) → decimal_on n (ds ++ (d ∷ [])) ≡ decimal_on n ds * 10 + (d - 48)
 on-snoc n [] d = refl

@@ -15,7 +15,7 @@ use Rattle.meaning.specs.Tokens.{operator, mark, comma, lparen, rparen, dot, sig
 use Rattle.meaning.proofs.Stream.{sign-here, sign-later}
 use Rattle.token.specs.declared.Kind.{Kind}
 use Rattle.token.specs.Tokens.{kind_of}
-use Rattle.token.specs.Parts.{sign_of}
+use Rattle.token.specs.Private.Parts.{sign_of}
 
 -- the kind and the length of what was read of a text of so many bytes
 pub record Read (k : Kind × ℕ) (size : ℕ) (x : M.Token × List ℕ) : Type 0 where

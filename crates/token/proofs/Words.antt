@@ -18,7 +18,7 @@ use Rattle.meaning.specs.Tokens.{Keyword, keyword, name, constant, other, keywor
 use Rattle.meaning.proofs.Folding.{name-begins}
 use Rattle.token.specs.declared.Kind.TheVariants.{Name, Other}
 use Rattle.token.specs.Tokens.{kind_of}
-use Rattle.token.specs.Parts.{signed, is_number, name_of, keyword_or_name_of}
+use Rattle.token.specs.Private.Parts.{signed, is_number, name_of, keyword_or_name_of}
 
 -- whether a word is one of the keywords
 abbrev pub is_among : List (String × Keyword) → List ℕ → Bool

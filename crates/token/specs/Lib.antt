@@ -1,3 +1,3 @@
 pub mod Tokens
-pub mod Parts
 pub mod Examples
+pub mod Private

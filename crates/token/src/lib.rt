@@ -5,7 +5,7 @@ ghost use Rattle.std.specs.Prelude.{◌≡◌, ℕ, Bool, true, false, ◌+◌, 
 ghost use Rattle.lists.specs.Lists.{all, take_while};
 ghost use Rattle.meaning.specs.Tokens.{is_word_byte, folded_byte, decimal, constant as constant_token, word as word_token, negative};
 ghost use Rattle.token.specs.Tokens.{kind_of, token_at};
-ghost use Rattle.token.specs.Parts.{signed, is_number, name_of, keyword_or_name_of, sign_of, read_at};
+ghost use Rattle.token.specs.Private.Parts.{signed, is_number, name_of, keyword_or_name_of, sign_of, read_at};
 
 // What a token is.
 #[derive(Clone, Copy, PartialEq, Eq)]

@@ -13,8 +13,8 @@ use Rattle.lists.specs.Lists.{All, nil, cons, DistinctBy, keep, any}
 use Rattle.lists.proofs.Lists.{All-head, All-right, All-map, All-take, All-keep, All-image, keep_append, keep-yes, distinct-left, distinct-take, distinct-keep, distinct-image, take-mid}
 use Rattle.meaning.specs.Key.{Key, same_key}
 use Rattle.meaning.specs.Plain.{Lengths, Plain, record_of}
-use Rattle.trace.specs.History.{Event, answer_of, drop_of, fits, Answered, hits, Crowded, Fitted, Filled, unless, since, Ground, never, unfit, dropped, crowded}
-use Rattle.trace.specs.Recent.{Entry, spared, other, front, recent}
+use Rattle.trace.specs.History.{Event, answer_of, drop_of, fits_slot, Answered, hits, Crowded, Fitted, Filled, unless, since, Ground, never, too_large, dropped, crowded}
+use Rattle.trace.proofs.Recent.{Entry, spared, other, front, recent}
 use Rattle.trace.proofs.Past.{Past, start, asks, adds, drops, valid, other-yes, all_others, apart}
 
 module _ {K : Type 0} (size : ℕ) where
@@ -58,7 +58,7 @@ module _ {K : Type 0} (same : Discrete K) (n size : ℕ) where
         (keep_append (other same j) p.pre ((k, p.rec) ∷ p.post)
         ∙ ap (λ x. keep (other same j) p.pre ++ x) (keep-yes (other same j) (k, p.rec) p.post (other-yes same j (k, p.rec) (λ e. ne (sym e)))))
 
-    others-fitted : (p : Stands k h l) → fits size r ≡ true → All (λ x. (x.0 ≢ k) × Fitted size x.0 (answer_of j r ∷ h)) (others p)
+    others-fitted : (p : Stands k h l) → fits_slot size r ≡ true → All (λ x. (x.0 ≢ k) × Fitted size x.0 (answer_of j r ∷ h)) (others p)
     unfolding others
     others-fitted p f = cons (ne, inl (refl, f)) (All-keep (other same j) (λ x q _. (q.0, inr q.1)) p.before)
 
@@ -69,7 +69,7 @@ module _ {K : Type 0} (same : Discrete K) (n size : ℕ) where
       distinct-keep key (other same j) p.pre (distinct-left key p.pre ((k, p.rec) ∷ p.post) (rw p.is at dis)),
     )
 
-    later : (b : Bool) → fits size r ≡ b → Stands k h l → Still k (answer_of j r ∷ h) (front same b n j r l)
+    later : (b : Bool) → fits_slot size r ≡ b → Stands k h l → Still k (answer_of j r ∷ h) (front same b n j r l)
     later false f p =
         inr (record { pre = p.pre; rec = p.rec; post = p.post; is = p.is; before = All-map (λ x q. (q.0, inr q.1)) p.before })
     later true f p = go (take-mid n (others p) (k, p.rec) (keep (other same j) p.post))
@@ -122,38 +122,38 @@ module _ {K : Type 0} (same : Discrete K) where
   dec_answered k (drop_of d ∷ h) = dec_answered k h
 
 module _ (lent : Lengths) (n size : ℕ) where
-  still : {p : Plain} {h : List (Event Key)} → Past lent p h → (k : Key) → fits size (record_of p k) ≡ true → Answered k h
+  still : {p : Plain} {h : List (Event Key)} → Past lent p h → (k : Key) → fits_slot size (record_of p k) ≡ true → Answered k h
       → any (hits k) (since same_key k h) ≡ false → Still same_key n size k (since same_key k h) (recent same_key n size h)
   still start k f a c = absurd a
   still (asks {p = p} {h = h} j e m s) k f a c = go (same_key j k) a c (λ a' c'. still s k f a' c')
     where
       step : j ≢ k → Still same_key n size k (since same_key k h) (recent same_key n size h)
           → Still same_key n size k (answer_of j (record_of p j) ∷ since same_key k h)
-          (front same_key (fits size (record_of p j)) n j (record_of p j) (recent same_key n size h))
+          (front same_key (fits_slot size (record_of p j)) n j (record_of p j) (recent same_key n size h))
       step ne (inl w) = inl (later-filled same_key n size k j (record_of p j) (since same_key k h) w)
       step ne (inr w) =
           later same_key n size k j (record_of p j) ne (since same_key k h) (recent same_key n size h) (apart same_key n size h)
-          (fits size (record_of p j)) refl w
+          (fits_slot size (record_of p j)) refl w
 
       go : (q : Dec (j ≡ k)) → (j ≡ k) ⊎ Answered k h → any (hits k) (unless q (answer_of j (record_of p j) ∷ since same_key k h)) ≡ false
           → (Answered k h → any (hits k) (since same_key k h) ≡ false → Still same_key n size k (since same_key k h) (recent same_key n size h))
           → Still same_key n size k (unless q (answer_of j (record_of p j) ∷ since same_key k h))
-          (front same_key (fits size (record_of p j)) n j (record_of p j) (recent same_key n size h))
-      go (yes i) b d ih = now same_key n size k j (record_of p j) (recent same_key n size h) i (fits size (record_of p j)) (rw i f)
+          (front same_key (fits_slot size (record_of p j)) n j (record_of p j) (recent same_key n size h))
+      go (yes i) b d ih = now same_key n size k j (record_of p j) (recent same_key n size h) i (fits_slot size (record_of p j)) (rw i f)
       go (no ne) (inl i) d ih = absurd (ne i)
       go (no ne) (inr b) d ih = step ne (ih b d)
   still (adds g s) k f a c = still s k (rw ((g k (valid lent s k a)).1 refl).0 at f) a c
   still (drops {p = p} {h = h} d g s) k f a c = go (d k) refl c (λ f' c'. still s k f' a c')
     where
       go : (b : Bool) → d k ≡ b → (b || any (hits k) (since same_key k h)) ≡ false
-          → (fits size (record_of p k) ≡ true → any (hits k) (since same_key k h) ≡ false → Still same_key n size k (since same_key k h) (recent same_key n size h))
+          → (fits_slot size (record_of p k) ≡ true → any (hits k) (since same_key k h) ≡ false → Still same_key n size k (since same_key k h) (recent same_key n size h))
           → Still same_key n size k (drop_of d ∷ since same_key k h) (keep (spared d) (recent same_key n size h))
       go true e c' ih = absurd (true≢false c')
       go false e c' ih = past-drop same_key n size k (since same_key k h) (recent same_key n size h) d e (ih (rw ((g k (valid lent s k a)).1 e).0 at f) c')
 
   -- a key that is not kept, though it was answered, fits and was not dropped: the others filled the slots
   pub filled : {p : Plain} {h : List (Event Key)} → Past lent p h → (k : Key) → All (λ x. x.0 ≢ k) (recent same_key n size h)
-      → fits size (record_of p k) ≡ true → Answered k h → any (hits k) (since same_key k h) ≡ false → Filled size n k (since same_key k h)
+      → fits_slot size (record_of p k) ≡ true → Answered k h → any (hits k) (since same_key k h) ≡ false → Filled size n k (since same_key k h)
   filled {p} {h} s k miss f a c = end (still s k f a c)
     where
       end : Still same_key n size k (since same_key k h) (recent same_key n size h) → Filled size n k (since same_key k h)
@@ -163,11 +163,11 @@ module _ (lent : Lengths) (n size : ℕ) where
   -- a key that is not kept has one of the four grounds
   pub anew : {p : Plain} {h : List (Event Key)} → Past lent p h → (k : Key) → All (λ x. x.0 ≢ k) (recent same_key n size h)
       → Ground same_key n size (record_of p k) k h
-  anew {p} {h} s k miss = go (fits size (record_of p k)) refl (dec_answered same_key k h) (any (hits k) (since same_key k h)) refl
+  anew {p} {h} s k miss = go (fits_slot size (record_of p k)) refl (dec_answered same_key k h) (any (hits k) (since same_key k h)) refl
     where
-      go : (b : Bool) → fits size (record_of p k) ≡ b → Dec (Answered k h) → (c : Bool) → any (hits k) (since same_key k h) ≡ c
+      go : (b : Bool) → fits_slot size (record_of p k) ≡ b → Dec (Answered k h) → (c : Bool) → any (hits k) (since same_key k h) ≡ c
           → Ground same_key n size (record_of p k) k h
-      go false f q c e = unfit f
+      go false f q c e = too_large f
       go true f (no a) c e = never a
       go true f (yes a) true e = dropped e
       go true f (yes a) false e = crowded (filled-crowded size n k (since same_key k h) (filled s k miss f a e))

@@ -16,15 +16,15 @@ use Rattle.lists.proofs.Bools.{or_right}
 use Rattle.lists.proofs.Lists.{All-head, All-tail, All-map, All-both, All-image, All-source, distinct-source, keep-map}
 use Rattle.meaning.proofs.Within32.{answer_reads_back}
 use Rattle.meaning.specs.Key.{Key, same_key}
-use Rattle.meaning.specs.Demand.{Call32}
+use Rattle.meaning.specs.Call.{Call32, Call, ask, change}
 use Rattle.meaning.specs.Limits.{most_cells, most_memory, most_slots, least_slot_bytes, most_slot_bytes}
 use Rattle.meaning.specs.Plain as P
-use Rattle.meaning.specs.Plain.{Lengths, Plain, Opening, opening_refused, Call, ask, change, refusal, record_of, drops_key, answered, guard}
+use Rattle.meaning.specs.Plain.{Lengths, Plain, Opening, opening_refused, refusal, record_of, drops_key, answered, guard}
 use Rattle.trace.specs.History.{Event, note, history_on, history, Ground}
-use Rattle.trace.specs.Recent.{Entry, recent}
-use Rattle.trace.specs.Slots.{Held, slot_bytes, find}
-use Rattle.trace.specs.Model.{Seen, turned, Model, ask_refusal, short_refusal, asked, step, after, outs, slots_opened, size_opened, memory_opened, slot_count, slot_size, opened}
-use Rattle.trace.specs.Demand.{Start, after_calls, next_call, plain_after, keys_held, SameAsPlain, AnewOnlyIf, KeptOtherwise, DropsExactlyMatched, KeptReadsBack, Tidy, TidyAfter, Demands}
+use Rattle.trace.proofs.Recent.{Entry, recent}
+use Rattle.trace.specs.Private.Slots.{Held, slot_bytes, find}
+use Rattle.trace.specs.Private.Model.{Seen, turned, Model, ask_refusal, short_refusal, asked, step, after, outs, slots_opened, size_opened, memory_opened, slot_count, slot_size, opened}
+use Rattle.trace.specs.Private.Demand.{ModelStart, after_calls, next_call, plain_beside, keys_held, ModelSameAsPlain, ModelAnewOnlyIf, ModelKeptOtherwise, ModelDropsExactlyMatched, ModelKeptReadsBack, Tidy, ModelTidyAfter, Demands}
 use Rattle.trace.proofs.Laws.{TableLaws}
 use Rattle.trace.proofs.Tables.{plain-laws}
 use Rattle.trace.proofs.Past.{Past, start, past-step, Current, current, apart}
@@ -91,7 +91,7 @@ module _ (lent : Lengths) (size : ℕ) (s : Model) (n : ℕ) (us : List ℤ) whe
 -- ---- a list of calls, step by step
 
 -- what a call in the middle of a list gets is what it gets after the calls before it
-pub outs-split : (lent : Lengths) (size : ℕ) (s : Model) (cs : List Call) (c : Call) (ds : List Call)
+pub outs-split : (lent : Lengths) (size : ℕ) (s : Model) (cs : List (Call ℕ)) (c : Call ℕ) (ds : List (Call ℕ))
     → outs lent size s (cs ++ c ∷ ds)
     ≡ outs lent size s cs ++ (step lent size (after lent size s cs) c).1 ∷ outs lent size (step lent size (after lent size s cs) c).0 ds
 outs-split lent size s [] c ds = refl
@@ -105,13 +105,13 @@ module _ (𝓛 : TableLaws) (lent : Lengths) (n size : ℕ) where
     pub past : Past lent p h
     pub sound : Sound same_key n size s.cache h
 
-  agrees : {s : Model} {p : Plain} {h : List (Event Key)} → Agree s p h → (c : Call)
+  agrees : {s : Model} {p : Plain} {h : List (Event Key)} → Agree s p h → (c : Call ℕ)
       → Agrees lent n size (note (refusal lent p c) p c h) (P.step lent p c) (step lent size s c)
   agrees {s} {p} {h} a c =
       subst (λ (x : Plain). Agrees lent n size (note (refusal lent x c) x c h) (P.step lent x c) (step lent size s c)) a.stored
       (step-agrees lent n size s h (rw a.stored a.past) a.sound c)
 
-  pub agree-step : {s : Model} {p : Plain} {h : List (Event Key)} → Agree s p h → (c : Call) → Call32 c
+  pub agree-step : {s : Model} {p : Plain} {h : List (Event Key)} → Agree s p h → (c : Call ℕ) → Call32 c
       → Agree (step lent size s c).0 (P.step lent p c).0 (note (refusal lent p c) p c h)
   agree-step {s} {p} {h} a c v = record {
     stored = (agrees a c).stored;
@@ -120,13 +120,13 @@ module _ (𝓛 : TableLaws) (lent : Lengths) (n size : ℕ) where
     sound = (agrees a c).sound;
   }
 
-  pub agree_after : {s : Model} {p : Plain} {h : List (Event Key)} → Agree s p h → (cs : List Call) → All Call32 cs
+  pub agree_after : {s : Model} {p : Plain} {h : List (Event Key)} → Agree s p h → (cs : List (Call ℕ)) → All Call32 cs
       → Agree (after lent size s cs) (P.after lent p cs) (history_on lent p h cs)
   agree_after a [] v = a
   agree_after {s = s} {p = p} {h = h} a (c ∷ cs) v =
       agree_after {s = (step lent size s c).0} {p = (P.step lent p c).0} {h = note (refusal lent p c) p c h} (agree-step a c (All-head v)) cs (All-tail v)
 
-  agree-outs : {s : Model} {p : Plain} {h : List (Event Key)} → Agree s p h → (cs : List Call) → All Call32 cs
+  agree-outs : {s : Model} {p : Plain} {h : List (Event Key)} → Agree s p h → (cs : List (Call ℕ)) → All Call32 cs
       → map (λ (o : Seen). o.out) (outs lent size s cs) ≡ P.outs lent p cs
   agree-outs a [] v = refl
   agree-outs {s = s} {p = p} {h = h} a (c ∷ cs) v =
@@ -152,16 +152,16 @@ module _ (𝓛 : TableLaws) (lent : Lengths) (n size : ℕ) where
 -- ---- the theorems
 
 -- after an opening and every list of calls the tables and statements are the plain store's
-pub stored-after : (s : Start) (cs : List Call) → (after_calls s cs).store ≡ plain_after s cs
+pub stored-after : (s : ModelStart) (cs : List (Call ℕ)) → (after_calls s cs).store ≡ plain_beside s cs
 stored-after s cs = after_store s.opening.lent (slot_size s.opening) (opened s.opening s.memory) (P.opened s.opening) refl cs
 
 -- demand 2, of the kept answers
-drops_exactly_matched : DropsExactlyMatched
+drops_exactly_matched : ModelDropsExactlyMatched
 drops_exactly_matched s cs n us e =
-    drops-at s.opening.lent (slot_size s.opening) (after_calls s cs) n us (plain_after s cs) (stored-after s cs) e
+    drops-at s.opening.lent (slot_size s.opening) (after_calls s cs) n us (plain_beside s cs) (stored-after s cs) e
 
 module _ (𝓛 : TableLaws) where
-  agree-opened : (s : Start)
+  agree-opened : (s : ModelStart)
       → Agree 𝓛 s.opening.lent (slot_count s.opening) (slot_size s.opening) (opened s.opening s.memory) (P.opened s.opening) []
   agree-opened s = record {
     stored = refl;
@@ -176,35 +176,35 @@ module _ (𝓛 : TableLaws) where
   }
 
   -- after an opening and every list of calls the two stores agree
-  pub agree-calls : (s : Start) (cs : List Call) → All Call32 cs
-      → Agree 𝓛 s.opening.lent (slot_count s.opening) (slot_size s.opening) (after_calls s cs) (plain_after s cs)
+  pub agree-calls : (s : ModelStart) (cs : List (Call ℕ)) → All Call32 cs
+      → Agree 𝓛 s.opening.lent (slot_count s.opening) (slot_size s.opening) (after_calls s cs) (plain_beside s cs)
       (history s.opening.lent (P.opened s.opening) cs)
   agree-calls s cs v = agree_after 𝓛 s.opening.lent (slot_count s.opening) (slot_size s.opening) (agree-opened s) cs v
 
   -- demand 3, first part
-  pub same_as_plain : SameAsPlain
+  pub same_as_plain : ModelSameAsPlain
   same_as_plain s cs v = (
     agree-outs 𝓛 s.opening.lent (slot_count s.opening) (slot_size s.opening) (agree-opened s) cs v,
     stored-after s cs,
   )
 
   -- a key that no slot holds is none of `recent`
-  gone : (s : Start) (cs : List Call) → All Call32 cs → (k : Key) → Missing (after_calls s cs) k
+  gone : (s : ModelStart) (cs : List (Call ℕ)) → All Call32 cs → (k : Key) → Missing (after_calls s cs) k
       → All (λ x. x.0 ≢ k) (recent same_key (slot_count s.opening) (slot_size s.opening) (history s.opening.lent (P.opened s.opening) cs))
   gone s cs v k m = missing-recent 𝓛 s.opening.lent (slot_count s.opening) (slot_size s.opening) (agree-calls s cs v) k m
 
   -- demand 3, second part
-  pub anew_only_if : AnewOnlyIf
+  pub anew_only_if : ModelAnewOnlyIf
   anew_only_if s cs v k buffer r e z = go (kept-or-missing s.opening.lent (slot_size s.opening) (after_calls s cs) k buffer r e)
     where
       go : ((next_call s cs (ask k buffer)).kept ≡ 1) ⊎ Missing (after_calls s cs) k
-          → Ground same_key (slot_count s.opening) (slot_size s.opening) (record_of (plain_after s cs) k) k
+          → Ground same_key (slot_count s.opening) (slot_size s.opening) (record_of (plain_beside s cs) k) k
           (history s.opening.lent (P.opened s.opening) cs)
       go (inl y) = absurd (omega arith)
       go (inr m) = anew s.opening.lent (slot_count s.opening) (slot_size s.opening) (agree-calls s cs v).past k (gone s cs v k m)
 
   -- its converse
-  pub kept_otherwise : KeptOtherwise
+  pub kept_otherwise : ModelKeptOtherwise
   kept_otherwise s cs v k buffer r e a f d few = go (kept-or-missing s.opening.lent (slot_size s.opening) (after_calls s cs) k buffer r e)
     where
       go : ((next_call s cs (ask k buffer)).kept ≡ 1) ⊎ Missing (after_calls s cs) k → (next_call s cs (ask k buffer)).kept ≡ 1
@@ -213,15 +213,15 @@ module _ (𝓛 : TableLaws) where
           absurd (few (filled s.opening.lent (slot_count s.opening) (slot_size s.opening) (agree-calls s cs v).past k (gone s cs v k m) f a d))
 
   -- the kept answers after every list
-  pub tidy_after : TidyAfter
+  pub tidy_after : ModelTidyAfter
   tidy_after s cs v = tidy-at 𝓛 s.opening.lent (slot_count s.opening) (slot_size s.opening) (agree-calls s cs v)
 
   -- the next call gets what it gets from the plain store
-  pub next-same : (s : Start) (cs : List Call) → All Call32 cs → (c : Call) → (next_call s cs c).out ≡ (P.step s.opening.lent (plain_after s cs) c).1
+  pub next-same : (s : ModelStart) (cs : List (Call ℕ)) → All Call32 cs → (c : Call ℕ) → (next_call s cs c).out ≡ (P.step s.opening.lent (plain_beside s cs) c).1
   next-same s cs v c = (agrees 𝓛 s.opening.lent (slot_count s.opening) (slot_size s.opening) (agree-calls s cs v) c).got
 
   -- so its record reads back
-  pub kept_reads_back : KeptReadsBack
+  pub kept_reads_back : ModelKeptReadsBack
   kept_reads_back s cs v k buffer r e later = answer_reads_back s.opening cs v k buffer r (sym (next-same s cs v (ask k buffer)) ∙ e) later
 
 -- ---- outright

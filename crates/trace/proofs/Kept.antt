@@ -14,9 +14,9 @@ use Rattle.lists.specs.Lists.{All, nil, cons, DistinctBy, keep, unsnoc, written}
 use Rattle.lists.proofs.Lists.{All-head, All-left, All-right, All-mid, All-map, All-both, All-take, All-keep, All-image, All-source, Unsnoc, unsnoc-is, map-append, map-take, map_same, keep-map, keep_all, keep-yes, keep-no}
 use Rattle.lists.proofs.Moved.{moved_front, moved-last, moved-drop}
 use Rattle.lists.proofs.Written.{slot_same, slot-written, slot-other}
-use Rattle.trace.specs.History.{Event, answer_of, drop_of, fits}
-use Rattle.trace.specs.Recent.{Entry, spared, other, front, recent}
-use Rattle.trace.specs.Slots.{Names, Held, Cache, slots_of, slot_bytes, found, find, last_held, last_free, take_last, put_in, put, drop_by}
+use Rattle.trace.specs.History.{Event, answer_of, drop_of, fits_slot}
+use Rattle.trace.proofs.Recent.{Entry, spared, other, front, recent}
+use Rattle.trace.specs.Private.Slots.{Names, Held, Cache, slots_of, slot_bytes, found, find, last_held, last_free, take_last, put_in, put, drop_by}
 use Rattle.trace.proofs.Past.{other-yes, other-no, apart}
 use Rattle.trace.proofs.Order.{names-moved}
 
@@ -92,7 +92,7 @@ module _ {K : Type 0} (same : Discrete K) (n size : ℕ) where
     fewer i l s = simp length-map (omega (arith, simp (length-append, length-map) at s.count))
 
     pub hit : (k : K) (r : List ℕ) (a : List (Held K)) (e : Held K) (b : List (Held K)) → e.key ≡ k
-        → slot_bytes size memory e ≡ r → fits size r ≡ true → Sound (cache (a ++ e ∷ b)) h → Sound (cache (e ∷ a ++ b)) (answer_of k r ∷ h)
+        → slot_bytes size memory e ≡ r → fits_slot size r ≡ true → Sound (cache (a ++ e ∷ b)) h → Sound (cache (e ∷ a ++ b)) (answer_of k r ∷ h)
     hit k r a e b i j f s =
         let names' : Names n (slots_of (e ∷ a ++ b) ++ free) = names-moved (moved_front (λ (x : Held K). x.slot) free a e b) s.names in
         record {
@@ -110,7 +110,7 @@ module _ {K : Type 0} (same : Discrete K) (n size : ℕ) where
 
     -- ---- a new record put into the last slot
 
-    put-none : (k : K) (r : List ℕ) (held : List (Held K)) → Last held free none → fits size r ≡ true
+    put-none : (k : K) (r : List ℕ) (held : List (Held K)) → Last held free none → fits_slot size r ≡ true
         → Sound (cache held) h → Sound (cache held) (answer_of k r ∷ h)
     put-none k r held l f s =
         let z : 0 ≡ n = rw (l.0, l.1) at s.names.count in
@@ -125,7 +125,7 @@ module _ {K : Type 0} (same : Discrete K) (n size : ℕ) where
         }
 
     module _ (k : K) (r : List ℕ) (held : List (Held K)) (i : ℕ) (hs : List (Held K)) (fs : List ℕ) (l : Last held free (some (i, hs, fs)))
-        (f : fits size r ≡ true) (s : Sound (cache held) h) where
+        (f : fits_slot size r ≡ true) (s : Sound (cache held) h) where
       put-names : Names n (i ∷ (slots_of hs ++ fs))
       put-names = names-moved (moved-last (slots_of hs ++ fs) i) (rw l.0 at s.names)
 
@@ -164,7 +164,7 @@ module _ {K : Type 0} (same : Discrete K) (n size : ℕ) where
       }
 
   pub put-sound : (c : Cache K) (h : List (Event K)) (k : K) (r : List ℕ) → All (λ e. e.key ≢ k) c.held → Sound c h
-      → (b : Bool) → fits size r ≡ b → Sound (put size b c k r) (answer_of k r ∷ h)
+      → (b : Bool) → fits_slot size r ≡ b → Sound (put size b c k r) (answer_of k r ∷ h)
   put-sound c h k r miss ok false f = record {
     names = ok.names;
     lens = ok.lens;

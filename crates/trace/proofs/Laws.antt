@@ -7,10 +7,11 @@ use lib.ListN.{length}
 use lib.Dec.{leb, eqb}
 use lib.IntN.{ℤ}
 use Rattle.meaning.specs.Key.{Key}
-use Rattle.meaning.specs.Demand.{Call32}
+use Rattle.meaning.specs.Call.{Call32, Call, add, ask, change}
 use Rattle.meaning.specs.Plain as P
-use Rattle.meaning.specs.Plain.{Lengths, Plain, Opening, Call, add, ask, change, other_lengths, query_at, or_else, refusal, drops_key, changed_by, does}
-use Rattle.trace.specs.Model.{ask_refusal, new_refusal}
+use Rattle.meaning.specs.Plain.{Lengths, Plain, Opening, other_lengths, query_at, refusal, drops_key, changed_by, does}
+use Rattle.meaning.specs.Refusals.{or_else}
+use Rattle.trace.specs.Private.Model.{ask_refusal, new_refusal}
 use Rattle.meaning.proofs.Keeps.{SameAnswer}
 
 -- What the proofs here use of the plain store, and nothing else.
@@ -18,7 +19,7 @@ pub record TableLaws : Type 1 where
   -- what holds of every plain store reached from an opening, by calls whose values have 32 bits
   pub Good : Plain → Type 0
   pub good_opened : (o : Opening) → Good (P.opened o)
-  pub good_step : (lent : Lengths) (p : Plain) → Good p → (c : Call) → Call32 c → Good (P.step lent p c).0
+  pub good_step : (lent : Lengths) (p : Plain) → Good p → (c : Call ℕ) → Call32 c → Good (P.step lent p c).0
   -- a text that is not refused, and an update that is not refused, leave the questions that there are and the records of those not matched
   pub add_keeps : (lent : Lengths) (p : Plain) (text : List ℕ) (k : Key) → ask_refusal lent p k ≡ 0 → refusal lent p (add text) ≡ 0
       → (ask_refusal lent (does p (add text)).0 k ≡ 0) × SameAnswer (does p (add text)).0 p k

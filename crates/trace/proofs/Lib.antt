@@ -1,6 +1,7 @@
 pub mod Laws
 pub mod Tables
 pub mod Order
+pub mod Recent
 pub mod Past
 pub mod Anew
 pub mod Kept

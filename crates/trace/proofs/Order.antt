@@ -6,7 +6,7 @@ use native.Mathlib.Omega.{arith}
 use Rattle.lists.specs.Lists.{from}
 use Rattle.lists.proofs.Lists.{All-map}
 use Rattle.lists.proofs.Moved.{Moved, moved-All, moved_length, moved-distinct, from-once, from-below, from-count}
-use Rattle.trace.specs.Slots.{Names}
+use Rattle.trace.specs.Private.Slots.{Names}
 
 pub names-moved : {n : ℕ} {l r : List ℕ} → Moved l r → Names n l → Names n r
 names-moved m h = record { once = moved-distinct m h.once; below = moved-All m h.below; count = sym (moved_length m) ∙ h.count }

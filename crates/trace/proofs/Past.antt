@@ -5,16 +5,19 @@ use mathlib.Core.Logic.{◌≢◌, inl, inr}
 use mathlib.Core.Bool.{Bool, true, false, not}
 use mathlib.Core.List.{List, [], ◌∷◌}
 use Prim.Native.Nat.{ℕ, zero, suc}
+use lib.ListN.{length}
 use Rattle.lists.specs.Lists.{All, nil, cons, DistinctBy, keep}
 use Rattle.lists.specs.Tests.{is_yes}
 use Rattle.lists.proofs.Bools.{not-true, is-yes, is-no, no_of}
 use Rattle.lists.proofs.Lists.{All-map, All-take, All-keep, All-kept, distinct-take, distinct-keep}
 use Rattle.meaning.specs.Key.{Key, same_key}
 use Rattle.meaning.specs.Plain as P
-use Rattle.meaning.specs.Plain.{Lengths, Plain, Call, add, ask, change, flush, refusal, is_short, or_else, record_of, too_many, drops_key, refused, does, guard}
-use Rattle.trace.specs.History.{Event, answer_of, drop_of, note, fits, Answered}
-use Rattle.trace.specs.Recent.{Entry, spared, other, front, recent}
-use Rattle.trace.specs.Model.{ask_refusal}
+use Rattle.meaning.specs.Plain.{Lengths, Plain, refusal, record_of, too_many, drops_key, refused, does, guard}
+use Rattle.meaning.specs.Refusals.{is_short, or_else}
+use Rattle.meaning.specs.Call.{Call, add, ask, change, flush}
+use Rattle.trace.specs.History.{Event, answer_of, drop_of, note, fits_slot, Answered}
+use Rattle.trace.proofs.Recent.{Entry, spared, other, front, recent}
+use Rattle.trace.specs.Private.Model.{ask_refusal}
 use Rattle.meaning.proofs.Keeps.{SameAnswer}
 use Rattle.trace.proofs.Laws.{TableLaws, first_of, ask-refusal}
 
@@ -32,7 +35,7 @@ module _ {K : Type 0} (same : Discrete K) where
   -- no key is kept twice
   pub apart : (n size : ℕ) (h : List (Event K)) → DistinctBy (λ (x : Entry K). x.0) (recent same n size h)
   apart n size [] = tt
-  apart n size (answer_of k r ∷ h) = go (fits size r) (apart n size h)
+  apart n size (answer_of k r ∷ h) = go (fits_slot size r) (apart n size h)
     where
       go : (b : Bool) → DistinctBy (λ (x : Entry K). x.0) (recent same n size h) → DistinctBy (λ (x : Entry K). x.0) (front same b n k r (recent same n size h))
       go true g =
@@ -66,13 +69,13 @@ module _ (lent : Lengths) where
     pub asked : ask_refusal lent p x.0 ≡ 0
     pub right : x.1 ≡ record_of p x.0
     pub few : too_many p x.0 ≡ false
-    pub small : fits size x.1 ≡ true
+    pub small : fits_slot size x.1 ≡ true
 
   pub current : (n size : ℕ) {p : Plain} {h : List (Event Key)} → Past p h → All (Current size p) (recent same_key n size h)
   current n size start = nil
-  current n size (asks {p = p} {h = h} k e m s) = go (fits size (record_of p k)) refl (current n size s)
+  current n size (asks {p = p} {h = h} k e m s) = go (fits_slot size (record_of p k)) refl (current n size s)
     where
-      go : (b : Bool) → fits size (record_of p k) ≡ b → All (Current size p) (recent same_key n size h)
+      go : (b : Bool) → fits_slot size (record_of p k) ≡ b → All (Current size p) (recent same_key n size h)
           → All (Current size p) (front same_key b n k (record_of p k) (recent same_key n size h))
       go true f g = All-take n (cons (record { asked = e; right = refl; few = m; small = f }) (All-keep (other same_key k) (λ x q _. q) g))
       go false f g = g
@@ -93,13 +96,13 @@ module _ (lent : Lengths) where
 
 -- every call leads on
 module _ (𝓛 : TableLaws) (lent : Lengths) where
-  pub past-step : {p : Plain} {h : List (Event Key)} → 𝓛.Good p → Past lent p h → (c : Call) → Past lent (P.step lent p c).0 (note (refusal lent p c) p c h)
+  pub past-step : {p : Plain} {h : List (Event Key)} → 𝓛.Good p → Past lent p h → (c : Call ℕ) → Past lent (P.step lent p c).0 (note (refusal lent p c) p c h)
   past-step {p} {h} g s (add text) = go (refusal lent p (add text)) refl
     where
       go : (m : ℕ) → refusal lent p (add text) ≡ m → Past lent (guard m p refused (does p (add text))).0 (note m p (add text) h)
       go zero e = adds (λ k a. ((𝓛.add_keeps lent p text k a e).0, λ _. (𝓛.add_keeps lent p text k a e).1)) s
       go (suc m) e = s
-  past-step {p} {h} g s (ask k b) = rw (ask-refusal lent p k b) (go (ask_refusal lent p k) refl (too_many p k) refl (is_short b (record_of p k)))
+  past-step {p} {h} g s (ask k b) = rw (ask-refusal lent p k b) (go (ask_refusal lent p k) refl (too_many p k) refl (is_short b (length (record_of p k))))
     where
       go : (m : ℕ) → ask_refusal lent p k ≡ m → (x : Bool) → too_many p k ≡ x → (y : Bool)
           → Past lent (guard (first_of m (or_else x 16 (or_else y 13 0))) p refused (does p (ask k b))).0 (note (first_of m (or_else x 16 (or_else y 13 0))) p (ask k b) h)

@@ -9,10 +9,11 @@ use Rattle.lists.specs.Lists.{All}
 use Rattle.lists.proofs.Lists.{All-head, All-right, All-source}
 use Rattle.meaning.specs.Key.{Key, same_key}
 use Rattle.meaning.specs.Plain as P
-use Rattle.meaning.specs.Plain.{Lengths, Plain, Call, add, ask, change, flush, refusal, record_of, too_many, drops_key, Out, refused, does, guard}
-use Rattle.trace.specs.History.{Event, answer_of, noted, note, fits}
-use Rattle.trace.specs.Slots.{Held, slot_bytes, find, move_to_front}
-use Rattle.trace.specs.Model.{Seen, turned, Model, ask_refusal, short_refusal, new_refusal, asked, step, after}
+use Rattle.meaning.specs.Plain.{Lengths, Plain, refusal, record_of, too_many, drops_key, Out, refused, does, guard}
+use Rattle.meaning.specs.Call.{Call, add, ask, change, flush}
+use Rattle.trace.specs.History.{Event, answer_of, noted, note, fits_slot}
+use Rattle.trace.specs.Private.Slots.{Held, slot_bytes, find, move_to_front}
+use Rattle.trace.specs.Private.Model.{Seen, turned, Model, ask_refusal, short_refusal, new_refusal, asked, step, after}
 use Rattle.trace.proofs.Laws.{first_of, ask-refusal}
 use Rattle.trace.proofs.Past.{Past, Current, current}
 use Rattle.trace.proofs.Kept.{entry, Found, find-is, Sound, hit, put-sound, drop-sound}
@@ -34,7 +35,7 @@ module _ (lent : Lengths) (size : ℕ) where
   asked-store s k b none = guard-asked (new_refusal s.store k b) s _ refl
   asked-store s k b (some w) = guard-asked (short_refusal b (slot_bytes size s.cache.memory w.0)) s _ refl
 
-  step-store : (s : Model) (c : Call) → (step lent size s c).0.store ≡ (P.step lent s.store c).0
+  step-store : (s : Model) (c : Call ℕ) → (step lent size s c).0.store ≡ (P.step lent s.store c).0
   step-store s (add text) = guard-store (refusal lent s.store (add text)) s _ _ refl
   step-store s (ask k b) =
       guard-asked (ask_refusal lent s.store k) s _ (asked-store s k b (find same_key k s.cache.held)) ∙ sym (stays (refusal lent s.store (ask k b)))
@@ -45,7 +46,7 @@ module _ (lent : Lengths) (size : ℕ) where
   step-store s (change n us) = guard-store (refusal lent s.store (change n us)) s _ _ refl
   step-store s flush = guard-store (refusal lent s.store flush) s _ _ refl
 
-  pub after_store : (s : Model) (p : Plain) → s.store ≡ p → (cs : List Call) → (after lent size s cs).store ≡ P.after lent p cs
+  pub after_store : (s : Model) (p : Plain) → s.store ≡ p → (cs : List (Call ℕ)) → (after lent size s cs).store ≡ P.after lent p cs
   after_store s p e [] = e
   after_store s p e (c ∷ cs) = after_store (step lent size s c).0 (P.step lent p c).0 (step-store s c ∙ ap (λ (x : Plain). (P.step lent x c).0) e) cs
 
@@ -59,7 +60,7 @@ module _ (lent : Lengths) (n size : ℕ) where
     pub sound : Sound same_key n size q.0.cache h
 
   -- a call that is refused with m, or taken
-  guarded : (m : ℕ) (c : Call) (s : Model) (h : List (Event Key)) (p : Plain × Out) (q : Model × Seen) → Sound same_key n size s.cache h
+  guarded : (m : ℕ) (c : Call ℕ) (s : Model) (h : List (Event Key)) (p : Plain × Out) (q : Model × Seen) → Sound same_key n size s.cache h
       → Agrees (noted s.store c h) p q → Agrees (note m s.store c h) (guard m s.store refused p) (guard m s turned q)
   guarded zero c s h p q ok a = a
   guarded (suc m) c s h p q ok a = record { stored = refl; got = refl; sound = ok }
@@ -81,7 +82,7 @@ module _ (lent : Lengths) (n size : ℕ) where
         (record {
           stored = refl;
           got = refl;
-          sound = put-sound same_key n size s.cache h k (record_of s.store k) miss ok (fits size (record_of s.store k)) refl;
+          sound = put-sound same_key n size s.cache h k (record_of s.store k) miss ok (fits_slot size (record_of s.store k)) refl;
         })
     asked-agrees k b (some w) (x, y, held-is, rest_is, key_is) =
         let g = found-current x w.0 y held-is in
@@ -92,7 +93,7 @@ module _ (lent : Lengths) (n size : ℕ) where
         let few : too_many s.store k ≡ false = ap (too_many s.store) (sym key_is) ∙ g.few in
         rw (e, few) (guarded (short_refusal b (record_of s.store k)) (ask k b) s h _ _ ok (record { stored = refl; got = refl; sound = moved }))
 
-    pub step-agrees : (c : Call) → Agrees (note (refusal lent s.store c) s.store c h) (P.step lent s.store c) (step lent size s c)
+    pub step-agrees : (c : Call ℕ) → Agrees (note (refusal lent s.store c) s.store c h) (P.step lent s.store c) (step lent size s c)
     step-agrees (add text) = guarded (refusal lent s.store (add text)) (add text) s h _ _ ok (record { stored = refl; got = refl; sound = ok })
     step-agrees (ask k b) = rw (ask-refusal lent s.store k b) (go (ask_refusal lent s.store k))
       where

@@ -4,36 +4,38 @@ use Rattle.std.specs.Prelude.{◌≡◌, refl, List, [], ◌∷◌, ◌++◌, ma
 use Prim.Native.String.{String}
 use Rattle.lists.specs.Lists.{bytes}
 use Rattle.meaning.specs.Tokens.{is_name_byte, is_word_byte, decimal, is_name, word, negative, token_from, first_token, scan, tokens}
-use Rattle.meaning.specs.Grammar.{a_condition, a_sentence, read}
+use Rattle.meaning.specs.Reader.{a_condition, a_sentence, read}
 use Rattle.meaning.specs.Limits.{past_limit}
-use Rattle.meaning.specs.Names.{unknown, taken, miscounted, twice}
+use Rattle.meaning.specs.Names.{unknown_name, taken, miscounted, twice}
 use Rattle.meaning.specs.Statement.{statement_of}
 use Rattle.meaning.specs.Meaning.{answer, changed, rows_changed}
 use Rattle.meaning.specs.Record.{body, encode}
 use Rattle.meaning.specs.Pattern.{side_of, matters, joint_clauses, class, contradictory, entry, patterns, matches_two}
 use Rattle.meaning.specs.Exact.{is_separate, affects, drops}
-use Rattle.meaning.specs.Plain.{Opening, opening_refused, Call, add, ask, change, flush, other_lengths, no_place, full, refusal, record_of, too_many, drops_key, Out, refused, added, answered, rows, flushed, a_table, a_query, an_update, added_text, changed_by, rows_by}
+use Rattle.meaning.specs.Plain.{Opening, opening_refused, other_lengths, full, refusal, record_of, too_many, drops_key, Out, refused, added, answered, rows, flushed, table_kind, query_kind, update_kind, text_added, changed_by, rows_by}
+use Rattle.meaning.specs.Refusals.{no_place}
+use Rattle.meaning.specs.Call.{Call, add, ask, change, flush}
 use Rattle.meaning.specs.Key.{Key}
 use Rattle.meaning.specs.Paired.{long, first_question}
-use Rattle.trace.specs.Slots.{Held}
-use Rattle.trace.specs.Model.{Seen, Model, step, outs, slot_size, opened}
+use Rattle.trace.specs.Private.Slots.{Held}
+use Rattle.trace.specs.Private.Model.{Seen, Model, step, outs, slot_size, opened}
 
 -- what the computations open
 computing : Unit {0}
-unfolding is_name_byte is_word_byte decimal is_name word negative token_from first_token scan tokens a_condition a_sentence read past_limit unknown taken miscounted twice statement_of answer changed rows_changed body encode matters joint_clauses class contradictory entry patterns matches_two is_separate affects drops opening_refused other_lengths no_place full refusal record_of too_many side_of drops_key added_text changed_by rows_by
+unfolding is_name_byte is_word_byte decimal is_name word negative token_from first_token scan tokens a_condition a_sentence read past_limit unknown_name taken miscounted twice statement_of answer changed rows_changed body encode matters joint_clauses class contradictory entry patterns matches_two is_separate affects drops opening_refused other_lengths no_place full refusal record_of too_many side_of drops_key text_added changed_by rows_by
 computing = tt
 
 -- 4,096 cells, 256 bytes of kept memory, 4 slots of 64 bytes
 abbrev desk : Opening
 desk = record { lent = record { cells = 4096; memory = 256 }; slots = 4; slot_bytes = 64 }
 
-abbrev ADD : String → Call
+abbrev ADD : String → Call ℕ
 ADD t = add (bytes t)
 
-abbrev ASK : ℕ → List ℕ → Call
+abbrev ASK : ℕ → List ℕ → Call ℕ
 ASK n vs = ask (record { query = n; values = map pos vs }) 65536
 
-abbrev DO : ℕ → List ℕ → Call
+abbrev DO : ℕ → List ℕ → Call ℕ
 DO n vs = change n (map pos vs)
 
 -- what each call prints: what the plain store gives, kept, rows read, drops
@@ -46,7 +48,7 @@ line_of s = (s.out, s.kept, s.scanned, s.drops)
 abbrev plain : Out → Line
 plain o = (o, 0, 0, 0)
 
-abbrev lines : List Call → List Line
+abbrev lines : List (Call ℕ) → List Line
 lines cs = map line_of (outs desk.lent (slot_size desk) (opened desk (replicate 256 0)) cs)
 
 -- the record of some one-column rows below 256
@@ -54,10 +56,10 @@ abbrev levels : List ℕ → List ℕ
 levels [] = []
 levels (n ∷ ns) = 0 ∷ 0 ∷ 0 ∷ n ∷ levels ns
 
-abbrev texts : List Call
+abbrev texts : List (Call ℕ)
 texts = ADD "TABLE stage (site, level) ROWS 3" ∷ ADD "INSERT INTO stage VALUES (?, ?)" ∷ ADD "SELECT level FROM stage WHERE site = ?" ∷ []
 
-abbrev transcript : List Call
+abbrev transcript : List (Call ℕ)
 transcript =
     texts
     ++ (DO 0 (7 ∷ 120 ∷ [])
@@ -70,9 +72,9 @@ transcript =
     ∷ [])
 
 pub transcript-is : lines transcript
-    ≡ plain (added a_table 0)
-    ∷ plain (added an_update 0)
-    ∷ plain (added a_query 0)
+    ≡ plain (added table_kind 0)
+    ∷ plain (added update_kind 0)
+    ∷ plain (added query_kind 0)
     ∷ plain (rows 1)
     ∷ (answered (0 ∷ 0 ∷ 0 ∷ 8 ∷ 1 ∷ 1 ∷ 0 ∷ 1 ∷ levels (120 ∷ [])), 0, 1, 0)
     ∷ plain (rows 1)
@@ -90,9 +92,9 @@ none_of = (answered (0 ∷ 0 ∷ 0 ∷ 4 ∷ 1 ∷ 1 ∷ 0 ∷ 0 ∷ []), 0, 0, 
 
 pub crowded-is : lines (texts
     ++ (ASK 0 (1 ∷ []) ∷ ASK 0 (2 ∷ []) ∷ ASK 0 (3 ∷ []) ∷ ASK 0 (4 ∷ []) ∷ ASK 0 (5 ∷ []) ∷ ASK 0 (2 ∷ []) ∷ ASK 0 (1 ∷ []) ∷ flush ∷ ASK 0 (2 ∷ []) ∷ []))
-    ≡ plain (added a_table 0)
-    ∷ plain (added an_update 0)
-    ∷ plain (added a_query 0)
+    ≡ plain (added table_kind 0)
+    ∷ plain (added update_kind 0)
+    ∷ plain (added query_kind 0)
     ∷ none_of
     ∷ none_of
     ∷ none_of
@@ -109,9 +111,9 @@ crowded-is = refl
 -- "A refusal 13 that moves a slot" is a slip: with a buffer of 3 bytes the question is refused, so its slot stays last and the fifth key evicts it
 pub short-is : lines (texts
     ++ (ASK 0 (1 ∷ []) ∷ ASK 0 (2 ∷ []) ∷ ASK 0 (3 ∷ []) ∷ ASK 0 (4 ∷ []) ∷ ask (record { query = 0; values = pos 1 ∷ [] }) 3 ∷ ASK 0 (5 ∷ []) ∷ ASK 0 (1 ∷ []) ∷ []))
-    ≡ plain (added a_table 0)
-    ∷ plain (added an_update 0)
-    ∷ plain (added a_query 0)
+    ≡ plain (added table_kind 0)
+    ∷ plain (added update_kind 0)
+    ∷ plain (added query_kind 0)
     ∷ none_of
     ∷ none_of
     ∷ none_of
@@ -126,7 +128,7 @@ short-is = refl
 -- ---- request A.1
 
 -- a question over two tables: an INSERT into the second drops the answers for its site alone, and one into the first as well
-abbrev paired : List Call
+abbrev paired : List (Call ℕ)
 paired =
     ADD "TABLE stage (site, level) ROWS 3"
     ∷ ADD "TABLE rating (site, flow) ROWS 3"
@@ -145,11 +147,11 @@ paired =
     ∷ []
 
 pub paired_is : lines paired
-    ≡ plain (added a_table 0)
-    ∷ plain (added a_table 1)
-    ∷ plain (added an_update 0)
-    ∷ plain (added an_update 1)
-    ∷ plain (added a_query 0)
+    ≡ plain (added table_kind 0)
+    ∷ plain (added table_kind 1)
+    ∷ plain (added update_kind 0)
+    ∷ plain (added update_kind 1)
+    ∷ plain (added query_kind 0)
     ∷ plain (rows 1)
     ∷ plain (rows 1)
     ∷ (answered (0 ∷ 0 ∷ 0 ∷ 8 ∷ 1 ∷ 1 ∷ 0 ∷ 1 ∷ levels (31 ∷ [])), 0, 2, 0)
@@ -190,9 +192,9 @@ pub high_is : lines (ADD "TABLE stage (site, level) ROWS 3"
     ∷ DO 0 (9 ∷ 130 ∷ [])
     ∷ ASK 0 (120 ∷ [])
     ∷ [])
-    ≡ plain (added a_table 0)
-    ∷ plain (added an_update 0)
-    ∷ plain (added a_query 0)
+    ≡ plain (added table_kind 0)
+    ∷ plain (added update_kind 0)
+    ∷ plain (added query_kind 0)
     ∷ plain (rows 1)
     ∷ (answered (0 ∷ 0 ∷ 0 ∷ 8 ∷ 1 ∷ 1 ∷ 0 ∷ 1 ∷ levels (7 ∷ [])), 0, 1, 0)
     ∷ plain (rows 1)

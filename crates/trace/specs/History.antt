@@ -4,7 +4,8 @@ use Rattle.std.specs.Prelude.{◌≡◌, ◌≢◌, ◌⊎◌, Bool, true, false
 use mathlib.Core.HLevel.{Discrete}
 use Rattle.lists.specs.Lists.{All, Distinct, any}
 use Rattle.meaning.specs.Key.{Key}
-use Rattle.meaning.specs.Plain.{Lengths, Plain, Call, add, ask, change, flush, record_of, drops_key, refusal, step}
+use Rattle.meaning.specs.Plain.{Lengths, Plain, record_of, drops_key, refusal, step}
+use Rattle.meaning.specs.Call.{Call, add, ask, change, flush}
 
 -- a key answered, with its record; an update or a flush, with the keys that it matches
 pub data Event (K : Type 0) : Type 0 where
@@ -12,28 +13,28 @@ pub data Event (K : Type 0) : Type 0 where
   drop_of : (K → Bool) → Event K
 
 -- "A key is answered when it is asked and not refused. .. Its record is the plain store's at that call."
-abbrev pub noted : Plain → Call → List (Event Key) → List (Event Key)
+abbrev pub noted : Plain → Call ℕ → List (Event Key) → List (Event Key)
 noted p (add text) h = h
 noted p (ask k buffer) h = answer_of k (record_of p k) ∷ h
 noted p (change n us) h = drop_of (drops_key p n us) ∷ h
 noted p flush h = drop_of (λ k. true) ∷ h
 
 -- a refused call is no event
-abbrev pub note : ℕ → Plain → Call → List (Event Key) → List (Event Key)
+abbrev pub note : ℕ → Plain → Call ℕ → List (Event Key) → List (Event Key)
 note zero p c h = noted p c h
 note (suc n) p c h = h
 
 -- the history of a list of calls, put before h
-abbrev pub history_on : Lengths → Plain → List (Event Key) → List Call → List (Event Key)
+abbrev pub history_on : Lengths → Plain → List (Event Key) → List (Call ℕ) → List (Event Key)
 history_on lent p h [] = h
 history_on lent p h (c ∷ cs) = history_on lent (step lent p c).0 (note (refusal lent p c) p c h) cs
 
-abbrev pub history : Lengths → Plain → List Call → List (Event Key)
+abbrev pub history : Lengths → Plain → List (Call ℕ) → List (Event Key)
 history lent p cs = history_on lent p [] cs
 
 -- ".. and fits if no longer than a slot's bytes"
-abbrev pub fits : ℕ → List ℕ → Bool
-fits size r = leb (length r) size
+abbrev pub fits_slot : ℕ → List ℕ → Bool
+fits_slot size r = leb (length r) size
 
 module _ {K : Type 0} where
   -- the key was answered
@@ -54,7 +55,7 @@ module _ {K : Type 0} where
   -- the key was answered with a record that fits; at least n different others were
   abbrev pub Fitted : ℕ → K → List (Event K) → Type 0
   Fitted size k [] = ⊥
-  Fitted size k (answer_of j r ∷ h) = ((j ≡ k) × (fits size r ≡ true)) ⊎ Fitted size k h
+  Fitted size k (answer_of j r ∷ h) = ((j ≡ k) × (fits_slot size r ≡ true)) ⊎ Fitted size k h
   Fitted size k (drop_of d ∷ h) = Fitted size k h
 
   abbrev pub Filled : ℕ → ℕ → K → List (Event K) → Type 0
@@ -75,6 +76,6 @@ module _ {K : Type 0} (same : Discrete K) where
   -- flush came since its last answer, or at least as many different others as there are slots were answered since": n slots of `size` bytes; k's record is r
   pub data Ground (n size : ℕ) (r : List ℕ) (k : K) (h : List (Event K)) : Type 0 where
     never : ¬ Answered k h → Ground n size r k h
-    unfit : fits size r ≡ false → Ground n size r k h
+    too_large : fits_slot size r ≡ false → Ground n size r k h
     dropped : any (hits k) (since k h) ≡ true → Ground n size r k h
     crowded : Crowded n k (since k h) → Ground n size r k h

@@ -1,6 +1,3 @@
 pub mod History
-pub mod Recent
-pub mod Slots
-pub mod Model
-pub mod Demand
 pub mod Examples
+pub mod Private

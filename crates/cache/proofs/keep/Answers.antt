@@ -5,8 +5,8 @@ use Prim.Native.Nat.{ℕ, ◌*◌}
 use Rattle.lists.specs.Lists.{written}
 use lib.ListN.{take}
 use lib.Seq.{length-take-le}
-use Rattle.cache.proofs.AskReturns.{keep-long, keep-none, keep-done, last-room}
-use Rattle.cache.proofs.Copies.{copied-at}
+use Rattle.cache.proofs.Returns.Asking.{keep-long, keep-none, keep-done, last-room}
+use Rattle.cache.proofs.Returns.Copies.{copied-at}
 use Rattle.cache.proofs.keep.Goals as goal
 
 pub returns-then-most-size : goal.returns-then-most-size

@@ -1,7 +1,7 @@
 -- `respond_flush` meets its contract: refused or flushed. Assumes nothing.
 use mathlib.Core.Path.{refl, sym, ap, ◌∙◌}
 use Rattle.cache.specs.Given.{flushed_as}
-use Rattle.cache.specs.Run.{flush}
+use Rattle.meaning.specs.Call.{flush}
 use Rattle.table.proofs.Recording.{numbered}
 use Rattle.console.proofs.Calling.{call-refused, call-done, flush-is}
 use Rattle.console.proofs.respond_flush.Goals as goal
@@ -11,8 +11,8 @@ pub returns : goal.returns
 returns c = elim c.match-outcome.branch [
   | in-Ok w ↦
       let e = sym (ap (λ r. flushed_as r c.flush-outcome.result.state) w.in-Ok.is) ∙ c.flush-outcome.ensures in
-      call-done _ _ _ _ _ flush _ (flush-is _ _ _ _ e) _ _ refl (w.length-is ∙ w.write_flushed-length.ensures.result, w.out-is ∙ w.write_flushed-length.ensures.text)
+      call-done _ _ _ _ _ flush _ (flush-is _ _ _ _ e) _ _ refl (w.size-is ∙ w.write_flushed-size.ensures.result, w.out-is ∙ w.write_flushed-size.ensures.text)
   | in-Err w ↦
       let e = sym (ap (λ r. flushed_as r c.flush-outcome.result.state) w.in-Err.is) ∙ c.flush-outcome.ensures in
-      call-refused _ _ _ _ _ flush _ (flush-is _ _ _ _ e) _ _ (numbered w.in-Err.refusal) (w.length-is ∙ w.write_refused-length.ensures.result, w.out-is ∙ w.write_refused-length.ensures.text)
+      call-refused _ _ _ _ _ flush _ (flush-is _ _ _ _ e) _ _ (numbered w.in-Err.refusal) (w.size-is ∙ w.write_refused-size.ensures.result, w.out-is ∙ w.write_refused-size.ensures.text)
 ]

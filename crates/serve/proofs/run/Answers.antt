@@ -1,7 +1,7 @@
 use Rattle.std.proofs.Common.{List, ℕ}
 use Rattle.std.specs.Io.KnownBytes.{Consumes}
 use Rattle.std.proofs.lemmas.Result.{on_ok_weaker}
-use Rattle.serve.specs.Turns.{Runs}
+use Rattle.serve.specs.Private.Turns.{Runs}
 use Rattle.serve.proofs.Turning.{serves-lines}
 use Rattle.serve.proofs.run.Goals as goal
 

@@ -2,7 +2,7 @@ use Rattle.std.proofs.Common.{map, ◌∙◌, rules, tests}
 use Rattle.std.proofs.lemmas.Iterator.{YieldsList-from_slice}
 use Rattle.std.proofs.lemmas.Iterator.Search.{all_from_yields_List}
 use Rattle.lists.proofs.Chains.{all-is}
-use Rattle.soundness.specs.Parts.{width_of, query_at}
+use Rattle.soundness.specs.Private.Parts.{width_of, query_at}
 use Rattle.soundness.proofs.Widths.{queries-beside}
 use Rattle.soundness.proofs.queries_are_sound.Goals as goal
 

@@ -1,4 +1,4 @@
-use Rattle.soundness.specs.Parts.{single}
+use Rattle.soundness.specs.Private.Parts.{single}
 use Rattle.soundness.proofs.Tables.{table_number}
 use Rattle.soundness.proofs.tables_are_sound.Given as goal
 

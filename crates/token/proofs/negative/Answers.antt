@@ -2,7 +2,7 @@
 use Rattle.std.proofs.Common.{ap, sym, ◌∙◌, cond, true}
 use Rattle.meaning.specs.Tokens.{constant, other, decimal}
 use Rattle.token.specs.Tokens.{kind_of}
-use Rattle.token.specs.Parts.{signed}
+use Rattle.token.specs.Private.Parts.{signed}
 use Rattle.token.proofs.Numbers.{constant-cap}
 use Rattle.token.proofs.Words.{negative-is}
 use Rattle.token.proofs.negative.Goals as goal

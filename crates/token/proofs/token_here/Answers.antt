@@ -3,7 +3,7 @@ use Rattle.std.proofs.Common.{◌≡◌, ap, sym, ◌∙◌, ◌-◌, length, ge
 use borrow.Author.Tests.{ne_eqb}
 use Rattle.std.proofs.lemmas.Grind.{common_steps}
 use Rattle.token.specs.Tokens.{made}
-use Rattle.token.specs.Parts.{sign_of}
+use Rattle.token.specs.Private.Parts.{sign_of}
 use Rattle.token.proofs.Runs.{drop_here}
 use Rattle.token.proofs.Cases.{word-bytes, word-reads, minus-reads, sign-reads}
 use Rattle.token.proofs.token_here.Goals as goal

@@ -1,5 +1,5 @@
 -- Assumes nothing.
-use Prim.Native.Nat.{◌*◌, ◌≤◌, ◌<◌}
+use Prim.Native.Nat.{◌*◌, ◌≤◌, ◌<◌, ℕ}
 use mir.Syntax.{w64}
 use mir.Val.{Fits}
 use mathlib.Core.Path.{◌≡◌, sym, ◌∙◌}
@@ -11,13 +11,12 @@ use Rattle.statement.specs.Compiled.{no_query}
 use Rattle.statement.specs.Terms.{second_said}
 use Rattle.table.specs.Evaluated.{said}
 use Rattle.cache.specs.Sound.{query_at}
-use Rattle.cache.proofs.Sounds.{Sound, sound-is}
-use Rattle.cache.proofs.Inside.{query-there, query-table, second-there, second-none, second-some}
-use Rattle.cache.proofs.Working.{rows-512, paired_same, one-works, two-works}
+use Rattle.cache.specs.SoundTest.{sound_state}
+use Rattle.cache.proofs.Invariant.Sound.{Sound, sound-is}
+use Rattle.cache.proofs.Returns.Inside.{query-there, query-table, second-there, second-none, second-some}
+use Rattle.cache.proofs.Returns.WorkedOut.{rows-512, paired_same, one-works, two-works}
 use Rattle.cache.specs.declared.State.{State}
-use Rattle.cache.specs.Sound.{sound_state}
 use mathlib.Core.Bool.{true}
-use Prim.Native.Nat.{ℕ}
 use Rattle.cache.proofs.Question.put_record.Goals as goal
 
 -- what is known of a question that is there

@@ -2,7 +2,7 @@
 use mathlib.Core.Path.{refl, sym, ◌∙◌}
 use Rattle.slots.specs.Keys.{held_twice}
 use borrow.Author.Tests.{not-true, not-false}
-use Rattle.cache.proofs.Tested.{answers-tested, answers-past}
+use Rattle.cache.proofs.Returns.Tested.{answers-tested, answers-past}
 use Rattle.cache.proofs.State.answers_are_sound.Goals as goal
 
 pub returns-then-not-is_sound : goal.returns-then-not-is_sound

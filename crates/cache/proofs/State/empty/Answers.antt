@@ -1,7 +1,7 @@
 -- `State::empty` meets its contract. Assumes nothing.
 use Rattle.statement.proofs.Empty.{table-empty, query-empty, update-empty}
-use Rattle.cache.specs.Calls.{empty_state}
-use Rattle.cache.proofs.Opening.{key-empty}
+use Rattle.cache.specs.Gives.{empty_state}
+use Rattle.cache.proofs.Returns.Opening.{key-empty}
 use Rattle.cache.proofs.State.empty.Goals as goal
 
 pub returns : goal.returns

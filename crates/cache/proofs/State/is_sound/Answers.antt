@@ -3,22 +3,22 @@ use mathlib.Core.Path.{sym, ap₂, ◌∙◌}
 use mathlib.Core.Bool.{◌&&◌, not}
 use Prim.Native.Nat.{ℕ}
 use Rattle.meaning.specs.Plain.{opening_refused}
-use Rattle.cache.specs.Sound.{opening}
+use Rattle.cache.specs.Sound.{lengths, opening}
 use borrow.Author.Tests.{not-true, not-false}
-use Rattle.cache.proofs.Tested.{sound-fails, sound-rest}
+use Rattle.cache.proofs.Returns.Tested.{sound-fails, sound-rest}
 use Rattle.cache.proofs.State.is_sound.Goals as goal
 
 pub returns-then-not-sizes-counts : goal.returns-then-not-sizes-counts
-returns-then-not-sizes-counts c = sound-fails c.args.self.now _ _ (c.sizes_fit-sizes.ensures ∙ ap₂ (λ (n m : ℕ). not (opening_refused (opening c.args.self.now.cells c.args.self.now.memory n m))) c.from-count.ensures c.from-bytes.ensures) c.counts_fit-counts.ensures (not-true _ c.if-not-sizes-counts.true-raw)
+returns-then-not-sizes-counts c = sound-fails c.args.self.now _ _ (c.sizes_fit-sizes.ensures ∙ ap₂ (λ (n m : ℕ). not (opening_refused (opening (lengths c.args.self.now.cells c.args.self.now.memory) n m))) c.from-count.ensures c.from-bytes.ensures) c.counts_fit-counts.ensures (not-true _ c.if-not-sizes-counts.true-raw)
 
 pub returns-then-texts_are_sound : goal.returns-then-texts_are_sound
 returns-then-texts_are_sound c =
     let s = c.args.self.now in
-    let rest = sound-rest s _ _ (c.sizes_fit-sizes.ensures ∙ ap₂ (λ (n m : ℕ). not (opening_refused (opening c.args.self.now.cells c.args.self.now.memory n m))) c.from-count.ensures c.from-bytes.ensures) c.counts_fit-counts.ensures (not-false _ c.if-not-sizes-counts.false-raw) in
+    let rest = sound-rest s _ _ (c.sizes_fit-sizes.ensures ∙ ap₂ (λ (n m : ℕ). not (opening_refused (opening (lengths c.args.self.now.cells c.args.self.now.memory) n m))) c.from-count.ensures c.from-bytes.ensures) c.counts_fit-counts.ensures (not-false _ c.if-not-sizes-counts.false-raw) in
     ap₂ ◌&&◌ (sym c.if-texts_are_sound.true ∙ c.texts_are_sound.ensures) c.answers_are_sound.ensures ∙ rest
 
 pub returns-else-texts_are_sound : goal.returns-else-texts_are_sound
 returns-else-texts_are_sound c =
     let s = c.args.self.now in
-    let rest = sound-rest s _ _ (c.sizes_fit-sizes.ensures ∙ ap₂ (λ (n m : ℕ). not (opening_refused (opening c.args.self.now.cells c.args.self.now.memory n m))) c.from-count.ensures c.from-bytes.ensures) c.counts_fit-counts.ensures (not-false _ c.if-not-sizes-counts.false-raw) in
+    let rest = sound-rest s _ _ (c.sizes_fit-sizes.ensures ∙ ap₂ (λ (n m : ℕ). not (opening_refused (opening (lengths c.args.self.now.cells c.args.self.now.memory) n m))) c.from-count.ensures c.from-bytes.ensures) c.counts_fit-counts.ensures (not-false _ c.if-not-sizes-counts.false-raw) in
     c.if-texts_are_sound.false ∙ (rw (sym c.texts_are_sound.ensures ∙ c.if-texts_are_sound.false) at rest)

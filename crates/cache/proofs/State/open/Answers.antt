@@ -1,7 +1,7 @@
 -- `State::open` meets its contract. Assumes nothing.
 use native.Mathlib.Omega.{arith}
 use borrow.Author.Tests.{not-true, not-false}
-use Rattle.cache.proofs.Opening.{open-fits, open-refused, open_done}
+use Rattle.cache.proofs.Returns.Opening.{open-fits, open-refused, open_done}
 use Rattle.cache.proofs.State.open.Goals as goal
 
 pub returns-then-not-sizes_fit : goal.returns-then-not-sizes_fit
@@ -9,8 +9,8 @@ returns-then-not-sizes_fit c =
     let a = c.args in
     open-refused a.cells.now a.memory.now a.slots a.slot_bytes _ c.sizes_fit.ensures (not-true _ c.if-not-sizes_fit.true-raw) _ c.empty-state.ensures
 
-pub overflow_cast-length : goal.overflow_cast-length
-overflow_cast-length c = let W = open-fits c.args.cells.now c.args.memory.now c.args.slots c.args.slot_bytes _ c.sizes_fit.ensures (not-false _ c.if-not-sizes_fit.false-raw) in record { fits = omega (arith, W.few_cells) }
+pub overflow_cast-count : goal.overflow_cast-count
+overflow_cast-count c = let W = open-fits c.args.cells.now c.args.memory.now c.args.slots c.args.slot_bytes _ c.sizes_fit.ensures (not-false _ c.if-not-sizes_fit.false-raw) in record { fits = omega (arith, W.few_cells) }
 
 pub overflow_cast-size : goal.overflow_cast-size
 overflow_cast-size c = let W = open-fits c.args.cells.now c.args.memory.now c.args.slots c.args.slot_bytes _ c.sizes_fit.ensures (not-false _ c.if-not-sizes_fit.false-raw) in record { fits = omega (arith, W.few_memory) }

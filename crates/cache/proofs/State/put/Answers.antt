@@ -3,8 +3,8 @@ use mathlib.Core.Path.{sym, ap}
 use Rattle.std.specs.Prelude.{Ok}
 use Rattle.statement.specs.declared.Statement.{Statement}
 use Rattle.statement.specs.Compiled.{compiled}
-use Rattle.cache.specs.Calls.{added_table, added_query, added_update}
-use Rattle.cache.proofs.Placing.{added-by}
+use Rattle.cache.specs.Gives.{added_table, added_query, added_update}
+use Rattle.cache.proofs.Returns.Adding.{added-by}
 use Rattle.cache.proofs.State.put.Goals as goal
 
 pub returns-in-Table : goal.returns-in-Table

@@ -4,9 +4,9 @@ use Prim.Native.Nat.{ℕ}
 use lib.ListN.{take}
 use Rattle.table.specs.declared.changes.Changed.{Changed}
 use Rattle.cache.specs.Sound.{areas_of}
-use Rattle.cache.proofs.Given.{is-refused, is-taken}
+use Rattle.cache.proofs.Returns.Results.{is-refused, is-taken}
 use Rattle.cache.proofs.Settled.{settled-refused}
-use Rattle.cache.proofs.UpdateReturns.{effect-done, cells-done}
+use Rattle.cache.proofs.Returns.Updating.{effect-done, cells-done}
 use Rattle.cache.proofs.State.take_effect.Goals as goal
 
 pub returns-then-is_err : goal.returns-then-is_err

@@ -2,7 +2,7 @@
 use Rattle.std.proofs.Common.{◌≡◌, refl, true, length, take, leb, arith}
 use borrow.Author.Tests.{le-leb}
 use lib.ListN.{length-take}
-use Rattle.cache.specs.Sound.{sound_tables}
+use Rattle.cache.specs.SoundTest.{sound_tables}
 use Rattle.soundness.specs.Soundness.{tables_sound, queries_sound, updates_sound}
 use Rattle.cache.proofs.State.texts_are_sound.Goals as goal
 

@@ -1,9 +1,9 @@
 use Rattle.std.proofs.Common.{false, ap, ap₂, ◌∙◌, List, Bool, replicate}
 use Rattle.statement.specs.declared.Update.{Update}
-use Rattle.slots.specs.Order.{held_slots}
+use Rattle.slots.specs.Keys.{held_slots}
 use Rattle.cache.specs.declared.matching.Marks.{Marks}
-use Rattle.cache.specs.Marks.{marked, marks_of, reached_at}
-use Rattle.cache.proofs.Marking.{none-goal, both-goal, own-goal}
+use Rattle.cache.specs.Private.Marks.{marked, marks_of, reached_at}
+use Rattle.cache.proofs.Returns.MarkingLoops.{none-goal, both-goal, own-goal}
 use Rattle.cache.proofs.matching.dropped_by.Goals.{then-is_pushing, else-is_pushing}
 use Rattle.cache.proofs.matching.dropped_by.Goals as goal
 

@@ -4,9 +4,11 @@ use Rattle.std.proofs.lemmas.Iterator.{YieldsList-from_slice}
 use Rattle.std.proofs.lemmas.Iterator.Search.{all_from_yields_List}
 use Rattle.lists.specs.Lists.{all}
 use Rattle.slots.specs.Keys.{slot_key}
-use Rattle.cache.specs.Sound.{length_fits, length_at, key_fits}
+use Rattle.cache.specs.Sound.{length_at}
+use Rattle.cache.specs.SoundTest.{length_fits}
+use Rattle.cache.specs.Private.Outcomes.{key_fits}
 use Rattle.lists.proofs.Chains.{all-is}
-use Rattle.cache.proofs.Tested.{all-fit}
+use Rattle.cache.proofs.Returns.Tested.{all-fit}
 use Rattle.cache.proofs.sound.held_fit.Goals as goal
 
 pub returns : goal.returns

@@ -2,7 +2,7 @@
 use Rattle.std.proofs.Common.{◌∙◌, rules, tests}
 use Rattle.std.proofs.lemmas.Iterator.{YieldsList-from_slice}
 use Rattle.std.proofs.lemmas.Iterator.Search.{all_from_yields_List}
-use Rattle.cache.specs.Sound.{rows_fit}
+use Rattle.cache.specs.SoundTest.{rows_fit}
 use Rattle.lists.proofs.Chains.{all-is}
 use Rattle.cache.proofs.sound.rows_fit.Goals as goal
 

@@ -1,6 +1,6 @@
 -- `sizes_fit` meets its contract: the product is worked out where both sizes are within the limits. Assumes nothing.
 use mathlib.Core.Path.{◌∙◌}
-use Rattle.cache.proofs.Tested.{sizes-tested, sizes-past}
+use Rattle.cache.proofs.Returns.Tested.{sizes-tested, sizes-past}
 use Rattle.cache.proofs.sound.sizes_fit.Goals as goal
 
 pub returns-then-within : goal.returns-then-within

@@ -5,8 +5,8 @@ use mir.Syntax.{w32}
 use mir.Val.{to_z, of_z}
 use lib.ListN.{length-append, drop_of_length-le}
 use Rattle.console.specs.Lines.{words}
-use Rattle.console.specs.Parts.{value_at, values_at}
-use Rattle.console.specs.Pieces.{Puts}
+use Rattle.console.specs.Private.Parts.{value_at, values_at}
+use Rattle.console.specs.Private.Pieces.{Puts}
 use Rattle.console.proofs.Puttings.{puts-as, left-more, left_end}
 use Rattle.console.proofs.Words.{other_turn, other_end}
 use Rattle.console.proofs.Commands.{word_here}

@@ -1,6 +1,6 @@
 use Rattle.std.proofs.Common.{length, drop}
 use Rattle.console.specs.Lines.{words}
-use Rattle.console.specs.Parts.{values_at}
+use Rattle.console.specs.Private.Parts.{values_at}
 use Rattle.console.proofs.Puttings.{Left}
 use Rattle.console.proofs.lines.put_values.Given as goal
 

@@ -1,6 +1,6 @@
 use Rattle.std.proofs.Common.{◌∷◌, ◌++◌, ap₂, ◌∙◌, rules}
 use Rattle.cache.specs.Given.{kind_number}
-use Rattle.console.specs.Pieces.{Puts}
+use Rattle.console.specs.Private.Pieces.{Puts}
 use Rattle.console.specs.Printed.{decimal_text, line, added_text}
 use Rattle.console.proofs.Puttings.{puts-as, puts-both}
 use Rattle.console.proofs.Shown.{added-is}

@@ -1,6 +1,6 @@
 use Rattle.std.proofs.Common.{ℕ, ap, rules}
 use Rattle.cache.specs.Given.{source_number}
-use Rattle.console.specs.Pieces.{Puts}
+use Rattle.console.specs.Private.Pieces.{Puts}
 use Rattle.console.specs.Printed.{item, answer_text}
 use Rattle.console.proofs.Puttings.{puts-as, puts-both}
 use Rattle.console.proofs.text.write_answer.Goals as goal

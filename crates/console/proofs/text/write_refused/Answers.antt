@@ -1,6 +1,6 @@
 use Rattle.std.proofs.Common.{ℕ, ap, ◌∙◌, rules}
 use Rattle.statement.specs.Refusals.{number_of}
-use Rattle.console.specs.Pieces.{Puts}
+use Rattle.console.specs.Private.Pieces.{Puts}
 use Rattle.console.specs.Printed.{item, refused_text}
 use Rattle.console.proofs.Puttings.{puts-as, puts-both}
 use Rattle.console.proofs.text.write_refused.Goals as goal

@@ -1,5 +1,5 @@
 use Rattle.std.proofs.Common.{ℕ, ap, rules}
-use Rattle.console.specs.Pieces.{Puts}
+use Rattle.console.specs.Private.Pieces.{Puts}
 use Rattle.console.specs.Printed.{item, updated_text}
 use Rattle.console.proofs.Puttings.{puts-as, puts-both}
 use Rattle.console.proofs.text.write_updated.Goals as goal

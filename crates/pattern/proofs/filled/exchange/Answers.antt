@@ -1,5 +1,5 @@
 use Rattle.std.proofs.Common.{◌≡◌, length, arith, rules}
-use Rattle.pattern.specs.Literals.{exchanged_step}
+use Rattle.pattern.specs.Private.Literals.{exchanged_step}
 use Rattle.pattern.proofs.Mapped.{mapped-more}
 use Rattle.pattern.proofs.filled.exchange.Goals as goal
 

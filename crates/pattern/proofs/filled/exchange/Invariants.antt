@@ -1,5 +1,5 @@
 use Rattle.std.proofs.Common.{◌≡◌}
-use Rattle.pattern.specs.Literals.{exchanged_step}
+use Rattle.pattern.specs.Private.Literals.{exchanged_step}
 use Rattle.pattern.proofs.Mapped.{mapped}
 use Rattle.pattern.proofs.filled.exchange.Given as goal
 

@@ -1,6 +1,6 @@
 use Rattle.std.proofs.Common.{◌≡◌, refl, rules, ap, subst, length, ◌∙◌}
 use Rattle.statement.specs.declared.Condition.{Condition}
-use Rattle.pattern.specs.Masks.{Masked}
+use Rattle.pattern.specs.Private.Masks.{Masked}
 use Rattle.pattern.specs.Stored.{is_formed}
 use Rattle.pattern.proofs.FilledCodes.{exchanged-formed, not_none, not_some}
 use Rattle.pattern.proofs.filled.not_masks.Goals as goal

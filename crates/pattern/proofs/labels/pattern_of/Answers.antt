@@ -1,7 +1,7 @@
 use Rattle.std.proofs.Common.{◌≡◌, ◌+◌, ◌-◌, take, drop, length, ℕ, sym, ap, ◌∙◌, arith, rules}
 use Rattle.lists.proofs.Lists.{All-take, All-drop}
 use lib.ListN.{length-take}
-use Rattle.pattern.specs.Flat.{failing, entries_of}
+use Rattle.pattern.specs.Private.Flat.{failing, entries_of}
 use Rattle.lists.specs.Lists.{any}
 use Rattle.pattern.proofs.Labelling.{pattern-clash, pattern-fails, pattern-there, cut-clause}
 use Rattle.pattern.proofs.labels.pattern_of.Goals as goal

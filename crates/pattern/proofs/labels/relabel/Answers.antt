@@ -1,5 +1,5 @@
 use Rattle.std.proofs.Common.{◌≡◌, length, arith, rules}
-use Rattle.pattern.specs.Least.{rename_code}
+use Rattle.pattern.specs.Private.Least.{rename_code}
 use Rattle.pattern.proofs.Mapped.{mapped-more}
 use Rattle.pattern.proofs.labels.relabel.Goals as goal
 

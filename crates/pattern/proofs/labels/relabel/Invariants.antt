@@ -1,5 +1,5 @@
 use Rattle.std.proofs.Common.{◌≡◌}
-use Rattle.pattern.specs.Least.{rename_code}
+use Rattle.pattern.specs.Private.Least.{rename_code}
 use Rattle.pattern.proofs.Mapped.{mapped}
 use Rattle.pattern.proofs.labels.relabel.Given as goal
 

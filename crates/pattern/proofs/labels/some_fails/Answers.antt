@@ -1,5 +1,5 @@
 use Rattle.std.proofs.Common.{◌≡◌, ◌+◌, ◌<◌, true, false, length, get_or, ℕ, refl, sym, ap, ◌∙◌, arith, rules, List, Bool}
-use Rattle.pattern.specs.Flat.{failing, clause_at, comparison_at}
+use Rattle.pattern.specs.Private.Flat.{failing, clause_at, comparison_at}
 use Rattle.pattern.proofs.Labelling.{clause-length, clause-at}
 use Rattle.pattern.proofs.Searching.{Seeking, seek-more, seek-done}
 use Rattle.pattern.proofs.labels.some_fails.Goals as goal

@@ -1,5 +1,5 @@
 use Rattle.std.proofs.Common.{false, length}
-use Rattle.pattern.specs.Flat.{failing, clause_at}
+use Rattle.pattern.specs.Private.Flat.{failing, clause_at}
 use Rattle.pattern.proofs.Searching.{Seeking}
 use Rattle.pattern.proofs.labels.some_fails.Given as goal
 

@@ -3,7 +3,7 @@ use Rattle.std.proofs.lemmas.Iterator.{YieldsList-from_slice}
 use Rattle.std.proofs.lemmas.Iterator.Search.{any_from_yields_List}
 use Rattle.lists.specs.Lists.{any}
 use Rattle.pattern.specs.declared.Pattern.{Pattern}
-use Rattle.pattern.specs.Stored.{same_struct, with_pattern}
+use Rattle.pattern.specs.Private.Flat.{same_struct, with_pattern}
 use Rattle.lists.proofs.Chains.{any-is}
 use Rattle.pattern.proofs.listing.add.Goals as goal
 

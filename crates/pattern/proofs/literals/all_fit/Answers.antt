@@ -4,7 +4,7 @@ use Rattle.std.proofs.lemmas.Iterator.Search.{all_from_yields_List}
 use Rattle.lists.proofs.Chains.{all-is}
 use Rattle.statement.proofs.Stored.{all_map}
 use Rattle.pattern.specs.declared.labels.Compared.{Compared}
-use Rattle.pattern.specs.Deciding.{literal, fits_code}
+use Rattle.pattern.specs.Private.Deciding.{literal, fits_code}
 use Rattle.pattern.proofs.literals.all_fit.Goals as goal
 
 pub returns : goal.returns

@@ -1,7 +1,7 @@
 use Rattle.std.proofs.Common.{◌≡◌, ◌+◌, ◌≤◌, ◌<◌, drop, length, get_or, ℕ, sym, ap, ◌∙◌, arith, rules, List, ◌∷◌}
 use borrow.Author.Tests.{eqb-true, eqb-false}
 use lib.ListN.{drop_of_length-le, length-take}
-use Rattle.pattern.specs.Masks.{balanced}
+use Rattle.pattern.specs.Private.Masks.{balanced}
 use Rattle.statement.specs.Sound.{used_steps}
 use Rattle.statement.specs.declared.Condition.{Condition}
 use Rattle.pattern.proofs.Formed.{join-fails, balanced-end, formed-many, formed-none, formed-some}

@@ -1,6 +1,6 @@
 use Rattle.std.proofs.Common.{◌≡◌, ◌≤◌, drop}
 use Rattle.statement.specs.Sound.{used_steps}
-use Rattle.pattern.specs.Masks.{balanced}
+use Rattle.pattern.specs.Private.Masks.{balanced}
 use Rattle.pattern.proofs.masks.is_formed.Given as goal
 
 abbrev pub invariant-loop-step : goal.invariant-loop-step

@@ -1,7 +1,7 @@
 use Rattle.std.proofs.Common.{rules, ◌∙◌, tests}
 use Rattle.std.proofs.lemmas.Iterator.{YieldsList-from_slice}
 use Rattle.std.proofs.lemmas.Iterator.Search.{any_from_yields_List}
-use Rattle.pattern.specs.Relevance.{is_among}
+use Rattle.pattern.specs.Private.Relevance.{is_among}
 use Rattle.lists.proofs.Chains.{any-is}
 use Rattle.pattern.proofs.relevance.selects.Goals as goal
 

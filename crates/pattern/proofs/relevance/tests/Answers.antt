@@ -3,7 +3,7 @@ use Rattle.std.proofs.lemmas.Iterator.{YieldsList-from_slice}
 use Rattle.std.proofs.lemmas.Iterator.Search.{any_from_yields_List}
 use Rattle.statement.specs.Sound.{comparison_read}
 use Rattle.statement.specs.declared.Comparison.{Comparison}
-use Rattle.pattern.specs.Relevance.{tests_any}
+use Rattle.pattern.specs.Private.Relevance.{tests_any}
 use Rattle.lists.proofs.Chains.{any-is}
 use Rattle.lists.proofs.Lists.{any-map}
 use Rattle.pattern.proofs.relevance.tests.Goals as goal

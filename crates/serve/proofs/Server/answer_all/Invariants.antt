@@ -1,7 +1,7 @@
 -- `serve::Server::answer_all`: the session is that after the bytes read so far. Assumes nothing.
 use Rattle.std.proofs.Common.{List, ℕ}
 use Rattle.std.specs.Io.KnownBytes.{Consumes}
-use Rattle.serve.specs.Turns.{Feeds}
+use Rattle.serve.specs.Private.Turns.{Feeds}
 use Rattle.serve.proofs.Server.answer_all.Given as goal
 
 abbrev pub invariant-loop : goal.invariant-loop

@@ -1,5 +1,5 @@
 use Rattle.std.proofs.Common.{rules, arith, ◌≡◌, ◌≤◌, length, take, ap, ◌∙◌}
-use Rattle.serve.specs.Input.{Session, answering, behind}
+use Rattle.serve.specs.Input.{Session, answering, next_session}
 use Rattle.serve.proofs.Turning.{reply-inside, reply-session, reply-text}
 use Rattle.serve.proofs.Server.answer_held.Goals as goal
 
@@ -7,7 +7,7 @@ pub returns-clause-session : goal.returns-clause-session
 returns-clause-session c =
     let i = c.self.inside in
     reply-session c.respond-reply.result _ _ _ _ i.state i.cells i.memory i.answer (take i.held i.line) c.args.out.now c.respond-reply.ensures
-    ∙ ap (λ (s : Session). behind (answering s)) c.self.view_is
+    ∙ ap (λ (s : Session). next_session (answering s)) c.self.view_is
 
 pub returns-clause-text : goal.returns-clause-text
 returns-clause-text c =
@@ -22,6 +22,6 @@ pub returns-clause-within : goal.returns-clause-within
 returns-clause-within c =
     let i = c.self.inside in
     let h : length c.args.out.now ≡ 262144 = search rules in
-    let k : c.respond-reply.result.length ≤ length c.args.out.now =
+    let k : c.respond-reply.result.size ≤ length c.args.out.now =
     reply-inside c.respond-reply.result _ _ _ _ i.state i.cells i.memory i.answer (take i.held i.line) c.args.out.now c.respond-reply.ensures in
     omega arith

@@ -1,6 +1,6 @@
 -- `serve::Server::answer_piece`: the session is that after the bytes used up so far, and the measure is what is left of the piece. Assumes nothing.
 use Rattle.std.proofs.Common.{◌≡◌, ◌++◌, List, ℕ, length}
-use Rattle.serve.specs.Turns.{Feeds}
+use Rattle.serve.specs.Private.Turns.{Feeds}
 use Rattle.serve.proofs.Server.answer_piece.Given as goal
 
 abbrev pub invariant-loop-rest : goal.invariant-loop-rest

@@ -4,7 +4,8 @@ use Prim.Native.Nat.{◌<◌, ◌≤◌}
 use borrow.Author.Rules.{rules}
 use mathlib.Core.Bool.{true, false}
 use lib.ListN.{length, get_or}
-use Rattle.slots.specs.Order.{held_slots, is_marked}
+use Rattle.slots.specs.Order.{is_marked}
+use Rattle.slots.specs.Keys.{held_slots}
 use Rattle.slots.proofs.Parts.{parting-leave, parting-stay, parted}
 use Rattle.slots.proofs.SlotList.drop.Goals as goal
 use Rattle.slots.proofs.SlotList.drop.Goals.{then-is_marked, else-is_marked}

@@ -1,5 +1,6 @@
 use mathlib.Core.Path.{◌≡◌}
-use Rattle.slots.specs.Order.{held_slots, is_marked}
+use Rattle.slots.specs.Order.{is_marked}
+use Rattle.slots.specs.Keys.{held_slots}
 use Rattle.slots.proofs.Parts.{Parting}
 use Rattle.slots.proofs.SlotList.drop.Given as goal
 

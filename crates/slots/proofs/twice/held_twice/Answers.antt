@@ -4,7 +4,7 @@ use native.Mathlib.Omega.{arith}
 use Prim.Native.Nat.{◌<◌, ◌≤◌, ◌%◌}
 use borrow.Author.Rules.{rules}
 use lib.ListN.{length, get_or, length-set, length-take}
-use Rattle.slots.specs.Keys.{slot_print}
+use Rattle.slots.specs.Private.Fingerprints.{slot_print}
 use Rattle.slots.proofs.Noted.{noted-start, noted-unmarked, noted-apart, noted-end}
 use Rattle.slots.proofs.Repeated.{compared, none_equal}
 use Rattle.slots.proofs.twice.held_twice.Goals as goal

@@ -1,6 +1,6 @@
 use mathlib.Core.Path.{◌≡◌}
 use lib.ListN.{length}
-use Rattle.slots.specs.Keys.{slot_print}
+use Rattle.slots.specs.Private.Fingerprints.{slot_print}
 use Rattle.slots.proofs.Noted.{Noted}
 use Rattle.slots.proofs.twice.held_twice.Given as goal
 

@@ -1,6 +1,6 @@
 use mathlib.Core.Path.{◌≡◌}
 use lib.ListN.{drop}
-use Rattle.slots.specs.Keys.{mixed_all}
+use Rattle.slots.specs.Private.Fingerprints.{mixed_all}
 use Rattle.slots.proofs.twice.print_of.Given as goal
 
 -- the values left are still to be mixed in

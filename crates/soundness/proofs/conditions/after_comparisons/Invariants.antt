@@ -1,5 +1,5 @@
 use Rattle.std.proofs.Common.{◌≡◌, drop}
-use Rattle.soundness.specs.Parts.{after_all}
+use Rattle.soundness.specs.Private.Parts.{after_all}
 use Rattle.soundness.proofs.conditions.after_comparisons.Given as goal
 
 abbrev pub invariant-loop-c : goal.invariant-loop-c

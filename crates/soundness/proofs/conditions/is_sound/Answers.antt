@@ -1,7 +1,7 @@
 use Rattle.std.proofs.Common.{◌≡◌, ◌≤◌, ℕ, Bool, true, length, sym, ◌∙◌, arith}
-use Rattle.statement.specs.Sound.{sound_condition_on}
+use Rattle.statement.specs.SoundTest.{sound_condition_on}
 use Rattle.statement.specs.declared.Condition.{Condition}
-use Rattle.soundness.specs.Parts.{Ordered}
+use Rattle.soundness.specs.Private.Parts.{Ordered}
 use Rattle.soundness.proofs.Comparisons.{condition-long, condition-short, condition-ordered}
 use Rattle.soundness.proofs.conditions.is_sound.Goals as goal
 

@@ -1,5 +1,5 @@
 use Rattle.std.proofs.Common.{◌≡◌, ◌*◌, ◌≤◌, true, length, drop, reverse}
-use Rattle.soundness.specs.Parts.{outer_on}
+use Rattle.soundness.specs.Private.Parts.{outer_on}
 use Rattle.soundness.proofs.conditions.marks_fit.Given as goal
 
 abbrev pub invariant-loop-s : goal.invariant-loop-s

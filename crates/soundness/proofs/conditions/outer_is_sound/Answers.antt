@@ -1,5 +1,5 @@
 use Rattle.std.proofs.Common.{ℕ, List, true, reverse, ap, ◌∙◌}
-use Rattle.soundness.specs.Parts.{outer_on}
+use Rattle.soundness.specs.Private.Parts.{outer_on}
 use Rattle.soundness.proofs.Outer.{outer_told}
 use Rattle.soundness.proofs.conditions.outer_is_sound.Goals as goal
 

@@ -1,5 +1,5 @@
 use Rattle.std.proofs.Common.{◌≡◌, ◌≤◌, drop}
-use Rattle.soundness.specs.Parts.{steps_on}
+use Rattle.soundness.specs.Private.Parts.{steps_on}
 use Rattle.soundness.proofs.conditions.steps_are_sound.Given as goal
 
 abbrev pub invariant-loop-s : goal.invariant-loop-s

@@ -1,5 +1,5 @@
 use Rattle.std.proofs.Common.{◌≡◌, ◌+◌, ◌≤◌, drop}
-use Rattle.soundness.specs.Parts.{settings_fit, setting_marks}
+use Rattle.soundness.specs.Private.Parts.{settings_fit, setting_marks}
 use Rattle.soundness.proofs.statements.after_settings.Given as goal
 
 abbrev pub invariant-loop-i : goal.invariant-loop-i

@@ -5,7 +5,7 @@ use Rattle.std.proofs.lemmas.Iterator.Search.{any_from_yields_List}
 use Rattle.lists.specs.Lists.{any}
 use Rattle.lists.proofs.Chains.{eqb-turned, repeats-is}
 use Rattle.statement.specs.declared.Setting.{Setting}
-use Rattle.soundness.specs.Parts.{same_column}
+use Rattle.soundness.specs.Private.Parts.{same_column}
 use Rattle.soundness.proofs.statements.are_distinct.Goals as goal
 
 pub returns : goal.returns

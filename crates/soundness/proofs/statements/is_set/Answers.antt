@@ -2,7 +2,7 @@ use Rattle.std.proofs.Common.{◌∙◌, rules, tests}
 use Rattle.std.proofs.lemmas.Iterator.{YieldsList-from_slice}
 use Rattle.std.proofs.lemmas.Iterator.Search.{any_from_yields_List}
 use Rattle.lists.proofs.Chains.{any-is}
-use Rattle.soundness.specs.Parts.{same_column}
+use Rattle.soundness.specs.Private.Parts.{same_column}
 use Rattle.soundness.proofs.statements.is_set.Goals as goal
 
 pub returns : goal.returns

@@ -1,12 +1,12 @@
 use Rattle.std.proofs.Common.{◌≡◌, ◌∙◌, List, map, take, ℕ, min, length, sym, ap, subst, refl, Option as Maybe}
-use Rattle.meaning.specs.Grammar.{sentence}
+use Rattle.meaning.specs.Reader.{sentence}
 use Rattle.statement.specs.declared.Refusal.TheVariants.{Sentence}
 use Rattle.statement.specs.declared.sentences.Item.{Item}
 use Rattle.statement.specs.declared.sentences.Entry.{Entry}
 use Rattle.statement.specs.declared.conditions.Node.{Node}
 use Rattle.statement.specs.Catalog.{schema_of}
-use Rattle.statement.specs.Sentences.{Noted}
-use Rattle.statement.specs.Built.{table_on, beside_on}
+use Rattle.statement.specs.Private.Sentences.{Noted}
+use Rattle.statement.specs.Private.Built.{table_on, beside_on}
 use Rattle.statement.proofs.Settled.{none-is}
 use Rattle.statement.proofs.Compiles.{compiled-long, compiled-none, compiled-over, compiled-reads, compiled-table, compiled-beside}
 use Rattle.statement.proofs.Statement.compile.Goals as goal

@@ -1,7 +1,7 @@
 use Rattle.std.proofs.Common.{◌≡◌, ℕ, ◌+◌, ap, rules}
 use mir.Syntax.{w32}
 use mir.Val.{to_z, of_z}
-use Rattle.statement.specs.Built.{dotted, place_in}
+use Rattle.statement.specs.Private.Built.{dotted, place_in}
 use Rattle.statement.proofs.Parts.{comparison-made}
 use Rattle.statement.proofs.assembling.comparison_at.Goals as goal
 

@@ -4,9 +4,9 @@ use mathlib.Core.List.{List}
 use Prim.Native.Nat.{ℕ}
 use Rattle.token.specs.declared.Token.{Token}
 use Rattle.token.specs.Tokens.{token_at}
-use Rattle.statement.specs.Places.{name_on}
+use Rattle.statement.specs.Private.Places.{name_on}
 use Rattle.statement.specs.Catalog.{name_of_struct}
-use Rattle.statement.specs.Built.{place_named, short_name}
+use Rattle.statement.specs.Private.Built.{place_named, short_name}
 use Rattle.statement.specs.declared.names.Scope.{Scope}
 use Rattle.statement.specs.declared.names.Scope.TheVariants.{Two}
 use Rattle.statement.proofs.Values.{name_back, column-place}

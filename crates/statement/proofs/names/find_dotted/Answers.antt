@@ -1,8 +1,8 @@
 use Rattle.std.proofs.Common.{◌≡◌, ◌∙◌, ap, ap₂, ◌+◌, ◌<◌, ◌≤◌, length, arith}
 use Rattle.std.proofs.lemmas.List.{length-map}
 use Rattle.meaning.specs.Grammar.{Dotted}
-use Rattle.statement.specs.Catalog.{name_of_struct, column_names}
-use Rattle.statement.specs.Built.{place_of}
+use Rattle.statement.specs.Catalog.{name_of_struct}
+use Rattle.statement.specs.Private.Built.{column_names, place_of}
 use Rattle.statement.proofs.Found.{pair-first, pair-second}
 use Rattle.statement.proofs.names.find_dotted.Goals as goal
 

@@ -1,7 +1,8 @@
 use Rattle.std.proofs.Common.{◌∙◌, sym, ap}
 use Rattle.std.proofs.lemmas.Simd.{map-map}
 use Rattle.meaning.specs.Names.{position}
-use Rattle.statement.specs.Catalog.{name_of_struct, column_names}
+use Rattle.statement.specs.Catalog.{name_of_struct}
+use Rattle.statement.specs.Private.Built.{column_names}
 use Rattle.statement.specs.Compiled.{padded}
 use Rattle.statement.proofs.names.positions.Goals as goal
 

@@ -1,6 +1,7 @@
 use Rattle.meaning.specs.Names.{position}
 use Rattle.statement.specs.declared.Name.{Name}
-use Rattle.statement.specs.Catalog.{name_of_struct, column_names}
+use Rattle.statement.specs.Catalog.{name_of_struct}
+use Rattle.statement.specs.Private.Built.{column_names}
 use Rattle.statement.proofs.names.positions.Given as goal
 
 abbrev pub ghost-placed : goal.ghost-placed

@@ -1,7 +1,7 @@
 -- `sentences::read_form` meets its contract.
 -- Assumes nothing.
 use mathlib.Core.Path.{refl}
-use Rattle.meaning.specs.Grammar.{a_table, a_select, an_insert, an_update, a_delete}
+use Rattle.meaning.specs.Reader.{a_table, a_select, an_insert, an_update, a_delete}
 use Rattle.meaning.specs.Tokens.{keyword, TABLE, SELECT, INSERT, UPDATE, DELETE}
 use Rattle.statement.proofs.Steps.{goes, stops}
 use Rattle.statement.proofs.SentenceTexts.{stands-here, starts_with, starts-not, first-table, first-select, first-insert, first-update, first-delete}

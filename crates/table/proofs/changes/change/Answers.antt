@@ -1,6 +1,6 @@
 -- What an update does to its area, among all cells.
 use Rattle.std.proofs.Common.{◌≡◌, ◌+◌, ◌-◌, ◌*◌, ◌≤◌, length, false, sym, ◌∙◌, arith, rules}
-use Rattle.table.specs.Changed.{fits}
+use Rattle.table.specs.Changed.{change_fits}
 use Rattle.table.proofs.Fitting.{area-inside, refused, refused-area, refused-form, change-fits, done}
 use Rattle.table.proofs.changes.change.Goals as goal
 use Rattle.table.proofs.changes.change.Goals.{then-not-area_fits-via-then-not-area_fits, then-not-area_fits-via-else-not-area_fits+then-not-form_fits}
@@ -8,7 +8,7 @@ use Rattle.table.proofs.changes.change.Goals.{then-not-area_fits-via-then-not-ar
 pub returns-then-not-area_fits : goal.returns-then-not-area_fits
 returns-then-not-area_fits c =
     let a = c.args in
-    let no : fits a.update a.table a.start a.cells.now ≡ false =
+    let no : change_fits a.update a.table a.start a.cells.now ≡ false =
     elim c.then-not-area_fits.branch [
       | then-not-area_fits-via-then-not-area_fits w ↦ refused-area a.update a.table a.start a.cells.now a.values.now (sym c.area_fits.ensures ∙ w.if-not-area_fits.true)
       | then-not-area_fits-via-else-not-area_fits+then-not-form_fits w ↦

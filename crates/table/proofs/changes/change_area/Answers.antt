@@ -3,8 +3,9 @@ use Rattle.std.proofs.Common.{◌≡◌, ℕ, ◌+◌, ◌*◌, ◌≤◌, ◌++
 use Rattle.std.proofs.lemmas.List.{length-take}
 use Rattle.meaning.specs.Cells.{stored}
 use Rattle.statement.specs.declared.Setting.{Setting}
-use Rattle.table.specs.Evaluated.{area_rows}
-use Rattle.table.specs.Changed.{row_of, is_full_ring}
+use Rattle.table.specs.Rows.{area_rows}
+use Rattle.table.specs.Changed.{is_full_ring}
+use Rattle.table.specs.Private.Changing.{row_of}
 use Rattle.table.proofs.Fitting.{place-room, inserted, updated, gone-few, deleted}
 use Rattle.table.proofs.changes.change_area.Goals as goal
 

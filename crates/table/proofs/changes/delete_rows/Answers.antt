@@ -1,12 +1,11 @@
 -- A row that goes, or stays.
-use Rattle.std.proofs.Common.{◌≡◌, ℕ, ◌+◌, ◌-◌, ◌*◌, ◌≤◌, length, sym, ap, ◌∙◌, subst, replicate, pos, arith}
+use Rattle.std.proofs.Common.{◌≡◌, ℕ, ◌+◌, ◌-◌, ◌*◌, ◌≤◌, length, sym, ap, ◌∙◌, subst, replicate, pos, arith, not}
 use borrow.Rule.Slice.PartMut.{mid_of, put_mid}
-use Rattle.std.proofs.Common.{not}
 use Rattle.lists.specs.Lists.{count, keep}
 use Rattle.meaning.specs.Meaning.{Row}
 use Rattle.meaning.specs.Cells.{stored}
-use Rattle.table.specs.Evaluated.{meets_stored, area_rows}
-use Rattle.table.specs.Scanned.{passes_by}
+use Rattle.table.specs.Rows.{meets_stored, area_rows}
+use Rattle.table.specs.Private.Scanned.{passes_by}
 use Rattle.table.proofs.Tested.{keep_same, rows_pass, without-same}
 use Rattle.table.proofs.Deleting.{delete-gone, delete-stay, delete-done, closed_at, row-next}
 use Rattle.table.proofs.changes.delete_rows.Goals as goal

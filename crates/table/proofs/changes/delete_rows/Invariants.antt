@@ -1,6 +1,6 @@
 -- The rows before row i that stay are moved up to cell `to`.
 use Rattle.std.proofs.Common.{◌-◌}
-use Rattle.table.specs.Scanned.{passes_by}
+use Rattle.table.specs.Private.Scanned.{passes_by}
 use Rattle.table.proofs.Deleting.{Closed}
 use Rattle.table.proofs.changes.delete_rows.Given as goal
 

@@ -5,7 +5,7 @@ use borrow.Rule.Slice.PartMut.{put_mid}
 use mathlib.Core.List.{append_assoc}
 use Rattle.lists.specs.Lists.{written}
 use Rattle.meaning.proofs.Cells.{insert-stored}
-use Rattle.table.specs.Changed.{row_of}
+use Rattle.table.specs.Private.Changing.{row_of}
 use Rattle.table.proofs.Assigning.{row-wide}
 use Rattle.table.proofs.changes.insert_row.Goals as goal
 

@@ -1,7 +1,7 @@
 -- The first i values are put.
 use Rattle.std.proofs.Common.{◌≡◌}
 use Rattle.std.proofs.Math.Seq.{paste}
-use Rattle.table.specs.Changed.{row_of}
+use Rattle.table.specs.Private.Changing.{row_of}
 use Rattle.table.proofs.changes.put_values.Given as goal
 
 abbrev pub invariant-loop-i : goal.invariant-loop-i

@@ -1,7 +1,7 @@
 -- The cells of the rows in use, turned.
 use Rattle.std.proofs.Common.{◌≡◌, ℕ, ◌*◌, ◌≤◌, ◌++◌, length, take, drop, sym, subst, ap₂, ◌∙◌, arith}
 use Rattle.lists.specs.Lists.{turned}
-use Rattle.table.specs.Changed.{TurnsRows}
+use Rattle.table.specs.Private.Changing.{TurnsRows}
 use Rattle.table.proofs.Round.{turns-past, turns-rows}
 use Rattle.table.proofs.changes.turn_rows.Goals as goal
 

@@ -5,13 +5,12 @@ use Rattle.lists.specs.Lists.{count}
 use Rattle.meaning.specs.Meaning.{Row, assigned}
 use Rattle.meaning.specs.Cells.{stored}
 use Rattle.statement.specs.declared.Setting.{Setting}
-use Rattle.table.specs.Evaluated.{meets_stored, area_rows}
-use Rattle.table.specs.Changed.{settled}
-use Rattle.table.specs.Scanned.{passes_by}
-use Rattle.table.proofs.Tested.{keep_same, rows_pass}
+use Rattle.table.specs.Rows.{meets_stored, area_rows}
+use Rattle.table.specs.Changed.{updated_if}
+use Rattle.table.specs.Private.Scanned.{passes_by}
+use Rattle.table.proofs.Tested.{keep_same, rows_pass, settled_same}
 use Rattle.statement.specs.Sound.{setting_read, settings_read}
 use Rattle.table.proofs.Assigning.{made, assigned-length}
-use Rattle.table.proofs.Tested.{settled_same}
 use Rattle.table.proofs.Updating.{update-set, update-stay, update-done, row-next}
 use Rattle.table.proofs.changes.update_rows.Goals as goal
 use Rattle.table.proofs.changes.update_rows.Goals.{then-meets, else-meets}
@@ -47,10 +46,10 @@ returns c =
     let same = rows_pass t.targets t.places t.numbers t.start d a.values.now c.prepare-test.ensures w a.used a.area.now (omega (arith, c.from-width.ensures)) in
     let done = update-done (passes_by t) (f ss) w a.used a.area.now (λ (r : List ℤ). assigned-length (map setting_read ss) a.values.now r) l.area l.at (a.used - l.counter) l.found
     (omega arith) inside l.invariant in
-    let r : (l.found ≡ count q (area_rows w a.used a.area.now)) × (l.area ≡ stored a.area.now (a.used * w) (map (settled q (assigned (settings_read a.update.now) a.values.now)) (area_rows w a.used a.area.now))) = (
+    let r : (l.found ≡ count q (area_rows w a.used a.area.now)) × (l.area ≡ stored a.area.now (a.used * w) (map (updated_if q (assigned (settings_read a.update.now) a.values.now)) (area_rows w a.used a.area.now))) = (
       done.0 ∙ ap length (keep_same (passes_by t) q same),
       done.1 ∙ ap (stored a.area.now (a.used * w)) (settled_same (passes_by t) q (f ss) same
-          ∙ ap (λ (s : List Setting). map (settled q (f s)) (area_rows w a.used a.area.now)) c.used-settings.ensures.are),
+          ∙ ap (λ (s : List Setting). map (updated_if q (f s)) (area_rows w a.used a.area.now)) c.used-settings.ensures.are),
     ) in
-    let e = subst (λ (k : ℕ). (l.found ≡ count q (area_rows k a.used a.area.now)) × (l.area ≡ stored a.area.now (a.used * k) (map (settled q (assigned (settings_read a.update.now) a.values.now)) (area_rows k a.used a.area.now)))) c.from-width.ensures r in
+    let e = subst (λ (k : ℕ). (l.found ≡ count q (area_rows k a.used a.area.now)) × (l.area ≡ stored a.area.now (a.used * k) (map (updated_if q (assigned (settings_read a.update.now) a.values.now)) (area_rows k a.used a.area.now)))) c.from-width.ensures r in
     record { count = e.0; cells = e.1 }

@@ -1,6 +1,6 @@
 -- The rows before row i are worked on.
 use Rattle.std.proofs.Common.{◌-◌}
-use Rattle.table.specs.Scanned.{passes_by}
+use Rattle.table.specs.Private.Scanned.{passes_by}
 use Rattle.table.proofs.Assigning.{made}
 use Rattle.table.proofs.Updating.{Left}
 use Rattle.table.proofs.changes.update_rows.Given as goal

@@ -2,7 +2,7 @@
 use Rattle.std.proofs.Common.{◌≡◌, ℕ, ◌≤◌, List, length, min, get_or, sym, subst, ap, ◌∙◌, arith}
 use Rattle.std.proofs.lemmas.List.{length-take}
 use Rattle.statement.specs.Sound.{used_steps}
-use Rattle.table.specs.Linking.{Linked}
+use Rattle.table.specs.Private.Linking.{Linked}
 use Rattle.table.proofs.Linking.{no-starts, link_start, link-step, link-done}
 use Rattle.table.proofs.rows.link.Goals as goal
 

@@ -1,7 +1,7 @@
 -- A part of the targets, or none.
 use Rattle.std.proofs.Common.{ℕ, ◌-◌, ◌*◌, map, ap₂, ◌∙◌}
 use borrow.Rule.Slice.PartMut.{put_mid, mid_of}
-use Rattle.table.specs.Linking.{led_on}
+use Rattle.table.specs.Private.Linking.{led_on}
 use Rattle.table.proofs.Linking.{redirect-part}
 use Rattle.table.proofs.rows.redirect.Goals as goal
 

@@ -2,7 +2,7 @@
 use Rattle.std.proofs.Common.{ap, sym, ◌∙◌, cond, false}
 use Rattle.meaning.specs.Tokens.{constant, decimal}
 use Rattle.token.specs.Tokens.{kind_of}
-use Rattle.token.specs.Parts.{signed, keyword_or_name_of}
+use Rattle.token.specs.Private.Parts.{signed, keyword_or_name_of}
 use Rattle.token.proofs.Numbers.{constant-cap}
 use Rattle.token.proofs.Words.{word-is}
 use Rattle.token.proofs.Word.kind.Goals as goal

@@ -1,13 +1,12 @@
 use Rattle.cache.specs.declared.matching.Marks.{Marks}
 use Rattle.std.proofs.Common.{◌≡◌, ◌+◌, ◌≤◌, ◌<◌, length, true, get_or, set, ℕ, sym, ap, subst, ◌∙◌, arith, Bool, List, ◌&&◌, eqb}
 use Rattle.lists.proofs.Places.{All-at}
-use Rattle.cache.specs.Marks.{agrees_at}
-use Rattle.slots.specs.Keys.{slot_key, values_of}
-use Rattle.slots.specs.Order.{held_slots}
+use Rattle.cache.specs.Private.Marks.{agrees_at}
+use Rattle.slots.specs.Keys.{slot_key, values_of, held_slots}
 use Rattle.slots.specs.declared.Key.{Key}
 use mathlib.Core.List.{[]}
 use Rattle.pattern.specs.Stored.{agrees_stored}
-use Rattle.cache.proofs.Marking.{Marking, marking-yes, marking-no, marking-end, key-at, held-below}
+use Rattle.cache.proofs.Returns.MarkingLoops.{Marking, marking-yes, marking-no, marking-end, key-at, held-below}
 use Rattle.cache.proofs.matching.Matching.mark_agreeing.Goals.{then-agrees_key, else-agrees_key}
 use Rattle.cache.proofs.matching.Matching.mark_agreeing.Goals as goal
 

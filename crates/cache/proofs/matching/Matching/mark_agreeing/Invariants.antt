@@ -1,6 +1,6 @@
-use Rattle.slots.specs.Order.{held_slots}
-use Rattle.cache.specs.Marks.{agrees_at}
-use Rattle.cache.proofs.Marking.{Marking}
+use Rattle.slots.specs.Keys.{held_slots}
+use Rattle.cache.specs.Private.Marks.{agrees_at}
+use Rattle.cache.proofs.Returns.MarkingLoops.{Marking}
 use Rattle.cache.proofs.matching.Matching.mark_agreeing.Given as goal
 
 abbrev pub invariant-loop-x : goal.invariant-loop-x

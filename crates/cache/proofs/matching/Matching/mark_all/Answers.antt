@@ -3,7 +3,7 @@ use Rattle.std.proofs.Common.{◌≡◌, ◌+◌, ◌<◌, get_or, List, sym, ap
 use Rattle.lists.proofs.Bools.{and_left}
 use Rattle.statement.specs.declared.Query.{Query}
 use Rattle.statement.specs.Compiled.{no_query}
-use Rattle.cache.proofs.Marking.{Queries, queries-start, queries-yes, queries-no, queries-end, query-at, used-many}
+use Rattle.cache.proofs.Returns.MarkingLoops.{Queries, queries-start, queries-yes, queries-no, queries-end, query-at, used-many}
 use Rattle.cache.proofs.matching.Matching.mark_all.Goals.{then-found-q, else-found-q}
 use Rattle.cache.proofs.matching.Matching.mark_all.Goals as goal
 

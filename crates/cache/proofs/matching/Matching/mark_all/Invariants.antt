@@ -1,4 +1,4 @@
-use Rattle.cache.proofs.Marking.{Queries}
+use Rattle.cache.proofs.Returns.MarkingLoops.{Queries}
 use Rattle.cache.proofs.matching.Matching.mark_all.Given as goal
 
 abbrev pub invariant-loop-q : goal.invariant-loop-q

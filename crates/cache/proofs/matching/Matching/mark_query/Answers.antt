@@ -1,10 +1,10 @@
 use Rattle.cache.specs.declared.matching.Marks.{Marks}
 use Rattle.std.proofs.Common.{◌+◌, ◌<◌, sym, ap, subst, ◌∙◌, arith}
-use Rattle.slots.specs.Order.{held_slots}
-use Rattle.cache.specs.Marks.{agrees_at, marked}
+use Rattle.slots.specs.Keys.{held_slots}
+use Rattle.cache.specs.Private.Marks.{agrees_at, marked}
 use Rattle.pattern.specs.declared.Pattern.{Pattern}
 use Rattle.pattern.specs.Stored.{clause_total}
-use Rattle.cache.proofs.Marking.{Clauses, clauses-more, clauses-stay, clauses-end}
+use Rattle.cache.proofs.Returns.MarkingLoops.{Clauses, clauses-more, clauses-stay, clauses-end}
 use Rattle.cache.proofs.matching.Matching.mark_query.Goals.{in-Some, in_default}
 use Rattle.cache.proofs.matching.Matching.mark_query.Goals as goal
 

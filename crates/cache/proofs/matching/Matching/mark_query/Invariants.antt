@@ -1,5 +1,5 @@
-use Rattle.slots.specs.Order.{held_slots}
-use Rattle.cache.proofs.Marking.{Clauses}
+use Rattle.slots.specs.Keys.{held_slots}
+use Rattle.cache.proofs.Returns.MarkingLoops.{Clauses}
 use Rattle.cache.proofs.matching.Matching.mark_query.Given as goal
 
 abbrev pub invariant-loop-i : goal.invariant-loop-i

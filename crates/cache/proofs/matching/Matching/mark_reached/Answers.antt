@@ -1,9 +1,10 @@
 use Rattle.std.proofs.Common.{◌≡◌, ◌+◌, ◌≤◌, ◌<◌, length, true, false, get_or, set, ℕ, sym, ap, ap₂, subst, ◌∙◌, arith, Bool, List, ◌&&◌}
 use Rattle.lists.proofs.Places.{All-at}
-use Rattle.slots.specs.Order.{held_slots, is_marked}
-use Rattle.cache.specs.Marks.{reaches_at, reached_at}
-use Rattle.cache.proofs.Marks.{no-mark}
-use Rattle.cache.proofs.Marking.{Marking, marking-yes, marking-no, marking-end, marked-none, held-below}
+use Rattle.slots.specs.Order.{is_marked}
+use Rattle.slots.specs.Keys.{held_slots}
+use Rattle.cache.specs.Private.Marks.{reaches_at, reached_at}
+use Rattle.cache.proofs.Returns.SlotsMatched.{no-mark}
+use Rattle.cache.proofs.Returns.MarkingLoops.{Marking, marking-yes, marking-no, marking-end, marked-none, held-below}
 use Rattle.cache.proofs.matching.Matching.mark_reached.Goals.{then-matched-slot+then-reaches, else-matched-slot, else-matched-slot-via-then-matched-slot+else-reaches, else-matched-slot-via-else-matched-slot}
 use Rattle.cache.proofs.matching.Matching.mark_reached.Goals as goal
 

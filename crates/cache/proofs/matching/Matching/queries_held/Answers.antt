@@ -1,10 +1,9 @@
 use Rattle.std.proofs.Common.{◌≡◌, ◌+◌, ◌≤◌, ◌<◌, true, length, get_or, set, ℕ, sym, ap, subst, ◌∙◌, arith, List}
-use Rattle.slots.specs.Order.{held_slots}
+use Rattle.slots.specs.Keys.{held_slots, slot_key}
 use Rattle.lists.proofs.Places.{All-at}
-use Rattle.slots.specs.Keys.{slot_key}
 use Rattle.slots.specs.declared.Key.{Key}
 use mathlib.Core.List.{[]}
-use Rattle.cache.proofs.Marking.{Finding, finding-start, finding-end, finding-more, finding-skip, key-at, held-below}
+use Rattle.cache.proofs.Returns.MarkingLoops.{Finding, finding-start, finding-end, finding-more, finding-skip, key-at, held-below}
 use Rattle.cache.proofs.matching.Matching.queries_held.Goals.{then-q-lt-QUERIES, else-q-lt-QUERIES}
 use Rattle.cache.proofs.matching.Matching.queries_held.Goals as goal
 

@@ -1,5 +1,5 @@
-use Rattle.slots.specs.Order.{held_slots}
-use Rattle.cache.proofs.Marking.{Finding}
+use Rattle.slots.specs.Keys.{held_slots}
+use Rattle.cache.proofs.Returns.MarkingLoops.{Finding}
 use Rattle.cache.proofs.matching.Matching.queries_held.Given as goal
 
 abbrev pub invariant-loop-x : goal.invariant-loop-x

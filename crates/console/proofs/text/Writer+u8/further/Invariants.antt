@@ -1,4 +1,4 @@
-use Rattle.console.specs.Pieces.{rows_from}
+use Rattle.console.specs.Private.Pieces.{rows_from}
 use Rattle.console.specs.Printed.{further_text}
 use Rattle.console.proofs.Puttings.{Left}
 use Rattle.console.proofs.text.Writer+u8.further.Given as goal

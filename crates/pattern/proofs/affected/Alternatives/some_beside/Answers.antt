@@ -4,7 +4,7 @@ use Rattle.std.proofs.lemmas.Iterator.Search.{any_from_yields_List}
 use Rattle.lists.specs.Lists.{any}
 use Rattle.lists.proofs.Lists.{any-map}
 use Rattle.lists.proofs.Chains.{any-is}
-use Rattle.pattern.specs.Deciding.{Literal, masks_in, trues_of, clause_of, possible_code}
+use Rattle.pattern.specs.Private.Deciding.{Literal, masks_in, trues_of, clause_of, possible_code}
 use Rattle.pattern.proofs.affected.Alternatives.some_beside.Goals as goal
 
 pub returns : goal.returns

@@ -3,8 +3,8 @@ use Rattle.meaning.specs.Statement.{Operand}
 use Rattle.statement.specs.declared.Setting.{Setting}
 use Rattle.statement.specs.Terms.{used_selected}
 use Rattle.statement.specs.Sound.{setting_read, settings_read}
-use Rattle.pattern.specs.Deciding.{FilledAs, altered_tests}
-use Rattle.pattern.specs.Literals.{role_operand}
+use Rattle.pattern.specs.Private.Deciding.{FilledAs, altered_tests}
+use Rattle.pattern.specs.Private.Literals.{role_operand}
 use Rattle.pattern.proofs.Deciding.{read-same}
 use Rattle.pattern.proofs.affected.Case.alterations.Goals as goal
 

@@ -1,8 +1,8 @@
 use Rattle.std.proofs.Common.{map}
 use Rattle.meaning.specs.Condition as C
 use Rattle.meaning.specs.Statement.{Operand}
-use Rattle.pattern.specs.Masks.{comparisons_read}
-use Rattle.pattern.specs.Deciding.{FilledAs}
+use Rattle.pattern.specs.Private.Masks.{comparisons_read}
+use Rattle.pattern.specs.Private.Deciding.{FilledAs}
 use Rattle.pattern.proofs.Deciding.{read-same}
 use Rattle.pattern.proofs.affected.Case.fill.Goals as goal
 

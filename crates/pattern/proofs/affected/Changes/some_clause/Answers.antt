@@ -4,7 +4,7 @@ use Rattle.std.proofs.lemmas.Iterator.Search.{any_from_yields_List}
 use Rattle.lists.specs.Lists.{any}
 use Rattle.lists.proofs.Lists.{any-map}
 use Rattle.lists.proofs.Chains.{any-is}
-use Rattle.pattern.specs.Deciding.{Literal, masks_in, clause_of, changed}
+use Rattle.pattern.specs.Private.Deciding.{Literal, masks_in, clause_of, changed}
 use Rattle.pattern.proofs.affected.Changes.some_clause.Goals as goal
 
 pub returns : goal.returns

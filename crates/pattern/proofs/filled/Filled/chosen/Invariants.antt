@@ -1,5 +1,5 @@
 use Rattle.std.proofs.Common.{◌≡◌, ◌≤◌, ◌++◌, take, drop, length}
-use Rattle.pattern.specs.Masks.{select}
+use Rattle.pattern.specs.Private.Masks.{select}
 use Rattle.pattern.proofs.filled.Filled.chosen.Given as goal
 
 -- the comparisons before are looked at, and `left` is the mask of the others

@@ -4,8 +4,8 @@ use Rattle.meaning.specs.Statement as M
 use Rattle.meaning.specs.Statement.{Operand, column}
 use Rattle.statement.specs.Sound.{setting_read}
 use Rattle.pattern.specs.declared.filled.Filled.{Filled}
-use Rattle.pattern.specs.Literals.{role_operand, holds_number}
-use Rattle.pattern.specs.Deciding.{FilledAs, altered_tests, is_altered}
+use Rattle.pattern.specs.Private.Literals.{role_operand, holds_number}
+use Rattle.pattern.specs.Private.Deciding.{FilledAs, altered_tests, is_altered}
 use Rattle.pattern.proofs.Deciding.{filled-none, keep-push, keep-not, keep-done}
 use Rattle.pattern.proofs.filled.Filling.alterations.Goals as goal
 use Rattle.pattern.proofs.filled.Filling.alterations.Goals.{then-is_altered, else-is_altered}

@@ -1,7 +1,7 @@
 use Rattle.std.proofs.Common.{◌≤◌, map, take}
 use Rattle.statement.specs.Sound.{setting_read}
-use Rattle.pattern.specs.Literals.{role_operand}
-use Rattle.pattern.specs.Deciding.{FilledAs, altered_tests}
+use Rattle.pattern.specs.Private.Literals.{role_operand}
+use Rattle.pattern.specs.Private.Deciding.{FilledAs, altered_tests}
 use Rattle.pattern.proofs.filled.Filling.alterations.Given as goal
 
 abbrev pub invariant-loop-item : goal.invariant-loop-item

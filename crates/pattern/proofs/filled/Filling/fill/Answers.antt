@@ -6,8 +6,8 @@ use Rattle.statement.specs.Compiled as Compiled
 use Rattle.statement.specs.Sound.{comparison_read, setting_read, used_comparisons}
 use Rattle.statement.specs.declared.Comparison.{Comparison}
 use Rattle.pattern.specs.declared.filled.Filled.{Filled}
-use Rattle.pattern.specs.Literals.{role_operand}
-use Rattle.pattern.specs.Deciding.{FilledAs}
+use Rattle.pattern.specs.Private.Literals.{role_operand}
+use Rattle.pattern.specs.Private.Deciding.{FilledAs}
 use Rattle.pattern.proofs.Deciding.{filled-none, fill-more, fill-done}
 use Rattle.pattern.proofs.filled.Filling.fill.Goals as goal
 

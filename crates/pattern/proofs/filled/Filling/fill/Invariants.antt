@@ -2,8 +2,8 @@ use Rattle.std.proofs.Common.{◌≡◌, map, take}
 use Rattle.meaning.specs.Condition as C
 use Rattle.statement.specs.Sound.{comparison_read, setting_read}
 use Rattle.statement.specs.declared.Comparison.{Comparison}
-use Rattle.pattern.specs.Literals.{role_operand}
-use Rattle.pattern.specs.Deciding.{FilledAs}
+use Rattle.pattern.specs.Private.Literals.{role_operand}
+use Rattle.pattern.specs.Private.Deciding.{FilledAs}
 use Rattle.pattern.proofs.filled.Filling.fill.Given as goal
 
 abbrev pub invariant-loop-c : goal.invariant-loop-c

@@ -2,8 +2,8 @@ use Rattle.std.proofs.Common.{map, subst, List, ℕ}
 use Rattle.meaning.specs.Statement as M
 use Rattle.statement.specs.declared.Setting.{Setting}
 use Rattle.statement.specs.Sound.{setting_read, operand_read}
-use Rattle.pattern.specs.Flat.{operand_of, Coding}
-use Rattle.pattern.specs.Literals.{Sided}
+use Rattle.pattern.specs.Private.Flat.{operand_of, Coding}
+use Rattle.pattern.specs.Private.Literals.{Sided}
 use Rattle.pattern.specs.declared.joint.Role.{Role}
 use Rattle.pattern.proofs.FilledCodes.{operand-filled}
 use Rattle.pattern.proofs.filled.Filling.operand.Goals as goal

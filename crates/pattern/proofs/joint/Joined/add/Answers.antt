@@ -7,8 +7,8 @@ use Rattle.statement.specs.declared.Operand.{Operand}
 use Rattle.statement.specs.declared.Comparison.{Comparison}
 use Rattle.statement.specs.Compiled as Compiled
 use Rattle.statement.specs.Sound.{operand_read, comparison_read, setting_read}
-use Rattle.pattern.specs.Masks.{select}
-use Rattle.pattern.specs.Flat.{operand_of, Coding, Extended}
+use Rattle.pattern.specs.Private.Masks.{select}
+use Rattle.pattern.specs.Private.Flat.{operand_of, Coding, Extended}
 use Rattle.pattern.proofs.Mapped.{get_or-map-in}
 use Rattle.pattern.proofs.Adding.{Adding, add_start, add-more, add_done}
 use Rattle.pattern.proofs.joint.Joined.add.Goals as goal

@@ -1,5 +1,5 @@
 use Rattle.std.proofs.Common.{map}
-use Rattle.pattern.specs.Flat.{operand_of}
+use Rattle.pattern.specs.Private.Flat.{operand_of}
 use Rattle.statement.specs.Sound.{setting_read, comparison_read}
 use Rattle.pattern.proofs.Adding.{Adding}
 use Rattle.pattern.proofs.joint.Joined.add.Given as goal

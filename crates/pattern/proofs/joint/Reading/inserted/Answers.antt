@@ -1,5 +1,5 @@
 use Rattle.std.proofs.Common.{◌+◌, get_or, ℕ, ap, subst, ◌∙◌, arith}
-use Rattle.pattern.specs.Flat.{Coding}
+use Rattle.pattern.specs.Private.Flat.{Coding}
 use Rattle.meaning.specs.Pattern.{of_value}
 use Rattle.statement.specs.declared.Value.{Value}
 use Rattle.statement.specs.Compiled.{new_value, no_setting}

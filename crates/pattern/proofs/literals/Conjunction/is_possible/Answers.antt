@@ -5,8 +5,8 @@ use Rattle.std.specs.List.{range_with_len}
 use Rattle.lists.specs.Lists.{all, from}
 use Rattle.lists.proofs.Chains.{all-is}
 use Rattle.pattern.specs.declared.labels.Compared.{Compared}
-use Rattle.pattern.specs.Least.{columns_from}
-use Rattle.pattern.specs.Deciding.{literals_of, column_fits, possible_code}
+use Rattle.pattern.specs.Private.Least.{columns_from}
+use Rattle.pattern.specs.Private.Deciding.{literals_of, column_fits, possible_code}
 use Rattle.pattern.proofs.Trying.{range-from, tests-three}
 use Rattle.pattern.proofs.literals.Conjunction.is_possible.Goals as goal
 

@@ -2,7 +2,7 @@ use Rattle.std.proofs.Common.{rules, ◌∙◌, tests}
 use Rattle.std.proofs.lemmas.Iterator.{YieldsList-from_slice}
 use Rattle.std.proofs.lemmas.Iterator.Search.{any_from_yields_List}
 use Rattle.lists.proofs.Chains.{any-is}
-use Rattle.pattern.specs.Deciding.{literals_of, beside_fits}
+use Rattle.pattern.specs.Private.Deciding.{literals_of, beside_fits}
 use Rattle.pattern.proofs.literals.Conjunction.some_fits.Goals as goal
 
 pub returns : goal.returns

@@ -2,7 +2,7 @@ use Rattle.std.proofs.Common.{get_or, ℕ, ap, ap₂, ◌∙◌, ◌++◌}
 use Rattle.statement.specs.Sound.{settings_read}
 use Rattle.pattern.specs.declared.joint.Role.TheVariants.{Given}
 use Rattle.pattern.specs.Stored.{entry_count, clause_pattern}
-use Rattle.pattern.specs.Flat.{chosen_of}
+use Rattle.pattern.specs.Private.Flat.{chosen_of}
 use Prim.Native.Nat.{◌/◌, ◌%◌}
 use Rattle.pattern.proofs.JointClauses.{pair-chosen}
 use Rattle.pattern.proofs.relevance.Pair.at.Goals as goal

@@ -2,8 +2,8 @@ use Rattle.std.proofs.Common.{◌≡◌, ◌-◌, ◌*◌, get_or, ℕ, sym, ap,
 use Rattle.statement.specs.Sound.{settings_read}
 use Rattle.pattern.specs.declared.joint.Role.TheVariants.{Asked, Inserted, Set}
 use Rattle.pattern.specs.Stored.{entry_count, clause_pattern}
-use Rattle.pattern.specs.Flat.{chosen_of}
-use Rattle.pattern.specs.Pairs.{pair_at}
+use Rattle.pattern.specs.Private.Flat.{chosen_of}
+use Rattle.pattern.specs.Private.Pairs.{pair_at}
 use Rattle.pattern.proofs.JointClauses.{insert-below, insert-chosen, first-chosen, second-chosen}
 use Rattle.pattern.proofs.relevance.Pair.clause_at.Goals as goal
 

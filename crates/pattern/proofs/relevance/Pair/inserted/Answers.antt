@@ -2,7 +2,7 @@ use Rattle.std.proofs.Common.{◌≡◌, ℕ, ap, ◌∙◌, arith}
 use Rattle.statement.specs.Sound.{settings_read}
 use Rattle.pattern.specs.declared.joint.Role.TheVariants.{Inserted}
 use Rattle.pattern.specs.Stored.{entry_count, clause_pattern}
-use Rattle.pattern.specs.Flat.{chosen_of}
+use Rattle.pattern.specs.Private.Flat.{chosen_of}
 use Rattle.pattern.proofs.ClausePatterns.{one-ready, one-pattern}
 use Rattle.pattern.proofs.relevance.Pair.inserted.Goals as goal
 

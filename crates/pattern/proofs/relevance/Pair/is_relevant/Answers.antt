@@ -1,5 +1,5 @@
 use Rattle.std.proofs.Common.{ℕ, sym, ap, ◌∙◌}
-use Rattle.pattern.specs.Relevance.{sets_used}
+use Rattle.pattern.specs.Private.Relevance.{sets_used}
 use Rattle.pattern.proofs.Relevant.{other-table, update-relevant, other-relevant}
 use Rattle.pattern.proofs.relevance.Pair.is_relevant.Goals as goal
 

@@ -2,7 +2,7 @@ use Rattle.std.proofs.Common.{◌≡◌, ℕ, ap, ◌∙◌, arith, ◌++◌}
 use Rattle.statement.specs.Sound.{settings_read}
 use Rattle.pattern.specs.declared.joint.Role.TheVariants.{Given}
 use Rattle.pattern.specs.Stored.{entry_count, clause_pattern}
-use Rattle.pattern.specs.Flat.{chosen_of}
+use Rattle.pattern.specs.Private.Flat.{chosen_of}
 use Rattle.pattern.proofs.ClausePatterns.{two-ready, two-pattern}
 use Rattle.pattern.proofs.relevance.Pair.joined.Goals as goal
 

@@ -1,5 +1,5 @@
 use Rattle.std.proofs.Common.{sym, subst}
-use Rattle.pattern.specs.Pairs.{Paired}
+use Rattle.pattern.specs.Private.Pairs.{Paired}
 use Rattle.pattern.proofs.JointClauses.{query-unformed, update-unformed, too-many, now-paired}
 use Rattle.pattern.proofs.relevance.Pair.pairing.Goals as goal
 

@@ -3,7 +3,7 @@ use Rattle.lists.specs.Lists.{any}
 use Rattle.lists.proofs.Walks.{take_min}
 use Rattle.statement.specs.Sound.{comparison_read, used_steps}
 use Rattle.statement.specs.declared.Comparison.{Comparison}
-use Rattle.pattern.specs.Relevance.{is_among, tests_any, comparison_steps}
+use Rattle.pattern.specs.Private.Relevance.{is_among, tests_any, comparison_steps}
 use Rattle.pattern.proofs.Relevant.{by-selected, by-tested}
 use Rattle.pattern.proofs.relevance.Pair.touches.Goals as goal
 

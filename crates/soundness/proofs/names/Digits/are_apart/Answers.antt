@@ -1,5 +1,5 @@
 use Rattle.std.proofs.Common.{sym, ap, ◌∙◌, length-set, arith}
-use Rattle.soundness.specs.Parts.{some_if}
+use Rattle.soundness.specs.Private.Parts.{some_if}
 use Rattle.soundness.proofs.Tests.{some-yes}
 use Rattle.soundness.proofs.Codes.{noted-more}
 use Rattle.soundness.proofs.names.Digits.are_apart.Goals as goal

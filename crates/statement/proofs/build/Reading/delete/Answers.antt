@@ -1,5 +1,5 @@
 use Rattle.std.proofs.Common.{refl, ◌∙◌, ap, leb, replicate}
-use Rattle.statement.specs.Built.{lowest_by}
+use Rattle.statement.specs.Private.Built.{lowest_by}
 use Rattle.statement.proofs.Assembled.{delete-made}
 use Rattle.statement.proofs.Empty.{setting-empty}
 use Rattle.statement.proofs.Settled.{refused-is}

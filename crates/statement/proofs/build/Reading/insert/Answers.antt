@@ -1,5 +1,5 @@
 use Rattle.std.proofs.Common.{◌∙◌, not, eqb, leb, length, refl}
-use Rattle.statement.specs.Built.{lowest_by}
+use Rattle.statement.specs.Private.Built.{lowest_by}
 use Rattle.statement.proofs.Assembled.{insert-made}
 use Rattle.statement.proofs.Empty.{condition-empty}
 use Rattle.statement.proofs.Settled.{refused-is}

@@ -2,9 +2,9 @@ use Rattle.std.proofs.Common.{sym, ap, ◌∙◌, map}
 use Rattle.std.proofs.lemmas.Simd.{map-map}
 use Rattle.statement.specs.declared.Name.{Name}
 use Rattle.statement.specs.declared.sentences.Item.{Item}
-use Rattle.statement.specs.Places.{name_on}
+use Rattle.statement.specs.Private.Places.{name_on}
 use Rattle.statement.specs.Compiled.{padded, name_struct, no_name}
-use Rattle.statement.specs.Built.{short_name}
+use Rattle.statement.specs.Private.Built.{short_name}
 use Rattle.statement.proofs.Empty.{name-empty}
 use Rattle.statement.proofs.build.Reading.listed_names.Goals as goal
 

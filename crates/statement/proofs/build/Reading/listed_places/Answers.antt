@@ -1,9 +1,9 @@
 use Rattle.std.proofs.Common.{sym, ap, ◌∙◌, map, arith, rules}
 use Rattle.std.proofs.lemmas.Simd.{map-map}
 use Rattle.statement.specs.declared.sentences.Item.{Item}
-use Rattle.statement.specs.Places.{column_on}
+use Rattle.statement.specs.Private.Places.{column_on}
 use Rattle.statement.specs.Compiled.{padded}
-use Rattle.statement.specs.Built.{dotted, place_in, short_column}
+use Rattle.statement.specs.Private.Built.{dotted, place_in, short_column}
 use Rattle.statement.proofs.build.Reading.listed_places.Goals as goal
 
 pub placed-requires : goal.placed-requires

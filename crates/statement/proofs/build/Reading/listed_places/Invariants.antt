@@ -1,6 +1,6 @@
 use Rattle.statement.specs.declared.sentences.Item.{Item}
-use Rattle.statement.specs.Places.{column_on}
-use Rattle.statement.specs.Built.{dotted, place_in, short_column}
+use Rattle.statement.specs.Private.Places.{column_on}
+use Rattle.statement.specs.Private.Built.{dotted, place_in, short_column}
 use Rattle.statement.proofs.build.Reading.listed_places.Given as goal
 
 abbrev pub ghost-placed : goal.ghost-placed

@@ -1,6 +1,6 @@
 use Rattle.std.proofs.Common.{◌∙◌, ap, replicate, ◌+◌, ◌∷◌, drop}
 use Rattle.statement.specs.declared.conditions.Node.{Node}
-use Rattle.statement.specs.Built.{dotted, place_in}
+use Rattle.statement.specs.Private.Built.{dotted, place_in}
 use Rattle.statement.proofs.Empty.{comparison-empty}
 use Rattle.statement.proofs.Filled.{left-cons}
 use Rattle.statement.proofs.Resolving.{resolving-start, resolving-more, resolving-pass, resolving-as, resolving-end}

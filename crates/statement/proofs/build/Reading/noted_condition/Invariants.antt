@@ -1,6 +1,5 @@
-use Rattle.statement.specs.Built.{dotted, place_in}
+use Rattle.statement.specs.Private.Built.{dotted, place_in, step_in}
 use Rattle.statement.proofs.Resolving.{Resolving}
-use Rattle.statement.specs.Built.{step_in}
 use Rattle.statement.proofs.build.Reading.noted_condition.Given as goal
 
 abbrev pub invariant-loop-node : goal.invariant-loop-node

@@ -1,5 +1,5 @@
 use Rattle.std.proofs.Common.{refl, ◌∙◌, leb}
-use Rattle.statement.specs.Built.{lowest_by, dotted, place_in, width_in, start_in, twice_in}
+use Rattle.statement.specs.Private.Built.{lowest_by, dotted, place_in, width_in, start_in, twice_in}
 use Rattle.statement.proofs.Assembled.{select-made}
 use Rattle.statement.proofs.Settled.{refused-is}
 use Rattle.statement.proofs.build.Reading.select.Goals as goal

@@ -1,5 +1,5 @@
 use Rattle.std.proofs.Common.{refl, ◌∙◌, ap, ◌*◌, ℕ, length}
-use Rattle.statement.specs.Built.{lowest_by}
+use Rattle.statement.specs.Private.Built.{lowest_by}
 use Rattle.statement.proofs.Assembled.{table-made}
 use Rattle.statement.proofs.Settled.{refused-is}
 use Rattle.statement.proofs.build.Reading.table.Goals as goal

@@ -1,8 +1,7 @@
 use Rattle.std.proofs.Common.{◌∙◌, ap, length, take, leb, refl, arith}
 use Rattle.statement.specs.declared.assembling.Settings.{Settings}
-use Rattle.statement.specs.Catalog.{column_names}
+use Rattle.statement.specs.Private.Built.{column_names, lowest_by}
 use Rattle.statement.specs.Refusals.{number_of}
-use Rattle.statement.specs.Built.{lowest_by}
 use Rattle.statement.proofs.Assembled.{sets-few, update-made}
 use Rattle.statement.proofs.Settled.{refused-is}
 use Rattle.statement.proofs.build.Reading.update.Goals as goal

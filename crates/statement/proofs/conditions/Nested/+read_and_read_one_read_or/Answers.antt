@@ -4,7 +4,7 @@ use Prim.Native.Nat.{◌+◌}
 use native.Mathlib.Omega.{arith}
 use Rattle.meaning.specs.Condition.{atom, conjunction, disjunction}
 use Rattle.meaning.specs.Tokens.{keyword, lparen, NOT, AND, OR}
-use Rattle.statement.specs.Reading.{moved_to}
+use Rattle.statement.specs.Private.Reading.{moved_to}
 use Rattle.statement.proofs.Steps.{goes, stops, stands-past}
 use Rattle.statement.proofs.Readers.{ands, ors, and_noted, or_noted, first-fails, first_alone, second-fails, second-joins, found-on, one-negates, one-empty, one-closes, one-compares}
 use Rattle.statement.proofs.conditions.Nested.+read_and_read_one_read_or.Goals as goal

@@ -2,7 +2,7 @@
 use mathlib.Core.Path.{refl, sym, ap, ◌∙◌}
 use mathlib.Core.Bool.{true}
 use Rattle.lists.proofs.Bools.{and_left, and_right, and_both, clash}
-use Rattle.statement.specs.Reading.{is_name}
+use Rattle.statement.specs.Private.Reading.{is_name}
 use Rattle.statement.proofs.Columns.{name-is, dotted-operand, no-single, single-side}
 use Rattle.statement.proofs.Comparisons.{side-as}
 use Rattle.statement.proofs.conditions.Parser.read_operand.Goals as goal

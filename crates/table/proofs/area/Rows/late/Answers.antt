@@ -1,7 +1,7 @@
 -- They lie behind the others.
 use Rattle.std.proofs.Common.{◌≡◌, ℕ, ◌-◌, ◌*◌, length, take, drop, sym, ap, ◌∙◌, arith}
 use Rattle.std.proofs.lemmas.List.{take_all, length-drop}
-use Rattle.table.specs.Evaluated.{area_rows}
+use Rattle.table.specs.Rows.{area_rows}
 use Rattle.table.proofs.Round.{rows-late}
 use Rattle.table.proofs.area.Rows.late.Goals as goal
 

@@ -5,7 +5,8 @@ use borrow.Author.Tests.{lt-ltb, le-ltb}
 use lib.Dec.{leb, ltb}
 use mathlib.Core.Bool.{true, Bool}
 use Rattle.lists.specs.Lists.{turned}
-use Rattle.table.specs.Evaluated.{if_so, area_rows}
+use Rattle.table.specs.Evaluated.{if_so}
+use Rattle.table.specs.Rows.{area_rows}
 use Rattle.table.proofs.Round.{used-from}
 use Rattle.table.proofs.area.Rows.of.Goals.{then-table, else-table}
 use Rattle.table.proofs.area.Rows.of.Goals as goal

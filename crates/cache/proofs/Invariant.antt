@@ -1,0 +1,11 @@
+pub mod Sound
+pub mod Starts
+pub mod Sentence
+pub mod Cases
+pub mod Compiled
+pub mod Typed
+pub mod Added
+pub mod Cached
+pub mod Asked
+pub mod Updated
+pub mod Stays

@@ -1,0 +1,15 @@
+pub mod Areas
+pub mod Standing
+pub mod Pushed
+pub mod StoodFor
+pub mod Refused
+pub mod Asking
+pub mod Updating
+pub mod Adding
+pub mod Calls
+pub mod Dropping
+pub mod SlotsAsCache
+pub mod Finding
+pub mod Caching
+pub mod CallsOfModel
+pub mod ListsOfCalls

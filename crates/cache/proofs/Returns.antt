@@ -1,0 +1,14 @@
+pub mod Results
+pub mod Tested
+pub mod Checks
+pub mod Copies
+pub mod Opening
+pub mod Adding
+pub mod Inside
+pub mod Asking
+pub mod WorkedOut
+pub mod SlotsMatched
+pub mod MarkingLoops
+pub mod SlotsDropped
+pub mod Updating
+pub mod Flushing

@@ -1,0 +1,5 @@
+pub mod Places
+pub mod Reading
+pub mod Sentences
+pub mod Built
+pub mod Truths

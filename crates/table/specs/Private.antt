@@ -1,0 +1,4 @@
+pub mod Linking
+pub mod Scanned
+pub mod Testing
+pub mod Changing
