@@ -308,6 +308,16 @@ def hardest(count):
 HARDEST = line("U", 0)
 
 
+# ---- an update proposed, then committed or withdrawn (A.8), for (f)
+
+def proposed(call):
+    """The proposal of an update."""
+    return "P" + call[1:]
+
+
+COMMIT, WITHDRAW = "M", "B"
+
+
 # ---- the fullest state: 8 tables, 16 queries, 16 updates, 64 kept answers of keys with 8 values
 
 def fullest(keys=64, rows=512):
@@ -392,6 +402,10 @@ def gate():
     piece("a ring beside kept answers", ring(more=WRAPPED, slots=8), ["L", RING_EIGHTH, RING_INSERT, RING_ROW, "C 120"])
     piece("rows with nulls", iced(8), ["L", LOW_WATER, NOT_LOW, ICED, "C 4"])
     piece("matched answers that are not reached", spared(40), *[["L", call, "K 2"] for call in CORRECTIONS.values()])
+    looked = [[proposed(call), WITHDRAW, proposed(call), COMMIT] for call in (line("U", 2, 7, 3), *UPDATES.values())]
+    none = ["L", proposed(line("U", 1, 9, 9, 9)), COMMIT, WITHDRAW, "C 3"]
+    piece("updates proposed, withdrawn and committed; then into a full table, and no note", held(40), *[["L", *calls, "C 4"] for calls in looked], none)
+    piece("a row proposed for a ring, wrapped", ring(more=WRAPPED), ["L", proposed(RING_INSERT), RING_EIGHTH, COMMIT, RING_EIGHTH, "C 200"])
     piece("the most conjunctions", hardest(1), ["L", HARDEST, "K 2"])
     piece("clauses at rule 5's limit", clauses(), ["L", CLAUSES_UPDATE, "K 2"])
     piece("adding", one_table(8, 64), *[["L", text, "K 1"] for text in ADDS.values()])

@@ -1,8 +1,8 @@
 // What the calls of a list give in sum.
-use cache::{Answer, Changed, Source};
+use cache::{Answer, Changed, Proposed, Source};
 use std::fmt;
 
-// The calls, those refused, the answers from the cache, the rows read, the bytes of the records, the rows changed, the answers dropped; and a checksum, if it is asked for.
+// The calls, those refused, the answers from the cache, the rows read, the bytes of the records, the rows changed or proposed, the answers dropped; and a checksum, if it is asked for.
 #[derive(Clone, Copy, Default)]
 pub struct Counters {
     called: u64,
@@ -48,6 +48,10 @@ impl Counters {
     pub fn update(&mut self, changed: Changed) {
         self.changed = self.changed.wrapping_add(u64::from(changed.rows));
         self.dropped = self.dropped.wrapping_add(u64::from(changed.invalidated));
+    }
+
+    pub fn propose(&mut self, proposed: Proposed) {
+        self.changed = self.changed.wrapping_add(u64::from(proposed.rows));
     }
 
     // Three times the checksum and a byte, for each byte of an answer.

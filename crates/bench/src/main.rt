@@ -1,8 +1,8 @@
 // Runs lists of calls on the store, as often as a script says, and prints what they gave in sum: the driver behind `bench/run`. A script is lines of standard input, and
 // a line's first letter says what it is (`bench/README.md`). A call, for the list: `O slots` opens, `A text` adds, `Q n v ..` asks, `U n v ..` updates, `F` flushes,
-// `W n` shows row n of the last answer, `S` tests the state, `N` does nothing. `L` empties the list. `R n` makes n calls, round the list, each on the state that the last
-// one left; `K n` makes each of n calls on the state that was there before; `C n` is `R n` with a checksum of the answers. `T` prints the processor time used. Other lines
-// are comments. This program runs on a host and may use the heap.
+// `P n v ..` proposes an update, `M` commits (makes it), `B` withdraws (takes it back), `W n` shows row n of the last answer, `S` tests the state, `N` does nothing. `L`
+// empties the list. `R n` makes n calls, round the list, each on the state that the last one left; `K n` makes each of n calls on the state that was there before; `C n` is
+// `R n` with a checksum of the answers. `T` prints the processor time used. Other lines are comments. This program runs on a host and may use the heap.
 #![tactic(auto)]
 
 mod counters; // what is counted

@@ -35,6 +35,9 @@ impl Store {
             Call::Ask(n, values) => self.ask(*n, values, counters),
             Call::Update(n, values) => self.update(*n, values, counters),
             Call::Flush => self.flush(counters),
+            Call::Propose(n, values) => self.propose(*n, values, counters),
+            Call::Commit => self.commit(counters),
+            Call::Withdraw => self.withdraw(counters),
             Call::Show(i) => self.show(*i, counters),
             Call::Sound => self.test(counters),
             Call::Nothing => {}
@@ -78,6 +81,30 @@ impl Store {
         let flushed = self.state.flush(&self.cells, &self.memory);
         counters.refuse(flushed.result.is_err());
         self.state = flushed.state;
+    }
+
+    fn propose(&mut self, n: usize, values: &[i32], counters: &mut Counters) {
+        let proposed = self.state.propose(&self.cells, &self.memory, n, values);
+        counters.refuse(proposed.result.is_err());
+        if let Ok(proposed) = proposed.result {
+            counters.propose(proposed);
+        }
+        self.state = proposed.state;
+    }
+
+    fn commit(&mut self, counters: &mut Counters) {
+        let committed = self.state.commit(&mut self.cells, &self.memory);
+        counters.refuse(committed.result.is_err());
+        if let Ok(changed) = committed.result {
+            counters.update(changed);
+        }
+        self.state = committed.state;
+    }
+
+    fn withdraw(&mut self, counters: &mut Counters) {
+        let withdrawn = self.state.withdraw(&self.cells, &self.memory);
+        counters.refuse(withdrawn.result.is_err());
+        self.state = withdrawn.state;
     }
 
     // Row i of the last answer.

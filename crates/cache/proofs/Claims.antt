@@ -2,3 +2,4 @@ pub mod Refusals
 pub mod Openings
 pub mod Accepted
 pub mod Answered
+pub mod Proposed

@@ -6,20 +6,25 @@
 -- 3. why they agree: so each call meets the model's step (Refinement/CallsOfModel), and a list of calls follows the model's list (ListsOfCalls). There the kept answers are
 --    those of `recent`, read off the history of the plain store, and each is the plain store's record of now (trace/proofs/Past, Kept, Same, Anew);
 -- 4. what follows: what holds of every list in the model holds of the state (below). Assumes nothing.
-use mathlib.Core.Path.{◌≡◌, refl, sym, ap, ◌∙◌, subst, subst₂}
+use mathlib.Core.Path.{◌≡◌, refl, sym, ap, ap₂, ◌∙◌, subst, subst₂}
 use mathlib.Core.Logic.{◌≢◌, ◌⊎◌, inl, inr}
 use mathlib.Core.Bool.{Bool, true, false, cond}
 use mathlib.Core.Option.{Option, none, some}
-use mathlib.Core.List.{List, ◌∷◌, map}
+use Rattle.std.proofs.lemmas.Simd.{map-map}
+use mathlib.Core.List.{List, [], ◌∷◌, map}
 use Prim.Native.Nat.{ℕ, zero, suc, ◌+◌}
 use native.Mathlib.Omega.{arith}
 use lib.ListN.{length, drop}
 use Rattle.lists.specs.Lists.{All, written}
 use Rattle.lists.proofs.Lists.{All-map, All-left, All-image}
 use Rattle.meaning.specs.Key.{Key, same_key}
-use Rattle.meaning.specs.Plain.{rows_listed, Lengths, Plain, opening_refused, Out, refused, answered, record_of}
+use Rattle.meaning.specs.Plain.{rows_listed, Lengths, Plain, opening_refused, Out, refused, added, answered, rows, flushed, withdrawn, record_of, Note, committed, guard, refusal}
 use Rattle.meaning.specs.Record.{ReadsBack}
-use Rattle.meaning.specs.Call.{Call, add, ask, change, flush, Call32}
+use Rattle.meaning.specs.Call.{Call, add, ask, change, flush, propose, commit, withdraw, Call32}
+use Rattle.meaning.specs.Demand as M
+use Rattle.meaning.specs.Demand.{refusal_in, rows_in}
+use Rattle.meaning.proofs.Proposed as M₁
+use Rattle.meaning.proofs.Proposed.{standing-same}
 use Rattle.meaning.specs.Plain as P
 use Rattle.trace.specs.History.{Ground}
 use Rattle.trace.specs.Private.Slots.{Held, slot_bytes, find}
@@ -27,13 +32,14 @@ use Rattle.trace.specs.Private.Model as T
 use Rattle.trace.specs.Private.Model.{Model, turned, asked}
 use Rattle.trace.specs.Private.Demand as D
 use Rattle.trace.proofs.Demand.{stored-after, demands as on-model}
-use Rattle.cache.specs.Run.{Start, opening_of, opened, Got, step, after, plain_call, got_of, plain_after}
+use Rattle.cache.specs.Run.{Start, Store, Seen, opening_of, opened, Got, step, after, gets, plain_call, buffer_of, got_of, plain_after, plain_gets}
 use Rattle.cache.specs.Means.{Means}
-use Rattle.cache.specs.Demand.{SameAsPlain, slot_count, slot_size, history_of, next_ask, AnewOnlyIf, ThirdDemand, StandsInList, DropsInList, KeptOtherwise, RowsRead, AnswerReadsBack, Demands}
+use Rattle.cache.specs.Demand.{SameAsPlain, slot_count, slot_size, history_of, next_ask, AnewOnlyIf, ThirdDemand, StandsInList, DropsInList, KeptOtherwise, RowsRead, AnswerReadsBack, proposal_after, CommitAsProposed, Demands}
 use Rattle.cache.proofs.Invariant.Sentence.{sound_exactly_if}
 use Rattle.cache.proofs.Claims.Openings.{opens_exactly_if, opening_taken, opening-refused, flush_drops_all}
 use Rattle.cache.proofs.Claims.Accepted.{accepted_exactly_if}
 use Rattle.cache.proofs.Claims.Answered.{new_answer, kept_answer}
+use Rattle.cache.proofs.Claims.Proposed.{proposal_notes_only, commit_does_it}
 use Rattle.cache.proofs.Claims.Refusals.{lowest_number, rings_never_full, refused_changes_nothing}
 use Rattle.cache.proofs.Invariant.Stays.{opens_sound, stays_sound}
 use Rattle.cache.proofs.Refinement.Standing.{stands_for_plain}
@@ -89,6 +95,9 @@ values-32 (add text) v = v
 values-32 (ask k buffer) v = v
 values-32 (change n us) v = v
 values-32 flush v = v
+values-32 (propose n us) v = v
+values-32 commit v = v
+values-32 withdraw v = v
 
 calls-32 : (cs : List (Call (List ℕ))) → All Call32 cs → All Call32 (map plain_call cs)
 calls-32 cs v = All-image plain_call (All-map values-32 v)
@@ -182,6 +191,63 @@ answer_reads_back o cs v k buffer e =
     subst (λ (l : List ℕ). ReadsBack l (length (P.query_at (plain_after o cs) k.query).selected) (rows_listed (plain_after o cs) k)) (sym b)
     (on-model.kept_reads_back (start_of o) (map plain_call cs) (calls-32 cs v) k (length buffer) a.0 a.1 (drop (0 + length a.0) buffer))
 
+-- ---- A.8: a commit gives the rows proposed
+
+-- what the calls of a list get, by what the plain store gives
+refusal_got : (buffer : List ℕ) (o : Out) → (got_of buffer o).refusal ≡ refusal_in o
+refusal_got buffer (refused n) = refl
+refusal_got buffer (added k n) = refl
+refusal_got buffer (answered r) = refl
+refusal_got buffer (rows n) = refl
+refusal_got buffer flushed = refl
+refusal_got buffer withdrawn = refl
+
+rows_got : (buffer : List ℕ) (o : Out) → (got_of buffer o).rows ≡ rows_in o
+rows_got buffer (refused n) = refl
+rows_got buffer (added k n) = refl
+rows_got buffer (answered r) = refl
+rows_got buffer (rows n) = refl
+rows_got buffer flushed = refl
+rows_got buffer withdrawn = refl
+
+module _ {X : Type 0} (f : Got → X) (g : Out → X) (same : (buffer : List ℕ) (o : Out) → f (got_of buffer o) ≡ g o) where
+  plain-got : (lent : Lengths) (p : Plain) (cs : List (Call (List ℕ))) → map f (plain_gets lent p cs) ≡ map g (P.outs lent p (map plain_call cs))
+  plain-got lent p [] = refl
+  plain-got lent p (c ∷ cs) =
+      ap₂ (λ (x : X) (l : List X). x ∷ l) (same (buffer_of c) (P.step lent p (plain_call c)).1) (plain-got lent (P.step lent p (plain_call c)).0 cs)
+
+  got-same : (o : Start) (cs : List (Call (List ℕ))) → All Call32 cs
+      → map (λ (x : Seen). f x.got) (gets (opened o) cs) ≡ map g (P.outs (opening_of o).lent (P.opened (opening_of o)) (map plain_call cs))
+  got-same o cs v =
+      sym (map-map f (λ (x : Seen). x.got) (gets (opened o) cs)) ∙ ap (map f) (same_as_plain o cs v).0 ∙ plain-got (opening_of o).lent (P.opened (opening_of o)) cs
+
+-- the proposal that stands is the plain store's
+proposal-same : (o : Start) (cs : List (Call (List ℕ))) → All Call32 cs → proposal_after o cs ≡ M.proposal_after (opening_of o) (map plain_call cs)
+proposal-same o cs v =
+    standing-same length (λ (x : Seen). x.got.refusal) (λ (x : Seen). x.got.rows) refusal_in rows_in none cs (gets (opened o) cs)
+    (P.outs (opening_of o).lent (P.opened (opening_of o)) (map plain_call cs))
+    (got-same (λ (g : Got). g.refusal) refusal_in refusal_got o cs v) (got-same (λ (g : Got). g.rows) rows_in rows_got o cs v)
+
+-- a commit that is not refused gives rows
+commit-rows : (k : ℕ) (p : Plain) (x : Option Note) → (got_of [] (guard k p refused (committed p x)).1).refusal ≡ 0
+    → (guard k p refused (committed p x)).1 ≡ rows (got_of [] (guard k p refused (committed p x)).1).rows
+commit-rows zero p none z = absurd (omega arith)
+commit-rows zero p (some x) z = refl
+commit-rows (suc k) p x z = absurd (omega arith)
+
+pub commit_as_proposed : CommitAsProposed
+commit_as_proposed o cs v z =
+    let s : Store = after (opened o) cs in
+    let p : Plain = plain_after o cs in
+    let lent : Lengths = (opening_of o).lent in
+    let F = follows o cs in
+    let D : (step s commit).1.got ≡ got_of [] (P.step lent p commit).1 =
+    (does_as_plain s commit p F.typed F.sound (stands_in_list o cs) tt).0 ∙ ap (λ (l : Lengths). got_of [] (P.step l p commit).1) F.lent_is in
+    let r : (P.step lent p commit).1 ≡ rows (step s commit).1.got.rows =
+    commit-rows (refusal lent p commit) p p.pending (ap (λ (g : Got). g.refusal) (sym D) ∙ z) ∙ ap (λ (g : Got). rows g.rows) (sym D) in
+    let (x, i, e) = (M₁.commit_as_proposed (opening_of o) (map plain_call cs) (step s commit).1.got.rows).0 r in
+    (x, proposal-same o cs v ∙ i, e)
+
 -- ---- all claims
 
 pub demands : Demands
@@ -210,4 +276,7 @@ demands = record {
   kept_otherwise = kept_otherwise;
   rows-read = rows-read;
   answer_reads_back = answer_reads_back;
+  proposal_notes_only = proposal_notes_only;
+  commit_does_it = commit_does_it;
+  commit_as_proposed = commit_as_proposed;
 }

@@ -8,4 +8,5 @@ pub mod Added
 pub mod Cached
 pub mod Asked
 pub mod Updated
+pub mod Noted
 pub mod Stays

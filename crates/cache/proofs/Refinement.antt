@@ -6,6 +6,7 @@ pub mod Refused
 pub mod Asking
 pub mod Updating
 pub mod Adding
+pub mod Proposing
 pub mod Calls
 pub mod Dropping
 pub mod SlotsAsCache

@@ -11,4 +11,5 @@ pub mod SlotsMatched
 pub mod MarkingLoops
 pub mod SlotsDropped
 pub mod Updating
+pub mod Noting
 pub mod Flushing

@@ -11,6 +11,12 @@ use Rattle.meaning.specs.Refusals.{or_else, settled}
 use Rattle.cache.specs.declared.State.{State}
 use Rattle.cache.specs.SoundTest.{sound_state}
 use Rattle.cache.specs.Calls.{unfit}
+use Rattle.cache.specs.declared.Note.{Note}
+use Rattle.std.specs.Prelude.{Option as Maybe, Some, None}
+
+-- there is no note
+pub nothing : (n : Note) → ◌≡◌ {A = Maybe Note} None (Some n) → ⊥
+nothing n e = absurd (cc)
 
 module _ {X : Type 0} where
   pub settled-refused : (n : ℕ) (done refused : X) → (n ≡ 0 → ⊥) → refused ≡ settled n done refused

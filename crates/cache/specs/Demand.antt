@@ -3,10 +3,11 @@
 use Rattle.std.specs.Prelude.{◌≡◌, ◌≢◌, ◌⊎◌, ◌↔◌, true, false, not, cond, List, [], ◌∷◌, ◌++◌, map, ℕ, ◌+◌, ◌*◌, ◌≤◌, ◌<◌, ℤ, pos, nat_abs, length, get_or, replicate, Some, None}
 use Rattle.lists.specs.Lists.{All, any, keep, count, from, written}
 use Rattle.meaning.specs.Key.{Key, same_key}
+use Rattle.meaning.specs.Demand.{Proposal, standing}
 use Rattle.meaning.specs.Plain.{rows_listed, Plain, schemas, Opening, opening_refused, record_of, drops_key}
 use Rattle.meaning.specs.Record.{ReadsBack}
 use Rattle.meaning.specs.Limits.{WithinLimits}
-use Rattle.meaning.specs.Call.{Call, add, ask, change, flush, Is32, Call32}
+use Rattle.meaning.specs.Call.{Call, add, ask, change, flush, propose, commit, withdraw, Is32, Call32}
 use Rattle.meaning.specs.Refusals.{Conditions, kept_conditions, flush_conditions, is_short, Lowest}
 use Rattle.meaning.specs.Tokens.{tokens}
 use Rattle.meaning.specs.Grammar as G
@@ -18,10 +19,13 @@ use Rattle.trace.specs.History.{Event, history, fits_slot, Answered, hits, since
 use Rattle.statement.specs.Sound.{Passes}
 use Rattle.slots.specs.Keys.{Found, key_read, slot_key, slots_of}
 use Rattle.cache.specs.declared.State.{State}
-use Rattle.cache.specs.Sound.{lengths, opening, sizes_of, used_tables, schemas_in, areas_of, length_at, keys_in, OpeningWithin, IsSound}
+use Rattle.cache.specs.Sound.{lengths, opening, sizes_of, used_tables, schemas_in, areas_of, length_at, keys_in, OpeningWithin, IsSound, note_read, table_at, update_at}
 use Rattle.cache.specs.SoundTest.{sound_state}
 use Rattle.cache.specs.Means.{tables_in, Means, Typed}
-use Rattle.cache.specs.Calls.{unfit, add_conditions_in, ask_conditions, change_conditions, record_conditions, cached_length, bytes_at, found_in, table_at, update_at}
+use Rattle.cache.specs.Calls.{unfit, add_conditions_in, ask_conditions, change_conditions, record_conditions, cached_length, bytes_at, found_in, pending_conditions}
+use Rattle.cache.specs.Gives.{note_of}
+use Rattle.cache.specs.declared.Note.{Note}
+use Rattle.std.proofs.Math.Option.{Option, none, some}
 use Rattle.cache.specs.Run.{Store, Start, opening_of, opened_by, opened, Seen, lent_by, step, after, gets, plain_call, buffer_of, got_of, plain_after, plain_gets}
 
 -- ---- Demand 1: "If a call brings a text, number, state or lent memory that the store can't take, it gives the refusal number of document 01 and changes nothing. Every
@@ -38,6 +42,9 @@ conditions s (ask k buffer) =
     ask_conditions s.state (lent_by s) k.query (length k.values) ++ answer_conditions s k (length buffer) (found_in s.state k.query k.values)
 conditions s (change n vs) = change_conditions s.state (lent_by s) n (length vs)
 conditions s flush = flush_conditions (unfit s.state (lent_by s))
+conditions s (propose n vs) = change_conditions s.state (lent_by s) n (length vs)
+conditions s commit = pending_conditions s.state (lent_by s)
+conditions s withdraw = pending_conditions s.state (lent_by s)
 
 -- "The lowest number that applies is given, and only then." (`Refusals.Lowest`)
 abbrev pub LowestNumber : Type 0
@@ -134,8 +141,8 @@ abbrev pub AcceptedExactlyIf : Type 0
 AcceptedExactlyIf = (s : Store) (text : List ℕ) → Typed s.state → ((step s (add text)).1.got.refusal ≡ 0) ↔ ((x : Sentence) × Accepted s text x)
 
 -- ---- Demand 2, of every sound state, reached from an opening or not: there is a plain store that it stands for, whose tables and statements are those of sentences
--- that refusals 4 to 8 let pass. A text, an update and a flush, and a question whose answer is not kept, get on the state what they get on that store; and what the call
--- leaves stands for what the plain store is then.
+-- that refusals 4 to 8 let pass. Every call but a question whose answer is kept gets on the state what it gets on that store; and what the call leaves stands for what the plain store is then, with its
+-- note (A.8).
 
 pub record FromSentences (p : Plain) : Type 0 where
   pub tables : (before : List Schema) (t : Schema) (behind : List Schema) → schemas p ≡ before ++ t ∷ behind
@@ -152,6 +159,9 @@ Anew s (add text) = Unit {0}
 Anew s (ask k buffer) = (found_in s.state k.query k.values ≡ None) ⊎ (((step s (ask k buffer)).1.got.refusal ≢ 0) × ((step s (ask k buffer)).1.got.refusal ≢ 13))
 Anew s (change n vs) = Unit {0}
 Anew s flush = Unit {0}
+Anew s (propose n vs) = Unit {0}
+Anew s commit = Unit {0}
+Anew s withdraw = Unit {0}
 
 abbrev pub DoesAsPlain : Type 0
 DoesAsPlain = (s : Store) (c : Call (List ℕ)) (p : Plain) → Typed s.state → sound_state s.state ≡ true → Means s.state s.cells p → Anew s c
@@ -198,7 +208,7 @@ FlushDropsAll = (s : Store) → (step s flush).1.got.refusal ≡ 0 → (keys_hel
 -- ---- Demand 3: "For every opening and every list of calls after it (adding, asking, updating, flushing), refused ones included, each given the state that the last one
 -- returned and the opening's memories as it left them, which only the store writes: every call gets the refusal number, the statement's kind and number, the record and
 -- the count of rows inserted, matched or deleted that the same call gets from the plain store of document 01, which keeps no answer, and after the list the tables hold
--- the same rows as that store's."
+-- the same rows as that store's." A.8: "All three calls join the list of demand 3, where the proposed count is compared as well, and the plain store holds the note by the same rules."
 
 -- The values of a call have 32 bits, as their type says (`Call32`): of the calls of a list, where a claim needs it, and never of the one after them.
 
@@ -275,6 +285,26 @@ abbrev pub AnswerReadsBack : Type 0
 AnswerReadsBack = (o : Start) (cs : List (Call (List ℕ))) → All Call32 cs → (k : Key) (buffer : List ℕ) → (next_ask o cs k buffer).got.refusal ≡ 0
     → ReadsBack (next_ask o cs k buffer).got.answer (length (P.query_at (plain_after o cs) k.query).selected) (rows_listed (plain_after o cs) k)
 
+-- ---- A.8: "An update may be proposed: it gives the rows it would insert, match or delete, and changes nothing but the pending note in the state."
+
+-- on every state; of what it gives, and of the plain store's note, `DoesAsPlain` and `ThirdDemand` speak
+abbrev pub ProposalNotesOnly : Type 0
+ProposalNotesOnly = (s : Store) (n : ℕ) (us : List ℤ) → (step s (propose n us)).1.got.refusal ≡ 0
+    → (step s (propose n us)).0 ≡ record s { state = record s.state { pending = Some (note_of n us) } }
+
+-- "A commit then does it", and "the drop count is the commit's": on every sound state it is the update that the note names, in all that it gives and leaves
+abbrev pub CommitDoesIt : Type 0
+CommitDoesIt = (s : Store) (n : Note) → Typed s.state → (step s commit).1.got.refusal ≡ 0 → s.state.pending ≡ Some n
+    → step s commit ≡ step s (change n.update (note_read n).values)
+
+-- "in a list as in demand 3 an accepted commit's row count equals the one proposed": a proposal stands (`standing`: by what the calls before it got), and the rows that it gave are the commit's
+abbrev pub proposal_after : Start → List (Call (List ℕ)) → Option Proposal
+proposal_after o cs = standing (λ (x : Seen). x.got.refusal) (λ (x : Seen). x.got.rows) none cs (gets (opened o) cs)
+
+abbrev pub CommitAsProposed : Type 0
+CommitAsProposed = (o : Start) (cs : List (Call (List ℕ))) → All Call32 cs → (step (after (opened o) cs) commit).1.got.refusal ≡ 0
+    → (x : Proposal) × (proposal_after o cs ≡ some x) × (x.rows ≡ (step (after (opened o) cs) commit).1.got.rows)
+
 -- ---- all of these
 
 pub record Demands : Type 0 where
@@ -302,3 +332,6 @@ pub record Demands : Type 0 where
   pub kept_otherwise : KeptOtherwise
   pub rows-read : RowsRead
   pub answer_reads_back : AnswerReadsBack
+  pub proposal_notes_only : ProposalNotesOnly
+  pub commit_does_it : CommitDoesIt
+  pub commit_as_proposed : CommitAsProposed

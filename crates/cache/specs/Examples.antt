@@ -25,7 +25,7 @@ use Rattle.pattern.specs.Stored.{all_any, affects_stored, clauses_read, is_forme
 use Rattle.slots.specs.Keys.{same_key, key_of, slot_has, find_of, held_twice, slots_of}
 use Rattle.slots.specs.Order.{sound_slots, front_of, drop_by, open_of as slots_open}
 use Rattle.cache.specs.Sound.{lengths, opening}
-use Rattle.cache.specs.SoundTest.{sound_state, sound_tables, sound_answers}
+use Rattle.cache.specs.SoundTest.{sound_state, sound_tables, sound_answers, would_refuse, sound_note}
 use Rattle.cache.specs.declared.State.{State}
 use Rattle.cache.specs.Calls.{unfit, record_at, too_many}
 use Rattle.cache.specs.Gives.{open_of, add_of, ask_of, update_of, flush_of, empty_state, added_by, add_refusal, ask_refusal, with_cache, cached_refusal, ask_cached, kept, kept_bytes, new_refusal, ask_new, update_refusal, is_dropped, with_change, update_done}
@@ -33,7 +33,7 @@ use Rattle.cache.specs.Run.{Start, opened, Seen, step, after, gets, got_of}
 
 -- what the computations open
 unfoldable pub computing : Unit {0}
-unfolding is_name_byte is_word_byte decimal is_name word negative token_from first_token scan tokens a_condition a_sentence read past_limit unknown_name taken miscounted twice statement_of body encode stored opening_refused no_place compiled_of struct_of condition_nodes sound_condition sound_condition_on sound_query sound_table sound_update answer_stored meets_stored area_fits cells_after change_of changed_of count_after change_fits laid oldest_after tables_sound queries_sound updates_sound contradictory class entry affects_stored all_any clauses_read is_formed joint_clauses matches_stored patterns_stored reaches_stored relevant separate_stored start_read same_key key_of slot_has find_of held_twice sound_slots front_of slots_open sound_tables sound_answers sound_state settled unfit empty_state open_of added_by add_refusal add_of ask_refusal with_cache cached_refusal ask_cached kept kept_bytes record_at too_many new_refusal ask_new ask_of update_refusal is_dropped drop_by with_change update_done update_of flush_of step
+unfolding is_name_byte is_word_byte decimal is_name word negative token_from first_token scan tokens a_condition a_sentence read past_limit unknown_name taken miscounted twice statement_of body encode stored opening_refused no_place compiled_of struct_of condition_nodes sound_condition sound_condition_on sound_query sound_table sound_update answer_stored meets_stored area_fits cells_after change_of changed_of count_after change_fits laid oldest_after tables_sound queries_sound updates_sound contradictory class entry affects_stored all_any clauses_read is_formed joint_clauses matches_stored patterns_stored reaches_stored relevant separate_stored start_read same_key key_of slot_has find_of held_twice sound_slots front_of slots_open sound_tables sound_answers would_refuse sound_note sound_state settled unfit empty_state open_of added_by add_refusal add_of ask_refusal with_cache cached_refusal ask_cached kept kept_bytes record_at too_many new_refusal ask_new ask_of update_refusal is_dropped drop_by with_change update_done update_of flush_of step
 computing = tt
 
 -- 4,096 cells, 256 bytes of kept memory, 4 slots of 64 bytes

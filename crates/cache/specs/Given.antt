@@ -2,7 +2,7 @@
 -- definitions.
 use Rattle.std.specs.Prelude.{Result, Ok, Err, ℕ}
 use Rattle.statement.specs.declared.Refusal.{Refusal}
-use Rattle.statement.specs.Refusals.{number_in}
+use Rattle.statement.specs.Refusals.{number_of, number_in}
 use Rattle.statement.specs.Compiled.{of_table, of_query, of_update}
 use Rattle.cache.specs.declared.Kind as K
 use Rattle.cache.specs.declared.Kind.TheVariants as KV
@@ -11,8 +11,9 @@ use Rattle.cache.specs.declared.Source.TheVariants as SV
 use Rattle.cache.specs.declared.Added as A
 use Rattle.cache.specs.declared.Answer as N
 use Rattle.cache.specs.declared.Changed as C
+use Rattle.cache.specs.declared.Proposed as D
 use Rattle.cache.specs.declared.State.{State}
-use Rattle.cache.specs.Calls.{Opened, Added, Asked, Updated, Flushed}
+use Rattle.cache.specs.Calls.{Opened, Added, Asked, Updated, Flushed, Proposed}
 
 abbrev pub kind_number : K.Kind → ℕ
 kind_number KV.Table = of_table
@@ -63,6 +64,10 @@ asked_as r s = record { refusal = number_in r; cached = source_told r; scanned =
 
 abbrev pub updated_as : Result C.Changed Refusal → State → Updated
 updated_as r s = record { refusal = number_in r; rows = rows_told r; invalidated = invalidated_told r; state = s }
+
+abbrev pub proposed_as : Result D.Proposed Refusal → State → Proposed
+proposed_as (Ok p) s = record { refusal = 0; rows = p.rows; state = s }
+proposed_as (Err r) s = record { refusal = number_of r; rows = 0; state = s }
 
 abbrev pub flushed_as : Result Unit Refusal → State → Flushed
 flushed_as r s = record { refusal = number_in r; state = s }

@@ -1,9 +1,9 @@
 -- What each call gives and leaves, on the state as the program has it: document 01, "The store and its calls", "Meaning" and "Slots". Each is one record: the result, with the state in it, and the lent
 -- memories. The claims say all of it of every list of calls and of every sound state (`Demand`). Assumes nothing: these are definitions.
-use Rattle.std.specs.Prelude.{Bool, ◌&&◌, cond, List, [], ◌∷◌, map, ℕ, zero, suc, ◌+◌, ◌*◌, eqb, leb, ℤ, length, take, get_or, set, replicate, Some, None, pos}
+use Rattle.std.specs.Prelude.{Bool, ◌&&◌, ◌||◌, cond, List, [], ◌∷◌, map, ℕ, zero, suc, ◌+◌, ◌*◌, min, eqb, leb, ℤ, length, take, get_or, set, replicate, Option as Maybe, Some, None, pos}
 use Rattle.std.proofs.Math.Option.{Option, none, some}
 use Rattle.lists.specs.Lists.{written, count, any}
-use Rattle.meaning.specs.Limits.{most_tables, most_queries, most_updates, most_slots, least_slot_bytes}
+use Rattle.meaning.specs.Limits.{most_tables, most_queries, most_updates, most_slots, most_marks, least_slot_bytes}
 use Rattle.meaning.specs.Statement.{Second}
 use Rattle.meaning.specs.Refusals.{kept_conditions, is_short, lowest_of, settled, flush_conditions}
 use Rattle.meaning.specs.Pattern.{removal}
@@ -22,9 +22,10 @@ use Rattle.slots.specs.Keys.{Found, no_key, values_of, key_of, slot_key, held_sl
 use Rattle.slots.specs.declared.SlotList.{SlotList}
 use Rattle.slots.specs.declared.Taken.{Taken}
 use Rattle.slots.specs.Order.{open_of as slots_open, front_of, is_open, last_taken, drop_by, clear_of}
+use Rattle.cache.specs.declared.Note.{Note}
 use Rattle.cache.specs.declared.State.{State}
-use Rattle.cache.specs.Sound.{lengths, query_at, opening}
-use Rattle.cache.specs.Calls.{Opened, Added, Asked, Updated, add_conditions_in, ask_conditions, table_at, change_conditions, Opens, Asks, bytes_at, cached_length, area_start, rows_at, record_at, record_conditions, Updates, Flushed, lengths_lent, unfit, update_at, found_in}
+use Rattle.cache.specs.Sound.{lengths, query_at, opening, table_at, update_at, note_read}
+use Rattle.cache.specs.Calls.{Opened, Added, Asked, Updated, add_conditions_in, ask_conditions, change_conditions, Opens, Asks, bytes_at, cached_length, area_start, rows_at, record_at, record_conditions, Updates, Flushed, lengths_lent, unfit, found_in, Proposed, pending_conditions}
 
 -- ---- open: "Opening fills both memories with zeros"; refused: "a state without tables, statements, slots or memory, its bytes a slot 8"
 
@@ -43,6 +44,7 @@ empty_state o = record {
   slot_bytes = o.slot_bytes;
   cells = o.lent.cells;
   memory = o.lent.memory;
+  pending = None;
 }
 
 abbrev pub open_gives : Opened → List ℤ → List ℕ → Opens
@@ -54,14 +56,14 @@ open_of cells memory slots bytes =
     cond (opening_refused o) (open_gives (record { refusal = 1; state = empty_state (opening (lengths 0 0) 0 least_slot_bytes) }) cells memory)
     (open_gives (record { refusal = 0; state = empty_state o }) (replicate (length cells) (pos 0)) (replicate (length memory) 0))
 
--- ---- add: "adding gives the kind and that number"
+-- ---- add: "adding gives the kind and that number"; A.8: "an accepted text of any kind" removes the note
 
 abbrev pub added_table : State → Table → Added
 added_table s t = record {
   refusal = 0;
   kind = of_table;
   number = s.table_count;
-  state = record s { tables = set s.tables s.table_count t; table_count = s.table_count + 1 };
+  state = record s { tables = set s.tables s.table_count t; table_count = s.table_count + 1; pending = None };
 }
 
 abbrev pub added_query : State → Query → Added
@@ -69,7 +71,7 @@ added_query s q = record {
   refusal = 0;
   kind = of_query;
   number = s.query_count;
-  state = record s { queries = set s.queries s.query_count q; query_count = s.query_count + 1 };
+  state = record s { queries = set s.queries s.query_count q; query_count = s.query_count + 1; pending = None };
 }
 
 abbrev pub added_update : State → Update → Added
@@ -77,7 +79,7 @@ added_update s u = record {
   refusal = 0;
   kind = of_update;
   number = s.update_count;
-  state = record s { updates = set s.updates s.update_count u; update_count = s.update_count + 1 };
+  state = record s { updates = set s.updates s.update_count u; update_count = s.update_count + 1; pending = None };
 }
 
 -- what the text says beside the state's tables
@@ -229,7 +231,7 @@ abbrev pub with_rows : Table → ℕ → ℕ → Table
 with_rows t n k = record t { rows = n; oldest = k }
 
 unfoldable pub with_change : State → ℕ → Table → SlotList → State
-with_change s i t slots = record s { tables = set s.tables i t; slots = slots }
+with_change s i t slots = record s { tables = set s.tables i t; slots = slots; pending = None }
 
 abbrev pub update_refused : State → ℕ → Updated
 update_refused s n = record { refusal = n; rows = 0; invalidated = 0; state = s }
@@ -258,9 +260,52 @@ update_of s cells memory update values =
 -- ---- flush: "drop every kept answer"
 
 abbrev pub emptied : State → State
-emptied s = with_cache s (clear_of s.slots) s.keys s.lengths
+emptied s = record s { slots = clear_of s.slots; pending = None }
 
 unfoldable pub flush_of : State → Lengths → Flushed
 flush_of s l =
     let n = lowest_of (flush_conditions (unfit s l)) in
     settled n (record { refusal = 0; state = emptied s }) (record { refusal = n; state = s })
+
+-- ---- A.8: "An update may be proposed: it gives the rows it would insert, match or delete, and changes nothing but the pending note in the state."
+
+unfoldable pub with_note : State → Maybe Note → State
+with_note s n = record s { pending = n }
+
+-- the note of an update with its first eight values
+unfoldable pub note_of : ℕ → List ℤ → Note
+note_of n vs = record { update = n; count = min (length vs) most_marks; values = written (replicate most_marks (pos 0)) 0 (take most_marks vs) }
+
+abbrev pub propose_refused : State → ℕ → Proposed
+propose_refused s n = record { refusal = n; rows = 0; state = s }
+
+unfoldable pub would_do : State → List ℤ → ℕ → List ℤ → Proposed
+would_do s cells update values =
+    let u = update_at s update in
+    let c = change_of u (table_at s u.table) (area_start s u.table) cells values in
+    record { refusal = 0; rows = c.count; state = with_note s (Some (note_of update values)) }
+
+-- "Proposals are refused by 2 and 10 to 12"; the cells and the kept memory are lent to be measured and counted
+unfoldable pub propose_of : State → List ℤ → List ℕ → ℕ → List ℤ → Proposed
+propose_of s cells memory update values =
+    let n = update_refusal s (lengths_lent cells memory) update (length values) in
+    settled n (would_do s cells update values) (propose_refused s n)
+
+-- "commit or withdrawal without a note gives 17, looked for after 2"
+unfoldable pub pending_refusal : State → Lengths → ℕ
+pending_refusal s l = lowest_of (pending_conditions s l)
+
+-- "A commit then does it": the update of the note with its values, and "the drop count is the commit's"
+abbrev pub commit_done : State → List ℤ → Maybe Note → Updates
+commit_done s cells None = update_gives (update_refused s 17) cells
+commit_done s cells (Some n) = update_done s cells (update_at s n.update) (note_read n).values
+
+unfoldable pub commit_of : State → List ℤ → List ℕ → Updates
+commit_of s cells memory =
+    let n = pending_refusal s (lengths_lent cells memory) in
+    settled n (commit_done s cells s.pending) (update_gives (update_refused s n) cells)
+
+unfoldable pub withdraw_of : State → Lengths → Flushed
+withdraw_of s l =
+    let n = pending_refusal s l in
+    settled n (record { refusal = 0; state = with_note s None }) (record { refusal = n; state = s })

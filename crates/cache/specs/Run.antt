@@ -2,14 +2,14 @@
 -- from the plain store of document 01. Assumes nothing: these are definitions.
 use Rattle.std.specs.Prelude.{List, [], ◌∷◌, map, ℕ, ℤ, length}
 use Rattle.lists.specs.Lists.{written}
-use Rattle.meaning.specs.Call.{Call, add, ask, change, flush, with_buffer}
+use Rattle.meaning.specs.Call.{Call, add, ask, change, flush, propose, commit, withdraw, with_buffer}
 use Rattle.meaning.specs.Plain as P
-use Rattle.meaning.specs.Plain.{Lengths, Plain, Opening, Kind, table_kind, query_kind, update_kind, Out, refused, added, answered, rows, flushed}
+use Rattle.meaning.specs.Plain.{Lengths, Plain, Opening, Kind, table_kind, query_kind, update_kind, Out, refused, added, answered, rows, flushed, withdrawn}
 use Rattle.cache.specs.declared.State.{State}
 use Rattle.cache.specs.Sound.{opening}
 use Rattle.statement.specs.Compiled.{of_table, of_query, of_update}
-use Rattle.cache.specs.Calls.{lengths_lent, Added, Flushed, Opens, Asks, Updates}
-use Rattle.cache.specs.Gives.{open_of, add_of, ask_of, update_of, flush_of}
+use Rattle.cache.specs.Calls.{lengths_lent, Added, Flushed, Opens, Asks, Updates, Proposed}
+use Rattle.cache.specs.Gives.{open_of, add_of, ask_of, update_of, flush_of, propose_of, commit_of, withdraw_of}
 
 -- ---- the store: the state, and the memories that only it writes
 
@@ -89,6 +89,13 @@ step_flush s r = (
   record { got = record { refusal = r.refusal; kind = 0; number = 0; size = 0; rows = 0; answer = [] }; kept = 0; scanned = 0; drops = 0 },
 )
 
+-- A.8
+abbrev pub step_propose : Store → Proposed → Store × Seen
+step_propose s r = (
+  record { state = r.state; cells = s.cells; memory = s.memory },
+  record { got = record { refusal = r.refusal; kind = 0; number = 0; size = 0; rows = r.rows; answer = [] }; kept = 0; scanned = 0; drops = 0 },
+)
+
 -- the lengths of the store's memories
 abbrev pub lent_by : Store → Lengths
 lent_by s = lengths_lent s.cells s.memory
@@ -98,6 +105,9 @@ step s (add text) = step_add s (add_of s.state (lent_by s) text)
 step s (ask k buffer) = step_ask s (ask_of s.state s.cells s.memory k.query k.values buffer)
 step s (change n vs) = step_update s (update_of s.state s.cells s.memory n vs)
 step s flush = step_flush s (flush_of s.state (lent_by s))
+step s (propose n vs) = step_propose s (propose_of s.state s.cells s.memory n vs)
+step s commit = step_update s (commit_of s.state s.cells s.memory)
+step s withdraw = step_flush s (withdraw_of s.state (lent_by s))
 
 -- the store after a list of calls; what each call gets
 abbrev pub after : Store → List (Call (List ℕ)) → Store
@@ -120,6 +130,9 @@ buffer_of (add text) = []
 buffer_of (ask k buffer) = buffer
 buffer_of (change n vs) = []
 buffer_of flush = []
+buffer_of (propose n vs) = []
+buffer_of commit = []
+buffer_of withdraw = []
 
 abbrev pub kind_number : Kind → ℕ
 kind_number table_kind = of_table
@@ -133,6 +146,7 @@ got_of buffer (added k n) = record { refusal = 0; kind = kind_number k; number =
 got_of buffer (answered r) = record { refusal = 0; kind = 0; number = 0; size = length r; rows = 0; answer = written buffer 0 r }
 got_of buffer (rows n) = record { refusal = 0; kind = 0; number = 0; size = 0; rows = n; answer = buffer }
 got_of buffer flushed = record { refusal = 0; kind = 0; number = 0; size = 0; rows = 0; answer = buffer }
+got_of buffer withdrawn = record { refusal = 0; kind = 0; number = 0; size = 0; rows = 0; answer = buffer }
 
 abbrev pub plain_after : Start → List (Call (List ℕ)) → Plain
 plain_after o cs = P.after (opening_of o).lent (P.opened (opening_of o)) (map plain_call cs)

@@ -1,20 +1,25 @@
--- When a state is sound: document 01, "The store and its calls", "A state is sound when ..", and requests A.1 and A.4: the sentence, half sentence by half sentence (`IsSound`). The test that the code computes for
+-- When a state is sound: document 01, "The store and its calls", "A state is sound when ..", and requests A.1, A.4 and A.8: the sentence, half sentence by half sentence (`IsSound`). The test that the code computes for
 -- any state is `SoundTest.sound_state`; that it is true exactly if the sentence holds is a claim (`Demand.SoundExactlyIf`). Entries past the counts do not matter. Assumes nothing: these are definitions.
-use Rattle.std.specs.Prelude.{◌≡◌, true, List, [], ◌∷◌, ◌++◌, map, ℕ, ◌+◌, ◌*◌, ◌≤◌, ◌<◌, get_or, take}
-use Rattle.lists.specs.Lists.{All, Distinct}
+use Rattle.std.specs.Prelude.{◌≡◌, Bool, true, false, not, ◌&&◌, ◌||◌, List, [], ◌∷◌, ◌++◌, map, ℕ, ◌+◌, ◌*◌, ◌≤◌, ◌<◌, eqb, leb, ltb, length, get_or, take, Option as Maybe, Some, None}
+use Rattle.lists.specs.Lists.{All, all, Distinct}
 use Rattle.meaning.specs.Key as M
-use Rattle.meaning.specs.Limits.{Between}
+use Rattle.meaning.specs.Limits.{most_tables, most_queries, most_updates, least_slot_bytes, Between}
 use Rattle.meaning.specs.Names.{Schema}
-use Rattle.meaning.specs.Plain.{Lengths, Opening}
+use Rattle.meaning.specs.Plain.{Lengths, Opening, opening_refused}
 use Rattle.statement.specs.declared.Table.{Table}
 use Rattle.statement.specs.declared.Query.{Query}
 use Rattle.statement.specs.declared.Update.{Update}
 use Rattle.statement.specs.Catalog.{schema_of, schemas_of}
-use Rattle.statement.specs.Compiled.{no_query}
+use Rattle.statement.specs.Compiled.{no_query, insert_form, no_table, no_update}
 use Rattle.statement.specs.Sound.{FromTable, FromQuery, FromUpdate}
+use Rattle.soundness.specs.Soundness.{tables_sound, queries_sound, updates_sound}
 use Rattle.slots.specs.declared.Key.{Key}
 use Rattle.slots.specs.declared.SlotList.{SlotList}
-use Rattle.slots.specs.Keys.{key_read, held_keys, slots_of, held_slots}
+use Rattle.slots.specs.Keys.{key_read, held_keys, held_twice, slots_of, held_slots}
+use Rattle.slots.specs.Order.{sound_slots}
+use Rattle.std.proofs.Math.Option.{Option, none, some}
+use Rattle.meaning.specs.Plain as P
+use Rattle.cache.specs.declared.Note.{Note}
 use Rattle.cache.specs.declared.State.{State}
 
 -- ---- what is in use
@@ -50,6 +55,18 @@ areas_of (t ∷ ts) = t.count * t.capacity + areas_of ts
 abbrev pub query_at : State → ℕ → Query
 query_at s i = get_or s.queries i no_query
 
+abbrev pub table_at : State → ℕ → Table
+table_at s i = get_or s.tables i no_table
+
+abbrev pub update_at : State → ℕ → Update
+update_at s i = get_or s.updates i no_update
+
+-- 12: "INSERT, table full"; of a ring, A.4: "12 isn't given for it"
+abbrev pub is_full : State → Update → Bool
+is_full s u =
+    let t = table_at s u.table in
+    eqb u.form insert_form && (not t.ring && leb t.capacity t.rows)
+
 -- the length of the answer in the slot x
 abbrev pub length_at : State → ℕ → ℕ
 length_at s x = get_or s.lengths x 0
@@ -57,6 +74,17 @@ length_at s x = get_or s.lengths x 0
 -- the keys of the kept answers
 abbrev pub keys_in : State → List M.Key
 keys_in s = map key_read (held_keys s.keys s.slots)
+
+-- A.8: the pending note as the plain store has it: the update's number, and the values in use
+abbrev pub note_read : Note → P.Note
+note_read n = record { update = n.update; values = take n.count n.values }
+
+abbrev pub pending_read : Maybe Note → Option P.Note
+pending_read None = none
+pending_read (Some n) = some (note_read n)
+
+abbrev pub pending_in : State → Option P.Note
+pending_in s = pending_read s.pending
 
 -- ---- the sentence
 
@@ -79,6 +107,12 @@ pub record NamesEachOnce (l : SlotList) : Type 0 where
   pub held : l.held ≤ l.count
   pub slots : All (λ x. x < l.count) (slots_of l)
   pub once : Distinct (slots_of l)
+
+-- A.8, of a note: "A state whose note names an update that 10 to 12 would refuse now is not sound."
+pub record NoteStands (s : State) (n : Note) : Type 0 where
+  pub there : n.update < s.update_count
+  pub values : n.count ≡ (update_at s n.update).parameters
+  pub room : is_full s (update_at s n.update) ≡ false
 
 -- A.4, of the starting place: "in a sound state it is below the ring's size, and 0 unless a ring is full"
 pub record StartFits (t : Table) : Type 0 where
@@ -108,3 +142,5 @@ pub record IsSound (s : State) : Type 0 where
   pub once : Distinct (keys_in s)
   -- "and its slot list names each slot once, held ones first"
   pub slots : NamesEachOnce s.slots
+  -- A.8: the note, if there is one
+  pub note : (n : Note) → s.pending ≡ Some n → NoteStands s n

@@ -1,5 +1,5 @@
 -- The test of a state, which every call makes, part by part: it is true exactly if the sentence of `Sound.IsSound` holds (`Demand.SoundExactlyIf`). Assumes nothing: these are definitions.
-use Rattle.std.specs.Prelude.{Bool, not, ◌&&◌, ◌||◌, ℕ, eqb, leb, ltb, length}
+use Rattle.std.specs.Prelude.{◌≡◌, Bool, true, not, ◌&&◌, ◌||◌, ◌∷◌, ◌++◌, ℕ, ◌+◌, ◌*◌, ◌≤◌, ◌<◌, eqb, leb, ltb, length, Option as Maybe, Some, None}
 use Rattle.lists.specs.Lists.{all}
 use Rattle.meaning.specs.Limits.{most_tables, most_queries, most_updates, least_slot_bytes}
 use Rattle.meaning.specs.Plain.{opening_refused}
@@ -8,8 +8,11 @@ use Rattle.soundness.specs.Soundness.{tables_sound, queries_sound, updates_sound
 use Rattle.slots.specs.declared.Key.{Key}
 use Rattle.slots.specs.Keys.{held_keys, held_twice, held_slots}
 use Rattle.slots.specs.Order.{sound_slots}
+use Rattle.meaning.specs.Refusals.{ten_to_twelve, lowest_of}
+use Rattle.statement.specs.declared.Update.{Update}
+use Rattle.cache.specs.declared.Note.{Note}
 use Rattle.cache.specs.declared.State.{State}
-use Rattle.cache.specs.Sound.{sizes_of, used_tables, areas_of, query_at, length_at}
+use Rattle.cache.specs.Sound.{lengths, sizes_of, used_tables, areas_of, query_at, length_at, update_at, is_full}
 
 -- "its sizes pass refusal 1"
 abbrev pub sound_sizes : State → Bool
@@ -60,5 +63,18 @@ sound_tables s = sound_areas s && (sound_rows s && sound_texts s)
 unfoldable pub sound_answers : State → Bool
 sound_answers s = sound_lengths s && (sound_keys s && sound_slots s.slots)
 
+-- A.8: "A state whose note names an update that 10 to 12 would refuse now is not sound."
+unfoldable pub would_refuse : State → ℕ → ℕ → ℕ
+would_refuse s update values =
+    let u : Update = update_at s update in
+    lowest_of (ten_to_twelve s.update_count update u.parameters values (is_full s u))
+
+abbrev pub note_passes : State → Maybe Note → Bool
+note_passes s None = true
+note_passes s (Some n) = eqb (would_refuse s n.update n.count) 0
+
+unfoldable pub sound_note : State → Bool
+sound_note s = note_passes s s.pending
+
 unfoldable pub sound_state : State → Bool
-sound_state s = sound_sizes s && (sound_counts s && (sound_tables s && sound_answers s))
+sound_state s = sound_sizes s && (sound_counts s && (sound_tables s && (sound_answers s && sound_note s)))

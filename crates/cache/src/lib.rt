@@ -1,4 +1,4 @@
-// The store that caches answers: its state by value, and the calls open, add, ask, update and flush. The tables' cells and the cache memory are lent at each call.
+// The store that caches answers: its state by value, and the calls open, add, ask, update, flush, propose, commit and withdraw. The tables' cells and the cache memory are lent at each call.
 // Casts: u32 has no `From` to usize, and a number that is cast to a smaller type is proved to fit it.
 #![tactic(auto)]
 
@@ -12,12 +12,12 @@ ghost use Rattle.statement.specs.Refusals.{number_of, number_in};
 ghost use Rattle.table.specs.Evaluated.{said};
 ghost use Rattle.table.specs.Changed.{cells_after};
 ghost use Rattle.slots.specs.Keys.{key_of, find_of};
-ghost use Rattle.cache.specs.Sound.{lengths, opening, areas_of};
-ghost use Rattle.cache.specs.SoundTest.{sound_state, sound_counts, sound_tables, sound_answers};
-ghost use Rattle.cache.specs.Private.Outcomes.{lent_in, nowhere, no_answer, settled_state, outcome_of, Caches, WorksOut, Room, Keeps, Effective, no_effect, effect_of, told, has_place};
-ghost use Rattle.cache.specs.Given.{opened_as, added_as, asked_as, updated_as, flushed_as};
+ghost use Rattle.cache.specs.Sound.{lengths, opening, areas_of, update_at, note_read};
+ghost use Rattle.cache.specs.SoundTest.{sound_state, sound_counts, sound_tables, sound_answers, would_refuse, sound_note};
+ghost use Rattle.cache.specs.Private.Outcomes.{lent_in, nowhere, no_answer, settled_state, outcome_of, Caches, WorksOut, Room, Keeps, Effective, no_effect, effect_of, told, has_place, Makes, NotesOr};
+ghost use Rattle.cache.specs.Given.{opened_as, added_as, asked_as, updated_as, flushed_as, proposed_as};
 ghost use Rattle.cache.specs.Calls.{lengths_lent, unfit};
-ghost use Rattle.cache.specs.Gives.{open_of, add_of, ask_of, update_of, flush_of, empty_state, open_gives, added_by, ask_gives, ask_refusal, kept_bytes, ask_new, ask_found, update_gives, update_refusal};
+ghost use Rattle.cache.specs.Gives.{open_of, add_of, ask_of, update_of, flush_of, empty_state, open_gives, added_by, ask_gives, ask_refusal, kept_bytes, ask_new, ask_found, update_gives, update_refusal, update_refused, update_done, note_of, would_do, propose_of, commit_of, withdraw_of};
 
 use slots::{Key, SlotList};
 use table::{Query, Refusal, Selected, Statement, Table, Update};
@@ -42,6 +42,17 @@ pub struct State {
     pub slot_bytes: u16,
     pub cells: u32,
     pub memory: u32,
+    // the update that is proposed, if one is
+    pub pending: Option<Note>,
+}
+
+// An update that is proposed: its number, and its values, of which the first `count` are in use.
+#[repr(C)]
+#[derive(Clone, Copy)]
+pub struct Note {
+    pub update: u8,
+    pub count: u8,
+    pub values: [i32; Key::VALUES],
 }
 
 // What a call gives: what it is made for, or why it is not taken; and the state, which a call takes by value and gives back in both cases.
@@ -86,6 +97,12 @@ pub struct Answer {
 pub struct Changed {
     pub rows: u16,
     pub invalidated: u8,
+}
+
+// What a proposal gives: the rows that the update would insert, match or delete.
+#[derive(Clone, Copy)]
+pub struct Proposed {
+    pub rows: u16,
 }
 
 // The lengths of the memories that are lent.
@@ -255,7 +272,20 @@ impl State {
         if !(sizes & counts) {
             return false;
         }
-        self.texts_are_sound() && self.answers_are_sound()
+        self.texts_are_sound() && (self.answers_are_sound() && self.note_is_sound())
+    }
+
+    // Whether the note, if there is one, names an update that 10 to 12 would not refuse now.
+    fn note_is_sound(&self) -> bool
+        requires { (sound_counts self.now ≡ true) × (sound_tables self.now ≡ true) }
+        ensures { result ≡ sound_note self.now }
+    {
+        match &self.pending {
+            None => true,
+            Some(note) => self
+                .check_number(usize::from(note.update), usize::from(note.count))
+                .is_ok(),
+        }
     }
 
     // Whether the tables and statements are sound, where there are not too many of them.
@@ -317,6 +347,7 @@ impl State {
             slot_bytes,
             cells,
             memory,
+            pending: None,
         }
     }
 
@@ -370,11 +401,12 @@ impl State {
         Ok(self.put(statement))
     }
 
-    // Puts what a text says behind the others of its kind, where there is a place for it.
+    // Puts what a text says behind the others of its kind, where there is a place for it; the note goes.
     fn put(&mut self, statement: Statement) -> Added
         requires { has_place (compiled (Ok statement)).kind self.old ≡ true }
         ensures { added_as (Ok result) self.new ≡ added_by self.old (compiled (Ok statement)) }
     {
+        self.pending = None;
         match statement {
             Statement::Table(table) => Added {
                 kind: Kind::Table,
@@ -455,6 +487,14 @@ impl State {
         ensures { number_in result ≡ update_refusal self.now (lent_in lent) update values }
     {
         self.check(lent)?;
+        self.check_number(update, values)
+    }
+
+    // Refuses by 10, 11 or 12, the lowest that applies.
+    fn check_number(&self, update: usize, values: usize) -> Result<(), Refusal>
+        requires { (sound_counts self.now ≡ true) × (sound_tables self.now ≡ true) }
+        ensures { number_in result ≡ would_refuse self.now update values }
+    {
         let updates = self.used_updates();
         let u = updates.get(update).ok_or(Refusal::Number)?;
         check_values(u.parameters, values)?;
@@ -493,18 +533,18 @@ impl State {
         }
     }
 
-    // Makes an update with its values, and invalidates the cached answers that it matches. The cache memory is lent to be measured. (Refused or not, the state is changed in one place
-    // and returned once: with a second return it was copied once more a call; docs/PROOFS.md, By value.)
-    pub fn update(
-        mut self,
-        cells: &mut [i32],
-        memory: &[u8],
+    // Makes an update of this number with its values where it is taken, and invalidates the cached answers that it matches; the note goes. (Refused or not, the state is changed in one
+    // place and returned once: with a second return it was copied once more a call; docs/PROOFS.md, By value.)
+    fn make(
+        &mut self,
+        taken: Result<(), Refusal>,
         update: usize,
+        cells: &mut [i32],
         values: &[i32],
-    ) -> Outcome<Changed>
-        ensures { update_gives (updated_as result.result result.state) cells.new ≡ update_of self cells.old memory.now update values.now }
+    ) -> Result<Changed, Refusal>
+        requires { Makes self.old (number_in taken) (length cells.old) update }
+        ensures { update_gives (updated_as result self.new) cells.new ≡ settled (number_in taken) (update_done self.old cells.old (update_at self.old update) values.now) (update_gives (update_refused self.old (number_in taken)) cells.old) }
     {
-        let taken = self.check_update(Lengths::of(cells, memory), update, values.len());
         let u = self.updates[update % Update::UPDATES];
         let i = usize::from(u.table) % Table::TABLES;
         let mut t = self.tables[i];
@@ -515,8 +555,100 @@ impl State {
         t.oldest = effect.done.oldest;
         self.tables[i] = t;
         self.slots = effect.slots;
+        if taken.is_ok() {
+            self.pending = None;
+        }
+        taken.map(|()| Changed { rows, invalidated })
+    }
+
+    // Makes an update with its values, and invalidates the cached answers that it matches. The cache memory is lent to be measured.
+    pub fn update(
+        mut self,
+        cells: &mut [i32],
+        memory: &[u8],
+        update: usize,
+        values: &[i32],
+    ) -> Outcome<Changed>
+        ensures { update_gives (updated_as result.result result.state) cells.new ≡ update_of self cells.old memory.now update values.now }
+    {
+        let taken = self.check_update(Lengths::of(cells, memory), update, values.len());
+        let result = self.make(taken, update, cells, values);
         Outcome {
-            result: taken.map(|()| Changed { rows, invalidated }),
+            result,
+            state: self,
+        }
+    }
+
+    // ---- propose, commit, withdraw
+
+    // How many rows the update of this number with its values would insert, match or delete.
+    fn count_rows(&self, update: usize, cells: &[i32], values: &[i32]) -> u16
+        requires { (sound_state self.now ≡ true) × (update < self.now.update_count) }
+        ensures { result ≡ (would_do self.now cells.now update values.now).rows }
+    {
+        let u = self.updates[update];
+        let i = usize::from(u.table);
+        let start = sound::areas(&self.tables[..i]);
+        table::count_change(u, self.tables[i], start, cells, values)
+    }
+
+    // Proposes an update with its values: says how many rows it would insert, match or delete, and notes it. The cache memory is lent to be measured.
+    pub fn propose(
+        mut self,
+        cells: &[i32],
+        memory: &[u8],
+        update: usize,
+        values: &[i32],
+    ) -> Outcome<Proposed>
+        ensures { proposed_as result.result result.state ≡ propose_of self cells.now memory.now update values.now }
+    {
+        let taken = self.check_update(Lengths::of(cells, memory), update, values.len());
+        let result = match taken {
+            Err(refusal) => Err(refusal),
+            Ok(()) => {
+                let rows = self.count_rows(update, cells, values);
+                self.pending = Some(Note::of(update as u8, values));
+                Ok(Proposed { rows })
+            }
+        };
+        Outcome {
+            result,
+            state: self,
+        }
+    }
+
+    // The note, refused by 2 or 17.
+    fn check_note(&self, lent: Lengths) -> Result<Note, Refusal>
+        ensures { NotesOr self.now (lent_in lent) result }
+    {
+        self.check(lent)?;
+        self.pending.ok_or(Refusal::Note)
+    }
+
+    // Makes the update that is proposed. The cache memory is lent to be measured.
+    pub fn commit(mut self, cells: &mut [i32], memory: &[u8]) -> Outcome<Changed>
+        ensures { update_gives (updated_as result.result result.state) cells.new ≡ commit_of self cells.old memory.now }
+    {
+        let result = match self.check_note(Lengths::of(cells, memory)) {
+            Err(refusal) => Err(refusal),
+            Ok(note) => self.make(Ok(()), usize::from(note.update), cells, note.used()),
+        };
+        Outcome {
+            result,
+            state: self,
+        }
+    }
+
+    // Takes the note away. The memories are lent to be measured.
+    pub fn withdraw(mut self, cells: &[i32], memory: &[u8]) -> Outcome<()>
+        ensures { flushed_as result.result result.state ≡ withdraw_of self (lengths_lent cells.now memory.now) }
+    {
+        let result = self.check_note(Lengths::of(cells, memory)).map(|_| ());
+        if result.is_ok() {
+            self.pending = None;
+        }
+        Outcome {
+            result,
             state: self,
         }
     }
@@ -530,11 +662,34 @@ impl State {
         let result = self.check(Lengths::of(cells, memory));
         if result.is_ok() {
             self.slots = self.slots.clear();
+            self.pending = None;
         }
         Outcome {
             result,
             state: self,
         }
+    }
+}
+
+impl Note {
+    // The note of an update with its first eight values.
+    fn of(update: u8, values: &[i32]) -> Note
+        ensures { result ≡ note_of update values.now }
+    {
+        let key = Key::of(update, values);
+        let values = key.values;
+        Note {
+            update,
+            count: key.count,
+            values,
+        }
+    }
+
+    // The values in use.
+    fn used(&self) -> &[i32]
+        ensures { result.now ≡ (note_read self.now).values }
+    {
+        lists::in_use(&self.values, usize::from(self.count))
     }
 }
 

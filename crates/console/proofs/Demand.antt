@@ -9,7 +9,7 @@ use lib.ListN.{length, take, drop}
 use lib.Seq.{take_at}
 use Rattle.lists.specs.Lists.{written}
 use Rattle.meaning.specs.Plain as P
-use Rattle.meaning.specs.Plain.{Lengths, Plain, Out, refused, added, answered, rows, flushed}
+use Rattle.meaning.specs.Plain.{Lengths, Plain, Out, refused, added, answered, rows, flushed, withdrawn}
 use Rattle.slots.specs.Keys.{Found}
 use Rattle.std.specs.Prelude.{Some, None}
 use Rattle.cache.specs.declared.State.{State}
@@ -17,7 +17,7 @@ use Rattle.cache.specs.Calls.{lengths_lent, Asked, Asks, found_in}
 use Rattle.cache.specs.Gives.{ask_of, ask_gives, ask_refusal, cached_refusal, ask_cached, new_refusal, ask_new, ask_found}
 use Rattle.meaning.specs.Refusals.{settled}
 use Rattle.meaning.specs.Key.{Key}
-use Rattle.meaning.specs.Call.{Call, add, ask, change, flush}
+use Rattle.meaning.specs.Call.{Call, add, ask, change, flush, propose, commit, withdraw}
 use Rattle.cache.specs.Run.{Store, Start, opening_of, opened, Got, Seen, step, after, gets, plain_call, buffer_of, got_of, plain_after, plain_gets}
 use Rattle.cache.specs.Means.{tables_in}
 use Rattle.cache.specs.Demand.{refused_with}
@@ -49,10 +49,8 @@ module _ (s : Store) (buffer : List ℕ) where
 
   -- a refused call gives back the buffer that it was lent
   buffer-back : (c : Call (Unit {0})) (n : ℕ) → let d = lending buffer c in buffer_after d buffer (refused_with n (buffer_of d)) ≡ buffer
-  buffer-back (add text) n = refl
   buffer-back (ask k b) n = refl
-  buffer-back (change m zs) n = refl
-  buffer-back flush n = refl
+  buffer-back _ n = refl
 
   command-refused : (c : Command) → refusal_of s buffer c ≢ 0 → commanded s buffer c ≡ record { store = s; buffer = buffer; text = refused_text (refusal_of s buffer c) }
   command-refused (some c) h = call-refused (lending buffer c) (buffer-back c) h
@@ -222,6 +220,7 @@ shown q u b c e (answered r) =
     }
 shown q u b c e (rows k) = record { texts = refl; lengths = e }
 shown q u b c e flushed = record { texts = refl; lengths = e }
+shown q u b c e withdrawn = record { texts = refl; lengths = e }
 
 module _ (lent : Lengths) where
   -- a line with each of two buffers, and the calls after it
@@ -279,6 +278,9 @@ module _ (lent : Lengths) where
     line-next (some (ask q u)) cs ds h k = ask-next q cs ds h k
     line-next (some (change n zs)) cs ds h k = record { text = refl; stores = refl; lengths = e; plain = _; first = tail-same lent s p b (change n zs) cs h; second = tail-same lent s p c (change n zs) ds k }
     line-next (some flush) cs ds h k = record { text = refl; stores = refl; lengths = e; plain = _; first = tail-same lent s p b flush cs h; second = tail-same lent s p c flush ds k }
+    line-next (some (propose n zs)) cs ds h k = record { text = refl; stores = refl; lengths = e; plain = _; first = tail-same lent s p b (propose n zs) cs h; second = tail-same lent s p c (propose n zs) ds k }
+    line-next (some commit) cs ds h k = record { text = refl; stores = refl; lengths = e; plain = _; first = tail-same lent s p b commit cs h; second = tail-same lent s p c commit ds k }
+    line-next (some withdraw) cs ds h k = record { text = refl; stores = refl; lengths = e; plain = _; first = tail-same lent s p b withdraw cs h; second = tail-same lent s p c withdraw ds k }
     line-next none cs ds h k = record { text = refl; stores = refl; lengths = e; plain = p; first = h; second = k }
 
   buffers-alike : (s : Store) (p : Plain) (b c : List ℕ) (ls : List (List ℕ)) → length b ≡ length c → Same lent s p (calls_for s b ls) → Same lent s p (calls_for s c ls)

@@ -288,6 +288,7 @@ taken-short s buffer (add text) = let g = (step s (add text)).1.got in omega (ar
 taken-short s buffer (ask k b) = asked-short (step s (ask k buffer)).1 (length buffer) (step-long s k buffer)
 taken-short s buffer (change n zs) = let x = (step s (change n zs)).1 in omega (arith, updated-short x.got.rows x.drops)
 taken-short s buffer flush = omega arith
+taken-short s buffer _ = omega arith
 
 command-short : (s : Store) (buffer : List ℕ) (c : Command) → Short (length buffer) (commanded s buffer c).text
 command-short s buffer (some c) = call-short s buffer (lending buffer c) (length buffer) (taken-short s buffer c)

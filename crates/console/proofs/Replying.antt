@@ -19,7 +19,7 @@ use Rattle.console.specs.Printed.{bad_text}
 use Rattle.console.specs.Desk.{commanded, answered_of, Replies, replies, replies_with, reply_of}
 use Rattle.console.specs.Private.Commands.{reply_to}
 use Rattle.console.proofs.Calling.{store_of}
-use Rattle.console.proofs.Said.{command-says, is_ask, is-change, is-flush, is-bad}
+use Rattle.console.proofs.Said.{command-says, is_ask, is-change, is-flush}
 
 module _ (line : List ℕ) where
   -- ---- the values at the start of the room for them
@@ -73,7 +73,7 @@ module _ (line : List ℕ) where
     pub reply-bad : (n : ℕ) (new : List ℕ) → Bad ≡ line_of (command_of line) → (n ≡ filled_to out 0 bad_text) × (new ≡ filled out 0 bad_text)
         → replies (record { size = n; state = s }) cells memory answer new ≡ reply_of s cells memory answer line out
     reply-bad n new h w =
-        done _ (is-bad _ (sym h)) _
+        done _ ((command-says line).bad (sym h)) _
         (λ m. replies (record { size = w.0 m; state = s }) cells memory answer (w.1 m))
 
     module _ (room vs : List ℤ) (long : length room ≡ 512) (f : vs ≡ filled room 0 (values_of (command_of line))) (n k : ℕ) where

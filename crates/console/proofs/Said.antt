@@ -46,25 +46,36 @@ unfolding word_values
 values-size [] = omega arith
 values-size (w ∷ ws) = omega (arith, and-size (word_value w) (word_values ws), values-size ws)
 
+-- words say no text, few values, and a call that a line makes or none
+record Words (n : ℕ) (c : Command) : Type 0 where
+  few : length (values_of c) ≤ n
+  text : line_of c ≢ Add
+  bad : line_of c ≡ Bad → c ≡ none
+
+no-words : (n : ℕ) → Words n none
+no-words n = record { few = omega arith; text = λ e. let q : ⊥ = cc in q; bad = λ e. refl }
+
 -- a word and a number say ASK, DO or nothing
-numbered-size : (w : List ℕ) (o : Option ℕ) (p : Option (List ℤ)) → (length (values_of (numbered w o p)) ≤ size p) × (line_of (numbered w o p) ≢ Add)
-numbered-size w (some n) none = (omega arith, λ e. let q : ⊥ = cc in q)
-numbered-size w none p = (omega arith, λ e. let q : ⊥ = cc in q)
+numbered-size : (w : List ℕ) (o : Option ℕ) (p : Option (List ℤ)) → Words (size p) (numbered w o p)
+numbered-size w (some n) none = no-words 0
+numbered-size w none p = no-words (size p)
 numbered-size w (some n) (some zs) = go (is_word "ASK" w) (is_word "DO" w)
   where
-    go : (a b : Bool) → let c = cond a (some (ask (record { query = n; values = zs }) tt)) (cond b (some (change n zs)) none) in (length (values_of c) ≤ length zs) × (line_of c ≢ Add)
-    go true b = (omega arith, λ e. let q : ⊥ = cc in q)
-    go false true = (omega arith, λ e. let q : ⊥ = cc in q)
-    go false false = (omega arith, λ e. let q : ⊥ = cc in q)
+    go : (a b : Bool) → Words (length zs) (cond a (some (ask (record { query = n; values = zs }) tt)) (cond b (some (change n zs)) none))
+    go true b = record { few = omega arith; text = λ e. let q : ⊥ = cc in q; bad = λ e. absurd (let q : ⊥ = cc in q) }
+    go false true = record { few = omega arith; text = λ e. let q : ⊥ = cc in q; bad = λ e. absurd (let q : ⊥ = cc in q) }
+    go false false = no-words (length zs)
 
-words_size : (ws : List (List ℕ)) → (length (values_of (words_say ws)) ≤ length ws - 1) × (line_of (words_say ws) ≢ Add)
-words_size [] = (omega arith, λ e. let q : ⊥ = cc in q)
+words_size : (ws : List (List ℕ)) → Words (length ws - 1) (words_say ws)
+words_size [] = no-words 0
 words_size (w ∷ []) = go (is_word "FLUSH" w)
   where
-    go : (t : Bool) → (length (values_of (cond t (some flush) none)) ≤ 0) × (line_of (cond t (some flush) none) ≢ Add)
-    go true = (omega arith, λ e. let q : ⊥ = cc in q)
-    go false = (omega arith, λ e. let q : ⊥ = cc in q)
-words_size (w ∷ n ∷ vs) = let h = numbered-size w (word_number n) (word_values vs) in (omega (arith, h.0, values-size vs), h.1)
+    go : (t : Bool) → Words 0 (cond t (some flush) none)
+    go true = record { few = omega arith; text = λ e. let q : ⊥ = cc in q; bad = λ e. absurd (let q : ⊥ = cc in q) }
+    go false = no-words 0
+words_size (w ∷ n ∷ vs) =
+    let h = numbered-size w (word_number n) (word_values vs) in
+    record { few = omega (arith, h.few, values-size vs); text = h.text; bad = h.bad }
 
 -- ---- the text of ADD
 
@@ -81,6 +92,7 @@ prefix-drop (b ∷ p) (c ∷ s) left e = go (eqb b c) e (prefix-drop p s left)
 pub record Says (line : List ℕ) (c : Command) : Type 0 where
   pub few : length (values_of c) ≤ most_line
   pub text : line_of c ≡ Add → (4 ≤ length line) × (c ≡ some (add (drop 4 line)))
+  pub bad : line_of c ≡ Bad → c ≡ none
 
 line-says : (line : List ℕ) → length line ≤ most_line → Says line (line_says line)
 line-says line h = go (behind_prefix (bytes "ADD ") line) refl
@@ -88,10 +100,14 @@ line-says line h = go (behind_prefix (bytes "ADD ") line) refl
     go : (o : Option (List ℕ)) → behind_prefix (bytes "ADD ") line ≡ o → Says line (elim o [ some text ↦ some (add text) | none ↦ words_say (words line) ])
     go (some text) e =
         let l : 4 + length text ≡ length line = prefix-length (bytes "ADD ") line text e in
-        record { few = omega arith; text = λ _. (omega (arith, l), ap (λ t. some (add t)) (prefix-drop (bytes "ADD ") line text e)) }
+        record {
+          few = omega arith;
+          text = λ _. (omega (arith, l), ap (λ t. some (add t)) (prefix-drop (bytes "ADD ") line text e));
+          bad = λ f. absurd (let q : ⊥ = cc in q);
+        }
     go none e =
         let w = words_size (words line) in
-        record { few = omega (arith, w.0, words_count line, h); text = λ f. absurd (w.1 f) }
+        record { few = omega (arith, w.few, words_count line, h); text = λ f. absurd (w.text f); bad = w.bad }
 
 pub command-says : (line : List ℕ) → Says line (command_of line)
 unfolding command_of
@@ -99,7 +115,7 @@ command-says line = go (leb (length line) most_line) refl
   where
     go : (t : Bool) → leb (length line) most_line ≡ t → Says line (elim t [ true ↦ line_says line | false ↦ none ])
     go true e = line-says line (leb-true (length line) most_line e)
-    go false e = record { few = omega arith; text = λ f. absurd (let q : ⊥ = cc in q) }
+    go false e = record { few = omega arith; text = λ f. absurd (let q : ⊥ = cc in q); bad = λ _. refl }
 
 -- ---- the other commands
 
@@ -117,8 +133,3 @@ pub is-flush : (c : Command) → line_of c ≡ Flush → c ≡ some flush
 is-flush (some flush) e = refl
 is-flush (some _) e = absurd (let q : ⊥ = cc in q)
 is-flush none e = absurd (let q : ⊥ = cc in q)
-
-pub is-bad : (c : Command) → line_of c ≡ Bad → c ≡ none
-is-bad none e = refl
-is-bad (some (add text)) e = absurd (let q : ⊥ = cc in q)
-is-bad (some _) e = absurd (let q : ⊥ = cc in q)

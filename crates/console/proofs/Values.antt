@@ -9,7 +9,7 @@ use lib.IntN.{ℤ}
 use lib.ListN.{length}
 use Rattle.lists.specs.Lists.{bytes, All, nil, cons}
 use Rattle.meaning.specs.Limits.{is_within32}
-use Rattle.meaning.specs.Call.{Call, add, ask, change, flush, Is32, Call32}
+use Rattle.meaning.specs.Call.{Call, add, ask, change, flush, propose, Is32, Call32}
 use Rattle.meaning.specs.Tokens.{Token, keyword, name, constant, operator, mark, comma, lparen, rparen, dot, other, behind_prefix, token_here}
 use Rattle.cache.specs.Run.{Store}
 use Rattle.console.specs.Lines.{is_word, word_number, token_value, whole_token, word_value, and_value, word_values, Command, numbered, words, words_say, line_says, most_line, command_of}
@@ -108,10 +108,10 @@ command-32 line = go (leb (length line) most_line)
 
 -- with any answer buffer
 lent-32 : (buffer : List ℕ) (c : Call (Unit {0})) → Call32 c → Call32 (lending buffer c)
-lent-32 buffer (add text) h = tt
 lent-32 buffer (ask k b) h = h
 lent-32 buffer (change n zs) h = h
-lent-32 buffer flush h = tt
+lent-32 buffer (propose n zs) h = h
+lent-32 buffer _ h = tt
 
 calls-by-32 : (buffer : List ℕ) (c : Command) (cs : List (Call (List ℕ))) → Command32 c → All Call32 cs → All Call32 (calls_by buffer c cs)
 calls-by-32 buffer (some c) cs h k = cons (lent-32 buffer c h) k

@@ -11,22 +11,22 @@ use Rattle.console.specs.Lines.{Command, command_of}
 use Rattle.console.specs.Printed.{bad_text, refused_text, added_text, updated_text, flushed_text, answer_text}
 use Rattle.console.specs.Room.{filled, filled_to}
 
--- what is printed of a call that is taken, by what it gets: of a question, the rows of its record
+-- what is printed of a call that is taken, by what it gets: of a question, the rows of its record. No line makes a proposal, a commit or a withdrawal (Lines.words_say): of
+-- these nothing is printed
 abbrev pub done_text : {B : Type 0} → Call B → Seen → List ℕ
 done_text (add text) s = added_text s.got.kind s.got.number
 done_text (ask k b) s = answer_text s.kept s.scanned (take s.got.size s.got.answer)
 done_text (change n zs) s = updated_text s.got.rows s.drops
 done_text flush s = flushed_text
+done_text _ s = []
 
 abbrev pub text_of : {B : Type 0} → Call B → Seen → List ℕ
 text_of c s = settled s.got.refusal (done_text c s) (refused_text s.got.refusal)
 
 -- the answer buffer after a call
 abbrev pub buffer_after : {B : Type 0} → Call B → List ℕ → Seen → List ℕ
-buffer_after (add text) buffer s = buffer
 buffer_after (ask k b) buffer s = s.got.answer
-buffer_after (change n zs) buffer s = buffer
-buffer_after flush buffer s = buffer
+buffer_after _ buffer s = buffer
 
 -- the store and the answer buffer after a line, and what is printed for it
 pub record Answered : Type 0 where

@@ -121,18 +121,16 @@ most_line = 512
 unfoldable pub command_of : List ℕ → Command
 command_of line = elim (leb (length line) most_line) [ true ↦ line_says line | false ↦ none ]
 
--- ---- a command as the program has it: for ASK and DO the statement's number, and how many values
+-- ---- a command as the program has it: for ASK and DO the statement's number, and how many values. Of the calls that no line makes, as of a bad line
 
 abbrev pub line_of : Command → Line
 line_of (some (add text)) = Add
 line_of (some (ask k b)) = Ask k.query (length k.values)
 line_of (some (change n zs)) = Do n (length zs)
 line_of (some flush) = Flush
-line_of none = Bad
+line_of _ = Bad
 
 abbrev pub values_of : Command → List ℤ
-values_of (some (add text)) = []
 values_of (some (ask k b)) = k.values
 values_of (some (change n zs)) = zs
-values_of (some flush) = []
-values_of none = []
+values_of _ = []

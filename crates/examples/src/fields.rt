@@ -1,6 +1,6 @@
 // A field of a state, changed by its name. The numbers say which entry and what it becomes; an entry past an array changes nothing.
 // Names are words of the script, one field each, so they are told apart by a `match` on bytes: an enum of them would be a second `match` and no plainer.
-use cache::State;
+use cache::{Note, State};
 use script::number;
 use slots::{Key, SlotList};
 use table::{Comparison, Condition, Name, Query, Table, Update};
@@ -19,6 +19,7 @@ pub fn set_field(state: &mut State, name: &[u8], n: &[i32]) {
     let i = number(n, 0);
     set_size(state, name, i);
     set_slots(&mut state.slots, name, n);
+    set_note(&mut state.pending, name, n);
     if let Some(key) = state.keys.get_mut(i) {
         set_key(key, name, n);
     }
@@ -73,6 +74,31 @@ fn set_key(key: &mut Key, name: &[u8], n: &[i32]) {
         b"keycount" => key.count = low8(v),
         b"keyvalue" => {
             if let (Some(value), Some(z)) = (key.values.get_mut(v), n.get(2)) {
+                *value = *z;
+            }
+        }
+        _ => {}
+    }
+}
+
+// ---- the note
+
+// With `pending` a note is there (1) or none (0): one that was not there is of update 0, without values. The other fields are those of a note that is there.
+fn set_note(pending: &mut Option<Note>, name: &[u8], n: &[i32]) {
+    let i = number(n, 0);
+    match (name, pending.as_mut()) {
+        (b"pending", None) if 0 < i => {
+            *pending = Some(Note {
+                update: 0,
+                count: 0,
+                values: [0; Key::VALUES],
+            });
+        }
+        (b"pending", Some(_)) if i == 0 => *pending = None,
+        (b"pendingupdate", Some(note)) => note.update = low8(i),
+        (b"pendingcount", Some(note)) => note.count = low8(i),
+        (b"pendingvalue", Some(note)) => {
+            if let (Some(value), Some(z)) = (note.values.get_mut(i), n.get(1)) {
                 *value = *z;
             }
         }

@@ -1,5 +1,5 @@
 // The calls of the store, run on document 01's examples, each number for a call not taken, and states that are not sound: a line of standard input each.
-// `OPEN cells memory slots bytes`, `ADD text`, `ASK number buffer v v ..`, `DO number v v ..` and `FLUSH` make a call and print what it gives. `LEND cells memory` says
+// `OPEN cells memory slots bytes`, `ADD text`, `ASK number buffer v v ..`, `DO number v v ..`, `FLUSH`, `PROPOSE number v v ..`, `COMMIT` and `WITHDRAW` make a call and print what it gives. `LEND cells memory` says
 // how much the next calls are lent, `ROW i` shows a row of the last answer, and `SLOTS` prints the order of use. `SET field n ..` changes a field of the state, and
 // `SPOIL field n ..` prints what a flush gives on a state changed so. A line that starts with `#` is a comment. This program runs on a host and may use the heap.
 // It prints refusals, kinds and sources in words of its own: the library has no output form. A type with a `Display` would make `refused {}` no shorter, and a
@@ -9,13 +9,14 @@
 mod fields; // a field of the state, changed by its name
 mod memory; // a memory, and how much of it is lent
 
-use cache::{Kind, Source, State};
+use cache::{Changed, Kind, Source, State};
 use memory::Memory;
 use script::{Constants, PAIRS_RECORD, Program, Row, Rows, number};
 use slots::SlotList;
 use std::alloc::{AllocError, Global};
 use std::io;
 use std::io::Write;
+use table::Refusal;
 
 // One cell and one byte more than a store may have.
 const CELLS: usize = State::CELLS + 1;
@@ -30,6 +31,14 @@ struct Store {
     cells: Memory<i32>,
     memory: Memory<u8>,
     answer: Memory<u8>,
+}
+
+// What an update or a commit gives.
+fn print_changed<W: Write>(changed: Result<Changed, Refusal>, out: &mut W) -> io::Result<()> {
+    match changed {
+        Ok(changed) => writeln!(out, "rows {} dropped {}", changed.rows, changed.invalidated),
+        Err(refusal) => writeln!(out, "refused {}", refusal.number()),
+    }
 }
 
 // A text up to its first space, and what stands behind that.
@@ -107,8 +116,33 @@ impl Store {
         let (cells, memory) = (self.cells.lent_mut(), self.memory.lent());
         let updated = self.state.update(cells, memory, number(n, 0), values);
         self.state = updated.state;
-        match updated.result {
-            Ok(changed) => writeln!(out, "rows {} dropped {}", changed.rows, changed.invalidated),
+        print_changed(updated.result, out)
+    }
+
+    fn propose<W: Write>(&mut self, n: &[i32], out: &mut W) -> io::Result<()> {
+        let values = n.get(1..).unwrap_or(&[]);
+        let (cells, memory) = (self.cells.lent(), self.memory.lent());
+        let proposed = self.state.propose(cells, memory, number(n, 0), values);
+        self.state = proposed.state;
+        match proposed.result {
+            Ok(proposed) => writeln!(out, "rows {}", proposed.rows),
+            Err(refusal) => writeln!(out, "refused {}", refusal.number()),
+        }
+    }
+
+    fn commit<W: Write>(&mut self, out: &mut W) -> io::Result<()> {
+        let (cells, memory) = (self.cells.lent_mut(), self.memory.lent());
+        let committed = self.state.commit(cells, memory);
+        self.state = committed.state;
+        print_changed(committed.result, out)
+    }
+
+    fn withdraw<W: Write>(&mut self, out: &mut W) -> io::Result<()> {
+        let (cells, memory) = (self.cells.lent(), self.memory.lent());
+        let withdrawn = self.state.withdraw(cells, memory);
+        self.state = withdrawn.state;
+        match withdrawn.result {
+            Ok(()) => writeln!(out, "withdrawn"),
             Err(refusal) => writeln!(out, "refused {}", refusal.number()),
         }
     }
@@ -165,6 +199,9 @@ impl Store {
             b"ASK" => self.ask(n, out)?,
             b"DO" => self.update(n, out)?,
             b"FLUSH" => self.state = self.flush(self.state, out)?,
+            b"PROPOSE" => self.propose(n, out)?,
+            b"COMMIT" => self.commit(out)?,
+            b"WITHDRAW" => self.withdraw(out)?,
             b"ROW" => self.print_row(number(n, 0), out)?,
             b"SLOTS" => self.print_slots(out)?,
             _ => {}

@@ -2,12 +2,12 @@
 -- accepted, and its statement added, exactly if no condition of refusals 2 to 9 holds. Assumes nothing.
 use mathlib.Core.Path.{◌≡◌, refl, sym, ap, subst, ◌∙◌}
 use mathlib.Core.Logic.{◌↔◌, ◌≢◌}
-use mathlib.Core.Bool.{Bool, true, false, cond, ◌&&◌, ◌||◌, and-false, or-true}
+use mathlib.Core.Bool.{Bool, true, false, cond, ◌&&◌, ◌||◌, and-false, or-true, not}
 use mathlib.Core.Option.{Option, none, some}
 use mathlib.Core.List.{List, [], ◌∷◌, ◌++◌}
 use Prim.Native.Nat.{ℕ, zero, suc, ◌≤◌, ◌<◌}
 use native.Mathlib.Omega.{arith}
-use borrow.Author.Tests.{ltb-true, ltb-false, le-ltb, eq-eqb, ne_eqb, leb-false, eqb-true}
+use borrow.Author.Tests.{ltb-true, ltb-false, le-ltb, eq-eqb, ne_eqb, leb-false, eqb-true, lt-leb}
 use lib.Dec.{ltb, eqb}
 use lib.IntN.{ℤ}
 use lib.ListN.{length}
@@ -19,9 +19,9 @@ use Rattle.meaning.specs.Grammar.{Sentence}
 use Rattle.meaning.specs.Reader.{sentence}
 use Rattle.meaning.specs.Key.{Key}
 use Rattle.meaning.specs.Limits.{most_text}
-use Rattle.meaning.specs.Plain.{Lengths, Plain, query_at, update_at, other_lengths, catalog_of, full, ask_conditions, change_conditions, conditions, refusal, refused, text_added, does, guard}
-use Rattle.meaning.specs.Refusals.{Conditions, order, or_else, lowest_of, add_conditions, applies, Lowest}
-use Rattle.meaning.specs.Call.{Call, add, ask, change, flush}
+use Rattle.meaning.specs.Plain.{Lengths, Plain, query_at, update_at, other_lengths, catalog_of, full, ask_conditions, change_conditions, conditions, refusal, refused, text_added, does, guard, Note}
+use Rattle.meaning.specs.Refusals.{Conditions, order, or_else, lowest_of, add_conditions, applies, Lowest, is_none}
+use Rattle.meaning.specs.Call.{Call, add, ask, change, flush, propose, commit, withdraw}
 use Rattle.meaning.specs.Demand.{LowestNumber, RefusedChangesNothing, ReadsExactly, OneSentence, Acceptable, AcceptedExactlyIf, AcceptedIsAdded}
 use Rattle.meaning.proofs.Decides.{decides, unique}
 
@@ -154,6 +154,9 @@ ascending lent p (add text) = refl
 ascending lent p (ask k buffer) = refl
 ascending lent p (change n us) = refl
 ascending lent p flush = refl
+ascending lent p (propose n us) = refl
+ascending lent p commit = refl
+ascending lent p withdraw = refl
 
 -- ---- demand 1
 
@@ -263,23 +266,51 @@ module _ (lent : Lengths) (p : Plain) (k : Key) where
             (not-false (eqb (length k.values) (query_at p k.query).parameters) (All-head (All-tail (All-tail a))));
       }
 
--- an update
-pub record Changing (lent : Lengths) (p : Plain) (n : ℕ) (us : List ℤ) : Type 0 where
-  pub lengths : other_lengths lent p ≡ false
+-- an update: 10 to 12 are no ground against it
+pub record Ready (p : Plain) (n : ℕ) (us : List ℤ) : Type 0 where
   pub there : n < length p.updates
   pub values : length us ≡ (update_at p n).parameters
   pub room : full p n ≡ false
 
 module _ (lent : Lengths) (p : Plain) (n : ℕ) (us : List ℤ) where
-  pub update-taken : refusal lent p (change n us) ≡ 0 → Changing lent p n us
+  -- and the lengths are right
+  pub update-taken : refusal lent p (change n us) ≡ 0 → (other_lengths lent p ≡ false) × Ready p n us
   unfolding refusal
   update-taken h =
-      let a = (clear 0 (change_conditions lent p n us) refl).0 h in
-      record {
-        lengths = All-head a;
-        there = leb-false (length p.updates) n (All-head (All-tail a));
-        values =
-            eqb-true (length us) (update_at p n).parameters
-            (not-false (eqb (length us) (update_at p n).parameters) (All-head (All-tail (All-tail a))));
-        room = All-head (All-tail (All-tail (All-tail a)));
-      }
+      let a = (clear 0 (change_conditions lent p n us) refl).0 h in (
+        All-head a,
+        record {
+          there = leb-false (length p.updates) n (All-head (All-tail a));
+          values =
+              eqb-true (length us) (update_at p n).parameters
+              (not-false (eqb (length us) (update_at p n).parameters) (All-head (All-tail (All-tail a))));
+          room = All-head (All-tail (All-tail (All-tail a)));
+        },
+      )
+
+  pub ready-taken : other_lengths lent p ≡ false → Ready p n us → refusal lent p (change n us) ≡ 0
+  unfolding refusal
+  ready-taken l R =
+      (clear 0 (change_conditions lent p n us) refl).1
+      (cons l (cons (lt-leb (length p.updates) n R.there) (cons (ap not (eq-eqb (length us) (update_at p n).parameters R.values)) (cons R.room nil))))
+
+-- a proposal has the same numbers
+pub propose-refusal : (lent : Lengths) (p : Plain) (n : ℕ) (us : List ℤ) → refusal lent p (propose n us) ≡ refusal lent p (change n us)
+unfolding refusal
+propose-refusal lent p n us = refl
+
+-- a commit: there is a note
+there : {A : Type 0} (o : Option A) → is_none o ≡ false → (x : A) × (o ≡ some x)
+there none h = clash refl h
+there (some x) h = (x, refl)
+
+pub commit-noted : (lent : Lengths) (p : Plain) → refusal lent p commit ≡ 0 → (x : Note) × (p.pending ≡ some x) × (other_lengths lent p ≡ false)
+unfolding refusal
+commit-noted lent p h =
+    let a = (clear 0 (conditions lent p commit) refl).0 h in
+    let (x, e) = there p.pending (All-head (All-tail a)) in
+    (x, e, All-head a)
+
+pub noted-taken : (lent : Lengths) (p : Plain) (x : Note) → p.pending ≡ some x → other_lengths lent p ≡ false → refusal lent p commit ≡ 0
+unfolding refusal
+noted-taken lent p x e l = (clear 0 (conditions lent p commit) refl).1 (cons l (cons (ap is_none e) nil))

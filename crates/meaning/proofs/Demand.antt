@@ -14,6 +14,7 @@ use Rattle.meaning.proofs.Nulls.{null_unknown, others_known, three_values, takes
 use Rattle.meaning.proofs.Outer.{no_pair_listed}
 use Rattle.meaning.proofs.Drops.{affected_means, drops_exactly_if, insert_known, patterns_alone, affected_matched}
 use Rattle.meaning.proofs.Stays.{stays_undropped}
+use Rattle.meaning.proofs.Proposed.{proposal_gives_rows, proposal_notes_only, note_held, commit_does_it, commit_as_proposed}
 
 pub demands : Demands
 demands = record {
@@ -54,4 +55,9 @@ demands = record {
   patterns_alone = patterns_alone;
   affected_matched = affected_matched;
   stays_undropped = stays_undropped;
+  proposal_gives_rows = proposal_gives_rows;
+  proposal_notes_only = proposal_notes_only;
+  note_held = note_held;
+  commit_does_it = commit_does_it;
+  commit_as_proposed = commit_as_proposed;
 }

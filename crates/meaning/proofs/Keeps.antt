@@ -24,14 +24,14 @@ use Rattle.meaning.specs.Meaning.{Row, answer, changed}
 use Rattle.meaning.specs.Limits.{most_listed}
 use Rattle.meaning.specs.Record.{encode}
 use Rattle.meaning.specs.Key.{Key}
-use Rattle.meaning.specs.Plain.{Lengths, Table, Plain, schemas, no_table, no_query, no_update, table_at, rows_over, rows_for, query_at, update_at, record_of, too_many, pushed, remaining, drops_key, other_lengths, ask_conditions, refusal, adding, text_added, changed_by, does}
+use Rattle.meaning.specs.Plain.{Lengths, Table, Plain, schemas, no_table, no_query, no_update, table_at, rows_over, rows_for, query_at, update_at, record_of, too_many, pushed, remaining, drops_key, other_lengths, ask_conditions, refusal, adding, text_added, changed_by, does, Note, with_note}
 use Rattle.meaning.specs.Refusals.{lowest_of}
 use Rattle.meaning.specs.Call.{add, change}
 use Rattle.meaning.specs.Pattern.{Side, neither, first, second, second_side, side_of, is_side, start_of, second_start}
 use Rattle.meaning.specs.Exact.{IsRow}
 use Rattle.meaning.specs.Demand.{Acceptable, IsColumn, ChangesWithin, StandsBeside, rows_beside, StaysUndropped}
 use Rattle.meaning.proofs.Pushed.{pushed-remaining, remaining-has}
-use Rattle.meaning.proofs.Accepted.{clear, text-taken, Asked, key-asked, Changing, update-taken}
+use Rattle.meaning.proofs.Accepted.{clear, text-taken, Asked, key-asked, update-taken, Ready}
 use Rattle.meaning.proofs.WellFormed.{FitsTable, tests, SecondFits, WellFormed}
 use Rattle.meaning.proofs.Within32.{Store32}
 use Rattle.meaning.proofs.Resolved.{Within}
@@ -97,6 +97,14 @@ add_keeps lent p text k a h =
     let T : (s : Sentence) × (sentence text ≡ some s) × Acceptable lent p text s = text-taken lent p text h in
     subst (λ (o : Option Sentence). Keeps lent p k (text_added p o).0) (sym T.1) (adding-keeps lent p k (key-asked lent p k a) (statement_of (schemas p) T.0))
 
+-- a note that comes or goes leaves them too
+pub note_keeps : (lent : Lengths) (p : Plain) (o : Option Note) (k : Key) → lowest_of (ask_conditions lent p k) ≡ 0
+    → (lowest_of (ask_conditions lent (with_note p o) k) ≡ 0) × SameAnswer (with_note p o) p k
+note_keeps lent p o k a = (asked-still lent p (with_note p o) k A refl A.there refl, record-stays p (with_note p o) k refl refl)
+  where
+    A : Asked lent p k
+    A = key-asked lent p k a
+
 -- ---- an update
 
 columns-within : (r : Row) (n : ℕ) → length r ≡ n → (os : List Operand) → All (Within n) os → All (IsColumn r) os
@@ -112,7 +120,7 @@ change-within n t (delete g) rows d f w h = All-map (λ r e. columns-within r n 
 change-within n t (update ss g) rows d f w h =
     All-map (λ r e. (subst (λ (n : ℕ). All (λ (s : ℕ × Value). s.0 < n) ss) (sym d ∙ sym e) f, columns-within r n e (operands_in g) w)) h
 
-module _ (stays : StaysUndropped) (lent : Lengths) (p : Plain) (n : ℕ) (us : List ℤ) (k : Key) (W : WellFormed p) (small : Store32 p) (A : Asked lent p k) (C : Changing lent p n us) where
+module _ (stays : StaysUndropped) (lent : Lengths) (p : Plain) (n : ℕ) (us : List ℤ) (k : Key) (W : WellFormed p) (small : Store32 p) (A : Asked lent p k) (C : Ready p n us) where
   abbrev q : Query
   q = query_at p k.query
 
@@ -228,4 +236,4 @@ module _ (stays : StaysUndropped) (lent : Lengths) (p : Plain) (n : ℕ) (us : L
 pub change_keeps : StaysUndropped → (lent : Lengths) (p : Plain) (n : ℕ) (us : List ℤ) (k : Key) → WellFormed p → Store32 p
     → lowest_of (ask_conditions lent p k) ≡ 0 → refusal lent p (change n us) ≡ 0
     → (lowest_of (ask_conditions lent (changed_by p n us) k) ≡ 0) × (drops_key p n us k ≡ false → SameAnswer (changed_by p n us) p k)
-change_keeps stays lent p n us k W small a h = changed-keeps stays lent p n us k W small (key-asked lent p k a) (update-taken lent p n us h)
+change_keeps stays lent p n us k W small a h = changed-keeps stays lent p n us k W small (key-asked lent p k a) (update-taken lent p n us h).1

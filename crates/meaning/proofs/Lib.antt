@@ -23,6 +23,7 @@ pub mod Weakening
 pub mod Nulls
 pub mod Exact
 pub mod Stays
+pub mod Proposed
 pub mod Drops
 pub mod Demand
 pub mod Postfix

@@ -26,15 +26,15 @@ use Rattle.meaning.specs.Names.{Schema, no_schema, same_name, table_names, colum
 use Rattle.meaning.specs.Statement.{Value, Operand, Second, Query, Change, insert, delete, update, Update, creates, asks, changes, numbered_all, settings, resolved_where, setting_marks, statement_of}
 use Rattle.meaning.specs.Meaning.{Row, new_row, value_of, meets_where, assigned, updated_row, changed}
 use Rattle.meaning.specs.Cells.{area_size, areas_size}
-use Rattle.meaning.specs.Plain.{Lengths, Table, Plain, schemas, no_table, no_update, table_at, update_at, cells_left, Opening, opened, is_insert, remaining, full, refusal, refused, adding, text_added, changed_by, does, guard, step, after}
+use Rattle.meaning.specs.Plain.{Lengths, Table, Plain, schemas, no_table, no_update, table_at, update_at, cells_left, Opening, opened, is_insert, remaining, full, refusal, refused, adding, text_added, changed_by, does, guard, step, after, Note, with_note, committed}
 use Rattle.meaning.specs.Refusals.{no_place}
-use Rattle.meaning.specs.Call.{Call, add, ask, change, flush}
+use Rattle.meaning.specs.Call.{Call, add, ask, change, flush, propose, commit, withdraw}
 use Rattle.meaning.proofs.Names.{has-position, position-is, all_known}
 use Rattle.meaning.proofs.Dotted.{all-of-pair}
 use Rattle.meaning.proofs.Resolve.{same-name}
 use Rattle.meaning.specs.Demand.{Acceptable}
 use Rattle.meaning.proofs.Pushed.{remaining-has, remaining-short, remaining-room}
-use Rattle.meaning.proofs.Accepted.{text-taken, Changing, update-taken}
+use Rattle.meaning.proofs.Accepted.{text-taken, update-taken, Ready, ready-taken, commit-noted, propose-refusal}
 use Rattle.meaning.proofs.Resolved.{items-some, numbered-length, Within, tested-inside, set-inside, selected-inside}
 
 -- what a change needs of its table: a value a column, set columns inside
@@ -86,6 +86,11 @@ pub record UpdateFits (t : Schema) (u : Update) : Type 0 where
   pub few_marks : u.parameters ≤ most_marks
   pub tested_in : All (Within (length t.columns)) (operands_in (tests u.change))
 
+-- 10 to 12 would not refuse the update of the note, if there is one
+abbrev pub NoteFits : Plain → Option Note → Type 0
+NoteFits p none = Unit {0}
+NoteFits p (some x) = Ready p x.update x.values
+
 pub record WellFormed (p : Plain) : Type 0 where
   -- a row has its table's columns, and a table no more rows than its ROWS or RING
   pub rows_wide : All (λ (t : Table). All (λ (r : Row). length r ≡ length t.schema.columns) t.rows) p.tables
@@ -101,6 +106,7 @@ pub record WellFormed (p : Plain) : Type 0 where
   pub few_tables : length p.tables ≤ most_tables
   pub few_queries : length p.queries ≤ most_queries
   pub few_updates : length p.updates ≤ most_updates
+  pub note_fits : NoteFits p p.pending
 
 -- an opened store is well-formed
 pub opened-well : (o : Opening) → WellFormed (opened o)
@@ -116,6 +122,7 @@ opened-well o = record {
   few_tables = omega arith;
   few_queries = omega arith;
   few_updates = omega arith;
+  note_fits = tt;
 }
 
 -- ---- what stays when tables come, or change their rows
@@ -257,6 +264,7 @@ module _ (p : Plain) (W : WellFormed p) where
       few_tables = one_more p.tables new most_tables room;
       few_queries = W.few_queries;
       few_updates = W.few_updates;
+      note_fits = tt;
     }
 
   query-well : (q : Query) → Reads p q → PairFits p.tables q → length p.queries < most_queries → WellFormed (adding p (asks q))
@@ -272,6 +280,7 @@ module _ (p : Plain) (W : WellFormed p) where
     few_tables = W.few_tables;
     few_queries = one_more p.queries q most_queries room;
     few_updates = W.few_updates;
+    note_fits = tt;
   }
 
   update-well : (u : Update) → Fits p u → Limited p u → length p.updates < most_updates → WellFormed (adding p (changes u))
@@ -287,6 +296,7 @@ module _ (p : Plain) (W : WellFormed p) where
     few_tables = W.few_tables;
     few_queries = W.few_queries;
     few_updates = one_more p.updates u most_updates room;
+    note_fits = tt;
   }
 
   -- the statement of a text that is not refused
@@ -484,7 +494,39 @@ module _ (p : Plain) (n : ℕ) (us : List ℤ) where
         few_tables = omega (arith, tables-stay, W.few_tables);
         few_queries = W.few_queries;
         few_updates = W.few_updates;
+        note_fits = tt;
       }
+
+-- ---- the note
+
+fits-still : (p : Plain) (o x : Option Note) → NoteFits p x → NoteFits (with_note p o) x
+unfolding full
+fits-still p o none f = tt
+fits-still p o (some x) f = record { there = f.there; values = f.values; room = f.room }
+
+-- another note, or none
+pub noted-well : (p : Plain) → WellFormed p → (o : Option Note) → NoteFits p o → WellFormed (with_note p o)
+noted-well p W o f = record {
+  rows_wide = W.rows_wide;
+  rows_few = W.rows_few;
+  updates_fit = W.updates_fit;
+  updates_in = W.updates_in;
+  queries_fit = W.queries_fit;
+  pairs_fit = W.pairs_fit;
+  tables_fit = W.tables_fit;
+  areas_fit = W.areas_fit;
+  few_tables = W.few_tables;
+  few_queries = W.few_queries;
+  few_updates = W.few_updates;
+  note_fits = fits-still p o o f;
+}
+
+-- a commit has a note, and its update would be taken
+pub commit-taken : (lent : Lengths) (p : Plain) → WellFormed p → refusal lent p commit ≡ 0
+    → (x : Note) × (p.pending ≡ some x) × (refusal lent p (change x.update x.values) ≡ 0)
+commit-taken lent p W h =
+    let (x, e, l) = commit-noted lent p h in
+    (x, e, ready-taken lent p x.update x.values l (subst (NoteFits p) e W.note_fits))
 
 -- ---- a call
 
@@ -496,9 +538,15 @@ does-well lent p W (add text) h =
     subst (λ (o : Option Sentence). WellFormed (text_added p o).0) (sym T.1) (statement-well p W lent text T.0 T.2)
 does-well lent p W (ask k buffer) h = W
 does-well lent p W (change n us) h =
-    let C : Changing lent p n us = update-taken lent p n us h in
-    changed-well p n us W C.there C.room
-does-well lent p W flush h = W
+    let R : Ready p n us = (update-taken lent p n us h).1 in
+    changed-well p n us W R.there R.room
+does-well lent p W flush h = noted-well p W none tt
+does-well lent p W (propose n us) h = noted-well p W (some (record { update = n; values = us })) (update-taken lent p n us (sym (propose-refusal lent p n us) ∙ h)).1
+does-well lent p W commit h =
+    let (x, e, t) = commit-taken lent p W h in
+    let R : Ready p x.update x.values = (update-taken lent p x.update x.values t).1 in
+    subst (λ (o : Option Note). WellFormed (committed p o).0) (sym e) (changed-well p x.update x.values W R.there R.room)
+does-well lent p W withdraw h = noted-well p W none tt
 
 -- every call keeps it
 pub step-well : (lent : Lengths) (p : Plain) → WellFormed p → (c : Call ℕ) → WellFormed (step lent p c).0

@@ -23,12 +23,12 @@ use Rattle.meaning.specs.Names.{columns_of}
 use Rattle.meaning.specs.Statement.{Value, constant, parameter, Operand, Second, Query, Change, insert, delete, update, Update, numbered, numbered_all, settings, statement_of}
 use Rattle.meaning.specs.Meaning.{Row, cell, value_of, meets_where, takes, selected, answer, assigned, updated_row, changed}
 use Rattle.meaning.specs.Key.{Key}
-use Rattle.meaning.specs.Plain.{Lengths, Table, Plain, schemas, no_table, no_query, no_update, table_at, query_at, update_at, rows_over, rows_for, record_of, remaining, too_many, Opening, opened, ask_conditions, conditions, refusal, refused, answered, adding, text_added, changed_by, does, guard, step, after, rows_listed}
-use Rattle.meaning.specs.Call.{Call, add, ask, change, flush, Is32, Call32}
+use Rattle.meaning.specs.Plain.{Lengths, Table, Plain, schemas, no_table, no_query, no_update, table_at, query_at, update_at, rows_over, rows_for, record_of, remaining, too_many, Opening, opened, ask_conditions, conditions, refusal, refused, answered, adding, text_added, changed_by, does, guard, step, after, rows_listed, Note, with_note, committed}
+use Rattle.meaning.specs.Call.{Call, add, ask, change, flush, Is32, Call32, propose, commit, withdraw}
 use Rattle.meaning.specs.Exact.{IsRow}
 use Rattle.meaning.specs.Demand.{Acceptable, AnswerReadsBack}
 use Rattle.meaning.specs.Record.{ReadsBack}
-use Rattle.meaning.proofs.Accepted.{clear, text-taken, key-asked}
+use Rattle.meaning.proofs.Accepted.{clear, text-taken, key-asked, commit-noted}
 use Rattle.meaning.proofs.Pushed.{remaining-has}
 use Rattle.meaning.proofs.WellFormed.{SecondFits, WellFormed, Reads, opened-well, after-well}
 use Rattle.meaning.proofs.Record.{record_reads_back}
@@ -47,12 +47,18 @@ Writes32 (update ss g) = All (λ (s : ℕ × Value). Value32 s.1) ss
 abbrev pub Row32 : Row → Type 0
 Row32 r = All Is32 r
 
+-- the values of the note: a commit brings none of its own
+abbrev pub Note32 : Option Note → Type 0
+Note32 none = Unit {0}
+Note32 (some x) = All Is32 x.values
+
 pub record Store32 (p : Plain) : Type 0 where
   pub rows : All (λ (t : Table). All Row32 t.rows) p.tables
   pub writes : All (λ (u : Update). Writes32 u.change) p.updates
+  pub note : Note32 p.pending
 
 pub opened-32 : (o : Opening) → Store32 (opened o)
-opened-32 o = record { rows = nil; writes = nil }
+opened-32 o = record { rows = nil; writes = nil; note = tt }
 
 -- ---- constants of a text that is not refused
 
@@ -80,14 +86,14 @@ settings-32 columns m (s ∷ ss) h = cons (numbered-32 m s.1 (All-head h)) (sett
 
 statement-32 : (p : Plain) → Store32 p → (s : Sentence) → past_limit s ≡ false → Store32 (adding p (statement_of (schemas p) s))
 unfolding statement_of
-statement-32 p S (G.table t cs ring z) h = record { rows = All-append S.rows (cons nil nil); writes = S.writes }
-statement-32 p S (G.select cs t w) h = record { rows = S.rows; writes = S.writes }
-statement-32 p S (G.pair cs t u w) h = record { rows = S.rows; writes = S.writes }
+statement-32 p S (G.table t cs ring z) h = record { rows = All-append S.rows (cons nil nil); writes = S.writes; note = tt }
+statement-32 p S (G.select cs t w) h = record { rows = S.rows; writes = S.writes; note = tt }
+statement-32 p S (G.pair cs t u w) h = record { rows = S.rows; writes = S.writes; note = tt }
 statement-32 p S (G.insert t vs) h =
-    record { rows = S.rows; writes = All-append S.writes (cons (all-numbered-32 0 (items vs) (constants-in (G.insert t vs) h)) nil) }
+    record { rows = S.rows; writes = All-append S.writes (cons (all-numbered-32 0 (items vs) (constants-in (G.insert t vs) h)) nil); note = tt }
 statement-32 p S (G.update t ss w) h =
-    record { rows = S.rows; writes = All-append S.writes (cons (settings-32 (columns_of (schemas p) t) 0 (items ss) (constants-in (G.update t ss w) h)) nil) }
-statement-32 p S (G.delete t w) h = record { rows = S.rows; writes = All-append S.writes (cons tt nil) }
+    record { rows = S.rows; writes = All-append S.writes (cons (settings-32 (columns_of (schemas p) t) 0 (items ss) (constants-in (G.update t ss w) h)) nil); note = tt }
+statement-32 p S (G.delete t w) h = record { rows = S.rows; writes = All-append S.writes (cons tt nil); note = tt }
 
 -- ---- an update
 
@@ -124,9 +130,14 @@ module _ (us : List ℤ) (small : All Is32 us) where
         rows = All-set u.table (record { schema = t.schema; rows = changed u.change us (remaining t u.change) })
             (changed-32 u.change (remaining t u.change) (All-get_or n no_update tt S.writes) (remaining-has t u.change (All-get_or u.table no_table nil S.rows))) S.rows;
         writes = S.writes;
+        note = tt;
       }
 
 -- ---- calls
+
+-- another note, or none
+pub noted-32 : (p : Plain) → Store32 p → (o : Option Note) → Note32 o → Store32 (with_note p o)
+noted-32 p S o n = record { rows = S.rows; writes = S.writes; note = n }
 
 does-32 : (lent : Lengths) (p : Plain) → Store32 p → (c : Call ℕ) → Call32 c → refusal lent p c ≡ 0 → Store32 (does p c).0
 unfolding text_added
@@ -135,7 +146,12 @@ does-32 lent p S (add text) v h =
     subst (λ (o : Option Sentence). Store32 (text_added p o).0) (sym T.1) (statement-32 p S T.0 T.2.within)
 does-32 lent p S (ask k buffer) v h = S
 does-32 lent p S (change n us) v h = by-32 us v p n S
-does-32 lent p S flush v h = S
+does-32 lent p S flush v h = noted-32 p S none tt
+does-32 lent p S (propose n us) v h = noted-32 p S (some (record { update = n; values = us })) v
+does-32 lent p S commit v h =
+    let (x, e, l) = commit-noted lent p h in
+    subst (λ (o : Option Note). Store32 (committed p o).0) (sym e) (by-32 x.values (subst Note32 e S.note) p x.update S)
+does-32 lent p S withdraw v h = noted-32 p S none tt
 
 -- every call with values of 32 bits keeps it
 pub step-32 : (lent : Lengths) (p : Plain) → Store32 p → (c : Call ℕ) → Call32 c → Store32 (step lent p c).0

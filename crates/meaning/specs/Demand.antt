@@ -19,9 +19,10 @@ use Rattle.meaning.specs.Meaning.{Row, operand_value, meets_where, takes, select
 use Rattle.meaning.specs.Record.{encode, ReadsBack}
 use Rattle.meaning.specs.Pattern.{Side, neither, first, second, side_of, same_table, start_of, beside, matters, Joint, Clause, class, constants, broken, contradictory, matches, removal, matches_two}
 use Rattle.meaning.specs.Exact.{is_separate, IsRow, Affected, affects, drops}
-use Rattle.meaning.specs.Plain.{Lengths, Plain, schemas, passes_first, query_at, Opening, opened, other_lengths, catalog_of, conditions, refusal, refused, answered, adding, kind_and_number, step, after, rows_listed}
-use Rattle.meaning.specs.Refusals.{no_place, Lowest}
-use Rattle.meaning.specs.Call.{Call, add, ask, Call32}
+use Rattle.meaning.specs.Plain as P
+use Rattle.meaning.specs.Plain.{Lengths, Note, Plain, schemas, passes_first, query_at, Opening, opened, other_lengths, catalog_of, conditions, refusal, Out, refused, answered, adding, kind_and_number, step, after, outs, rows_listed}
+use Rattle.meaning.specs.Refusals.{settled, no_place, Lowest}
+use Rattle.meaning.specs.Call.{Call, add, ask, change, flush, propose, commit, withdraw, Call32}
 
 -- ---- Demand 1: "If a call brings a text, number, state or lent memory that the store can't take, it gives the refusal number of document 01 and changes
 -- nothing."
@@ -304,6 +305,79 @@ StaysUndropped = (columns : ℕ) (q : Query) (qs : List ℤ) (u : Update) (us : 
     → All (ChangesWithin u.change) rows → All (StandsBeside q (side_of q u)) others → same_table q u ≡ true → drops columns q u out us qs ≡ false
     → answer q qs (rows_beside q.second (side_of q u) (changed u.change us rows) others) ≡ answer q qs (rows_beside q.second (side_of q u) (out ++ rows) others)
 
+-- ---- A.8: "An update may be proposed: it gives the rows it would insert, match or delete, and changes nothing but the pending note in the state."
+
+-- what the update would get; also where it is refused: "Proposals are refused by 2 and 10 to 12"
+abbrev pub ProposalGivesRows : Type 0
+ProposalGivesRows = (lent : Lengths) (p : Plain) (n : ℕ) (us : List ℤ) → (step lent p (propose n us)).1 ≡ (step lent p (change n us)).1
+
+abbrev pub ProposalNotesOnly : Type 0
+ProposalNotesOnly = (lent : Lengths) (p : Plain) (n : ℕ) (us : List ℤ) → refusal lent p (propose n us) ≡ 0
+    → (step lent p (propose n us)).0 ≡ record p { pending = some (record { update = n; values = us }) }
+
+-- an accepted proposal, and the rows that it gave
+pub record Proposal : Type 0 where
+  pub note : Note
+  pub rows : ℕ
+
+-- "A new proposal replaces the note; an accepted commit, a withdrawal, a flush, an accepted text of any kind and an accepted update remove it." "Questions may come between": what an
+-- accepted call that gives n rows leaves of the proposal before it
+abbrev pub left_by : {B : Type 0} → Call B → ℕ → Option Proposal → Option Proposal
+left_by (propose m us) n o = some (record { note = record { update = m; values = us }; rows = n })
+left_by (ask k b) n o = o
+left_by commit n o = none
+left_by withdraw n o = none
+left_by flush n o = none
+left_by (add text) n o = none
+left_by (change m us) n o = none
+
+-- the proposal that stands after calls, by the refusal and the rows that each of them got; a refused call leaves it
+module _ {B X : Type 0} (refusal_of rows_of : X → ℕ) where
+  abbrev pub standing : Option Proposal → List (Call B) → List X → Option Proposal
+  standing o [] xs = o
+  standing o (c ∷ cs) [] = o
+  standing o (c ∷ cs) (x ∷ xs) = standing (settled (refusal_of x) (left_by c (rows_of x) o) o) cs xs
+
+-- both of what the plain store gives, 0 where there is no such thing
+abbrev pub refusal_in : Out → ℕ
+refusal_in (P.refused n) = n
+refusal_in (P.added k n) = 0
+refusal_in (P.answered r) = 0
+refusal_in (P.rows n) = 0
+refusal_in P.flushed = 0
+refusal_in P.withdrawn = 0
+
+abbrev pub rows_in : Out → ℕ
+rows_in (P.refused n) = 0
+rows_in (P.added k n) = 0
+rows_in (P.answered r) = 0
+rows_in (P.rows n) = n
+rows_in P.flushed = 0
+rows_in P.withdrawn = 0
+
+abbrev pub proposal_after : Opening → List (Call ℕ) → Option Proposal
+proposal_after o cs = standing refusal_in rows_in none cs (outs o.lent (opened o) cs)
+
+-- "the plain store holds the note by the same rules"
+abbrev pub note_of : Option Proposal → Option Note
+note_of none = none
+note_of (some x) = some x.note
+
+abbrev pub NoteHeld : Type 0
+NoteHeld = (o : Opening) (cs : List (Call ℕ)) → (after o.lent (opened o) cs).pending ≡ note_of (proposal_after o cs)
+
+-- "A commit then does it": what the update that is proposed would do then, and give
+abbrev pub CommitDoesIt : Type 0
+CommitDoesIt = (o : Opening) (cs : List (Call ℕ)) (x : Proposal) → proposal_after o cs ≡ some x
+    → let p : Plain = after o.lent (opened o) cs in
+    step o.lent p commit ≡ step o.lent p (change x.note.update x.note.values)
+
+-- "in a list as in demand 3 an accepted commit's row count equals the one proposed"; and it is accepted exactly if a proposal stands
+abbrev pub CommitAsProposed : Type 0
+CommitAsProposed = (o : Opening) (cs : List (Call ℕ)) (n : ℕ)
+    → let p : Plain = after o.lent (opened o) cs in
+    ((step o.lent p commit).1 ≡ P.rows n) ↔ ((x : Proposal) × (proposal_after o cs ≡ some x) × (x.rows ≡ n))
+
 -- ---- all of these
 
 pub record Demands : Type 0 where
@@ -344,3 +418,8 @@ pub record Demands : Type 0 where
   pub patterns_alone : PatternsAlone
   pub affected_matched : AffectedMatched
   pub stays_undropped : StaysUndropped
+  pub proposal_gives_rows : ProposalGivesRows
+  pub proposal_notes_only : ProposalNotesOnly
+  pub note_held : NoteHeld
+  pub commit_does_it : CommitDoesIt
+  pub commit_as_proposed : CommitAsProposed

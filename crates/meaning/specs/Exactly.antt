@@ -1,6 +1,7 @@
 -- Which matched answers an update drops, request A.7, by computation. A row says of a question and an update, with the values given with the update and those that the
 -- question is asked with, whether a pattern matches and whether the kept answer is dropped. Assumes nothing.
 use Rattle.std.specs.Prelude.{◌≡◌, refl, Bool, true, false, List, [], ◌∷◌, ◌++◌, map, ℕ, ℤ}
+use Rattle.std.proofs.Math.Option.{none}
 use Prim.Native.String.{String}
 use Rattle.lists.specs.Lists.{bytes, all}
 use Rattle.meaning.specs.Operator.{null}
@@ -41,7 +42,7 @@ unfolding computing
 tables_are = refl
 
 abbrev filled : Plain
-filled = record { lengths = lent; tables = tables; queries = []; updates = [] }
+filled = record { lengths = lent; tables = tables; queries = []; updates = []; pending = none }
 
 -- ---- a row of a table
 

@@ -15,7 +15,7 @@ use Rattle.meaning.specs.Meaning.{Row, answer, changed, rows_changed}
 use Rattle.meaning.specs.Record.{body, encode}
 use Rattle.meaning.specs.Pattern.{Pattern, number, mark, anything, joint_clauses, joint_count, most_clauses, class, contradictory, entry, side_of, matters, patterns, matches, matches_two}
 use Rattle.meaning.specs.Exact.{is_separate, affects, drops}
-use Rattle.meaning.specs.Plain.{Lengths, Plain, schemas, table_at, query_at, update_at, record_of, drops_key, too_many, opening_refused, opened, other_lengths, full, refusal, table_kind, query_kind, update_kind, Out, refused, added, answered, rows, flushed, text_added, changed_by, rows_by, step, after, outs}
+use Rattle.meaning.specs.Plain.{Lengths, Plain, schemas, table_at, query_at, update_at, record_of, drops_key, too_many, opening_refused, opened, other_lengths, full, refusal, table_kind, query_kind, update_kind, Out, refused, added, answered, rows, flushed, withdrawn, text_added, changed_by, rows_by, step, after, outs}
 use Rattle.meaning.specs.Refusals.{no_place}
 use Rattle.meaning.specs.Call.{Call, add, ask, change}
 
@@ -73,6 +73,7 @@ is_taken (added k n) = true
 is_taken (answered r) = true
 is_taken (rows n) = true
 is_taken flushed = true
+is_taken withdrawn = true
 
 -- all texts and calls are taken, and then the outcome holds
 abbrev pub Holds : Example → Type 0

@@ -25,4 +25,5 @@ pub mod Rings
 pub mod Nulls
 pub mod Outer
 pub mod Exactly
+pub mod Proposed
 pub mod Private

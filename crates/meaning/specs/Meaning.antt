@@ -1,4 +1,4 @@
--- What statements do: document 01, "Meaning", first paragraph. Assumes nothing: these are definitions.
+-- What statements do: document 01, "Meaning", first paragraph, and request A.5 (only where the condition is true). Assumes nothing: these are definitions.
 use Rattle.std.specs.Prelude.{Bool, not, cond, List, [], ◌∷◌, ◌++◌, map, ℕ, zero, suc, ℤ, pos, get_or, set}
 use Rattle.lists.specs.Lists.{keep, count}
 use Rattle.meaning.specs.Condition.{Where, eval_where}
@@ -45,7 +45,7 @@ answer q vs rows = map (selected q) (keep (takes q vs) rows)
 abbrev pub new_row : List Value → List ℤ → Row
 new_row os vs = map (value_of vs) os
 
--- a row with the set columns changed
+-- "then sets": a row with the set columns changed, the first one first
 abbrev pub assigned : List (ℕ × Value) → List ℤ → Row → Row
 assigned [] vs r = r
 assigned (s ∷ ss) vs r = assigned ss vs (set r s.0 (value_of vs s.1))

@@ -1,4 +1,4 @@
--- The names of a sentence beside the tables that there are: document 01, "Numbers for a call not taken", refusals 6, 7 and 8; request A.1, refusal 15.
+-- The names of a sentence beside the tables that there are: document 01, "Numbers for a call not taken", refusals 6, 7 and 8; request A.1, refusal 15; request A.4 (RING).
 -- Assumes nothing: these are definitions.
 use Rattle.std.specs.Prelude.{Bool, false, not, ◌&&◌, ◌||◌, cond, List, [], ◌∷◌, map, ℕ, suc, ◌+◌, eqb, length, get_or}
 use Rattle.lists.specs.Lists.{any, repeats}
@@ -14,6 +14,7 @@ pub record Schema : Type 0 where
   pub capacity : ℕ
   pub ring : Bool
 
+-- the same name; A.2, "case makes no difference between names": a token holds its small letters (`Tokens.word`)
 abbrev pub same_name : Name → Name → Bool
 same_name m n = eq_list eqb m n
 

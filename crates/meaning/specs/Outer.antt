@@ -1,5 +1,6 @@
 -- The rows that a question over two tables reads, request A.6, by computation: r1 + m × r2, of three rows beside three. Assumes nothing.
 use Rattle.std.specs.Prelude.{◌≡◌, refl, Bool, true, false, List, [], ◌∷◌, ◌++◌, map, ℕ, ℤ, length, get_or}
+use Rattle.std.proofs.Math.Option.{none}
 use Prim.Native.String.{String}
 use Rattle.lists.specs.Lists.{bytes}
 use Rattle.meaning.specs.Operator.{null}
@@ -34,6 +35,7 @@ filled = record {
   tables = of_three "stage" "site" "level" stages ∷ of_three "rating" "site" "flow" ratings ∷ [];
   queries = [];
   updates = [];
+  pending = none;
 }
 
 -- these are the tables after the texts and the rows

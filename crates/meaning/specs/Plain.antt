@@ -1,12 +1,12 @@
--- The plain store: document 01, "The plain store" and "Numbers for a call not taken"; requests A.1, A.4 and A.6. It keeps no answer, and is fed only which call is made, its text
+-- The plain store: document 01, "The plain store" and "Numbers for a call not taken"; requests A.1, A.4, A.6, A.7 and A.8. It keeps no answer, and is fed only which call is made, its text
 -- or numbers, and the lengths lent. Assumes nothing: these are definitions.
 use Rattle.std.specs.Prelude.{Bool, true, false, not, ◌&&◌, ◌||◌, cond, List, [], ◌∷◌, ◌++◌, map, ℕ, zero, suc, ◌+◌, ◌*◌, ◌-◌, leb, ltb, eqb, ℤ, length, take, drop, get_or, set}
 use Rattle.std.proofs.Math.Option.{Option, none, some}
 use Rattle.lists.specs.Lists.{all, keep, count, pairs}
 use Rattle.meaning.specs.Condition.{Comparison, always, outer_in, holds}
 use Rattle.meaning.specs.Key.{Key}
-use Rattle.meaning.specs.Call.{Call, add, ask, change, flush}
-use Rattle.meaning.specs.Refusals.{Conditions, Catalog, is_short, is_many, statement_conditions, new_conditions, update_conditions, add_conditions, flush_conditions, lowest_of}
+use Rattle.meaning.specs.Call.{Call, add, ask, change, flush, propose, commit, withdraw}
+use Rattle.meaning.specs.Refusals.{Conditions, Catalog, is_none, is_short, is_many, statement_conditions, new_conditions, update_conditions, add_conditions, flush_conditions, note_conditions, lowest_of}
 use Rattle.meaning.specs.Grammar.{Sentence}
 use Rattle.meaning.specs.Reader.{sentence}
 use Rattle.meaning.specs.Limits.{most_cells, most_memory, most_slots, least_slot_bytes, most_slot_bytes}
@@ -29,11 +29,18 @@ pub record Lengths : Type 0 where
   pub cells : ℕ
   pub memory : ℕ
 
+-- A.8, "the pending note": the update that is proposed, and its values
+pub record Note : Type 0 where
+  pub update : ℕ
+  pub values : List ℤ
+
+-- "It holds" the lengths that the opening was lent, a list of tables, of questions and of updates, at first none; and since A.8 the pending note
 pub record Plain : Type 0 where
   pub lengths : Lengths
   pub tables : List Table
   pub queries : List Query
   pub updates : List Update
+  pub pending : Option Note
 
 abbrev pub schemas : Plain → List Schema
 schemas p = map (λ (t : Table). t.schema) p.tables
@@ -149,7 +156,7 @@ lengths_of true l = record { cells = 0; memory = 0 }
 lengths_of false l = l
 
 abbrev pub opened : Opening → Plain
-opened o = record { lengths = lengths_of (opening_refused o) o.lent; tables = []; queries = []; updates = [] }
+opened o = record { lengths = lengths_of (opening_refused o) o.lent; tables = []; queries = []; updates = []; pending = none }
 
 -- ---- "Numbers for a call not taken": the facts that `Refusals` asks for, read on this store
 
@@ -185,6 +192,9 @@ conditions lent p (add text) = add_conditions (other_lengths lent p) (catalog_of
 conditions lent p (ask k buffer) = ask_conditions lent p k ++ new_conditions (too_many p k) (is_short buffer (length (record_of p k)))
 conditions lent p (change n us) = change_conditions lent p n us
 conditions lent p flush = flush_conditions (other_lengths lent p)
+conditions lent p (propose n us) = change_conditions lent p n us
+conditions lent p commit = note_conditions (other_lengths lent p) (is_none p.pending)
+conditions lent p withdraw = note_conditions (other_lengths lent p) (is_none p.pending)
 
 unfoldable pub refusal : Lengths → Plain → Call ℕ → ℕ
 refusal lent p c = lowest_of (conditions lent p c)
@@ -201,12 +211,17 @@ pub data Out : Type 0 where
   answered : List ℕ → Out
   rows : ℕ → Out
   flushed : Out
+  withdrawn : Out
 
--- "adding appends the table, without rows, or the statement"
+-- A.8, "changes nothing but the pending note": with this one, or with none
+abbrev pub with_note : Plain → Option Note → Plain
+with_note p o = record p { pending = o }
+
+-- "adding appends the table, without rows, or the statement"; A.8: "an accepted text of any kind" removes the note
 abbrev pub adding : Plain → Statement → Plain
-adding p (creates t) = record { lengths = p.lengths; tables = p.tables ++ (record { schema = t; rows = [] } ∷ []); queries = p.queries; updates = p.updates }
-adding p (asks q) = record { lengths = p.lengths; tables = p.tables; queries = p.queries ++ (q ∷ []); updates = p.updates }
-adding p (changes u) = record { lengths = p.lengths; tables = p.tables; queries = p.queries; updates = p.updates ++ (u ∷ []) }
+adding p (creates t) = record p { tables = p.tables ++ (record { schema = t; rows = [] } ∷ []); pending = none }
+adding p (asks q) = record p { queries = p.queries ++ (q ∷ []); pending = none }
+adding p (changes u) = record p { updates = p.updates ++ (u ∷ []); pending = none }
 
 -- "Tables, questions and updates are each numbered from 0"
 abbrev pub kind_and_number : Plain → Statement → Out
@@ -219,28 +234,35 @@ unfoldable pub text_added : Plain → Option Sentence → Plain × Out
 text_added p none = (p, refused 4)
 text_added p (some s) = (adding p (statement_of (schemas p) s), kind_and_number p (statement_of (schemas p) s))
 
--- "an update changes its table's list as Meaning says", and an INSERT into a full ring first removes the oldest row
+-- "an update changes its table's list as Meaning says", and an INSERT into a full ring first removes the oldest row; A.8: it removes the note
 unfoldable pub changed_by : Plain → ℕ → List ℤ → Plain
 changed_by p n us =
     let u : Update = update_at p n in
     let t : Table = table_at p u.table in
-    record {
-      lengths = p.lengths;
-      tables = set p.tables u.table (record { schema = t.schema; rows = changed u.change us (remaining t u.change) });
-      queries = p.queries;
-      updates = p.updates;
-    }
+    record p { tables = set p.tables u.table (record { schema = t.schema; rows = changed u.change us (remaining t u.change) }); pending = none }
 
 -- "and gives the rows inserted, matched or deleted"
 unfoldable pub rows_by : Plain → ℕ → List ℤ → ℕ
 rows_by p n us = rows_changed (update_at p n).change us (table_at p (update_at p n).table).rows
 
--- a call that is not refused
+-- what an update does and gives
+abbrev pub made : Plain → ℕ → List ℤ → Plain × Out
+made p n us = (changed_by p n us, rows (rows_by p n us))
+
+-- A.8, "A commit then does it": one that is not refused has a note
+abbrev pub committed : Plain → Option Note → Plain × Out
+committed p none = (p, refused 17)
+committed p (some x) = made p x.update x.values
+
+-- a call that is not refused; a proposal "gives the rows it would insert, match or delete", and "a withdrawal, a flush" remove the note
 abbrev pub does : Plain → Call ℕ → Plain × Out
 does p (add text) = text_added p (sentence text)
 does p (ask k buffer) = (p, answered (record_of p k))
-does p (change n us) = (changed_by p n us, rows (rows_by p n us))
-does p flush = (p, flushed)
+does p (change n us) = made p n us
+does p flush = (with_note p none, flushed)
+does p (propose n us) = (with_note p (some (record { update = n; values = us })), rows (rows_by p n us))
+does p commit = committed p p.pending
+does p withdraw = (with_note p none, withdrawn)
 
 -- "A call that the numbers below refuse, read on this store, gets the lowest that applies and changes nothing."
 abbrev pub guard : {S O : Type 0} → ℕ → S → (ℕ → O) → S × O → S × O

@@ -1,6 +1,6 @@
 -- Conditions without NOT, in postfix order, as a statement is kept once it is added: the comparisons in the text's order, NOT pushed to them by the table of
 -- opposites (rule 4), and AND and OR behind what they join. Their truth and their clauses, run on a stack; and what may be such a list.
--- Assumes nothing: these are definitions.
+-- (Requests A.5 and A.6: three values, and the outer comparisons.) Assumes nothing: these are definitions.
 use Rattle.std.specs.Prelude.{Bool, true, false, not, ◌&&◌, ◌||◌, List, [], ◌∷◌, ◌++◌, ℕ, zero, suc, ◌+◌, ℤ, replicate}
 use Rattle.lists.specs.Lists.{pairs}
 use Rattle.meaning.specs.Condition.{Comparison, Condition, Tree, Optional, Level, compare, negate, group, alone, both, single, either, Where, always, under, opposed, holds}

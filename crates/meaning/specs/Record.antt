@@ -1,4 +1,4 @@
--- Answer records: document 01, "Meaning", second paragraph, and refusal 14. Assumes nothing: these are definitions.
+-- Answer records: document 01, "Meaning", second paragraph, and refusal 14; request A.1 (65,535 rows). Assumes nothing: these are definitions.
 use Rattle.std.specs.Prelude.{Bool, ◌&&◌, cond, List, [], ◌∷◌, ◌++◌, ℕ, suc, ◌+◌, ◌*◌, ◌-◌, ◌/◌, ◌%◌, ◌^◌, leb, ltb, eqb, ℤ, pos, negsuc, length, take, drop, get_or, ◌≡◌, true, ◌≤◌, ◌<◌}
 use Rattle.lists.specs.Lists.{flat}
 use Rattle.meaning.specs.Limits.{most_items, most_listed}

@@ -1,5 +1,5 @@
--- "Numbers for a call not taken": document 01, with 15 and 16 of request A.1. For each call the numbers that it can get, each with its condition, in the order in which they are looked for. A list
--- is a function of plain facts: the plain store and the program's store read the same lists. (1 is `Plain.opening_refused`; 14, of a row that is not there, is `Record.row_refusal`.)
+-- "Numbers for a call not taken": document 01, with 15 and 16 of request A.1 and 17 of A.8. For each call the numbers that it can get, each with its condition, in the order in which they are looked for. A
+-- list is a function of plain facts: the plain store and the program's store read the same lists. (1 is `Plain.opening_refused`; 14, of a row that is not there, is `Record.row_refusal`.)
 -- Assumes nothing: these are definitions.
 use Rattle.std.specs.Prelude.{◌≡◌, ◌≢◌, Bool, true, false, not, ◌&&◌, ◌||◌, List, [], ◌∷◌, ◌++◌, ℕ, zero, suc, ◌*◌, leb, ltb, eqb, nat_abs, length}
 use Rattle.std.proofs.Math.Option.{Option, none, some}
@@ -13,9 +13,9 @@ use Rattle.meaning.specs.Names.{Schema, unknown_name, taken, miscounted, twice}
 abbrev pub Conditions : Type 0
 Conditions = List (ℕ × Bool)
 
--- the order in which all of them are looked for: the table's, but 15 "after 8" and 16 "after 12"
+-- the order in which all of them are looked for: the table's, but 15 "after 8", 16 "after 12" and 17 "after 2"
 abbrev pub order : List ℕ
-order = 1 ∷ 2 ∷ 3 ∷ 4 ∷ 5 ∷ 6 ∷ 7 ∷ 8 ∷ 15 ∷ 9 ∷ 10 ∷ 11 ∷ 12 ∷ 16 ∷ 13 ∷ 14 ∷ []
+order = 1 ∷ 2 ∷ 17 ∷ 3 ∷ 4 ∷ 5 ∷ 6 ∷ 7 ∷ 8 ∷ 15 ∷ 9 ∷ 10 ∷ 11 ∷ 12 ∷ 16 ∷ 13 ∷ 14 ∷ []
 
 -- "The lowest number that applies is given, and only then": the first whose condition holds, or 0
 abbrev pub or_else : Bool → ℕ → ℕ → ℕ
@@ -82,12 +82,18 @@ abbrev pub add_conditions : Bool → Catalog → List ℕ → Option Sentence �
 add_conditions unfit c text s = (2, unfit) ∷ text_conditions c text s
 
 -- 10 and 11: "no such question or update", "wrong number of values": of a statement by its number, where there are so many, with its parameters and as many values as are given
+abbrev pub number_conditions : ℕ → ℕ → ℕ → ℕ → Conditions
+number_conditions there number parameters values = (10, leb there number) ∷ (11, not (eqb values parameters)) ∷ []
+
 abbrev pub statement_conditions : Bool → ℕ → ℕ → ℕ → ℕ → Conditions
-statement_conditions unfit there number parameters values = (2, unfit) ∷ (10, leb there number) ∷ (11, not (eqb values parameters)) ∷ []
+statement_conditions unfit there number parameters values = (2, unfit) ∷ number_conditions there number parameters values
 
 -- 12: "INSERT, table full" is the fact `full`
+abbrev pub ten_to_twelve : ℕ → ℕ → ℕ → ℕ → Bool → Conditions
+ten_to_twelve there number parameters values full = number_conditions there number parameters values ++ ((12, full) ∷ [])
+
 abbrev pub update_conditions : Bool → ℕ → ℕ → ℕ → ℕ → Bool → Conditions
-update_conditions unfit there number parameters values full = statement_conditions unfit there number parameters values ++ ((12, full) ∷ [])
+update_conditions unfit there number parameters values full = (2, unfit) ∷ ten_to_twelve there number parameters values full
 
 -- of a question that is not refused so far: its answer is kept, and judged by its own length alone; or it is worked out. 13: "answer buffer shorter than the record"; 16, A.1: "an answer of more
 -- than 65,535 rows gives 16, after 12"
@@ -105,6 +111,10 @@ new_conditions many short = (16, many) ∷ kept_conditions short
 
 abbrev pub flush_conditions : Bool → Conditions
 flush_conditions unfit = (2, unfit) ∷ []
+
+-- a proposal has the list of an update: A.8, "Proposals are refused by 2 and 10 to 12". "commit or withdrawal without a note gives 17, looked for after 2"
+abbrev pub note_conditions : Bool → Bool → Conditions
+note_conditions unfit no_note = (2, unfit) ∷ (17, no_note) ∷ []
 
 -- ---- as a claim
 

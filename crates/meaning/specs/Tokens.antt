@@ -1,4 +1,4 @@
--- The tokens of a text: document 01, "Statement texts", first paragraph, and requests A.2, A.4 and A.5. Assumes nothing: these are definitions.
+-- The tokens of a text: document 01, "Statement texts", first paragraph, and requests A.1 (the dot), A.2, A.4 and A.5. Assumes nothing: these are definitions.
 use Rattle.std.specs.Prelude.{Bool, true, false, ◌&&◌, ◌||◌, cond, List, [], ◌∷◌, map, ℕ, zero, suc, ◌+◌, ◌*◌, ◌-◌, leb, eqb, ℤ, pos, neg_ℤ, length}
 use Rattle.std.proofs.Math.Option.{Option, none, some}
 use Prim.Native.String.{String}

@@ -9,6 +9,7 @@ use Rattle.meaning.specs.Condition as C
 use Rattle.meaning.specs.Condition.{sides, renamed, Comparison}
 use Rattle.meaning.specs.Postfix.{clauses_of_nodes, leaves, is_postfix}
 use Rattle.meaning.specs.Statement.{is_below}
+use Rattle.meaning.specs.Limits.{most_comparisons, most_marks}
 use Rattle.meaning.specs.Statement as M
 use Rattle.meaning.specs.Meaning.{Row, new_row, assigned}
 use Rattle.meaning.specs.Exact.{with_columns, numbers_in, critical, rows_from}
@@ -86,7 +87,7 @@ joint q u = joint_clauses (start_read q u) u.form q u
 -- ---- rule 5, and what no text compiles to
 
 unfoldable pub is_formed : Condition → Bool
-is_formed c = leb c.count 8 && is_postfix (condition_nodes c)
+is_formed c = leb c.count most_comparisons && is_postfix (condition_nodes c)
 
 unfoldable pub all_any : Query → Update → Bool
 all_any q u = not (is_formed q.condition && is_formed u.condition) || ltb most_clauses (length (joint q u))
@@ -95,7 +96,7 @@ all_any q u = not (is_formed q.condition && is_formed u.condition) || ltb most_c
 
 -- how many entries a pattern has
 abbrev pub entry_count : Query → ℕ
-entry_count q = min q.parameters 8
+entry_count q = min q.parameters most_marks
 
 unfoldable pub patterns_stored : Query → Update → List P.Pattern
 patterns_stored q u = chosen (relevant q u) (all_any q u) (entry_count q) (joint q u)
@@ -120,7 +121,7 @@ entry_struct (mark k) = Parameter (mark_place k)
 entry_struct anything = Any
 
 abbrev pub pattern_struct : P.Pattern → Pattern
-pattern_struct es = record { entries = padded 8 Any (map entry_struct es); count = length es }
+pattern_struct es = record { entries = padded most_marks Any (map entry_struct es); count = length es }
 
 -- of a clause that goes, none
 abbrev pub clause_pattern : ℕ → Clause → Option Pattern
@@ -135,10 +136,10 @@ pattern_at q u i =
 
 -- the list without repeats, and what stands behind it
 abbrev pub blank : Pattern
-blank = record { entries = replicate 8 Any; count = 0 }
+blank = record { entries = replicate most_marks Any; count = 0 }
 
 unfoldable pub pattern_list : Query → Update → Patterns
-pattern_list q u = record { items = padded 64 blank (map pattern_struct (patterns_stored q u)); count = length (patterns_stored q u) }
+pattern_list q u = record { items = padded most_clauses blank (map pattern_struct (patterns_stored q u)); count = length (patterns_stored q u) }
 
 -- ---- a pattern with the update's values, and whether it agrees with those of a key
 

@@ -404,6 +404,8 @@ pub enum Refusal {
     // A question that names one table twice, looked for after `Miscounted`; an answer of more rows than a record can hold, after `Full`.
     Twice,
     Rows,
+    // No update is proposed that could be committed or withdrawn, looked for after `State`.
+    Note,
 }
 
 impl Refusal {
@@ -427,6 +429,7 @@ impl Refusal {
             Refusal::Buffer => 13,
             Refusal::Twice => 15,
             Refusal::Rows => 16,
+            Refusal::Note => 17,
         }
     }
 }

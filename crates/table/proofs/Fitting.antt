@@ -22,7 +22,7 @@ use Rattle.meaning.proofs.Cells.{rows-length, rows-front, rows_wide, flat_rows, 
 use Rattle.statement.specs.declared.Table.{Table}
 use Rattle.statement.specs.declared.Update.{Update}
 use Rattle.statement.specs.Sound.{settings_read}
-use Rattle.table.specs.Rows.{meets_stored}
+use Rattle.table.specs.Rows.{meets_stored, rows_used}
 use Rattle.table.specs.Changed.{updated_if, laid, oldest_after, next_place, count_after, area_fits, is_full_ring, form_fits, change_fits, rows_before, changed_of, change_of, cells_after}
 use Rattle.table.specs.Private.Changing.{row_of, Insertable, ChangeFits, inserted_of, TurnsRows}
 use Rattle.table.specs.declared.changes.Changed.{Changed}
@@ -293,6 +293,39 @@ module _ (u : Update) (t : Table) (start : ℕ) (cells vs : List ℤ) where
   unfolding change_fits
   refused-form a e = ap₂ (λ (x y : Bool). x && y) a e
 
+  -- what is counted where it fits
+  module _ (a : area_fits t start (length cells) ≡ true) (f : form_test u t ≡ true) where
+    both-fit : change_fits u t start cells ≡ true
+    unfolding change_fits
+    both-fit = ap₂ (λ (x y : Bool). x && y) a f
+
+    counted_by : (k : ℕ) → u.form ≡ k → (change_of u t start cells vs).count ≡ count_after k u vs (rows_before t start cells)
+    unfolding change_of changed_of
+    counted_by k e =
+        ap (λ (b : Bool). (cond b (changed_of (is_full_ring t) t.oldest u.form u vs (rows_before t start cells)) (record { count = 0; rows = t.rows; oldest = t.oldest })).count) both-fit
+        ∙ ap (λ (j : ℕ). count_after j u vs (rows_before t start cells)) e
+
+    pub counted-insert : u.form ≡ 0 → 1 ≡ (change_of u t start cells vs).count
+    unfolding count_after
+    counted-insert e = sym (counted_by 0 e)
+
+    -- the rows lie inside the cells, and are counted from the oldest on as they are in the order of the area
+    rows-found : count (meets_stored u.condition vs) (rows_used t start cells) ≡ count (meets_stored u.condition vs) (rows_before t start cells)
+    rows-found =
+        let p = meets_stored u.condition vs in
+        let rows : List Row = rows_before t start cells in
+        let h : t.rows * t.count ≤ t.capacity * t.count = mul-le-mul_right t.count (rows_inside t start (length cells) a) in
+        let inside : start + t.count * t.rows ≤ length cells = omega (arith, area-inside t start (length cells) a, mul_comm t.capacity t.count, mul_comm t.rows t.count) in
+        ap (λ (b : Bool). count p (cond b (turned t.oldest rows) [])) (le-leb (start + t.count * t.rows) (length cells) inside) ∙ count-turned p t.oldest rows
+
+    pub counted-met : (u.form ≡ 0 → ⊥) → (n : ℕ) → n ≡ count (meets_stored u.condition vs) (rows_used t start cells) → n ≡ (change_of u t start cells vs).count
+    unfolding count_after
+    counted-met other n e = go u.form refl
+      where
+        go : (k : ℕ) → u.form ≡ k → n ≡ (change_of u t start cells vs).count
+        go zero z = absurd (other z)
+        go (suc k) z = e ∙ rows-found ∙ sym (counted_by (suc k) z)
+
   module _ (a : area_fits t start (length cells) ≡ true) (f : form_test u t ≡ true) (k : ℕ) (size : k ≡ t.count * t.capacity) where
     abbrev area : List ℤ
     area = take k (drop start cells)
@@ -321,19 +354,15 @@ module _ (u : Update) (t : Table) (start : ℕ) (cells vs : List ℤ) where
     rows_are : rows_in t.count t.rows area ≡ rows_before t start cells
     rows_are = rows-front t.count t.rows k (drop start cells) used-inside
 
-    both : change_fits u t start cells ≡ true
-    unfolding change_fits
-    both = ap₂ (λ (x y : Bool). x && y) a f
-
     pub done : (r : Changed) (area' : List ℤ) → Promised u vs t.count t.rows area (is_full_ring t) t.oldest u.form r area'
         → (r ≡ change_of u t start cells vs) × (put_mid start k cells area' ≡ cells_after u t start cells vs)
     unfolding change_of cells_after
     done r area' h = (
       h.0
           ∙ ap (changed_of (is_full_ring t) t.oldest u.form u vs) rows_are
-          ∙ sym (ap (λ (b : Bool). cond b (changed_of (is_full_ring t) t.oldest u.form u vs (rows_before t start cells)) (record { count = 0; rows = t.rows; oldest = t.oldest })) both),
+          ∙ sym (ap (λ (b : Bool). cond b (changed_of (is_full_ring t) t.oldest u.form u vs (rows_before t start cells)) (record { count = 0; rows = t.rows; oldest = t.oldest })) (both-fit a f)),
       ap (λ (x : List ℤ). put_mid start k cells x)
           (h.1 ∙ ap₂ (λ (n : ℕ) (rows : List Row). stored area n (laid (is_full_ring t) t.oldest u.form u vs rows)) (mul_comm t.rows t.count) rows_are)
           ∙ ap (λ (j : ℕ). put_mid start j cells (stored (take j (drop start cells)) (t.count * t.rows) (laid (is_full_ring t) t.oldest u.form u vs (rows_before t start cells)))) size
-          ∙ sym (ap (λ (b : Bool). cond b (put_mid start (t.count * t.capacity) cells (stored (take (t.count * t.capacity) (drop start cells)) (t.count * t.rows) (laid (is_full_ring t) t.oldest u.form u vs (rows_before t start cells)))) cells) both),
+          ∙ sym (ap (λ (b : Bool). cond b (put_mid start (t.count * t.capacity) cells (stored (take (t.count * t.capacity) (drop start cells)) (t.count * t.rows) (laid (is_full_ring t) t.oldest u.form u vs (rows_before t start cells)))) cells) (both-fit a f)),
     )

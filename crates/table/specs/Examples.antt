@@ -92,6 +92,22 @@ pub inserted : changed "INSERT INTO t VALUES (1, 2)" ≡ pos 7 ∷ pos 120 ∷ p
 unfolding computing
 inserted = refl
 
+-- ---- A.8: how many rows an update would insert, match or delete
+
+-- in t, with so many rows in use
+abbrev would : ℕ → String → ℕ
+would rows text = (change_of (compiled text).update (record { name = t.name; columns = t.columns; count = 2; capacity = 3; rows = rows; oldest = 0; ring = false }) 0 cells []).count
+
+-- an INSERT is one row; a row that does not meet the condition is none, nor is one that is not in use
+pub would-change : map (would 2) ("INSERT INTO t VALUES (1, 2)" ∷ "UPDATE t SET a = 9 WHERE a = 7" ∷ "DELETE FROM t WHERE a < 9" ∷ "DELETE FROM t WHERE a = 5" ∷ []) ≡ 1 ∷ 1 ∷ 2 ∷ 0 ∷ []
+unfolding computing
+would-change = refl
+
+-- an INSERT into a table that is full does not fit
+pub would-not : would 3 "INSERT INTO t VALUES (1, 2)" ≡ 0
+unfolding computing
+would-not = refl
+
 -- ---- the test of a row on numbers alone (request A.3)
 
 -- as WHERE a = 7 AND b > 100 is prepared: comparison 0 leads on to 1 where its sides are equal, comparison 1 is met where the left side is greater; where a side is null
@@ -285,6 +301,11 @@ turned-again = refl
 pub deleted-round : ring_changed 1 wrapped "DELETE FROM recent WHERE minute = 3" ≡ (pos 2 ∷ pos 20 ∷ pos 4 ∷ pos 40 ∷ pos 0 ∷ pos 0 ∷ [], now_at 1 2 0)
 unfolding computing
 deleted-round = refl
+
+-- A.8: rows are counted wherever they lie; here (2, 20) and (3, 30) of the three, and not (4, 40), which lies first
+pub would-round : (ring_changed 1 wrapped "DELETE FROM recent WHERE minute < 4").1.count ≡ 2
+unfolding computing
+would-round = refl
 
 -- an UPDATE moves no row
 pub set-in-place : ring_changed 1 wrapped "UPDATE recent SET level = 21 WHERE minute = 2" ≡ (pos 4 ∷ pos 40 ∷ pos 2 ∷ pos 21 ∷ pos 3 ∷ pos 30 ∷ [], now_at 1 3 1)

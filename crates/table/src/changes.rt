@@ -13,7 +13,7 @@ ghost use Rattle.table.specs.Changed.{updated_if, laid, next_place, area_fits, i
 ghost use Rattle.table.specs.Private.Changing.{row_of, TurnsRows, ChangeFits, Insertable, inserted_of, constants_of};
 
 use super::area::Rows;
-use super::{area, rows};
+use super::{area, listing, rows};
 use lists::filled;
 use statement::{Condition, Given, Setting, Table, Update, Value};
 
@@ -277,6 +277,27 @@ pub fn change(
     }
     let end = start + table.cells();
     change_area(&mut cells[start..end], &table, &update, values)
+}
+
+// How many rows the update would insert, match or delete, by the definition that `change` promises; where something does not fit, none. Nothing is changed.
+pub fn count_change(
+    update: Update,
+    table: Table,
+    start: usize,
+    cells: &[i32],
+    values: &[i32],
+) -> u16
+    ensures { result ≡ (change_of update table start cells.now values.now).count }
+{
+    if !area_fits(&table, start, cells.len()) || !form_fits(&update, &table) {
+        return 0;
+    }
+    if update.form == Update::INSERT {
+        return 1;
+    }
+    let rows = Rows::of(&table, start, cells);
+    let test = rows::prepare(&update.condition, values);
+    listing::count_rows(&rows, &test)
 }
 
 // ---- the row that a full ring pushes out

@@ -10,7 +10,7 @@ mod pairs; // questions over two tables: the pairs of rows listed
 mod rows; // the test of a row
 
 pub use answer::{NoRow, check_row, row};
-pub use changes::{Changed, change, removal};
+pub use changes::{Changed, change, count_change, removal};
 pub use listing::{Selected, select};
 pub use pairs::select_pair;
 pub use statement::{

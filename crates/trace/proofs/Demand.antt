@@ -16,15 +16,15 @@ use Rattle.lists.proofs.Bools.{or_right}
 use Rattle.lists.proofs.Lists.{All-head, All-tail, All-map, All-both, All-image, All-source, distinct-source, keep-map}
 use Rattle.meaning.proofs.Within32.{answer_reads_back}
 use Rattle.meaning.specs.Key.{Key, same_key}
-use Rattle.meaning.specs.Call.{Call32, Call, ask, change}
+use Rattle.meaning.specs.Call.{Call32, Call, ask, change, propose, commit}
 use Rattle.meaning.specs.Limits.{most_cells, most_memory, most_slots, least_slot_bytes, most_slot_bytes}
 use Rattle.meaning.specs.Plain as P
-use Rattle.meaning.specs.Plain.{Lengths, Plain, Opening, opening_refused, refusal, record_of, drops_key, answered, guard}
+use Rattle.meaning.specs.Plain.{Lengths, Plain, Opening, opening_refused, refusal, record_of, drops_key, answered, guard, Note}
 use Rattle.trace.specs.History.{Event, note, history_on, history, Ground}
 use Rattle.trace.proofs.Recent.{Entry, recent}
 use Rattle.trace.specs.Private.Slots.{Held, slot_bytes, find}
-use Rattle.trace.specs.Private.Model.{Seen, turned, Model, ask_refusal, short_refusal, asked, step, after, outs, slots_opened, size_opened, memory_opened, slot_count, slot_size, opened}
-use Rattle.trace.specs.Private.Demand.{ModelStart, after_calls, next_call, plain_beside, keys_held, ModelSameAsPlain, ModelAnewOnlyIf, ModelKeptOtherwise, ModelDropsExactlyMatched, ModelKeptReadsBack, Tidy, ModelTidyAfter, Demands}
+use Rattle.trace.specs.Private.Model.{Seen, turned, Model, ask_refusal, short_refusal, asked, step, after, outs, slots_opened, size_opened, memory_opened, slot_count, slot_size, opened, leaving, dropping, committing}
+use Rattle.trace.specs.Private.Demand.{ModelStart, after_calls, next_call, plain_beside, keys_held, ModelSameAsPlain, ModelAnewOnlyIf, ModelKeptOtherwise, ModelDropsExactlyMatched, ModelKeptReadsBack, Tidy, ModelTidyAfter, Demands, DropsMatched, ModelCommitDrops, ModelProposalDropsNothing}
 use Rattle.trace.proofs.Laws.{TableLaws}
 use Rattle.trace.proofs.Tables.{plain-laws}
 use Rattle.trace.proofs.Past.{Past, start, past-step, Current, current, apart}
@@ -72,21 +72,21 @@ kept-or-missing lent size s k b r = go (ask_refusal lent s.store k) (find same_k
 
 -- ---- an update drops exactly what it matches
 
-module _ (lent : Lengths) (size : ℕ) (s : Model) (n : ℕ) (us : List ℤ) where
-  abbrev DropsMatched : Plain → Type 0
-  DropsMatched p = (keys_held (step lent size s (change n us)).0 ≡ keep (λ (k : Key). not (drops_key p n us k)) (keys_held s))
-      × ((step lent size s (change n us)).1.drops ≡ count (drops_key p n us) (keys_held s))
+module _ (lent : Lengths) (size : ℕ) (s : Model) (c : Call ℕ) (n : ℕ) (us : List ℤ) where
+  abbrev Matched : Model × Seen → Plain → Type 0
+  Matched r p =
+      (keys_held r.0 ≡ keep (λ (k : Key). not (drops_key p n us k)) (keys_held s))
+      × (r.1.drops ≡ count (drops_key p n us) (keys_held s))
 
-  drops-own : refusal lent s.store (change n us) ≡ 0 → DropsMatched s.store
-  drops-own e =
-      rw e (
-        keep-map (λ (x : Held Key). x.key) (λ (k : Key). not (drops_key s.store n us k)) s.cache.held,
-        sym (length-map (keep (λ (x : Held Key). drops_key s.store n us x.key) s.cache.held) (λ (x : Held Key). x.key))
-            ∙ ap length (keep-map (λ (x : Held Key). x.key) (drops_key s.store n us) s.cache.held),
-      )
+  drops-own : Matched (dropping lent size s c (drops_key s.store n us)) s.store
+  drops-own = (
+    keep-map (λ (x : Held Key). x.key) (λ (k : Key). not (drops_key s.store n us k)) s.cache.held,
+    sym (length-map (keep (λ (x : Held Key). drops_key s.store n us x.key) s.cache.held) (λ (x : Held Key). x.key))
+        ∙ ap length (keep-map (λ (x : Held Key). x.key) (drops_key s.store n us) s.cache.held),
+  )
 
-  drops-at : (p : Plain) → s.store ≡ p → refusal lent p (change n us) ≡ 0 → DropsMatched p
-  drops-at p e = subst (λ (x : Plain). refusal lent x (change n us) ≡ 0 → DropsMatched x) e drops-own
+  drops-at : (p : Plain) → s.store ≡ p → step lent size s c ≡ dropping lent size s c (drops_key s.store n us) → Matched (step lent size s c) p
+  drops-at p e i = subst (Matched (step lent size s c)) e (subst (λ (r : Model × Seen). Matched r s.store) (sym i) drops-own)
 
 -- ---- a list of calls, step by step
 
@@ -155,10 +155,47 @@ module _ (𝓛 : TableLaws) (lent : Lengths) (n size : ℕ) where
 pub stored-after : (s : ModelStart) (cs : List (Call ℕ)) → (after_calls s cs).store ≡ plain_beside s cs
 stored-after s cs = after_store s.opening.lent (slot_size s.opening) (opened s.opening s.memory) (P.opened s.opening) refl cs
 
--- demand 2, of the kept answers
-drops_exactly_matched : ModelDropsExactlyMatched
-drops_exactly_matched s cs n us e =
-    drops-at s.opening.lent (slot_size s.opening) (after_calls s cs) n us (plain_beside s cs) (stored-after s cs) e
+-- demand 2, of the kept answers: an update, and a commit
+module _ (s : ModelStart) (cs : List (Call ℕ)) where
+  abbrev m : Model
+  m = after_calls s cs
+
+  abbrev size : ℕ
+  size = slot_size s.opening
+
+  -- a call that is not refused
+  taken : (c : Call ℕ) → refusal s.opening.lent (plain_beside s cs) c ≡ 0 → refusal s.opening.lent m.store c ≡ 0
+  taken c e = ap (λ (p : Plain). refusal s.opening.lent p c) (stored-after s cs) ∙ e
+
+  matched_by : (n : ℕ) (us : List ℤ) → refusal s.opening.lent (plain_beside s cs) (change n us) ≡ 0 → DropsMatched s cs (change n us) n us
+  matched_by n us e =
+      drops-at s.opening.lent size m (change n us) n us (plain_beside s cs) (stored-after s cs)
+      (ap (λ (i : ℕ). guard i m turned (dropping s.opening.lent size m (change n us) (drops_key m.store n us))) (taken (change n us) e))
+
+  commit_by : (x : Note) → (plain_beside s cs).pending ≡ some x → refusal s.opening.lent (plain_beside s cs) commit ≡ 0 → DropsMatched s cs commit x.update x.values
+  commit_by x i e =
+      drops-at s.opening.lent size m commit x.update x.values (plain_beside s cs) (stored-after s cs)
+      (ap (λ (k : ℕ). guard k m turned (committing s.opening.lent size m m.store.pending)) (taken commit e)
+      ∙ ap (committing s.opening.lent size m) (ap (λ (p : Plain). p.pending) (stored-after s cs) ∙ i))
+
+pub drops_exactly_matched : ModelDropsExactlyMatched
+drops_exactly_matched s cs n us e = matched_by s cs n us e
+
+pub commit_drops : ModelCommitDrops
+commit_drops s cs x i e = commit_by s cs x i e
+
+pub proposal_drops_nothing : ModelProposalDropsNothing
+proposal_drops_nothing s cs n us = go (refusal s.opening.lent (after_calls s cs).store (propose n us))
+  where
+    m : Model
+    m = after_calls s cs
+
+    next : Model × Seen
+    next = leaving s.opening.lent (slot_size s.opening) m (propose n us)
+
+    go : (k : ℕ) → ((guard k m turned next).0.cache ≡ m.cache) × ((guard k m turned next).1.drops ≡ 0)
+    go zero = (refl, refl)
+    go (suc k) = (refl, refl)
 
 module _ (𝓛 : TableLaws) where
   agree-opened : (s : ModelStart)
@@ -232,6 +269,8 @@ demands = record {
   anew_only_if = anew_only_if plain-laws;
   kept_otherwise = kept_otherwise plain-laws;
   drops_exactly_matched = drops_exactly_matched;
+  commit_drops = commit_drops;
+  proposal_drops_nothing = proposal_drops_nothing;
   kept_reads_back = kept_reads_back plain-laws;
   tidy_after = tidy_after plain-laws;
 }

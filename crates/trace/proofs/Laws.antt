@@ -1,15 +1,16 @@
 -- What the proofs here use of the plain store, as a record of laws, and the refusal of a question in two parts. Assumes nothing.
 use mathlib.Core.Path.{◌≡◌, refl}
 use mathlib.Core.Bool.{Bool, true, false, not}
+use mathlib.Core.Option.{Option, some}
 use mathlib.Core.List.{List}
 use Prim.Native.Nat.{ℕ, zero, suc}
 use lib.ListN.{length}
 use lib.Dec.{leb, eqb}
 use lib.IntN.{ℤ}
 use Rattle.meaning.specs.Key.{Key}
-use Rattle.meaning.specs.Call.{Call32, Call, add, ask, change}
+use Rattle.meaning.specs.Call.{Call32, Call, add, ask, change, commit}
 use Rattle.meaning.specs.Plain as P
-use Rattle.meaning.specs.Plain.{Lengths, Plain, Opening, other_lengths, query_at, refusal, drops_key, changed_by, does}
+use Rattle.meaning.specs.Plain.{Lengths, Plain, Opening, other_lengths, query_at, refusal, drops_key, changed_by, does, Note, with_note}
 use Rattle.meaning.specs.Refusals.{or_else}
 use Rattle.trace.specs.Private.Model.{ask_refusal, new_refusal}
 use Rattle.meaning.proofs.Keeps.{SameAnswer}
@@ -25,6 +26,11 @@ pub record TableLaws : Type 1 where
       → (ask_refusal lent (does p (add text)).0 k ≡ 0) × SameAnswer (does p (add text)).0 p k
   pub change_keeps : (lent : Lengths) (p : Plain) (n : ℕ) (us : List ℤ) (k : Key) → Good p → ask_refusal lent p k ≡ 0 → refusal lent p (change n us) ≡ 0
       → (ask_refusal lent (changed_by p n us) k ≡ 0) × (drops_key p n us k ≡ false → SameAnswer (changed_by p n us) p k)
+  -- another note, or none, leaves them all; a commit that is not refused has a note, whose update is not refused
+  pub note_keeps : (lent : Lengths) (p : Plain) (o : Option Note) (k : Key) → ask_refusal lent p k ≡ 0
+      → (ask_refusal lent (with_note p o) k ≡ 0) × SameAnswer (with_note p o) p k
+  pub commit_taken : (lent : Lengths) (p : Plain) → Good p → refusal lent p commit ≡ 0
+      → (x : Note) × (p.pending ≡ some x) × (refusal lent p (change x.update x.values) ≡ 0)
 
 -- the first refusal of two
 abbrev pub first_of : ℕ → ℕ → ℕ

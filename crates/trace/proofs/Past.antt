@@ -1,10 +1,12 @@
 -- A history of the plain store, and what it says of the entries kept: each record is the plain store's of now, and fits; no key stands twice. Assumes nothing.
-use mathlib.Core.Path.{◌≡◌, refl, sym, ap, ◌∙◌}
+use mathlib.Core.Path.{◌≡◌, refl, sym, ap, ◌∙◌, subst}
 use mathlib.Core.HLevel.{Discrete}
 use mathlib.Core.Logic.{◌≢◌, inl, inr}
 use mathlib.Core.Bool.{Bool, true, false, not}
+use mathlib.Core.Option.{Option, none, some}
 use mathlib.Core.List.{List, [], ◌∷◌}
 use Prim.Native.Nat.{ℕ, zero, suc}
+use lib.IntN.{ℤ}
 use lib.ListN.{length}
 use Rattle.lists.specs.Lists.{All, nil, cons, DistinctBy, keep}
 use Rattle.lists.specs.Tests.{is_yes}
@@ -12,10 +14,10 @@ use Rattle.lists.proofs.Bools.{not-true, is-yes, is-no, no_of}
 use Rattle.lists.proofs.Lists.{All-map, All-take, All-keep, All-kept, distinct-take, distinct-keep}
 use Rattle.meaning.specs.Key.{Key, same_key}
 use Rattle.meaning.specs.Plain as P
-use Rattle.meaning.specs.Plain.{Lengths, Plain, refusal, record_of, too_many, drops_key, refused, does, guard}
+use Rattle.meaning.specs.Plain.{Lengths, Plain, refusal, record_of, too_many, drops_key, refused, does, guard, Note, with_note, changed_by, committed}
 use Rattle.meaning.specs.Refusals.{is_short, or_else}
-use Rattle.meaning.specs.Call.{Call, add, ask, change, flush}
-use Rattle.trace.specs.History.{Event, answer_of, drop_of, note, fits_slot, Answered}
+use Rattle.meaning.specs.Call.{Call, add, ask, change, flush, propose, commit, withdraw}
+use Rattle.trace.specs.History.{Event, answer_of, drop_of, note, fits_slot, Answered, noted, change_noted, commit_noted}
 use Rattle.trace.proofs.Recent.{Entry, spared, other, front, recent}
 use Rattle.trace.specs.Private.Model.{ask_refusal}
 use Rattle.meaning.proofs.Keeps.{SameAnswer}
@@ -96,27 +98,42 @@ module _ (lent : Lengths) where
 
 -- every call leads on
 module _ (𝓛 : TableLaws) (lent : Lengths) where
-  pub past-step : {p : Plain} {h : List (Event Key)} → 𝓛.Good p → Past lent p h → (c : Call ℕ) → Past lent (P.step lent p c).0 (note (refusal lent p c) p c h)
-  past-step {p} {h} g s (add text) = go (refusal lent p (add text)) refl
-    where
-      go : (m : ℕ) → refusal lent p (add text) ≡ m → Past lent (guard m p refused (does p (add text))).0 (note m p (add text) h)
-      go zero e = adds (λ k a. ((𝓛.add_keeps lent p text k a e).0, λ _. (𝓛.add_keeps lent p text k a e).1)) s
-      go (suc m) e = s
-  past-step {p} {h} g s (ask k b) = rw (ask-refusal lent p k b) (go (ask_refusal lent p k) refl (too_many p k) refl (is_short b (length (record_of p k))))
-    where
-      go : (m : ℕ) → ask_refusal lent p k ≡ m → (x : Bool) → too_many p k ≡ x → (y : Bool)
-          → Past lent (guard (first_of m (or_else x 16 (or_else y 13 0))) p refused (does p (ask k b))).0 (note (first_of m (or_else x 16 (or_else y 13 0))) p (ask k b) h)
-      go zero e false i false = asks k e i s
-      go zero e false i true = s
-      go zero e true i y = s
-      go (suc m) e x i y = s
-  past-step {p} {h} g s (change n us) = go (refusal lent p (change n us)) refl
-    where
-      go : (m : ℕ) → refusal lent p (change n us) ≡ m → Past lent (guard m p refused (does p (change n us))).0 (note m p (change n us) h)
-      go zero e = drops (drops_key p n us) (λ k a. 𝓛.change_keeps lent p n us k g a e) s
-      go (suc m) e = s
-  past-step {p} {h} g s flush = go (refusal lent p flush)
-    where
-      go : (m : ℕ) → Past lent (guard m p refused (does p flush)).0 (note m p flush h)
-      go zero = drops (λ k. true) (λ k a. (a, λ _. (refl, refl))) s
-      go (suc m) = s
+  module _ {p : Plain} {h : List (Event Key)} (g : 𝓛.Good p) (s : Past lent p h) where
+    -- a call that is not refused, or is
+    led : (c : Call ℕ) → (refusal lent p c ≡ 0 → Past lent (does p c).0 (noted p c h)) → Past lent (P.step lent p c).0 (note (refusal lent p c) p c h)
+    led c f = go (refusal lent p c) refl
+      where
+        go : (m : ℕ) → refusal lent p c ≡ m → Past lent (guard m p refused (does p c)).0 (note m p c h)
+        go zero e = f e
+        go (suc m) e = s
+
+    -- another note, or none
+    note-stays : (o : Option Note) (d : Key → Bool) → Keeps lent p (with_note p o) d
+    note-stays o d k a = ((𝓛.note_keeps lent p o k a).0, λ _. (𝓛.note_keeps lent p o k a).1)
+
+    renoted : (o : Option Note) → Past lent (with_note p o) h
+    renoted o = adds (note-stays o (λ k. false)) s
+
+    -- an update
+    changes-on : (n : ℕ) (us : List ℤ) → refusal lent p (change n us) ≡ 0 → Past lent (changed_by p n us) (change_noted p n us h)
+    changes-on n us e = drops (drops_key p n us) (λ k a. 𝓛.change_keeps lent p n us k g a e) s
+
+    pub past-step : (c : Call ℕ) → Past lent (P.step lent p c).0 (note (refusal lent p c) p c h)
+    past-step (add text) =
+        led (add text) (λ e. adds (λ k a. ((𝓛.add_keeps lent p text k a e).0, λ _. (𝓛.add_keeps lent p text k a e).1)) s)
+    past-step (ask k b) = rw (ask-refusal lent p k b) (go (ask_refusal lent p k) refl (too_many p k) refl (is_short b (length (record_of p k))))
+      where
+        go : (m : ℕ) → ask_refusal lent p k ≡ m → (x : Bool) → too_many p k ≡ x → (y : Bool)
+            → Past lent (guard (first_of m (or_else x 16 (or_else y 13 0))) p refused (does p (ask k b))).0 (note (first_of m (or_else x 16 (or_else y 13 0))) p (ask k b) h)
+        go zero e false i false = asks k e i s
+        go zero e false i true = s
+        go zero e true i y = s
+        go (suc m) e x i y = s
+    past-step (change n us) = led (change n us) (changes-on n us)
+    past-step flush = led flush (λ e. drops (λ k. true) (note-stays none (λ k. true)) s)
+    past-step (propose n us) = led (propose n us) (λ e. renoted (some (record { update = n; values = us })))
+    past-step commit =
+        led commit (λ e.
+        let (x, i, t) = 𝓛.commit_taken lent p g e in
+        subst (λ (o : Option Note). Past lent (committed p o).0 (commit_noted p o h)) (sym i) (changes-on x.update x.values t))
+    past-step withdraw = led withdraw (λ e. renoted none)

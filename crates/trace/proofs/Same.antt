@@ -1,7 +1,7 @@
 -- A call gets from the store that keeps answers what it gets from the plain store, and the slots keep what `recent` says of the history; and whatever the
 -- slots keep, it leaves the tables and statements that it leaves there. Assumes nothing.
 use mathlib.Core.Path.{◌≡◌, refl, ap, ◌∙◌, sym}
-use mathlib.Core.Bool.{true, false}
+use mathlib.Core.Bool.{true, false, Bool}
 use mathlib.Core.Option.{Option, none, some}
 use mathlib.Core.List.{List, [], ◌∷◌, ◌++◌, map}
 use Prim.Native.Nat.{ℕ, zero, suc}
@@ -9,11 +9,11 @@ use Rattle.lists.specs.Lists.{All}
 use Rattle.lists.proofs.Lists.{All-head, All-right, All-source}
 use Rattle.meaning.specs.Key.{Key, same_key}
 use Rattle.meaning.specs.Plain as P
-use Rattle.meaning.specs.Plain.{Lengths, Plain, refusal, record_of, too_many, drops_key, Out, refused, does, guard}
-use Rattle.meaning.specs.Call.{Call, add, ask, change, flush}
-use Rattle.trace.specs.History.{Event, answer_of, noted, note, fits_slot}
+use Rattle.meaning.specs.Plain.{Lengths, Plain, refusal, record_of, too_many, drops_key, Out, refused, does, guard, Note}
+use Rattle.meaning.specs.Call.{Call, add, ask, change, flush, propose, commit, withdraw}
+use Rattle.trace.specs.History.{Event, answer_of, noted, note, fits_slot, commit_noted, drop_of}
 use Rattle.trace.specs.Private.Slots.{Held, slot_bytes, find, move_to_front}
-use Rattle.trace.specs.Private.Model.{Seen, turned, Model, ask_refusal, short_refusal, new_refusal, asked, step, after}
+use Rattle.trace.specs.Private.Model.{Seen, turned, Model, ask_refusal, short_refusal, new_refusal, asked, step, after, leaving, dropping, committing}
 use Rattle.trace.proofs.Laws.{first_of, ask-refusal}
 use Rattle.trace.proofs.Past.{Past, Current, current}
 use Rattle.trace.proofs.Kept.{entry, Found, find-is, Sound, hit, put-sound, drop-sound}
@@ -45,6 +45,13 @@ module _ (lent : Lengths) (size : ℕ) where
       stays (suc m) = refl
   step-store s (change n us) = guard-store (refusal lent s.store (change n us)) s _ _ refl
   step-store s flush = guard-store (refusal lent s.store flush) s _ _ refl
+  step-store s (propose n us) = guard-store (refusal lent s.store (propose n us)) s _ _ refl
+  step-store s commit = guard-store (refusal lent s.store commit) s _ _ (commit-store s.store.pending)
+    where
+      commit-store : (o : Option Note) → (committing lent size s o).0.store ≡ (does s.store commit).0
+      commit-store none = refl
+      commit-store (some x) = refl
+  step-store s withdraw = guard-store (refusal lent s.store withdraw) s _ _ refl
 
   pub after_store : (s : Model) (p : Plain) → s.store ≡ p → (cs : List (Call ℕ)) → (after lent size s cs).store ≡ P.after lent p cs
   after_store s p e [] = e
@@ -93,8 +100,16 @@ module _ (lent : Lengths) (n size : ℕ) where
         let few : too_many s.store k ≡ false = ap (too_many s.store) (sym key_is) ∙ g.few in
         rw (e, few) (guarded (short_refusal b (record_of s.store k)) (ask k b) s h _ _ ok (record { stored = refl; got = refl; sound = moved }))
 
+    -- a call that leaves the kept answers, and one that drops those of d
+    leaves : (c : Call ℕ) → noted s.store c h ≡ h → Agrees (note (refusal lent s.store c) s.store c h) (P.step lent s.store c) (guard (refusal lent s.store c) s turned (leaving lent size s c))
+    leaves c i = guarded (refusal lent s.store c) c s h _ _ ok (record { stored = refl; got = refl; sound = rw i ok })
+
+    drops-by : (c : Call ℕ) (d : Key → Bool) → noted s.store c h ≡ drop_of d ∷ h
+        → Agrees (note (refusal lent s.store c) s.store c h) (P.step lent s.store c) (guard (refusal lent s.store c) s turned (dropping lent size s c d))
+    drops-by c d i = guarded (refusal lent s.store c) c s h _ _ ok (record { stored = refl; got = refl; sound = rw i (drop-sound same_key n size s.cache h d ok) })
+
     pub step-agrees : (c : Call ℕ) → Agrees (note (refusal lent s.store c) s.store c h) (P.step lent s.store c) (step lent size s c)
-    step-agrees (add text) = guarded (refusal lent s.store (add text)) (add text) s h _ _ ok (record { stored = refl; got = refl; sound = ok })
+    step-agrees (add text) = leaves (add text) refl
     step-agrees (ask k b) = rw (ask-refusal lent s.store k b) (go (ask_refusal lent s.store k))
       where
         go : (m : ℕ)
@@ -103,9 +118,14 @@ module _ (lent : Lengths) (n size : ℕ) where
             (guard m s turned (asked lent size s k b (find same_key k s.cache.held)))
         go zero = asked-agrees k b (find same_key k s.cache.held) (find-is same_key k s.cache.held)
         go (suc m) = record { stored = refl; got = refl; sound = ok }
-    step-agrees (change i us) =
-        guarded (refusal lent s.store (change i us)) (change i us) s h _ _ ok
-        (record { stored = refl; got = refl; sound = drop-sound same_key n size s.cache h (drops_key s.store i us) ok })
-    step-agrees flush =
-        guarded (refusal lent s.store flush) flush s h _ _ ok
-        (record { stored = refl; got = refl; sound = drop-sound same_key n size s.cache h (λ k. true) ok })
+    step-agrees (change i us) = drops-by (change i us) (drops_key s.store i us) refl
+    step-agrees flush = drops-by flush (λ k. true) refl
+    step-agrees (propose i us) = leaves (propose i us) refl
+    step-agrees commit = go s.store.pending refl
+      where
+        go : (o : Option Note) → s.store.pending ≡ o
+            → Agrees (note (refusal lent s.store commit) s.store commit h) (P.step lent s.store commit)
+            (guard (refusal lent s.store commit) s turned (committing lent size s o))
+        go none e = leaves commit (ap (λ (o : Option Note). commit_noted s.store o h) e)
+        go (some x) e = drops-by commit (drops_key s.store x.update x.values) (ap (λ (o : Option Note). commit_noted s.store o h) e)
+    step-agrees withdraw = leaves withdraw refl

@@ -1,8 +1,8 @@
--- Document 01's transcript and an eviction, on the model and on the plain store, by computation: the claims of specs/Demand speak of lists in which answers
+-- Document 01's transcript and an eviction, and requests A.1, A.7 and A.8, on the model and on the plain store, by computation: the claims of specs/Demand speak of lists in which answers
 -- are kept, dropped, evicted and refused. Assumes nothing.
-use Rattle.std.specs.Prelude.{◌≡◌, refl, List, [], ◌∷◌, ◌++◌, map, ℕ, pos, replicate}
+use Rattle.std.specs.Prelude.{◌≡◌, refl, Bool, true, false, List, [], ◌∷◌, ◌++◌, map, ℕ, pos, replicate}
 use Prim.Native.String.{String}
-use Rattle.lists.specs.Lists.{bytes}
+use Rattle.lists.specs.Lists.{bytes, any}
 use Rattle.meaning.specs.Tokens.{is_name_byte, is_word_byte, decimal, is_name, word, negative, token_from, first_token, scan, tokens}
 use Rattle.meaning.specs.Reader.{a_condition, a_sentence, read}
 use Rattle.meaning.specs.Limits.{past_limit}
@@ -12,10 +12,12 @@ use Rattle.meaning.specs.Meaning.{answer, changed, rows_changed}
 use Rattle.meaning.specs.Record.{body, encode}
 use Rattle.meaning.specs.Pattern.{side_of, matters, joint_clauses, class, contradictory, entry, patterns, matches_two}
 use Rattle.meaning.specs.Exact.{is_separate, affects, drops}
-use Rattle.meaning.specs.Plain.{Opening, opening_refused, other_lengths, full, refusal, record_of, too_many, drops_key, Out, refused, added, answered, rows, flushed, table_kind, query_kind, update_kind, text_added, changed_by, rows_by}
+use Rattle.meaning.specs.Plain.{Opening, opening_refused, other_lengths, full, refusal, record_of, too_many, drops_key, Out, refused, added, answered, rows, flushed, withdrawn, table_kind, query_kind, update_kind, text_added, changed_by, rows_by}
 use Rattle.meaning.specs.Refusals.{no_place}
-use Rattle.meaning.specs.Call.{Call, add, ask, change, flush}
-use Rattle.meaning.specs.Key.{Key}
+use Rattle.meaning.specs.Call.{Call, add, ask, change, flush, propose, commit, withdraw}
+use Rattle.meaning.specs.Key.{Key, same_key}
+use Rattle.meaning.specs.Plain as P
+use Rattle.trace.specs.History.{history, hits, since}
 use Rattle.meaning.specs.Paired.{long, first_question}
 use Rattle.trace.specs.Private.Slots.{Held}
 use Rattle.trace.specs.Private.Model.{Seen, Model, step, outs, slot_size, opened}
@@ -204,3 +206,64 @@ pub high_is : lines (ADD "TABLE stage (site, level) ROWS 3"
     ∷ []
 unfolding computing
 high_is = refl
+
+-- ---- request A.8
+
+abbrev PROPOSE : ℕ → List ℕ → Call ℕ
+PROPOSE n vs = propose n (map pos vs)
+
+-- one row, answers for sites 7 and 8, and a proposal for site 7
+abbrev looked : List (Call ℕ)
+looked =
+    texts
+    ++ (ADD "UPDATE stage SET level = ? WHERE site = ?"
+    ∷ DO 0 (7 ∷ 120 ∷ [])
+    ∷ ASK 0 (7 ∷ [])
+    ∷ ASK 0 (8 ∷ [])
+    ∷ PROPOSE 1 (6 ∷ 7 ∷ [])
+    ∷ [])
+
+-- a proposal drops nothing, and the drop count is the commit's; a withdrawal drops nothing either
+pub looked_is : lines (looked
+    ++ (ASK 0 (7 ∷ [])
+    ∷ commit
+    ∷ ASK 0 (8 ∷ [])
+    ∷ ASK 0 (7 ∷ [])
+    ∷ commit
+    ∷ PROPOSE 1 (5 ∷ 7 ∷ [])
+    ∷ withdraw
+    ∷ ASK 0 (7 ∷ [])
+    ∷ []))
+    ≡ plain (added table_kind 0)
+    ∷ plain (added update_kind 0)
+    ∷ plain (added query_kind 0)
+    ∷ plain (added update_kind 1)
+    ∷ plain (rows 1)
+    ∷ (answered (0 ∷ 0 ∷ 0 ∷ 8 ∷ 1 ∷ 1 ∷ 0 ∷ 1 ∷ levels (120 ∷ [])), 0, 1, 0)
+    ∷ (answered (0 ∷ 0 ∷ 0 ∷ 4 ∷ 1 ∷ 1 ∷ 0 ∷ 0 ∷ []), 0, 1, 0)
+    ∷ plain (rows 1)
+    ∷ (answered (0 ∷ 0 ∷ 0 ∷ 8 ∷ 1 ∷ 1 ∷ 0 ∷ 1 ∷ levels (120 ∷ [])), 1, 0, 0)
+    ∷ (rows 1, 0, 0, 1)
+    ∷ (answered (0 ∷ 0 ∷ 0 ∷ 4 ∷ 1 ∷ 1 ∷ 0 ∷ 0 ∷ []), 1, 0, 0)
+    ∷ (answered (0 ∷ 0 ∷ 0 ∷ 8 ∷ 1 ∷ 1 ∷ 0 ∷ 1 ∷ levels (6 ∷ [])), 0, 1, 0)
+    ∷ plain (refused 17)
+    ∷ plain (rows 1)
+    ∷ plain withdrawn
+    ∷ (answered (0 ∷ 0 ∷ 0 ∷ 8 ∷ 1 ∷ 1 ∷ 0 ∷ 1 ∷ levels (6 ∷ [])), 1, 0, 0)
+    ∷ []
+unfolding computing
+looked_is = refl
+
+-- "A commit counts as an update for what is asked later": whether a matching one came since the last answer for the site
+abbrev matched_since : List (Call ℕ) → ℕ → Bool
+matched_since cs k =
+    let key : Key = record { query = 0; values = pos k ∷ [] } in
+    any (hits key) (since same_key key (history desk.lent (P.opened desk) cs))
+
+pub commit_is_event :
+    (matched_since looked 7 ≡ false)
+    × (matched_since (looked ++ (commit ∷ [])) 7 ≡ true)
+    × (matched_since (looked ++ (commit ∷ [])) 8 ≡ false)
+    × (matched_since (looked ++ (withdraw ∷ commit ∷ [])) 7 ≡ false)
+unfolding computing
+commit_is_event = (refl, refl, refl, refl)

@@ -1,23 +1,36 @@
--- What counts for the kept answers in a list of calls, read off the plain store alone, and demand 3's four grounds: document 01, "The plain store", second
--- paragraph. A history has the latest event first. Assumes nothing: these are definitions.
-use Rattle.std.specs.Prelude.{◌≡◌, ◌≢◌, ◌⊎◌, Bool, true, false, List, [], ◌∷◌, ℕ, zero, suc, length, leb}
+-- What counts for the kept answers in a list of calls, read off the plain store alone, and the four grounds of demand 3, which this document quotes: document 01, "The plain store", second
+-- paragraph; requests A.7 and A.8. A history has the latest event first. Assumes nothing: these are definitions.
+use Rattle.std.specs.Prelude.{◌≡◌, ◌≢◌, ◌⊎◌, Bool, true, false, List, [], ◌∷◌, ℕ, zero, suc, ℤ, length, leb}
+use Rattle.std.proofs.Math.Option.{Option, none, some}
 use mathlib.Core.HLevel.{Discrete}
 use Rattle.lists.specs.Lists.{All, Distinct, any}
 use Rattle.meaning.specs.Key.{Key}
-use Rattle.meaning.specs.Plain.{Lengths, Plain, record_of, drops_key, refusal, step}
-use Rattle.meaning.specs.Call.{Call, add, ask, change, flush}
+use Rattle.meaning.specs.Plain.{Lengths, Plain, record_of, drops_key, refusal, step, Note}
+use Rattle.meaning.specs.Call.{Call, add, ask, change, flush, propose, commit, withdraw}
 
 -- a key answered, with its record; an update or a flush, with the keys that it matches
 pub data Event (K : Type 0) : Type 0 where
   answer_of : K → List ℕ → Event K
   drop_of : (K → Bool) → Event K
 
--- "A key is answered when it is asked and not refused. .. Its record is the plain store's at that call."
+-- an update, with the keys that it drops
+abbrev pub change_noted : Plain → ℕ → List ℤ → List (Event Key) → List (Event Key)
+change_noted p n us h = drop_of (drops_key p n us) ∷ h
+
+-- A.8, "A commit counts as an update for what is asked later": it is the update of its note
+abbrev pub commit_noted : Plain → Option Note → List (Event Key) → List (Event Key)
+commit_noted p none h = h
+commit_noted p (some x) h = change_noted p x.update x.values h
+
+-- "A key is answered when it is asked and not refused. .. Its record is the plain store's at that call." A proposal and a withdrawal are no events
 abbrev pub noted : Plain → Call ℕ → List (Event Key) → List (Event Key)
 noted p (add text) h = h
 noted p (ask k buffer) h = answer_of k (record_of p k) ∷ h
-noted p (change n us) h = drop_of (drops_key p n us) ∷ h
+noted p (change n us) h = change_noted p n us h
 noted p flush h = drop_of (λ k. true) ∷ h
+noted p (propose n us) h = h
+noted p commit h = commit_noted p p.pending h
+noted p withdraw h = h
 
 -- a refused call is no event
 abbrev pub note : ℕ → Plain → Call ℕ → List (Event Key) → List (Event Key)

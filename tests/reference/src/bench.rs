@@ -21,6 +21,9 @@ enum Call {
     Add(Vec<u8>),
     Ask(u64, Vec<i32>),
     Update(u64, Vec<i32>),
+    Propose(u64, Vec<i32>),
+    Commit,
+    Withdraw,
     Flush,
     Show(u64),
     /// The test of the state alone.
@@ -59,6 +62,9 @@ fn made(line: &str) -> Option<Call> {
         b'O' => Some(Call::Open(number()?)),
         b'Q' => Some(Call::Ask(number()?, words.map_while(|w| w.parse().ok()).collect())),
         b'U' => Some(Call::Update(number()?, words.map_while(|w| w.parse().ok()).collect())),
+        b'P' => Some(Call::Propose(number()?, words.map_while(|w| w.parse().ok()).collect())),
+        b'M' => Some(Call::Commit),
+        b'B' => Some(Call::Withdraw),
         b'F' => Some(Call::Flush),
         b'W' => Some(Call::Show(number()?)),
         b'S' => Some(Call::Sound),
@@ -91,6 +97,12 @@ impl Counters {
                 self.changed += rows as u64;
                 self.dropped += dropped as u64;
             }),
+            Call::Propose(n, values) => store.propose_here(LENT, *n, values).map(|rows| self.changed += rows as u64),
+            Call::Commit => store.commit_here(LENT).map(|(rows, dropped)| {
+                self.changed += rows as u64;
+                self.dropped += dropped as u64;
+            }),
+            Call::Withdraw => store.withdraw_here(LENT),
             Call::Flush => store.flush_here(LENT),
             Call::Show(row) => show_row(answer, *row).map(|_| ()),
             Call::Sound => store.state().is_sound().then_some(()).ok_or(2),

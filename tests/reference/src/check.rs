@@ -1,5 +1,5 @@
 //! The reference itself on document 01's examples, and on examples worked out by hand: questions over two tables, names
-//! in capitals, tables that run round, nulls, rows read in a pair, and fewer answers dropped.
+//! in capitals, tables that run round, nulls, rows read in a pair, fewer answers dropped, and looking before writing.
 
 use crate::exact::{premise, Pair, Premise};
 use crate::front::{Front, Mode};
@@ -1823,6 +1823,266 @@ fn null_patterns_hold() -> bool {
     .all(|&held| held)
 }
 
+/// Look before you write (A.8): what a proposal, a commit and a withdrawal give, and what leaves, replaces and removes the
+/// note. 17 is looked for after 2.
+const LOOK: &str = "OPEN 4096 256 4 64 => opened
+COMMIT => refused 17
+WITHDRAW => refused 17
+PROPOSE 0 => refused 10
+ADD TABLE stage (site, level) ROWS 3 => table 0
+ADD INSERT INTO stage VALUES (?, ?) => update 0
+ADD UPDATE stage SET level = ? WHERE site = ? => update 1
+ADD DELETE FROM stage WHERE level < ? => update 2
+ADD SELECT level FROM stage WHERE site = ? => query 0
+PROPOSE 0 7 => refused 11
+PROPOSE 3 7 120 => refused 10
+COMMIT => refused 17
+PROPOSE 0 7 120 => rows 1
+ASK 0 100 7 => new read 0 bytes 8 :
+COMMIT => rows 1 dropped 1
+COMMIT => refused 17
+ASK 0 100 7 => new read 1 bytes 12 : 120
+DO 0 7 95 => rows 1 dropped 1
+PROPOSE 1 121 7 => rows 2
+ASK 0 100 7 => new read 2 bytes 16 : 120 / 95
+ASK 0 100 8 => new read 2 bytes 8 :
+PROPOSE 1 122 8 => rows 0
+COMMIT => rows 0 dropped 1
+ASK 0 100 7 => kept read 0 bytes 16 : 120 / 95
+PROPOSE 1 121 7 => rows 2
+WITHDRAW => withdrawn
+COMMIT => refused 17
+WITHDRAW => refused 17
+ASK 0 100 7 => kept read 0 bytes 16 : 120 / 95
+PROPOSE 1 121 7 => rows 2
+FLUSH => flushed
+COMMIT => refused 17
+PROPOSE 1 121 7 => rows 2
+ADD SELECT FROM stage => refused 4
+ADD INSERT INTO stage VALUES (1) => refused 8
+DO 1 7 => refused 11
+DO 3 => refused 10
+PROPOSE 1 7 => refused 11
+PROPOSE 3 => refused 10
+ASK 1 100 => refused 10
+ASK 0 7 7 => refused 13
+ASK 0 100 7 => new read 2 bytes 16 : 120 / 95
+ASK 0 100 7 => kept read 0 bytes 16 : 120 / 95
+ROW 0 => row : 120
+SLOTS => order 3 1 0 2 held 1
+COMMIT => rows 2 dropped 1
+ASK 0 100 7 => new read 2 bytes 16 : 121 / 121
+PROPOSE 2 122 => rows 2
+ADD TABLE recent (minute, level) RING 2 => table 1
+COMMIT => refused 17
+PROPOSE 2 122 => rows 2
+ADD SELECT minute FROM recent WHERE minute > ? => query 1
+WITHDRAW => refused 17
+PROPOSE 2 122 => rows 2
+ADD INSERT INTO recent VALUES (?, 9) => update 3
+COMMIT => refused 17
+PROPOSE 2 122 => rows 2
+DO 1 5 9 => rows 0 dropped 0
+COMMIT => refused 17
+PROPOSE 2 -2147483648 => rows 0
+WITHDRAW => withdrawn
+DO 0 8 -2147483648 => rows 1 dropped 0
+PROPOSE 2 200 => rows 2
+PROPOSE 0 9 1 => refused 12
+PROPOSE 0 9 => refused 11
+DO 0 9 1 => refused 12
+ASK 0 100 7 => kept read 0 bytes 16 : 121 / 121
+COMMIT => rows 2 dropped 1
+ASK 0 100 8 => new read 1 bytes 12 : -2147483648
+FLUSH => flushed
+DO 3 1 => rows 1 dropped 0
+DO 3 2 => rows 1 dropped 0
+ASK 1 100 0 => new read 2 bytes 16 : 1 / 2
+ASK 1 100 5 => new read 2 bytes 8 :
+PROPOSE 3 3 => rows 1
+ASK 1 100 2 => new read 2 bytes 8 :
+ASK 1 100 0 => kept read 0 bytes 16 : 1 / 2
+COMMIT => rows 1 dropped 2
+ASK 1 100 5 => kept read 0 bytes 8 :
+ASK 1 100 0 => new read 2 bytes 16 : 2 / 3
+LEND 4096 255 => 
+COMMIT => refused 2
+WITHDRAW => refused 2
+PROPOSE 9 => refused 2
+LEND 4096 256 => 
+COMMIT => refused 17
+PROPOSE 3 4 => rows 1
+LEND 4095 256 => 
+COMMIT => refused 2
+WITHDRAW => refused 2
+PROPOSE 3 5 => refused 2
+FLUSH => refused 2
+DO 3 5 => refused 2
+ADD DELETE FROM stage => refused 2
+ASK 1 100 0 => refused 2
+LEND 4096 256 => 
+COMMIT => rows 1 dropped 1
+ASK 1 100 0 => new read 2 bytes 16 : 3 / 4
+PROPOSE 3 5 => rows 1
+PROPOSE 3 6 => rows 1
+PROPOSE 3 6 => rows 1
+COMMIT => rows 1 dropped 2
+ASK 1 100 0 => new read 2 bytes 16 : 4 / 6
+PROPOSE 3 5 => rows 1
+OPEN 10 16 2 8 => opened
+COMMIT => refused 17
+ADD TABLE t (a) ROWS 1 => table 0
+ADD INSERT INTO t VALUES (5) => update 0
+PROPOSE 0 => rows 1
+OPEN 10 15 2 8 => refused 1
+WITHDRAW => refused 2
+LEND 0 0 => 
+COMMIT => refused 17
+WITHDRAW => refused 17
+PROPOSE 0 => refused 10
+";
+
+/// The lines of `LOOK`, for the generator.
+pub fn look_lines() -> impl Iterator<Item = &'static str> {
+    LOOK.lines().map(|line| line.split_once(" => ").expect("each line has two sides").0)
+}
+
+/// The rows proposed, by kinds and conditions: matched rows count also where they stay as they are, and the null is in none.
+const LOOK_ROWS: &str = "OPEN 100 100 1 8 => opened
+ADD TABLE t (a, b) ROWS 5 => table 0
+ADD INSERT INTO t VALUES (?, ?) => update 0
+ADD UPDATE t SET a = 1 => update 1
+ADD UPDATE t SET b = 7 WHERE a > b => update 2
+ADD DELETE FROM t => update 3
+ADD DELETE FROM t WHERE NOT a = ? => update 4
+ADD DELETE FROM t WHERE a IS NULL OR b = ? => update 5
+ADD SELECT a, b FROM t => query 0
+PROPOSE 1 => rows 0
+COMMIT => rows 0 dropped 0
+PROPOSE 3 => rows 0
+DO 0 1 7 => rows 1 dropped 0
+DO 0 8 7 => rows 1 dropped 0
+DO 0 -2147483648 2 => rows 1 dropped 0
+DO 0 3 2 => rows 1 dropped 0
+PROPOSE 1 => rows 4
+PROPOSE 2 => rows 2
+PROPOSE 3 => rows 4
+PROPOSE 4 1 => rows 2
+PROPOSE 4 -2147483648 => rows 0
+PROPOSE 5 7 => rows 3
+PROPOSE 5 -2147483648 => rows 1
+PROPOSE 0 1 1 => rows 1
+ASK 0 100 => new read 4 bytes 40 : 1 7 / 8 7 / -2147483648 2 / 3 2
+PROPOSE 2 => rows 2
+COMMIT => rows 2 dropped 0
+PROPOSE 2 => rows 1
+COMMIT => rows 1 dropped 0
+ASK 0 100 => new read 4 bytes 40 : 1 7 / 8 7 / -2147483648 2 / 3 7
+PROPOSE 0 4 4 => rows 1
+COMMIT => rows 1 dropped 0
+PROPOSE 0 4 4 => refused 12
+PROPOSE 4 4 => rows 3
+COMMIT => rows 3 dropped 0
+ASK 0 100 => new read 2 bytes 24 : -2147483648 2 / 4 4
+PROPOSE 3 => rows 2
+COMMIT => rows 2 dropped 0
+PROPOSE 3 => rows 0
+";
+
+/// The note: states that are sound or not. With SET the note is one that no proposal made.
+const LOOK_STATES: &str = "OPEN 64 64 4 16 => opened
+SPOIL pending 0 => flushed
+SPOIL pending 1 => refused 2
+SPOIL pendingupdate 3 => flushed
+SPOIL pendingcount 3 => flushed
+SPOIL pendingvalue 0 3 => flushed
+ADD TABLE t (a, b) ROWS 2 => table 0
+ADD TABLE r (a, b) RING 2 => table 1
+ADD DELETE FROM t => update 0
+ADD INSERT INTO t VALUES (?, ?) => update 1
+ADD INSERT INTO r VALUES (?, ?) => update 2
+ADD UPDATE t SET a = ? WHERE b = ? => update 3
+ADD DELETE FROM r WHERE a = ? => update 4
+SPOIL pending 1 => flushed
+COMMIT => refused 17
+PROPOSE 3 1 2 => rows 0
+SPOIL pending 1 => flushed
+SPOIL pending 0 => flushed
+SPOIL pendingupdate 0 => refused 2
+SPOIL pendingupdate 1 => flushed
+SPOIL pendingupdate 2 => flushed
+SPOIL pendingupdate 3 => flushed
+SPOIL pendingupdate 4 => refused 2
+SPOIL pendingupdate 5 => refused 2
+SPOIL pendingupdate 16 => refused 2
+SPOIL pendingupdate 255 => refused 2
+SPOIL pendingcount 0 => refused 2
+SPOIL pendingcount 1 => refused 2
+SPOIL pendingcount 2 => flushed
+SPOIL pendingcount 3 => refused 2
+SPOIL pendingcount 8 => refused 2
+SPOIL pendingcount 9 => refused 2
+SPOIL pendingcount 255 => refused 2
+SPOIL pendingvalue 0 -2147483648 => flushed
+SPOIL pendingvalue 1 9 => flushed
+SPOIL pendingvalue 2 9 => flushed
+SPOIL pendingvalue 7 9 => flushed
+SPOIL pendingvalue 8 9 => flushed
+SPOIL updates 4 => flushed
+SPOIL updates 3 => refused 2
+SPOIL uparameters 3 1 => refused 2
+SPOIL rows 0 2 => flushed
+DO 1 5 5 => rows 1 dropped 0
+PROPOSE 1 6 6 => rows 1
+SPOIL rows 0 0 => flushed
+SPOIL rows 0 2 => refused 2
+SPOIL capacity 0 1 => refused 2
+SPOIL capacity 0 3 => flushed
+COMMIT => rows 1 dropped 0
+SPOIL pendingupdate 1 => flushed
+SPOIL pending 1 => flushed
+PROPOSE 3 1 2 => rows 0
+SPOIL pendingupdate 1 => refused 2
+SPOIL pendingupdate 2 => flushed
+SPOIL pendingupdate 3 => flushed
+SPOIL ring 0 1 => flushed
+DO 2 7 7 => rows 1 dropped 0
+DO 2 8 8 => rows 1 dropped 0
+SPOIL ring 1 0 => flushed
+PROPOSE 2 9 9 => rows 1
+SPOIL pendingupdate 1 => refused 2
+SPOIL pendingupdate 2 => flushed
+SPOIL ring 1 0 => refused 2
+SPOIL ring 1 1 => flushed
+SPOIL start 1 1 => flushed
+SPOIL start 1 2 => refused 2
+SPOIL rows 1 1 => flushed
+PROPOSE 4 7 => rows 1
+SPOIL ring 1 0 => flushed
+SPOIL pendingcount 2 => refused 2
+SPOIL pendingcount 1 => flushed
+SPOIL pendingcount 0 => refused 2
+LEND 63 64 => 
+SPOIL pending 1 => refused 2
+SPOIL pending 0 => refused 2
+LEND 64 64 => 
+COMMIT => rows 1 dropped 0
+COMMIT => refused 17
+PROPOSE 4 7 => rows 0
+SET pendingvalue 0 8 => 
+ASK 0 100 => refused 10
+COMMIT => rows 1 dropped 0
+WITHDRAW => refused 17
+SET pending 1 => 
+COMMIT => rows 2 dropped 0
+PROPOSE 3 1 2 => rows 0
+SET pendingupdate 1 => 
+COMMIT => rows 1 dropped 0
+PROPOSE 4 7 => rows 0
+SET pending 0 => 
+WITHDRAW => refused 17
+";
+
 /// Left the line, right what it prints.
 fn prints(name: &str, table: &str, mut answer: impl FnMut(&[u8]) -> Option<String>) -> bool {
     let mut held = true;
@@ -2160,6 +2420,9 @@ pub fn check() -> bool {
     ];
     let exact_held = exact.iter().filter(|&&held| held).count();
     println!("examples of fewer answers dropped: {exact_held} of {} lists hold of the reference", exact.len());
+    let look = [lines_hold(Mode::Calls, LOOK), lines_hold(Mode::Calls, LOOK_ROWS), lines_hold(Mode::Calls, LOOK_STATES)];
+    let look_held = look.iter().filter(|&&held| held).count();
+    println!("examples of looking before writing: {look_held} of {} lists hold of the reference", look.len());
     [
         (held, results.len()),
         (pairs_held, pairs.len()),
@@ -2168,6 +2431,7 @@ pub fn check() -> bool {
         (nulls_held, nulls.len()),
         (outer_held, outer.len()),
         (exact_held, exact.len()),
+        (look_held, look.len()),
     ]
     .iter()
     .all(|(held, all)| held == all)

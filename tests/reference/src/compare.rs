@@ -127,6 +127,7 @@ impl Tally {
         let words: Vec<&str> = printed.split(' ').collect();
         match words[0] {
             "refused" => self.add(&format!("refused {:>2}", words[1]), 1),
+            "rows" if words.len() == 2 => self.add("proposal taken", 1),
             "rows" => {
                 self.add("update done", 1);
                 if words[3] != "0" {
@@ -174,6 +175,9 @@ impl Tally {
         }
         for (what, n) in &made.exact {
             self.add(&format!("exact: {what}"), *n);
+        }
+        for (what, n) in &made.looks {
+            self.add(&format!("look: {what}"), *n);
         }
     }
 

@@ -30,8 +30,20 @@ pub const BUFFER: usize = 2_200_000;
 
 const BAD: &str = "bad line";
 
+/// Calls: the parts of a state that lines SPOIL of this language change.
+const FIXED: [&str; 9] =
+    ["start", "ring", "qnull", "unull", "qouter", "pending", "pendingupdate", "pendingcount", "pendingvalue"];
+
 fn refused(number: u8) -> String {
     format!("refused {number}")
+}
+
+/// Of an update or a commit.
+fn changed(result: Result<(usize, usize), u8>) -> String {
+    match result {
+        Ok((rows, dropped)) => format!("rows {rows} dropped {dropped}"),
+        Err(number) => refused(number),
+    }
 }
 
 fn joined(values: &[i32]) -> String {
@@ -109,10 +121,7 @@ impl Front {
     }
 
     fn update(&mut self, n: u64, values: &[i32]) -> String {
-        match self.store.update(self.lent, n, values) {
-            Ok((rows, dropped)) => format!("rows {rows} dropped {dropped}"),
-            Err(number) => refused(number),
-        }
+        changed(self.store.update(self.lent, n, values))
     }
 
     fn flush(&mut self) -> String {
@@ -200,12 +209,25 @@ impl Front {
                 let values = values(&words[2..])?;
                 Some(Some(self.update(n, &values)))
             }
+            b"PROPOSE" if words.len() >= 2 && words.len() <= 11 => {
+                let n = number(1, 2_147_483_647)?;
+                let values = values(&words[2..])?;
+                Some(Some(match self.store.propose(self.lent, n, &values) {
+                    Ok(rows) => format!("rows {rows}"),
+                    Err(number) => refused(number),
+                }))
+            }
+            b"COMMIT" if words.len() == 1 => Some(Some(changed(self.store.commit(self.lent)))),
+            b"WITHDRAW" if words.len() == 1 => Some(Some(match self.store.withdraw(self.lent) {
+                Ok(()) => String::from("withdrawn"),
+                Err(number) => refused(number),
+            })),
             b"FLUSH" if words.len() == 1 => Some(Some(self.flush())),
             b"SPOIL" | b"SET" if words.len() >= 3 => {
                 let part = std::str::from_utf8(words[1]).ok()?;
-                // Of these lines the language fixes only those that spoil what a ring adds to a table, a null test, or the
-                // marks of a question's comparisons.
-                self.unfixed |= words[0] == b"SET" || !["start", "ring", "qnull", "unull", "qouter"].contains(&part);
+                // Of these lines the language fixes only those that spoil what a ring adds to a table, a null test, the
+                // marks of a question's comparisons, or the note.
+                self.unfixed |= words[0] == b"SET" || !FIXED.contains(&part);
                 let numbers = values(&words[2..])?;
                 if words[0] == b"SET" {
                     return self.store.set(part, &numbers).map(|()| None);

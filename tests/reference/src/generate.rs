@@ -1,14 +1,15 @@
 //! Random scripts. A seed gives a profile and then the lines; the reference runs along, so that most lines can be
 //! biased to be taken (existing tables, columns, marks, keys kept, buffers that just fit).
 
-use crate::check::{exact_lines, keypad_lines, null_lines, outer_lines, ring_lines};
+use crate::check::{exact_lines, keypad_lines, look_lines, null_lines, outer_lines, ring_lines};
 use crate::exact::{premise, Pair, Premise};
 use crate::front::{Front, Mode, BUFFER, CALLS_BYTES};
 use crate::meaning::{all_true, truth, Rows, Truth, NULL};
 use crate::pattern::{agrees, columns_tested, gone, patterns, patterns_of_pushed, Gone, Place};
+use crate::plain::Note;
 use crate::text::{constant, is_name, same_name, Change, Column, Condition, NullTest, Operand, Question, Relation, Update};
 use crate::text::KEYWORDS;
-use std::collections::BTreeMap;
+use std::collections::{BTreeMap, BTreeSet};
 
 pub struct Random(u64);
 
@@ -137,6 +138,8 @@ pub struct Generated {
     pub outer: BTreeMap<String, usize>,
     /// What came of the rule that drops fewer answers.
     pub exact: BTreeMap<String, usize>,
+    /// What came of proposals, commits and withdrawals.
+    pub looks: BTreeMap<String, usize>,
 }
 
 /// What an update finds: the rows of its table, the row that it would push out, and the keys kept.
@@ -162,8 +165,20 @@ struct Generator {
     outer: bool,
     /// Begins with the examples of fewer answers dropped.
     exact: bool,
+    /// Begins with the examples of looking before writing.
+    look: bool,
     front: Front,
     made: Generated,
+    pending: Pending,
+}
+
+/// What is counted of a note: the calls since it was made, the keys that were kept then, and the call by which the last note
+/// went.
+#[derive(Default)]
+struct Pending {
+    since: BTreeSet<String>,
+    keys: Vec<(usize, Vec<i32>)>,
+    gone_by: Option<String>,
 }
 
 const TABLE_NAMES: [&str; 11] = ["t", "u", "stage", "log1", "ab_c", "xz", "twelve_bytes", "select", "v9", "ring", "null"];
@@ -746,8 +761,8 @@ impl Generator {
                 }
             }
         }
-        let done = format!("DO {}{}", update.0, self.written(&values));
-        self.emit_text(&done);
+        let done = format!("{}{}", update.0, self.written(&values));
+        self.done(&done);
         self.emit_text(&asked);
     }
 
@@ -1261,7 +1276,7 @@ impl Generator {
                 if let Some((insert, marks)) = self.update_of(table, |change| matches!(change, Change::Insert(_))) {
                     let values: Vec<i32> = (0..marks).map(|_| self.value()).collect();
                     let text = self.written(&values);
-                    self.emit_text(&format!("DO {insert}{text}"));
+                    self.done(&format!("{insert}{text}"));
                 }
             }
         }
@@ -1598,7 +1613,7 @@ impl Generator {
         let mut values = self.values_near(&numbers, u.marks);
         for _ in 0..self.random.between(1, 4) {
             let text = self.written(&values);
-            self.emit_text(&format!("DO {update}{text}"));
+            self.done(&format!("{update}{text}"));
             if self.random.chance(70) {
                 asked.iter().for_each(|line| self.emit_text(line));
             }
@@ -1650,6 +1665,457 @@ impl Generator {
             }
         }
         all
+    }
+
+    // ------------------------------------------------------------ look before you write
+
+    /// An update is done: its number and values. In `calls` some are proposed first and then committed, now and then with a
+    /// call between.
+    fn done(&mut self, update: &str) {
+        if self.mode == Mode::Desk || !self.random.chance(10) {
+            return self.emit_text(&format!("DO {update}"));
+        }
+        self.emit_text(&format!("PROPOSE {update}"));
+        if self.random.chance(30) {
+            self.leave_note();
+        }
+        self.emit_text("COMMIT");
+    }
+
+    /// An update to be proposed, mostly of a table with rows, as often an INSERT as an UPDATE or a DELETE; now and then an
+    /// INSERT into a full ring.
+    fn update_to_propose(&mut self) -> Option<usize> {
+        let store = &self.front.store;
+        let updates = &store.catalogue.updates;
+        let is_insert = |n: &usize| matches!(updates[*n].change, Change::Insert(_));
+        let is_of_full_ring = |n: &usize| {
+            let table = &store.catalogue.tables[updates[*n].table];
+            is_insert(n) && table.ring && store.height(updates[*n].table) == table.rows
+        };
+        let of_kind = |kind: usize| {
+            let is_such = |n: &usize| match kind {
+                0 => is_of_full_ring(n),
+                1 => is_insert(n) && !store.is_full(updates[*n].table),
+                2 => matches!(updates[*n].change, Change::Set(_)) && store.height(updates[*n].table) > 0,
+                3 => matches!(updates[*n].change, Change::Delete) && store.height(updates[*n].table) > 0,
+                _ => true,
+            };
+            (0..updates.len()).filter(is_such).collect::<Vec<usize>>()
+        };
+        let kinds = [0, 0, 1, 1, 2, 2, 2, 2, 3, 3, 3, 3, 4].map(of_kind);
+        for _ in 0..6 {
+            let found = self.random.pick(&kinds);
+            if !found.is_empty() {
+                return Some(self.random.pick(&found));
+            }
+        }
+        None
+    }
+
+    /// Its number and values, mostly meant for a row that is there.
+    fn proposal(&mut self, n: usize) -> String {
+        let update = self.front.store.catalogue.updates[n].clone();
+        let mut values: Vec<i32> = match self.random.below(10) {
+            0 => self.iced_values(&update),
+            1..=3 => (0..update.marks).map(|_| self.ring_value(update.table)).collect(),
+            _ => (0..update.marks).map(|_| self.value()).collect(),
+        };
+        let rows = self.front.store.rows_now(update.table).to_vec();
+        if !rows.is_empty() && self.random.chance(75) {
+            let row = self.random.pick(&rows);
+            for (column, mark) in update.condition.as_ref().map_or(vec![], equal_to_marks) {
+                values[mark - 1] = row[column.place];
+            }
+        }
+        format!("{n}{}", self.written(&values))
+    }
+
+    fn propose(&mut self) {
+        match self.update_to_propose() {
+            Some(n) => {
+                let proposal = self.proposal(n);
+                self.emit_text(&format!("PROPOSE {proposal}"));
+            }
+            None => self.emit_text("PROPOSE 0"),
+        }
+    }
+
+    /// The number and values of an update that 10, 11 or 12 refuses.
+    fn refused_update(&mut self) -> String {
+        let store = &self.front.store;
+        let updates = &store.catalogue.updates;
+        let into_full = |n: &usize| matches!(updates[*n].change, Change::Insert(_)) && store.is_full(updates[*n].table);
+        let full: Vec<usize> = (0..updates.len()).filter(into_full).collect();
+        let count = updates.len();
+        let (n, marks) = match self.random.below(10) {
+            0..=4 if !full.is_empty() => {
+                let n = self.random.pick(&full);
+                (n, updates[n].marks)
+            }
+            5..=7 if count > 0 => {
+                let n = if full.is_empty() || self.random.chance(70) { self.random.below(count) } else { self.random.pick(&full) };
+                let marks = updates[n].marks;
+                (n, if marks > 0 && self.random.chance(50) { marks - 1 } else { marks + 1 })
+            }
+            _ => (self.random.pick(&[count, count, count + 1, 15, 16, 17, 255, 256, 2_147_483_647]), self.random.below(3)),
+        };
+        let values: Vec<i32> = (0..marks).map(|_| self.value()).collect();
+        format!("{n}{}", self.written(&values))
+    }
+
+    /// A text that is refused, mostly.
+    fn refused_text(&mut self) -> String {
+        let (table, columns) = self.some_table();
+        let c = self.column(&columns);
+        let text = match self.random.below(9) {
+            0 => format!("SELECT FROM {table}"),
+            1 => format!("DELETE FROM {table} WHERE"),
+            2 => format!("UPDATE {table} SET {c} = 2147483648"),
+            3 => String::from("TABLE new (a) RING 513"),
+            4 => String::from("DELETE FROM nil"),
+            5 => format!("TABLE {table} (a) ROWS 1"),
+            6 => format!("INSERT INTO {table} VALUES ({})", vec!["?"; columns.len() % 8 + 1].join(", ")),
+            7 => format!("SELECT {table}.{c} FROM {table}, {table}"),
+            _ => " ".repeat(257),
+        };
+        format!("ADD {text}")
+    }
+
+    /// A call that leaves the note as it is.
+    fn leave_note(&mut self) {
+        let table = self.front.store.note_now().map(|note| self.front.store.catalogue.updates[note.update].table);
+        if let Some(ring) = table.filter(|&table| self.front.store.is_wrapped(table)) {
+            if self.random.chance(10) {
+                // Refused as long as the oldest row does not lie first.
+                return self.emit_text(&format!("SPOIL ring {ring} 0"));
+            }
+        }
+        match self.random.below(22) {
+            0..=3 => self.ask(),
+            4..=9 => match table.and_then(|table| self.ring_ask(table)) {
+                Some(line) => self.emit_text(&line),
+                None => self.ask(),
+            },
+            10 | 11 => {
+                let (n, values) = self.key();
+                let line = match self.random.below(3) {
+                    0 => format!("ASK {} 100{}", self.random.pick(&[16, 17, 255, 2_147_483_647]), self.written(&values)),
+                    1 if values.len() < 9 => format!("ASK {n} 100{} 1", self.written(&values)),
+                    _ => format!("ASK {n} 7{}", self.written(&values)),
+                };
+                self.emit_text(&line);
+            }
+            12 | 13 => {
+                let update = self.refused_update();
+                self.emit_text(&format!("DO {update}"));
+            }
+            14 | 15 => {
+                let update = self.refused_update();
+                self.emit_text(&format!("PROPOSE {update}"));
+            }
+            16 => {
+                let text = self.refused_text();
+                self.emit_text(&text);
+            }
+            17 | 18 => self.spoil_note(),
+            19 | 20 => self.look_with_wrong_lengths(),
+            _ => self.emit_text("SLOTS"),
+        }
+    }
+
+    /// A call that removes the note, if it is accepted.
+    fn remove_note(&mut self) {
+        match self.random.below(12) {
+            0 | 1 => {
+                // Mostly another update than the one that is noted.
+                let update = match self.update_to_propose() {
+                    Some(n) => self.proposal(n),
+                    None => self.some_update(),
+                };
+                self.emit_text(&format!("DO {update}"));
+            }
+            2 | 3 => self.emit_text("FLUSH"),
+            4 | 5 => self.emit_text("WITHDRAW"),
+            6 => self.emit_text("COMMIT"),
+            _ => self.add_one_more(),
+        }
+    }
+
+    /// A text that is taken, of a kind that has a place left.
+    fn add_one_more(&mut self) {
+        let catalogue = &self.front.store.catalogue;
+        let mut kinds: Vec<fn(&mut Generator) -> Vec<String>> = Vec::new();
+        if catalogue.tables.len() < 8 && catalogue.cells_used() < self.front.lent.0 {
+            kinds.push(Generator::small_table_text);
+        }
+        if catalogue.questions.len() < 16 {
+            kinds.push(Generator::select_text);
+        }
+        if catalogue.updates.len() < 16 {
+            kinds.extend([Generator::insert_text as fn(&mut Generator) -> Vec<String>, Generator::update_text, Generator::delete_text]);
+        }
+        if kinds.is_empty() {
+            return self.emit_text("FLUSH");
+        }
+        let make = self.random.pick(&kinds);
+        self.add_taken(make);
+    }
+
+    /// A table that takes few of the cells left.
+    fn small_table_text(&mut self) -> Vec<String> {
+        let mut tokens = self.table_text();
+        let at = tokens.len() - 1;
+        tokens[at] = self.random.pick(&["1", "2", "2", "3"]).to_string();
+        tokens
+    }
+
+    /// Calls with other lengths lent than the opening's, and then with those again.
+    fn look_with_wrong_lengths(&mut self) {
+        let (cells, bytes) = self.front.lent;
+        let (more, less) = ((cells + 1).min(32_769), cells.saturating_sub(1));
+        let lent = self.random.pick(&[(less, bytes), (more, bytes), (cells, bytes.saturating_sub(1)), (cells, (bytes + 1).min(262_145))]);
+        self.emit_text(&format!("LEND {} {}", lent.0, lent.1));
+        for _ in 0..self.random.between(1, 4) {
+            match self.random.below(12) {
+                0..=2 => self.emit_text("COMMIT"),
+                3..=5 => self.emit_text("WITHDRAW"),
+                6 | 7 => self.propose(),
+                8 => self.emit_text("FLUSH"),
+                9 => self.add_one_more(),
+                10 => {
+                    let update = self.some_update();
+                    self.emit_text(&format!("DO {update}"));
+                }
+                _ => {
+                    let update = self.refused_update();
+                    self.emit_text(&format!("PROPOSE {update}"));
+                }
+            }
+        }
+        self.emit_text(&format!("LEND {cells} {bytes}"));
+    }
+
+    /// Another field of the note in a copy of the state.
+    fn spoil_note(&mut self) {
+        let store = &self.front.store;
+        let updates = &store.catalogue.updates;
+        let count = updates.len();
+        let noted = store.note_now().map_or(0, |note| note.values.len());
+        // Those with as many values as are noted, and of these the INSERTs into full tables.
+        let as_many: Vec<usize> = (0..count).filter(|&n| updates[n].marks == noted).collect();
+        let into_full = |n: &usize| matches!(updates[*n].change, Change::Insert(_)) && store.is_full(updates[*n].table);
+        let full: Vec<usize> = as_many.iter().copied().filter(into_full).collect();
+        let line = match self.random.below(16) {
+            0 => String::from("pending 0"),
+            1 => String::from("pending 1"),
+            2..=4 if !full.is_empty() => format!("pendingupdate {}", self.random.pick(&full)),
+            2..=5 if !as_many.is_empty() => format!("pendingupdate {}", self.random.pick(&as_many)),
+            2..=7 => format!("pendingupdate {}", self.random.below(count + 1)),
+            8 | 9 => format!("pendingupdate {}", self.random.pick(&[count, count, count + 1, 15, 16, 17, 255])),
+            10..=12 => format!("pendingcount {}", self.random.pick(&[noted, noted + 1, noted.saturating_sub(1), 0, 8, 9])),
+            13 => format!("pendingcount {}", self.random.pick(&[noted, 1, 16, 255])),
+            _ => format!("pendingvalue {} {}", self.random.pick(&[0, noted, 1, 7, 8]), self.value()),
+        };
+        self.emit_text(&format!("SPOIL {line}"));
+    }
+
+    /// A note with as many values as an INSERT into a full table has, and this INSERT in its place; or an INSERT into a full
+    /// ring, and no ring in its place.
+    fn spoil_towards_full(&mut self) {
+        let store = &self.front.store;
+        let updates = &store.catalogue.updates;
+        let full = |n: usize| {
+            let table = &store.catalogue.tables[updates[n].table];
+            matches!(updates[n].change, Change::Insert(_)) && store.height(updates[n].table) == table.rows
+        };
+        let mut found: Vec<(usize, String)> = Vec::new();
+        for n in (0..updates.len()).filter(|&n| full(n)) {
+            if !store.is_full(updates[n].table) {
+                found.push((n, format!("ring {} 0", updates[n].table)));
+                continue;
+            }
+            let others = (0..updates.len()).filter(|&other| updates[other].marks == updates[n].marks);
+            let others = others.filter(|&other| !(full(other) && store.is_full(updates[other].table)));
+            found.extend(others.map(|other| (other, format!("pendingupdate {n}"))));
+        }
+        if found.is_empty() {
+            return self.spoil_note();
+        }
+        let (n, spoil) = self.random.pick(&found);
+        let proposal = self.proposal(n);
+        self.emit_text(&format!("PROPOSE {proposal}"));
+        self.emit_text(&format!("SPOIL {spoil}"));
+    }
+
+    /// Questions, a proposal, calls that leave the note, replace it or remove it, a commit or withdrawal, and the questions
+    /// again.
+    fn look_calls(&mut self) {
+        let Some(n) = self.update_to_propose() else {
+            return self.ask();
+        };
+        let table = self.front.store.catalogue.updates[n].table;
+        let mut asked = Vec::new();
+        for _ in 0..self.random.between(0, 2) {
+            if let Some(line) = self.ring_ask(table) {
+                self.emit_text(&line);
+                asked.push(line);
+            }
+        }
+        let proposal = self.proposal(n);
+        self.emit_text(&format!("PROPOSE {proposal}"));
+        for _ in 0..self.random.pick(&[0, 1, 1, 1, 2, 2, 3]) {
+            match self.random.below(40) {
+                0..=18 => self.leave_note(),
+                19..=21 => asked.iter().for_each(|line| self.emit_text(line)),
+                22..=26 => self.propose(),
+                27 => self.emit_text(&format!("PROPOSE {proposal}")),
+                28 | 29 => {
+                    // The same update with other values.
+                    let proposal = self.proposal(n);
+                    self.emit_text(&format!("PROPOSE {proposal}"));
+                }
+                30 | 31 => self.spoil_towards_full(),
+                _ => self.remove_note(),
+            }
+        }
+        match self.random.below(20) {
+            0..=13 => self.emit_text("COMMIT"),
+            14..=16 => self.emit_text("WITHDRAW"),
+            17 => (0..2).for_each(|_| self.emit_text("COMMIT")),
+            18 => ["WITHDRAW", "COMMIT"].iter().for_each(|line| self.emit_text(line)),
+            _ => {}
+        }
+        asked.iter().for_each(|line| self.emit_text(line));
+        self.commit_or_withdraw(25);
+    }
+
+    fn commit_or_withdraw(&mut self, percent: usize) {
+        if self.random.chance(percent) {
+            let line = self.random.pick(&["COMMIT", "WITHDRAW"]);
+            self.emit_text(line);
+        }
+    }
+
+    // ------------------------------------------------------------ what came of proposals, commits and withdrawals
+
+    fn count_looks(&mut self, line: &[u8], printed: &str, noted: Option<Note>, before: Option<&Before>) {
+        let text = String::from_utf8_lossy(line).to_string();
+        let word = text.split(' ').next().unwrap_or_default().to_string();
+        let now = self.front.store.note_now().cloned();
+        let is_refused = printed.starts_with("refused");
+        let kind = |note: &Note| kind_of(&self.front.store.catalogue.updates[note.update].change);
+        let call = match &word[..] {
+            "OPEN" | "ADD" | "ASK" | "DO" | "FLUSH" | "PROPOSE" | "COMMIT" | "WITHDRAW" if is_refused => format!("{word}, {printed}"),
+            "ASK" => format!("ASK, {}", printed.split(' ').next().unwrap_or_default()),
+            "ADD" if printed.starts_with("update") => {
+                let last = self.front.store.catalogue.updates.last().expect("an update was added");
+                format!("ADD of {}", kind_of(&last.change))
+            }
+            "ADD" => format!("ADD of a {}", printed.split(' ').next().unwrap_or_default()),
+            "DO" => {
+                let n: usize = text.split(' ').nth(1).and_then(|word| word.parse().ok()).expect("an update done has a number");
+                format!("DO of {}", kind_of(&self.front.store.catalogue.updates[n].change))
+            }
+            "OPEN" | "FLUSH" | "PROPOSE" | "COMMIT" | "WITHDRAW" => word.clone(),
+            "SPOIL" if text.starts_with("SPOIL pending") || text.starts_with("SPOIL ring") => word.clone(),
+            _ => return,
+        };
+        let with = if noted.is_some() { "with a note" } else { "without a note" };
+        let some = |rows: &str| if rows == "0" { "no row" } else { "rows" };
+        let words: Vec<&str> = printed.split(' ').collect();
+        let mut all = Vec::new();
+        match &word[..] {
+            "PROPOSE" | "COMMIT" | "WITHDRAW" if is_refused => {
+                all.push(format!("{call}, {with}"));
+                if let Some(gone_by) = self.pending.gone_by.as_ref().filter(|_| printed == "refused 17") {
+                    all.push(format!("17, the last note gone by {gone_by}"));
+                }
+            }
+            "PROPOSE" => {
+                let note = now.as_ref().expect("an accepted proposal leaves a note");
+                let update = &self.front.store.catalogue.updates[note.update];
+                let pushes = self.front.store.pushed_out(note.update).is_some();
+                all.push(format!("PROPOSE of {}, {}{}", kind(note), some(words[1]), if pushes { ", the ring full" } else { "" }));
+                let unknown = |row: &Vec<i32>| truth(&update.condition, &[(update.table, row)], &note.values) == Truth::Unknown;
+                if self.front.store.rows_now(update.table).iter().any(unknown) {
+                    all.push(format!("PROPOSE of {}, rows left for unknown", kind(note)));
+                }
+                match &noted {
+                    Some(old) if old == note => all.push(String::from("note replaced by the same")),
+                    Some(old) if old.update == note.update => all.push(String::from("note replaced, other values")),
+                    Some(_) => all.push(String::from("note replaced, another update")),
+                    None => {}
+                }
+            }
+            "COMMIT" => {
+                let note = noted.as_ref().expect("an accepted commit had a note");
+                let before = before.expect("a commit's update was there before");
+                let pushed = if before.pushed.is_some() { ", a row pushed out" } else { "" };
+                let dropped = if words[3] == "0" { "none dropped" } else { "some dropped" };
+                all.push(format!("COMMIT of {}, {}, {dropped}{pushed}", kind(note), some(words[1])));
+                all.extend(self.pending.since.iter().map(|call| format!("COMMIT behind {call}")));
+                if self.pending.since.is_empty() {
+                    all.push(String::from("COMMIT at once"));
+                }
+                let stayed = self.front.store.kept_keys();
+                let gone = |key: &&(usize, Vec<i32>)| !stayed.contains(key);
+                let later = before.keys.iter().filter(gone).filter(|key| !self.pending.keys.contains(key)).count();
+                if later > 0 {
+                    all.push(String::from("COMMIT that drops an answer not kept at the proposal"));
+                }
+                if self.pending.keys.iter().any(|key| !before.keys.contains(key)) {
+                    all.push(String::from("COMMIT after an answer kept at the proposal was taken from its slot"));
+                }
+            }
+            "WITHDRAW" => all.push(String::from("WITHDRAW")),
+            "SPOIL" if text.starts_with("SPOIL ring") => {
+                // Where the oldest row lies first, it is the note for which the copy is not sound.
+                if let Some(note) = noted.as_ref().filter(|_| is_refused && self.front.lent == self.front.store.lengths()) {
+                    let table = self.front.store.catalogue.updates[note.update].table;
+                    if text == format!("SPOIL ring {table} 0") && !self.front.store.is_wrapped(table) {
+                        all.push(String::from("state spoiled, a full ring no ring any more, with a note, refused 2 for 12"));
+                    }
+                }
+            }
+            "SPOIL" => {
+                let part = text.split(' ').nth(1).unwrap_or_default();
+                all.push(format!("state spoiled by {part}, {with}, {printed}{}", self.spoiled_note(&text)));
+            }
+            _ => {}
+        }
+        match (&noted, &now) {
+            (Some(_), None) => {
+                all.push(format!("note removed by {call}"));
+                self.pending.gone_by = Some(call.clone());
+            }
+            (Some(old), Some(new)) if old == new && call != "PROPOSE" => all.push(format!("note left by {call}")),
+            _ => {}
+        }
+        if word == "PROPOSE" && !is_refused {
+            self.pending.since.clear();
+            self.pending.keys = self.front.store.kept_keys();
+        } else if now.is_some() && word != "SPOIL" {
+            self.pending.since.insert(call);
+        }
+        for what in all {
+            *self.made.looks.entry(what).or_default() += 1;
+        }
+    }
+
+    /// Of a line that spoils the note: the number for which the copy is not sound.
+    fn spoiled_note(&self, text: &str) -> &'static str {
+        let mut state = self.front.store.state();
+        let words: Vec<&str> = text.split(' ').collect();
+        let numbers: Vec<i32> = words[2..].iter().filter_map(|word| word.parse().ok()).collect();
+        let Some(note) = state.spoil(words[1], &numbers).and(state.note) else { return "" };
+        let store = &self.front.store;
+        match store.catalogue.updates.get(note.update) {
+            _ if self.front.lent != store.lengths() => " for the lengths lent",
+            None => " for 10",
+            Some(update) if update.marks != note.values.len() => " for 11",
+            Some(update) if matches!(update.change, Change::Insert(_)) && store.is_full(update.table) => " for 12",
+            Some(_) => "",
+        }
     }
 
     // ------------------------------------------------------------ nulls
@@ -1747,7 +2213,7 @@ impl Generator {
         let update = self.front.store.catalogue.updates[n].clone();
         let values = self.iced_values(&update);
         let text = self.written(&values);
-        self.emit_text(&format!("DO {n}{text}"));
+        self.done(&format!("{n}{text}"));
     }
 
     /// Rows with nulls, questions, updates from the null to a number and back, and the questions again.
@@ -2231,7 +2697,7 @@ impl Generator {
             _ => (0..marks).map(|_| self.value()).collect(),
         };
         let text = self.written(&values);
-        self.emit_text(&format!("DO {n}{text}"));
+        self.done(&format!("{n}{text}"));
     }
 
     /// Questions over a ring that is full, updates of it, and the questions again.
@@ -2721,9 +3187,18 @@ impl Generator {
 
     fn emit(&mut self, line: Vec<u8>) {
         assert!(!line.contains(&b'\n'));
-        let before = self.before(&line);
+        let noted = self.front.store.note_now().cloned();
+        // A commit counts as the update that it does.
+        let counted = match &noted {
+            Some(note) if line == b"COMMIT" => format!("DO {}{}", note.update, self.written(&note.values)).into_bytes(),
+            _ => line.clone(),
+        };
+        let before = self.before(&counted);
         if let Some(printed) = self.front.line(&line) {
-            self.note(&line, &printed, before);
+            if self.mode == Mode::Calls {
+                self.count_looks(&line, &printed, noted, before.as_ref());
+            }
+            self.note(&counted, &printed, before);
             self.made.printed.push(printed);
         }
         self.made.script.lines.push(line);
@@ -3001,17 +3476,18 @@ impl Generator {
         }
     }
 
-    fn update_line(&mut self) -> String {
+    /// An update's number and values.
+    fn some_update(&mut self) -> String {
         let count = self.front.store.catalogue.updates.len();
         let n = self.statement_number(count);
         let marks = self.front.store.catalogue.updates.get(n).map_or(0, |u| u.marks);
         let values = self.values(marks);
-        format!("DO {n}{}", self.written(&values))
+        format!("{n}{}", self.written(&values))
     }
 
     fn update(&mut self) {
-        let line = self.update_line();
-        self.emit_text(&line);
+        let update = self.some_update();
+        self.done(&update);
     }
 
     /// An insert, if there is one; tables stay fuller so.
@@ -3038,7 +3514,7 @@ impl Generator {
         let marks = self.front.store.catalogue.updates[n].marks;
         let values = self.values(marks);
         let text = self.written(&values);
-        self.emit_text(&format!("DO {n}{text}"));
+        self.done(&format!("{n}{text}"));
     }
 
     // ------------------------------------------------------------ lines of desk that are bad, or nearly
@@ -3123,7 +3599,7 @@ impl Generator {
                 let (n, values) = self.key();
                 format!("ASK {n}{}", self.written(&values)).into_bytes()
             }
-            _ => self.update_line().into_bytes(),
+            _ => format!("DO {}", self.some_update()).into_bytes(),
         };
         let spaces: Vec<usize> = (0..line.len()).filter(|&i| line[i] == b' ').collect();
         let space = if spaces.is_empty() { line.len() } else { self.random.pick(&spaces) };
@@ -3295,6 +3771,31 @@ impl Generator {
         if self.mode == Mode::Calls && self.random.chance(2) {
             return self.spoil_some_outer();
         }
+        if self.mode == Mode::Calls && self.random.chance(12) {
+            return self.look_calls();
+        }
+        if self.mode == Mode::Calls && self.random.chance(4) {
+            return match self.random.below(16) {
+                0..=5 => {
+                    let update = self.some_update();
+                    self.emit_text(&format!("PROPOSE {update}"));
+                }
+                6..=8 => self.emit_text("COMMIT"),
+                9 | 10 => self.emit_text("WITHDRAW"),
+                11 => self.spoil_note(),
+                12 => self.spoil_towards_full(),
+                13 => {
+                    if self.random.chance(70) {
+                        self.propose();
+                    }
+                    self.look_with_wrong_lengths();
+                }
+                _ => {
+                    let update = self.refused_update();
+                    self.emit_text(&format!("PROPOSE {update}"));
+                }
+            };
+        }
         match self.random.below(100) {
             0..=59 => self.ask(),
             60..=79 => self.insert(),
@@ -3354,6 +3855,9 @@ impl Generator {
         }
         self.outer_calls();
         self.exact_calls();
+        if self.mode == Mode::Calls {
+            self.look_calls();
+        }
     }
 
     /// Two tables whose pairs are about as many as a record may hold (in `desk`: also about as many as its buffer takes),
@@ -3419,11 +3923,11 @@ impl Generator {
                 roll => {
                     let row = self.random.pick(&[0, 1, 100, 255, 256, 600]);
                     let done = match roll {
-                        11 => format!("DO {} {row}", first + self.random.below(2)),
-                        12 => format!("DO {} {row}", first + 2 + self.random.below(2)),
-                        _ => format!("DO {} {row} {}", first + 4, self.random.pick(&[0, 1, 2, 255])),
+                        11 => format!("{} {row}", first + self.random.below(2)),
+                        12 => format!("{} {row}", first + 2 + self.random.below(2)),
+                        _ => format!("{} {row} {}", first + 4, self.random.pick(&[0, 1, 2, 255])),
                     };
-                    self.emit_text(&done);
+                    self.done(&done);
                     continue;
                 }
             };
@@ -3453,17 +3957,25 @@ impl Generator {
     fn openings_and_lengths(&mut self) {
         let percent = if self.profile == Profile::Openings { 4 } else { 0 };
         if self.random.chance(percent) {
+            if self.random.chance(50) {
+                self.propose();
+            }
             self.odd_open();
             if self.random.chance(30) {
                 self.emit_text("LEND 0 0");
             }
+            self.commit_or_withdraw(60);
             if self.random.chance(50) {
                 self.set_up();
             }
             for _ in 0..self.random.between(1, 8) {
                 self.call();
             }
+            if self.random.chance(40) {
+                self.propose();
+            }
             self.open();
+            self.commit_or_withdraw(40);
             self.set_up();
         }
         if self.random.chance(percent) || self.random.below(400) == 0 {
@@ -3472,7 +3984,11 @@ impl Generator {
         // Other statements beside one another.
         let renewed = matches!(self.profile, Profile::Patterns | Profile::Counts | Profile::Misses);
         if renewed && self.random.below(80) == 0 {
+            if self.random.chance(40) {
+                self.propose();
+            }
             self.open();
+            self.commit_or_withdraw(40);
             self.set_up();
         }
     }
@@ -3508,6 +4024,9 @@ impl Generator {
         }
         if self.exact {
             self.examples(exact_lines());
+        }
+        if self.look {
+            look_lines().for_each(|line| self.emit_text(line));
         }
         if self.square {
             self.square();
@@ -3593,6 +4112,7 @@ pub fn script(mode: Mode, seed: u64, length: usize) -> Generated {
         nulls: BTreeMap::new(),
         outer: BTreeMap::new(),
         exact: BTreeMap::new(),
+        looks: BTreeMap::new(),
     };
     let special = seed / 10 % 8 == 0;
     let generator = Generator {
@@ -3605,8 +4125,10 @@ pub fn script(mode: Mode, seed: u64, length: usize) -> Generated {
         nulls: special && profile == Profile::Edges,
         outer: special && profile == Profile::Counts,
         exact: special && profile == Profile::Patterns,
+        look: special && profile == Profile::Openings && mode == Mode::Calls,
         front: Front::new(mode),
         made,
+        pending: Pending::default(),
     };
     generator.script(length)
 }

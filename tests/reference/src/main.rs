@@ -1,4 +1,4 @@
-//! An independent reference of the table store, made from document 01 and requests A.1, A.2 and A.4 to A.7 of document 02
+//! An independent reference of the table store, made from document 01 and requests A.1, A.2 and A.4 to A.8 of document 02
 //! alone, with a generator of random scripts and a comparison with a program. It shares no code with the project.
 
 mod bench;

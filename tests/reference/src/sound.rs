@@ -1,9 +1,10 @@
-//! Which states are sound, by document 01's sentence and requests A.1, A.2, A.4, A.5 and A.6 of document 02, for the lines
-//! SPOIL of the program `examples`. A line changes one part of a copy of the state. Parts are these papers': what the
+//! Which states are sound, by document 01's sentence and requests A.1, A.2, A.4, A.5, A.6 and A.8 of document 02, for the
+//! lines SPOIL of the program `examples`. A line changes one part of a copy of the state. Parts are these papers': what the
 //! program alone knows (its numbers for comparisons, connectives and forms of updates) is not here. A state's names are in
 //! small letters.
 
 use crate::pattern::stored;
+use crate::plain::Note;
 use crate::store::Kept;
 use crate::text::{has_repeat, is_name, Catalogue, Change, Column, Condition, Operand, Question, Update};
 use crate::text::{COMPARISONS, LIST, MARKS, NAME, QUESTIONS, ROWS, TABLES, UPDATES};
@@ -144,6 +145,7 @@ pub struct State {
     pub kept: Vec<Option<Kept>>,
     pub order: Vec<usize>,
     pub held: usize,
+    pub note: Option<Note>,
 }
 
 pub fn sizes_pass(cells: u64, bytes: u64, slots: u64, slot_bytes: u64) -> bool {
@@ -256,6 +258,17 @@ impl State {
         })
     }
 
+    /// The update that a note names is one that 10 to 12 would not refuse now.
+    fn note_passes(&self) -> bool {
+        let Some(note) = &self.note else { return true };
+        let Some(update) = self.updates.get(note.update).and_then(Option::as_ref) else {
+            return false;
+        };
+        let table = self.tables.get(update.table).and_then(Option::as_ref);
+        let is_full = table.is_some_and(|table| table.rows >= table.capacity && !table.ring);
+        note.values.len() == update.marks && !(matches!(update.change, Change::Insert(_)) && is_full)
+    }
+
     pub fn is_sound(&self) -> bool {
         sizes_pass(self.cells as u64, self.bytes as u64, self.slots as u64, self.slot_bytes as u64)
             && self.tables_pass()
@@ -264,6 +277,7 @@ impl State {
             && self.updates.len() <= UPDATES
             && self.updates.iter().all(|u| u.as_ref().is_some_and(|u| self.update_passes(u)))
             && self.slots_pass()
+            && self.note_passes()
     }
 
     /// A question over one table was given a second one: where its columns begin in that state is not known. Sound is
@@ -272,14 +286,19 @@ impl State {
         self.questions.iter().flatten().any(|question| question.second.is_some() && question.start.is_none())
     }
 
-    /// Changes one part. What stands past a count, or in a free slot, is no part of the state: nothing changes. `None`:
-    /// no such part.
+    /// Changes one part. What stands past a count, in a free slot, or in a note that is not there, is no part of the state:
+    /// nothing changes. `None`: no such part.
     pub fn spoil(&mut self, part: &str, numbers: &[i32]) -> Option<()> {
         let (&value, places) = numbers.split_last()?;
         let places: Vec<usize> = places.iter().map(|&place| usize::try_from(place).ok()).collect::<Option<_>>()?;
         if part == "keyvalue" {
             let [slot, at] = places[..] else { return None };
             put(some(&mut self.kept, slot).map(|kept| &mut kept.key.values), at, value);
+            return Some(());
+        }
+        if part == "pendingvalue" {
+            let [at] = places[..] else { return None };
+            put(self.note.as_mut().map(|note| &mut note.values), at, value);
             return Some(());
         }
         let size = usize::try_from(value).ok()?;
@@ -339,6 +358,13 @@ impl State {
             ("length", &[slot]) => with(&mut self.kept, slot, |kept| kept.length = size),
             ("key", &[slot]) => with(&mut self.kept, slot, |kept| kept.key.question = size),
             ("keycount", &[slot]) => with(&mut self.kept, slot, |kept| kept.key.values.resize(size, 0)),
+            // Is a note there? One that was not is of update 0, without values.
+            ("pending", []) if size <= 1 => {
+                let note = self.note.take().unwrap_or(Note { update: 0, values: vec![] });
+                self.note = (size == 1).then_some(note);
+            }
+            ("pendingupdate", []) if size <= 255 => self.note.iter_mut().for_each(|note| note.update = size),
+            ("pendingcount", []) if size <= 255 => self.note.iter_mut().for_each(|note| note.values.resize(size, 0)),
             _ => return None,
         }
         Some(())

@@ -6,9 +6,9 @@
 use crate::exact::{premise, Pair, Premise};
 use crate::meaning::{all_true, cell, holds, number, record, Rows, RECORD_ROWS};
 use crate::pattern::{agrees, patterns, patterns_of_pushed, stored};
-use crate::plain::{worked_out, Plain};
+use crate::plain::{worked_out, Note, Plain};
 use crate::sound::{sizes_pass, QuestionPart, State, TablePart, UpdatePart};
-use crate::text::{Catalogue, Change, Statement};
+use crate::text::{Catalogue, Change, Statement, Update};
 use std::collections::HashMap;
 
 /// The rows that are tried one by one for a kept answer and an update.
@@ -70,11 +70,16 @@ pub struct Store {
     pub held: usize,
     /// By slot.
     kept: Vec<Option<Kept>>,
+    note: Option<Note>,
     plain: Plain,
     history: Vec<Event>,
+    /// The rows that the last accepted proposal gave: those of its commit, if it comes to that.
+    proposed: usize,
     /// A part of the state beside these marks was set (`set`): it is none that an opening gave, and nothing is asserted
     /// of it but that new answers are those of its rows.
     was_set: bool,
+    /// SET has put a note there that leaves the state not sound: every call gets 2.
+    spoiled: bool,
     /// The plain store's answers of the keys kept, with the updates done of their tables until then.
     answers: HashMap<Key, (Vec<usize>, Vec<u8>)>,
     /// Why the last ask was worked out anew, how long its record was, whether it took a held slot, and the questions of
@@ -111,9 +116,12 @@ impl Store {
             order: (0..slots).collect(),
             held: 0,
             kept: vec![None; slots],
+            note: None,
             plain: Plain::open(cells, bytes),
             history: vec![],
+            proposed: 0,
             was_set: false,
+            spoiled: false,
             answers: HashMap::new(),
             last_ground: None,
             last_length: 0,
@@ -133,7 +141,7 @@ impl Store {
     }
 
     fn lent(&self, lent: (usize, usize)) -> Result<(), u8> {
-        if lent == (self.cells.len(), self.memory.len()) {
+        if !self.spoiled && lent == (self.cells.len(), self.memory.len()) {
             Ok(())
         } else {
             Err(2)
@@ -190,6 +198,7 @@ impl Store {
             Statement::Question(question) => self.outer.push(question.outer()),
             Statement::Update(_) => {}
         }
+        self.note = None;
         Ok(self.catalogue.append(statement))
     }
 
@@ -305,7 +314,7 @@ impl Store {
     /// The rows inserted, matched or deleted, and the kept answers dropped.
     pub fn update(&mut self, lent: (usize, usize), n: u64, values: &[i32]) -> Result<(usize, usize), u8> {
         let pushed = self.plain.pushed_out(n);
-        let keys: Vec<Key> = self.kept.iter().flatten().map(|kept| kept.key.clone()).collect();
+        let keys = self.keys();
         let result = self.update_here(lent, n, values);
         if self.was_set {
             return result;
@@ -313,32 +322,49 @@ impl Store {
         let plain = self.plain.update(lent, n, values);
         assert_eq!(result.map(|(rows, _)| rows), plain, "an update agrees with the plain store");
         if result.is_ok() {
-            let stayed = |key: &Key| self.kept.iter().flatten().any(|kept| kept.key == *key);
-            for key in &keys {
-                self.check_dropping(n as usize, values, pushed.as_deref(), key, !stayed(key));
-            }
-            self.history.push(Event::Updated(n as usize, values.to_vec(), pushed));
+            self.updated(n as usize, values, pushed, &keys);
         }
         self.check();
         result
     }
 
-    pub fn update_here(&mut self, lent: (usize, usize), n: u64, values: &[i32]) -> Result<(usize, usize), u8> {
+    fn keys(&self) -> Vec<Key> {
+        self.kept.iter().flatten().map(|kept| kept.key.clone()).collect()
+    }
+
+    /// An update was done, or a commit did it: the row that it pushed out, and the keys kept before.
+    fn updated(&mut self, n: usize, values: &[i32], pushed: Option<Vec<i32>>, keys: &[Key]) {
+        let stayed = self.keys();
+        for key in keys {
+            self.check_dropping(n, values, pushed.as_deref(), key, !stayed.contains(key));
+        }
+        self.history.push(Event::Updated(n, values.to_vec(), pushed));
+    }
+
+    /// An update that 2 and 10 to 12 let pass.
+    fn let_pass(&self, lent: (usize, usize), n: u64, values: &[i32]) -> Result<Update, u8> {
         self.lent(lent)?;
         if n >= self.catalogue.updates.len() as u64 {
             return Err(10);
         }
-        let update = self.catalogue.updates[n as usize].clone();
+        let update = &self.catalogue.updates[n as usize];
         if values.len() != update.marks {
             return Err(11);
         }
+        if matches!(update.change, Change::Insert(_)) && self.is_full(update.table) {
+            return Err(12);
+        }
+        Ok(update.clone())
+    }
+
+    pub fn update_here(&mut self, lent: (usize, usize), n: u64, values: &[i32]) -> Result<(usize, usize), u8> {
+        let update = self.let_pass(lent, n, values)?;
         let table = update.table;
         let count = self.counts[table];
         let width = self.catalogue.tables[table].columns.len();
         let size = self.catalogue.tables[table].rows;
-        let is_full = count == size;
-        // The row that is pushed out is looked at before anything changes.
-        let pushes = matches!(update.change, Change::Insert(_)) && is_full && self.catalogue.tables[table].ring;
+        // The row that is pushed out is looked at before anything changes: a full table that lets an INSERT pass is a ring.
+        let pushes = matches!(update.change, Change::Insert(_)) && count == size;
         let pushed = pushes.then(|| self.row(table, 0));
         let start = self.starts[table];
         let rows = match &update.change {
@@ -348,8 +374,6 @@ impl Store {
                     // The new row takes the cells of the oldest; the next place holds the oldest from now on.
                     self.put_row(table, 0, &row);
                     self.starts[table] = (start + 1) % size;
-                } else if is_full {
-                    return Err(12);
                 } else {
                     self.put_row(table, count, &row);
                     self.counts[table] += 1;
@@ -401,6 +425,7 @@ impl Store {
         self.last_ring = report;
         self.last_dropped = dropped.iter().map(|&slot| self.kept[slot].as_ref().unwrap().key.question).collect();
         self.drop_slots(&dropped);
+        self.note = None;
         Ok((rows, dropped.len()))
     }
 
@@ -460,7 +485,74 @@ impl Store {
         self.lent(lent)?;
         let all: Vec<usize> = (0..self.slots).collect();
         self.drop_slots(&all);
+        self.note = None;
         Ok(())
+    }
+
+    // ------------------------------------------------------------ look before you write
+
+    /// The rows that the update would insert, match or delete. Nothing changes but the note.
+    pub fn propose(&mut self, lent: (usize, usize), n: u64, values: &[i32]) -> Result<usize, u8> {
+        let result = self.propose_here(lent, n, values);
+        if self.was_set {
+            return result;
+        }
+        assert_eq!(result, self.plain.propose(lent, n, values), "a proposal agrees with the plain store");
+        self.proposed = result.unwrap_or(self.proposed);
+        self.check();
+        result
+    }
+
+    pub fn propose_here(&mut self, lent: (usize, usize), n: u64, values: &[i32]) -> Result<usize, u8> {
+        let update = self.let_pass(lent, n, values)?;
+        let meets = |row: &&Vec<i32>| holds(&update.condition, &[(update.table, row)], values);
+        let rows = match update.change {
+            Change::Insert(_) => 1,
+            Change::Set(_) | Change::Delete => self.rows(update.table).iter().filter(meets).count(),
+        };
+        self.note = Some(Note { update: n as usize, values: values.to_vec() });
+        Ok(rows)
+    }
+
+    /// The noted update, done: the rows inserted, matched or deleted, and the kept answers dropped.
+    pub fn commit(&mut self, lent: (usize, usize)) -> Result<(usize, usize), u8> {
+        let note = self.note.clone();
+        let pushed = note.as_ref().and_then(|note| self.plain.pushed_out(note.update as u64));
+        let keys = self.keys();
+        let result = self.commit_here(lent);
+        if self.was_set {
+            return result;
+        }
+        assert_eq!(result.map(|(rows, _)| rows), self.plain.commit(lent), "a commit agrees with the plain store");
+        if let (Ok((rows, _)), Some(note)) = (result, note) {
+            assert_eq!(rows, self.proposed, "a commit's rows are as many as were proposed");
+            self.updated(note.update, &note.values, pushed, &keys);
+        }
+        self.check();
+        result
+    }
+
+    pub fn commit_here(&mut self, lent: (usize, usize)) -> Result<(usize, usize), u8> {
+        self.lent(lent)?;
+        let note = self.note.clone().ok_or(17)?;
+        let result = self.update_here(lent, note.update as u64, &note.values);
+        assert!(result.is_ok(), "in a sound state the noted update is not refused");
+        result
+    }
+
+    pub fn withdraw(&mut self, lent: (usize, usize)) -> Result<(), u8> {
+        let result = self.withdraw_here(lent);
+        if self.was_set {
+            return result;
+        }
+        assert_eq!(result, self.plain.withdraw(lent), "a withdrawal agrees with the plain store");
+        self.check();
+        result
+    }
+
+    pub fn withdraw_here(&mut self, lent: (usize, usize)) -> Result<(), u8> {
+        self.lent(lent)?;
+        self.note.take().map(|_| ()).ok_or(17)
     }
 
     // ------------------------------------------------------------ states by value
@@ -501,14 +593,17 @@ impl Store {
             kept: self.kept.clone(),
             order: self.order.clone(),
             held: self.held,
+            note: self.note.clone(),
         }
     }
 
-    /// Sets a part of the state to what leaves it sound; `None`: no such part here, or not sound.
+    /// Sets a part of the state to what leaves it sound, or a part of the note to anything; `None`: no such part here, or not sound.
     pub fn set(&mut self, part: &str, numbers: &[i32]) -> Option<()> {
         let mut state = self.state();
         state.spoil(part, numbers)?;
-        if !state.is_sound() || !["length", "keyvalue", "capacity", "start", "ring", "qouter"].contains(&part) {
+        let parts = ["length", "keyvalue", "capacity", "start", "ring", "qouter"];
+        let is_sound = state.is_sound();
+        if !(is_sound && parts.contains(&part) || part.starts_with("pending")) {
             return None;
         }
         let parts = state.tables.iter().flatten();
@@ -521,6 +616,8 @@ impl Store {
             outer.clone_from(&part.outer);
         }
         self.kept = state.kept;
+        self.note = state.note;
+        self.spoiled = !is_sound;
         self.was_set |= part != "qouter";
         Some(())
     }
@@ -570,9 +667,10 @@ impl Store {
         }
     }
 
-    /// The state is sound, the cells hold the plain store's rows, and every kept answer is the plain store's.
+    /// The state is sound, the note and the rows that the cells hold are the plain store's, and so is every kept answer.
     fn check(&mut self) {
         assert!(self.state().is_sound(), "the state is sound");
+        assert_eq!(self.note.as_ref(), self.plain.note(), "the note is the plain store's");
         let mut sorted = self.order.clone();
         sorted.sort_unstable();
         assert_eq!(sorted, (0..self.slots).collect::<Vec<_>>(), "the slot list names each slot once");
@@ -651,6 +749,16 @@ impl Store {
     /// The row that an update would push out now, for the generator.
     pub fn pushed_out(&self, update: usize) -> Option<Vec<i32>> {
         self.plain.pushed_out(update as u64)
+    }
+
+    /// The lengths that the opening lent, for the generator.
+    pub fn lengths(&self) -> (usize, usize) {
+        (self.cells.len(), self.memory.len())
+    }
+
+    /// The note, for the generator.
+    pub fn note_now(&self) -> Option<&Note> {
+        self.note.as_ref()
     }
 
     /// The rows of a table run round: the oldest one does not lie first. For the generator.

@@ -36,10 +36,10 @@ use Rattle.slots.specs.Keys.{Found, key_of, slot_has}
 use Rattle.std.specs.Prelude.{Some, None}
 use Rattle.slots.proofs.KeyLaws.{key-few, has_key, found_at, found_inside}
 use Rattle.cache.specs.declared.State.{State}
-use Rattle.cache.specs.Sound.{query_at}
+use Rattle.cache.specs.Sound.{query_at, table_at}
 use Rattle.cache.specs.SoundTest.{sound_state}
 use Rattle.cache.specs.Means.{Means, Typed}
-use Rattle.cache.specs.Calls.{area_start, table_at, Asks, bytes_at, rows_at, rows_over, rows_for, too_many, found_in}
+use Rattle.cache.specs.Calls.{area_start, Asks, bytes_at, rows_at, rows_over, rows_for, too_many, found_in}
 use Rattle.cache.specs.Gives.{ask_of, ask_gives, ask_refused, ask_refusal, cached_refusal, from_cache, ask_cached, new_refusal, newly, ask_new, ask_found}
 use Rattle.cache.specs.Run.{Store, Seen, lent_by, step_ask, step}
 use Rattle.cache.specs.Demand.{NewAnswer, ItsSlotsBytes, KeptAnswer}

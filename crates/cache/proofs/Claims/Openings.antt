@@ -16,7 +16,7 @@ use Rattle.slots.proofs.Laws.{open-slots, clear-is}
 use Rattle.cache.specs.Sound.{lengths, opening, OpeningWithin}
 use Rattle.meaning.specs.Refusals.{or_else, settled}
 use Rattle.cache.specs.Calls.{Flushed, Opens, unfit}
-use Rattle.cache.specs.Gives.{open_of, flush_of, open_gives, empty_state, with_cache, emptied}
+use Rattle.cache.specs.Gives.{open_of, flush_of, open_gives, empty_state, emptied}
 use Rattle.cache.specs.Run.{Start, opening_of, lent_by, store_of, step_flush, step}
 use Rattle.cache.specs.Demand.{Fresh, OpensExactlyIf, OpeningTaken, OpeningRefused, keys_held, FlushDropsAll}
 use Rattle.cache.proofs.Invariant.Sound.{sizes-fit, fit-sizes}
@@ -67,7 +67,7 @@ opening-refused o = refused-by o (opening_refused (opening_of o))
 -- ---- flush
 
 pub flush_drops_all : FlushDropsAll
-unfolding step flush_of with_cache settled
+unfolding step flush_of settled
 flush_drops_all s = go (unfit s.state (lent_by s))
   where
     by : Bool → Flushed

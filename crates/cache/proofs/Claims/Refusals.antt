@@ -11,18 +11,20 @@ use lib.IntN.{ℤ}
 use lib.ListN.{length}
 use Rattle.lists.proofs.Bools.{and_left, and_right}
 use Rattle.meaning.specs.Key.{Key}
-use Rattle.meaning.specs.Call.{Call, add, ask, change, flush}
-use Rattle.meaning.specs.Refusals.{Conditions, update_conditions, or_else, lowest_of, settled, Lowest}
+use Rattle.meaning.specs.Call.{Call, add, ask, change, flush, propose, commit, withdraw}
+use Rattle.meaning.specs.Refusals.{Conditions, update_conditions, is_none, or_else, lowest_of, settled, Lowest}
 use Rattle.meaning.proofs.Accepted.{rank, ascends, lowest-of}
 use Rattle.statement.specs.Compiled.{Compiled, insert_form}
 use Rattle.statement.specs.declared.Table.{Table}
 use Rattle.statement.specs.declared.Update.{Update}
 use Rattle.slots.specs.Keys.{Found}
-use Rattle.std.specs.Prelude.{Some, None}
+use Rattle.std.specs.Prelude.{Option as Maybe, Some, None}
+use Rattle.cache.specs.declared.Note.{Note}
 use Rattle.cache.specs.declared.State.{State}
-use Rattle.cache.specs.Calls.{Added, Flushed, unfit, Asks, ask_conditions, found_in, Updates, table_at, update_at, is_full}
-use Rattle.cache.specs.Gives.{add_of, ask_of, update_of, flush_of, compiled_beside, add_refused, added_of, added_by, add_refusal, ask_gives, ask_refused, ask_refusal, cached_refusal, from_cache, ask_cached, new_refusal, newly, ask_new, ask_found, update_gives, update_refused, update_refusal, update_done, emptied}
-use Rattle.cache.specs.Run.{Store, lent_by, step_add, step_ask, step_update, step_flush, step}
+use Rattle.cache.specs.Calls.{Added, Flushed, unfit, Asks, ask_conditions, found_in, Updates, Proposed}
+use Rattle.cache.specs.Sound.{table_at, update_at, is_full, pending_read}
+use Rattle.cache.specs.Gives.{add_of, ask_of, update_of, flush_of, compiled_beside, add_refused, added_of, added_by, add_refusal, ask_gives, ask_refused, ask_refusal, cached_refusal, from_cache, ask_cached, new_refusal, newly, ask_new, ask_found, update_gives, update_refused, update_refusal, update_done, emptied, with_note, propose_refused, would_do, propose_of, pending_refusal, commit_done, commit_of, withdraw_of}
+use Rattle.cache.specs.Run.{Store, lent_by, step_add, step_ask, step_update, step_flush, step_propose, step}
 use Rattle.cache.specs.Demand.{answer_conditions, conditions, LowestNumber, RingsNeverFull, refused_with, RefusedChangesNothing}
 
 -- ---- a call that is settled by a number
@@ -155,6 +157,24 @@ module _ (s : Store) (number : ℕ) (values : List ℤ) where
       ap (step_update s)
       (done-refused (λ (r : Updates). r.result.refusal) refuse_update (λ n. refl) updated_here updated-zero (update_refusal s.state (lent_by s) number (length values)) h)
 
+  -- a proposal of it
+  abbrev proposed_here : Proposed
+  proposed_here = would_do s.state s.cells number values
+
+  proposed-zero : proposed_here.refusal ≡ 0
+  unfolding would_do
+  proposed-zero = refl
+
+  propose-number : (step s (propose number values)).1.got.refusal ≡ lowest_of (conditions s (propose number values))
+  unfolding step propose_of update_refusal
+  propose-number = done-number (λ (r : Proposed). r.refusal) (propose_refused s.state) (λ n. refl) proposed_here proposed-zero (lowest_of (conditions s (propose number values)))
+
+  propose-refused : (step s (propose number values)).1.got.refusal ≢ 0 → step s (propose number values) ≡ (s, refused_with (step s (propose number values)).1.got.refusal [])
+  unfolding step propose_of
+  propose-refused h =
+      ap (step_propose s)
+      (done-refused (λ (r : Proposed). r.refusal) (propose_refused s.state) (λ n. refl) proposed_here proposed-zero (update_refusal s.state (lent_by s) number (length values)) h)
+
 -- ---- flush
 
 module _ (s : Store) where
@@ -172,6 +192,54 @@ module _ (s : Store) where
   unfolding step flush_of
   flush-refused h = ap (step_flush s) (done-refused (λ (r : Flushed). r.refusal) refuse_flush (λ n. refl) flush_done refl (lowest_of (conditions s flush)) h)
 
+-- ---- commit, withdraw
+
+module _ (s : Store) where
+  abbrev refuse_commit : ℕ → Updates
+  refuse_commit n = update_gives (update_refused s.state n) s.cells
+
+  abbrev commit_here : Maybe Note → Updates
+  commit_here o = commit_done s.state s.cells o
+
+  abbrev commit_refusal : Bool → Maybe Note → ℕ
+  commit_refusal b o = or_else b 2 (or_else (is_none (pending_read o)) 17 0)
+
+  -- where no number is given there is a note
+  commit-zero : (b : Bool) (o : Maybe Note) → settled (commit_refusal b o) (commit_here o).result.refusal (commit_refusal b o) ≡ commit_refusal b o
+  unfolding settled update_done
+  commit-zero true o = refl
+  commit-zero false None = refl
+  commit-zero false (Some n) = refl
+
+  commit-number : (step s commit).1.got.refusal ≡ lowest_of (conditions s commit)
+  unfolding step commit_of pending_refusal
+  commit-number =
+      settled-number (λ (r : Updates). r.result.refusal) refuse_commit (λ n. refl) (commit_here s.state.pending) (lowest_of (conditions s commit))
+      ∙ commit-zero (unfit s.state (lent_by s)) s.state.pending
+
+  none-there : (o : Maybe Note) → (commit_here o).result.refusal ≢ 0 → commit_here o ≡ refuse_commit (commit_here o).result.refusal
+  unfolding update_done
+  none-there None k = refl
+  none-there (Some n) k = absurd (k refl)
+
+  commit-refused : (step s commit).1.got.refusal ≢ 0 → step s commit ≡ (s, refused_with (step s commit).1.got.refusal [])
+  unfolding step commit_of
+  commit-refused h =
+      ap (step_update s)
+      (settled-refused (λ (r : Updates). r.result.refusal) refuse_commit (λ n. refl) (commit_here s.state.pending) (none-there s.state.pending) (pending_refusal s.state (lent_by s)) h)
+
+  abbrev withdrawal_done : Flushed
+  withdrawal_done = record { refusal = 0; state = with_note s.state None }
+
+  withdraw-number : (step s withdraw).1.got.refusal ≡ lowest_of (conditions s withdraw)
+  unfolding step withdraw_of pending_refusal
+  withdraw-number = done-number (λ (r : Flushed). r.refusal) (refuse_flush s) (λ n. refl) withdrawal_done refl (lowest_of (conditions s withdraw))
+
+  withdraw-refused : (step s withdraw).1.got.refusal ≢ 0 → step s withdraw ≡ (s, refused_with (step s withdraw).1.got.refusal [])
+  unfolding step withdraw_of
+  withdraw-refused h =
+      ap (step_flush s) (done-refused (λ (r : Flushed). r.refusal) (refuse_flush s) (λ n. refl) withdrawal_done refl (pending_refusal s.state (lent_by s)) h)
+
 -- ---- the demands
 
 -- a call gets the first number whose condition holds
@@ -180,6 +248,9 @@ number_is s (add text) = add-number s text
 number_is s (ask k buffer) = ask-number s k buffer
 number_is s (change n vs) = update-number s n vs
 number_is s flush = flush-number s
+number_is s (propose n vs) = propose-number s n vs
+number_is s commit = commit-number s
+number_is s withdraw = withdraw-number s
 
 -- its numbers ascend
 ascending : (s : Store) (c : Call (List ℕ)) → ascends 0 (conditions s c) ≡ true
@@ -191,6 +262,9 @@ ascending s (ask k buffer) = go (found_in s.state k.query k.values)
     go None = refl
 ascending s (change n vs) = refl
 ascending s flush = refl
+ascending s (propose n vs) = refl
+ascending s commit = refl
+ascending s withdraw = refl
 
 pub lowest_number : LowestNumber
 lowest_number s c = subst (Lowest (conditions s c)) (sym (number_is s c)) (lowest-of (conditions s c) (ascending s c))
@@ -220,3 +294,6 @@ refused_changes_nothing s (add text) h = add-refused s text h
 refused_changes_nothing s (ask k buffer) h = ask-refused s k buffer h
 refused_changes_nothing s (change n vs) h = update-refused s n vs h
 refused_changes_nothing s flush h = flush-refused s h
+refused_changes_nothing s (propose n vs) h = propose-refused s n vs h
+refused_changes_nothing s commit h = commit-refused s h
+refused_changes_nothing s withdraw h = withdraw-refused s h

@@ -44,6 +44,7 @@ use Rattle.cache.specs.Run.{Store, step}
 use Rattle.cache.proofs.Invariant.Sound.{Sound}
 use Rattle.cache.proofs.Invariant.Starts.{start_first}
 use Rattle.cache.proofs.Invariant.Cases.{by-add}
+use Rattle.cache.proofs.Settled.{nothing}
 use Rattle.cache.proofs.Lists.{take_more}
 
 -- ---- refusal 9: a text that is not refused has a place
@@ -159,6 +160,7 @@ module _ (s : State) (T : Typed s) (S : Sound s) where
       keys = All-map (λ x K. key-stays (slot_key s.keys x) K) S.keys;
       once = S.once;
       slots = S.slots;
+      note = λ n e. absurd (nothing n e);
     }
 
   -- ---- an update
@@ -179,6 +181,7 @@ module _ (s : State) (T : Typed s) (S : Sound s) where
     keys = All-map (λ x K. record { there = K.there; values = K.values }) S.keys;
     once = S.once;
     slots = S.slots;
+    note = λ n e. absurd (nothing n e);
   }
 
 -- ---- a table
@@ -246,6 +249,7 @@ module _ (s : State) (T : Typed s) (S : Sound s) (t : Table) (ok : sound_table (
     keys = All-map (λ x K. record { there = K.there; values = K.values }) S.keys;
     once = S.once;
     slots = S.slots;
+    note = λ n e. absurd (nothing n e);
   }
 
 -- ---- a text

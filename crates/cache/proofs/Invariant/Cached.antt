@@ -76,6 +76,7 @@ module _ (s : State) (S : Sound s) where
     keys = All-map (λ x K. record { there = K.there; values = K.values }) A.keys_sound;
     once = A.once;
     slots = A.slots_sound;
+    note = λ n e. let N = S.note n e in record { there = N.there; values = N.values; room = N.room };
   }
 
   abbrev answers : Answers s s.slots s.keys s.lengths

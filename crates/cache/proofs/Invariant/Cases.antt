@@ -10,14 +10,15 @@ use lib.ListN.{length}
 use Rattle.meaning.specs.Plain.{opening_refused}
 use Rattle.statement.specs.Compiled.{Compiled}
 use Rattle.slots.specs.Keys.{Found, key_of}
-use Rattle.std.specs.Prelude.{Some, None}
+use Rattle.std.specs.Prelude.{Option as Maybe, Some, None}
 use Rattle.slots.specs.Order.{front_of, last_taken}
 use Rattle.cache.specs.declared.State.{State}
-use Rattle.cache.specs.Calls.{Added, Flushed, unfit, Opens, Asks, record_at, found_in, Updates, update_at}
-use Rattle.cache.specs.Gives.{open_of, add_of, ask_of, update_of, flush_of, empty_state, added_table, added_query, added_update, compiled_beside, added_of, added_by, add_refusal, ask_refusal, with_cache, cached_refusal, ask_cached, takes_slot, put_in, kept, new_refusal, ask_new, ask_found, update_refusal, update_done, emptied}
-use Rattle.cache.specs.Sound.{lengths, opening}
+use Rattle.cache.specs.declared.Note.{Note}
+use Rattle.cache.specs.Calls.{Added, Flushed, unfit, Opens, Asks, record_at, found_in, Updates, Proposed}
+use Rattle.cache.specs.Sound.{update_at, lengths, opening, note_read}
+use Rattle.cache.specs.Gives.{open_of, add_of, ask_of, update_of, flush_of, empty_state, added_table, added_query, added_update, compiled_beside, added_of, added_by, add_refusal, ask_refusal, with_cache, cached_refusal, ask_cached, takes_slot, put_in, kept, new_refusal, ask_new, ask_found, update_refusal, update_done, emptied, with_note, note_of, would_do, propose_of, pending_refusal, commit_done, commit_of, withdraw_of}
 use Rattle.meaning.specs.Key as M
-use Rattle.meaning.specs.Call.{add, ask, change, flush}
+use Rattle.meaning.specs.Call.{add, ask, change, flush, propose, commit, withdraw}
 use Rattle.meaning.specs.Refusals.{or_else, settled}
 use Rattle.cache.specs.Run.{Store, Start, opening_of, opened, lent_by, step}
 use Rattle.cache.proofs.Settled.{or-else-zero}
@@ -109,3 +110,24 @@ module _ (P : State → Type 0) (s : Store) (before : P s.state) where
   pub by-flush : P (emptied st) → P (step s flush).0.state
   unfolding step flush_of
   by-flush f = by-settled (λ (r : Flushed). P r.state) (or_else (unfit st (lent_by s)) 2 0) _ _ (λ e. f) before
+
+  pub by-propose : (number : ℕ) (values : List ℤ) → (update_refusal st (lent_by s) number (length values) ≡ 0 → P (with_note st (Some (note_of number values))))
+      → P (step s (propose number values)).0.state
+  unfolding step propose_of would_do
+  by-propose number values f =
+      by-settled (λ (r : Proposed). P r.state) (update_refusal st (lent_by s) number (length values)) _ _ f before
+
+  -- the update of the note, if there is one
+  pub by-commit : ((n : Note) → pending_refusal st (lent_by s) ≡ 0 → st.pending ≡ Some n → P (update_done st s.cells (update_at st n.update) (note_read n).values).result.state)
+      → P (step s commit).0.state
+  unfolding step commit_of
+  by-commit f =
+      by-settled (λ (r : Updates). P r.result.state) (pending_refusal st (lent_by s)) _ _ (λ e. go st.pending refl e) before
+    where
+      go : (p : Maybe Note) → st.pending ≡ p → pending_refusal st (lent_by s) ≡ 0 → P (commit_done st s.cells p).result.state
+      go None q e = before
+      go (Some n) q e = f n e q
+
+  pub by-withdraw : P (with_note st None) → P (step s withdraw).0.state
+  unfolding step withdraw_of
+  by-withdraw f = by-settled (λ (r : Flushed). P r.state) (pending_refusal st (lent_by s)) _ _ (λ e. f) before

@@ -56,6 +56,7 @@ module _ (s : State) (T : Typed s) where
         keys = All-image (slot_key s.keys) S.keys;
         once = distinct-map key_read (λ (k : M.Key). k) (held_keys s.keys s.slots) (distinct-map (slot_key s.keys) key_read (held_slots s.slots) once);
         slots = record { held = S.slots.within; slots = S.slots.below; once = S.slots.once };
+        note = S.note;
       }
 
   holds-sentence : IsSound s → sound_state s ≡ true
@@ -81,6 +82,7 @@ module _ (s : State) (T : Typed s) where
             twice-not s.keys s.slots
             (distinct-source (slot_key s.keys) key_read (held_slots s.slots) (distinct-source key_read (λ (k : M.Key). k) (held_keys s.keys s.slots) I.once));
         slots = record { few = I.sizes.few_slots; within = I.slots.held; below = I.slots.slots; once = I.slots.once };
+        note = I.note;
       })
 
 pub sound_exactly_if : SoundExactlyIf

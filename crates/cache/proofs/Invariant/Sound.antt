@@ -1,21 +1,23 @@
 -- Soundness part by part: what the test of a state says, as a record, both ways; and what it says of the table, the statement or the held slot at a place.
 -- Assumes nothing.
-use mathlib.Core.Path.{◌≡◌, ap, ◌∙◌, subst}
+use mathlib.Core.Path.{◌≡◌, refl, ap, ◌∙◌, subst}
 use mathlib.Core.Bool.{Bool, true, false, not}
 use mathlib.Core.List.{List, []}
 use Prim.Native.Nat.{ℕ, suc, ◌+◌, ◌*◌, ◌≤◌, ◌<◌}
 use native.Mathlib.Nat.{mul-le-mul_right, suc-mul}
 use native.Mathlib.Omega.{arith}
-use borrow.Author.Tests.{ltb-true, ltb-false, leb-true, eqb-true, lt-ltb, le-ltb, le-leb, eq-eqb}
-use lib.Dec.{leb, ltb}
+use borrow.Author.Tests.{ltb-true, ltb-false, leb-true, leb-false, eqb-true, lt-ltb, le-ltb, le-leb, lt-leb, eq-eqb}
+use lib.Dec.{eqb, leb, ltb}
 use lib.ListN.{length, take, get_or, length-map}
 use lib.Seq.{get_or-take, length-take-le}
-use Rattle.lists.specs.Lists.{All, all, repeats}
-use Rattle.lists.proofs.Bools.{and_left, and_right, and_both, or_left, or_right, not-true}
-use Rattle.lists.proofs.Lists.{All-map, All-both, All-take, all_true, all-of, All-source, All-image}
+use Rattle.lists.specs.Lists.{All, nil, cons, all, repeats}
+use Rattle.lists.proofs.Bools.{and_left, and_right, and_both, or_left, or_right, not-true, not-false}
+use Rattle.lists.proofs.Lists.{All-head, All-tail, All-map, All-both, All-take, all_true, all-of, All-source, All-image}
 use Rattle.lists.proofs.Places.{All-at}
 use Rattle.meaning.specs.Limits.{most_cells, most_memory, most_slots, least_slot_bytes, most_slot_bytes, most_tables, most_queries, most_updates}
 use Rattle.meaning.specs.Plain.{Opening, opening_refused}
+use Rattle.meaning.specs.Refusals.{Conditions, ten_to_twelve}
+use Rattle.meaning.proofs.Accepted.{clear}
 use Rattle.statement.specs.declared.Table.{Table}
 use Rattle.statement.specs.declared.Query.{Query}
 use Rattle.statement.specs.declared.Update.{Update}
@@ -29,10 +31,11 @@ use Rattle.soundness.specs.Soundness.{tables_sound, queries_sound, updates_sound
 use Rattle.slots.specs.declared.Key.{Key}
 use Rattle.slots.specs.Keys.{slot_key, held_keys, same_key, held_twice, held_slots}
 use Rattle.slots.proofs.Laws as L
+use Rattle.std.specs.Prelude.{Option as Maybe, Some, None}
+use Rattle.cache.specs.declared.Note.{Note}
 use Rattle.cache.specs.declared.State.{State}
-use Rattle.cache.specs.Sound.{used_tables, areas_of, length_at, query_at, used_queries, used_updates, OpeningWithin, KeyFits, schemas_in, sizes_of}
-use Rattle.cache.specs.SoundTest.{sound_state, sound_sizes, sound_counts, sound_areas, start_fits, rows_fit, sound_rows, length_fits, sound_lengths, sound_key, sound_keys, sound_tables, sound_answers}
-use Rattle.cache.specs.Calls.{table_at, update_at}
+use Rattle.cache.specs.Sound.{used_tables, areas_of, length_at, query_at, used_queries, used_updates, OpeningWithin, KeyFits, schemas_in, sizes_of, table_at, update_at, is_full, NoteStands}
+use Rattle.cache.specs.SoundTest.{sound_state, sound_sizes, sound_counts, sound_areas, start_fits, rows_fit, sound_rows, length_fits, sound_lengths, sound_key, sound_keys, sound_tables, sound_answers, would_refuse, note_passes, sound_note}
 use Rattle.cache.specs.Means.{Typed}
 
 -- ---- "its sizes pass refusal 1"
@@ -101,6 +104,7 @@ pub record Sound (s : State) : Type 0 where
   pub keys : All (λ (x : ℕ). KeyFits s (slot_key s.keys x)) (held_slots s.slots)
   pub once : repeats same_key (held_keys s.keys s.slots) ≡ false
   pub slots : L.Sound s.slots
+  pub note : (n : Note) → s.pending ≡ Some n → NoteStands s n
 
 module _ (s : State) where
   abbrev length_test : ℕ → Bool
@@ -127,6 +131,27 @@ module _ (s : State) where
       and_both (ltb k.query s.query_count) _ (lt-ltb k.query s.query_count K.there)
       (eq-eqb k.count (query_at s k.query).parameters K.values)
 
+  -- what 10 to 12 look at
+  abbrev noted : Note → Conditions
+  noted n = ten_to_twelve s.update_count n.update (update_at s n.update).parameters n.count (is_full s (update_at s n.update))
+
+  note-is : (n : Note) → note_passes s (Some n) ≡ true → NoteStands s n
+  unfolding would_refuse
+  note-is n e =
+      let a = (clear 0 (noted n) refl).0 (eqb-true (would_refuse s n.update n.count) 0 e) in
+      record {
+        there = leb-false s.update_count n.update (All-head a);
+        values = eqb-true n.count (update_at s n.update).parameters (not-false (eqb n.count (update_at s n.update).parameters) (All-head (All-tail a)));
+        room = All-head (All-tail (All-tail a));
+      }
+
+  is-note : (n : Note) → NoteStands s n → note_passes s (Some n) ≡ true
+  unfolding would_refuse
+  is-note n N =
+      eq-eqb (would_refuse s n.update n.count) 0
+      ((clear 0 (noted n) refl).1
+      (cons (lt-leb s.update_count n.update N.there) (cons (ap not (eq-eqb n.count (update_at s n.update).parameters N.values)) (cons N.room nil))))
+
   -- ---- from the test
 
   abbrev slot_keys : Bool
@@ -139,17 +164,18 @@ module _ (s : State) where
   queries_test = queries_sound s.tables s.table_count s.queries s.query_count
 
   pub sound-is : sound_state s ≡ true → Sound s
-  unfolding sound_state sound_tables sound_answers held_twice tables_sound queries_sound updates_sound
+  unfolding sound_state sound_tables sound_answers sound_note held_twice tables_sound queries_sound updates_sound
   sound-is h =
       let h₁ = and_right (sound_sizes s) _ h in
       let counts = and_left (sound_counts s) _ h₁ in
       let few = and_right (leb s.table_count most_tables) _ counts in
       let h₂ = and_right (sound_counts s) _ h₁ in
-      let ts = and_left (sound_tables s) (sound_answers s) h₂ in
+      let ts = and_left (sound_tables s) _ h₂ in
       let ts₁ = and_right (sound_areas s) _ ts in
       let texts = and_right (sound_rows s) _ ts₁ in
       let statements = and_right tables_test _ texts in
-      let answers = and_right (sound_tables s) (sound_answers s) h₂ in
+      let h₃ = and_right (sound_tables s) _ h₂ in
+      let answers = and_left (sound_answers s) (sound_note s) h₃ in
       let answers₁ = and_right (sound_lengths s) _ answers in
       let keys = and_left (sound_keys s) _ answers₁ in
       record {
@@ -169,6 +195,7 @@ module _ (s : State) where
             (All-source (slot_key s.keys) (held_slots s.slots) (all_true (sound_key s) (held_keys s.keys s.slots) (and_left slot_keys _ keys)));
         once = not-true (held_twice s.keys s.slots) (and_right slot_keys _ keys);
         slots = L.sound-is s.slots (and_right (sound_keys s) _ answers₁);
+        note = λ n e. note-is n (subst (λ (p : Maybe Note). note_passes s p ≡ true) e (and_right (sound_answers s) (sound_note s) h₃));
       }
 
   -- ---- and back
@@ -190,6 +217,14 @@ module _ (s : State) where
         (and_both slot_keys _ (all-of (sound_key s) (All-image (slot_key s.keys) (All-map (λ x K. is_key (slot_key s.keys x) K) S.keys))) (ap not S.once))
         (L.is-sound s.slots S.slots))
 
+    note-holds : sound_note s ≡ true
+    unfolding sound_note
+    note-holds = go s.pending refl
+      where
+        go : (p : Maybe Note) → s.pending ≡ p → note_passes s p ≡ true
+        go None e = refl
+        go (Some n) e = is-note n (S.note n e)
+
     pub is-sound : sound_state s ≡ true
     unfolding sound_state
     is-sound =
@@ -198,7 +233,7 @@ module _ (s : State) where
         (and_both (leb s.table_count most_tables) _ (le-leb s.table_count most_tables S.few_tables)
         (and_both (leb s.query_count most_queries) _ (le-leb s.query_count most_queries S.few_queries)
         (le-leb s.update_count most_updates S.few_updates)))
-        (and_both (sound_tables s) _ tables-hold answers-hold))
+        (and_both (sound_tables s) _ tables-hold (and_both (sound_answers s) _ answers-hold note-holds)))
 
 -- ---- what it says at a place
 

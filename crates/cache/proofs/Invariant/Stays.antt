@@ -9,7 +9,7 @@ use Rattle.meaning.specs.Plain.{Opening}
 use Rattle.slots.specs.Order.{open_of as slots_open}
 use Rattle.slots.proofs.Laws.{open-sound}
 use Rattle.cache.specs.declared.State.{State}
-use Rattle.meaning.specs.Call.{Call, add, ask, change, flush}
+use Rattle.meaning.specs.Call.{Call, add, ask, change, flush, propose, commit, withdraw}
 use Rattle.cache.specs.Sound.{lengths, opening, OpeningWithin}
 use Rattle.cache.specs.SoundTest.{sound_state}
 use Rattle.cache.specs.Gives.{empty_state}
@@ -17,11 +17,12 @@ use Rattle.cache.specs.Means.{Typed}
 use Rattle.cache.specs.Run.{Store, opening_of, step}
 use Rattle.cache.specs.Demand.{OpensSound, StaysSound}
 use Rattle.cache.proofs.Invariant.Sound.{sizes-fit, Sound, sound-is, is-sound}
-use Rattle.cache.proofs.Invariant.Cases.{by-opened, by-flush}
+use Rattle.cache.proofs.Settled.{nothing}
+use Rattle.cache.proofs.Invariant.Cases.{by-opened}
 use Rattle.cache.proofs.Invariant.Added.{add-stays}
-use Rattle.cache.proofs.Invariant.Cached.{drop-stays}
 use Rattle.cache.proofs.Invariant.Asked.{ask-stays}
-use Rattle.cache.proofs.Invariant.Updated.{update-stays}
+use Rattle.cache.proofs.Invariant.Updated.{update-stays, commit-stays}
+use Rattle.cache.proofs.Invariant.Noted.{propose-stays, withdraw-stays, flush-stays}
 
 -- ---- an opening
 
@@ -42,6 +43,7 @@ empty-sound o F = record {
   keys = nil;
   once = refl;
   slots = open-sound o.slots F.few_slots;
+  note = λ n e. absurd (nothing n e);
 }
 
 -- what a refused opening gives
@@ -67,7 +69,10 @@ call_stays : (s : Store) (c : Call (List ℕ)) → Typed s.state → Sound s.sta
 call_stays s (add text) T S = add-stays s text T S
 call_stays s (ask k buffer) T S = ask-stays s k buffer T S
 call_stays s (change n vs) T S = update-stays s n vs T S
-call_stays s flush T S = by-flush Sound s S (drop-stays s.state S T (λ x. true))
+call_stays s flush T S = flush-stays s T S
+call_stays s (propose n vs) T S = propose-stays s T S n vs
+call_stays s commit T S = commit-stays s T S
+call_stays s withdraw T S = withdraw-stays s T S
 
 pub stays_sound : StaysSound
 stays_sound s c T h = is-sound (step s c).0.state (call_stays s c T (sound-is s.state h))

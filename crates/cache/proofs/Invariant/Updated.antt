@@ -1,4 +1,4 @@
--- An update leaves a sound state sound: of its table only the number of rows and the place of the oldest change, and they stay within ROWS. Assumes nothing.
+-- An update, or a commit, leaves a sound state sound: of its table only the number of rows and the place of the oldest change, and they stay within ROWS. Assumes nothing.
 use mathlib.Core.Path.{◌≡◌, refl, sym, ap, ◌∙◌, subst}
 use mathlib.Core.Bool.{Bool, true, ◌&&◌}
 use mathlib.Core.List.{List, [], ◌∷◌, ◌++◌, map}
@@ -24,15 +24,16 @@ use Rattle.table.specs.declared.changes.Changed.{Changed}
 use Rattle.table.proofs.ChangedMeans.{after-few, change-starts}
 use Rattle.slots.specs.Order.{drop_by}
 use Rattle.cache.specs.declared.State.{State}
-use Rattle.cache.specs.Sound.{used_tables, areas_of, used_queries, used_updates, schemas_in}
+use Rattle.cache.specs.Sound.{used_tables, areas_of, used_queries, used_updates, schemas_in, table_at, update_at, note_read}
 use Rattle.cache.specs.SoundTest.{start_fits}
-use Rattle.cache.specs.Calls.{area_start, table_at, update_at, change_conditions}
+use Rattle.cache.specs.Calls.{area_start, change_conditions}
 use Rattle.cache.specs.Gives.{with_cache, update_refusal, is_dropped, with_rows, with_change, update_done}
 use Rattle.cache.specs.Means.{Typed}
-use Rattle.meaning.specs.Call.{change}
+use Rattle.meaning.specs.Call.{change, commit}
 use Rattle.cache.specs.Run.{Store, lent_by, step}
 use Rattle.cache.proofs.Invariant.Sound.{Sound, rows_at, start-at, update-at, schemas-long}
-use Rattle.cache.proofs.Invariant.Cases.{by_cond, by-update}
+use Rattle.cache.proofs.Settled.{nothing}
+use Rattle.cache.proofs.Invariant.Cases.{by_cond, by-update, by-commit}
 use Rattle.cache.proofs.Invariant.Compiled.{no-update}
 use Rattle.cache.proofs.Invariant.Cached.{drop-stays}
 
@@ -89,6 +90,7 @@ module _ (s : State) (S : Sound s) (i : ℕ) (there : i < s.table_count) (n k : 
     keys = All-map (λ x K. record { there = K.there; values = K.values }) S.keys;
     once = S.once;
     slots = S.slots;
+    note = λ n e. absurd (nothing n e);
   }
 
 -- ---- no more rows than ROWS
@@ -99,7 +101,7 @@ rows_few u t start cells vs eight h =
     by_cond (λ (c : Changed). c.rows ≤ t.capacity) (change_fits u t start cells) (changed_of (is_full_ring t) t.oldest u.form u vs (rows_before t start cells)) (record { count = 0; rows = t.rows; oldest = t.oldest })
     (λ e. after-few u t start cells vs eight e) (λ e. h)
 
--- ---- an update
+-- ---- an update, or a commit
 
 module _ (s : Store) (number : ℕ) (values : List ℤ) (T : Typed s.state) (S : Sound s.state) where
   abbrev st : State
@@ -115,20 +117,19 @@ module _ (s : Store) (number : ℕ) (values : List ℤ) (T : Typed s.state) (S :
   abbrev dropped : State
   dropped = with_cache st (drop_by test st.slots) st.keys st.lengths
 
-  module _ (taken : update_refusal st (lent_by s) number (length values) ≡ 0) where
-    number-there : number < st.update_count
-    unfolding update_refusal
-    number-there =
-        leb-false st.update_count number
-        (All-head (All-tail ((clear 0 (change_conditions st (lent_by s) number (length values)) refl).0 taken)))
+  pub number-there : update_refusal st (lent_by s) number (length values) ≡ 0 → number < st.update_count
+  unfolding update_refusal
+  number-there taken =
+      leb-false st.update_count number (All-head (All-tail ((clear 0 (change_conditions st (lent_by s) number (length values)) refl).0 taken)))
 
+  module _ (there : number < st.update_count) where
     table-there : u.table < st.table_count
-    table-there = subst (λ (n : ℕ). u.table < n) (schemas-long st T S) (update-parts (schemas_in st) u (update-at st T S number number-there)).there
+    table-there = subst (λ (n : ℕ). u.table < n) (schemas-long st T S) (update-parts (schemas_in st) u (update-at st T S number there)).there
 
     eight : length u.settings ≡ 8
     eight = (All-get_or number no_update no-update T.updates_fit).eight
 
-    update_sound : Sound (update_done st s.cells u values).result.state
+    pub update_sound : Sound (update_done st s.cells u values).result.state
     unfolding update_done with_change with_cache
     update_sound =
         let t : Table = table_at st u.table in
@@ -138,4 +139,7 @@ module _ (s : Store) (number : ℕ) (values : List ℤ) (T : Typed s.state) (S :
         (change-starts u t (area_start st u.table) s.cells values eight (start-at st T S u.table table-there))
 
   pub update-stays : Sound (step s (change number values)).0.state
-  update-stays = by-update Sound s S number values update_sound
+  update-stays = by-update Sound s S number values (λ taken. update_sound (number-there taken))
+
+pub commit-stays : (s : Store) → Typed s.state → Sound s.state → Sound (step s commit).0.state
+commit-stays s T S = by-commit Sound s S (λ n e q. update_sound s n.update (note_read n).values T S (S.note n q).there)

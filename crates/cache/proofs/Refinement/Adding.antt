@@ -75,6 +75,7 @@ module _ (s : State) (T : Typed s) (S : Sound s) (cells : List ℤ) (p : Plain) 
             ∙ ap₂ (λ (x : List P.Table) (y : P.Table). x ++ y ∷ []) (sym m.tables_are) (new-table t (0 + areas_of (used_tables s)) cells));
         queries_are = m.queries_are;
         updates_are = m.updates_are;
+        note_is = refl;
       }
 
   query-stands : (q : M.Query) → AgreesQuery (query_struct q) q → length p.queries < most_queries
@@ -89,6 +90,7 @@ module _ (s : State) (T : Typed s) (S : Sound s) (cells : List ℤ) (p : Plain) 
             subst (λ l. Pairwise AgreesQuery l (p.queries ++ q ∷ [])) (sym (take_more s.queries s.query_count (query_struct q) few))
             (compiled-more m.queries_are a);
         updates_are = m.updates_are;
+        note_is = refl;
       }
 
   update-stands : (u : M.Update) → AgreesUpdate (update_struct u) u → length p.updates < most_updates
@@ -103,6 +105,7 @@ module _ (s : State) (T : Typed s) (S : Sound s) (cells : List ℤ) (p : Plain) 
         updates_are =
             subst (λ l. Pairwise AgreesUpdate l (p.updates ++ u ∷ [])) (sym (take_more s.updates s.update_count (update_struct u) few))
             (compiled-more m.updates_are a);
+        note_is = refl;
       }
 
 -- a place is free for the statement

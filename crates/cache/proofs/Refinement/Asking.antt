@@ -32,10 +32,10 @@ use Rattle.slots.specs.declared.SlotList.{SlotList}
 use Rattle.slots.specs.declared.Key.{Key as Stored}
 use Rattle.slots.specs.Order.{last_taken}
 use Rattle.cache.specs.declared.State.{State}
-use Rattle.cache.specs.Sound.{query_at}
+use Rattle.cache.specs.Sound.{query_at, table_at}
 use Rattle.cache.specs.SoundTest.{sound_state}
 use Rattle.cache.specs.Means.{Means, Typed}
-use Rattle.cache.specs.Calls.{Asks, cached_length, area_start, table_at, rows_at, rows_over, rows_for, record_at, too_many, found_in}
+use Rattle.cache.specs.Calls.{Asks, cached_length, area_start, rows_at, rows_over, rows_for, record_at, too_many, found_in}
 use Rattle.cache.specs.Gives.{ask_of, ask_gives, ask_refused, ask_refusal, with_cache, takes_slot, put_in, kept, read_over, read_for, new_refusal, newly, ask_new, ask_found}
 use Rattle.cache.specs.Run.{Store, lent_by, step_ask, step}
 use Rattle.cache.proofs.Invariant.Sound.{Sound, sound-is}
@@ -54,6 +54,7 @@ cache-means s cells p m slots keys sizes = record {
   tables_are = m.tables_are;
   queries_are = m.queries_are;
   updates_are = m.updates_are;
+  note_is = m.note_is;
 }
 
 kept-means : (s : State) (cells : List ℤ) (p : Plain) → Means s cells p → (k : Stored) (r : List ℕ) → Means (kept s k r) cells p

@@ -15,26 +15,28 @@ use Rattle.lists.proofs.Bools.{and_right, not-false}
 use Rattle.lists.proofs.Lists.{All-head, All-right, All-map, All-every, All-get_or}
 use Rattle.meaning.specs.Key.{Key, same_key}
 use Rattle.meaning.specs.Limits.{most_slots, most_marks}
-use Rattle.meaning.specs.Plain.{Lengths, Plain, other_lengths, refusal, record_of, rows_read, drops_key, Out, refused, answered, does, guard}
-use Rattle.meaning.specs.Call.{Call, add, ask, change, flush}
+use Rattle.meaning.specs.Plain.{Lengths, Plain, other_lengths, refusal, record_of, rows_read, drops_key, Out, refused, answered, does, guard, committed}
+use Rattle.meaning.specs.Plain as P
+use Rattle.meaning.specs.Call.{Call, add, ask, change, flush, propose, commit, withdraw}
 use Rattle.meaning.specs.Refusals.{is_short, kept_conditions, flush_conditions, lowest_of, settled}
 use Rattle.meaning.proofs.Accepted.{Asked, key-asked}
 use Rattle.trace.specs.History.{fits_slot}
-use Rattle.trace.specs.Private.Slots.{Held, find, put}
+use Rattle.trace.specs.Private.Slots.{Held, find, put, drop_by, drop_count}
 use Rattle.trace.specs.Private.Model as T
-use Rattle.trace.specs.Private.Model.{Model, turned, plainly, asked, dropping}
+use Rattle.trace.specs.Private.Model.{Model, turned, plainly, asked, dropping, committing}
 use Rattle.statement.specs.Compiled.{Compiled, no_update}
 use Rattle.statement.proofs.SoundQuery.{query-parts}
 use Rattle.table.proofs.ChangedMeans.{cells-length}
 use Rattle.pattern.proofs.Reached.{drops-mean}
 use Rattle.slots.specs.Keys.{Found, key_of, slot_has, held_slots}
-use Rattle.std.specs.Prelude.{Some, None}
+use Rattle.std.specs.Prelude.{Option as Maybe, Some, None}
+use Rattle.cache.specs.declared.Note.{Note}
 use Rattle.slots.specs.Order.{front_of}
 use Rattle.slots.proofs.KeyLaws.{key-few, FoundAt, found_inside, found_at}
 use Rattle.cache.specs.declared.State.{State}
-use Rattle.cache.specs.Calls.{Added, Flushed, Asks, bytes_at, record_at, found_in, Updates, update_at, unfit}
-use Rattle.cache.specs.Gives.{add_of, ask_of, update_of, flush_of, added_of, added_by, add_refusal, compiled_beside, add_refused, ask_gives, ask_refused, ask_refusal, with_cache, cached_refusal, ask_cached, new_refusal, newly, ask_new, ask_found, update_gives, update_refused, update_refusal, is_dropped, with_change, update_done, emptied}
-use Rattle.cache.specs.Sound.{length_at, query_at}
+use Rattle.cache.specs.Calls.{Added, Flushed, Asks, bytes_at, record_at, found_in, Updates, unfit}
+use Rattle.cache.specs.Sound.{update_at, length_at, query_at, note_read, pending_read}
+use Rattle.cache.specs.Gives.{add_of, ask_of, update_of, flush_of, added_of, added_by, add_refusal, compiled_beside, add_refused, ask_gives, ask_refused, ask_refusal, with_cache, cached_refusal, ask_cached, new_refusal, newly, ask_new, ask_found, update_gives, update_refused, update_refusal, is_dropped, with_change, update_done, emptied, with_note, propose_refused, would_do, propose_of, pending_refusal, commit_done, commit_of, withdraw_of}
 use Rattle.cache.specs.SoundTest.{sound_state}
 use Rattle.cache.specs.Means.{Means, Typed}
 use Rattle.cache.specs.Run.{Store, lent_by, Got, Seen, step_ask, step_update, step_flush, step, plain_call, buffer_of, got_of}
@@ -42,6 +44,7 @@ use Rattle.cache.proofs.Invariant.Sound.{Sound, sound-is, held_below, held-sound
 use Rattle.cache.proofs.Refinement.StoodFor.{query-count, query-agrees}
 use Rattle.cache.proofs.Refinement.Asking.{cache-means, read_asked, record_is, ask-number, new-number}
 use Rattle.cache.proofs.Refinement.Updating.{update-there, update-long}
+use Rattle.cache.proofs.Refinement.Proposing.{emptied-means, pending-number, no_note, noted-update, noted-same}
 use Rattle.cache.proofs.Refinement.Calls.{does_as_plain}
 use Rattle.cache.proofs.Refinement.Dropping.{DropsMean, matched-is}
 use Rattle.cache.proofs.Refinement.SlotsAsCache.{held_in, cache_of}
@@ -247,7 +250,7 @@ module _ (s : Store) (p : Plain) (Ty : Typed s.state) (h : sound_state s.state �
           found-meets A (found_in s.state key.query key.values) refl
       go (suc k) e = refused-meets s p m buffer (suc k)
 
--- ---- a text, an update, a flush: what they get, and the plain store after them, is known
+-- ---- the other calls: what they get, and the plain store after them, is known
 
 -- what crate `pattern` states of sound statements
 pub patterns-mean : DropsMean
@@ -280,6 +283,29 @@ module _ (s : Store) (p : Plain) (Ty : Typed s.state) (h : sound_state s.state �
       go zero = added-leaves (compiled_beside s.state text).kind (compiled_beside s.state text)
       go (suc k) = (refl, refl)
 
+  abbrev Unmoved : State → Type 0
+  Unmoved t = (cache_of t s.memory ≡ cache_of s.state s.memory) × (t.slot_bytes ≡ bytes)
+
+  -- nor does a proposal or a withdrawal move them
+  proposed-leaves : (n : ℕ) (us : List ℤ) → Unmoved (propose_of s.state s.cells s.memory n us).state
+  unfolding propose_of settled would_do with_note
+  proposed-leaves n us = go (update_refusal s.state (lent_by s) n (length us))
+    where
+      go : (k : ℕ) → Unmoved (settled k (would_do s.state s.cells n us) (propose_refused s.state k)).state
+      go zero = (refl, refl)
+      go (suc k) = (refl, refl)
+
+  withdrawn-leaves : Unmoved (withdraw_of s.state (lent_by s)).state
+  unfolding withdraw_of settled with_note
+  withdrawn-leaves = go (pending_refusal s.state (lent_by s))
+    where
+      withdrawal : Flushed
+      withdrawal = record { refusal = 0; state = with_note s.state None }
+
+      go : (k : ℕ) → Unmoved (settled k withdrawal (record { refusal = k; state = s.state })).state
+      go zero = (refl, refl)
+      go (suc k) = (refl, refl)
+
   plain-guard : (k : ℕ) (d : Plain × Out)
       → guard k (model_of s p) turned (record { store = d.0; cache = (model_of s p).cache }, plainly d.1)
       ≡ (record { store = (guard k p refused d).0; cache = (model_of s p).cache }, plainly (guard k p refused d).1)
@@ -297,6 +323,38 @@ module _ (s : Store) (p : Plain) (Ty : Typed s.state) (h : sound_state s.state �
         cells_long = refl;
         memory_long = refl;
         bytes_same = (text-leaves text).1;
+        got = D.0;
+        kept = refl;
+        scanned = refl;
+      })
+
+  propose-meets : (n : ℕ) (us : List ℤ) → Meets s [] (step s (propose n us)) (T.step lent bytes (model_of s p) (propose n us))
+  unfolding step
+  propose-meets n us =
+      let D = does_as_plain s (propose n us) p Ty h m tt in
+      subst (Meets s [] (step s (propose n us))) (sym (plain-guard (refusal lent p (propose n us)) (does p (propose n us))))
+      (record {
+        means = D.1;
+        cached = sym (proposed-leaves n us).0;
+        cells_long = refl;
+        memory_long = refl;
+        bytes_same = (proposed-leaves n us).1;
+        got = D.0;
+        kept = refl;
+        scanned = refl;
+      })
+
+  withdraw-meets : Meets s [] (step s withdraw) (T.step lent bytes (model_of s p) withdraw)
+  unfolding step
+  withdraw-meets =
+      let D = does_as_plain s withdraw p Ty h m tt in
+      subst (Meets s [] (step s withdraw)) (sym (plain-guard (refusal lent p withdraw) (does p withdraw)))
+      (record {
+        means = D.1;
+        cached = sym withdrawn-leaves.0;
+        cells_long = refl;
+        memory_long = refl;
+        bytes_same = withdrawn-leaves.1;
         got = D.0;
         kept = refl;
         scanned = refl;
@@ -348,18 +406,50 @@ module _ (s : Store) (p : Plain) (Ty : Typed s.state) (h : sound_state s.state �
         let D = does_as_plain s (change n us) p Ty h m tt in
         by_number (update_refusal s.state (lent_by s) n (length us)) (refusal lent p (change n us)) refl D.0 D.1
 
+  -- a commit drops what the update of its note does
+  abbrev committed_as : Option P.Note → (Key → Bool) → Model × T.Seen
+  committed_as o d = (
+    record { store = (committed p o).0; cache = drop_by d (model_of s p).cache },
+    record { out = (committed p o).1; kept = 0; scanned = 0; drops = drop_count d (model_of s p).cache },
+  )
+
+  committing-is : (x : P.Note) → p.pending ≡ some x
+      → committing lent bytes (model_of s p) p.pending ≡ dropping lent bytes (model_of s p) (change x.update x.values) (drops_key p x.update x.values)
+  committing-is x e = ap (committing lent bytes (model_of s p)) e ∙ ap (λ (o : Option P.Note). committed_as o (drops_key p x.update x.values)) e
+
+  committed-meets : refusal lent p commit ≡ 0 → (o : Maybe Note) → s.state.pending ≡ o
+      → Meets s [] (step_update s (commit_done s.state s.cells o)) (committing lent bytes (model_of s p) p.pending)
+  committed-meets z None e = no_note s p Ty h m z e
+  committed-meets z (Some n) e =
+      let D = noted-same s p Ty h m z n e in
+      subst (Meets s [] (step_update s (commit_done s.state s.cells (Some n)))) (sym (committing-is (note_read n) (m.note_is ∙ ap pending_read e)))
+      (drops-meet n.update (note_read n).values (noted-update s p Ty h m z n e) D.0 D.1)
+
+  commit-meets : Meets s [] (step s commit) (T.step lent bytes (model_of s p) commit)
+  unfolding step commit_of settled
+  commit-meets =
+      subst (λ (k : ℕ). Meets s [] (step s commit) (guard k (model_of s p) turned (committing lent bytes (model_of s p) p.pending)))
+      (pending-number s p h m)
+      (go (pending_refusal s.state lent) refl)
+    where
+      go : (k : ℕ) → pending_refusal s.state lent ≡ k
+          → Meets s [] (step_update s (settled k (commit_done s.state s.cells s.state.pending) (update_gives (update_refused s.state k) s.cells)))
+          (guard k (model_of s p) turned (committing lent bytes (model_of s p) p.pending))
+      go zero e = committed-meets (sym (pending-number s p h m) ∙ e) s.state.pending refl
+      go (suc k) e = refused-meets s p m [] (suc k)
+
   -- a flush drops every answer
   abbrev flush_with : ℕ → Flushed
   flush_with j = settled j (record { refusal = 0; state = emptied s.state }) (record { refusal = j; state = s.state })
 
   flushed-by : (j k : ℕ) → (step_flush s (flush_with j)).1.got ≡ got_of [] (guard k p refused (does p flush)).1
       → Meets s [] (step_flush s (flush_with j)) (guard k (model_of s p) turned (dropping lent bytes (model_of s p) flush (λ x. true)))
-  unfolding with_cache settled
+  unfolding settled
   flushed-by (suc j) zero g = one-zero j (sym (ap (λ (x : Got). x.refusal) g))
   flushed-by (suc j) (suc k) g = subst (λ (i : ℕ). Meets s [] (step_flush s (flush_with (suc j))) (model_of s p, turned i)) (ap (λ (x : Got). x.refusal) g) (refused-meets s p m [] (suc j))
   flushed-by zero (suc k) g = one-zero k (ap (λ (x : Got). x.refusal) g)
   flushed-by zero zero g = record {
-    means = cache-means s.state s.cells p m _ s.state.keys s.state.lengths;
+    means = emptied-means s.state s.cells p m;
     cached = sym (cached-drop s.state Ty (sound-is s.state h) s.memory (λ x. true) (λ k. true) (All-every (λ x. refl) (held_slots s.state.slots)));
     cells_long = refl;
     memory_long = refl;
@@ -380,3 +470,6 @@ module _ (s : Store) (p : Plain) (Ty : Typed s.state) (h : sound_state s.state �
   step-meets (ask k buffer) = ask-meets s p Ty h m k buffer
   step-meets (change n us) = update-meets n us
   step-meets flush = flush-meets
+  step-meets (propose n us) = propose-meets n us
+  step-meets commit = commit-meets
+  step-meets withdraw = withdraw-meets

@@ -32,9 +32,9 @@ use Rattle.slots.specs.Keys.{key_read, slot_key, held_keys, values_of, held_slot
 use Rattle.slots.specs.Order.{drop_by}
 use Rattle.slots.proofs.Laws.{drop-held}
 use Rattle.cache.specs.declared.State.{State}
-use Rattle.cache.specs.Sound.{query_at, schemas_in}
+use Rattle.cache.specs.Sound.{query_at, schemas_in, table_at, update_at}
 use Rattle.cache.specs.Means.{Means, Typed}
-use Rattle.cache.specs.Calls.{area_start, table_at, rows_at, update_at}
+use Rattle.cache.specs.Calls.{area_start, rows_at}
 use Rattle.cache.specs.Gives.{update_of, update_gives, update_refusal, is_pushing, pushed_by, is_dropped, with_change, update_refused, update_done}
 use Rattle.meaning.specs.Refusals.{settled}
 use Rattle.cache.specs.Run.{Store, Seen, lent_by, step_update, step}

@@ -2,6 +2,7 @@
 -- slots are the model's cache, and every call gets what it gets there. Assumes nothing.
 use mathlib.Core.Path.{◌≡◌, refl, sym, ap, ap₂, ◌∙◌, subst}
 use mathlib.Core.Bool.{Bool, true, false, cond}
+use mathlib.Core.Option.{none}
 use mathlib.Core.List.{List, [], ◌∷◌, map}
 use Prim.Native.Nat.{ℕ, ◌≤◌, zero-le}
 use lib.IntN.{ℤ, pos}
@@ -41,9 +42,9 @@ pub record Follows (lent : Lengths) (size : ℕ) (s : Store) (m : Model) : Type 
 
 -- an empty state stands for a plain store without tables and statements, and keeps no answer
 module _ (o : Opening) where
-  empty-means : (cells : List ℤ) → Means (empty_state o) cells (record { lengths = o.lent; tables = []; queries = []; updates = [] })
+  empty-means : (cells : List ℤ) → Means (empty_state o) cells (record { lengths = o.lent; tables = []; queries = []; updates = []; pending = none })
   unfolding empty_state
-  empty-means cells = record { cells_are = refl; memory_is = refl; tables_are = refl; queries_are = L.nil; updates_are = L.nil }
+  empty-means cells = record { cells_are = refl; memory_is = refl; tables_are = refl; queries_are = L.nil; updates_are = L.nil; note_is = refl }
 
   empty-cache : (memory : List ℕ) → o.slots ≤ most_slots → empty o.slots memory ≡ cache_of (empty_state o) memory
   unfolding empty_state
@@ -64,7 +65,7 @@ module _ (o : Start) where
 
   abbrev model_by : Bool → Model
   model_by b = record {
-    store = record { lengths = P.lengths_of b (opening_of o).lent; tables = []; queries = []; updates = [] };
+    store = record { lengths = P.lengths_of b (opening_of o).lent; tables = []; queries = []; updates = []; pending = none };
     cache = empty (T.slots_opened b (opening_of o)) (T.memory_opened b o.memory);
   }
 

@@ -20,8 +20,8 @@ use Rattle.statement.specs.Compiled.{no_table}
 use Rattle.table.specs.Changed.{oldest_row}
 use Rattle.table.proofs.ChangedMeans.{oldest-first}
 use Rattle.cache.specs.declared.State.{State}
-use Rattle.cache.specs.Sound.{used_tables, areas_of}
-use Rattle.cache.specs.Calls.{area_start, table_at, rows_at}
+use Rattle.cache.specs.Sound.{used_tables, areas_of, table_at}
+use Rattle.cache.specs.Calls.{area_start, rows_at}
 use Rattle.cache.specs.Gives.{is_pushing}
 use Rattle.cache.proofs.Invariant.Sound.{Sound, All-first}
 use Rattle.cache.proofs.Invariant.Starts.{rows-some}

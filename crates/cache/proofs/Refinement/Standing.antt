@@ -30,10 +30,10 @@ use Rattle.statement.specs.SoundTest.{columns_at, sound_second}
 use Rattle.statement.proofs.SoundQuery.{query-parts, second_parts}
 use Rattle.statement.proofs.SoundUpdate.{update-parts}
 use Rattle.cache.specs.declared.State.{State}
-use Rattle.cache.specs.Sound.{used_tables, query_at, used_queries, used_updates, schemas_in, IsSound}
+use Rattle.cache.specs.Sound.{used_tables, query_at, used_queries, used_updates, schemas_in, IsSound, table_at, update_at, pending_in}
 use Rattle.cache.specs.Means as L
 use Rattle.cache.specs.Means.{tables_in, Pairwise, Means, Typed}
-use Rattle.cache.specs.Calls.{area_start, table_at, update_at}
+use Rattle.cache.specs.Calls.{area_start}
 use Rattle.cache.specs.Demand.{FromSentences, StandsForPlain}
 use Rattle.cache.proofs.Invariant.Sound.{Sound, schemas-long, query-at, update-at, All-first}
 use Rattle.cache.proofs.Invariant.Sentence.{sentence-holds}
@@ -171,6 +171,7 @@ module _ (s : State) (cells : List ℤ) (I : IsSound s) where
     tables = tables_in s cells;
     queries = queries-from.0;
     updates = updates-from.0;
+    pending = pending_in s;
   }
 
   schemas-same : schemas plain ≡ schemas_in s
@@ -191,7 +192,7 @@ module _ (s : State) (cells : List ℤ) (I : IsSound s) where
   stands-for : (p : Plain) × Means s cells p × FromSentences p
   stands-for = (
     plain,
-    record { cells_are = refl; memory_is = refl; tables_are = refl; queries_are = queries-from.1; updates_are = updates-from.1 },
+    record { cells_are = refl; memory_is = refl; tables_are = refl; queries_are = queries-from.1; updates_are = updates-from.1; note_is = refl },
     record {
       tables = table-from;
       queries = subst (λ ts. All (λ q. (x : Sentence) × Passes ts x × (statement_of ts x ≡ asks q)) queries-from.0) (sym schemas-same) queries-from.2;

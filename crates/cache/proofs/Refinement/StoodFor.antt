@@ -15,9 +15,9 @@ use Rattle.statement.specs.declared.Update.{Update}
 use Rattle.statement.specs.Compiled.{no_table, no_query, no_update}
 use Rattle.statement.specs.Sound.{AgreesQuery, AgreesUpdate}
 use Rattle.cache.specs.declared.State.{State}
-use Rattle.cache.specs.Sound.{used_tables, areas_of, query_at, schemas_in}
+use Rattle.cache.specs.Sound.{used_tables, areas_of, query_at, schemas_in, table_at, update_at}
 use Rattle.cache.specs.Means.{Means, Typed}
-use Rattle.cache.specs.Calls.{area_start, table_at, update_at}
+use Rattle.cache.specs.Calls.{area_start}
 use Rattle.cache.proofs.Invariant.Sound.{Sound, schemas-long}
 use Rattle.cache.proofs.Refinement.Areas.{schemas-from, table_in, table-from}
 use Rattle.cache.proofs.Refinement.Standing.{compiled-length, compiled-at, few_tables, few_queries, few_updates}

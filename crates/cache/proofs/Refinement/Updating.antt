@@ -15,10 +15,10 @@ use Rattle.meaning.specs.Meaning.{Row, changed, rows_changed}
 use Rattle.meaning.specs.Names.{Schema}
 use Rattle.meaning.specs.Statement.{Change, insert, delete, update}
 use Rattle.meaning.specs.Plain as P
-use Rattle.meaning.specs.Plain.{Plain, is_insert, full, rows, refusal, changed_by, rows_by}
+use Rattle.meaning.specs.Plain.{Plain, is_insert, full, rows, other_lengths, refusal, changed_by, rows_by}
 use Rattle.meaning.specs.Refusals.{or_else}
 use Rattle.meaning.specs.Call.{change}
-use Rattle.meaning.proofs.Accepted.{Changing, update-taken}
+use Rattle.meaning.proofs.Accepted.{Ready, update-taken}
 use Rattle.statement.specs.declared.Table.{Table}
 use Rattle.statement.specs.declared.Update.{Update}
 use Rattle.statement.specs.Compiled.{no_table, insert_form, no_update, form_of_change}
@@ -31,10 +31,10 @@ use Rattle.table.proofs.ChangedMeans.{starts_first, fits-sound, change-count, ch
 use Rattle.slots.specs.declared.SlotList.{SlotList}
 use Rattle.slots.specs.Order.{drop_by}
 use Rattle.cache.specs.declared.State.{State}
-use Rattle.cache.specs.Sound.{used_tables, areas_of, schemas_in}
+use Rattle.cache.specs.Sound.{used_tables, areas_of, schemas_in, table_at, update_at, is_full}
 use Rattle.cache.specs.SoundTest.{sound_state}
 use Rattle.cache.specs.Means.{tables_from, Means, Typed}
-use Rattle.cache.specs.Calls.{area_start, table_at, update_at, is_full}
+use Rattle.cache.specs.Calls.{area_start}
 use Rattle.cache.specs.Gives.{update_of, update_gives, update_refusal, pushed_by, is_dropped, with_rows, with_change, update_refused, update_done}
 use Rattle.cache.specs.Run.{Store, got_of, lent_by, step_update, step}
 use Rattle.cache.proofs.Refinement.Areas.{table_in, tables-set}
@@ -174,6 +174,7 @@ module _ (s : State) (T : Typed s) (S : Sound s) (cells : List ℤ) (p : Plain) 
       tables_are = tables_then;
       queries_are = m.queries_are;
       updates_are = m.updates_are;
+      note_is = refl;
     }
 
 -- ---- the whole call
@@ -199,20 +200,20 @@ module _ (s : Store) (p : Plain) (T : Typed s.state) (h : sound_state s.state �
 
   -- an update that is not refused, on the plain store
   module _ (e : refusal (lent_by s) p (change n us) ≡ 0) where
-    taken : Changing (lent_by s) p n us
+    taken : (other_lengths (lent_by s) p ≡ false) × Ready p n us
     taken = update-taken (lent_by s) p n us e
 
     pub update-there : n < s.state.update_count
-    update-there = subst (λ k. n < k) count taken.there
+    update-there = subst (λ k. n < k) count taken.1.there
 
     pub update-long : length s.cells ≡ s.state.cells
-    update-long = lengths-same s.state s.cells p m (lent_by s) taken.lengths
+    update-long = lengths-same s.state s.cells p m (lent_by s) taken.0
 
-    done-same : Same [] (step_update s (update_done s.state s.cells (update_at s.state n) us)) (changed_by p n us, rows (rows_by p n us))
+    pub done-same : Same [] (step_update s (update_done s.state s.cells (update_at s.state n) us)) (changed_by p n us, rows (rows_by p n us))
     unfolding update_done
     done-same = (
-      ap (λ k. got_of [] (rows k)) (count_is s.state T S s.cells p m n update-there update-long us taken.room),
-      change-stands s.state T S s.cells p m n update-there update-long us taken.room (drop_by (is_dropped s.state s.cells (update_at s.state n) us) s.state.slots),
+      ap (λ k. got_of [] (rows k)) (count_is s.state T S s.cells p m n update-there update-long us taken.1.room),
+      change-stands s.state T S s.cells p m n update-there update-long us taken.1.room (drop_by (is_dropped s.state s.cells (update_at s.state n) us) s.state.slots),
     )
 
   pub update_same : Same [] (step s (change n us)) (P.step (lent_by s) p (change n us))

@@ -1,5 +1,5 @@
 -- The number that the tests of a call give: 2, 10, 11 or 12, one test after the other. Assumes nothing.
-use Rattle.std.proofs.Common.{Option, Some, None, Result, Ok, Err, ok_or}
+use Rattle.std.proofs.Common.{Option, Some, None, Result, Ok, Err, ok_or, is_ok}
 use Rattle.std.specs.Result.{IsErrAnd}
 use Rattle.std.specs.Slice.{IsItemAt}
 use denote.Bor.{Bor}
@@ -8,7 +8,7 @@ use mathlib.Core.Bool.{Bool, true, false, not, cond, ◌&&◌, ◌||◌}
 use mathlib.Core.List.{List}
 use Prim.Native.Nat.{ℕ, ◌≤◌, ◌<◌}
 use native.Mathlib.Omega.{arith}
-use borrow.Author.Tests.{le-leb}
+use borrow.Author.Tests.{le-leb, ne_eqb}
 use Rattle.lists.proofs.Places.{get_or-inside}
 use lib.Dec.{eqb, leb}
 use lib.ListN.{length, take, get_or}
@@ -17,15 +17,23 @@ use Rattle.statement.specs.declared.Refusal.{Refusal}
 use Rattle.statement.specs.declared.Table.{Table}
 use Rattle.statement.specs.declared.Update.{Update}
 use Rattle.statement.specs.Compiled.{insert_form}
+use Rattle.statement.specs.SoundTest.{sound_update}
+use Rattle.soundness.specs.Soundness.{tables_sound, queries_sound, updates_sound}
 use Rattle.statement.specs.Refusals.{number_of, number_in}
+use Rattle.cache.specs.declared.Note.{Note}
 use Rattle.cache.specs.declared.State.{State}
-use Rattle.cache.specs.Sound.{query_at}
-use Rattle.cache.specs.SoundTest.{sound_state}
-use Rattle.cache.specs.Calls.{unfit, update_at, table_at, is_full}
+use Rattle.cache.specs.Sound.{query_at, update_at, table_at, is_full, used_updates, schemas_in}
+use Rattle.cache.specs.SoundTest.{sound_state, sound_counts, sound_tables, sound_areas, sound_rows, would_refuse, note_passes, sound_note}
+use Rattle.cache.specs.Calls.{unfit}
 use Rattle.cache.specs.Gives.{ask_refusal, update_refusal}
+use Rattle.lists.specs.Lists.{All}
+use Rattle.lists.proofs.Bools.{and_right}
+use Rattle.lists.proofs.Lists.{all_true}
+use Rattle.meaning.specs.Limits.{most_tables, most_updates}
 use Rattle.meaning.specs.Plain.{Lengths}
 use Rattle.meaning.specs.Refusals.{or_else}
 use Rattle.table.proofs.Recording.{numbered}
+use Rattle.cache.proofs.Returns.Tested.{counts-few}
 
 -- 2, as the code decides it
 pub unfit-of : (s : State) (l : Lengths) (sound b : Bool) → sound ≡ sound_state s → (sound && (eqb l.cells s.cells && eqb l.memory s.memory)) ≡ b → unfit s l ≡ not b
@@ -108,27 +116,66 @@ module _ (s : State) (l : Lengths) (query values : ℕ) (r : ℕ) where
 
 -- ---- the numbers of an update
 
-module _ (s : State) (l : Lengths) (update values : ℕ) (r : ℕ) where
+-- what 10 to 12 need of a state
+pub record Texts (s : State) : Type 0 where
+  pub few_tables : s.table_count ≤ most_tables
+  pub few_updates : s.update_count ≤ most_updates
+  pub updates : All (λ (u : Update). sound_update (schemas_in s) u ≡ true) (used_updates s)
+
+pub texts-are : (s : State) → sound_counts s ≡ true → sound_tables s ≡ true → Texts s
+unfolding sound_tables updates_sound
+texts-are s h k =
+    let few = counts-few s h in
+    let texts = and_right (sound_rows s) _ (and_right (sound_areas s) _ k) in
+    let statements = and_right (tables_sound s.tables s.table_count) _ texts in
+    record {
+      few_tables = few.0;
+      few_updates = few.2;
+      updates = all_true (sound_update (schemas_in s)) (used_updates s) (and_right (queries_sound s.tables s.table_count s.queries s.query_count) _ statements);
+    }
+
+module _ (s : State) (update values : ℕ) (r : ℕ) where
   abbrev u : Update
   u = update_at s update
 
-  pub update-unfit : unfit s l ≡ true → r ≡ 2 → r ≡ update_refusal s l update values
-  unfolding update_refusal
-  update-unfit f e = rw f e
+  pub would-none : leb s.update_count update ≡ true → r ≡ 10 → r ≡ would_refuse s update values
+  unfolding would_refuse
+  would-none k e = rw k e
 
-  module _ (f : unfit s l ≡ false) where
-    pub update-none : leb s.update_count update ≡ true → r ≡ 10 → r ≡ update_refusal s l update values
+  module _ (k : leb s.update_count update ≡ false) where
+    pub would-miscounted : eqb values u.parameters ≡ false → r ≡ 11 → r ≡ would_refuse s update values
+    unfolding would_refuse
+    would-miscounted c e = rw (k, c) e
+
+    pub would-tested : eqb values u.parameters ≡ true → r ≡ or_else (is_full s u) 12 0 → r ≡ would_refuse s update values
+    unfolding would_refuse
+    would-tested c e = rw (k, c) e
+
+  module _ (l : Lengths) where
+    pub update-unfit : unfit s l ≡ true → r ≡ 2 → r ≡ update_refusal s l update values
     unfolding update_refusal
-    update-none k e = rw (f, k) e
+    update-unfit f e = rw f e
 
-    module _ (k : leb s.update_count update ≡ false) where
-      pub update-miscounted : eqb values u.parameters ≡ false → r ≡ 11 → r ≡ update_refusal s l update values
-      unfolding update_refusal
-      update-miscounted c e = rw (f, k, c) e
+    -- behind 2 the numbers are those that 10 to 12 give
+    pub update-fit : unfit s l ≡ false → r ≡ would_refuse s update values → r ≡ update_refusal s l update values
+    unfolding update_refusal would_refuse
+    update-fit f e = rw f e
 
-      pub update-tested : eqb values u.parameters ≡ true → r ≡ or_else (is_full s u) 12 0 → r ≡ update_refusal s l update values
-      unfolding update_refusal
-      update-tested c e = rw (f, k, c) e
+-- ---- the note
+
+-- what is not refused has the number 0
+passes : (r : Result Unit Refusal) → is_ok r ≡ eqb (number_in r) 0
+passes (Ok u) = refl
+passes (Err y) = sym (ne_eqb (number_of y) 0 (λ e. absurd (numbered y e)))
+
+module _ (s : State) where
+  pub none-noted : s.pending ≡ None → true ≡ sound_note s
+  unfolding sound_note
+  none-noted e = sym (ap (note_passes s) e)
+
+  pub some-noted : (n : Note) → s.pending ≡ Some n → (r : Result Unit Refusal) → number_in r ≡ would_refuse s n.update n.count → is_ok r ≡ sound_note s
+  unfolding sound_note
+  some-noted n e r h = passes r ∙ ap (λ (k : ℕ). eqb k 0) h ∙ sym (ap (note_passes s) e)
 
 -- an INSERT into a full table that is no ring
 pub full-is : (s : State) (i : ℕ) (u : Update) (t : Table) (f : Bool) → f ≡ leb t.capacity t.rows → u ≡ update_at s i → t ≡ table_at s u.table

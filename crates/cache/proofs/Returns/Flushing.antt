@@ -1,5 +1,5 @@
 -- What a flush owes, refused or not. Assumes nothing.
-use Rattle.std.proofs.Common.{Result, Ok, Err, is_ok}
+use Rattle.std.proofs.Common.{Result, Ok, Err, None, is_ok}
 use mathlib.Core.Path.{◌≡◌}
 use mathlib.Core.Bool.{true, false}
 use native.Mathlib.Omega.{arith}
@@ -11,7 +11,7 @@ use Rattle.meaning.specs.Plain.{Lengths}
 use Rattle.meaning.specs.Refusals.{or_else, settled}
 use Rattle.cache.specs.declared.State.{State}
 use Rattle.cache.specs.Calls.{unfit}
-use Rattle.cache.specs.Gives.{flush_of, with_cache}
+use Rattle.cache.specs.Gives.{flush_of}
 use Rattle.cache.specs.Given.{flushed_as}
 use Rattle.cache.proofs.Returns.Checks.{refused_if, passed_if}
 
@@ -22,7 +22,7 @@ module _ (s : State) (l : Lengths) where
   flush-refused (Err x) e h = let t = refused_if (unfit s l) 2 x e in rw t.0 (λ j. record { refusal = t.1 j; state = s })
 
   pub flush-done : (r : Result Unit Refusal) → number_in r ≡ or_else (unfit s l) 2 0 → is_ok r ≡ true → (free : SlotList) → free ≡ clear_of s.slots
-      → flushed_as r (with_cache s free s.keys s.lengths) ≡ flush_of s l
+      → flushed_as r (record s { slots = free; pending = None }) ≡ flush_of s l
   unfolding flush_of settled
   flush-done (Ok u) e h free f = rw (passed_if (unfit s l) 2 (λ z. omega (arith, z)) e, f)
   flush-done (Err x) e h free f = absurd (cc)

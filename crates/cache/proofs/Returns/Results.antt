@@ -1,5 +1,5 @@
 -- Whether a call is taken, by its result; what an update gives, by whether it is taken. Assumes nothing.
-use Rattle.std.proofs.Common.{ℕ, ◌≡◌, ◌∙◌, refl, sym, ap, true, false, Result, Ok, Err, is_err}
+use Rattle.std.proofs.Common.{ℕ, ◌≡◌, ◌∙◌, refl, sym, ap, true, false, Result, Ok, Err, is_ok, is_err}
 use Rattle.std.specs.Result.{MatchResult, IsOkAnd}
 use Rattle.statement.specs.declared.Refusal.{Refusal}
 use Rattle.statement.specs.declared.Statement.{Statement}
@@ -26,6 +26,14 @@ is-refused (Err r) h z = numbered r z
 pub is-taken : {A : Type 0} (x : Result A Refusal) → is_err x ≡ false → number_in x ≡ 0
 is-taken (Ok u) h = refl
 is-taken (Err r) h = absurd (cc)
+
+pub is-done : {A : Type 0} (x : Result A Refusal) → is_ok x ≡ true → number_in x ≡ 0
+is-done (Ok u) h = refl
+is-done (Err r) h = absurd (cc)
+
+pub not-done : {A : Type 0} (x : Result A Refusal) → is_ok x ≡ false → number_in x ≡ 0 → ⊥
+not-done (Ok u) h z = absurd (cc)
+not-done (Err r) h z = numbered r z
 
 -- what an update gives: its counts where it is taken, else its refusal and no counts
 pub record Counted (taken : Result Unit Refusal) (r : Result Changed Refusal) (rows gone : ℕ) : Type 0 where

@@ -25,9 +25,9 @@ use Rattle.slots.specs.declared.SlotList.{SlotList}
 use Rattle.slots.specs.Order.{is_marked, drop_by, drop_of}
 use Rattle.slots.proofs.Laws.{held_below}
 use Rattle.cache.specs.declared.State.{State}
-use Rattle.cache.specs.Sound.{query_at}
+use Rattle.cache.specs.Sound.{query_at, table_at}
 use Rattle.cache.specs.Private.Marks.{marked, marks_of, marks_judged, reaches_at, reached_at, marks_both}
-use Rattle.cache.specs.Calls.{table_at, area_start, rows_at}
+use Rattle.cache.specs.Calls.{area_start, rows_at}
 use Rattle.cache.specs.Gives.{is_pushing, judged, is_dropped}
 use Rattle.cache.proofs.Invariant.Sound.{Sound}
 use Rattle.cache.proofs.Returns.SlotsMatched.{no-mark, length_marked, marked-one, marks-length, marks-match}

@@ -19,7 +19,7 @@ use Rattle.slots.specs.Keys.{slot_key, held_keys, held_twice, held_slots}
 use Rattle.slots.specs.Order.{sound_slots}
 use Rattle.cache.specs.declared.State.{State}
 use Rattle.cache.specs.Sound.{lengths, opening, length_at}
-use Rattle.cache.specs.SoundTest.{sound_state, sound_sizes, sound_counts, length_fits, sound_lengths, sound_key, sound_keys, sound_tables, sound_answers}
+use Rattle.cache.specs.SoundTest.{sound_state, sound_sizes, sound_counts, length_fits, sound_lengths, sound_key, sound_keys, sound_tables, sound_answers, sound_note}
 use Rattle.cache.specs.Private.Outcomes.{key_fits, slot_fits}
 
 -- ---- sizes
@@ -121,10 +121,14 @@ module _ (s : State) where
   unfolding sound_state
   counts_of h = and_left (sound_counts s) _ (and_right (sound_sizes s) _ h)
 
+  pub tables_of : sound_state s ≡ true → sound_tables s ≡ true
+  unfolding sound_state
+  tables_of h = and_left (sound_tables s) _ (and_right (sound_counts s) _ (and_right (sound_sizes s) _ h))
+
   module _ (sizes counts : Bool) (z : sizes ≡ sound_sizes s) (c : counts ≡ sound_counts s) where
     pub sound-fails : (sizes && counts) ≡ false → false ≡ sound_state s
     unfolding sound_state
-    sound-fails h = go (sound_sizes s) (sound_counts s) (sound_tables s && sound_answers s) (ap₂ (λ (a b : Bool). a && b) (sym z) (sym c) ∙ h)
+    sound-fails h = go (sound_sizes s) (sound_counts s) (sound_tables s && (sound_answers s && sound_note s)) (ap₂ (λ (a b : Bool). a && b) (sym z) (sym c) ∙ h)
       where
         go : (a b r : Bool) → (a && b) ≡ false → false ≡ (a && (b && r))
         go true b r e = rw e
@@ -133,6 +137,6 @@ module _ (s : State) where
     pub counts-hold : (sizes && counts) ≡ true → sound_counts s ≡ true
     counts-hold h = sym c ∙ and_right sizes counts h
 
-    pub sound-rest : (sizes && counts) ≡ true → (sound_tables s && sound_answers s) ≡ sound_state s
+    pub sound-rest : (sizes && counts) ≡ true → (sound_tables s && (sound_answers s && sound_note s)) ≡ sound_state s
     unfolding sound_state
     sound-rest h = sym (rw (sym z ∙ and_left sizes counts h, counts-hold h))

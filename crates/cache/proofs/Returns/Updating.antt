@@ -7,7 +7,7 @@ use native.Mathlib.Nat.{mod-eq_of_lt}
 use native.Mathlib.Omega.{arith}
 use borrow.Author.Tests.{leb-false}
 use lib.IntN.{ℤ}
-use lib.ListN.{length, take, get_or, length-map}
+use lib.ListN.{length, take, get_or, set, length-map}
 use lib.Seq.{length-take-le, set-get_or}
 use Rattle.lists.specs.Lists.{All, count}
 use Rattle.lists.proofs.Lists.{All-head, All-tail}
@@ -31,12 +31,12 @@ use Rattle.slots.specs.Keys.{held_slots}
 use Rattle.slots.proofs.Laws.{is-sound}
 use Rattle.cache.specs.declared.State.{State}
 use Rattle.cache.specs.declared.Effect.{Effect}
-use Rattle.cache.specs.Sound.{areas_of, used_tables, schemas_in}
+use Rattle.cache.specs.Sound.{areas_of, used_tables, schemas_in, table_at, update_at}
 use Rattle.cache.specs.SoundTest.{sound_state}
 use Rattle.cache.specs.Private.Marks.{marks_both}
-use Rattle.cache.specs.Private.Outcomes.{Effective, no_effect, effect_of}
-use Rattle.cache.specs.Calls.{lengths_lent, table_at, area_start, update_at, Updates, change_conditions}
-use Rattle.cache.specs.Gives.{update_of, update_gives, update_refusal, is_dropped, with_rows, with_change, update_refused, update_done}
+use Rattle.cache.specs.Private.Outcomes.{Effective, no_effect, effect_of, Takes, Makes}
+use Rattle.cache.specs.Calls.{area_start, Updates, change_conditions}
+use Rattle.cache.specs.Gives.{update_gives, update_refusal, is_dropped, with_rows, with_change, update_refused, update_done}
 use Rattle.meaning.specs.Refusals.{settled}
 use Rattle.cache.proofs.Invariant.Sound.{Sound, sound-is, All-first}
 use Rattle.cache.proofs.Settled.{settled-refused, settled-done, fit_is}
@@ -60,7 +60,7 @@ module _ (s : State) (h : sound_state s ≡ true) (L : Long s) (i : ℕ) (k : i 
   pub update-below : i < most_updates
   update-below = omega (arith, (sound-is s h).few_updates)
 
-  update-read : (d : Update) → get_or s.updates i d ≡ update_at s i
+  pub update-read : (d : Update) → get_or s.updates i d ≡ update_at s i
   update-read d = get_or-inside s.updates i d no_update (omega (arith, update-below, L.updates))
 
   -- its table exists
@@ -77,12 +77,7 @@ module _ (s : State) (h : sound_state s ≡ true) (L : Long s) (i : ℕ) (k : i 
 
 module _ (s : State) (l : Lengths) (update values : ℕ) where
   -- an update that is not refused
-  pub record Accepted : Type 0 where
-    pub sound : sound_state s ≡ true
-    pub cells_are : l.cells ≡ s.cells
-    pub there : update < s.update_count
-
-  pub accepted : update_refusal s l update values ≡ 0 → Accepted
+  pub accepted : update_refusal s l update values ≡ 0 → Takes s l.cells update
   unfolding update_refusal
   accepted e =
       let a = (clear 0 (change_conditions s l update values) refl).0 e in
@@ -93,7 +88,7 @@ module _ (s : State) (l : Lengths) (update values : ℕ) where
 abbrev pub update_read : State → ℕ → Update → Update
 update_read s update d = get_or s.updates (update % most_updates) d
 
-abbrev pub table_read : State → Update → Table → Table
+abbrev table_read : State → Update → Table → Table
 table_read s u d = get_or s.tables (u.table % most_tables) d
 
 module _ (s : State) (L : Long s) (update : ℕ) (d : Update) where
@@ -180,15 +175,11 @@ module _ (s : State) (L : Long s) (h : sound_state s ≡ true) (long : length s.
 
 -- ---- refused or done
 
-module _ (s : State) (L : Long s) (long : length s.slots.order ≡ most_slots) (cells : List ℤ) (memory : List ℕ) (update : ℕ) (values : List ℤ) (d : Update) (n : ℕ)
-    (r : n ≡ update_refusal s (lengths_lent cells memory) update (length values)) where
+module _ (s : State) (L : Long s) (long : length s.slots.order ≡ most_slots) (cells : List ℤ) (update : ℕ) (values : List ℤ) (d : Update) (n : ℕ) (known : Makes s n (length cells) update) where
   abbrev v : Update
   v = update_read s update d
 
-  known : n ≡ 0 → Accepted s (lengths_lent cells memory) update (length values)
-  known z = accepted s (lengths_lent cells memory) update (length values) (sym r ∙ z)
-
-  there : (z : n ≡ 0) → v.table < s.table_count
+  there : n ≡ 0 → v.table < s.table_count
   there z = read-there s L update d (known z).sound (known z).there
 
   pub effective : Effective n s.slots s.query_count v.table
@@ -197,109 +188,56 @@ module _ (s : State) (L : Long s) (long : length s.slots.order ≡ most_slots) (
       let few : v.table ≤ most_tables = omega (arith, there z, S.few_tables) in
       (is-sound _ S.slots, S.few_queries, few)
 
-  module _ (e : Table) (o : Effect) (after : List ℤ)
-      (eo : let w = table_read s v e in o ≡ settled n (effect_of s.tables s.keys s.slots s.queries s.query_count v w cells values) (no_effect w s.slots))
-      (ea : after ≡ settled n (cells_after v (table_read s v e) (area_start s v.table) cells values) cells) where
+  -- its table, whose number is read as i
+  module _ (i : ℕ) (ei : i ≡ v.table) (e : Table) where
     abbrev w : Table
-    w = table_read s v e
+    w = get_or s.tables (i % most_tables) e
 
-    abbrev result : Effect → List ℤ → Updates
-    result o after =
-        update_gives
-        (record {
-          refusal = n;
-          rows = o.done.count;
-          invalidated = s.slots.held - o.slots.held;
-          state = with_change s (v.table % most_tables) (with_rows w o.done.rows o.done.oldest) o.slots;
-        })
-        after
+    place : n ≡ 0 → i % most_tables ≡ v.table
+    place z = ap (λ (k : ℕ). k % most_tables) ei ∙ number_is s L update d (known z).sound (known z).there
 
-    fewer : o.slots.held ≤ s.slots.held
-    fewer = go n refl
-      where
-        go : (k : ℕ) → n ≡ k → o.slots.held ≤ s.slots.held
-        go zero z =
-            let A = known z in
-            rw (eo ∙ sym (settled-done n _ _ z)) (left-fewer s L A.sound long v (there z) cells values A.cells_are w (table_is s L update d A.sound A.there e))
-        go (suc k) z = rw (eo ∙ sym (settled-refused n _ _ (λ y. omega (arith, y, z)))) (omega arith)
+    read : n ≡ 0 → w ≡ table_at s v.table
+    read z = ap (λ (k : ℕ). get_or s.tables (k % most_tables) e) ei ∙ table_is s L update d (known z).sound (known z).there e
 
-    -- refused, the state has its table and its slots again
-    same : (q : n ≡ 0 → ⊥) → result (no_effect w s.slots) cells ≡ update_gives (update_refused s n) cells
-    unfolding with_change
-    same q = rw (set-get_or s.tables (v.table % most_tables) e, none s.slots.held)
-      where
-        none : (k : ℕ) → k - k ≡ 0
-        none k = omega arith
-
-    update-is : result o after ≡ update_of s cells memory update values
-    unfolding update_of
-    update-is = go n refl
-      where
-        go : (k : ℕ) → n ≡ k → result o after ≡ update_of s cells memory update values
-        go zero z =
-            let A = known z in
-            ap₂ result (eo ∙ sym (settled-done n _ _ z)) (ea ∙ sym (settled-done n _ _ z))
-            ∙ rw z (updated-is s L A.sound long v (there z) cells values A.cells_are w (table_is s L update d A.sound A.there e) _ (number_is s L update d A.sound A.there) _ refl)
-            ∙ ap (λ (u : Update). update_done s cells u values) (read_is s L update d A.sound A.there)
-            ∙ rw (← r) (settled-done n _ _ z)
-        go (suc k) z =
-            let q : n ≡ 0 → ⊥ = λ y. omega (arith, y, z) in
-            ap₂ result (eo ∙ sym (settled-refused n _ _ q)) (ea ∙ sym (settled-refused n _ _ q))
-            ∙ same q
-            ∙ rw (← r) (settled-refused n _ _ q)
-
-    -- so what is given where it is taken, and 0 where it is refused, is what the call gives
-    counts : (rows gone : ℕ) → (n ≡ 0 → (rows ≡ o.done.count) × (gone ≡ s.slots.held - o.slots.held)) → ((n ≡ 0 → ⊥) → (rows ≡ 0) × (gone ≡ 0))
-        → (rows ≡ o.done.count) × (gone ≡ s.slots.held - o.slots.held)
-    counts rows gone some none = go n refl
-      where
-        go : (k : ℕ) → n ≡ k → (rows ≡ o.done.count) × (gone ≡ s.slots.held - o.slots.held)
-        go zero z = some z
-        go (suc k) z =
-            let q : n ≡ 0 → ⊥ = λ y. omega (arith, y, z) in
-            let f : o ≡ no_effect w s.slots = eo ∙ sym (settled-refused n _ _ q) in (
-              (none q).0 ∙ sym (ap (λ (x : Effect). x.done.count) f),
-              omega (arith, (none q).1, ap (λ (x : Effect). x.slots.held) f),
-            )
-
-    update-given : (number rows gone : ℕ) → number ≡ n → (n ≡ 0 → (rows ≡ o.done.count) × (gone ≡ s.slots.held - o.slots.held)) → ((n ≡ 0 → ⊥) → (rows ≡ 0) × (gone ≡ 0))
-        → update_gives
-        (record {
-          refusal = number;
-          rows = rows;
-          invalidated = gone;
-          state = with_change s (v.table % most_tables) (with_rows w o.done.rows o.done.oldest) o.slots;
-        })
-        after ≡ update_of s cells memory update values
-    update-given number rows gone e some none =
-        let d = counts rows gone some none in
-        (λ j. update_gives (record { refusal = e j; rows = d.0 j; invalidated = d.1 j; state = with_change s (v.table % most_tables) (with_rows w o.done.rows o.done.oldest) o.slots }) after) ∙ update-is
-
-  -- the same, where the number of the table is read as i
-  module _ (i : ℕ) (ei : i ≡ v.table) (e : Table) (o : Effect) (after : List ℤ) where
-    abbrev at : ℕ → Table
-    at i = get_or s.tables (i % most_tables) e
-
-    module _ (eo : o ≡ settled n (effect_of s.tables s.keys s.slots s.queries s.query_count v (at i) cells values) (no_effect (at i) s.slots))
-        (ea : after ≡ settled n (cells_after v (at i) (area_start s v.table) cells values) cells) where
-      eo' : o ≡ settled n (effect_of s.tables s.keys s.slots s.queries s.query_count v (at v.table) cells values) (no_effect (at v.table) s.slots)
-      eo' = subst (λ (k : ℕ). o ≡ settled n (effect_of s.tables s.keys s.slots s.queries s.query_count v (at k) cells values) (no_effect (at k) s.slots)) ei eo
-
-      ea' : after ≡ settled n (cells_after v (at v.table) (area_start s v.table) cells values) cells
-      ea' = subst (λ (k : ℕ). after ≡ settled n (cells_after v (at k) (area_start s v.table) cells values) cells) ei ea
-
+    module _ (o : Effect) (after : List ℤ)
+        (eo : o ≡ settled n (effect_of s.tables s.keys s.slots s.queries s.query_count v w cells values) (no_effect w s.slots))
+        (ea : after ≡ settled n (cells_after v w (area_start s v.table) cells values) cells) where
       pub fewer-at : o.slots.held ≤ s.slots.held
-      fewer-at = fewer e o after eo' ea'
+      fewer-at = go n refl
+        where
+          go : (k : ℕ) → n ≡ k → o.slots.held ≤ s.slots.held
+          go zero z =
+              let A = known z in
+              rw (eo ∙ sym (settled-done n _ _ z)) (left-fewer s L A.sound long v (there z) cells values A.cells_are w (read z))
+          go (suc k) z = rw (eo ∙ sym (settled-refused n _ _ (λ y. omega (arith, y, z)))) (omega arith)
 
-      pub given-at : (number rows gone : ℕ) → number ≡ n → (n ≡ 0 → (rows ≡ o.done.count) × (gone ≡ s.slots.held - o.slots.held)) → ((n ≡ 0 → ⊥) → (rows ≡ 0) × (gone ≡ 0))
-          → update_gives
-          (record {
-            refusal = number;
-            rows = rows;
-            invalidated = gone;
-            state = with_change s (i % most_tables) (with_rows (at i) o.done.rows o.done.oldest) o.slots;
-          })
-          after ≡ update_of s cells memory update values
-      given-at number rows gone q some none =
-          ap (λ (k : ℕ). update_gives (record { refusal = number; rows = rows; invalidated = gone; state = with_change s (k % most_tables) (with_rows (at k) o.done.rows o.done.oldest) o.slots }) after) ei
-          ∙ update-given e o after eo' ea' number rows gone q some none
+      -- what the call gives
+      abbrev goal : Updates
+      goal = settled n (update_done s cells (update_at s update) values) (update_gives (update_refused s n) cells)
+
+      abbrev result : ℕ → ℕ → ℕ → State → List ℤ → Updates
+      result number rows gone left after = update_gives (record { refusal = number; rows = rows; invalidated = gone; state = left }) after
+
+      abbrev changed : Effect → State
+      changed o = with_change s (i % most_tables) (with_rows w o.done.rows o.done.oldest) o.slots
+
+      -- taken, the note goes
+      pub taken-at : n ≡ 0 → (number rows gone : ℕ) → number ≡ n → rows ≡ o.done.count → gone ≡ s.slots.held - o.slots.held → result number rows gone (changed o) after ≡ goal
+      taken-at z number rows gone en er eg =
+          let A = known z in
+          (λ j. result (en j) (er j) (eg j) (changed o) after)
+          ∙ ap₂ (λ (x : Effect) (y : List ℤ). result n x.done.count (s.slots.held - x.slots.held) (changed x) y) (eo ∙ sym (settled-done n _ _ z)) (ea ∙ sym (settled-done n _ _ z))
+          ∙ rw z (updated-is s L A.sound long v (there z) cells values A.cells_are w (read z) (i % most_tables) (place z) _ refl)
+          ∙ ap (λ (u : Update). update_done s cells u values) (read_is s L update d A.sound A.there)
+          ∙ settled-done n _ _ z
+
+      -- refused, the state has its table and its slots again
+      abbrev same : Effect → State
+      same o = record s { tables = set s.tables (i % most_tables) (with_rows w o.done.rows o.done.oldest); slots = o.slots }
+
+      pub refused-at : (n ≡ 0 → ⊥) → (number rows gone : ℕ) → number ≡ n → rows ≡ 0 → gone ≡ 0 → result number rows gone (same o) after ≡ goal
+      refused-at q number rows gone en er eg =
+          (λ j. result (en j) (er j) (eg j) (same o) after)
+          ∙ ap₂ (λ (x : Effect) (y : List ℤ). result n 0 0 (same x) y) (eo ∙ sym (settled-refused n _ _ q)) (ea ∙ sym (settled-refused n _ _ q))
+          ∙ ap (λ (ts : List Table). result n 0 0 (record s { tables = ts }) cells) (set-get_or s.tables (i % most_tables) e)
+          ∙ settled-refused n _ _ q

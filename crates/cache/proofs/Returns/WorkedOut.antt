@@ -30,8 +30,8 @@ use Rattle.statement.proofs.SoundTable.{table-parts}
 use Rattle.table.specs.Evaluated.{Said, selected_in, rows_paired, pairs_used, pairs_read, said_by, pair_says, pair_leaves}
 use Rattle.table.specs.Rows.{row_cells, area_rows, rows_used, meets_stored, selected_stored, answer_stored, record_stored, passes_stored}
 use Rattle.cache.specs.declared.State.{State}
-use Rattle.cache.specs.Sound.{used_tables, areas_of, query_at}
-use Rattle.cache.specs.Calls.{area_start, table_at, rows_at, rows_over, rows_for, record_at, too_many}
+use Rattle.cache.specs.Sound.{used_tables, areas_of, query_at, table_at}
+use Rattle.cache.specs.Calls.{area_start, rows_at, rows_over, rows_for, record_at, too_many}
 use Rattle.cache.specs.Gives.{read_over, read_for, new_refusal}
 use Rattle.cache.specs.Private.Outcomes.{WorksOut}
 use Rattle.cache.proofs.Invariant.Sound.{Sound, All-first}

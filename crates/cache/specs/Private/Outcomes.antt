@@ -1,5 +1,5 @@
 -- What a question gives, without the state, as the code hands it on; and the state with it. What an update leaves, in the same way. Assumes nothing: these are definitions.
-use Rattle.std.specs.Prelude.{◌≡◌, ◌&&◌, ◌+◌, ◌*◌, ◌≤◌, ◌<◌, Bool, true, List, ℕ, ℤ, length, take, set, Option, Some, None, false, zero, suc, eqb, ltb, get_or}
+use Rattle.std.specs.Prelude.{◌≡◌, ◌&&◌, ◌+◌, ◌*◌, ◌≤◌, ◌<◌, Bool, true, List, ℕ, ℤ, length, take, set, Option, Some, None, Result, Ok, Err, false, zero, suc, eqb, ltb, get_or}
 use Rattle.lists.specs.Lists.{written}
 use Rattle.meaning.specs.Limits.{most_tables, most_queries, most_memory, most_slots, most_slot_bytes, most_updates}
 use Rattle.statement.specs.declared.Table.{Table}
@@ -12,19 +12,21 @@ use Rattle.slots.specs.declared.SlotList.{SlotList}
 use Rattle.slots.specs.declared.Taken.{Taken}
 use Rattle.slots.specs.Order.{sound_slots, is_open, last_taken, drop_of}
 use Rattle.meaning.specs.Plain.{Lengths}
+use Rattle.cache.specs.declared.Note.{Note}
 use Rattle.cache.specs.declared.State.{State}
 use Rattle.cache.specs.declared.Lengths as L
 use Rattle.cache.specs.declared.Kept.{Kept}
 use Rattle.cache.specs.declared.Place.{Place}
 use Rattle.cache.specs.declared.Effect.{Effect}
 use Rattle.cache.specs.Sound.{lengths, areas_of, query_at, length_at}
-use Rattle.cache.specs.SoundTest.{length_fits, sound_key}
+use Rattle.cache.specs.SoundTest.{length_fits, sound_key, sound_state}
 use Rattle.cache.specs.Private.Marks.{marks_both}
 use Rattle.cache.specs.Calls.{Asked, record_at}
-use Rattle.cache.specs.Gives.{ask_gives, with_cache, ask_cached, kept, read_for, new_refusal}
+use Rattle.cache.specs.Gives.{ask_gives, with_cache, ask_cached, kept, read_for, new_refusal, pending_refusal}
 use Rattle.statement.specs.Compiled.{no_query}
 use Rattle.slots.specs.Keys.{slot_key}
-use Rattle.statement.specs.Refusals.{number_in}
+use Rattle.statement.specs.declared.Refusal.{Refusal}
+use Rattle.statement.specs.Refusals.{number_of, number_in}
 use Rattle.cache.specs.declared.Reply.{Reply}
 use Rattle.cache.specs.Given.{source_told, scanned_told, size_told}
 
@@ -122,3 +124,19 @@ key_fits queries k = ltb k.query (length queries) && eqb k.count (get_or queries
 -- both of a slot, for the code
 abbrev pub slot_fits : State → ℕ → Bool
 slot_fits s x = length_fits (length_at s x) s.slot_bytes && sound_key s (slot_key s.keys x)
+
+-- ---- A.8: a note
+
+-- an update that is not refused: of a sound state, by a number that there is, the cells as many as the state's
+pub record Takes (s : State) (lent update : ℕ) : Type 0 where
+  pub sound : sound_state s ≡ true
+  pub cells_are : lent ≡ s.cells
+  pub there : update < s.update_count
+
+abbrev pub Makes : State → ℕ → ℕ → ℕ → Type 0
+Makes s refusal lent update = refusal ≡ 0 → Takes s lent update
+
+-- the note, or the number that a commit or a withdrawal gets
+abbrev pub NotesOr : State → Lengths → Result Note Refusal → Type 0
+NotesOr s l (Ok n) = (pending_refusal s l ≡ 0) × (s.pending ≡ Some n)
+NotesOr s l (Err r) = pending_refusal s l ≡ number_of r

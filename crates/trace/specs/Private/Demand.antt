@@ -1,10 +1,11 @@
 -- The demands as claims, as far as the model of kept answers can say them. Assumes nothing: these are definitions.
 use Rattle.std.specs.Prelude.{◌≡◌, true, false, not, List, ◌++◌, map, ℕ, ◌≤◌, ℤ, length}
+use Rattle.std.proofs.Math.Option.{some}
 use Rattle.lists.specs.Lists.{All, DistinctBy, keep, count, any}
 use Rattle.meaning.specs.Key.{Key, same_key}
-use Rattle.meaning.specs.Plain.{rows_listed, Lengths, Plain, query_at, Opening, refusal, record_of, drops_key, answered}
+use Rattle.meaning.specs.Plain.{rows_listed, Lengths, Plain, query_at, Opening, refusal, record_of, drops_key, answered, Note}
 use Rattle.meaning.specs.Record.{ReadsBack}
-use Rattle.meaning.specs.Call.{Call32, Call, ask, change}
+use Rattle.meaning.specs.Call.{Call32, Call, ask, change, commit, propose}
 use Rattle.meaning.specs.Plain as P
 use Rattle.trace.specs.History.{Event, history, fits_slot, Answered, hits, since, Filled, Ground}
 use Rattle.trace.specs.Private.Slots.{Names, Held, Cache, order, slot_bytes}
@@ -60,12 +61,27 @@ ModelKeptOtherwise = (s : ModelStart) (cs : List (Call ℕ)) → All Call32 cs �
 abbrev pub keys_held : Model → List Key
 keys_held m = map (λ (e : Held Key). e.key) m.cache.held
 
+-- the call c drops so
+abbrev pub DropsMatched : ModelStart → List (Call ℕ) → Call ℕ → ℕ → List ℤ → Type 0
+DropsMatched s cs c n us =
+    (keys_held (step s.opening.lent (slot_size s.opening) (after_calls s cs) c).0
+    ≡ keep (λ (k : Key). not (drops_key (plain_beside s cs) n us k)) (keys_held (after_calls s cs)))
+    × ((next_call s cs c).drops ≡ count (drops_key (plain_beside s cs) n us) (keys_held (after_calls s cs)))
+
 abbrev pub ModelDropsExactlyMatched : Type 0
 ModelDropsExactlyMatched = (s : ModelStart) (cs : List (Call ℕ)) (n : ℕ) (us : List ℤ)
-    → refusal s.opening.lent (plain_beside s cs) (change n us) ≡ 0
-    → (keys_held (step s.opening.lent (slot_size s.opening) (after_calls s cs) (change n us)).0
-    ≡ keep (λ (k : Key). not (drops_key (plain_beside s cs) n us k)) (keys_held (after_calls s cs)))
-    × ((next_call s cs (change n us)).drops ≡ count (drops_key (plain_beside s cs) n us) (keys_held (after_calls s cs)))
+    → refusal s.opening.lent (plain_beside s cs) (change n us) ≡ 0 → DropsMatched s cs (change n us) n us
+
+-- A.8, "the drop count is the commit's": a commit drops what its update does then
+abbrev pub ModelCommitDrops : Type 0
+ModelCommitDrops = (s : ModelStart) (cs : List (Call ℕ)) (x : Note) → (plain_beside s cs).pending ≡ some x
+    → refusal s.opening.lent (plain_beside s cs) commit ≡ 0 → DropsMatched s cs commit x.update x.values
+
+-- "changes nothing but the pending note": a proposal leaves the kept answers, their order and the kept memory
+abbrev pub ModelProposalDropsNothing : Type 0
+ModelProposalDropsNothing = (s : ModelStart) (cs : List (Call ℕ)) (n : ℕ) (us : List ℤ)
+    → ((step s.opening.lent (slot_size s.opening) (after_calls s cs) (propose n us)).0.cache ≡ (after_calls s cs).cache)
+    × ((next_call s cs (propose n us)).drops ≡ 0)
 
 -- The kept answers after a list: each slot is named once, no key is held twice, and each record is the plain store's of now and fits its slot.
 pub record Tidy (n size : ℕ) (lent : Lengths) (p : Plain) (c : Cache Key) : Type 0 where
@@ -90,5 +106,7 @@ pub record Demands : Type 0 where
   pub anew_only_if : ModelAnewOnlyIf
   pub kept_otherwise : ModelKeptOtherwise
   pub drops_exactly_matched : ModelDropsExactlyMatched
+  pub commit_drops : ModelCommitDrops
+  pub proposal_drops_nothing : ModelProposalDropsNothing
   pub kept_reads_back : ModelKeptReadsBack
   pub tidy_after : ModelTidyAfter

@@ -4,9 +4,9 @@ use Rattle.std.specs.Prelude.{Bool, true, false, List, [], ◌∷◌, ℕ, lengt
 use Rattle.std.proofs.Math.Option.{Option, none, some}
 use Rattle.meaning.specs.Key.{Key, same_key}
 use Rattle.meaning.specs.Plain as P
-use Rattle.meaning.specs.Plain.{Lengths, Plain, Opening, opening_refused, ask_conditions, refusal, record_of, too_many, rows_read, drops_key, Out, refused, answered, does, guard}
+use Rattle.meaning.specs.Plain.{Lengths, Plain, Opening, opening_refused, ask_conditions, refusal, record_of, too_many, rows_read, drops_key, Out, refused, answered, does, guard, Note}
 use Rattle.meaning.specs.Refusals.{is_short, kept_conditions, new_conditions, lowest_of}
-use Rattle.meaning.specs.Call.{Call, add, ask, change, flush}
+use Rattle.meaning.specs.Call.{Call, add, ask, change, flush, propose, commit, withdraw}
 use Rattle.trace.specs.History.{fits_slot}
 use Rattle.trace.specs.Private.Slots.{Held, Cache, slot_bytes, empty, find, move_to_front, put, drop_by, drop_count}
 
@@ -56,6 +56,10 @@ module _ (lent : Lengths) (size : ℕ) where
         record { out = answered (slot_bytes size s.cache.memory w.0); kept = 1; scanned = 0; drops = 0 },
       )
 
+  -- a text, a proposal or a withdrawal: the kept answers stay
+  abbrev pub leaving : Model → Call ℕ → Model × Seen
+  leaving s c = (record { store = (does s.store c).0; cache = s.cache }, plainly (does s.store c).1)
+
   -- an update or a flush, that drops the keys that d matches
   abbrev pub dropping : Model → Call ℕ → (Key → Bool) → Model × Seen
   dropping s c d = (
@@ -63,13 +67,19 @@ module _ (lent : Lengths) (size : ℕ) where
     record { out = (does s.store c).1; kept = 0; scanned = 0; drops = drop_count d s.cache },
   )
 
+  -- a commit, that drops what the update of its note does: A.8, "the drop count is the commit's"
+  abbrev pub committing : Model → Option Note → Model × Seen
+  committing s none = leaving s commit
+  committing s (some x) = dropping s commit (drops_key s.store x.update x.values)
+
   abbrev pub step : Model → Call ℕ → Model × Seen
-  step s (add text) =
-      guard (refusal lent s.store (add text)) s turned
-      (record { store = (does s.store (add text)).0; cache = s.cache }, plainly (does s.store (add text)).1)
+  step s (add text) = guard (refusal lent s.store (add text)) s turned (leaving s (add text))
   step s (ask k buffer) = guard (ask_refusal lent s.store k) s turned (asked s k buffer (find same_key k s.cache.held))
   step s (change n us) = guard (refusal lent s.store (change n us)) s turned (dropping s (change n us) (drops_key s.store n us))
   step s flush = guard (refusal lent s.store flush) s turned (dropping s flush (λ k. true))
+  step s (propose n us) = guard (refusal lent s.store (propose n us)) s turned (leaving s (propose n us))
+  step s commit = guard (refusal lent s.store commit) s turned (committing s s.store.pending)
+  step s withdraw = guard (refusal lent s.store withdraw) s turned (leaving s withdraw)
 
   -- the model after a list of calls, each given what the one before it left; what each gets
   abbrev pub after : Model → List (Call ℕ) → Model

@@ -5,7 +5,6 @@ use Rattle.meaning.specs.Plain.{Lengths}
 use Rattle.meaning.specs.Refusals.{flush_conditions, lowest_of}
 use Rattle.cache.specs.declared.State.{State}
 use Rattle.cache.specs.Calls.{unfit}
-use Rattle.cache.specs.Gives.{with_cache}
 use Rattle.cache.proofs.Returns.Flushing.{flush-refused, flush-done}
 use Rattle.cache.proofs.State.flush.Goals as goal
 
@@ -13,7 +12,6 @@ abbrev refused_by : State → Lengths → ℕ
 refused_by s l = lowest_of (flush_conditions (unfit s l))
 
 pub returns-then-is_ok : goal.returns-then-is_ok
-unfolding with_cache
 returns-then-is_ok c = flush-done c.args.self _ c.check-result.result (c.check-result.ensures ∙ ap (refused_by c.args.self) c.«of».ensures) (sym c.is_ok.ensures.value ∙ c.if-is_ok.true) _ c.clear-self.ensures
 
 pub returns-else-is_ok : goal.returns-else-is_ok
