@@ -45,7 +45,7 @@ sound_texts s =
 
 -- "kept lengths are from 8 to the slot's bytes"
 abbrev pub length_fits : ℕ → ℕ → Bool
-length_fits length bytes = leb least_slot_bytes length && leb length bytes
+length_fits size bytes = leb least_slot_bytes size && leb size bytes
 
 abbrev pub sound_lengths : State → Bool
 sound_lengths s = all (λ (x : ℕ). length_fits (length_at s x) s.slot_bytes) (held_slots s.slots)
