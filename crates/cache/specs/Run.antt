@@ -37,7 +37,7 @@ opened_by o = open_of o.cells o.memory o.slots o.slot_bytes
 abbrev pub opened : Start → Store
 opened o = store_of (opened_by o)
 
--- ---- the calls, each with the answer buffer that it is asked with
+-- ---- what a call gets
 
 -- what a call gets, 0 where it gets no such thing: the refusal's number, kind and number of a statement, the record's length, rows inserted, matched or deleted; and the
 -- answer buffer as it is then. Besides: 1 for a kept answer, rows read, and kept answers dropped
@@ -152,5 +152,5 @@ abbrev pub plain_after : Start → List (Call (List ℕ)) → Plain
 plain_after o cs = P.after (opening_of o).lent (P.opened (opening_of o)) (map plain_call cs)
 
 abbrev pub plain_gets : Lengths → Plain → List (Call (List ℕ)) → List Got
-plain_gets lengths_lent p [] = []
-plain_gets lengths_lent p (c ∷ cs) = got_of (buffer_of c) (P.step lengths_lent p (plain_call c)).1 ∷ plain_gets lengths_lent (P.step lengths_lent p (plain_call c)).0 cs
+plain_gets lent p [] = []
+plain_gets lent p (c ∷ cs) = got_of (buffer_of c) (P.step lent p (plain_call c)).1 ∷ plain_gets lent (P.step lent p (plain_call c)).0 cs

@@ -273,11 +273,3 @@ module _ (r : Row) (us qs : List ℤ) (cs : Clause) (met : meets (joint_value r 
       ∙ agrees_from us qs (λ k. entry cs (suc k)) λ k.
       entry-agrees us (value_at qs (suc k)) (constants (class cs (asked (suc k)))) (update_marks (class cs (asked (suc k))))
       (class-constants (asked (suc k))) (class-marks (asked (suc k)))
-
--- rule 6: a clause that it removes is never met
-pub contradictory-unmet : (r : Row) (us qs : List ℤ) (cs : Clause) → contradictory cs ≡ true → meets (joint_value r us qs) cs ≡ false
-contradictory-unmet r us qs cs h = go (meets (joint_value r us qs) cs) refl
-  where
-    go : (b : Bool) → meets (joint_value r us qs) cs ≡ b → b ≡ false
-    go true e = clash h (not-contradictory r us qs cs e)
-    go false e = refl

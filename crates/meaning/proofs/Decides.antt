@@ -107,11 +107,6 @@ module _ {C : Type 0} {col : C → List Token → List Token} {a_column : Reader
       bind-sound (condition_sound n conjunction) (λ c.
       passing-sound (bind-sound (condition_sound n disjunction) (λ d. done-sound _ (λ ts. refl))) (done-sound _ (λ ts. refl)))
 
-  -- what the reader finds is spelled by the tokens that it was given
-  pub sound-condition : (n : ℕ) (l : Level) (ts : List Token) (c : Tree (Test C) l) (more : List Token) → a_condition a_column n l ts ≡ some (c, more)
-      → ts ≡ spell_condition col c more
-  sound-condition n l = sound-read (condition_sound n l)
-
 -- ROWS or RING
 abbrev pub spell_size : Bool → List Token → List Token
 spell_size ring more = keyword (size_word ring) ∷ more

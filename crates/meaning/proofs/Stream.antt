@@ -136,21 +136,10 @@ first_then_rest s = go (first_token s) refl
 
 -- ---- spaces
 
--- texts with one first token have the same tokens
-pub tokens-same : (s u : List ℕ) → first_token s ≡ first_token u → tokens s ≡ tokens u
-tokens-same s u e = go (first_token s) refl
-  where
-    go : (o : Option (Token × List ℕ)) → first_token s ≡ o → tokens s ≡ tokens u
-    go none q = tokens_none s q ∙ sym (tokens_none u (sym e ∙ q))
-    go (some x) q = tokens-some s x.0 x.1 q ∙ sym (tokens-some u x.0 x.1 (sym e ∙ q))
-
 -- spaces in front change nothing
 pub first-spaces : (s : List ℕ) → first_token (drop_while is_space s) ≡ first_token s
 unfolding first_token
 first-spaces s = ap token_here (drop-twice is_space s)
-
-pub tokens-spaces : (s : List ℕ) → tokens (drop_while is_space s) ≡ tokens s
-tokens-spaces s = tokens-same (drop_while is_space s) s (first-spaces s)
 
 -- there is no first token exactly if all bytes are spaces
 pub first-none : (s : List ℕ) → (first_token s ≡ none) ↔ (all is_space s ≡ true)

@@ -61,7 +61,7 @@ no_place c (G.delete t w) = leb most_updates c.updates
 
 -- 6 to 9, of a sentence beside the tables; 15, A.1: "looked for after 8"
 abbrev pub sentence_conditions : Bool → Bool → Bool → Bool → Bool → Conditions
-sentence_conditions unknown_name taken miscounted twice full = (6, unknown_name) ∷ (7, taken) ∷ (8, miscounted) ∷ (15, twice) ∷ (9, full) ∷ []
+sentence_conditions unknown taken miscounted twice full = (6, unknown) ∷ (7, taken) ∷ (8, miscounted) ∷ (15, twice) ∷ (9, full) ∷ []
 
 -- of a text and the sentence that it is, if it is one
 abbrev pub text_conditions : Catalog → List ℕ → Option Sentence → Conditions
