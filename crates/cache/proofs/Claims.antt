@@ -3,3 +3,4 @@ pub mod Openings
 pub mod Accepted
 pub mod Answered
 pub mod Proposed
+pub mod Order

@@ -11,11 +11,12 @@ use mathlib.Core.Logic.{◌≢◌, ◌⊎◌, inl, inr}
 use mathlib.Core.Bool.{Bool, true, false, cond}
 use mathlib.Core.Option.{Option, none, some}
 use Rattle.std.proofs.lemmas.Simd.{map-map}
-use mathlib.Core.List.{List, [], ◌∷◌, map}
+use mathlib.Core.List.{List, [], ◌∷◌, ◌++◌, map}
 use Prim.Native.Nat.{ℕ, zero, suc, ◌+◌}
 use native.Mathlib.Omega.{arith}
 use lib.ListN.{length, drop}
-use Rattle.lists.specs.Lists.{All, written}
+use Rattle.std.specs.Prelude.{sum_by}
+use Rattle.lists.specs.Lists.{All, any, written}
 use Rattle.lists.proofs.Lists.{All-map, All-left, All-image}
 use Rattle.meaning.specs.Key.{Key, same_key}
 use Rattle.meaning.specs.Plain.{rows_listed, Lengths, Plain, opening_refused, Out, refused, added, answered, rows, flushed, withdrawn, record_of, Note, committed, guard, refusal}
@@ -26,49 +27,35 @@ use Rattle.meaning.specs.Demand.{refusal_in, rows_in}
 use Rattle.meaning.proofs.Proposed as M₁
 use Rattle.meaning.proofs.Proposed.{standing-same}
 use Rattle.meaning.specs.Plain as P
-use Rattle.trace.specs.History.{Ground}
-use Rattle.trace.specs.Private.Slots.{Held, slot_bytes, find}
+use Rattle.trace.specs.History.{fits_slot, asked_by, keys_asked, Answered, hits, since, Ground, never, too_large, dropped, crowded}
 use Rattle.trace.specs.Private.Model as T
 use Rattle.trace.specs.Private.Model.{Model, turned, asked}
 use Rattle.trace.specs.Private.Demand as D
-use Rattle.trace.proofs.Demand.{stored-after, demands as on-model}
+use Rattle.trace.proofs.Enough.{uncrowded}
+use Rattle.trace.proofs.Demand.{AskGets, turned_away, from_slot, worked_out, ask-gets, stored-after, demands as on-model}
 use Rattle.cache.specs.Run.{Start, Store, Seen, opening_of, opened, Got, step, after, gets, plain_call, buffer_of, got_of, plain_after, plain_gets}
 use Rattle.cache.specs.Means.{Means}
-use Rattle.cache.specs.Demand.{SameAsPlain, slot_count, slot_size, history_of, next_ask, AnewOnlyIf, ThirdDemand, StandsInList, DropsInList, KeptOtherwise, RowsRead, AnswerReadsBack, proposal_after, CommitAsProposed, Demands}
+use Rattle.cache.specs.Demand.{Larger, KeptInLarger, SameInBoth, ReadsNoMore, SameAsPlain, slot_count, slot_size, history_of, next_ask, EnoughSlots, AnewOnlyIf, ThirdDemand, StandsInList, DropsInList, CommitDropsInList, KeptOtherwise, RowsRead, AnswerReadsBack, proposal_after, CommitAsProposed, Demands}
 use Rattle.cache.proofs.Invariant.Sentence.{sound_exactly_if}
-use Rattle.cache.proofs.Claims.Openings.{opens_exactly_if, opening_taken, opening-refused, flush_drops_all}
+use Rattle.cache.proofs.Claims.Openings.{opens_exactly_if, opening_taken, opening-refused, not-refused, flush_drops_all}
 use Rattle.cache.proofs.Claims.Accepted.{accepted_exactly_if}
-use Rattle.cache.proofs.Claims.Answered.{new_answer, kept_answer}
-use Rattle.cache.proofs.Claims.Proposed.{proposal_notes_only, commit_does_it}
+use Rattle.cache.proofs.Claims.Answered.{new_answer, kept_answer, kept_moves_order}
+use Rattle.cache.proofs.Claims.Order.{order_of_use}
+use Rattle.cache.proofs.Claims.Proposed.{proposal_notes_only, commit_does_it, commit_drops_exactly_matched, withdraw_exactly_if, withdraw_takes_note}
 use Rattle.cache.proofs.Claims.Refusals.{lowest_number, rings_never_full, refused_changes_nothing}
 use Rattle.cache.proofs.Invariant.Stays.{opens_sound, stays_sound}
 use Rattle.cache.proofs.Refinement.Standing.{stands_for_plain}
 use Rattle.cache.proofs.Refinement.Calls.{does_as_plain}
 use Rattle.cache.proofs.Refinement.Dropping.{drops_exactly_matched}
 use Rattle.cache.proofs.Refinement.CallsOfModel.{Meets, patterns-mean}
-use Rattle.cache.proofs.Refinement.ListsOfCalls.{Follows, follows-opened, gots_of, plain-gets, meets, follows-after, follows-gets}
+use Rattle.cache.proofs.Refinement.ListsOfCalls.{Follows, follows-opened, gots_of, plain-gets, meets, follows-after, follows-gets, follows-sum}
 
 -- ---- a question that is not refused is answered
 
-abbrev AskOut : Out → Type 0
-AskOut o = ((n : ℕ) × (o ≡ refused (suc n))) ⊎ ((r : List ℕ) × (o ≡ answered r))
-
-guard_out : (n : ℕ) (m : Model) (q : Model × T.Seen) → AskOut q.1.out → AskOut (P.guard n m turned q).1.out
-guard_out zero m q a = a
-guard_out (suc n) m q a = inl (n, refl)
-
-ask_out : (lent : Lengths) (size : ℕ) (m : Model) (k : Key) (b : ℕ) → AskOut (T.step lent size m (ask k b)).1.out
-ask_out lent size m k b = guard_out (T.ask_refusal lent m.store k) m _ (go (find same_key k m.cache.held))
-  where
-    go : (o : Option (Held Key × List (Held Key))) → AskOut (asked lent size m k b o).1.out
-    go none = guard_out (T.new_refusal m.store k b) m _ (inr (_, refl))
-    go (some w) = guard_out (T.short_refusal b (slot_bytes size m.cache.memory w.0)) m _ (inr (_, refl))
-
-answer_of : (buffer : List ℕ) (o : Out) → AskOut o → (g : Got) → g ≡ got_of buffer o → g.refusal ≡ 0 → (r : List ℕ) × (o ≡ answered r)
-answer_of buffer o (inl (n, e)) g i z =
-    let a : 0 ≡ suc n = sym z ∙ ap (λ (x : Got). x.refusal) (i ∙ ap (got_of buffer) e) in
-    absurd (omega arith)
-answer_of buffer o (inr a) g i z = a
+answer_of : (buffer : List ℕ) {m : Model} {k : Key} (x : T.Seen) → AskGets m k x → (g : Got) → g ≡ got_of buffer x.out → g.refusal ≡ 0 → (r : List ℕ) × (x.out ≡ answered r)
+answer_of buffer x (turned_away n) g i z = let a : 0 ≡ suc n = sym z ∙ ap (λ (y : Got). y.refusal) i in absurd (omega arith)
+answer_of buffer x (from_slot r h) g i z = (r, refl)
+answer_of buffer x (worked_out r h) g i z = (r, refl)
 
 -- ---- demand 3
 
@@ -120,7 +107,7 @@ module _ (o : Start) (cs : List (Call (List ℕ))) (k : Key) (buffer : List ℕ)
   next = meets (follows o cs) (ask k buffer)
 
   next-answer : (next_ask o cs k buffer).got.refusal ≡ 0 → (r : List ℕ) × ((D.next_call (start_of o) (map plain_call cs) (ask k (length buffer))).out ≡ answered r)
-  next-answer e = answer_of buffer _ (ask_out _ _ (D.after_calls (start_of o) (map plain_call cs)) k (length buffer)) _ next.got e
+  next-answer e = answer_of buffer _ (ask-gets _ _ (D.after_calls (start_of o) (map plain_call cs)) k (length buffer)) _ next.got e
 
 pub anew_only_if : AnewOnlyIf
 anew_only_if o cs v k buffer e z =
@@ -134,38 +121,42 @@ kept_otherwise o cs v k buffer e asked fit hit few =
     (next o cs k buffer).kept
     ∙ on-model.kept_otherwise (start_of o) (map plain_call cs) (calls-32 cs v) k (length buffer) a.0 a.1 asked (rw (size_is o) fit) hit (rw (size_is o, slots-are o) few)
 
--- what a question gets in the model: a refusal, a kept answer and no row read, or the rows of its table or its two read
-abbrev AskSeen : Model → Key → T.Seen → Type 0
-AskSeen m k x = ((n : ℕ) × (x.out ≡ refused (suc n))) ⊎ (((x.kept ≡ 1) × (x.scanned ≡ 0)) ⊎ ((x.kept ≡ 0) × (x.scanned ≡ P.rows_read m.store k)))
-
-guard-seen : (n : ℕ) (m : Model) (k : Key) (q : Model × T.Seen) → AskSeen m k q.1 → AskSeen m k (P.guard n m turned q).1
-guard-seen zero m k q a = a
-guard-seen (suc n) m k q a = inl (n, refl)
-
-ask-seen : (lent : Lengths) (size : ℕ) (m : Model) (k : Key) (b : ℕ) → AskSeen m k (T.step lent size m (ask k b)).1
-ask-seen lent size m k b = guard-seen (T.ask_refusal lent m.store k) m k _ (go (find same_key k m.cache.held))
+asked-plain : (cs : List (Call (List ℕ))) → keys_asked (map plain_call cs) ≡ keys_asked cs
+asked-plain [] = refl
+asked-plain (c ∷ cs) = ap₂ ◌++◌ (go c) (asked-plain cs)
   where
-    go : (o : Option (Held Key × List (Held Key))) → AskSeen m k (asked lent size m k b o).1
-    go none = guard-seen (T.new_refusal m.store k b) m k _ (inr (inr (refl, refl)))
-    go (some w) = guard-seen (T.short_refusal b (slot_bytes size m.cache.memory w.0)) m k _ (inr (inl (refl, refl)))
+    go : (c : Call (List ℕ)) → asked_by (plain_call c) ≡ asked_by c
+    go (add text) = refl
+    go (ask k buffer) = refl
+    go (change n us) = refl
+    go flush = refl
+    go (propose n us) = refl
+    go commit = refl
+    go withdraw = refl
+
+pub enough_slots : EnoughSlots
+enough_slots o cs v k buffer ks le all e z = go (anew_only_if o cs v k buffer e z)
+  where
+    go : Ground same_key (slot_count o) (slot_size o) (record_of (plain_after o cs) k) k (history_of o cs)
+        → (¬ Answered k (history_of o cs))
+        ⊎ ((fits_slot (slot_size o) (record_of (plain_after o cs) k) ≡ false) ⊎ (any (hits k) (since same_key k (history_of o cs)) ≡ true))
+    go (never a) = inl a
+    go (too_large f) = inr (inl f)
+    go (dropped d) = inr (inr d)
+    go (crowded c) = absurd (uncrowded (slot_count o) (opening_of o).lent (P.opened (opening_of o)) (map plain_call cs) k ks le (rw (asked-plain cs) all) c)
 
 pub rows-read : RowsRead
-rows-read o cs k buffer e = go (ask-seen (opening_of o).lent (T.slot_size (opening_of o)) (D.after_calls (start_of o) (map plain_call cs)) k (length buffer))
+rows-read o cs k buffer e =
+    go _ (ask-gets (opening_of o).lent (T.slot_size (opening_of o)) (D.after_calls (start_of o) (map plain_call cs)) k (length buffer)) (next o cs k buffer).got
+    (next o cs k buffer).kept (next o cs k buffer).scanned
   where
-    go : AskSeen (D.after_calls (start_of o) (map plain_call cs)) k (D.next_call (start_of o) (map plain_call cs) (ask k (length buffer)))
+    go : (x : T.Seen) → AskGets (D.after_calls (start_of o) (map plain_call cs)) k x
+        → (next_ask o cs k buffer).got ≡ got_of buffer x.out → (next_ask o cs k buffer).kept ≡ x.kept → (next_ask o cs k buffer).scanned ≡ x.scanned
         → ((next_ask o cs k buffer).kept ≡ 0 → (next_ask o cs k buffer).scanned ≡ P.rows_read (plain_after o cs) k)
         × ((next_ask o cs k buffer).kept ≢ 0 → (next_ask o cs k buffer).scanned ≡ 0)
-    go (inl (n, y)) =
-        let a : 0 ≡ suc n = sym e ∙ ap (λ (x : Got). x.refusal) ((next o cs k buffer).got ∙ ap (got_of buffer) y) in
-        absurd (omega arith)
-    go (inr (inl y)) = (
-      (λ z. let a : ◌≡◌ {A = ℕ} 0 1 = sym z ∙ (next o cs k buffer).kept ∙ y.0 in absurd (omega arith)),
-      (λ z. (next o cs k buffer).scanned ∙ y.1),
-    )
-    go (inr (inr y)) = (
-      (λ z. (next o cs k buffer).scanned ∙ y.1 ∙ ap (λ (p : Plain). P.rows_read p k) (stored-after (start_of o) (map plain_call cs))),
-      (λ z. absurd (z ((next o cs k buffer).kept ∙ y.0))),
-    )
+    go x (turned_away n) g i j = let a : 0 ≡ suc n = sym e ∙ ap (λ (y : Got). y.refusal) g in absurd (omega arith)
+    go x (from_slot r h) g i j = (λ z. let a : ◌≡◌ {A = ℕ} 0 1 = sym z ∙ i in absurd (omega arith), λ z. j)
+    go x (worked_out r h) g i j = (λ z. j ∙ ap (λ (p : Plain). P.rows_read p k) (stored-after (start_of o) (map plain_call cs)), λ z. absurd (z i))
 
 -- ---- the list as a whole
 
@@ -183,6 +174,10 @@ stands_in_list o cs =
 pub drops_in_list : DropsInList
 drops_in_list o cs n us =
     drops_exactly_matched patterns-mean (after (opened o) cs) n us (plain_after o cs) (follows o cs).typed (follows o cs).sound (stands_in_list o cs)
+
+pub commit_drops_in_list : CommitDropsInList
+commit_drops_in_list o cs x =
+    commit_drops_exactly_matched patterns-mean (after (opened o) cs) x (plain_after o cs) (follows o cs).typed (follows o cs).sound (stands_in_list o cs)
 
 pub answer_reads_back : AnswerReadsBack
 answer_reads_back o cs v k buffer e =
@@ -248,6 +243,38 @@ commit_as_proposed o cs v z =
     let (x, i, e) = (M₁.commit_as_proposed (opening_of o) (map plain_call cs) (step s commit).1.got.rows).0 r in
     (x, proposal-same o cs v ∙ i, e)
 
+-- ---- A.12
+
+-- the two openings, as the model has them
+larger : (o l : Start) → Larger o l → D.ModelLarger (start_of o) (start_of l)
+larger o l g = record {
+  small_taken = not-refused o g.small_taken;
+  large_taken = not-refused l g.large_taken;
+  same_cells = g.same_cells;
+  same_bytes = g.same_bytes;
+  more_slots = g.more_slots;
+}
+
+pub kept_in_larger : KeptInLarger
+kept_in_larger o l g cs v k buffer e =
+    (next l cs k buffer).kept
+    ∙ on-model.kept_in_larger (start_of o) (start_of l) (larger o l g) (map plain_call cs) (calls-32 cs v) k (length buffer) (sym (next o cs k buffer).kept ∙ e)
+
+pub same_in_both : SameInBoth
+same_in_both o l g cs v =
+    follows-gets (follows-opened o) cs
+    ∙ ap (gots_of cs) (on-model.same_in_both (start_of o) (start_of l) (larger o l g) (map plain_call cs) (calls-32 cs v))
+    ∙ sym (follows-gets (follows-opened l) cs)
+
+pub reads_no_more : ReadsNoMore
+reads_no_more o l g cs v =
+    let kept-is : (o : Start) → sum_by (λ (x : Seen). x.kept) (gets (opened o) cs) ≡ sum_by (λ (x : T.Seen). x.kept) (D.calls_get (start_of o) (map plain_call cs)) =
+    λ o. follows-sum (λ x. x.kept) (λ x. x.kept) (λ s b r q m. m.kept) _ _ (follows-opened o) cs 0 in
+    let read-is : (o : Start) → sum_by (λ (x : Seen). x.scanned) (gets (opened o) cs) ≡ sum_by (λ (x : T.Seen). x.scanned) (D.calls_get (start_of o) (map plain_call cs)) =
+    λ o. follows-sum (λ x. x.scanned) (λ x. x.scanned) (λ s b r q m. m.scanned) _ _ (follows-opened o) cs 0 in
+    let m = on-model.reads_no_more (start_of o) (start_of l) (larger o l g) (map plain_call cs) (calls-32 cs v) in
+    (rw (kept-is o, kept-is l) m.0, rw (read-is l, read-is o) m.1)
+
 -- ---- all claims
 
 pub demands : Demands
@@ -266,17 +293,27 @@ demands = record {
   does_as_plain = does_as_plain;
   new_answer = new_answer;
   kept_answer = kept_answer;
+  kept_moves_order = kept_moves_order;
   drops_exactly_matched = drops_exactly_matched patterns-mean;
+  commit_drops_exactly_matched = commit_drops_exactly_matched patterns-mean;
   flush_drops_all = flush_drops_all;
+  order_of_use = order_of_use;
   third_demand = third_demand;
   same_as_plain = same_as_plain;
   anew_only_if = anew_only_if;
   stands_in_list = stands_in_list;
   drops_in_list = drops_in_list;
+  commit_drops_in_list = commit_drops_in_list;
   kept_otherwise = kept_otherwise;
+  enough_slots = enough_slots;
   rows-read = rows-read;
   answer_reads_back = answer_reads_back;
   proposal_notes_only = proposal_notes_only;
   commit_does_it = commit_does_it;
+  withdraw_exactly_if = withdraw_exactly_if;
+  withdraw_takes_note = withdraw_takes_note;
   commit_as_proposed = commit_as_proposed;
+  kept_in_larger = kept_in_larger;
+  same_in_both = same_in_both;
+  reads_no_more = reads_no_more;
 }

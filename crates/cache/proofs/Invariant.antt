@@ -10,3 +10,4 @@ pub mod Asked
 pub mod Updated
 pub mod Noted
 pub mod Stays
+pub mod TypesSay

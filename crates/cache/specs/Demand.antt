@@ -1,7 +1,8 @@
 -- The user's three demands, about the calls as the program makes them: `Gives` is what the contracts of the code say that it gives and leaves. Each claim stands below
 -- its sentence, and is proved in proofs/Demand. Assumes nothing: these are definitions.
-use Rattle.std.specs.Prelude.{◌≡◌, ◌≢◌, ◌⊎◌, ◌↔◌, true, false, not, cond, List, [], ◌∷◌, ◌++◌, map, ℕ, ◌+◌, ◌*◌, ◌≤◌, ◌<◌, ℤ, pos, nat_abs, length, get_or, replicate, Some, None}
+use Rattle.std.specs.Prelude.{◌≡◌, ◌≢◌, ◌⊎◌, ◌↔◌, true, false, not, cond, List, [], ◌∷◌, ◌++◌, map, ℕ, ◌+◌, ◌*◌, ◌≤◌, ◌<◌, ℤ, pos, nat_abs, length, take, get_or, replicate, sum_by, Some, None}
 use Rattle.lists.specs.Lists.{All, any, keep, count, from, written}
+use Rattle.lists.specs.Tests.{is_yes}
 use Rattle.meaning.specs.Key.{Key, same_key}
 use Rattle.meaning.specs.Demand.{Proposal, standing}
 use Rattle.meaning.specs.Plain.{rows_listed, Plain, schemas, Opening, opening_refused, record_of, drops_key}
@@ -15,9 +16,9 @@ use Rattle.meaning.specs.Grammar.{items, Sentence, spell}
 use Rattle.meaning.specs.Names.{Schema, unknown_name, taken, miscounted, twice}
 use Rattle.meaning.specs.Statement.{creates, asks, changes, statement_of}
 use Rattle.meaning.specs.Plain as P
-use Rattle.trace.specs.History.{Event, history, fits_slot, Answered, hits, since, Filled, Ground}
+use Rattle.trace.specs.History.{Event, history, fits_slot, OneOf, keys_asked, Answered, hits, since, Filled, Ground}
 use Rattle.statement.specs.Sound.{Passes}
-use Rattle.slots.specs.Keys.{Found, key_read, slot_key, slots_of}
+use Rattle.slots.specs.Keys.{Found, key_read, slot_key, slots_of, held_slots}
 use Rattle.cache.specs.declared.State.{State}
 use Rattle.cache.specs.Sound.{lengths, opening, sizes_of, used_tables, schemas_in, areas_of, length_at, keys_in, OpeningWithin, IsSound, note_read, table_at, update_at}
 use Rattle.cache.specs.SoundTest.{sound_state}
@@ -26,7 +27,7 @@ use Rattle.cache.specs.Calls.{unfit, add_conditions_in, ask_conditions, change_c
 use Rattle.cache.specs.Gives.{note_of}
 use Rattle.cache.specs.declared.Note.{Note}
 use Rattle.std.proofs.Math.Option.{Option, none, some}
-use Rattle.cache.specs.Run.{Store, Start, opening_of, opened_by, opened, Seen, lent_by, step, after, gets, plain_call, buffer_of, got_of, plain_after, plain_gets}
+use Rattle.cache.specs.Run.{Store, Start, opening_of, opened_by, opened, Got, Seen, lent_by, step, after, gets, plain_call, buffer_of, got_of, plain_after, plain_gets}
 
 -- ---- Demand 1: "If a call brings a text, number, state or lent memory that the store can't take, it gives the refusal number of document 01 and changes nothing. Every
 -- other call ends with its work done." That each call ends, and touches no place outside the lent memories, is what it means for the code to be proved.
@@ -50,9 +51,11 @@ conditions s withdraw = pending_conditions s.state (lent_by s)
 abbrev pub LowestNumber : Type 0
 LowestNumber = (s : Store) (c : Call (List ℕ)) → Lowest (conditions s c) (step s c).1.got.refusal
 
--- A.4, of a ring: "12 isn't given for it"
+-- A.4, of a ring: "12 isn't given for it", neither to an update nor to its proposal; and to no commit, whatever its table, since 12 was looked for when it was proposed
 abbrev pub RingsNeverFull : Type 0
-RingsNeverFull = (s : Store) (n : ℕ) (vs : List ℤ) → (table_at s.state (update_at s.state n).table).ring ≡ true → (step s (change n vs)).1.got.refusal ≢ 12
+RingsNeverFull = (s : Store) (n : ℕ) (vs : List ℤ)
+    → ((table_at s.state (update_at s.state n).table).ring ≡ true → ((step s (change n vs)).1.got.refusal ≢ 12) × ((step s (propose n vs)).1.got.refusal ≢ 12))
+    × ((step s commit).1.got.refusal ≢ 12)
 
 -- "State and lent memories come back as they came, other results are 0"
 abbrev pub refused_with : ℕ → List ℕ → Seen
@@ -190,6 +193,12 @@ KeptAnswer = (s : Store) (k : Key) (buffer : List ℕ) → Typed s.state → sou
     → let r : Seen = (step s (ask k buffer)).1 in
     r.got.refusal ≡ 0 → r.kept ≢ 0 → ItsSlotsBytes s k buffer r
 
+-- and of the store the order of use alone changes: tables, statements, the note, the keys and lengths of all answers, which slots are held, and both memories are as they were. Of every state
+abbrev pub KeptMovesOrder : Type 0
+KeptMovesOrder = (s : Store) (k : Key) (buffer : List ℕ)
+    → let r : Store × Seen = step s (ask k buffer) in
+    r.1.got.refusal ≡ 0 → r.1.kept ≢ 0 → r.0 ≡ record s { state = record s.state { slots = record s.state.slots { order = r.0.state.slots.order } } }
+
 -- "The kept answers an update drops are exactly those matched by the patterns"; A.7: under its premises "a matched answer is dropped exactly if some row of 32-bit numbers .. through
 -- the update, enters or leaves what the question takes, or is taken before and after and alters in a selected column" (`Plain.drops_key`, `Exact.drops`)
 abbrev pub keys_held : Store → List Key
@@ -201,9 +210,49 @@ DropsExactlyMatched = (s : Store) (n : ℕ) (us : List ℤ) (p : Plain) → Type
     → (keys_held (step s (change n us)).0 ≡ keep (λ (k : Key). not (drops_key p n us k)) (keys_held s))
     × ((step s (change n us)).1.drops ≡ count (drops_key p n us) (keys_held s))
 
+-- and of a commit those that the update of the note drops, with the note's values: "the drop count is the commit's"
+abbrev pub CommitDropsExactlyMatched : Type 0
+CommitDropsExactlyMatched = (s : Store) (x : P.Note) (p : Plain) → Typed s.state → sound_state s.state ≡ true → Means s.state s.cells p → p.pending ≡ some x
+    → (step s commit).1.got.refusal ≡ 0
+    → (keys_held (step s commit).0 ≡ keep (λ (k : Key). not (drops_key p x.update x.values k)) (keys_held s))
+    × ((step s commit).1.drops ≡ count (drops_key p x.update x.values) (keys_held s))
+
 -- "flush (drop every kept answer)"; "Drops put held slots first and free ones after, each in the order they had."
 abbrev pub FlushDropsAll : Type 0
 FlushDropsAll = (s : Store) → (step s flush).1.got.refusal ≡ 0 → (keys_held (step s flush).0 ≡ []) × ((step s flush).0.state.slots.order ≡ s.state.slots.order)
+
+-- ---- "Slots", on every sound state, reached from an opening or not: the order of use, and which answers are kept
+
+-- the kept answers, the one used last in front: each with its key and its record
+abbrev pub answers_held : Store → List (Key × List ℕ)
+answers_held s = map (λ (x : ℕ). (key_read (slot_key s.state.keys x), bytes_at s.state s.memory x)) (held_slots s.state.slots)
+
+-- "A kept answer found moves its slot to the front. A new record that fits a slot takes the last slot and moves it to the front.": an answer that is given comes to the front if its
+-- record fits a slot; the others follow in the order that they had, and of more than there are slots the last one goes
+abbrev pub with_used : State → Key → List ℕ → List (Key × List ℕ) → List (Key × List ℕ)
+with_used s k r xs = cond (fits_slot s.slot_bytes r) (take s.slots.count ((k, r) ∷ keep (λ (x : Key × List ℕ). not (is_yes (same_key x.0 k))) xs)) xs
+
+-- those of an update go that it drops, with their records, and the others keep their order
+abbrev pub without_dropped : Plain → ℕ → List ℤ → List (Key × List ℕ) → List (Key × List ℕ)
+without_dropped p n us xs = keep (λ (x : Key × List ℕ). not (drops_key p n us x.0)) xs
+
+abbrev pub without_noted : Plain → Option P.Note → List (Key × List ℕ) → List (Key × List ℕ)
+without_noted p none xs = xs
+without_noted p (some x) xs = without_dropped p x.update x.values xs
+
+-- the answers kept after a call that is taken: a text, a proposal and a withdrawal leave them, records and order; the record of a question is what it got
+abbrev pub answers_after : Store → Plain → Call (List ℕ) → Got → List (Key × List ℕ)
+answers_after s p (add text) g = answers_held s
+answers_after s p (ask k buffer) g = with_used s.state k (take g.size g.answer) (answers_held s)
+answers_after s p (change n us) g = without_dropped p n us (answers_held s)
+answers_after s p flush g = []
+answers_after s p (propose n us) g = answers_held s
+answers_after s p commit g = without_noted p p.pending (answers_held s)
+answers_after s p withdraw g = answers_held s
+
+abbrev pub OrderOfUse : Type 0
+OrderOfUse = (s : Store) (c : Call (List ℕ)) (p : Plain) → Typed s.state → sound_state s.state ≡ true → Means s.state s.cells p → (step s c).1.got.refusal ≡ 0
+    → answers_held (step s c).0 ≡ answers_after s p c (step s c).1.got
 
 -- ---- Demand 3: "For every opening and every list of calls after it (adding, asking, updating, flushing), refused ones included, each given the state that the last one
 -- returned and the opening's memories as it left them, which only the store writes: every call gets the refusal number, the statement's kind and number, the record and
@@ -264,6 +313,14 @@ DropsInList = (o : Start) (cs : List (Call (List ℕ))) (n : ℕ) (us : List ℤ
     → (keys_held (step s (change n us)).0 ≡ keep (λ (k : Key). not (drops_key p n us k)) (keys_held s))
     × ((step s (change n us)).1.drops ≡ count (drops_key p n us) (keys_held s))
 
+abbrev pub CommitDropsInList : Type 0
+CommitDropsInList = (o : Start) (cs : List (Call (List ℕ))) (x : P.Note)
+    → let s : Store = after (opened o) cs in
+    let p : Plain = plain_after o cs in
+    p.pending ≡ some x → (step s commit).1.got.refusal ≡ 0
+    → (keys_held (step s commit).0 ≡ keep (λ (k : Key). not (drops_key p x.update x.values k)) (keys_held s))
+    × ((step s commit).1.drops ≡ count (drops_key p x.update x.values) (keys_held s))
+
 -- The converse, by the slot rules: a question that was answered before, whose record fits, with no matching update or flush since, and with fewer different others than
 -- there are slots answered since with records that fit, is kept.
 abbrev pub KeptOtherwise : Type 0
@@ -285,6 +342,15 @@ abbrev pub AnswerReadsBack : Type 0
 AnswerReadsBack = (o : Start) (cs : List (Call (List ℕ))) → All Call32 cs → (k : Key) (buffer : List ℕ) → (next_ask o cs k buffer).got.refusal ≡ 0
     → ReadsBack (next_ask o cs k buffer).got.answer (length (P.query_at (plain_after o cs) k.query).selected) (rows_listed (plain_after o cs) k)
 
+-- How many slots are enough: where there are at least as many as different questions with values in the list, none is ever pushed out by the others. What is worked out anew was never answered, doesn't
+-- fit, or was dropped since. `ks` has all that are asked.
+abbrev pub EnoughSlots : Type 0
+EnoughSlots = (o : Start) (cs : List (Call (List ℕ))) → All Call32 cs → (k : Key) (buffer : List ℕ) (ks : List Key)
+    → length ks ≤ slot_count o → All (λ j. OneOf j ks) (k ∷ keys_asked cs)
+    → (next_ask o cs k buffer).got.refusal ≡ 0 → (next_ask o cs k buffer).kept ≡ 0
+    → (¬ Answered k (history_of o cs))
+    ⊎ ((fits_slot (slot_size o) (record_of (plain_after o cs) k) ≡ false) ⊎ (any (hits k) (since same_key k (history_of o cs)) ≡ true))
+
 -- ---- A.8: "An update may be proposed: it gives the rows it would insert, match or delete, and changes nothing but the pending note in the state."
 
 -- on every state; of what it gives, and of the plain store's note, `DoesAsPlain` and `ThirdDemand` speak
@@ -297,6 +363,14 @@ abbrev pub CommitDoesIt : Type 0
 CommitDoesIt = (s : Store) (n : Note) → Typed s.state → (step s commit).1.got.refusal ≡ 0 → s.state.pending ≡ Some n
     → step s commit ≡ step s (change n.update (note_read n).values)
 
+-- a withdrawal is taken exactly where there is a note, on a sound state with the opening's lengths; and it takes away the note alone. Both of every state
+abbrev pub WithdrawExactlyIf : Type 0
+WithdrawExactlyIf = (s : Store) → ((step s withdraw).1.got.refusal ≡ 0)
+    ↔ ((sound_state s.state ≡ true) × (length s.cells ≡ s.state.cells) × (length s.memory ≡ s.state.memory) × ((n : Note) × (s.state.pending ≡ Some n)))
+
+abbrev pub WithdrawTakesNote : Type 0
+WithdrawTakesNote = (s : Store) → (step s withdraw).1.got.refusal ≡ 0 → (step s withdraw).0 ≡ record s { state = record s.state { pending = None } }
+
 -- "in a list as in demand 3 an accepted commit's row count equals the one proposed": a proposal stands (`standing`: by what the calls before it got), and the rows that it gave are the commit's
 abbrev pub proposal_after : Start → List (Call (List ℕ)) → Option Proposal
 proposal_after o cs = standing (λ (x : Seen). x.got.refusal) (λ (x : Seen). x.got.rows) none cs (gets (opened o) cs)
@@ -304,6 +378,34 @@ proposal_after o cs = standing (λ (x : Seen). x.got.refusal) (λ (x : Seen). x.
 abbrev pub CommitAsProposed : Type 0
 CommitAsProposed = (o : Start) (cs : List (Call (List ℕ))) → All Call32 cs → (step (after (opened o) cs) commit).1.got.refusal ≡ 0
     → (x : Proposal) × (proposal_after o cs ≡ some x) × (x.rows ≡ (step (after (opened o) cs) commit).1.got.rows)
+
+-- ---- A.12: "two stores, neither opening refused, opened alike but for the number of slots and the kept memory for them, and sent the same calls, each with its own state
+-- and memories as in demand 3, mark a question as kept in the larger whenever it is kept in the smaller. All calls count, refused ones and sums brought up to date included."
+
+-- alike: as many cells, whatever stands in them, since an opening clears them; and as many bytes a slot, so that a record fits a slot of both or of neither. The larger has
+-- twice the slots, or any number that is no smaller
+pub record Larger (o l : Start) : Type 0 where
+  pub small_taken : (opened_by o).result.refusal ≡ 0
+  pub large_taken : (opened_by l).result.refusal ≡ 0
+  pub same_cells : length o.cells ≡ length l.cells
+  pub same_bytes : o.slot_bytes ≡ l.slot_bytes
+  pub more_slots : o.slots ≤ l.slots
+
+-- a question in the middle of a list stands behind the calls before it
+abbrev pub KeptInLarger : Type 0
+KeptInLarger = (o l : Start) → Larger o l → (cs : List (Call (List ℕ))) → All Call32 cs → (k : Key) (buffer : List ℕ)
+    → (next_ask o cs k buffer).kept ≡ 1 → (next_ask l cs k buffer).kept ≡ 1
+
+-- and every call gets the same from both but for that mark, the rows read and the drops
+abbrev pub SameInBoth : Type 0
+SameInBoth = (o l : Start) → Larger o l → (cs : List (Call (List ℕ))) → All Call32 cs
+    → map (λ (x : Seen). x.got) (gets (opened o) cs) ≡ map (λ (x : Seen). x.got) (gets (opened l) cs)
+
+-- so the larger gives at least as many answers from memory, and reads no more rows, over the whole list
+abbrev pub ReadsNoMore : Type 0
+ReadsNoMore = (o l : Start) → Larger o l → (cs : List (Call (List ℕ))) → All Call32 cs
+    → (sum_by (λ (x : Seen). x.kept) (gets (opened o) cs) ≤ sum_by (λ (x : Seen). x.kept) (gets (opened l) cs))
+    × (sum_by (λ (x : Seen). x.scanned) (gets (opened l) cs) ≤ sum_by (λ (x : Seen). x.scanned) (gets (opened o) cs))
 
 -- ---- all of these
 
@@ -322,16 +424,26 @@ pub record Demands : Type 0 where
   pub does_as_plain : DoesAsPlain
   pub new_answer : NewAnswer
   pub kept_answer : KeptAnswer
+  pub kept_moves_order : KeptMovesOrder
   pub drops_exactly_matched : DropsExactlyMatched
+  pub commit_drops_exactly_matched : CommitDropsExactlyMatched
   pub flush_drops_all : FlushDropsAll
+  pub order_of_use : OrderOfUse
   pub third_demand : ThirdDemand
   pub same_as_plain : SameAsPlain
   pub anew_only_if : AnewOnlyIf
   pub stands_in_list : StandsInList
   pub drops_in_list : DropsInList
+  pub commit_drops_in_list : CommitDropsInList
   pub kept_otherwise : KeptOtherwise
+  pub enough_slots : EnoughSlots
   pub rows-read : RowsRead
   pub answer_reads_back : AnswerReadsBack
   pub proposal_notes_only : ProposalNotesOnly
   pub commit_does_it : CommitDoesIt
+  pub withdraw_exactly_if : WithdrawExactlyIf
+  pub withdraw_takes_note : WithdrawTakesNote
   pub commit_as_proposed : CommitAsProposed
+  pub kept_in_larger : KeptInLarger
+  pub same_in_both : SameInBoth
+  pub reads_no_more : ReadsNoMore

@@ -13,10 +13,12 @@ ghost use Rattle.table.specs.Evaluated.{said};
 ghost use Rattle.table.specs.Changed.{cells_after};
 ghost use Rattle.slots.specs.Keys.{key_of, find_of};
 ghost use Rattle.cache.specs.Sound.{lengths, opening, areas_of, update_at, note_read};
+ghost use Rattle.cache.specs.Means.{Typed};
 ghost use Rattle.cache.specs.SoundTest.{sound_state, sound_counts, sound_tables, sound_answers, would_refuse, sound_note};
 ghost use Rattle.cache.specs.Private.Outcomes.{lent_in, nowhere, no_answer, settled_state, outcome_of, Caches, WorksOut, Room, Keeps, Effective, no_effect, effect_of, told, has_place, Makes, NotesOr};
 ghost use Rattle.cache.specs.Given.{opened_as, added_as, asked_as, updated_as, flushed_as, proposed_as};
 ghost use Rattle.cache.specs.Calls.{lengths_lent, unfit};
+ghost use Rattle.cache.specs.Demand.{ThirdDemand, Demands};
 ghost use Rattle.cache.specs.Gives.{open_of, add_of, ask_of, update_of, flush_of, empty_state, open_gives, added_by, ask_gives, ask_refusal, kept_bytes, ask_new, ask_found, update_gives, update_refusal, update_refused, update_done, note_of, would_do, propose_of, commit_of, withdraw_of};
 
 use slots::{Key, SlotList};
@@ -236,6 +238,11 @@ impl State {
 
     pub const MEMORY: usize = 262144;
 
+    // What its type says of a state, of which the claims about states speak: the lengths of its arrays, and 32 bits of constants. It does nothing.
+    pub fn fits_type(self)
+        ensures { Typed self }
+    {}
+
     // ---- what is in use
 
     fn used_tables(&self) -> &[Table]
@@ -358,7 +365,8 @@ impl State {
         slots: usize,
         slot_bytes: usize,
     ) -> Outcome<()>
-        ensures { open_gives (opened_as result.result result.state) cells.new memory.new ≡ open_of cells.old memory.old slots slot_bytes }
+        ensures opens { open_gives (opened_as result.result result.state) cells.new memory.new ≡ open_of cells.old memory.old slots slot_bytes }
+        ensures third_demand { ThirdDemand }
     {
         let count = cells.len();
         let size = memory.len();
@@ -768,3 +776,9 @@ impl Question<'_> {
         table::select_pair(q, t, start, u, beside, cells, self.values, answer)
     }
 }
+
+// All claims of specs/Demand hold. A theorem is proved only where a contract names it: this function is there to name them, and does nothing. (The third demand, which is of an
+// opening and the calls after it, stands in the contract of `State::open` as well.)
+pub fn claims_hold()
+    ensures { Demands }
+{}

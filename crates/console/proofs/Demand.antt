@@ -27,6 +27,7 @@ use Rattle.console.specs.Lines.{Command, command_of}
 use Rattle.console.specs.Printed.{refused_text, answer_text}
 use Rattle.console.specs.Desk.{text_of, buffer_after, Answered, called, lending, commanded, answered_of, printed_for}
 use Rattle.console.proofs.Calling.{written-length}
+use Rattle.console.proofs.Prints.{decimal-back, value-back, answer-short, text-short, all-printed}
 use Rattle.console.proofs.Values.{calls-32}
 use Rattle.console.specs.Demand.{BadChangesNothing, refusal_of, RefusedChangesNothing, Unsaid, seen_with, plain_called, plain_commanded, lines_of, plain_printed, PrintsAsPlain, BufferDoesNotMatter, calls_by, calls_for, LinesMakeCalls, unsaid_by, seen_after, said_of, PrintsItsCalls, TablesAsPlain, AnewOnlyIf, Demands}
 
@@ -312,4 +313,9 @@ demands = record {
   prints_its_calls = prints_its_calls;
   tables_as_plain = tables_as_plain;
   anew_only_if = anew_only_if;
+  number_reads_back = decimal-back;
+  value_reads_back = value-back;
+  answer_text_short = answer-short;
+  text_short = text-short;
+  all_printed = all-printed;
 }

@@ -1,10 +1,4 @@
--- Laws of what is printed, for readers.
---     decimal-back    a number's digits read back as that number, and are digits only
---     value-back      a value's text is a value of a line, and the same
---     answer-short    the text of an answer has at most 7 bytes for 2 of the answer's, and 33
---     text-short      what is printed for a line has at most 262,144 bytes, where at most 65,536 are lent for answers
---     all-printed     a buffer as long as a text holds all of it
--- Assumes nothing.
+-- The claims of specs/Demand about what is printed: it reads back, is short, and is printed whole. Assumes nothing.
 use mathlib.Core.Path.{◌≡◌, refl, sym, ap, ap₂, ◌∙◌, subst}
 use mathlib.Core.Bool.{Bool, true, false, cond}
 use mathlib.Core.Option.{none, some}
@@ -34,6 +28,7 @@ use Rattle.meaning.specs.Call.{Call, add, ask, change, flush}
 use Rattle.cache.specs.Run.{Store, Seen, step}
 use Rattle.console.specs.Lines.{whole_token, word_value, Command, command_of}
 use Rattle.console.specs.Printed.{digits_in, decimal_text, number_text, line, item, refused_text, added_text, updated_text, row_text, further_text, rows_text, rows_shown, source_word, answer_text}
+use Rattle.console.specs.Demand.{NumberReadsBack, ValueReadsBack, AnswerTextShort, TextShort, AllPrinted}
 use Rattle.console.specs.Desk.{done_text, called, lending, commanded, answered_of}
 use Rattle.console.proofs.Digits.{digits-one, digits_more}
 use Rattle.console.proofs.Shown.{limits}
@@ -75,7 +70,7 @@ digits-only (suc k) n = go (dec_lt n 10) (digits-only k (n / 10))
         ∙ all_append is_digit (digits_in k (n / 10)) ((48 + n % 10) ∷ [])
         ∙ and_both _ _ e (digit-is (n % 10) (omega arith))
 
-pub decimal-back : (n : ℕ) → n < 10 ^ 20 → (decimal (decimal_text n) ≡ n) × (all is_digit (decimal_text n) ≡ true)
+pub decimal-back : NumberReadsBack
 unfolding decimal decimal_text
 decimal-back n h = (digits-back 19 n h, digits-only 20 n)
 
@@ -151,7 +146,7 @@ unfolding word_value
 minus-value [] l h k = absurd (omega arith)
 minus-value (b ∷ w) l h k = ap whole_token (minus-token b w h) ∙ within _ k
 
-pub value-back : (z : ℤ) → is_within32 z ≡ true → word_value (number_text z) ≡ some z
+pub value-back : ValueReadsBack
 unfolding number_text
 value-back (pos n) h =
     let s : n ≤ 2147483647 = leb-true n 2147483647 (and_right true (leb n 2147483647) h) in
@@ -259,7 +254,7 @@ source-length kept = go (eqb kept 0)
     go true = omega arith
     go false = omega arith
 
-pub answer-short : (kept scanned : ℕ) (bs : List ℕ) → 2 * length (answer_text kept scanned bs) ≤ 7 * length bs + 66
+pub answer-short : AnswerTextShort
 unfolding answer_text
 answer-short kept scanned bs = simp length-append (omega (arith, source-length kept, decimal-most scanned, shown-length bs))
 
@@ -298,12 +293,12 @@ text-length : (s : Store) (buffer line : List ℕ) → Short (length buffer) (an
 unfolding answered_of
 text-length s buffer line = command-short s buffer (command_of line)
 
-pub text-short : (s : Store) (buffer line : List ℕ) → length buffer ≤ 65536 → length (answered_of s buffer line).text ≤ 262144
+pub text-short : TextShort
 text-short s buffer line h = omega (arith, h, text-length s buffer line)
 
 -- ---- a buffer that is long enough
 
-pub all-printed : (out text : List ℕ) → length text ≤ length out → (filled_to out 0 text ≡ length text) × (take (length text) (filled out 0 text) ≡ text)
+pub all-printed : AllPrinted
 all-printed out text h =
     let e : fitting out 0 text ≡ text = take_all (length out - 0) text (omega arith) in (
       (let z : 0 + length (fitting out 0 text) ≡ length text = omega (arith, ap length e) in z),

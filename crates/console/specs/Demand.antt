@@ -1,6 +1,6 @@
 -- Demands 1 and 3 of lines: what `desk` prints is what the same lines print on the plain store of document 01, but for what that store does not have: kept or new, rows
 -- read, and drops. Each claim stands below its sentence, and is proved in proofs/Demand. Assumes nothing: these are definitions.
-use Rattle.std.specs.Prelude.{◌≡◌, ◌≢◌, List, [], ◌∷◌, ℕ, length}
+use Rattle.std.specs.Prelude.{◌≡◌, ◌≢◌, true, List, [], ◌∷◌, ℕ, ◌+◌, ◌*◌, ◌^◌, ◌≤◌, ◌<◌, ℤ, length, take}
 use Rattle.meaning.specs.Plain as P
 use Rattle.meaning.specs.Plain.{Lengths, Plain, record_of}
 use Rattle.std.proofs.Math.Option.{none, some}
@@ -10,8 +10,12 @@ use Rattle.trace.specs.History.{Ground}
 use Rattle.cache.specs.Means.{tables_in}
 use Rattle.cache.specs.Run.{Store, Start, opening_of, opened, Got, Seen, step, after, gets, plain_call, buffer_of, got_of, plain_after}
 use Rattle.cache.specs.Demand.{slot_count, slot_size, history_of}
-use Rattle.console.specs.Lines.{Command, command_of}
-use Rattle.console.specs.Printed.{bad_text, refused_text}
+use Rattle.lists.specs.Lists.{all}
+use Rattle.meaning.specs.Limits.{is_within32}
+use Rattle.meaning.specs.Tokens.{is_digit, decimal}
+use Rattle.console.specs.Room.{filled, filled_to}
+use Rattle.console.specs.Lines.{word_value, Command, command_of}
+use Rattle.console.specs.Printed.{decimal_text, number_text, bad_text, refused_text, answer_text}
 use Rattle.console.specs.Desk.{text_of, buffer_after, lending, answered_of, printed_for}
 
 -- ---- a bad line, and a line whose call is refused, change nothing
@@ -135,6 +139,27 @@ AnewOnlyIf = (o : Start) (buffer : List ℕ) (ls : List (List ℕ)) (k : Key) (l
     → (step (store_after (opened o) buffer ls) (ask k lent)).1.kept ≡ 0
     → Ground same_key (slot_count o) (slot_size o) (record_of (plain_after o (calls_for (opened o) buffer ls)) k) k (history_of o (calls_for (opened o) buffer ls))
 
+-- ---- what is printed reads back, and has room
+
+-- a number of at most 20 digits, as all of 64 bits are: its text has digits alone, and they are read as that number
+abbrev pub NumberReadsBack : Type 0
+NumberReadsBack = (n : ℕ) → n < 10 ^ 20 → (decimal (decimal_text n) ≡ n) × (all is_digit (decimal_text n) ≡ true)
+
+-- a value of an answer: its text is a value of a line, and the same one
+abbrev pub ValueReadsBack : Type 0
+ValueReadsBack = (z : ℤ) → is_within32 z ≡ true → word_value (number_text z) ≡ some z
+
+-- of n bytes of an answer the text has at most 3.5 n + 33; and where at most 65,536 are lent for answers, no line prints more than 262,144
+abbrev pub AnswerTextShort : Type 0
+AnswerTextShort = (kept scanned : ℕ) (bs : List ℕ) → 2 * length (answer_text kept scanned bs) ≤ 7 * length bs + 66
+
+abbrev pub TextShort : Type 0
+TextShort = (s : Store) (buffer line : List ℕ) → length buffer ≤ 65536 → length (answered_of s buffer line).text ≤ 262144
+
+-- a buffer that is as long as a text holds all of it
+abbrev pub AllPrinted : Type 0
+AllPrinted = (out text : List ℕ) → length text ≤ length out → (filled_to out 0 text ≡ length text) × (take (length text) (filled out 0 text) ≡ text)
+
 -- ---- all of these
 
 pub record Demands : Type 0 where
@@ -146,3 +171,8 @@ pub record Demands : Type 0 where
   pub prints_its_calls : PrintsItsCalls
   pub tables_as_plain : TablesAsPlain
   pub anew_only_if : AnewOnlyIf
+  pub number_reads_back : NumberReadsBack
+  pub value_reads_back : ValueReadsBack
+  pub answer_text_short : AnswerTextShort
+  pub text_short : TextShort
+  pub all_printed : AllPrinted

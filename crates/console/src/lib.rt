@@ -7,6 +7,7 @@ mod writer; // a lent buffer that is filled from a place on
 
 ghost use Rattle.std.specs.Prelude.{◌≡◌, []};
 ghost use Rattle.meaning.specs.Call.{add, ask, change, flush};
+ghost use Rattle.console.specs.Demand.{Demands};
 ghost use Rattle.console.specs.Desk.{replies, reply_of};
 ghost use Rattle.console.specs.Private.Commands.{reply_to};
 
@@ -153,3 +154,8 @@ fn respond_flush(state: State, cells: &[i32], memory: &[u8], out: &mut [u8]) -> 
         state: outcome.state,
     }
 }
+
+// All claims of specs/Demand hold. A theorem is proved only where a contract names it: this function is there to name them, and does nothing.
+pub fn claims_hold()
+    ensures { Demands }
+{}

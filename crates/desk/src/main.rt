@@ -1,6 +1,8 @@
-// The program of document 01: lines from standard input, what is printed for them to standard output.
+// The program of document 01: lines from standard input, what is printed for them to standard output. It ends with an error where it can't read or write them.
 #![tactic(auto)]
 
-fn main(rt: HostRuntime) {
-    serve::serve(&mut rt.stdin(), &mut rt.stdout());
+use std::io;
+
+fn main(rt: HostRuntime) -> io::Result<()> {
+    serve::serve(&mut rt.stdin(), &mut rt.stdout())
 }

@@ -20,20 +20,10 @@ use Rattle.meaning.specs.Operator.{Operator, eq, ne, lt, le, gt, ge, related, is
 use Rattle.meaning.specs.Condition.{Comparison, sides, holds}
 use Rattle.meaning.specs.Meaning.{Row, cell, value_at}
 use Rattle.meaning.specs.Pattern.{Joint, Joint-discrete, column, constant, asked, given, Clause, same, rename, join, labels_on, label, class, constants, update_marks, differ, strict, never_of, false_of, broken, contradictory, Entry, lowest, class_entry, entry, pattern, agrees_at, agrees}
+use Rattle.meaning.specs.Demand.{Linked, itself, joined, reversed, through, ClassesLinked}
 use Rattle.meaning.proofs.Clauses.{meets}
 
 -- ---- the labels
-
--- x = y
-abbrev pub equals : Joint → Joint → Comparison Joint
-equals x y = record { left = x; op = by eq; right = y }
-
--- the equivalence that the `=` comparisons of a clause generate
-pub data Linked (cs : Clause) : Joint → Joint → Type 0 where
-  itself : {x : Joint} → Linked cs x x
-  joined : {x y : Joint} → Member (equals x y) cs → Linked cs x y
-  reversed : {x y : Joint} → Member (equals x y) cs → Linked cs y x
-  through : {x y z : Joint} → Linked cs x y → Linked cs y z → Linked cs x z
 
 pub linked-back : {cs : Clause} {x y : Joint} → Linked cs x y → Linked cs y x
 linked-back itself = itself
@@ -122,6 +112,9 @@ labels-linked cs x y = (λ e. through (subst (Linked cs x) e (own x)) (linked-ba
   where
     own : (x : Joint) → Linked cs x (label cs x)
     own = label-within (Linked cs) (λ x. itself) (λ x y h. linked-back h) (λ x y z h k. through h k) cs (clause-joins cs)
+
+pub classes_linked : ClassesLinked
+classes_linked = labels-linked
 
 -- ---- lists of numbers that are all w
 

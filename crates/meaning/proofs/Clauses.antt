@@ -16,6 +16,7 @@ use Rattle.meaning.specs.Operator.{Operator, eq, ne, lt, le, gt, ge, related, co
 use Rattle.meaning.specs.Condition.{Comparison, Level, Condition, compare, negate, group, alone, both, single, either, Where, always, under, comparisons, sides, operands_in, depth, holds, eval, eval_where, opposed, clauses, clauses_of, clause_count, count_of, mapped, renamed, replaced_in}
 use Rattle.meaning.specs.Statement.{Operand, Query, Change, insert, delete, update}
 use Rattle.meaning.specs.Pattern.{Joint, column, of_query, of_update, moved, placed_from, replacing, query_clauses, update_clauses, both_clauses, joint_clauses, joint_count}
+use Rattle.meaning.specs.Demand.{ClausesMean, ClausesCount}
 
 -- a clause holds where all of its comparisons do
 abbrev pub meets : {O : Type 0} → (O → ℤ) → List (Comparison O) → Bool
@@ -263,3 +264,11 @@ module _ (q : Query) where
   joint-length k (update ss g) =
       length-append (both_clauses k g column q) (both_clauses k g (replacing (moved k ss)) q)
       ∙ ap₂ ◌+◌ (both-length k g column) (both-length k g (replacing (moved k ss))) ∙ omega arith
+
+-- ---- as claims
+
+pub clauses_mean : ClausesMean
+clauses_mean = (clauses_of-mean, clauses_of-mean)
+
+pub clauses_count : ClausesCount
+clauses_count = record { of_condition = clauses_of-count; of_joint = λ k q c. joint-length q k c }

@@ -6,6 +6,9 @@ use Rattle.meaning.proofs.SameText.{same_tokens, same_text}
 use Rattle.meaning.proofs.Spelling.{has_text, keywords_remain}
 use Rattle.meaning.proofs.Numbering.{marks_numbered}
 use Rattle.meaning.proofs.Limits.{within_exactly_if}
+use Rattle.meaning.proofs.Withdrawn.{withdraw_exactly_if, withdraw_takes_note}
+use Rattle.meaning.proofs.Clauses.{clauses_mean, clauses_count}
+use Rattle.meaning.proofs.Classes.{classes_linked}
 use Rattle.meaning.proofs.Accepted.{lowest_number, refused_changes_nothing, reads_exactly, one_sentence, accepted_exactly_if, accepted_is_added}
 use Rattle.meaning.proofs.Record.{record_reads_back}
 use Rattle.meaning.proofs.Within32.{answer_reads_back}
@@ -40,6 +43,9 @@ demands = record {
   patterns_weaken = patterns_weaken;
   pushed_weakens = pushed_weakens;
   answer_stays = answer_stays;
+  clauses_mean = clauses_mean;
+  clauses_count = clauses_count;
+  classes_linked = classes_linked;
   null_unknown = null_unknown;
   others_known = others_known;
   three_values = three_values;
@@ -56,6 +62,8 @@ demands = record {
   affected_matched = affected_matched;
   stays_undropped = stays_undropped;
   proposal_gives_rows = proposal_gives_rows;
+  withdraw_exactly_if = withdraw_exactly_if;
+  withdraw_takes_note = withdraw_takes_note;
   proposal_notes_only = proposal_notes_only;
   note_held = note_held;
   commit_does_it = commit_does_it;

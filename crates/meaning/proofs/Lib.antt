@@ -24,8 +24,11 @@ pub mod Nulls
 pub mod Exact
 pub mod Stays
 pub mod Proposed
+pub mod Alike
 pub mod Drops
 pub mod Demand
+pub mod Withdrawn
+pub mod Computed
 pub mod Postfix
 pub mod Outer
 pub mod Written

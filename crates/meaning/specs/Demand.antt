@@ -7,6 +7,9 @@ use Rattle.lists.specs.Lists.{All, bytes, any, all, from, pairs}
 use Rattle.meaning.specs.Operator as O
 use Rattle.meaning.specs.Operator.{Operator, related, null, is_null, Truth, known, not₃, and₃, or₃, Predicate, by, is-null, is-not-null, compared, truth, opposite}
 use Rattle.meaning.specs.Condition.{Comparison, Condition, disjunction, under, eval, operands_in}
+use mathlib.Core.List.{Memᴰ as Member}
+use Rattle.meaning.specs.Condition.{Where, holds, eval_where, clauses_of, count_of}
+use Rattle.meaning.specs.Pattern.{label, joint_clauses, joint_count}
 use Rattle.meaning.specs.Tokens as T
 use Rattle.meaning.specs.Tokens.{Token, Keyword, Name, is_small, is_capital, is_word_byte, is_name, folded, keywords, is_keyword, word, first_token, tokens}
 use Rattle.meaning.specs.Grammar.{Sentence, spell}
@@ -203,6 +206,35 @@ AnswerStays = (q : Query) (qs : List ℤ) (u : Update) (us : List ℤ) (out rows
     → All (StandsBeside q (side_of q u)) others → same_table q u ≡ true → matches_two q u out us qs ≡ false
     → answer q qs (rows_beside q.second (side_of q u) (changed u.change us rows) others) ≡ answer q qs (rows_beside q.second (side_of q u) (out ++ rows) others)
 
+-- ---- What the patterns are worked out of (REFERENCE 6.5): the clauses of a condition, how many they are, and the classes of a clause's operands
+
+-- a condition is true exactly if all comparisons of one of its clauses are, whatever its operands are worth: of a statement, and of the joint formula
+abbrev pub ClausesMeanOf : Type 0 → Type 0
+ClausesMeanOf O = (v : O → ℤ) (w : Where O) → any (all (holds v)) (clauses_of w) ≡ eval_where v w
+
+abbrev pub ClausesMean : Type 0
+ClausesMean = ClausesMeanOf Operand × ClausesMeanOf Joint
+
+-- the clauses of a condition, and those of the joint formula of a question and an update, are as many as are counted without listing them
+pub record ClausesCount : Type 0 where
+  pub of_condition : (w : Where Operand) → length (clauses_of w) ≡ count_of w
+  pub of_joint : (k : ℕ) (q : Query) (c : Change) → length (joint_clauses k q c) ≡ joint_count q c
+
+-- x = y
+abbrev pub equals : Joint → Joint → Comparison Joint
+equals x y = record { left = x; op = by O.eq; right = y }
+
+-- the equivalence that the `=` comparisons of a clause generate
+pub data Linked (cs : Clause) : Joint → Joint → Type 0 where
+  itself : {x : Joint} → Linked cs x x
+  joined : {x y : Joint} → Member (equals x y) cs → Linked cs x y
+  reversed : {x y : Joint} → Member (equals x y) cs → Linked cs y x
+  through : {x y z : Joint} → Linked cs x y → Linked cs y z → Linked cs x z
+
+-- operands are in one class, as their labels say, exactly if `=` links them
+abbrev pub ClassesLinked : Type 0
+ClassesLinked = (cs : Clause) (x y : Joint) → (label cs x ≡ label cs y) ↔ Linked cs x y
+
 -- ---- A.5: "From now on -2147483648 is the null of ISO/IEC 9075."
 
 -- "A comparison with it is unknown": by each of the six operators, with the null on either side or on both
@@ -366,6 +398,14 @@ note_of (some x) = some x.note
 abbrev pub NoteHeld : Type 0
 NoteHeld = (o : Opening) (cs : List (Call ℕ)) → (after o.lent (opened o) cs).pending ≡ note_of (proposal_after o cs)
 
+-- a withdrawal is taken exactly if an update is proposed, with the lengths of the opening; ..
+abbrev pub WithdrawExactlyIf : Type 0
+WithdrawExactlyIf = (lent : Lengths) (p : Plain) → (refusal lent p withdraw ≡ 0) ↔ ((other_lengths lent p ≡ false) × ((x : Note) × (p.pending ≡ some x)))
+
+-- .. it takes the proposal away, and leaves all else
+abbrev pub WithdrawTakesNote : Type 0
+WithdrawTakesNote = (lent : Lengths) (p : Plain) → refusal lent p withdraw ≡ 0 → step lent p withdraw ≡ (record p { pending = none }, P.withdrawn)
+
 -- "A commit then does it": what the update that is proposed would do then, and give
 abbrev pub CommitDoesIt : Type 0
 CommitDoesIt = (o : Opening) (cs : List (Call ℕ)) (x : Proposal) → proposal_after o cs ≡ some x
@@ -403,6 +443,9 @@ pub record Demands : Type 0 where
   pub patterns_weaken : PatternsWeaken
   pub pushed_weakens : PushedWeakens
   pub answer_stays : AnswerStays
+  pub clauses_mean : ClausesMean
+  pub clauses_count : ClausesCount
+  pub classes_linked : ClassesLinked
   pub null_unknown : NullUnknown
   pub others_known : OthersKnown
   pub three_values : ThreeValues
@@ -420,6 +463,8 @@ pub record Demands : Type 0 where
   pub stays_undropped : StaysUndropped
   pub proposal_gives_rows : ProposalGivesRows
   pub proposal_notes_only : ProposalNotesOnly
+  pub withdraw_exactly_if : WithdrawExactlyIf
+  pub withdraw_takes_note : WithdrawTakesNote
   pub note_held : NoteHeld
   pub commit_does_it : CommitDoesIt
   pub commit_as_proposed : CommitAsProposed

@@ -67,7 +67,7 @@ judged j =
       drops_key p 0 j.given k,
     )
 
-abbrev Hold : List Judged → Type 0
+abbrev pub Hold : List Judged → Type 0
 Hold js = map judged js ≡ map (λ (j : Judged). (true, j.matched, j.dropped)) js
 
 -- ---- "some row of 32-bit numbers, null allowed, meets the update's condition and, through the update, enters or leaves what the question takes"

@@ -276,6 +276,58 @@ pub caught-8 : Holds (row slips 8)
 unfolding computing
 caught-8 = (refl, refl)
 
+-- which clauses go (REFERENCE 6.5): a condition of one comparison, and the patterns of the question with it beside an update
+abbrev patterns_beside : String → String → Bool × List Pattern
+patterns_beside u c =
+    let cs : List (Call ℕ) = add (bytes S) ∷ add (bytes "SELECT site FROM stage WHERE " ++ bytes c) ∷ add (bytes u) ∷ [] in
+    (all is_taken (outs six start cs), patterns (query_at (after six start cs) 0) (update_at (after six start cs) 0))
+
+abbrev pub Beside : String → List (String × List Pattern) → Type 0
+Beside u xs = map (λ (x : String × List Pattern). patterns_beside u x.0) xs ≡ map (λ (x : String × List Pattern). (true, x.1)) xs
+
+abbrev pub every_row : String
+every_row = "DELETE FROM stage"
+
+-- `<>`, `<` and `>` between two sides of one class are never true, and `=`, `<=` and `>=` may be
+abbrev pub one_class : List (String × List Pattern)
+one_class =
+    ("site <> site", [])
+    ∷ ("site < site", [])
+    ∷ ("site > site", [])
+    ∷ ("site = site", [] ∷ [])
+    ∷ ("site <= site", [] ∷ [])
+    ∷ ("site >= site", [] ∷ [])
+    ∷ []
+
+pub one-class-hold : Beside every_row one_class
+unfolding computing
+one-class-hold = refl
+
+abbrev pub seven : String
+seven = "INSERT INTO stage VALUES (3, 7)"
+
+-- and between constants each comparison is what it is of these numbers
+abbrev pub of_constants : List (String × List Pattern)
+of_constants =
+    ("level = 6", [])
+    ∷ ("level <> 7", [])
+    ∷ ("level < 5", [])
+    ∷ ("level < 7", [])
+    ∷ ("level <= 6", [])
+    ∷ ("level > 7", [])
+    ∷ ("level >= 8", [])
+    ∷ ("level = 7", [] ∷ [])
+    ∷ ("level <> 6", [] ∷ [])
+    ∷ ("level < 8", [] ∷ [])
+    ∷ ("level <= 7", [] ∷ [])
+    ∷ ("level > 6", [] ∷ [])
+    ∷ ("level >= 7", [] ∷ [])
+    ∷ []
+
+pub of-constants-hold : Beside seven of_constants
+unfolding computing
+of-constants-hold = refl
+
 -- ---- request A.2: names from the service keypad
 
 -- "The new keypad types capitals only.": a text as it comes from there

@@ -20,6 +20,7 @@ pub mod Plain
 pub mod Demand
 pub mod Examples
 pub mod Edges
+pub mod Computed
 pub mod Paired
 pub mod Rings
 pub mod Nulls

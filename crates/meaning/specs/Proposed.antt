@@ -92,11 +92,13 @@ pub refused_leave : Gets ((PROPOSE (insert 8 9), rows 1)
 unfolding computing
 refused_leave = refl
 
--- 12: an INSERT into a full table is not proposed, and one that is refused leaves the note; a DELETE counts what it would delete
+-- 12: an INSERT into a full table is not proposed, and one that is refused leaves the note; the number of its values is looked at before; a DELETE counts what it would delete
 pub full_table : Gets ((DO (insert 8 9), rows 1)
     ∷ (PROPOSE (above 100), rows 2)
     ∷ (PROPOSE (insert 8 9), refused 12)
     ∷ (DO (insert 8 9), refused 12)
+    ∷ (PROPOSE (0, 8 ∷ []), refused 11)
+    ∷ (DO (0, 8 ∷ []), refused 11)
     ∷ (commit, rows 2)
     ∷ (PROPOSE (insert 8 9), rows 1)
     ∷ [])
@@ -145,6 +147,16 @@ pub updated : Gets ((PROPOSE (level 5 7), rows 2)
     ∷ [])
 unfolding computing
 updated = refl
+
+-- the rows that an UPDATE gives are those that it matches, also where they have the value already: one of the two, then both
+pub matched : Gets ((PROPOSE (level 120 7), rows 2)
+    ∷ (DO (level 120 7), rows 2)
+    ∷ (PROPOSE (level 120 7), rows 2)
+    ∷ (commit, rows 2)
+    ∷ (ASK 7, levels (120 ∷ 120 ∷ []))
+    ∷ [])
+unfolding computing
+matched = refl
 
 -- "an accepted text of any kind": a question, an update, a table
 pub text_added : Gets ((PROPOSE (above 0), rows 2)

@@ -20,7 +20,8 @@ use Rattle.meaning.specs.Operator.{eq, ne, lt, le, gt, ge, null, is_null, Predic
 use Rattle.meaning.specs.Condition.{Comparison, sides, renamed}
 use Rattle.meaning.specs.Limits.{is_within32}
 use Rattle.meaning.specs.Pattern.{Joint, Joint-discrete, column, constant, asked, given, Clause, same, label, class, constants, update_marks, differ, strict, never_of, false_of, broken, contradictory, mark, lowest, mark_entry, class_entry, entry}
-use Rattle.meaning.proofs.Classes.{Linked, itself, joined, reversed, through, linked-back, Joins, clause-joins, labels-linked, constants-have, marks-have, differ-none}
+use Rattle.meaning.specs.Demand.{Linked, itself, joined, reversed, through}
+use Rattle.meaning.proofs.Classes.{linked-back, Joins, clause-joins, labels-linked, constants-have, marks-have, differ-none}
 use Rattle.pattern.specs.Private.Least.{marks_from, code_of, is_constant, constant_code, code_constant, Coded, coded, rename_code, join_least, least_on, least, clashes, clashes_on, never_code, fails, contradicts, entry_of_code, least_entry}
 use Rattle.pattern.proofs.OperandCodes.{Fits, constant-below, code-constant, same_code, operand_entry, entry-of-code, below-constant}
 

@@ -10,7 +10,7 @@ fn replay(rt: &HostRuntime, n: u8) -> io::Result<()> {
     println!(rt; "-- {n:02}")?;
     let path = format!(in rt.alloc(); "{n:02}.desk")?;
     match fs::open(rt, path.as_str()) {
-        Ok(mut script) => serve::serve(&mut script, &mut rt.stdout()),
+        Ok(mut script) => serve::serve(&mut script, &mut rt.stdout())?,
         Err(_) => println!(rt; "missing")?,
     }
     Ok(())

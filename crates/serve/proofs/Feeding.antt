@@ -15,9 +15,9 @@ use Rattle.cache.specs.Run.{Store, opened}
 use Rattle.console.specs.Lines.{is_newline, line_says, most_line, command_of}
 use Rattle.console.specs.Desk.{Answered, commanded, answered_of, printed_for}
 use Rattle.console.specs.Demand.{store_after}
-use Rattle.console.proofs.Demand.{demands}
+use Rattle.console.proofs.Demand.{demands as of-lines}
 use Rattle.console.proofs.Rooms.{take-both}
-use Rattle.serve.specs.Input.{ended_in, held_after, last_line, Session, most_held, holding, answering, next_session, fed_byte, text_at, fed, printed_in, printed_last, finished, PiecesJoin, lines_of, PrintsTheLines, EndsAsTheLines, PrintsAsPlain}
+use Rattle.serve.specs.Input.{ended_in, held_after, last_line, Session, most_held, holding, answering, next_session, fed_byte, text_at, fed, printed_in, printed_last, finished, PiecesJoin, lines_of, PrintsTheLines, EndsAsTheLines, PrintsAsPlain, Demands}
 
 -- ---- one piece after another
 
@@ -139,4 +139,14 @@ ends-as-the-lines s buffer input = from-stored input s buffer []
 -- ---- the plain store
 
 pub prints_as_plain : PrintsAsPlain
-prints_as_plain o buffer input = prints-the-lines (opened o) buffer input ∙ ap flat (demands.prints_its_calls o buffer (lines_of input))
+prints_as_plain o buffer input = prints-the-lines (opened o) buffer input ∙ ap flat (of-lines.prints_its_calls o buffer (lines_of input))
+
+-- ---- all claims
+
+pub demands : Demands
+demands = record {
+  pieces_join = pieces-join;
+  prints_the_lines = prints-the-lines;
+  ends_as_the_lines = ends-as-the-lines;
+  prints_as_plain = prints_as_plain;
+}

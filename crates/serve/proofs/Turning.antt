@@ -281,6 +281,13 @@ part_more {s} {x} {t} {piece} {rest} used p e r = record {
       ∙ ap (fed s) (sym (ap (take (length used + r.used)) p ∙ take_more used r.used rest));
 }
 
+-- and then the input's end
+pub runs-on : (s x t : Session) (bytes : List ℕ) (p q r : Option (List ℕ)) → Feeds s bytes x p q → t ≡ finished x → Appends q r (printed_last x) → Runs s bytes t p r
+runs-on s x t bytes p q r F e h = record {
+  session = e ∙ ap finished F.session;
+  printed = appends-both p q r (printed_in s bytes) (printed_last (fed s bytes)) F.printed (subst (λ (y : Session). Appends q r (printed_last y)) F.session h);
+}
+
 -- from the opening to the end
 pub serves-lines : (o : Start) (buffer : List ℕ) (s t : Session) (input : List ℕ) (p r : Option (List ℕ)) → s ≡ beginning (opened o) buffer → Runs s input t p r
     → Appends p r (printed_of (opened o) buffer input)

@@ -1,6 +1,7 @@
 -- The input of `desk` and what is printed for it: document 01, "Examples", last paragraph: "The program `desk` opens 4,096 cells, 256 bytes of kept memory and 4 slots of
 -- 64 bytes, lends 65,536 bytes for answers, and reads lines from standard input (at most 512 bytes)". Assumes nothing: these are definitions.
-use Rattle.std.specs.Prelude.{◌≡◌, true, false, List, [], ◌∷◌, ◌++◌, ℕ, length, take}
+use Rattle.std.specs.Prelude.{◌≡◌, true, false, List, [], ◌∷◌, ◌++◌, ℕ, Option, length, take}
+use Rattle.std.specs.Io.KnownBytes.{Appends, Consumes, IsAtEnd}
 use Rattle.lists.specs.Lists.{flat}
 use Rattle.cache.specs.Run.{Store, Start, opened}
 use Rattle.console.specs.Lines.{is_newline}
@@ -37,6 +38,13 @@ pub record DeskOpening (o : Start) (buffer : List ℕ) : Type 0 where
   pub slots : o.slots ≡ 4
   pub slot_bytes : o.slot_bytes ≡ 64
   pub answers : length buffer ≡ 65536
+
+-- of an input and an output whose bytes are known: a store was opened so, the input was read to its end, and the output has grown by what is printed for the lines of all that was
+-- read. (Of those whose bytes are not known, as of a terminal's, it says nothing.)
+abbrev pub Serves : Option (List ℕ) → Option (List ℕ) → Option (List ℕ) → Option (List ℕ) → Type 0
+Serves unread left before after =
+    (o : Start) × (buffer : List ℕ) × (input : List ℕ)
+    × DeskOpening o buffer × Consumes unread left input × IsAtEnd left × Appends before after (printed_of (opened o) buffer input)
 
 -- ---- as the program does it, piece by piece: the store, the answer buffer, and the bytes held of the next line
 
@@ -102,3 +110,11 @@ EndsAsTheLines = (s : Store) (buffer input : List ℕ) → (finished (fed (begin
 abbrev pub PrintsAsPlain : Type 0
 PrintsAsPlain = (o : Start) (buffer input : List ℕ) → let s = beginning (opened o) buffer in
     printed_in s input ++ printed_last (fed s input) ≡ flat (plain_printed_for o buffer (lines_of input))
+
+-- ---- all of these
+
+pub record Demands : Type 0 where
+  pub pieces_join : PiecesJoin
+  pub prints_the_lines : PrintsTheLines
+  pub ends_as_the_lines : EndsAsTheLines
+  pub prints_as_plain : PrintsAsPlain

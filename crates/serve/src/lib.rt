@@ -2,13 +2,13 @@
 #![tactic(auto)]
 
 ghost use Rattle.std.specs.Prelude.{◌≡◌, List, ℕ, ◌<◌, ◌≤◌, length, take, OnOk, IfOk, OnErr};
-ghost use Rattle.std.specs.Io.KnownBytes.{Appends, Consumes};
-ghost use Rattle.serve.specs.Input.{answering, next_session, finished, printed_last};
-ghost use Rattle.serve.specs.Private.Turns.{Feeds, Reads, ReadsPart, Runs, Opens, Serves};
+ghost use Rattle.std.specs.Io.KnownBytes.{Appends, Consumes, IsAtEnd};
+ghost use Rattle.serve.specs.Input.{answering, next_session, finished, printed_last, Serves, Demands};
+ghost use Rattle.serve.specs.Private.Turns.{Feeds, Reads, ReadsPart, Runs, Opens};
 
 use cache::State;
 use console::Line;
-use std::io::{Read, Result, Write};
+use std::io::{ErrorKind, Read, Result, Write};
 use std::marker::Model;
 
 // The store that document 01's `desk` opens, and the bytes that it lends for answers.
@@ -149,25 +149,25 @@ impl Server {
         Ok(())
     }
 
-    // Answers the lines of an input until it ends. A loop must end, and no run lives to see this one end by its count.
+    // Answers the lines of an input until it ends. A loop must end, so this one has a last turn, which no run lives to see; where the input goes on past it, that is an error.
     fn answer_all<R: Read, W: Write>(
         &mut self,
-        piece: &mut [u8],
+        piece: &mut [u8; PIECE],
         out: &mut [u8; PRINTED],
         input: &mut R,
         output: &mut W,
     ) -> Result<()>
-        ensures feeds { OnOk result ((bytes : List ℕ) × Consumes (R.remaining input.old) (R.remaining input.new) bytes × Feeds self.old bytes self.new (W.contents output.old) (W.contents output.new)) }
+        ensures feeds { OnOk result ((bytes : List ℕ) × Consumes (R.remaining input.old) (R.remaining input.new) bytes × IsAtEnd (R.remaining input.new) × Feeds self.old bytes self.new (W.contents output.old) (W.contents output.new)) }
         ensures reads { OnErr result (Reads self.old self.new) }
     {
         for _ in 0..u64::MAX {
-            let got = read_some(input, piece);
+            let got = read_some(input, piece)?;
             if got == 0 {
-                break;
+                return Ok(());
             }
             self.answer_piece(&piece[..got], out, output)?;
         }
-        Ok(())
+        Err(ErrorKind::Other.into())
     }
 
     // Answers a last line that no newline ends, if it has a byte.
@@ -183,7 +183,7 @@ impl Server {
 
     // Answers the lines of an input, a last one that no newline ends among them.
     fn answer_input<R: Read, W: Write>(&mut self, input: &mut R, output: &mut W) -> Result<()>
-        ensures { OnOk result ((bytes : List ℕ) × Consumes (R.remaining input.old) (R.remaining input.new) bytes × Runs self.old bytes self.new (W.contents output.old) (W.contents output.new)) }
+        ensures { OnOk result ((bytes : List ℕ) × Consumes (R.remaining input.old) (R.remaining input.new) bytes × IsAtEnd (R.remaining input.new) × Runs self.old bytes self.new (W.contents output.old) (W.contents output.new)) }
     {
         let mut piece = [0; PIECE];
         let mut out = lists::filled(0);
@@ -192,23 +192,24 @@ impl Server {
     }
 }
 
-// Reads a piece of the input: how many bytes there are, 0 at its end and where it can't be read. A function of its own, so that both are one case in the loop.
-fn read_some<R: Read>(input: &mut R, piece: &mut [u8]) -> usize
-    ensures within { result ≤ length piece.new }
-    ensures bytes { Consumes (R.remaining input.old) (R.remaining input.new) (take result piece.new) }
+// Reads a piece of the input: how many bytes there are, none at its end alone.
+fn read_some<R: Read>(input: &mut R, piece: &mut [u8; PIECE]) -> Result<usize>
+    ensures within { IfOk result (λ n. n ≤ length piece.new) }
+    ensures bytes { IfOk result (λ n. Consumes (R.remaining input.old) (R.remaining input.new) (take n piece.new)) }
+    ensures end { IfOk result (λ n. n ≡ 0 → IsAtEnd (R.remaining input.new)) }
 {
-    input.read(piece).unwrap_or(0)
+    input.read(piece)
 }
 
-// Opens a store, and answers the lines of an input until it ends: an error where what is printed can't be written.
-fn run<R: Read, W: Write>(input: &mut R, output: &mut W) -> Result<()>
+// Opens a store, and answers the lines of an input until it ends: an error where it can't be read, or what is printed can't be written.
+pub fn serve<R: Read, W: Write>(input: &mut R, output: &mut W) -> Result<()>
     ensures { OnOk result (Serves (R.remaining input.old) (R.remaining input.new) (W.contents output.old) (W.contents output.new)) }
 {
     let mut server = Server::open();
     server.answer_input(input, output)
 }
 
-// Opens a store, and answers the lines of an input until it ends or nothing more can be written.
-pub fn serve<R: Read, W: Write>(input: &mut R, output: &mut W) {
-    let _ = run(input, output);
-}
+// All claims of specs/Input hold. A theorem is proved only where a contract names it: this function is there to name them, and does nothing.
+pub fn claims_hold()
+    ensures { Demands }
+{}

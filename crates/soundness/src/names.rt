@@ -11,7 +11,7 @@ use table::{Name, Table};
 // How many digits there are: 1 to 26 for small letters, 27 to 36 for 0 to 9, 37 for the underscore; 0 for any other byte.
 const BASE: u64 = 38;
 
-// The digit of each byte, as the ghost field says, so `new` has no clause. The table is made once a test and lent: a constant would be laid out anew wherever it is read.
+// The digit of each byte, as the ghost field says. The table is made once a test and lent: a constant would be laid out anew wherever it is read.
 #[derive(Drop)]
 pub struct Digits {
     by_byte: [u8; 256],
@@ -20,7 +20,9 @@ pub struct Digits {
 
 impl Digits {
     // (The casts are of places below 26 and below 10.)
-    pub fn new() -> Digits {
+    pub fn new() -> Digits
+        ensures { result.by_byte ≡ digit_table }
+    {
         let letters: [u8; 26] = array::from_fn(|k| k as u8 + 1);
         let numerals: [u8; 10] = array::from_fn(|k| k as u8 + 27);
         let mut by_byte = [0u8; 256];

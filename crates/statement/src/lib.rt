@@ -18,6 +18,7 @@ ghost use Rattle.statement.specs.Refusals.{number_of};
 ghost use Rattle.statement.specs.Sound.{used_columns, operand_read, comparison_read, used_comparisons, used_steps, used_settings, value_read};
 ghost use Rattle.statement.specs.Terms.{term_read, given_read, order_said, used_selected, second_said};
 ghost use Rattle.statement.specs.Compiled.{left_side, right_side, new_value, compiled, compiled_of};
+ghost use Rattle.statement.specs.Demand.{Demands};
 
 use std::cmp::Ordering;
 
@@ -484,3 +485,8 @@ impl Statement {
         }
     }
 }
+
+// Does nothing. A theorem is proved only where a contract names it: this one names the claims about the array of opposites.
+pub fn claims_hold()
+    ensures { Demands }
+{}

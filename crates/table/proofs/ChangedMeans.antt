@@ -175,7 +175,7 @@ module _ (u : Update) (t : Table) (start : ℕ) (cells vs : List ℤ) (eight : l
   area' = stored area (t.count * t.rows) after
 
   -- where it does not fit
-  cells_same : change_fits u t start cells ≡ false → cells_after u t start cells vs ≡ cells
+  pub cells_same : change_fits u t start cells ≡ false → cells_after u t start cells vs ≡ cells
   unfolding cells_after
   cells_same e = ap (λ (b : Bool). cond b (with_area start size cells area') cells) e
 
@@ -228,7 +228,7 @@ module _ (u : Update) (t : Table) (start : ℕ) (cells vs : List ℤ) (eight : l
         let h : length after * t.count ≤ t.capacity * t.count = mul-le-mul_right t.count after-few in
         omega (arith, mul_comm t.capacity t.count)
 
-    area-long : length area' ≡ size
+    pub area-long : length area' ≡ size
     area-long =
         let l : length area ≡ size = area-length start size cells inside in
         let f : length (flat after) ≡ length after * t.count = flat-length t.count after after-wide in

@@ -15,6 +15,7 @@ use Rattle.statement.specs.Sound.{AgreesCondition}
 use Rattle.statement.proofs.SoundCompiled.{query-agrees, update_agrees, compiled-is}
 use Rattle.table.specs.Demand.{PositionsFound, Demands}
 use Rattle.table.proofs.DemandRings.{reads_oldest_first, full_ring_pushes, new_row_takes_cells, delete_lays_oldest_first, update_stays_in_place}
+use Rattle.table.proofs.DemandCells.{delete_clears, other_cells_stay}
 use Rattle.table.proofs.Demand.{select_reads_back, select_means, rows-read, row_test_means, select_pair_reads_back, select_pair_means, too_many_exactly_if, refused_leaves_buffer, pair_rows_read, pair_reads_at_most, pair_test_means}
 
 pub positions_found : PositionsFound
@@ -54,4 +55,6 @@ demands = record {
   new_row_takes_cells = new_row_takes_cells;
   delete_lays_oldest_first = delete_lays_oldest_first;
   update_stays_in_place = update_stays_in_place;
+  delete_clears = delete_clears;
+  other_cells_stay = other_cells_stay;
 }

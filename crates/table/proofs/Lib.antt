@@ -18,4 +18,5 @@ pub mod Recording
 pub mod Outer
 pub mod Demand
 pub mod DemandRings
+pub mod DemandCells
 pub mod DemandTexts

@@ -1,6 +1,6 @@
 -- The demands and requests A.1, A.3, A.4 and A.6 as claims, as far as the table layer can say them; what is asked of the arguments is what their types and a sound state give. Each is
 -- proved in proofs/Demand.antt. Assumes nothing: these are definitions.
-use Rattle.std.specs.Prelude.{◌≡◌, ◌≢◌, ◌↔◌, true, not, List, [], ◌∷◌, ◌++◌, map, ℕ, ◌+◌, ◌*◌, ◌≤◌, ◌<◌, ℤ, length, take, drop, get_or}
+use Rattle.std.specs.Prelude.{◌≡◌, ◌≢◌, ◌⊎◌, ◌↔◌, true, not, List, [], ◌∷◌, ◌++◌, map, ℕ, ◌+◌, ◌*◌, ◌≤◌, ◌<◌, ℤ, pos, length, take, drop, get_or}
 use Rattle.std.proofs.Math.Option.{some}
 use Rattle.lists.specs.Lists.{All, keep, count, pairs, written}
 use Rattle.meaning.specs.Record.{ReadsBack}
@@ -189,6 +189,20 @@ UpdateStaysInPlace = (u : Update) (s : M.Update) (t : Table) (start : ℕ) (cell
     → ((change_of u t start cells vs).oldest ≡ t.oldest)
     × (rows_in t.count (change_of u t start cells vs).rows (drop start (cells_after u t start cells vs)) ≡ map (updated_row ss w vs) (rows_before t start cells))
 
+-- ---- "cells that a DELETE vacates become 0, other unused cells stay": cell by cell
+
+-- the cells of the rows that there were, behind those that are left
+abbrev pub DeleteClears : Type 0
+DeleteClears = (u : Update) (s : M.Update) (t : Table) (start : ℕ) (cells vs : List ℤ) (w : Where M.Operand) → Makes u s t start cells → s.change ≡ delete w
+    → (i : ℕ) (x : ℤ) → start + t.count * (change_of u t start cells vs).rows ≤ i → i < start + row_cells t → get_or (cells_after u t start cells vs) i x ≡ pos 0
+
+-- of any update, fitting or not: there are as many cells, and one that lies before the table's area, or behind the rows that there were and behind those that there are, is as it was
+abbrev pub OtherCellsStay : Type 0
+OtherCellsStay = (u : Update) (t : Table) (start : ℕ) (cells vs : List ℤ) → length u.settings ≡ most_items
+    → (length (cells_after u t start cells vs) ≡ length cells)
+    × ((i : ℕ) (x : ℤ) → (i < start) ⊎ ((start + row_cells t ≤ i) × (start + t.count * (change_of u t start cells vs).rows ≤ i))
+    → get_or (cells_after u t start cells vs) i x ≡ get_or cells i x)
+
 -- ---- all of these
 
 pub record Demands : Type 0 where
@@ -209,3 +223,5 @@ pub record Demands : Type 0 where
   pub new_row_takes_cells : NewRowTakesCells
   pub delete_lays_oldest_first : DeleteLaysOldestFirst
   pub update_stays_in_place : UpdateStaysInPlace
+  pub delete_clears : DeleteClears
+  pub other_cells_stay : OtherCellsStay

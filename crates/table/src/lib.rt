@@ -9,6 +9,8 @@ mod listing; // questions: the rows listed, written as a record
 mod pairs; // questions over two tables: the pairs of rows listed
 mod rows; // the test of a row
 
+ghost use Rattle.table.specs.Demand.{Demands};
+
 pub use answer::{NoRow, check_row, row};
 pub use changes::{Changed, change, count_change, removal};
 pub use listing::{Selected, select};
@@ -17,3 +19,8 @@ pub use statement::{
     Comparison, Condition, Given, Name, Operand, Order, Query, Refusal, Setting, Statement, Step,
     Table, Term, Update, Value,
 };
+
+// All claims of specs/Demand hold. A theorem is proved only where a contract names it: this function is there to name them, and does nothing.
+pub fn claims_hold()
+    ensures { Demands }
+{}

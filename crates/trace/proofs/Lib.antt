@@ -4,6 +4,8 @@ pub mod Order
 pub mod Recent
 pub mod Past
 pub mod Anew
+pub mod Enough
 pub mod Kept
 pub mod Same
+pub mod Larger
 pub mod Demand

@@ -1,6 +1,6 @@
--- Document 01's transcript and an eviction, and requests A.1, A.7 and A.8, on the model and on the plain store, by computation: the claims of specs/Demand speak of lists in which answers
+-- Document 01's transcript and an eviction, and requests A.1, A.7, A.8 and A.12, on the model and on the plain store, by computation: the claims of specs/Demand speak of lists in which answers
 -- are kept, dropped, evicted and refused. Assumes nothing.
-use Rattle.std.specs.Prelude.{◌≡◌, refl, Bool, true, false, List, [], ◌∷◌, ◌++◌, map, ℕ, pos, replicate}
+use Rattle.std.specs.Prelude.{◌≡◌, refl, Bool, true, false, List, [], ◌∷◌, ◌++◌, map, ℕ, ◌*◌, pos, drop, replicate, sum_by}
 use Prim.Native.String.{String}
 use Rattle.lists.specs.Lists.{bytes, any}
 use Rattle.meaning.specs.Tokens.{is_name_byte, is_word_byte, decimal, is_name, word, negative, token_from, first_token, scan, tokens}
@@ -267,3 +267,59 @@ pub commit_is_event :
     × (matched_since (looked ++ (withdraw ∷ commit ∷ [])) 7 ≡ false)
 unfolding computing
 commit_is_event = (refl, refl, refl, refl)
+
+-- an update counts only where its answer would go, though a pattern matches: sites with a level over 120, asked before 99 comes in, or 130
+abbrev high : List (Call ℕ)
+high =
+    ADD "TABLE stage (site, level) ROWS 3"
+    ∷ ADD "INSERT INTO stage VALUES (?, ?)"
+    ∷ ADD "SELECT site FROM stage WHERE level > ?"
+    ∷ ASK 0 (120 ∷ [])
+    ∷ []
+
+pub dropping_is_event :
+    (matched_since (high ++ (DO 0 (8 ∷ 99 ∷ []) ∷ [])) 120 ≡ false)
+    × (matched_since (high ++ (DO 0 (9 ∷ 130 ∷ []) ∷ [])) 120 ≡ true)
+unfolding computing
+dropping_is_event = (refl, refl)
+
+-- ---- more slots, and fewer
+
+-- a gauge of n slots of 64 bytes
+abbrev gauge : ℕ → Opening
+gauge n = record { lent = record { cells = 4096; memory = n * 64 }; slots = n; slot_bytes = 64 }
+
+-- what the calls behind the three texts get
+abbrev seen_by : ℕ → List (Call ℕ) → List Seen
+seen_by n cs = drop 3 (outs (gauge n).lent (slot_size (gauge n)) (opened (gauge n) (replicate (n * 64) 0)) (texts ++ cs))
+
+abbrev marks : ℕ → List (Call ℕ) → List ℕ
+marks n cs = map (λ s. s.kept) (seen_by n cs)
+
+abbrev SITE : ℕ → Call ℕ
+SITE k = ASK 0 (k ∷ [])
+
+-- with a drop, a refused call and a flush
+abbrev sitting : List (Call ℕ)
+sitting =
+    SITE 1 ∷ SITE 2 ∷ SITE 3 ∷ SITE 1 ∷ DO 0 (2 ∷ 9 ∷ []) ∷ SITE 2 ∷ SITE 1 ∷ DO 5 [] ∷ SITE 3 ∷ flush ∷ SITE 1 ∷ SITE 2 ∷ SITE 3 ∷ SITE 1 ∷ SITE 2 ∷ SITE 2 ∷ []
+
+pub two_gauges_is :
+    (marks 2 sitting ≡ 0 ∷ 0 ∷ 0 ∷ 0 ∷ 0 ∷ 0 ∷ 1 ∷ 0 ∷ 0 ∷ 0 ∷ 0 ∷ 0 ∷ 0 ∷ 0 ∷ 0 ∷ 1 ∷ [])
+    × (marks 4 sitting ≡ 0 ∷ 0 ∷ 0 ∷ 1 ∷ 0 ∷ 0 ∷ 1 ∷ 0 ∷ 1 ∷ 0 ∷ 0 ∷ 0 ∷ 0 ∷ 1 ∷ 1 ∷ 1 ∷ [])
+unfolding computing
+two_gauges_is = (refl, refl)
+
+pub less_read_is : (sum_by (λ s. s.scanned) (seen_by 2 sitting) ≡ 7) × (sum_by (λ s. s.scanned) (seen_by 4 sitting) ≡ 4)
+unfolding computing
+less_read_is = (refl, refl)
+
+-- Belady's list, on which more slots keep less where an answer found keeps its place in the order
+abbrev belady : List (Call ℕ)
+belady = SITE 1 ∷ SITE 2 ∷ SITE 3 ∷ SITE 4 ∷ SITE 1 ∷ SITE 2 ∷ SITE 5 ∷ SITE 1 ∷ SITE 2 ∷ SITE 3 ∷ SITE 4 ∷ SITE 5 ∷ []
+
+pub belady_is :
+    (marks 3 belady ≡ 0 ∷ 0 ∷ 0 ∷ 0 ∷ 0 ∷ 0 ∷ 0 ∷ 1 ∷ 1 ∷ 0 ∷ 0 ∷ 0 ∷ [])
+    × (marks 4 belady ≡ 0 ∷ 0 ∷ 0 ∷ 0 ∷ 1 ∷ 1 ∷ 0 ∷ 1 ∷ 1 ∷ 0 ∷ 0 ∷ 0 ∷ [])
+unfolding computing
+belady_is = (refl, refl)

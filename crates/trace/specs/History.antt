@@ -1,6 +1,6 @@
 -- What counts for the kept answers in a list of calls, read off the plain store alone, and the four grounds of demand 3, which this document quotes: document 01, "The plain store", second
 -- paragraph; requests A.7 and A.8. A history has the latest event first. Assumes nothing: these are definitions.
-use Rattle.std.specs.Prelude.{◌≡◌, ◌≢◌, ◌⊎◌, Bool, true, false, List, [], ◌∷◌, ℕ, zero, suc, ℤ, length, leb}
+use Rattle.std.specs.Prelude.{◌≡◌, ◌≢◌, ◌⊎◌, Bool, true, false, List, [], ◌∷◌, ◌++◌, ℕ, zero, suc, ℤ, length, leb}
 use Rattle.std.proofs.Math.Option.{Option, none, some}
 use mathlib.Core.HLevel.{Discrete}
 use Rattle.lists.specs.Lists.{All, Distinct, any}
@@ -45,11 +45,25 @@ history_on lent p h (c ∷ cs) = history_on lent (step lent p c).0 (note (refusa
 abbrev pub history : Lengths → Plain → List (Call ℕ) → List (Event Key)
 history lent p cs = history_on lent p [] cs
 
+-- the questions of a list, with their values, answered or refused
+abbrev pub asked_by : {B : Type 0} → Call B → List Key
+asked_by (ask k buffer) = k ∷ []
+asked_by _ = []
+
+abbrev pub keys_asked : {B : Type 0} → List (Call B) → List Key
+keys_asked [] = []
+keys_asked (c ∷ cs) = asked_by c ++ keys_asked cs
+
 -- ".. and fits if no longer than a slot's bytes"
 abbrev pub fits_slot : ℕ → List ℕ → Bool
 fits_slot size r = leb (length r) size
 
 module _ {K : Type 0} where
+  -- k is one of them
+  abbrev pub OneOf : K → List K → Type 0
+  OneOf k [] = ⊥
+  OneOf k (j ∷ js) = (j ≡ k) ⊎ OneOf k js
+
   -- the key was answered
   abbrev pub Answered : K → List (Event K) → Type 0
   Answered k [] = ⊥

@@ -1,7 +1,7 @@
 -- A question that is answered on a sound state: new, its record reads back as the rows that Meaning lists, and the rows of its table are read; kept, it is its slot's
 -- bytes. Assumes nothing.
 use mathlib.Core.Path.{◌≡◌, refl, sym, ap, ◌∙◌, subst}
-use mathlib.Core.Logic.{◌⊎◌, inl, inr}
+use mathlib.Core.Logic.{◌≢◌, ◌⊎◌, inl, inr}
 use mathlib.Core.Bool.{Bool, true, false, cond}
 use mathlib.Core.Option.{Option, none, some}
 use mathlib.Core.List.{List, [], ◌++◌}
@@ -34,15 +34,16 @@ use Rattle.table.specs.Rows.{row_cells, area_rows, passes_stored}
 use Rattle.table.proofs.Means.{answer-means}
 use Rattle.slots.specs.Keys.{Found, key_of, slot_has}
 use Rattle.std.specs.Prelude.{Some, None}
+use Rattle.slots.specs.Order.{front_of}
 use Rattle.slots.proofs.KeyLaws.{key-few, has_key, found_at, found_inside}
 use Rattle.cache.specs.declared.State.{State}
 use Rattle.cache.specs.Sound.{query_at, table_at}
 use Rattle.cache.specs.SoundTest.{sound_state}
 use Rattle.cache.specs.Means.{Means, Typed}
 use Rattle.cache.specs.Calls.{area_start, Asks, bytes_at, rows_at, rows_over, rows_for, too_many, found_in}
-use Rattle.cache.specs.Gives.{ask_of, ask_gives, ask_refused, ask_refusal, cached_refusal, from_cache, ask_cached, new_refusal, newly, ask_new, ask_found}
+use Rattle.cache.specs.Gives.{ask_of, ask_gives, ask_refused, ask_refusal, with_cache, cached_refusal, from_cache, ask_cached, new_refusal, newly, ask_new, ask_found}
 use Rattle.cache.specs.Run.{Store, Seen, lent_by, step_ask, step}
-use Rattle.cache.specs.Demand.{NewAnswer, ItsSlotsBytes, KeptAnswer}
+use Rattle.cache.specs.Demand.{NewAnswer, ItsSlotsBytes, KeptAnswer, KeptMovesOrder}
 use Rattle.cache.proofs.Invariant.Sound.{Sound, sound-is, query-at}
 use Rattle.cache.proofs.Refinement.Standing.{stands_for_plain}
 use Rattle.cache.proofs.Refinement.StoodFor.{query-agrees}
@@ -180,4 +181,19 @@ kept_answer s k buffer T h e z = go (answered s k buffer e)
           answer_is = ap (λ (x : Store × Seen). x.1.got.answer) r ∙ ap (λ (x : ℕ). written buffer 0 (bytes_at s.state s.memory x)) at;
           none_read = ap (λ (x : Store × Seen). x.1.scanned) r;
         }
+    go (c, inr (f, y, r)) = absurd (z (ap (λ (x : Store × Seen). x.1.kept) r))
+
+-- what it leaves
+abbrev MovesOrder : Store → Store → Type 0
+MovesOrder s r = r ≡ record s { state = record s.state { slots = record s.state.slots { order = r.state.slots.order } } }
+
+front-moves : (s : Store) (buffer : List ℕ) (i : ℕ) → MovesOrder s (step_ask s (from_cache s.state s.memory buffer i)).0
+unfolding with_cache front_of
+front-moves s buffer i = refl
+
+pub kept_moves_order : KeptMovesOrder
+kept_moves_order s k buffer e z = go (answered s k buffer e)
+  where
+    go : Answered s k buffer (step s (ask k buffer)) → MovesOrder s (step s (ask k buffer)).0
+    go (c, inl (i, f, r)) = subst (λ (x : Store × Seen). MovesOrder s x.0) (sym r) (front-moves s buffer i)
     go (c, inr (f, y, r)) = absurd (z (ap (λ (x : Store × Seen). x.1.kept) r))

@@ -17,7 +17,7 @@ use Rattle.cache.specs.Sound.{lengths, opening, OpeningWithin}
 use Rattle.meaning.specs.Refusals.{or_else, settled}
 use Rattle.cache.specs.Calls.{Flushed, Opens, unfit}
 use Rattle.cache.specs.Gives.{open_of, flush_of, open_gives, empty_state, emptied}
-use Rattle.cache.specs.Run.{Start, opening_of, lent_by, store_of, step_flush, step}
+use Rattle.cache.specs.Run.{Start, opening_of, opened_by, lent_by, store_of, step_flush, step}
 use Rattle.cache.specs.Demand.{Fresh, OpensExactlyIf, OpeningTaken, OpeningRefused, keys_held, FlushDropsAll}
 use Rattle.cache.proofs.Invariant.Sound.{sizes-fit, fit-sizes}
 
@@ -44,6 +44,10 @@ module _ (o : Start) where
   taken-by true e z = absurd (omega arith)
   taken-by false e z = (empty-fresh (opening_of o) (sizes-fit (opening_of o) e).few_slots, refl, refl)
 
+  refused-is : (b : Bool) → opening_refused (opening_of o) ≡ b → (by b).result.refusal ≡ 0 → opening_refused (opening_of o) ≡ false
+  refused-is true e z = absurd (omega arith)
+  refused-is false e z = e
+
   refused-by : (b : Bool) → (by b).result.refusal ≢ 0
       → ((by b).result.refusal ≡ 1)
       × Fresh (store_of (by b)).state (opening (lengths 0 0) 0 8)
@@ -55,6 +59,10 @@ module _ (o : Start) where
 pub opens_exactly_if : OpensExactlyIf
 unfolding open_of
 opens_exactly_if o = exactly-by o (opening_refused (opening_of o)) refl
+
+pub not-refused : (o : Start) → (opened_by o).result.refusal ≡ 0 → opening_refused (opening_of o) ≡ false
+unfolding open_of
+not-refused o = refused-is o (opening_refused (opening_of o)) refl
 
 pub opening_taken : OpeningTaken
 unfolding open_of

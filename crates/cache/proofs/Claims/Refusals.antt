@@ -22,7 +22,7 @@ use Rattle.std.specs.Prelude.{Option as Maybe, Some, None}
 use Rattle.cache.specs.declared.Note.{Note}
 use Rattle.cache.specs.declared.State.{State}
 use Rattle.cache.specs.Calls.{Added, Flushed, unfit, Asks, ask_conditions, found_in, Updates, Proposed}
-use Rattle.cache.specs.Sound.{table_at, update_at, is_full, pending_read}
+use Rattle.cache.specs.Sound.{table_at, update_at, is_full, pending_read, pending_in}
 use Rattle.cache.specs.Gives.{add_of, ask_of, update_of, flush_of, compiled_beside, add_refused, added_of, added_by, add_refusal, ask_gives, ask_refused, ask_refusal, cached_refusal, from_cache, ask_cached, new_refusal, newly, ask_new, ask_found, update_gives, update_refused, update_refusal, update_done, emptied, with_note, propose_refused, would_do, propose_of, pending_refusal, commit_done, commit_of, withdraw_of}
 use Rattle.cache.specs.Run.{Store, lent_by, step_add, step_ask, step_update, step_flush, step_propose, step}
 use Rattle.cache.specs.Demand.{answer_conditions, conditions, LowestNumber, RingsNeverFull, refused_with, RefusedChangesNothing}
@@ -269,25 +269,36 @@ ascending s withdraw = refl
 pub lowest_number : LowestNumber
 lowest_number s c = subst (Lowest (conditions s c)) (sym (number_is s c)) (lowest-of (conditions s c) (ascending s c))
 
+module _ (s : Store) (n : ℕ) (vs : List ℤ) (r : (table_at s.state (update_at s.state n).table).ring ≡ true) where
+  ring-free : is_full s.state (update_at s.state n) ≡ false
+  ring-free =
+      let u : Update = update_at s.state n in
+      let t : Table = table_at s.state u.table in
+      ap (λ (b : Bool). eqb u.form insert_form && (not b && leb t.capacity t.rows)) r ∙ and-false (eqb u.form insert_form)
+
+  -- of an update and of its proposal
+  ring-not-12 : lowest_of (conditions s (change n vs)) ≡ 12 → ⊥
+  ring-not-12 e = go (unfit s.state (lent_by s)) (leb s.state.update_count n) (not (eqb (length vs) (update_at s.state n).parameters)) (sym number ∙ e)
+    where
+      number : lowest_of (conditions s (change n vs)) ≡ lowest_of (update_conditions (unfit s.state (lent_by s)) s.state.update_count n (update_at s.state n).parameters (length vs) false)
+      number = ap (λ (b : Bool). lowest_of (update_conditions (unfit s.state (lent_by s)) s.state.update_count n (update_at s.state n).parameters (length vs) b)) ring-free
+
+      go : (a b c : Bool) → or_else a 2 (or_else b 10 (or_else c 11 0)) ≡ 12 → ⊥
+      go true b c h = absurd (omega arith)
+      go false true c h = absurd (omega arith)
+      go false false true h = absurd (omega arith)
+      go false false false h = absurd (omega arith)
+
+commit-not-12 : (a b : Bool) → or_else a 2 (or_else b 17 0) ≡ 12 → ⊥
+commit-not-12 true b h = absurd (omega arith)
+commit-not-12 false true h = absurd (omega arith)
+commit-not-12 false false h = absurd (omega arith)
+
 pub rings_never_full : RingsNeverFull
-rings_never_full s n vs r e = go (unfit s.state (lent_by s)) (leb s.state.update_count n) (not (eqb (length vs) (update_at s.state n).parameters)) (sym number ∙ e)
-  where
-    free : is_full s.state (update_at s.state n) ≡ false
-    free =
-        let u : Update = update_at s.state n in
-        let t : Table = table_at s.state u.table in
-        ap (λ (b : Bool). eqb u.form insert_form && (not b && leb t.capacity t.rows)) r ∙ and-false (eqb u.form insert_form)
-
-    number : (step s (change n vs)).1.got.refusal ≡ lowest_of (update_conditions (unfit s.state (lent_by s)) s.state.update_count n (update_at s.state n).parameters (length vs) false)
-    number =
-        number_is s (change n vs)
-        ∙ ap (λ (b : Bool). lowest_of (update_conditions (unfit s.state (lent_by s)) s.state.update_count n (update_at s.state n).parameters (length vs) b)) free
-
-    go : (a b c : Bool) → or_else a 2 (or_else b 10 (or_else c 11 0)) ≡ 12 → ⊥
-    go true b c h = absurd (omega arith)
-    go false true c h = absurd (omega arith)
-    go false false true h = absurd (omega arith)
-    go false false false h = absurd (omega arith)
+rings_never_full s n vs = (
+  λ r. ((λ e. ring-not-12 s n vs r (sym (number_is s (change n vs)) ∙ e)), λ e. ring-not-12 s n vs r (sym (number_is s (propose n vs)) ∙ e)),
+  λ e. commit-not-12 (unfit s.state (lent_by s)) (is_none (pending_in s.state)) (sym (number_is s commit) ∙ e),
+)
 
 pub refused_changes_nothing : RefusedChangesNothing
 refused_changes_nothing s (add text) h = add-refused s text h

@@ -115,7 +115,7 @@ module _ (s : Store) (p : Plain) (Ty : Typed s.state) (h : sound_state s.state �
         A.values ∙ sym (query-agrees s.state Ty S s.cells p m key.query there).parameters_are in
         rw e (query-parts _ (query_at s.state key.query) (query-at s.state Ty S key.query there)).few_parameters
 
-    memory_lent : length s.memory ≡ s.state.memory
+    pub memory_lent : length s.memory ≡ s.state.memory
     unfolding other_lengths
     memory_lent =
         let same : Bool = eqb (length s.cells) p.lengths.cells in

@@ -4,9 +4,10 @@ use mathlib.Core.Path.{◌≡◌, refl, sym, ap, ap₂, ◌∙◌, subst}
 use mathlib.Core.Bool.{Bool, true, false, cond}
 use mathlib.Core.Option.{none}
 use mathlib.Core.List.{List, [], ◌∷◌, map}
-use Prim.Native.Nat.{ℕ, ◌≤◌, zero-le}
+use Prim.Native.Nat.{ℕ, ◌+◌, ◌≤◌, zero-le}
 use lib.IntN.{ℤ, pos}
 use lib.ListN.{length, replicate, length-replicate}
+use Rattle.std.specs.Prelude.{fold}
 use Rattle.meaning.specs.Limits.{most_slots}
 use Rattle.meaning.specs.Plain as P
 use Rattle.meaning.specs.Plain.{Lengths, Plain, Opening, opening_refused, Out}
@@ -137,3 +138,12 @@ module _ {lent : Lengths} {size : ℕ} where
   follows-gets {s = s} {m = m} F (c ∷ cs) =
       ap₂ (λ (g : Got) (l : List Got). g ∷ l) (meets F c).got
       (follows-gets {s = (step s c).0} {m = (T.step lent size m (plain_call c)).0} (follows-step F c) cs)
+
+  -- a sum over what the calls get, of a number that is the model's
+  pub follows-sum : (f : Seen → ℕ) (g : T.Seen → ℕ) → ((s : Store) (b : List ℕ) (r : Store × Seen) (q : Model × T.Seen) → Meets s b r q → f r.1 ≡ g q.1)
+      → (s : Store) (m : Model) → Follows lent size s m → (cs : List (Call (List ℕ))) (n : ℕ)
+      → fold (λ (a : ℕ) (x : Seen). a + f x) n (gets s cs) ≡ fold (λ (a : ℕ) (x : T.Seen). a + g x) n (T.outs lent size m (map plain_call cs))
+  follows-sum f g same s m F [] n = refl
+  follows-sum f g same s m F (c ∷ cs) n =
+      follows-sum f g same (step s c).0 (T.step lent size m (plain_call c)).0 (follows-step F c) cs (n + f (step s c).1)
+      ∙ ap (λ (i : ℕ). fold (λ (a : ℕ) (x : T.Seen). a + g x) (n + i) (T.outs lent size (T.step lent size m (plain_call c)).0 (map plain_call cs))) (same s (buffer_of c) _ _ (meets F c))

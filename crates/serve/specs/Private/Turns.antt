@@ -47,9 +47,3 @@ pub record ReadsPart (s : Session) (piece : List ℕ) (t : Session) : Type 0 whe
 pub record Runs (s : Session) (input : List ℕ) (t : Session) (before after : Option (List ℕ)) : Type 0 where
   pub session : t ≡ finished (fed s input)
   pub printed : Appends before after (printed_in s input ++ printed_last (fed s input))
-
--- and that from the opening of document 01 on: the output grows by what is printed for the lines of what was read
-abbrev pub Serves : Option (List ℕ) → Option (List ℕ) → Option (List ℕ) → Option (List ℕ) → Type 0
-Serves unread left before after =
-    (o : Start) × (buffer : List ℕ) × (input : List ℕ)
-    × DeskOpening o buffer × Consumes unread left input × Appends before after (printed_of (opened o) buffer input)

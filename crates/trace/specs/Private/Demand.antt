@@ -1,9 +1,9 @@
 -- The demands as claims, as far as the model of kept answers can say them. Assumes nothing: these are definitions.
-use Rattle.std.specs.Prelude.{◌≡◌, true, false, not, List, ◌++◌, map, ℕ, ◌≤◌, ℤ, length}
+use Rattle.std.specs.Prelude.{◌≡◌, true, false, not, List, ◌++◌, map, ℕ, ◌≤◌, ℤ, length, sum_by}
 use Rattle.std.proofs.Math.Option.{some}
 use Rattle.lists.specs.Lists.{All, DistinctBy, keep, count, any}
 use Rattle.meaning.specs.Key.{Key, same_key}
-use Rattle.meaning.specs.Plain.{rows_listed, Lengths, Plain, query_at, Opening, refusal, record_of, drops_key, answered, Note}
+use Rattle.meaning.specs.Plain.{rows_listed, Lengths, Plain, query_at, Opening, opening_refused, refusal, record_of, drops_key, answered, Note}
 use Rattle.meaning.specs.Record.{ReadsBack}
 use Rattle.meaning.specs.Call.{Call32, Call, ask, change, commit, propose}
 use Rattle.meaning.specs.Plain as P
@@ -99,6 +99,36 @@ abbrev pub ModelKeptReadsBack : Type 0
 ModelKeptReadsBack = (s : ModelStart) (cs : List (Call ℕ)) → All Call32 cs → (k : Key) (buffer : ℕ) (r : List ℕ) → (next_call s cs (ask k buffer)).out ≡ answered r
     → (later : List ℕ) → ReadsBack (r ++ later) (length (query_at (plain_beside s cs) k.query).selected) (rows_listed (plain_beside s cs) k)
 
+-- ---- More slots (REFERENCE 6.9): two stores, neither opening refused, opened alike but for the number of slots and the kept memory for them. Both are sent the same calls, of whatever
+-- kind and whether refused or not, each with its own state and memories.
+
+pub record ModelLarger (s l : ModelStart) : Type 0 where
+  pub small_taken : opening_refused s.opening ≡ false
+  pub large_taken : opening_refused l.opening ≡ false
+  pub same_cells : s.opening.lent.cells ≡ l.opening.lent.cells
+  pub same_bytes : s.opening.slot_bytes ≡ l.opening.slot_bytes
+  pub more_slots : s.opening.slots ≤ l.opening.slots
+
+-- a question that the smaller marks as kept, the larger marks as kept: the next one after any list of calls, and so each one in it
+abbrev pub ModelKeptInLarger : Type 0
+ModelKeptInLarger = (s l : ModelStart) → ModelLarger s l → (cs : List (Call ℕ)) → All Call32 cs → (k : Key) (buffer : ℕ)
+    → (next_call s cs (ask k buffer)).kept ≡ 1 → (next_call l cs (ask k buffer)).kept ≡ 1
+
+-- what the calls of a list get, in their order
+abbrev pub calls_get : ModelStart → List (Call ℕ) → List Seen
+calls_get s cs = outs s.opening.lent (slot_size s.opening) (opened s.opening s.memory) cs
+
+-- and each call gets the same from both
+abbrev pub ModelSameInBoth : Type 0
+ModelSameInBoth = (s l : ModelStart) → ModelLarger s l → (cs : List (Call ℕ)) → All Call32 cs
+    → map (λ (o : Seen). o.out) (calls_get s cs) ≡ map (λ (o : Seen). o.out) (calls_get l cs)
+
+-- over the whole list at least as many answers are kept ones, and no more rows are read
+abbrev pub ModelReadsNoMore : Type 0
+ModelReadsNoMore = (s l : ModelStart) → ModelLarger s l → (cs : List (Call ℕ)) → All Call32 cs
+    → (sum_by (λ (o : Seen). o.kept) (calls_get s cs) ≤ sum_by (λ (o : Seen). o.kept) (calls_get l cs))
+    × (sum_by (λ (o : Seen). o.scanned) (calls_get l cs) ≤ sum_by (λ (o : Seen). o.scanned) (calls_get s cs))
+
 -- ---- all of these
 
 pub record Demands : Type 0 where
@@ -110,3 +140,6 @@ pub record Demands : Type 0 where
   pub proposal_drops_nothing : ModelProposalDropsNothing
   pub kept_reads_back : ModelKeptReadsBack
   pub tidy_after : ModelTidyAfter
+  pub kept_in_larger : ModelKeptInLarger
+  pub same_in_both : ModelSameInBoth
+  pub reads_no_more : ModelReadsNoMore

@@ -13,3 +13,6 @@ invariant_of-result c =
       numbered = table-made _ _ _ _ _ _ _ c.from.ensures c.from-2.ensures c.from-3.ensures c.from-4.ensures c.from-5.ensures
           (c.copy_from_slice.ensures.after ∙ e) (c.copy_from_slice-2.ensures.after ∙ f);
     }
+
+pub returns : goal.returns
+returns c = (invariant_of-result c.before).numbered

@@ -1,0 +1,22 @@
+-- `State::fits_type` meets its contract. Assumes nothing.
+use borrow.Author.Rules.{rules}
+use Rattle.cache.proofs.Invariant.TypesSay.{tables, queries, updates, keys}
+use Rattle.cache.proofs.State.fits_type.Goals as goal
+
+pub returns : goal.returns
+returns c =
+    let s = c.args.self in
+    let f = c.well_formed.0.1.1 in
+    record {
+      eight_tables = search rules;
+      sixteen_queries = search rules;
+      sixteen_updates = search rules;
+      keys-64 = search rules;
+      lengths-64 = search rules;
+      order-64 = search rules;
+      tables_fit = tables s.tables f.0.0 f.0.1.1;
+      queries_fit = queries s.queries f.1.0.0 f.1.0.1.1;
+      updates_fit = updates s.updates f.1.1.0.0 f.1.1.0.1.1;
+      keys_fit = keys s.keys f.1.1.1.0.0 f.1.1.1.0.1.1;
+      note_fits = search rules;
+    }
