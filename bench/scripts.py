@@ -27,6 +27,10 @@ class Random:
             at -= weight
 
 
+# the three ways to call; the first is what a script begins with
+WAYS = {"by value": "V", "in place": "I", "held to be sound": "H"}
+
+
 def line(letter, *numbers):
     return " ".join([letter, *map(str, numbers)])
 
@@ -411,4 +415,8 @@ def gate():
     piece("adding", one_table(8, 64), *[["L", text, "K 1"] for text in ADDS.values()])
     piece("the fullest state", fullest(rows=64), *[["L", call, "K 2"] for call in (FULL_FIRST, FULL_LAST, FULL_NEW, FULL_UPDATE, "S", "N", "F", "W 0", DEEPEST)])
     piece("plain statements and keys", plain(), ["L", "S", "K 2"])
+    for name, way in list(WAYS.items())[1:]:
+        piece(f"called {name}: the gauge's calls", [way, *gauge(64, 10, count=400, parts=0)])
+        piece(f"called {name}: updates proposed, withdrawn and committed; then into a full table, and no note", held(40), *[["L", *calls, "C 4"] for calls in looked], none)
+        piece(f"called {name}: answers kept and dropped, a flush, a row and the test", held(40), *[["L", call, "K 2"] for call in (*UPDATES.values(), "F", "W 0", "S", "N")])
     return out

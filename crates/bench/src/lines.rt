@@ -17,10 +17,19 @@ pub enum Call {
     Nothing,
 }
 
-// A call for the list; the list emptied; so many calls made of it; the time; or anything else.
+// How calls are made: by value; in place; in place on a state that is held to be sound.
+#[derive(Clone, Copy)]
+pub enum Way {
+    ByValue,
+    InPlace,
+    Held,
+}
+
+// A call for the list; the way to call; the list emptied; so many calls made of it; the time; or anything else.
 #[derive(Drop)]
 pub enum Line {
     Call(Call),
+    Way(Way),
     Empty,
     Run(usize),
     Check(usize),
@@ -50,6 +59,9 @@ impl Line {
             b'W' => Line::Call(Call::Show(n)),
             b'S' => Line::Call(Call::Sound),
             b'N' => Line::Call(Call::Nothing),
+            b'V' => Line::Way(Way::ByValue),
+            b'I' => Line::Way(Way::InPlace),
+            b'H' => Line::Way(Way::Held),
             b'L' => Line::Empty,
             b'R' => Line::Run(n),
             b'C' => Line::Check(n),

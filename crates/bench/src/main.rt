@@ -2,15 +2,19 @@
 // a line's first letter says what it is (`bench/README.md`). A call, for the list: `O slots` opens, `A text` adds, `Q n v ..` asks, `U n v ..` updates, `F` flushes,
 // `P n v ..` proposes an update, `M` commits (makes it), `B` withdraws (takes it back), `W n` shows row n of the last answer, `S` tests the state, `N` does nothing. `L`
 // empties the list. `R n` makes n calls, round the list, each on the state that the last one left; `K n` makes each of n calls on the state that was there before; `C n` is
-// `R n` with a checksum of the answers. `T` prints the processor time used. Other lines are comments. This program runs on a host and may use the heap.
+// `R n` with a checksum of the answers. `T` prints the processor time used. `V` makes the calls that follow by value, `I` in place, `H` in place on a state that is held to be
+// sound; each of the three is a store of its own, and the first is called before any such line. Other lines are comments. This program runs on a host and may use the heap.
 #![tactic(auto)]
 
+mod calls; // the three ways to call
 mod counters; // what is counted
 mod lines; // a line read
 mod store; // the calls, made and counted
 
+use cache::{SealedState, State};
+use calls::{ByValue, Calls};
 use counters::Counters;
-use lines::{Call, Line};
+use lines::{Call, Line, Way};
 use script::Program;
 use std::alloc::{AllocError, Global};
 use std::io;
@@ -18,12 +22,15 @@ use std::io::Write;
 use std::time::CpuClock;
 use store::Store;
 
-// The clock, the store and the list.
+// The clock, a store for each way to call, the way that is taken, and the list.
 #[derive(Drop)]
 struct Bench<'a, R> {
     rt: &'a R,
     alloc: Global,
-    store: Store,
+    by_value: Store<ByValue>,
+    in_place: Store<State>,
+    held: Store<SealedState>,
+    way: Way,
     calls: Vec<Call>,
 }
 
@@ -32,7 +39,10 @@ impl<'a, R: CpuClock> Bench<'a, R> {
         Ok(Bench {
             rt,
             alloc,
-            store: Store::new(alloc)?,
+            by_value: Store::new(alloc)?,
+            in_place: Store::new(alloc)?,
+            held: Store::new(alloc)?,
+            way: Way::ByValue,
             calls: Vec::new(alloc),
         })
     }
@@ -44,23 +54,21 @@ impl<'a, R: CpuClock> Bench<'a, R> {
     }
 
     // So many calls, round the list, each on the state that the last one left.
-    fn run_calls(&mut self, turns: usize, mut counters: Counters) -> Counters {
-        for call in self.calls.iter().cycle().take(turns) {
-            self.store.make(call, &mut counters);
+    fn run_calls(&mut self, turns: usize, counters: Counters) -> Counters {
+        match self.way {
+            Way::ByValue => self.by_value.run(&self.calls, turns, counters),
+            Way::InPlace => self.in_place.run(&self.calls, turns, counters),
+            Way::Held => self.held.run(&self.calls, turns, counters),
         }
-        counters
     }
 
     // .. each on the state that is there now.
-    fn keep(&mut self, turns: usize) -> Counters {
-        let state = self.store.state;
-        let mut counters = Counters::default();
-        for call in self.calls.iter().cycle().take(turns) {
-            self.store.state = state;
-            self.store.make(call, &mut counters);
+    fn keep(&mut self, turns: usize) -> Result<Counters, AllocError> {
+        match self.way {
+            Way::ByValue => self.by_value.keep(&self.calls, turns),
+            Way::InPlace => self.in_place.keep(&self.calls, turns),
+            Way::Held => self.held.keep(&self.calls, turns),
         }
-        self.store.state = state;
-        counters
     }
 
     // Prints what calls gave. An empty list makes none.
@@ -87,9 +95,10 @@ impl<R: CpuClock> Program for Bench<'_, R> {
                 self.print(counters, out)?;
             }
             Line::Keep(turns) => {
-                let counters = self.keep(turns);
+                let counters = self.keep(turns)?;
                 self.print(counters, out)?;
             }
+            Line::Way(way) => self.way = way,
             Line::Comment => {}
         }
         Ok(())

@@ -1,33 +1,54 @@
 // The calls of a list, made and counted.
+use crate::calls::Calls;
 use crate::counters::Counters;
 use crate::lines::Call;
-use cache::State;
+use cache::{Changed, State};
 use script::TABLE_RECORD;
-use slots::SlotList;
 use std::alloc::{AllocError, Global};
+use table::Refusal;
 
-// The state, and what it is lent.
+// A store that is called in one way, and what it is lent.
 #[derive(Drop)]
-pub struct Store {
-    pub state: State,
+pub struct Store<S> {
+    pub store: S,
     cells: Vec<i32>,
     memory: Vec<u8>,
     answer: Vec<u8>,
 }
 
-impl Store {
+impl<S: Calls> Store<S> {
     // A store without cells, cache memory or slots.
     pub fn new(alloc: Global) -> Result<Self, AllocError> {
         Ok(Store {
-            state: State::open(&mut [], &mut [], 0, SlotList::LEAST_BYTES).state,
+            store: S::closed(),
             cells: vec![in alloc; 0; State::CELLS]?,
             memory: vec![in alloc; 0; State::MEMORY]?,
             answer: vec![in alloc; 0; TABLE_RECORD]?,
         })
     }
 
+    // So many calls, round the list, each on the state that the last one left.
+    pub fn run(&mut self, calls: &[Call], turns: usize, mut counters: Counters) -> Counters {
+        for call in calls.iter().cycle().take(turns) {
+            self.make(call, &mut counters);
+        }
+        counters
+    }
+
+    // .. each on the state that is there now.
+    pub fn keep(&mut self, calls: &[Call], turns: usize) -> Result<Counters, AllocError> {
+        let state = self.store.kept()?;
+        let mut counters = Counters::default();
+        for call in calls.iter().cycle().take(turns) {
+            self.store.restore(state.clone()?);
+            self.make(call, &mut counters);
+        }
+        self.store.restore(state);
+        Ok(counters)
+    }
+
     // A call.
-    pub fn make(&mut self, call: &Call, counters: &mut Counters) {
+    fn make(&mut self, call: &Call, counters: &mut Counters) {
         counters.call();
         match call {
             Call::Open(slots) => self.open(*slots, counters),
@@ -45,66 +66,51 @@ impl Store {
     }
 
     fn open(&mut self, slots: usize, counters: &mut Counters) {
-        let (cells, memory) = (&mut self.cells, &mut self.memory);
-        let opened = State::open(cells, memory, slots, SlotList::MOST_BYTES);
-        counters.refuse(opened.result.is_err());
-        self.state = opened.state;
+        let opened = self.store.open(&mut self.cells, &mut self.memory, slots);
+        counters.refuse(opened.is_err());
     }
 
     fn add(&mut self, text: &[u8], counters: &mut Counters) {
-        let added = self.state.add(&self.cells, &self.memory, text);
-        counters.refuse(added.result.is_err());
-        self.state = added.state;
+        let added = self.store.add(&self.cells, &self.memory, text);
+        counters.refuse(added.is_err());
     }
 
     fn ask(&mut self, n: usize, values: &[i32], counters: &mut Counters) {
         let (memory, answer) = (&mut self.memory, &mut self.answer);
-        let asked = self.state.ask(&self.cells, memory, n, values, answer);
-        counters.refuse(asked.result.is_err());
-        if let Ok(answer) = asked.result {
+        let asked = self.store.ask(&self.cells, memory, n, values, answer);
+        counters.refuse(asked.is_err());
+        if let Ok(answer) = asked {
             counters.ask(answer);
             counters.check(self.answer.get(..answer.size).unwrap_or(&[]));
         }
-        self.state = asked.state;
     }
 
     fn update(&mut self, n: usize, values: &[i32], counters: &mut Counters) {
-        let updated = self.state.update(&mut self.cells, &self.memory, n, values);
-        counters.refuse(updated.result.is_err());
-        if let Ok(changed) = updated.result {
-            counters.update(changed);
-        }
-        self.state = updated.state;
+        let updated = self.store.update(&mut self.cells, &self.memory, n, values);
+        count_change(updated, counters);
     }
 
     fn flush(&mut self, counters: &mut Counters) {
-        let flushed = self.state.flush(&self.cells, &self.memory);
-        counters.refuse(flushed.result.is_err());
-        self.state = flushed.state;
+        let flushed = self.store.flush(&self.cells, &self.memory);
+        counters.refuse(flushed.is_err());
     }
 
     fn propose(&mut self, n: usize, values: &[i32], counters: &mut Counters) {
-        let proposed = self.state.propose(&self.cells, &self.memory, n, values);
-        counters.refuse(proposed.result.is_err());
-        if let Ok(proposed) = proposed.result {
+        let proposed = self.store.propose(&self.cells, &self.memory, n, values);
+        counters.refuse(proposed.is_err());
+        if let Ok(proposed) = proposed {
             counters.propose(proposed);
         }
-        self.state = proposed.state;
     }
 
     fn commit(&mut self, counters: &mut Counters) {
-        let committed = self.state.commit(&mut self.cells, &self.memory);
-        counters.refuse(committed.result.is_err());
-        if let Ok(changed) = committed.result {
-            counters.update(changed);
-        }
-        self.state = committed.state;
+        let committed = self.store.commit(&mut self.cells, &self.memory);
+        count_change(committed, counters);
     }
 
     fn withdraw(&mut self, counters: &mut Counters) {
-        let withdrawn = self.state.withdraw(&self.cells, &self.memory);
-        counters.refuse(withdrawn.result.is_err());
-        self.state = withdrawn.state;
+        let withdrawn = self.store.withdraw(&self.cells, &self.memory);
+        counters.refuse(withdrawn.is_err());
     }
 
     // Row i of the last answer.
@@ -114,6 +120,14 @@ impl Store {
     }
 
     fn test(&self, counters: &mut Counters) {
-        counters.refuse(!self.state.is_sound());
+        counters.refuse(!self.store.is_sound());
+    }
+}
+
+// What an update or a commit gives.
+fn count_change(changed: Result<Changed, Refusal>, counters: &mut Counters) {
+    counters.refuse(changed.is_err());
+    if let Ok(changed) = changed {
+        counters.update(changed);
     }
 }

@@ -10,4 +10,5 @@ pub mod Asked
 pub mod Updated
 pub mod Noted
 pub mod Stays
+pub mod Sealed
 pub mod TypesSay

@@ -10,9 +10,15 @@ use Rattle.meaning.specs.Plain.{Lengths}
 use Rattle.meaning.specs.Refusals.{or_else, settled}
 use Rattle.cache.specs.declared.State.{State}
 use Rattle.cache.specs.SoundTest.{sound_state}
+use Rattle.cache.specs.Sound.{note_if, pending_of}
 use Rattle.cache.specs.Calls.{unfit}
 use Rattle.cache.specs.declared.Note.{Note}
 use Rattle.std.specs.Prelude.{Option as Maybe, Some, None}
+
+-- the note that is put into a state is the one that is there
+pub note-put : (x : Maybe Note) → note_if (pending_of x).there (pending_of x).note ≡ x
+note-put None = refl
+note-put (Some n) = refl
 
 -- there is no note
 pub nothing : (n : Note) → ◌≡◌ {A = Maybe Note} None (Some n) → ⊥

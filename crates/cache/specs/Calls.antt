@@ -1,30 +1,18 @@
 -- The calls on the state as the program has it: the records that they give, and their refusals by the lists of `Refusals`. What they give and leave is in `Gives`. Assumes nothing: these are definitions.
-use Rattle.std.specs.Prelude.{Bool, not, ◌&&◌, ◌||◌, cond, List, [], ◌∷◌, map, ℕ, zero, suc, ◌+◌, ◌*◌, eqb, leb, ℤ, pos, length, take, drop, get_or, set, replicate, Some, None}
+use Rattle.std.specs.Prelude.{Bool, not, ◌&&◌, ◌||◌, List, ℕ, ◌*◌, eqb, ℤ, length, take, drop, get_or}
 use Rattle.std.proofs.Math.Option.{Option, none, some}
-use Rattle.lists.specs.Lists.{written, keep, count, any, pairs}
-use Rattle.meaning.specs.Limits.{most_tables, most_queries, most_updates, most_slots, least_slot_bytes}
+use Rattle.lists.specs.Lists.{keep, pairs}
 use Rattle.meaning.specs.Reader.{sentence}
 use Rattle.meaning.specs.Statement.{Second}
-use Rattle.meaning.specs.Refusals.{Conditions, Catalog, add_conditions, statement_conditions, update_conditions, kept_conditions, new_conditions, flush_conditions, note_conditions, is_none, is_short, is_many, lowest_of, settled}
-use Rattle.meaning.specs.Pattern.{removal}
-use Rattle.meaning.specs.Plain.{Lengths, Opening, opening_refused}
-use Rattle.statement.specs.declared.Table.{Table}
+use Rattle.meaning.specs.Refusals.{Conditions, Catalog, add_conditions, statement_conditions, update_conditions, new_conditions, note_conditions, is_none, is_short, is_many}
+use Rattle.meaning.specs.Plain.{Lengths}
 use Rattle.statement.specs.declared.Query.{Query}
-use Rattle.statement.specs.declared.Update.{Update}
 use Rattle.statement.specs.Catalog.{catalog}
-use Rattle.statement.specs.Compiled.{Compiled, of_table, of_query, of_update, insert_form, no_table, no_query, no_update, update_struct, compiled_of}
 use Rattle.statement.specs.Sound.{second_read}
-use Rattle.table.specs.Evaluated.{pairs_read}
 use Rattle.table.specs.Rows.{rows_used, passes_stored, answer_stored, record_stored}
-use Rattle.table.specs.Changed.{change_of, cells_after}
-use Rattle.pattern.specs.Stored.{matches_stored, reaches_stored}
-use Rattle.slots.specs.declared.Key.{Key}
-use Rattle.slots.specs.Keys.{Found, no_key, values_of, key_of, slot_key, find_of, held_slots}
-use Rattle.slots.specs.declared.SlotList.{SlotList}
-use Rattle.slots.specs.declared.Taken.{Taken}
-use Rattle.slots.specs.Order.{open_of as slots_open, front_of, is_open, last_taken, drop_by, clear_of}
+use Rattle.slots.specs.Keys.{Found, key_of, find_of}
 use Rattle.cache.specs.declared.State.{State}
-use Rattle.cache.specs.Sound.{lengths, opening, areas_of, length_at, query_at, table_at, update_at, is_full, pending_in}
+use Rattle.cache.specs.Sound.{lengths, areas_of, length_at, query_at, table_at, update_at, is_full, pending_in}
 use Rattle.cache.specs.SoundTest.{sound_state}
 
 -- ---- what the calls give, as numbers: the refusal's number or 0; where refused everything else is 0 but the state

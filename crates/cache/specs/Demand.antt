@@ -20,7 +20,7 @@ use Rattle.trace.specs.History.{Event, history, fits_slot, OneOf, keys_asked, An
 use Rattle.statement.specs.Sound.{Passes}
 use Rattle.slots.specs.Keys.{Found, key_read, slot_key, slots_of, held_slots}
 use Rattle.cache.specs.declared.State.{State}
-use Rattle.cache.specs.Sound.{lengths, opening, sizes_of, used_tables, schemas_in, areas_of, length_at, keys_in, OpeningWithin, IsSound, note_read, table_at, update_at}
+use Rattle.cache.specs.Sound.{lengths, opening, sizes_of, used_tables, schemas_in, areas_of, length_at, keys_in, OpeningWithin, IsSound, note_read, table_at, update_at, note_in, pending_of}
 use Rattle.cache.specs.SoundTest.{sound_state}
 use Rattle.cache.specs.Means.{tables_in, Means, Typed}
 use Rattle.cache.specs.Calls.{unfit, add_conditions_in, ask_conditions, change_conditions, record_conditions, cached_length, bytes_at, found_in, pending_conditions}
@@ -356,20 +356,20 @@ EnoughSlots = (o : Start) (cs : List (Call (List ℕ))) → All Call32 cs → (k
 -- on every state; of what it gives, and of the plain store's note, `DoesAsPlain` and `ThirdDemand` speak
 abbrev pub ProposalNotesOnly : Type 0
 ProposalNotesOnly = (s : Store) (n : ℕ) (us : List ℤ) → (step s (propose n us)).1.got.refusal ≡ 0
-    → (step s (propose n us)).0 ≡ record s { state = record s.state { pending = Some (note_of n us) } }
+    → (step s (propose n us)).0 ≡ record s { state = record s.state { pending = pending_of (Some (note_of n us)) } }
 
 -- "A commit then does it", and "the drop count is the commit's": on every sound state it is the update that the note names, in all that it gives and leaves
 abbrev pub CommitDoesIt : Type 0
-CommitDoesIt = (s : Store) (n : Note) → Typed s.state → (step s commit).1.got.refusal ≡ 0 → s.state.pending ≡ Some n
+CommitDoesIt = (s : Store) (n : Note) → Typed s.state → (step s commit).1.got.refusal ≡ 0 → note_in s.state ≡ Some n
     → step s commit ≡ step s (change n.update (note_read n).values)
 
 -- a withdrawal is taken exactly where there is a note, on a sound state with the opening's lengths; and it takes away the note alone. Both of every state
 abbrev pub WithdrawExactlyIf : Type 0
 WithdrawExactlyIf = (s : Store) → ((step s withdraw).1.got.refusal ≡ 0)
-    ↔ ((sound_state s.state ≡ true) × (length s.cells ≡ s.state.cells) × (length s.memory ≡ s.state.memory) × ((n : Note) × (s.state.pending ≡ Some n)))
+    ↔ ((sound_state s.state ≡ true) × (length s.cells ≡ s.state.cells) × (length s.memory ≡ s.state.memory) × ((n : Note) × (note_in s.state ≡ Some n)))
 
 abbrev pub WithdrawTakesNote : Type 0
-WithdrawTakesNote = (s : Store) → (step s withdraw).1.got.refusal ≡ 0 → (step s withdraw).0 ≡ record s { state = record s.state { pending = None } }
+WithdrawTakesNote = (s : Store) → (step s withdraw).1.got.refusal ≡ 0 → (step s withdraw).0 ≡ record s { state = record s.state { pending = pending_of None } }
 
 -- "in a list as in demand 3 an accepted commit's row count equals the one proposed": a proposal stands (`standing`: by what the calls before it got), and the rows that it gave are the commit's
 abbrev pub proposal_after : Start → List (Call (List ℕ)) → Option Proposal

@@ -1,6 +1,6 @@
 -- What each call gives and leaves, on the state as the program has it: document 01, "The store and its calls", "Meaning" and "Slots". Each is one record: the result, with the state in it, and the lent
 -- memories. The claims say all of it of every list of calls and of every sound state (`Demand`). Assumes nothing: these are definitions.
-use Rattle.std.specs.Prelude.{Bool, ◌&&◌, ◌||◌, cond, List, [], ◌∷◌, map, ℕ, zero, suc, ◌+◌, ◌*◌, min, eqb, leb, ℤ, length, take, get_or, set, replicate, Option as Maybe, Some, None, pos}
+use Rattle.std.specs.Prelude.{Bool, ◌&&◌, cond, List, [], ◌∷◌, map, ℕ, zero, suc, ◌+◌, ◌*◌, min, eqb, leb, ℤ, length, take, get_or, set, replicate, Option as Maybe, Some, None, pos}
 use Rattle.std.proofs.Math.Option.{Option, none, some}
 use Rattle.lists.specs.Lists.{written, count, any}
 use Rattle.meaning.specs.Limits.{most_tables, most_queries, most_updates, most_slots, most_marks, least_slot_bytes}
@@ -24,7 +24,7 @@ use Rattle.slots.specs.declared.Taken.{Taken}
 use Rattle.slots.specs.Order.{open_of as slots_open, front_of, is_open, last_taken, drop_by, clear_of}
 use Rattle.cache.specs.declared.Note.{Note}
 use Rattle.cache.specs.declared.State.{State}
-use Rattle.cache.specs.Sound.{lengths, query_at, opening, table_at, update_at, note_read}
+use Rattle.cache.specs.Sound.{lengths, query_at, opening, table_at, update_at, note_read, note_in, pending_of}
 use Rattle.cache.specs.Calls.{Opened, Added, Asked, Updated, add_conditions_in, ask_conditions, change_conditions, Opens, Asks, bytes_at, cached_length, area_start, rows_at, record_at, record_conditions, Updates, Flushed, lengths_lent, unfit, found_in, Proposed, pending_conditions}
 
 -- ---- open: "Opening fills both memories with zeros"; refused: "a state without tables, statements, slots or memory, its bytes a slot 8"
@@ -44,7 +44,7 @@ empty_state o = record {
   slot_bytes = o.slot_bytes;
   cells = o.lent.cells;
   memory = o.lent.memory;
-  pending = None;
+  pending = pending_of None;
 }
 
 abbrev pub open_gives : Opened → List ℤ → List ℕ → Opens
@@ -63,7 +63,7 @@ added_table s t = record {
   refusal = 0;
   kind = of_table;
   number = s.table_count;
-  state = record s { tables = set s.tables s.table_count t; table_count = s.table_count + 1; pending = None };
+  state = record s { tables = set s.tables s.table_count t; table_count = s.table_count + 1; pending = pending_of None };
 }
 
 abbrev pub added_query : State → Query → Added
@@ -71,7 +71,7 @@ added_query s q = record {
   refusal = 0;
   kind = of_query;
   number = s.query_count;
-  state = record s { queries = set s.queries s.query_count q; query_count = s.query_count + 1; pending = None };
+  state = record s { queries = set s.queries s.query_count q; query_count = s.query_count + 1; pending = pending_of None };
 }
 
 abbrev pub added_update : State → Update → Added
@@ -79,7 +79,7 @@ added_update s u = record {
   refusal = 0;
   kind = of_update;
   number = s.update_count;
-  state = record s { updates = set s.updates s.update_count u; update_count = s.update_count + 1; pending = None };
+  state = record s { updates = set s.updates s.update_count u; update_count = s.update_count + 1; pending = pending_of None };
 }
 
 -- what the text says beside the state's tables
@@ -231,7 +231,7 @@ abbrev pub with_rows : Table → ℕ → ℕ → Table
 with_rows t n k = record t { rows = n; oldest = k }
 
 unfoldable pub with_change : State → ℕ → Table → SlotList → State
-with_change s i t slots = record s { tables = set s.tables i t; slots = slots; pending = None }
+with_change s i t slots = record s { tables = set s.tables i t; slots = slots; pending = pending_of None }
 
 abbrev pub update_refused : State → ℕ → Updated
 update_refused s n = record { refusal = n; rows = 0; invalidated = 0; state = s }
@@ -260,7 +260,7 @@ update_of s cells memory update values =
 -- ---- flush: "drop every kept answer"
 
 abbrev pub emptied : State → State
-emptied s = record s { slots = clear_of s.slots; pending = None }
+emptied s = record s { slots = clear_of s.slots; pending = pending_of None }
 
 unfoldable pub flush_of : State → Lengths → Flushed
 flush_of s l =
@@ -270,7 +270,7 @@ flush_of s l =
 -- ---- A.8: "An update may be proposed: it gives the rows it would insert, match or delete, and changes nothing but the pending note in the state."
 
 unfoldable pub with_note : State → Maybe Note → State
-with_note s n = record s { pending = n }
+with_note s n = record s { pending = pending_of n }
 
 -- the note of an update with its first eight values
 unfoldable pub note_of : ℕ → List ℤ → Note
@@ -303,7 +303,7 @@ commit_done s cells (Some n) = update_done s cells (update_at s n.update) (note_
 unfoldable pub commit_of : State → List ℤ → List ℕ → Updates
 commit_of s cells memory =
     let n = pending_refusal s (lengths_lent cells memory) in
-    settled n (commit_done s cells s.pending) (update_gives (update_refused s n) cells)
+    settled n (commit_done s cells (note_in s)) (update_gives (update_refused s n) cells)
 
 unfoldable pub withdraw_of : State → Lengths → Flushed
 withdraw_of s l =

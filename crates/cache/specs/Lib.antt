@@ -2,6 +2,7 @@ pub mod Sound
 pub mod Calls
 pub mod Given
 pub mod Means
+pub mod Sealed
 pub mod Run
 pub mod Demand
 pub mod Examples

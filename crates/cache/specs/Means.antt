@@ -12,7 +12,7 @@ use Rattle.table.specs.Rows.{rows_used}
 use Rattle.slots.specs.declared.Key.{Key}
 use Rattle.cache.specs.declared.Note.{Note}
 use Rattle.cache.specs.declared.State.{State}
-use Rattle.cache.specs.Sound.{used_tables, used_queries, used_updates, pending_in}
+use Rattle.cache.specs.Sound.{used_tables, used_queries, used_updates, pending_in, note_in}
 
 -- the tables, the area of the first of them starting there: what its TABLE text says, and its rows
 abbrev pub tables_from : ℕ → List Table → List ℤ → List P.Table
@@ -47,4 +47,4 @@ pub record Typed (s : State) : Type 0 where
   pub queries_fit : All QueryFits s.queries
   pub updates_fit : All UpdateFits s.updates
   pub keys_fit : All (λ (k : Key). length k.values ≡ 8) s.keys
-  pub note_fits : (n : Note) → s.pending ≡ Some n → length n.values ≡ 8
+  pub note_fits : (n : Note) → note_in s ≡ Some n → length n.values ≡ 8

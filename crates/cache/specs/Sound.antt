@@ -1,9 +1,9 @@
 -- When a state is sound: document 01, "The store and its calls", "A state is sound when ..", and requests A.1, A.4 and A.8: the sentence, half sentence by half sentence (`IsSound`). The test that the code computes for
 -- any state is `SoundTest.sound_state`; that it is true exactly if the sentence holds is a claim (`Demand.SoundExactlyIf`). Entries past the counts do not matter. Assumes nothing: these are definitions.
-use Rattle.std.specs.Prelude.{◌≡◌, Bool, true, false, not, ◌&&◌, ◌||◌, List, [], ◌∷◌, ◌++◌, map, ℕ, ◌+◌, ◌*◌, ◌≤◌, ◌<◌, eqb, leb, ltb, length, get_or, take, Option as Maybe, Some, None}
-use Rattle.lists.specs.Lists.{All, all, Distinct}
+use Rattle.std.specs.Prelude.{◌≡◌, Bool, true, false, not, ◌&&◌, List, [], ◌∷◌, ◌++◌, map, ℕ, zero, suc, ◌+◌, ◌*◌, ◌≤◌, ◌<◌, eqb, leb, get_or, take, replicate, pos, Option as Maybe, Some, None}
+use Rattle.lists.specs.Lists.{All, Distinct}
 use Rattle.meaning.specs.Key as M
-use Rattle.meaning.specs.Limits.{most_tables, most_queries, most_updates, least_slot_bytes, Between}
+use Rattle.meaning.specs.Limits.{most_marks, Between}
 use Rattle.meaning.specs.Names.{Schema}
 use Rattle.meaning.specs.Plain.{Lengths, Opening, opening_refused}
 use Rattle.statement.specs.declared.Table.{Table}
@@ -12,14 +12,13 @@ use Rattle.statement.specs.declared.Update.{Update}
 use Rattle.statement.specs.Catalog.{schema_of, schemas_of}
 use Rattle.statement.specs.Compiled.{no_query, insert_form, no_table, no_update}
 use Rattle.statement.specs.Sound.{FromTable, FromQuery, FromUpdate}
-use Rattle.soundness.specs.Soundness.{tables_sound, queries_sound, updates_sound}
 use Rattle.slots.specs.declared.Key.{Key}
 use Rattle.slots.specs.declared.SlotList.{SlotList}
-use Rattle.slots.specs.Keys.{key_read, held_keys, held_twice, slots_of, held_slots}
-use Rattle.slots.specs.Order.{sound_slots}
+use Rattle.slots.specs.Keys.{key_read, held_keys, slots_of, held_slots}
 use Rattle.std.proofs.Math.Option.{Option, none, some}
 use Rattle.meaning.specs.Plain as P
 use Rattle.cache.specs.declared.Note.{Note}
+use Rattle.cache.specs.declared.Pending.{Pending}
 use Rattle.cache.specs.declared.State.{State}
 
 -- ---- what is in use
@@ -75,6 +74,22 @@ length_at s x = get_or s.lengths x 0
 abbrev pub keys_in : State → List M.Key
 keys_in s = map key_read (held_keys s.keys s.slots)
 
+-- the note, if there is one: any number but 0 says so
+abbrev pub note_if : ℕ → Note → Maybe Note
+note_if zero n = None
+note_if (suc k) n = Some n
+
+abbrev pub note_in : State → Maybe Note
+note_in s = note_if s.pending.there s.pending.note
+
+-- a note, or none: then all its numbers are 0, so that nothing of a note that was taken away is left
+abbrev pub no_note : Note
+no_note = record { update = 0; count = 0; values = replicate most_marks (pos 0) }
+
+abbrev pub pending_of : Maybe Note → Pending
+pending_of None = record { there = 0; note = no_note }
+pending_of (Some n) = record { there = 1; note = n }
+
 -- A.8: the pending note as the plain store has it: the update's number, and the values in use
 abbrev pub note_read : Note → P.Note
 note_read n = record { update = n.update; values = take n.count n.values }
@@ -84,7 +99,7 @@ pending_read None = none
 pending_read (Some n) = some (note_read n)
 
 abbrev pub pending_in : State → Option P.Note
-pending_in s = pending_read s.pending
+pending_in s = pending_read (note_in s)
 
 -- ---- the sentence
 
@@ -143,4 +158,4 @@ pub record IsSound (s : State) : Type 0 where
   -- "and its slot list names each slot once, held ones first"
   pub slots : NamesEachOnce s.slots
   -- A.8: the note, if there is one
-  pub note : (n : Note) → s.pending ≡ Some n → NoteStands s n
+  pub note : (n : Note) → note_in s ≡ Some n → NoteStands s n

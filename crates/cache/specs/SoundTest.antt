@@ -1,5 +1,5 @@
 -- The test of a state, which every call makes, part by part: it is true exactly if the sentence of `Sound.IsSound` holds (`Demand.SoundExactlyIf`). Assumes nothing: these are definitions.
-use Rattle.std.specs.Prelude.{◌≡◌, Bool, true, not, ◌&&◌, ◌||◌, ◌∷◌, ◌++◌, ℕ, ◌+◌, ◌*◌, ◌≤◌, ◌<◌, eqb, leb, ltb, length, Option as Maybe, Some, None}
+use Rattle.std.specs.Prelude.{Bool, true, not, ◌&&◌, ◌||◌, ℕ, eqb, leb, ltb, Option as Maybe, Some, None}
 use Rattle.lists.specs.Lists.{all}
 use Rattle.meaning.specs.Limits.{most_tables, most_queries, most_updates, least_slot_bytes}
 use Rattle.meaning.specs.Plain.{opening_refused}
@@ -12,7 +12,7 @@ use Rattle.meaning.specs.Refusals.{ten_to_twelve, lowest_of}
 use Rattle.statement.specs.declared.Update.{Update}
 use Rattle.cache.specs.declared.Note.{Note}
 use Rattle.cache.specs.declared.State.{State}
-use Rattle.cache.specs.Sound.{lengths, sizes_of, used_tables, areas_of, query_at, length_at, update_at, is_full}
+use Rattle.cache.specs.Sound.{sizes_of, used_tables, areas_of, query_at, length_at, update_at, is_full, note_in}
 
 -- "its sizes pass refusal 1"
 abbrev pub sound_sizes : State → Bool
@@ -74,7 +74,7 @@ note_passes s None = true
 note_passes s (Some n) = eqb (would_refuse s n.update n.count) 0
 
 unfoldable pub sound_note : State → Bool
-sound_note s = note_passes s s.pending
+sound_note s = note_passes s (note_in s)
 
 unfoldable pub sound_state : State → Bool
 sound_state s = sound_sizes s && (sound_counts s && (sound_tables s && (sound_answers s && sound_note s)))

@@ -3,31 +3,34 @@
 #![tactic(auto)]
 
 mod matching; // which cached answers an update invalidates
+mod sealed; // a state that is known to be sound
 mod sound; // the test of a state
 
-ghost use Rattle.std.specs.Prelude.{◌≡◌, Ok, true, cond, ◌&&◌, ◌+◌, ◌≤◌, ◌<◌, eqb, length, take, set};
+ghost use Rattle.std.specs.Prelude.{◌≡◌, ⊤, Ok, Some, None, true, cond, ◌&&◌, ◌+◌, ◌≤◌, ◌<◌, eqb, length, take, set};
 ghost use Rattle.meaning.specs.Refusals.{flush_conditions, lowest_of, settled};
 ghost use Rattle.statement.specs.Compiled.{compiled};
 ghost use Rattle.statement.specs.Refusals.{number_of, number_in};
 ghost use Rattle.table.specs.Evaluated.{said};
 ghost use Rattle.table.specs.Changed.{cells_after};
 ghost use Rattle.slots.specs.Keys.{key_of, find_of};
-ghost use Rattle.cache.specs.Sound.{lengths, opening, areas_of, update_at, note_read};
+ghost use Rattle.cache.specs.Sound.{lengths, opening, areas_of, update_at, note_read, note_if, pending_of};
 ghost use Rattle.cache.specs.Means.{Typed};
 ghost use Rattle.cache.specs.SoundTest.{sound_state, sound_counts, sound_tables, sound_answers, would_refuse, sound_note};
-ghost use Rattle.cache.specs.Private.Outcomes.{lent_in, nowhere, no_answer, settled_state, outcome_of, Caches, WorksOut, Room, Keeps, Effective, no_effect, effect_of, told, has_place, Makes, NotesOr};
+ghost use Rattle.cache.specs.Private.Outcomes.{lent_in, nowhere, no_answer, settled_state, outcome_of, Caches, WorksOut, Room, Keeps, told, has_place, Takes, NotesOr};
 ghost use Rattle.cache.specs.Given.{opened_as, added_as, asked_as, updated_as, flushed_as, proposed_as};
 ghost use Rattle.cache.specs.Calls.{lengths_lent, unfit};
 ghost use Rattle.cache.specs.Demand.{ThirdDemand, Demands};
 ghost use Rattle.cache.specs.Gives.{open_of, add_of, ask_of, update_of, flush_of, empty_state, open_gives, added_by, ask_gives, ask_refusal, kept_bytes, ask_new, ask_found, update_gives, update_refusal, update_refused, update_done, note_of, would_do, propose_of, commit_of, withdraw_of};
 
+pub use sealed::{Opened, SealedState};
 use slots::{Key, SlotList};
+use std::alloc::AllocError;
 use table::{Query, Refusal, Selected, Statement, Table, Update};
 
 // The state. Entries past the counts, and of slots that hold nothing, do not matter. (Plain numbers in a form that is public and fixed: callers fill it in, and tests of states name
 // its fields. So a count stands beside each array, and keys and lengths are two arrays; a key and a length in one struct are 128 bytes more, by the layout 40 each for 36 and 2.)
 #[repr(C)]
-#[derive(Clone, Copy)]
+#[derive(Drop)]
 pub struct State {
     pub tables: [Table; Table::TABLES],
     pub queries: [Query; Query::QUERIES],
@@ -45,10 +48,43 @@ pub struct State {
     pub cells: u32,
     pub memory: u32,
     // the update that is proposed, if one is
-    pub pending: Option<Note>,
+    pub pending: Pending,
 }
 
-// An update that is proposed: its number, and its values, of which the first `count` are in use.
+// A copy of it. (It is not `Copy`: the memories go on with one state alone, so a state that was handed on must not be used again by slip.)
+impl Clone for State {
+    ghost is_clone = { λ x y. y ≡ x };
+
+    ghost is_infallible = { λ _. ⊤ };
+
+    fn clone(&self) -> Result<Self, AllocError> {
+        Ok(State {
+            tables: self.tables,
+            queries: self.queries,
+            updates: self.updates,
+            keys: self.keys,
+            lengths: self.lengths,
+            slots: self.slots,
+            table_count: self.table_count,
+            query_count: self.query_count,
+            update_count: self.update_count,
+            slot_bytes: self.slot_bytes,
+            cells: self.cells,
+            memory: self.memory,
+            pending: self.pending,
+        })
+    }
+}
+
+// The update that is proposed: `note` counts where `there` is not 0. (Numbers and no `Option`, as everywhere in a state: an enum can't cross to C.)
+#[repr(C)]
+#[derive(Clone, Copy)]
+pub struct Pending {
+    pub there: u8,
+    pub note: Note,
+}
+
+// An update with values: its number, and its values, of which the first `count` are in use.
 #[repr(C)]
 #[derive(Clone, Copy)]
 pub struct Note {
@@ -58,7 +94,7 @@ pub struct Note {
 }
 
 // What a call gives: what it is made for, or why it is not taken; and the state, which a call takes by value and gives back in both cases.
-#[derive(Clone, Copy)]
+#[derive(Clone, Drop)]
 pub struct Outcome<T> {
     pub result: Result<T, Refusal>,
     pub state: State,
@@ -159,13 +195,6 @@ struct Question<'a> {
     ghost keyed: { key.now ≡ key_of number values.now },
     ghost all_tables: { length state.now.tables ≡ 8 },
     ghost all_queries: { length state.now.queries ≡ 16 },
-}
-
-// What an update leaves: what it did to its table, and the order of use.
-#[derive(Clone, Copy)]
-struct Effect {
-    done: table::Changed,
-    slots: SlotList,
 }
 
 // No slot is taken.
@@ -287,7 +316,7 @@ impl State {
         requires { (sound_counts self.now ≡ true) × (sound_tables self.now ≡ true) }
         ensures { result ≡ sound_note self.now }
     {
-        match &self.pending {
+        match self.pending.note() {
             None => true,
             Some(note) => self
                 .check_number(usize::from(note.update), usize::from(note.count))
@@ -323,12 +352,14 @@ impl State {
         fit && !slots::held_twice(&self.keys, &self.slots)
     }
 
-    // Refuses by 2: a state that is not sound, or lent lengths that are not those of its opening.
-    fn check(&self, lent: Lengths) -> Result<(), Refusal>
+    // Refuses by 2: a state that is not sound, or lent lengths that are not those of its opening. (Here and below, `sound` says whether the state is sound: a call tests it, and a
+    // `Store` knows it.)
+    fn check(&self, sound: bool, lent: Lengths) -> Result<(), Refusal>
+        requires { sound ≡ sound_state self.now }
         ensures { number_in result ≡ lowest_of (flush_conditions (unfit self.now (lent_in lent))) }
     {
         let same = (lent.cells == self.cells as usize) & (lent.memory == self.memory as usize);
-        let fit = self.is_sound() & same;
+        let fit = sound & same;
         if !fit {
             return Err(Refusal::State);
         }
@@ -354,8 +385,27 @@ impl State {
             slot_bytes,
             cells,
             memory,
-            pending: None,
+            pending: Pending::none(),
         }
+    }
+
+    // Such a state in place of this one, field by field: a state that is built first would lie on the stack beside it.
+    fn reset(&mut self, cells: u32, memory: u32, slots: u8, slot_bytes: u16)
+        ensures { self.new ≡ empty_state (opening (lengths cells memory) slots slot_bytes) }
+    {
+        self.tables = [Table::default(); Table::TABLES];
+        self.queries = [Query::default(); Query::QUERIES];
+        self.updates = [Update::default(); Update::UPDATES];
+        self.keys = [Key::default(); SlotList::SLOTS];
+        self.lengths = [0u16; SlotList::SLOTS];
+        self.slots = SlotList::open(slots);
+        self.table_count = 0;
+        self.query_count = 0;
+        self.update_count = 0;
+        self.slot_bytes = slot_bytes;
+        self.cells = cells;
+        self.memory = memory;
+        self.pending = Pending::none();
     }
 
     // Opens a store on lent memories, and clears them.
@@ -368,22 +418,31 @@ impl State {
         ensures opens { open_gives (opened_as result.result result.state) cells.new memory.new ≡ open_of cells.old memory.old slots slot_bytes }
         ensures third_demand { ThirdDemand }
     {
+        let mut state = State::empty(0, 0, 0, SlotList::LEAST_BYTES as u16);
+        let result = state.open_in(cells, memory, slots, slot_bytes);
+        Outcome { result, state }
+    }
+
+    // The same, in place: nothing is left of the state that was there.
+    pub fn open_in(
+        &mut self,
+        cells: &mut [i32],
+        memory: &mut [u8],
+        slots: usize,
+        slot_bytes: usize,
+    ) -> Result<(), Refusal>
+        ensures { open_gives (opened_as result self.new) cells.new memory.new ≡ open_of cells.old memory.old slots slot_bytes }
+    {
         let count = cells.len();
         let size = memory.len();
         if !sound::sizes_fit(count, size, slots, slot_bytes) {
-            let state = State::empty(0, 0, 0, SlotList::LEAST_BYTES as u16);
-            return Outcome {
-                result: Err(Refusal::Opening),
-                state,
-            };
+            self.reset(0, 0, 0, SlotList::LEAST_BYTES as u16);
+            return Err(Refusal::Opening);
         }
         cells.fill(0);
         memory.fill(0);
-        let state = State::empty(count as u32, size as u32, slots as u8, slot_bytes as u16);
-        Outcome {
-            result: Ok(()),
-            state,
-        }
+        self.reset(count as u32, size as u32, slots as u8, slot_bytes as u16);
+        Ok(())
     }
 
     // ---- add
@@ -392,17 +451,26 @@ impl State {
     pub fn add(mut self, cells: &[i32], memory: &[u8], text: &[u8]) -> Outcome<Added>
         ensures { added_as result.result result.state ≡ add_of self (lengths_lent cells.now memory.now) text.now }
     {
-        let result = self.add_text(Lengths::of(cells, memory), text);
+        let result = self.add_in(cells, memory, text);
         Outcome {
             result,
             state: self,
         }
     }
 
-    fn add_text(&mut self, lent: Lengths, text: &[u8]) -> Result<Added, Refusal>
+    // The same, in place.
+    pub fn add_in(&mut self, cells: &[i32], memory: &[u8], text: &[u8]) -> Result<Added, Refusal>
+        ensures { added_as result self.new ≡ add_of self.old (lengths_lent cells.now memory.now) text.now }
+    {
+        let sound = self.is_sound();
+        self.add_text(sound, Lengths::of(cells, memory), text)
+    }
+
+    fn add_text(&mut self, sound: bool, lent: Lengths, text: &[u8]) -> Result<Added, Refusal>
+        requires { sound ≡ sound_state self.old }
         ensures { added_as result self.new ≡ add_of self.old (lent_in lent) text.now }
     {
-        self.check(lent)?;
+        self.check(sound, lent)?;
         let tables = self.used_tables();
         let (queries, updates) = (self.query_count, self.update_count);
         let statement = Statement::compile(text, tables, queries, updates, self.cells)?;
@@ -414,7 +482,7 @@ impl State {
         requires { has_place (compiled (Ok statement)).kind self.old ≡ true }
         ensures { added_as (Ok result) self.new ≡ added_by self.old (compiled (Ok statement)) }
     {
-        self.pending = None;
+        self.pending = Pending::none();
         match statement {
             Statement::Table(table) => Added {
                 kind: Kind::Table,
@@ -433,8 +501,7 @@ impl State {
 
     // ---- ask
 
-    // Asks a query with its values: the record stands at the start of `answer`, from the cache or worked out. (The state is borrowed by what reads it and changed in one place: from a
-    // `self` that is not `mut` it was copied at each borrow, 60 KB a cached ask; docs/PROOFS.md, By value.)
+    // Asks a query with its values: the record stands at the start of `answer`, from the cache or worked out.
     pub fn ask(
         mut self,
         cells: &[i32],
@@ -445,32 +512,65 @@ impl State {
     ) -> Outcome<Answer>
         ensures { ask_gives (asked_as result.result result.state) memory.new answer.new ≡ ask_of self cells.now memory.old query values.now answer.old }
     {
-        let taken = self.check_ask(Lengths::of(cells, memory), query, values.len());
-        let key = Key::of((query % Query::QUERIES) as u8, values);
-        let reply = match taken {
-            Err(refusal) => not_answered(refusal, self.slots),
-            Ok(()) => {
-                let question = Question {
-                    state: &self,
-                    number: query,
-                    values,
-                    key: &key,
-                };
-                question.answered(cells, memory, answer)
-            }
-        };
-        self.settle(key, reply.place);
+        let result = self.ask_in(cells, memory, query, values, answer);
         Outcome {
-            result: reply.result,
+            result,
             state: self,
         }
     }
 
+    // The same, in place.
+    pub fn ask_in(
+        &mut self,
+        cells: &[i32],
+        memory: &mut [u8],
+        query: usize,
+        values: &[i32],
+        answer: &mut [u8],
+    ) -> Result<Answer, Refusal>
+        ensures { ask_gives (asked_as result self.new) memory.new answer.new ≡ ask_of self.old cells.now memory.old query values.now answer.old }
+    {
+        let sound = self.is_sound();
+        self.answer_query(sound, cells, memory, query, values, answer)
+    }
+
+    fn answer_query(
+        &mut self,
+        sound: bool,
+        cells: &[i32],
+        memory: &mut [u8],
+        query: usize,
+        values: &[i32],
+        answer: &mut [u8],
+    ) -> Result<Answer, Refusal>
+        requires { sound ≡ sound_state self.old }
+        ensures { ask_gives (asked_as result self.new) memory.new answer.new ≡ ask_of self.old cells.now memory.old query values.now answer.old }
+    {
+        self.check_ask(sound, Lengths::of(cells, memory), query, values.len())?;
+        let key = Key::of(query as u8, values);
+        let question = Question {
+            state: self,
+            number: query,
+            values,
+            key: &key,
+        };
+        let reply = question.answered(cells, memory, answer);
+        self.settle(key, reply.place);
+        reply.result
+    }
+
     // Refuses by 2, 10 or 11, the lowest that applies.
-    fn check_ask(&self, lent: Lengths, query: usize, values: usize) -> Result<(), Refusal>
+    fn check_ask(
+        &self,
+        sound: bool,
+        lent: Lengths,
+        query: usize,
+        values: usize,
+    ) -> Result<(), Refusal>
+        requires { sound ≡ sound_state self.now }
         ensures { number_in result ≡ ask_refusal self.now (lent_in lent) query values }
     {
-        self.check(lent)?;
+        self.check(sound, lent)?;
         let queries = self.used_queries();
         let q = queries.get(query).ok_or(Refusal::Number)?;
         check_values(q.parameters, values)
@@ -491,10 +591,17 @@ impl State {
     // ---- update
 
     // Refuses by 2, 10, 11 or 12, the lowest that applies.
-    fn check_update(&self, lent: Lengths, update: usize, values: usize) -> Result<(), Refusal>
+    fn check_update(
+        &self,
+        sound: bool,
+        lent: Lengths,
+        update: usize,
+        values: usize,
+    ) -> Result<(), Refusal>
+        requires { sound ≡ sound_state self.now }
         ensures { number_in result ≡ update_refusal self.now (lent_in lent) update values }
     {
-        self.check(lent)?;
+        self.check(sound, lent)?;
         self.check_number(update, values)
     }
 
@@ -514,59 +621,28 @@ impl State {
         Ok(())
     }
 
-    // The rows of the update's table t changed, and the slots of the answers that it matches dropped; nothing where it is refused.
-    fn take_effect(
-        &self,
-        taken: Result<(), Refusal>,
-        u: Update,
-        t: Table,
-        cells: &mut [i32],
-        values: &[i32],
-    ) -> Effect
-        requires { Effective (number_in taken) self.now.slots self.now.query_count u.table }
-        ensures effect { result ≡ settled (number_in taken) (effect_of self.now.tables self.now.keys self.now.slots self.now.queries self.now.query_count u t cells.old values.now) (no_effect t self.now.slots) }
-        ensures cells { cells.new ≡ settled (number_in taken) (cells_after u t (areas_of (take u.table self.now.tables)) cells.old values.now) cells.old }
+    // Makes the update of this number with its values, and invalidates the cached answers that it matches; the note goes.
+    fn make(&mut self, update: usize, cells: &mut [i32], values: &[i32]) -> Changed
+        requires { Takes self.old (length cells.old) update }
+        ensures { update_gives (updated_as (Ok result) self.new) cells.new ≡ update_done self.old cells.old (update_at self.old update) values.now }
     {
-        let slots = self.slots;
-        if taken.is_err() {
-            let done = table::Changed::none(&t);
-            return Effect { done, slots };
-        }
-        let start = sound::areas(&self.tables[..usize::from(u.table)]);
+        let u = self.updates[update];
+        let i = usize::from(u.table);
+        let mut t = self.tables[i];
+        let start = sound::areas(&self.tables[..i]);
         let gone = matching::dropped_by(self, &u, &t, start, cells, values);
         let done = table::change(u, t, start, cells, values);
-        Effect {
-            done,
-            slots: slots.drop(&gone),
-        }
-    }
-
-    // Makes an update of this number with its values where it is taken, and invalidates the cached answers that it matches; the note goes. (Refused or not, the state is changed in one
-    // place and returned once: with a second return it was copied once more a call; docs/PROOFS.md, By value.)
-    fn make(
-        &mut self,
-        taken: Result<(), Refusal>,
-        update: usize,
-        cells: &mut [i32],
-        values: &[i32],
-    ) -> Result<Changed, Refusal>
-        requires { Makes self.old (number_in taken) (length cells.old) update }
-        ensures { update_gives (updated_as result self.new) cells.new ≡ settled (number_in taken) (update_done self.old cells.old (update_at self.old update) values.now) (update_gives (update_refused self.old (number_in taken)) cells.old) }
-    {
-        let u = self.updates[update % Update::UPDATES];
-        let i = usize::from(u.table) % Table::TABLES;
-        let mut t = self.tables[i];
-        let effect = self.take_effect(taken, u, t, cells, values);
-        let rows = effect.done.count;
-        let invalidated = self.slots.held - effect.slots.held;
-        t.rows = effect.done.rows;
-        t.oldest = effect.done.oldest;
+        let slots = self.slots.drop(&gone);
+        let invalidated = self.slots.held - slots.held;
+        t.rows = done.rows;
+        t.oldest = done.oldest;
         self.tables[i] = t;
-        self.slots = effect.slots;
-        if taken.is_ok() {
-            self.pending = None;
+        self.slots = slots;
+        self.pending = Pending::none();
+        Changed {
+            rows: done.count,
+            invalidated,
         }
-        taken.map(|()| Changed { rows, invalidated })
     }
 
     // Makes an update with its values, and invalidates the cached answers that it matches. The cache memory is lent to be measured.
@@ -579,12 +655,40 @@ impl State {
     ) -> Outcome<Changed>
         ensures { update_gives (updated_as result.result result.state) cells.new ≡ update_of self cells.old memory.now update values.now }
     {
-        let taken = self.check_update(Lengths::of(cells, memory), update, values.len());
-        let result = self.make(taken, update, cells, values);
+        let result = self.update_in(cells, memory, update, values);
         Outcome {
             result,
             state: self,
         }
+    }
+
+    // The same, in place.
+    pub fn update_in(
+        &mut self,
+        cells: &mut [i32],
+        memory: &[u8],
+        update: usize,
+        values: &[i32],
+    ) -> Result<Changed, Refusal>
+        ensures { update_gives (updated_as result self.new) cells.new ≡ update_of self.old cells.old memory.now update values.now }
+    {
+        let sound = self.is_sound();
+        self.make_update(sound, cells, memory, update, values)
+    }
+
+    fn make_update(
+        &mut self,
+        sound: bool,
+        cells: &mut [i32],
+        memory: &[u8],
+        update: usize,
+        values: &[i32],
+    ) -> Result<Changed, Refusal>
+        requires { sound ≡ sound_state self.old }
+        ensures { update_gives (updated_as result self.new) cells.new ≡ update_of self.old cells.old memory.now update values.now }
+    {
+        self.check_update(sound, Lengths::of(cells, memory), update, values.len())?;
+        Ok(self.make(update, cells, values))
     }
 
     // ---- propose, commit, withdraw
@@ -610,40 +714,89 @@ impl State {
     ) -> Outcome<Proposed>
         ensures { proposed_as result.result result.state ≡ propose_of self cells.now memory.now update values.now }
     {
-        let taken = self.check_update(Lengths::of(cells, memory), update, values.len());
-        let result = match taken {
-            Err(refusal) => Err(refusal),
-            Ok(()) => {
-                let rows = self.count_rows(update, cells, values);
-                self.pending = Some(Note::of(update as u8, values));
-                Ok(Proposed { rows })
-            }
-        };
+        let result = self.propose_in(cells, memory, update, values);
         Outcome {
             result,
             state: self,
         }
     }
 
+    // The same, in place.
+    pub fn propose_in(
+        &mut self,
+        cells: &[i32],
+        memory: &[u8],
+        update: usize,
+        values: &[i32],
+    ) -> Result<Proposed, Refusal>
+        ensures { proposed_as result self.new ≡ propose_of self.old cells.now memory.now update values.now }
+    {
+        let sound = self.is_sound();
+        self.note_update(sound, cells, memory, update, values)
+    }
+
+    fn note_update(
+        &mut self,
+        sound: bool,
+        cells: &[i32],
+        memory: &[u8],
+        update: usize,
+        values: &[i32],
+    ) -> Result<Proposed, Refusal>
+        requires { sound ≡ sound_state self.old }
+        ensures { proposed_as result self.new ≡ propose_of self.old cells.now memory.now update values.now }
+    {
+        let taken = self.check_update(sound, Lengths::of(cells, memory), update, values.len());
+        match taken {
+            Err(refusal) => Err(refusal),
+            Ok(()) => {
+                let rows = self.count_rows(update, cells, values);
+                self.pending = Pending::of(Note::of(update as u8, values));
+                Ok(Proposed { rows })
+            }
+        }
+    }
+
     // The note, refused by 2 or 17.
-    fn check_note(&self, lent: Lengths) -> Result<Note, Refusal>
+    fn check_note(&self, sound: bool, lent: Lengths) -> Result<Note, Refusal>
+        requires { sound ≡ sound_state self.now }
         ensures { NotesOr self.now (lent_in lent) result }
     {
-        self.check(lent)?;
-        self.pending.ok_or(Refusal::Note)
+        self.check(sound, lent)?;
+        self.pending.note().ok_or(Refusal::Note)
     }
 
     // Makes the update that is proposed. The cache memory is lent to be measured.
     pub fn commit(mut self, cells: &mut [i32], memory: &[u8]) -> Outcome<Changed>
         ensures { update_gives (updated_as result.result result.state) cells.new ≡ commit_of self cells.old memory.now }
     {
-        let result = match self.check_note(Lengths::of(cells, memory)) {
-            Err(refusal) => Err(refusal),
-            Ok(note) => self.make(Ok(()), usize::from(note.update), cells, note.used()),
-        };
+        let result = self.commit_in(cells, memory);
         Outcome {
             result,
             state: self,
+        }
+    }
+
+    // The same, in place.
+    pub fn commit_in(&mut self, cells: &mut [i32], memory: &[u8]) -> Result<Changed, Refusal>
+        ensures { update_gives (updated_as result self.new) cells.new ≡ commit_of self.old cells.old memory.now }
+    {
+        let sound = self.is_sound();
+        self.make_noted(sound, cells, memory)
+    }
+
+    fn make_noted(
+        &mut self,
+        sound: bool,
+        cells: &mut [i32],
+        memory: &[u8],
+    ) -> Result<Changed, Refusal>
+        requires { sound ≡ sound_state self.old }
+        ensures { update_gives (updated_as result self.new) cells.new ≡ commit_of self.old cells.old memory.now }
+    {
+        match self.check_note(sound, Lengths::of(cells, memory)) {
+            Err(refusal) => Err(refusal),
+            Ok(note) => Ok(self.make(usize::from(note.update), cells, note.used())),
         }
     }
 
@@ -651,14 +804,30 @@ impl State {
     pub fn withdraw(mut self, cells: &[i32], memory: &[u8]) -> Outcome<()>
         ensures { flushed_as result.result result.state ≡ withdraw_of self (lengths_lent cells.now memory.now) }
     {
-        let result = self.check_note(Lengths::of(cells, memory)).map(|_| ());
-        if result.is_ok() {
-            self.pending = None;
-        }
+        let result = self.withdraw_in(cells, memory);
         Outcome {
             result,
             state: self,
         }
+    }
+
+    // The same, in place.
+    pub fn withdraw_in(&mut self, cells: &[i32], memory: &[u8]) -> Result<(), Refusal>
+        ensures { flushed_as result self.new ≡ withdraw_of self.old (lengths_lent cells.now memory.now) }
+    {
+        let sound = self.is_sound();
+        self.take_note(sound, Lengths::of(cells, memory))
+    }
+
+    fn take_note(&mut self, sound: bool, lent: Lengths) -> Result<(), Refusal>
+        requires { sound ≡ sound_state self.old }
+        ensures { flushed_as result self.new ≡ withdraw_of self.old (lent_in lent) }
+    {
+        let result = self.check_note(sound, lent).map(|_| ());
+        if result.is_ok() {
+            self.pending = Pending::none();
+        }
+        result
     }
 
     // ---- flush
@@ -667,15 +836,64 @@ impl State {
     pub fn flush(mut self, cells: &[i32], memory: &[u8]) -> Outcome<()>
         ensures { flushed_as result.result result.state ≡ flush_of self (lengths_lent cells.now memory.now) }
     {
-        let result = self.check(Lengths::of(cells, memory));
-        if result.is_ok() {
-            self.slots = self.slots.clear();
-            self.pending = None;
-        }
+        let result = self.flush_in(cells, memory);
         Outcome {
             result,
             state: self,
         }
+    }
+
+    // The same, in place.
+    pub fn flush_in(&mut self, cells: &[i32], memory: &[u8]) -> Result<(), Refusal>
+        ensures { flushed_as result self.new ≡ flush_of self.old (lengths_lent cells.now memory.now) }
+    {
+        let sound = self.is_sound();
+        self.clear(sound, Lengths::of(cells, memory))
+    }
+
+    fn clear(&mut self, sound: bool, lent: Lengths) -> Result<(), Refusal>
+        requires { sound ≡ sound_state self.old }
+        ensures { flushed_as result self.new ≡ flush_of self.old (lent_in lent) }
+    {
+        let result = self.check(sound, lent);
+        if result.is_ok() {
+            self.slots = self.slots.clear();
+            self.pending = Pending::none();
+        }
+        result
+    }
+}
+
+impl Pending {
+    // No update: all numbers are 0, so that nothing is left of one that was proposed before.
+    pub fn none() -> Pending
+        ensures { result ≡ pending_of None }
+    {
+        Pending {
+            there: 0,
+            note: Note {
+                update: 0,
+                count: 0,
+                values: [0; Key::VALUES],
+            },
+        }
+    }
+
+    // This update.
+    pub fn of(note: Note) -> Pending
+        ensures { result ≡ pending_of (Some note) }
+    {
+        Pending { there: 1, note }
+    }
+
+    // The update, if there is one.
+    pub fn note(&self) -> Option<Note>
+        ensures { result ≡ note_if self.now.there self.now.note }
+    {
+        if self.there == 0 {
+            return None;
+        }
+        Some(self.note)
     }
 }
 

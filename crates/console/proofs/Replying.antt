@@ -12,7 +12,7 @@ use Rattle.lists.proofs.Written.{length-written, written-there}
 use Rattle.cache.specs.declared.State.{State}
 use Rattle.meaning.specs.Call.{add, ask, change, flush}
 use Rattle.console.specs.declared.Line.TheVariants.{Add, Ask, Do, Flush, Bad}
-use Rattle.console.specs.declared.Reply.{Reply}
+use Rattle.console.specs.Desk.{Reply}
 use Rattle.console.specs.Room.{filled, filled_to}
 use Rattle.console.specs.Lines.{Command, command_of, line_of, values_of}
 use Rattle.console.specs.Printed.{bad_text}

@@ -6,7 +6,6 @@ use Rattle.meaning.specs.Call.{Call, add, ask, change, flush, with_buffer}
 use Rattle.meaning.specs.Refusals.{settled}
 use Rattle.cache.specs.declared.State.{State}
 use Rattle.cache.specs.Run.{Store, Seen, step}
-use Rattle.console.specs.declared.Reply.{Reply}
 use Rattle.console.specs.Lines.{Command, command_of}
 use Rattle.console.specs.Printed.{bad_text, refused_text, added_text, updated_text, flushed_text, answer_text}
 use Rattle.console.specs.Room.{filled, filled_to}
@@ -54,6 +53,11 @@ printed_for s buffer [] = []
 printed_for s buffer (l ∷ ls) = (answered_of s buffer l).text ∷ printed_for (answered_of s buffer l).store (answered_of s buffer l).buffer ls
 
 -- ---- as the program does it: the text stands at the start of a lent buffer, as far as there is room
+
+-- how many bytes of text are at the start of the lent buffer, and the state
+pub record Reply : Type 0 where
+  pub size : ℕ
+  pub state : State
 
 pub record Replies : Type 0 where
   pub result : Reply

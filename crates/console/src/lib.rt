@@ -11,7 +11,7 @@ ghost use Rattle.console.specs.Demand.{Demands};
 ghost use Rattle.console.specs.Desk.{replies, reply_of};
 ghost use Rattle.console.specs.Private.Commands.{reply_to};
 
-use cache::State;
+use cache::SealedState;
 pub use lines::{gather, read_line};
 pub use text::{write_added, write_answer, write_bad, write_flushed, write_refused, write_updated};
 
@@ -42,23 +42,16 @@ pub struct Gathered {
     pub ended: bool,
 }
 
-// What a line brought: how many bytes of the text are at the start of the lent buffer, and the state.
-#[derive(Clone, Copy)]
-pub struct Reply {
-    pub size: usize,
-    pub state: State,
-}
-
-// Does what a line says, and puts what is printed for it at the start of `out`, as far as there is room.
+// Does what a line says, and puts what is printed for it at the start of `out`, as far as there is room: how many bytes those are.
 pub fn respond(
-    state: State,
+    state: &mut SealedState,
     cells: &mut [i32],
     memory: &mut [u8],
     answer: &mut [u8],
     line: &[u8],
     out: &mut [u8],
-) -> Reply
-    ensures { replies result cells.new memory.new answer.new out.new ≡ reply_of state cells.old memory.old answer.old line.now out.old }
+) -> usize
+    ensures { replies (record { size = result; state = state.new }) cells.new memory.new answer.new out.new ≡ reply_of state.old cells.old memory.old answer.old line.now out.old }
 {
     let mut values = [0i32; Line::BYTES];
     match read_line(line, &mut values) {
@@ -70,10 +63,7 @@ pub fn respond(
             respond_do(state, cells, memory, number, &values[..count], out)
         }
         Line::Flush => respond_flush(state, cells, memory, out),
-        Line::Bad => {
-            let size = write_bad(out);
-            Reply { size, state }
-        }
+        Line::Bad => write_bad(out),
     }
 }
 
@@ -81,77 +71,68 @@ pub fn respond(
 // State, cells, memory, answer and out stay parameters: a caller lends them, and a call that is lent two fields of a struct of `&mut` borrows gets no generated proof. Each
 // function would take the struct apart first, so their names would stand there as now. (`serve` has a struct that owns its arrays.)
 
-fn respond_add(state: State, cells: &[i32], memory: &[u8], text: &[u8], out: &mut [u8]) -> Reply
-    ensures { replies result cells.now memory.now [] out.new ≡ reply_to state cells.now memory.now [] (add text.now) out.old }
+fn respond_add(
+    state: &mut SealedState,
+    cells: &[i32],
+    memory: &[u8],
+    text: &[u8],
+    out: &mut [u8],
+) -> usize
+    ensures { replies (record { size = result; state = state.new }) cells.now memory.now [] out.new ≡ reply_to state.old cells.now memory.now [] (add text.now) out.old }
 {
-    let outcome = state.add(cells, memory, text);
-    let size = match outcome.result {
+    match state.add(cells, memory, text) {
         Ok(added) => write_added(out, added.kind, added.number),
         Err(refusal) => write_refused(out, refusal),
-    };
-    Reply {
-        size,
-        state: outcome.state,
     }
 }
 
 fn respond_ask(
-    state: State,
+    state: &mut SealedState,
     cells: &[i32],
     memory: &mut [u8],
     number: usize,
     values: &[i32],
     answer: &mut [u8],
     out: &mut [u8],
-) -> Reply
-    ensures { replies result cells.now memory.new answer.new out.new ≡ reply_to state cells.now memory.old answer.old (ask (record { query = number; values = values.now }) answer.old) out.old }
+) -> usize
+    ensures { replies (record { size = result; state = state.new }) cells.now memory.new answer.new out.new ≡ reply_to state.old cells.now memory.old answer.old (ask (record { query = number; values = values.now }) answer.old) out.old }
 {
-    let outcome = state.ask(cells, memory, number, values, answer);
-    let size = match outcome.result {
+    match state.ask(cells, memory, number, values, answer) {
         Ok(asked) => {
             let record = &answer[..asked.size];
             write_answer(out, asked.source, asked.scanned, record)
         }
         Err(refusal) => write_refused(out, refusal),
-    };
-    Reply {
-        size,
-        state: outcome.state,
     }
 }
 
 fn respond_do(
-    state: State,
+    state: &mut SealedState,
     cells: &mut [i32],
     memory: &[u8],
     number: usize,
     values: &[i32],
     out: &mut [u8],
-) -> Reply
-    ensures { replies result cells.new memory.now [] out.new ≡ reply_to state cells.old memory.now [] (change number values.now) out.old }
+) -> usize
+    ensures { replies (record { size = result; state = state.new }) cells.new memory.now [] out.new ≡ reply_to state.old cells.old memory.now [] (change number values.now) out.old }
 {
-    let outcome = state.update(cells, memory, number, values);
-    let size = match outcome.result {
+    match state.update(cells, memory, number, values) {
         Ok(changed) => write_updated(out, changed.rows, changed.invalidated),
         Err(refusal) => write_refused(out, refusal),
-    };
-    Reply {
-        size,
-        state: outcome.state,
     }
 }
 
-fn respond_flush(state: State, cells: &[i32], memory: &[u8], out: &mut [u8]) -> Reply
-    ensures { replies result cells.now memory.now [] out.new ≡ reply_to state cells.now memory.now [] flush out.old }
+fn respond_flush(
+    state: &mut SealedState,
+    cells: &[i32],
+    memory: &[u8],
+    out: &mut [u8],
+) -> usize
+    ensures { replies (record { size = result; state = state.new }) cells.now memory.now [] out.new ≡ reply_to state.old cells.now memory.now [] flush out.old }
 {
-    let outcome = state.flush(cells, memory);
-    let size = match outcome.result {
+    match state.flush(cells, memory) {
         Ok(()) => write_flushed(out),
         Err(refusal) => write_refused(out, refusal),
-    };
-    Reply {
-        size,
-        state: outcome.state,
     }
 }
 

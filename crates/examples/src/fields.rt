@@ -1,6 +1,6 @@
 // A field of a state, changed by its name. The numbers say which entry and what it becomes; an entry past an array changes nothing.
 // Names are words of the script, one field each, so they are told apart by a `match` on bytes: an enum of them would be a second `match` and no plainer.
-use cache::{Note, State};
+use cache::{Pending, State};
 use script::number;
 use slots::{Key, SlotList};
 use table::{Comparison, Condition, Name, Query, Table, Update};
@@ -83,22 +83,16 @@ fn set_key(key: &mut Key, name: &[u8], n: &[i32]) {
 
 // ---- the note
 
-// With `pending` a note is there (1) or none (0): one that was not there is of update 0, without values. The other fields are those of a note that is there.
-fn set_note(pending: &mut Option<Note>, name: &[u8], n: &[i32]) {
+// With `pending` a note is there (1, or any other number but 0) or none (0): one that was not there is of update 0, without values. The other fields are those of a note that is there.
+fn set_note(pending: &mut Pending, name: &[u8], n: &[i32]) {
     let i = number(n, 0);
-    match (name, pending.as_mut()) {
-        (b"pending", None) if 0 < i => {
-            *pending = Some(Note {
-                update: 0,
-                count: 0,
-                values: [0; Key::VALUES],
-            });
-        }
-        (b"pending", Some(_)) if i == 0 => *pending = None,
-        (b"pendingupdate", Some(note)) => note.update = low8(i),
-        (b"pendingcount", Some(note)) => note.count = low8(i),
-        (b"pendingvalue", Some(note)) => {
-            if let (Some(value), Some(z)) = (note.values.get_mut(i), n.get(1)) {
+    match (name, pending.there != 0) {
+        (b"pending", true) if i == 0 => *pending = Pending::none(),
+        (b"pending", _) => pending.there = low8(i.min(255)),
+        (b"pendingupdate", true) => pending.note.update = low8(i),
+        (b"pendingcount", true) => pending.note.count = low8(i),
+        (b"pendingvalue", true) => {
+            if let (Some(value), Some(z)) = (pending.note.values.get_mut(i), n.get(1)) {
                 *value = *z;
             }
         }

@@ -60,7 +60,7 @@ impl Store {
         })
     }
 
-    // ---- the calls, on what is lent
+    // ---- the calls, by value, on what is lent
 
     fn open<W: Write>(&mut self, n: &[i32], out: &mut W) -> io::Result<()> {
         self.lend(n);
@@ -74,7 +74,7 @@ impl Store {
     }
 
     fn add<W: Write>(&mut self, text: &[u8], out: &mut W) -> io::Result<()> {
-        let added = self.state.add(self.cells.lent(), self.memory.lent(), text);
+        let added = self.state.clone()?.add(self.cells.lent(), self.memory.lent(), text);
         self.state = added.state;
         let added = match added.result {
             Ok(added) => added,
@@ -93,7 +93,7 @@ impl Store {
         let values = n.get(2..).unwrap_or(&[]);
         let (cells, memory) = (self.cells.lent(), self.memory.lent_mut());
         let answer = self.answer.lent_mut();
-        let asked = self.state.ask(cells, memory, number(n, 0), values, answer);
+        let asked = self.state.clone()?.ask(cells, memory, number(n, 0), values, answer);
         self.state = asked.state;
         let answer = match asked.result {
             Ok(answer) => answer,
@@ -114,7 +114,7 @@ impl Store {
     fn update<W: Write>(&mut self, n: &[i32], out: &mut W) -> io::Result<()> {
         let values = n.get(1..).unwrap_or(&[]);
         let (cells, memory) = (self.cells.lent_mut(), self.memory.lent());
-        let updated = self.state.update(cells, memory, number(n, 0), values);
+        let updated = self.state.clone()?.update(cells, memory, number(n, 0), values);
         self.state = updated.state;
         print_changed(updated.result, out)
     }
@@ -122,7 +122,7 @@ impl Store {
     fn propose<W: Write>(&mut self, n: &[i32], out: &mut W) -> io::Result<()> {
         let values = n.get(1..).unwrap_or(&[]);
         let (cells, memory) = (self.cells.lent(), self.memory.lent());
-        let proposed = self.state.propose(cells, memory, number(n, 0), values);
+        let proposed = self.state.clone()?.propose(cells, memory, number(n, 0), values);
         self.state = proposed.state;
         match proposed.result {
             Ok(proposed) => writeln!(out, "rows {}", proposed.rows),
@@ -132,14 +132,14 @@ impl Store {
 
     fn commit<W: Write>(&mut self, out: &mut W) -> io::Result<()> {
         let (cells, memory) = (self.cells.lent_mut(), self.memory.lent());
-        let committed = self.state.commit(cells, memory);
+        let committed = self.state.clone()?.commit(cells, memory);
         self.state = committed.state;
         print_changed(committed.result, out)
     }
 
     fn withdraw<W: Write>(&mut self, out: &mut W) -> io::Result<()> {
         let (cells, memory) = (self.cells.lent(), self.memory.lent());
-        let withdrawn = self.state.withdraw(cells, memory);
+        let withdrawn = self.state.clone()?.withdraw(cells, memory);
         self.state = withdrawn.state;
         match withdrawn.result {
             Ok(()) => writeln!(out, "withdrawn"),
@@ -186,7 +186,7 @@ impl Store {
     fn changed(&self, text: &[u8]) -> Result<State, AllocError> {
         let (name, numbers) = split_word(text);
         let n: Vec<i32> = Constants::new(numbers).collect(self.alloc)?;
-        let mut state = self.state;
+        let mut state = self.state.clone()?;
         fields::set_field(&mut state, name, &n);
         Ok(state)
     }
@@ -198,7 +198,7 @@ impl Store {
             b"LEND" => self.lend(n),
             b"ASK" => self.ask(n, out)?,
             b"DO" => self.update(n, out)?,
-            b"FLUSH" => self.state = self.flush(self.state, out)?,
+            b"FLUSH" => self.state = self.flush(self.state.clone()?, out)?,
             b"PROPOSE" => self.propose(n, out)?,
             b"COMMIT" => self.commit(out)?,
             b"WITHDRAW" => self.withdraw(out)?,

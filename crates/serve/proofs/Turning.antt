@@ -16,7 +16,7 @@ use Rattle.lists.proofs.Bools.{and_left, and_right}
 use Rattle.lists.proofs.Runs.{run_length, run-all}
 use Rattle.cache.specs.declared.State.{State}
 use Rattle.cache.specs.Run.{Start, opened}
-use Rattle.console.specs.declared.Reply.{Reply}
+use Rattle.console.specs.Desk.{Reply}
 use Rattle.console.specs.declared.Gathered.{Gathered}
 use Rattle.console.specs.Room.{fitting, filled, filled_to}
 use Rattle.console.specs.Lines.{is_newline, line_from, has_newline, line_ends, gathered_of}

@@ -6,7 +6,7 @@ ghost use Rattle.std.specs.Io.KnownBytes.{Appends, Consumes, IsAtEnd};
 ghost use Rattle.serve.specs.Input.{answering, next_session, finished, printed_last, Serves, Demands};
 ghost use Rattle.serve.specs.Private.Turns.{Feeds, Reads, ReadsPart, Runs, Opens};
 
-use cache::State;
+use cache::SealedState;
 use console::Line;
 use std::io::{ErrorKind, Read, Result, Write};
 use std::marker::Model;
@@ -43,7 +43,7 @@ const PIECE: usize = 65536;
 // output that they are written to.
 #[derive(Drop)]
 struct Server {
-    state: State,
+    state: SealedState,
     cells: [i32; Desk::CELLS],
     memory: [u8; Desk::MEMORY],
     answer: [u8; Desk::ANSWER],
@@ -69,7 +69,7 @@ impl Server {
     {
         let mut cells = lists::filled(0);
         let mut memory = lists::filled(0);
-        let opened = State::open(&mut cells, &mut memory, Desk::SLOTS, Desk::SLOT_BYTES);
+        let opened = SealedState::open(&mut cells, &mut memory, Desk::SLOTS, Desk::SLOT_BYTES);
         Server {
             state: opened.state,
             cells,
@@ -86,19 +86,17 @@ impl Server {
         ensures text { take result out.new ≡ (answering self.old).text }
         ensures within { result ≤ length out.new }
     {
-        let (state, held) = (self.state, self.held);
-        let line = &self.line[..held];
-        let reply = console::respond(
-            state,
+        let line = &self.line[..self.held];
+        let size = console::respond(
+            &mut self.state,
             &mut self.cells,
             &mut self.memory,
             &mut self.answer,
             line,
             out,
         );
-        self.state = reply.state;
         self.held = 0;
-        reply.size
+        size
     }
 
     // The same, and writes what is printed.

@@ -19,7 +19,7 @@ use Rattle.meaning.proofs.Accepted.{clear}
 use Rattle.statement.proofs.SoundUpdate.{update-parts}
 use Rattle.cache.specs.declared.Note.{Note}
 use Rattle.cache.specs.declared.State.{State}
-use Rattle.cache.specs.Sound.{schemas_in, update_at, note_read, pending_read, pending_in, NoteStands}
+use Rattle.cache.specs.Sound.{schemas_in, update_at, note_read, pending_read, pending_in, NoteStands, note_in, pending_of}
 use Rattle.cache.specs.SoundTest.{sound_state}
 use Rattle.cache.specs.Means.{Means, Typed}
 use Rattle.cache.specs.Calls.{unfit, change_conditions}
@@ -40,13 +40,13 @@ proposal_notes_only s n us = go (update_refusal s.state (lent_by s) n (length us
     by : ℕ → Store × Seen
     by k = step_propose s (settled k (would_do s.state s.cells n us) (propose_refused s.state k))
 
-    go : (k : ℕ) → (by k).1.got.refusal ≡ 0 → (by k).0 ≡ record s { state = record s.state { pending = Some (note_of n us) } }
+    go : (k : ℕ) → (by k).1.got.refusal ≡ 0 → (by k).0 ≡ record s { state = record s.state { pending = pending_of (Some (note_of n us)) } }
     go zero e = refl
     go (suc k) e = absurd (omega arith)
 
 -- ---- a commit
 
-module _ (s : State) (T : Typed s) (S : Sound s) (n : Note) (e : s.pending ≡ Some n) where
+module _ (s : State) (T : Typed s) (S : Sound s) (n : Note) (e : note_in s ≡ Some n) where
   abbrev N : NoteStands s n
   N = S.note n e
 
@@ -86,7 +86,7 @@ commit_does_it s n T h e =
     let z : pending_refusal st (lent_by s) ≡ 0 = no_number s h in
     let f : unfit st (lent_by s) ≡ false = (commit-fits st (lent_by s) z).0 in
     let t : update_refusal st (lent_by s) n.update (length (note_read n).values) ≡ 0 = note-taken st T (sound-is st (fit_is st (lent_by s) f).sound) n e (lent_by s) f in
-    ap (λ (k : ℕ). step_update s (settled k (commit_done st s.cells st.pending) (update_gives (update_refused st k) s.cells))) z
+    ap (λ (k : ℕ). step_update s (settled k (commit_done st s.cells (note_in st)) (update_gives (update_refused st k) s.cells))) z
     ∙ ap (λ (o : Maybe Note). step_update s (commit_done st s.cells o)) e
     ∙ sym
     (ap (λ (k : ℕ). step_update s (settled k (update_done st s.cells (update_at st n.update) (note_read n).values) (update_gives (update_refused st k) s.cells))) t)
@@ -100,12 +100,12 @@ some-same {x} {y} e = ap (λ (o : Option PlainNote). elim o [ none ↦ x | some 
 
 -- and drops what that update does
 pub commit_drops_exactly_matched : DropsMean → CommitDropsExactlyMatched
-commit_drops_exactly_matched mean s x p T h m i z = go s.state.pending refl
+commit_drops_exactly_matched mean s x p T h m i z = go (note_in s.state) refl
   where
     Drops : PlainNote → Store × Seen → Type 0
     Drops y r = (keys_held r.0 ≡ keep (λ (k : Key). not (drops_key p y.update y.values k)) (keys_held s)) × (r.1.drops ≡ count (drops_key p y.update y.values) (keys_held s))
 
-    go : (o : Maybe Note) → s.state.pending ≡ o → Drops x (step s commit)
+    go : (o : Maybe Note) → note_in s.state ≡ o → Drops x (step s commit)
     go None e = absurd (none-some (sym i ∙ m.note_is ∙ ap pending_read e))
     go (Some n) e =
         let f : note_read n ≡ x = some-same (sym (ap pending_read e) ∙ sym m.note_is ∙ i) in
@@ -136,13 +136,13 @@ pub withdraw_exactly_if : WithdrawExactlyIf
 withdraw_exactly_if s = (there, back)
   where
     there : (step s withdraw).1.got.refusal ≡ 0
-        → (sound_state s.state ≡ true) × (length s.cells ≡ s.state.cells) × (length s.memory ≡ s.state.memory) × ((n : Note) × (s.state.pending ≡ Some n))
+        → (sound_state s.state ≡ true) × (length s.cells ≡ s.state.cells) × (length s.memory ≡ s.state.memory) × ((n : Note) × (note_in s.state ≡ Some n))
     there z =
         let c = commit-fits s.state (lent_by s) (sym (withdraw-number s) ∙ z) in
         let F = fit_is s.state (lent_by s) c.0 in
-        (F.sound, F.cells_are, F.memory_is, note-there s.state.pending c.1)
+        (F.sound, F.cells_are, F.memory_is, note-there (note_in s.state) c.1)
 
-    back : (sound_state s.state ≡ true) × (length s.cells ≡ s.state.cells) × (length s.memory ≡ s.state.memory) × ((n : Note) × (s.state.pending ≡ Some n))
+    back : (sound_state s.state ≡ true) × (length s.cells ≡ s.state.cells) × (length s.memory ≡ s.state.memory) × ((n : Note) × (note_in s.state ≡ Some n))
         → (step s withdraw).1.got.refusal ≡ 0
     back (h, c, m, e) = withdraw-number s ∙ no-refusal s.state (lent_by s) (fit-unfit s.state (lent_by s) h c m) (ap (λ (o : Maybe Note). is_none (pending_read o)) e.1)
 
@@ -153,6 +153,6 @@ withdraw_takes_note s = go (pending_refusal s.state (lent_by s))
     by : ℕ → Store × Seen
     by k = step_flush s (settled k (record { refusal = 0; state = with_note s.state None }) (record { refusal = k; state = s.state }))
 
-    go : (k : ℕ) → (by k).1.got.refusal ≡ 0 → (by k).0 ≡ record s { state = record s.state { pending = None } }
+    go : (k : ℕ) → (by k).1.got.refusal ≡ 0 → (by k).0 ≡ record s { state = record s.state { pending = pending_of None } }
     go zero e = refl
     go (suc k) e = absurd (omega arith)

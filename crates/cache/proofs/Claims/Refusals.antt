@@ -22,7 +22,7 @@ use Rattle.std.specs.Prelude.{Option as Maybe, Some, None}
 use Rattle.cache.specs.declared.Note.{Note}
 use Rattle.cache.specs.declared.State.{State}
 use Rattle.cache.specs.Calls.{Added, Flushed, unfit, Asks, ask_conditions, found_in, Updates, Proposed}
-use Rattle.cache.specs.Sound.{table_at, update_at, is_full, pending_read, pending_in}
+use Rattle.cache.specs.Sound.{table_at, update_at, is_full, pending_read, pending_in, note_in}
 use Rattle.cache.specs.Gives.{add_of, ask_of, update_of, flush_of, compiled_beside, add_refused, added_of, added_by, add_refusal, ask_gives, ask_refused, ask_refusal, cached_refusal, from_cache, ask_cached, new_refusal, newly, ask_new, ask_found, update_gives, update_refused, update_refusal, update_done, emptied, with_note, propose_refused, would_do, propose_of, pending_refusal, commit_done, commit_of, withdraw_of}
 use Rattle.cache.specs.Run.{Store, lent_by, step_add, step_ask, step_update, step_flush, step_propose, step}
 use Rattle.cache.specs.Demand.{answer_conditions, conditions, LowestNumber, RingsNeverFull, refused_with, RefusedChangesNothing}
@@ -214,8 +214,8 @@ module _ (s : Store) where
   commit-number : (step s commit).1.got.refusal ≡ lowest_of (conditions s commit)
   unfolding step commit_of pending_refusal
   commit-number =
-      settled-number (λ (r : Updates). r.result.refusal) refuse_commit (λ n. refl) (commit_here s.state.pending) (lowest_of (conditions s commit))
-      ∙ commit-zero (unfit s.state (lent_by s)) s.state.pending
+      settled-number (λ (r : Updates). r.result.refusal) refuse_commit (λ n. refl) (commit_here (note_in s.state)) (lowest_of (conditions s commit))
+      ∙ commit-zero (unfit s.state (lent_by s)) (note_in s.state)
 
   none-there : (o : Maybe Note) → (commit_here o).result.refusal ≢ 0 → commit_here o ≡ refuse_commit (commit_here o).result.refusal
   unfolding update_done
@@ -226,7 +226,7 @@ module _ (s : Store) where
   unfolding step commit_of
   commit-refused h =
       ap (step_update s)
-      (settled-refused (λ (r : Updates). r.result.refusal) refuse_commit (λ n. refl) (commit_here s.state.pending) (none-there s.state.pending) (pending_refusal s.state (lent_by s)) h)
+      (settled-refused (λ (r : Updates). r.result.refusal) refuse_commit (λ n. refl) (commit_here (note_in s.state)) (none-there (note_in s.state)) (pending_refusal s.state (lent_by s)) h)
 
   abbrev withdrawal_done : Flushed
   withdrawal_done = record { refusal = 0; state = with_note s.state None }

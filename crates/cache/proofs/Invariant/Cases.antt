@@ -15,7 +15,7 @@ use Rattle.slots.specs.Order.{front_of, last_taken}
 use Rattle.cache.specs.declared.State.{State}
 use Rattle.cache.specs.declared.Note.{Note}
 use Rattle.cache.specs.Calls.{Added, Flushed, unfit, Opens, Asks, record_at, found_in, Updates, Proposed}
-use Rattle.cache.specs.Sound.{update_at, lengths, opening, note_read}
+use Rattle.cache.specs.Sound.{update_at, lengths, opening, note_read, note_in}
 use Rattle.cache.specs.Gives.{open_of, add_of, ask_of, update_of, flush_of, empty_state, added_table, added_query, added_update, compiled_beside, added_of, added_by, add_refusal, ask_refusal, with_cache, cached_refusal, ask_cached, takes_slot, put_in, kept, new_refusal, ask_new, ask_found, update_refusal, update_done, emptied, with_note, note_of, would_do, propose_of, pending_refusal, commit_done, commit_of, withdraw_of}
 use Rattle.meaning.specs.Key as M
 use Rattle.meaning.specs.Call.{add, ask, change, flush, propose, commit, withdraw}
@@ -118,13 +118,13 @@ module _ (P : State → Type 0) (s : Store) (before : P s.state) where
       by-settled (λ (r : Proposed). P r.state) (update_refusal st (lent_by s) number (length values)) _ _ f before
 
   -- the update of the note, if there is one
-  pub by-commit : ((n : Note) → pending_refusal st (lent_by s) ≡ 0 → st.pending ≡ Some n → P (update_done st s.cells (update_at st n.update) (note_read n).values).result.state)
+  pub by-commit : ((n : Note) → pending_refusal st (lent_by s) ≡ 0 → note_in st ≡ Some n → P (update_done st s.cells (update_at st n.update) (note_read n).values).result.state)
       → P (step s commit).0.state
   unfolding step commit_of
   by-commit f =
-      by-settled (λ (r : Updates). P r.result.state) (pending_refusal st (lent_by s)) _ _ (λ e. go st.pending refl e) before
+      by-settled (λ (r : Updates). P r.result.state) (pending_refusal st (lent_by s)) _ _ (λ e. go (note_in st) refl e) before
     where
-      go : (p : Maybe Note) → st.pending ≡ p → pending_refusal st (lent_by s) ≡ 0 → P (commit_done st s.cells p).result.state
+      go : (p : Maybe Note) → note_in st ≡ p → pending_refusal st (lent_by s) ≡ 0 → P (commit_done st s.cells p).result.state
       go None q e = before
       go (Some n) q e = f n e q
 

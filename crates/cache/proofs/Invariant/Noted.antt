@@ -1,5 +1,5 @@
 -- A note put in or taken away leaves a sound state sound: a proposal's update is there, has as many values, and its table has room. Assumes nothing.
-use mathlib.Core.Path.{◌≡◌, refl, subst}
+use mathlib.Core.Path.{◌≡◌, refl, sym, ◌∙◌, subst}
 use mathlib.Core.Bool.{true, false}
 use Prim.Native.Nat.{ℕ, ◌≤◌, ◌<◌}
 use native.Mathlib.Omega.{arith}
@@ -18,12 +18,12 @@ use Rattle.statement.specs.declared.Update.{Update}
 use Rattle.statement.proofs.SoundUpdate.{update-parts}
 use Rattle.cache.specs.declared.Note.{Note}
 use Rattle.cache.specs.declared.State.{State}
-use Rattle.cache.specs.Sound.{schemas_in, update_at, is_full, NoteStands}
+use Rattle.cache.specs.Sound.{schemas_in, update_at, NoteStands}
 use Rattle.cache.specs.Calls.{change_conditions}
 use Rattle.cache.specs.Gives.{update_refusal, with_cache, with_note, note_of}
 use Rattle.cache.specs.Means.{Typed}
 use Rattle.cache.specs.Run.{Store, lent_by, step}
-use Rattle.cache.proofs.Settled.{nothing}
+use Rattle.cache.proofs.Settled.{nothing, note-put}
 use Rattle.cache.proofs.Invariant.Sound.{Sound, update-at}
 use Rattle.cache.proofs.Invariant.Cases.{by-propose, by-withdraw, by-flush}
 use Rattle.cache.proofs.Invariant.Cached.{drop-stays}
@@ -45,7 +45,7 @@ note-stays s S p f = record {
   keys = All-map (λ x K. record { there = K.there; values = K.values }) S.keys;
   once = S.once;
   slots = S.slots;
-  note = λ n e. let N = f n e in record { there = N.there; values = N.values; room = N.room };
+  note = λ n e. let N = f n (sym (note-put p) ∙ e) in record { there = N.there; values = N.values; room = N.room };
 }
 
 module _ (s : Store) (T : Typed s.state) (S : Sound s.state) where

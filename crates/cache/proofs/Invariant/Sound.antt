@@ -34,7 +34,7 @@ use Rattle.slots.proofs.Laws as L
 use Rattle.std.specs.Prelude.{Option as Maybe, Some, None}
 use Rattle.cache.specs.declared.Note.{Note}
 use Rattle.cache.specs.declared.State.{State}
-use Rattle.cache.specs.Sound.{used_tables, areas_of, length_at, query_at, used_queries, used_updates, OpeningWithin, KeyFits, schemas_in, sizes_of, table_at, update_at, is_full, NoteStands}
+use Rattle.cache.specs.Sound.{used_tables, areas_of, length_at, query_at, used_queries, used_updates, OpeningWithin, KeyFits, schemas_in, sizes_of, table_at, update_at, is_full, NoteStands, note_in}
 use Rattle.cache.specs.SoundTest.{sound_state, sound_sizes, sound_counts, sound_areas, start_fits, rows_fit, sound_rows, length_fits, sound_lengths, sound_key, sound_keys, sound_tables, sound_answers, would_refuse, note_passes, sound_note}
 use Rattle.cache.specs.Means.{Typed}
 
@@ -104,7 +104,7 @@ pub record Sound (s : State) : Type 0 where
   pub keys : All (λ (x : ℕ). KeyFits s (slot_key s.keys x)) (held_slots s.slots)
   pub once : repeats same_key (held_keys s.keys s.slots) ≡ false
   pub slots : L.Sound s.slots
-  pub note : (n : Note) → s.pending ≡ Some n → NoteStands s n
+  pub note : (n : Note) → note_in s ≡ Some n → NoteStands s n
 
 module _ (s : State) where
   abbrev length_test : ℕ → Bool
@@ -219,9 +219,9 @@ module _ (s : State) where
 
     note-holds : sound_note s ≡ true
     unfolding sound_note
-    note-holds = go s.pending refl
+    note-holds = go (note_in s) refl
       where
-        go : (p : Maybe Note) → s.pending ≡ p → note_passes s p ≡ true
+        go : (p : Maybe Note) → note_in s ≡ p → note_passes s p ≡ true
         go None e = refl
         go (Some n) e = is-note n (S.note n e)
 

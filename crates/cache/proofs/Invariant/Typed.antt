@@ -31,7 +31,7 @@ use Rattle.cache.specs.Calls.{record_at}
 use Rattle.cache.specs.Gives.{empty_state, added_table, added_query, added_update, compiled_beside, is_dropped, with_cache, put_in, with_rows, with_change, update_done, with_note, note_of}
 use Rattle.cache.specs.Means.{Typed}
 use Rattle.cache.specs.Run.{Store, Start, opening_of, opened, step}
-use Rattle.cache.proofs.Settled.{nothing}
+use Rattle.cache.proofs.Settled.{nothing, note-put}
 use Rattle.cache.proofs.Invariant.Cases.{by-opened, by-add, by-ask, by-update, by-flush, by-propose, by-commit, by-withdraw}
 use Rattle.cache.proofs.Invariant.Compiled.{All-replicate, Fitting, no_table_lem, no-query, no-update, compiled-fits}
 
@@ -130,7 +130,7 @@ module _ (s : State) (T : Typed s) where
     queries_fit = T.queries_fit;
     updates_fit = T.updates_fit;
     keys_fit = T.keys_fit;
-    note_fits = f;
+    note_fits = λ n e. f n (sym (note-put p) ∙ e);
   }
 
   table-added : (t : Table) → TableStructFits t → Typed (added_table s t).state

@@ -1,9 +1,9 @@
 -- What `Typed` says of a state holds of every value of the program: the lengths of arrays, and 32 bits of numbers. Read off what a value owns (`denote`), field by field and element by
 -- element. Assumes nothing.
-use mathlib.Core.Path.{◌≡◌, refl}
+use mathlib.Core.Path.{◌≡◌, refl, sym, ap, ◌∙◌}
 use mathlib.Core.Bool.{true}
 use mathlib.Core.List.{List, [], ◌∷◌}
-use Prim.Native.Nat.{ℕ, ◌<◌}
+use Prim.Native.Nat.{ℕ, zero, suc, ◌<◌}
 use native.Mathlib.Omega.{arith}
 use borrow.Author.Tests.{le-leb}
 use lib.IntN.{ℤ, pos, negsuc}
@@ -33,6 +33,9 @@ use Rattle.statement.specs.declared.Query.{Query}
 use Rattle.statement.specs.declared.Update.{Update}
 use Rattle.slots.specs.declared.Key.{Key}
 use Rattle.statement.specs.Compiled.{new_value}
+use Rattle.std.specs.Prelude.{Option as Maybe, Some, None}
+use Rattle.cache.specs.declared.Note.{Note}
+use Rattle.cache.specs.Sound.{note_if}
 use Rattle.statement.specs.Sound.{ValueFits, ComparisonFits, ConditionFits, QueryFits, UpdateFits, NameFits, TableStructFits}
 
 within : (z : ℤ) → mag z < 2147483648 → is_within32 z ≡ true
@@ -81,3 +84,12 @@ pub keys : (ks : List Key) (vs : List (ValOf ℕ)) → shadow (each K.the_row.De
 keys [] vs h = nil
 keys (k ∷ ks) [] h = absurd h
 keys (k ∷ ks) (v ∷ vs) h = cons h.0.1.1.1.1.0.1.0.1 (keys ks vs h.1)
+
+-- the note, if there is one
+abbrev values_noted : Maybe Note → ℕ
+values_noted None = 8
+values_noted (Some n) = length n.values
+
+pub note : (there : ℕ) (m : Note) → length m.values ≡ 8 → (n : Note) → note_if there m ≡ Some n → length n.values ≡ 8
+note zero m h n e = sym (ap values_noted e)
+note (suc k) m h n e = sym (ap values_noted e) ∙ h

@@ -35,7 +35,7 @@ use Rattle.slots.specs.Order.{front_of}
 use Rattle.slots.proofs.KeyLaws.{key-few, FoundAt, found_inside, found_at}
 use Rattle.cache.specs.declared.State.{State}
 use Rattle.cache.specs.Calls.{Added, Flushed, Asks, bytes_at, record_at, found_in, Updates, unfit}
-use Rattle.cache.specs.Sound.{update_at, length_at, query_at, note_read, pending_read}
+use Rattle.cache.specs.Sound.{update_at, length_at, query_at, note_read, pending_read, note_in}
 use Rattle.cache.specs.Gives.{add_of, ask_of, update_of, flush_of, added_of, added_by, add_refusal, compiled_beside, add_refused, ask_gives, ask_refused, ask_refusal, with_cache, cached_refusal, ask_cached, new_refusal, newly, ask_new, ask_found, update_gives, update_refused, update_refusal, is_dropped, with_change, update_done, emptied, with_note, propose_refused, would_do, propose_of, pending_refusal, commit_done, commit_of, withdraw_of}
 use Rattle.cache.specs.SoundTest.{sound_state}
 use Rattle.cache.specs.Means.{Means, Typed}
@@ -417,7 +417,7 @@ module _ (s : Store) (p : Plain) (Ty : Typed s.state) (h : sound_state s.state �
       → committing lent bytes (model_of s p) p.pending ≡ dropping lent bytes (model_of s p) (change x.update x.values) (drops_key p x.update x.values)
   committing-is x e = ap (committing lent bytes (model_of s p)) e ∙ ap (λ (o : Option P.Note). committed_as o (drops_key p x.update x.values)) e
 
-  committed-meets : refusal lent p commit ≡ 0 → (o : Maybe Note) → s.state.pending ≡ o
+  committed-meets : refusal lent p commit ≡ 0 → (o : Maybe Note) → note_in s.state ≡ o
       → Meets s [] (step_update s (commit_done s.state s.cells o)) (committing lent bytes (model_of s p) p.pending)
   committed-meets z None e = no_note s p Ty h m z e
   committed-meets z (Some n) e =
@@ -433,9 +433,9 @@ module _ (s : Store) (p : Plain) (Ty : Typed s.state) (h : sound_state s.state �
       (go (pending_refusal s.state lent) refl)
     where
       go : (k : ℕ) → pending_refusal s.state lent ≡ k
-          → Meets s [] (step_update s (settled k (commit_done s.state s.cells s.state.pending) (update_gives (update_refused s.state k) s.cells)))
+          → Meets s [] (step_update s (settled k (commit_done s.state s.cells (note_in s.state)) (update_gives (update_refused s.state k) s.cells)))
           (guard k (model_of s p) turned (committing lent bytes (model_of s p) p.pending))
-      go zero e = committed-meets (sym (pending-number s p h m) ∙ e) s.state.pending refl
+      go zero e = committed-meets (sym (pending-number s p h m) ∙ e) (note_in s.state) refl
       go (suc k) e = refused-meets s p m [] (suc k)
 
   -- a flush drops every answer

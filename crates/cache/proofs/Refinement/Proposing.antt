@@ -21,12 +21,13 @@ use Rattle.slots.specs.Keys.{key_of}
 use Rattle.slots.proofs.KeyLaws.{key-few}
 use Rattle.cache.specs.declared.Note.{Note}
 use Rattle.cache.specs.declared.State.{State}
-use Rattle.cache.specs.Sound.{schemas_in, update_at, note_read, pending_read}
+use Rattle.cache.specs.Sound.{schemas_in, update_at, note_read, pending_read, note_in}
 use Rattle.cache.specs.SoundTest.{sound_state}
 use Rattle.cache.specs.Means.{Means, Typed}
 use Rattle.cache.specs.Calls.{unfit}
 use Rattle.cache.specs.Gives.{flush_of, emptied, update_gives, update_refused, update_refusal, update_done, with_note, note_of, propose_refused, would_do, propose_of, pending_refusal, commit_done, commit_of, withdraw_of}
 use Rattle.cache.specs.Run.{Store, got_of, lent_by, step_update, step_flush, step_propose, step}
+use Rattle.cache.proofs.Settled.{note-put}
 use Rattle.cache.proofs.Invariant.Sound.{Sound, sound-is, update-at}
 use Rattle.cache.proofs.Claims.Proposed.{note-taken, commit-fits}
 use Rattle.cache.proofs.Refinement.StoodFor.{update_agrees}
@@ -50,7 +51,7 @@ module _ (s : State) (cells : List ℤ) (p : Plain) (m : Means s cells p) where
     tables_are = m.tables_are;
     queries_are = m.queries_are;
     updates_are = m.updates_are;
-    note_is = e;
+    note_is = e ∙ ap pending_read (sym (note-put x));
   }
 
   pub emptied-means : Means (emptied s) cells (P.with_note p none)
@@ -120,7 +121,7 @@ module _ (s : Store) (p : Plain) (T : Typed s.state) (h : sound_state s.state �
   -- ---- a commit
 
   -- one that is not refused has a note, whose update is not refused
-  module _ (z : refusal (lent_by s) p commit ≡ 0) (n : Note) (e : s.state.pending ≡ Some n) where
+  module _ (z : refusal (lent_by s) p commit ≡ 0) (n : Note) (e : note_in s.state ≡ Some n) where
     pub noted-update : refusal (lent_by s) p (change n.update (note_read n).values) ≡ 0
     noted-update =
         let f : unfit s.state (lent_by s) ≡ false = (commit-fits s.state (lent_by s) (pending-number s p h m ∙ z)).0 in
@@ -129,21 +130,21 @@ module _ (s : Store) (p : Plain) (T : Typed s.state) (h : sound_state s.state �
     pub noted-same : Same [] (step_update s (update_done s.state s.cells (update_at s.state n.update) (note_read n).values)) (made p n.update (note_read n).values)
     noted-same = done-same s p T h m n.update (note_read n).values noted-update
 
-  pub no_note : {X : Type 0} → refusal (lent_by s) p commit ≡ 0 → s.state.pending ≡ None → X
+  pub no_note : {X : Type 0} → refusal (lent_by s) p commit ≡ 0 → note_in s.state ≡ None → X
   no_note z e =
       clash (ap (λ (o : Maybe Note). is_none (pending_read o)) e) (commit-fits s.state (lent_by s) (pending-number s p h m ∙ z)).1
 
-  commit-done : refusal (lent_by s) p commit ≡ 0 → Same [] (step_update s (commit_done s.state s.cells s.state.pending)) (committed p p.pending)
+  commit-done : refusal (lent_by s) p commit ≡ 0 → Same [] (step_update s (commit_done s.state s.cells (note_in s.state))) (committed p p.pending)
   commit-done z =
-      subst (λ (o : Option P.Note). Same [] (step_update s (commit_done s.state s.cells s.state.pending)) (committed p o)) (sym m.note_is)
-      (go s.state.pending refl)
+      subst (λ (o : Option P.Note). Same [] (step_update s (commit_done s.state s.cells (note_in s.state))) (committed p o)) (sym m.note_is)
+      (go (note_in s.state) refl)
     where
-      go : (o : Maybe Note) → s.state.pending ≡ o → Same [] (step_update s (commit_done s.state s.cells o)) (committed p (pending_read o))
+      go : (o : Maybe Note) → note_in s.state ≡ o → Same [] (step_update s (commit_done s.state s.cells o)) (committed p (pending_read o))
       go None e = no_note z e
       go (Some n) e = noted-same z n e
 
   pub commit-same : Same [] (step s commit) (P.step (lent_by s) p commit)
   unfolding step commit_of
   commit-same =
-      settled_same (step_update s) (commit_done s.state s.cells s.state.pending) (λ k. update_gives (update_refused s.state k) s.cells) [] s p
+      settled_same (step_update s) (commit_done s.state s.cells (note_in s.state)) (λ k. update_gives (update_refused s.state k) s.cells) [] s p
       (committed p p.pending) m (λ k. refl) _ _ (pending-number s p h m) commit-done

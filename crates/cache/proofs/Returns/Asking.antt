@@ -18,12 +18,17 @@ use Rattle.meaning.specs.Refusals.{or_else, settled}
 use Rattle.table.specs.Evaluated.{Said}
 use Rattle.slots.specs.declared.Key.{Key}
 use Rattle.slots.specs.Keys.{Found, key_of, find_of}
-use Rattle.std.specs.Prelude.{Option, Some, None}
+use Rattle.std.specs.Prelude.{Option, Some, None, Result, Ok, Err}
+use Rattle.std.specs.Result.{IsErrAnd}
+use Rattle.statement.specs.declared.Refusal.{Refusal}
+use Rattle.statement.specs.Refusals.{number_of}
 use Rattle.slots.specs.declared.SlotList.{SlotList}
 use Rattle.slots.specs.declared.Taken.{Taken}
 use Rattle.slots.specs.Order.{front_of, is_open, last_taken, taken_of}
 use Rattle.slots.proofs.Moves.{taken_open, not_open}
 use Rattle.cache.specs.declared.State.{State}
+use Rattle.cache.specs.declared.Answer as N
+use Rattle.cache.specs.Given.{asked_as}
 use Rattle.cache.specs.Calls.{lengths_lent, Asked, unfit, Asks, bytes_at, cached_length, record_at, too_many}
 use Rattle.cache.specs.Gives.{ask_of, ask_gives, ask_refused, ask_refusal, with_cache, cached_refusal, ask_cached, takes_slot, put_in, kept, kept_bytes, kept_memory, new_refusal, newly, ask_new, ask_found}
 use Rattle.cache.specs.declared.Kept.{Kept}
@@ -46,6 +51,11 @@ module _ (s : State) (l : Lengths) (query values : ℕ) where
 pub refused-is : (s : State) (key : Key) (n : ℕ) (o : Outcome) → o ≡ no_answer n s.slots → outcome_of s key o ≡ ask_refused s n
 unfolding with_cache
 refused-is s key n o e = ap (outcome_of s key) e
+
+-- what the exit of a `?` returns
+pub asked-exit : (x : Result N.Answer Refusal) (r : Refusal) (s : State) → IsErrAnd x (λ (y : Refusal). y ≡ r) → asked_as x s ≡ ask_refused s (number_of r)
+asked-exit (Ok a) r s h = absurd h
+asked-exit (Err y) r s h = ap (λ (z : Refusal). ask_refused s (number_of z)) h
 
 -- ---- an answer in a slot
 

@@ -22,7 +22,7 @@ use Rattle.soundness.specs.Soundness.{tables_sound, queries_sound, updates_sound
 use Rattle.statement.specs.Refusals.{number_of, number_in}
 use Rattle.cache.specs.declared.Note.{Note}
 use Rattle.cache.specs.declared.State.{State}
-use Rattle.cache.specs.Sound.{query_at, update_at, table_at, is_full, used_updates, schemas_in}
+use Rattle.cache.specs.Sound.{query_at, update_at, table_at, is_full, used_updates, schemas_in, note_in}
 use Rattle.cache.specs.SoundTest.{sound_state, sound_counts, sound_tables, sound_areas, sound_rows, would_refuse, note_passes, sound_note}
 use Rattle.cache.specs.Calls.{unfit}
 use Rattle.cache.specs.Gives.{ask_refusal, update_refusal}
@@ -169,11 +169,11 @@ passes (Ok u) = refl
 passes (Err y) = sym (ne_eqb (number_of y) 0 (λ e. absurd (numbered y e)))
 
 module _ (s : State) where
-  pub none-noted : s.pending ≡ None → true ≡ sound_note s
+  pub none-noted : note_in s ≡ None → true ≡ sound_note s
   unfolding sound_note
   none-noted e = sym (ap (note_passes s) e)
 
-  pub some-noted : (n : Note) → s.pending ≡ Some n → (r : Result Unit Refusal) → number_in r ≡ would_refuse s n.update n.count → is_ok r ≡ sound_note s
+  pub some-noted : (n : Note) → note_in s ≡ Some n → (r : Result Unit Refusal) → number_in r ≡ would_refuse s n.update n.count → is_ok r ≡ sound_note s
   unfolding sound_note
   some-noted n e r h = passes r ∙ ap (λ (k : ℕ). eqb k 0) h ∙ sym (ap (note_passes s) e)
 

@@ -10,7 +10,6 @@ use lib.IntN.{ℤ}
 use lib.ListN.{length, take, get_or}
 use Rattle.meaning.specs.Limits.{most_tables}
 use Rattle.meaning.specs.Plain.{Lengths}
-use Rattle.meaning.specs.Refusals.{settled}
 use Rattle.statement.specs.declared.Refusal.{Refusal}
 use Rattle.statement.specs.declared.Refusal.TheVariants as R
 use Rattle.statement.specs.Refusals.{number_of, number_in}
@@ -19,8 +18,9 @@ use Rattle.statement.specs.declared.Update.{Update}
 use Rattle.table.specs.Changed.{change_of}
 use Rattle.table.proofs.Recording.{numbered}
 use Rattle.cache.specs.declared.Note.{Note}
+use Rattle.cache.specs.declared.Pending.{Pending}
 use Rattle.cache.specs.declared.State.{State}
-use Rattle.cache.specs.Sound.{areas_of, table_at, update_at, note_read}
+use Rattle.cache.specs.Sound.{areas_of, table_at, update_at, note_read, note_in, pending_of}
 use Rattle.cache.specs.SoundTest.{sound_state}
 use Rattle.cache.specs.Private.Outcomes.{Takes, NotesOr}
 use Rattle.cache.specs.Calls.{lengths_lent, area_start, unfit, Updates}
@@ -54,11 +54,11 @@ module _ (s : State) (cells : List ℤ) (memory : List ℕ) (update : ℕ) (valu
   propose-refused r e =
       ap (propose_refused s) (sym e ∙ en) ∙ settled-refused (update_refusal s (lengths_lent cells memory) update (length values)) _ _ (λ z. numbered r (sym e ∙ en ∙ z))
 
-  pub propose-done : n ≡ 0 → (rows : ℕ) → rows ≡ (would_do s cells update values).rows → (m : Note) → m ≡ note_of update values
-      → proposed_as (Ok (record { rows = rows })) (record s { pending = Some m }) ≡ propose_of s cells memory update values
+  pub propose-done : n ≡ 0 → (rows : ℕ) → rows ≡ (would_do s cells update values).rows → (m : Note) → m ≡ note_of update values → (p : Pending) → p ≡ pending_of (Some m)
+      → proposed_as (Ok (record { rows = rows })) (record s { pending = p }) ≡ propose_of s cells memory update values
   unfolding propose_of would_do with_note
-  propose-done z rows er m em =
-      (λ j. record { refusal = 0; rows = er j; state = record s { pending = Some (em j) } })
+  propose-done z rows er m em p ep =
+      (λ j. record { refusal = 0; rows = er j; state = record s { pending = (ep ∙ ap (λ (x : Note). pending_of (Some x)) em) j } })
       ∙ settled-done (update_refusal s (lengths_lent cells memory) update (length values)) _ _ (sym en ∙ z)
 
 -- ---- the note
@@ -69,18 +69,18 @@ module _ (s : State) (l : Lengths) where
   note-unfit f = rw f
 
   module _ (f : unfit s l ≡ false) where
-    note-missing : s.pending ≡ None → pending_refusal s l ≡ 17
+    note-missing : note_in s ≡ None → pending_refusal s l ≡ 17
     unfolding pending_refusal
     note-missing e = rw (f, e)
 
-    note-there : (n : Note) → s.pending ≡ Some n → pending_refusal s l ≡ 0
+    note-there : (n : Note) → note_in s ≡ Some n → pending_refusal s l ≡ 0
     unfolding pending_refusal
     note-there n e = rw (f, e)
 
-    pub notes-asked : (r : Result Note Refusal) → r ≡ ok_or s.pending R.Note → NotesOr s l r
-    notes-asked = go s.pending refl
+    pub notes-asked : (r : Result Note Refusal) → r ≡ ok_or (note_in s) R.Note → NotesOr s l r
+    notes-asked = go (note_in s) refl
       where
-        go : (p : Option Note) → s.pending ≡ p → (r : Result Note Refusal) → r ≡ ok_or p R.Note → NotesOr s l r
+        go : (p : Option Note) → note_in s ≡ p → (r : Result Note Refusal) → r ≡ ok_or p R.Note → NotesOr s l r
         go None e r h = subst (λ (x : Result Note Refusal). NotesOr s l x) (sym h) (note-missing e)
         go (Some n) e r h = subst (λ (x : Result Note Refusal). NotesOr s l x) (sym h) (note-there n e, e)
 
@@ -89,7 +89,7 @@ module _ (s : State) (l : Lengths) where
   notes-exit (Err y) x h e = sym e ∙ ap number_of (sym h)
 
   -- where it is not refused, the note is one that 10 to 12 let pass
-  pub note-taken : pending_refusal s l ≡ 0 → (n : Note) → s.pending ≡ Some n → Takes s l.cells n.update
+  pub note-taken : pending_refusal s l ≡ 0 → (n : Note) → note_in s ≡ Some n → Takes s l.cells n.update
   unfolding pending_refusal
   note-taken z n e =
       let F = fit_is s l (or-else-zero (unfit s l) 2 _ (lit< tt) z).0 in
@@ -105,12 +105,11 @@ module _ (s : State) (cells : List ℤ) (memory : List ℕ) where
   unfolding commit_of
   commit-refused r e = ap (λ (n : ℕ). update_gives (update_refused s n) cells) (sym e) ∙ settled-refused refusal _ _ (λ z. numbered r (sym e ∙ z))
 
-  pub commit-made : refusal ≡ 0 → (n : Note) → s.pending ≡ Some n → (i : ℕ) → i ≡ n.update → (values : List ℤ) → values ≡ (note_read n).values → (r : Updates)
-      → r ≡ settled 0 (update_done s cells (update_at s i) values) (update_gives (update_refused s 0) cells) → r ≡ commit_of s cells memory
+  pub commit-made : refusal ≡ 0 → (n : Note) → note_in s ≡ Some n → (i : ℕ) → i ≡ n.update → (values : List ℤ) → values ≡ (note_read n).values → (r : Updates)
+      → r ≡ update_done s cells (update_at s i) values → r ≡ commit_of s cells memory
   unfolding commit_of
   commit-made z n e i ei values ev r h =
       h
-      ∙ sym (settled-done 0 _ _ refl)
       ∙ ap₂ (λ (k : ℕ) (vs : List ℤ). update_done s cells (update_at s k) vs) ei ev
       ∙ ap (commit_done s cells) (sym e)
       ∙ settled-done refusal _ _ z
@@ -119,12 +118,12 @@ module _ (s : State) (cells : List ℤ) (memory : List ℕ) where
 
 module _ (s : State) (l : Lengths) (P : Note → Unit → Type 0) where
   pub withdraw-done : (t : Result Note Refusal) → NotesOr s l t → (r : Result Unit Refusal) → MatchResult t (λ x. IsOkAnd r (λ y. P x y)) (λ e. r ≡ Err e) → is_ok r ≡ true
-      → flushed_as r (record s { pending = None }) ≡ withdraw_of s l
+      → (p : Pending) → p ≡ pending_of None → flushed_as r (record s { pending = p }) ≡ withdraw_of s l
   unfolding withdraw_of with_note
-  withdraw-done (Ok n) N (Ok u) m h = settled-done (pending_refusal s l) _ _ N.0
-  withdraw-done (Ok n) N (Err e) m h = absurd m
-  withdraw-done (Err e) N (Ok u) m h = absurd (cc)
-  withdraw-done (Err e) N (Err x) m h = absurd (cc)
+  withdraw-done (Ok n) N (Ok u) m h p e = (λ j. record { refusal = 0; state = record s { pending = e j } }) ∙ settled-done (pending_refusal s l) _ _ N.0
+  withdraw-done (Ok n) N (Err x) m h p e = absurd m
+  withdraw-done (Err y) N (Ok u) m h p e = absurd (cc)
+  withdraw-done (Err y) N (Err x) m h p e = absurd (cc)
 
   pub withdraw-refused : (t : Result Note Refusal) → NotesOr s l t → (r : Result Unit Refusal) → MatchResult t (λ x. IsOkAnd r (λ y. P x y)) (λ e. r ≡ Err e) → is_ok r ≡ false
       → flushed_as r s ≡ withdraw_of s l

@@ -1,22 +1,20 @@
 -- What each return of an update owes, over plain variables. Assumes nothing.
-use mathlib.Core.Path.{◌≡◌, refl, sym, ap, ap₂, subst, ◌∙◌}
+use mathlib.Core.Path.{◌≡◌, refl, sym, ap, subst, ◌∙◌}
 use mathlib.Core.Bool.{Bool, true}
 use mathlib.Core.List.{List}
-use Prim.Native.Nat.{ℕ, zero, suc, ◌-◌, ◌%◌, ◌≤◌, ◌<◌}
-use native.Mathlib.Nat.{mod-eq_of_lt}
+use Prim.Native.Nat.{ℕ, ◌-◌, ◌≤◌, ◌<◌}
 use native.Mathlib.Omega.{arith}
 use borrow.Author.Tests.{leb-false}
 use lib.IntN.{ℤ}
 use lib.ListN.{length, take, get_or, set, length-map}
-use lib.Seq.{length-take-le, set-get_or}
-use Rattle.lists.specs.Lists.{All, count}
+use lib.Seq.{length-take-le}
+use Rattle.lists.specs.Lists.{All}
 use Rattle.lists.proofs.Lists.{All-head, All-tail}
 use Rattle.lists.proofs.Places.{get_or-inside}
-use Rattle.meaning.specs.Limits.{most_tables, most_updates, most_slots}
+use Rattle.meaning.specs.Limits.{most_tables, most_queries, most_updates, most_slots}
 use Rattle.meaning.specs.Plain.{Lengths}
 use Rattle.meaning.proofs.Accepted.{clear}
 use Rattle.statement.specs.declared.Table.{Table}
-use Rattle.statement.specs.declared.Query.{Query}
 use Rattle.statement.specs.declared.Update.{Update}
 use Rattle.statement.specs.Compiled.{no_table, no_update}
 use Rattle.statement.specs.Catalog.{schema_of}
@@ -24,20 +22,25 @@ use Rattle.statement.specs.SoundTest.{sound_update}
 use Rattle.statement.proofs.SoundUpdate.{update-parts}
 use Rattle.table.specs.Changed.{change_of, cells_after}
 use Rattle.table.specs.declared.changes.Changed.{Changed}
-use Rattle.slots.specs.declared.Key.{Key}
 use Rattle.slots.specs.declared.SlotList.{SlotList}
-use Rattle.slots.specs.Order.{is_marked, drop_by, drop_of}
+use Rattle.slots.specs.Order.{sound_slots, is_marked, drop_of}
 use Rattle.slots.specs.Keys.{held_slots}
 use Rattle.slots.proofs.Laws.{is-sound}
+use Rattle.std.specs.Prelude.{None, Result, Ok, Err}
+use Rattle.std.specs.Result.{IsErrAnd}
+use Rattle.statement.specs.declared.Refusal.{Refusal}
+use Rattle.statement.specs.Refusals.{number_of}
+use Rattle.table.proofs.Recording.{numbered}
 use Rattle.cache.specs.declared.State.{State}
-use Rattle.cache.specs.declared.Effect.{Effect}
-use Rattle.cache.specs.Sound.{areas_of, used_tables, schemas_in, table_at, update_at}
+use Rattle.cache.specs.declared.Pending.{Pending}
+use Rattle.cache.specs.Sound.{areas_of, used_tables, schemas_in, table_at, update_at, pending_of}
 use Rattle.cache.specs.SoundTest.{sound_state}
 use Rattle.cache.specs.Private.Marks.{marks_both}
-use Rattle.cache.specs.Private.Outcomes.{Effective, no_effect, effect_of, Takes, Makes}
-use Rattle.cache.specs.Calls.{area_start, Updates, change_conditions}
-use Rattle.cache.specs.Gives.{update_gives, update_refusal, is_dropped, with_rows, with_change, update_refused, update_done}
-use Rattle.meaning.specs.Refusals.{settled}
+use Rattle.cache.specs.Private.Outcomes.{Takes}
+use Rattle.cache.specs.Calls.{lengths_lent, area_start, Updates, change_conditions}
+use Rattle.cache.specs.Gives.{update_gives, update_refusal, update_refused, update_of, is_dropped, with_rows, with_change, update_done}
+use Rattle.cache.specs.Given.{updated_as}
+use Rattle.cache.specs.declared.Changed as D
 use Rattle.cache.proofs.Invariant.Sound.{Sound, sound-is, All-first}
 use Rattle.cache.proofs.Settled.{settled-refused, settled-done, fit_is}
 use Rattle.cache.proofs.Refinement.Pushed.{first-row}
@@ -84,45 +87,21 @@ module _ (s : State) (l : Lengths) (update values : ℕ) where
       let F = fit_is s l (All-head a) in
       record { sound = F.sound; cells_are = F.cells_are; there = leb-false s.update_count update (All-head (All-tail a)) }
 
--- the update and its table as they are read: where there are so few, their numbers are their places
-abbrev pub update_read : State → ℕ → Update → Update
-update_read s update d = get_or s.updates (update % most_updates) d
+module _ (s : State) (cells : List ℤ) (memory : List ℕ) (update : ℕ) (values : List ℤ) where
+  abbrev refusal : ℕ
+  refusal = update_refusal s (lengths_lent cells memory) update (length values)
 
-abbrev table_read : State → Update → Table → Table
-table_read s u d = get_or s.tables (u.table % most_tables) d
+  -- refused, nothing is made
+  pub not-made : (x : Result D.Changed Refusal) (r : Refusal) → IsErrAnd x (λ (y : Refusal). y ≡ r) → number_of r ≡ refusal → update_gives (updated_as x s) cells ≡ update_of s cells memory update values
+  unfolding update_of
+  not-made (Ok a) r h e = absurd h
+  not-made (Err y) r h e =
+      let q : number_of y ≡ refusal = ap number_of h ∙ e in
+      ap (λ (k : ℕ). update_gives (update_refused s k) cells) q ∙ settled-refused refusal _ _ (λ z. numbered y (q ∙ z))
 
-module _ (s : State) (L : Long s) (update : ℕ) (d : Update) where
-  abbrev u : Update
-  u = update_read s update d
-
-  module _ (h : sound_state s ≡ true) (k : update < s.update_count) where
-    place_is : update % most_updates ≡ update
-    place_is = mod-eq_of_lt (update-below s h L update k)
-
-    read_is : u ≡ update_at s update
-    read_is = ap (λ (i : ℕ). get_or s.updates i d) place_is ∙ update-read s h L update k d
-
-    read-there : u.table < s.table_count
-    read-there = subst (λ (i : ℕ). (get_or s.updates i d).table < s.table_count) (sym place_is) (table-there s h L update k d)
-
-    number_is : u.table % most_tables ≡ u.table
-    number_is = mod-eq_of_lt (table_below s h u.table read-there)
-
-    table_is : (e : Table) → table_read s u e ≡ table_at s u.table
-    table_is e = ap (λ (i : ℕ). get_or s.tables i e) number_is ∙ table-read s h L.tables u.table e read-there
-
--- ---- what is left of the table and the slots
-
-module _ (tables : List Table) (keys : List Key) (slots : SlotList) (queries : List Query) (n : ℕ) (u : Update) (t : Table) (cells us : List ℤ) (k : ℕ) (z : k ≡ 0) (start : ℕ)
-    (es : start ≡ areas_of (take u.table tables)) where
-  pub effect-done : (gone : List Bool) (left : SlotList) (done : Changed) → gone ≡ marks_both keys slots queries n u t start cells us → left ≡ drop_of slots gone → done ≡ change_of u t start cells us
-      → record { done = done; slots = left } ≡ settled k (effect_of tables keys slots queries n u t cells us) (no_effect t slots)
-  unfolding effect_of
-  effect-done gone left done g l d = rw (l, g, d, es) (settled-done k _ _ z)
-
-pub cells-done : (u : Update) (t : Table) (cells us : List ℤ) (k : ℕ) → k ≡ 0 → (start from : ℕ) → start ≡ from → (after : List ℤ) → after ≡ cells_after u t start cells us
-    → after ≡ settled k (cells_after u t from cells us) cells
-cells-done u t cells us k z start from es after e = e ∙ ap (λ (i : ℕ). cells_after u t i cells us) es ∙ settled-done k _ _ z
+  pub made : 0 ≡ refusal → (r : Updates) → r ≡ update_done s cells (update_at s update) values → r ≡ update_of s cells memory update values
+  unfolding update_of
+  made e r h = h ∙ settled-done refusal _ _ (sym e)
 
 -- ---- what is done
 
@@ -146,98 +125,67 @@ module _ (s : State) (L : Long s) (h : sound_state s ≡ true) (long : length s.
   matched : All (λ x. is_marked (marks_for t) x ≡ test x) (held_slots s.slots)
   matched = rw et (marks-matched s S u cells values (first-row s S (omega (arith, S.few_tables, L.tables)) u.table k cells lent u))
 
-  abbrev effect : Effect
-  effect = effect_of s.tables s.keys s.slots s.queries s.query_count u t cells values
+  -- the slots that are left
+  module _ (gone : List Bool) (g : gone ≡ marks_for t) (left : SlotList) (l : left ≡ drop_of s.slots gone) where
+    fewer : left.held ≤ s.slots.held
+    fewer = rw (l, g) (drop-fewer test s.slots (marks_for t) matched held-few)
 
-  left-fewer : effect.slots.held ≤ s.slots.held
-  unfolding effect_of
-  left-fewer = drop-fewer test s.slots (marks_for t) matched held-few
+    updated-is : (done : Changed) → done ≡ change_of u t start cells values → (i : ℕ) → i ≡ u.table → (p : Pending) → p ≡ pending_of None → (after : List ℤ) → after ≡ cells_after u t start cells values
+        → update_gives
+        (record {
+          refusal = 0;
+          rows = done.count;
+          invalidated = s.slots.held - left.held;
+          state = record s { tables = set s.tables i (with_rows t done.rows done.oldest); slots = left; pending = p };
+        })
+        after ≡ update_done s cells u values
+    unfolding update_done with_change
+    updated-is done d i ei p ep after ea = rw (l, g, drop-count test s.slots (marks_for t) matched held-few, drop-marked test s.slots (marks_for t) matched, d, ei, ep, ea, et)
 
-  left_is : effect.slots ≡ drop_by test s.slots
-  unfolding effect_of
-  left_is = drop-marked test s.slots (marks_for t) matched
-
-  fewer-is : s.slots.held - effect.slots.held ≡ count test (held_slots s.slots)
-  unfolding effect_of
-  fewer-is = drop-count test s.slots (marks_for t) matched held-few
-
-  updated-is : (i : ℕ) → i ≡ u.table → (after : List ℤ) → after ≡ cells_after u t start cells values
-      → update_gives
-      (record {
-        refusal = 0;
-        rows = effect.done.count;
-        invalidated = s.slots.held - effect.slots.held;
-        state = with_change s i (with_rows t effect.done.rows effect.done.oldest) effect.slots;
-      })
-      after ≡ update_done s cells u values
-  unfolding update_done effect_of
-  updated-is i ei after ea = rw (fewer-is, left_is, ei, ea, et)
-
--- ---- refused or done
-
-module _ (s : State) (L : Long s) (long : length s.slots.order ≡ most_slots) (cells : List ℤ) (update : ℕ) (values : List ℤ) (d : Update) (n : ℕ) (known : Makes s n (length cells) update) where
-  abbrev v : Update
-  v = update_read s update d
-
-  there : n ≡ 0 → v.table < s.table_count
-  there z = read-there s L update d (known z).sound (known z).there
-
-  pub effective : Effective n s.slots s.query_count v.table
-  effective z =
-      let S = sound-is s (known z).sound in
-      let few : v.table ≤ most_tables = omega (arith, there z, S.few_tables) in
-      (is-sound _ S.slots, S.few_queries, few)
+-- an update that is taken
+module _ (s : State) (L : Long s) (cells : List ℤ) (update : ℕ) (A : Takes s (length cells) update) where
+  pub few-marked : (sound_slots s.slots ≡ true) × (s.query_count ≤ most_queries)
+  few-marked = let S = sound-is s A.sound in (is-sound _ S.slots, S.few_queries)
 
   -- its table, whose number is read as i
-  module _ (i : ℕ) (ei : i ≡ v.table) (e : Table) where
-    abbrev w : Table
-    w = get_or s.tables (i % most_tables) e
+  module _ (d : Update) (i : ℕ) (ei : i ≡ (get_or s.updates update d).table) where
+    abbrev v : Update
+    v = get_or s.updates update d
 
-    place : n ≡ 0 → i % most_tables ≡ v.table
-    place z = ap (λ (k : ℕ). k % most_tables) ei ∙ number_is s L update d (known z).sound (known z).there
+    there : v.table < s.table_count
+    there = table-there s A.sound L update A.there d
 
-    read : n ≡ 0 → w ≡ table_at s v.table
-    read z = ap (λ (k : ℕ). get_or s.tables (k % most_tables) e) ei ∙ table_is s L update d (known z).sound (known z).there e
+    pub place : i < most_tables
+    place = subst (λ (j : ℕ). j < most_tables) (sym ei) (table_below s A.sound v.table there)
 
-    module _ (o : Effect) (after : List ℤ)
-        (eo : o ≡ settled n (effect_of s.tables s.keys s.slots s.queries s.query_count v w cells values) (no_effect w s.slots))
-        (ea : after ≡ settled n (cells_after v w (area_start s v.table) cells values) cells) where
-      pub fewer-at : o.slots.held ≤ s.slots.held
-      fewer-at = go n refl
-        where
-          go : (k : ℕ) → n ≡ k → o.slots.held ≤ s.slots.held
-          go zero z =
-              let A = known z in
-              rw (eo ∙ sym (settled-done n _ _ z)) (left-fewer s L A.sound long v (there z) cells values A.cells_are w (read z))
-          go (suc k) z = rw (eo ∙ sym (settled-refused n _ _ (λ y. omega (arith, y, z)))) (omega arith)
+    -- the marks of the slots that it drops, and the slots that are left
+    module _ (long : length s.slots.order ≡ most_slots) (values : List ℤ) (e : Table) (begin : ℕ) (es : begin ≡ areas_of (take i s.tables)) where
+      abbrev w : Table
+      w = get_or s.tables i e
 
-      -- what the call gives
-      abbrev goal : Updates
-      goal = settled n (update_done s cells (update_at s update) values) (update_gives (update_refused s n) cells)
+      read : w ≡ table_at s v.table
+      read = ap (λ (j : ℕ). get_or s.tables j e) ei ∙ table-read s A.sound L.tables v.table e there
 
-      abbrev result : ℕ → ℕ → ℕ → State → List ℤ → Updates
-      result number rows gone left after = update_gives (record { refusal = number; rows = rows; invalidated = gone; state = left }) after
+      begins : begin ≡ area_start s v.table
+      begins = es ∙ ap (λ (j : ℕ). areas_of (take j s.tables)) ei
 
-      abbrev changed : Effect → State
-      changed o = with_change s (i % most_tables) (with_rows w o.done.rows o.done.oldest) o.slots
+      module _ (gone : List Bool) (g : gone ≡ marks_both s.keys s.slots s.queries s.query_count v w begin cells values) (left : SlotList) (l : left ≡ drop_of s.slots gone) where
+        marked : gone ≡ marks_for s L A.sound long v there cells values A.cells_are w read w
+        marked = g ∙ ap (λ (k : ℕ). marks_both s.keys s.slots s.queries s.query_count v w k cells values) begins
 
-      -- taken, the note goes
-      pub taken-at : n ≡ 0 → (number rows gone : ℕ) → number ≡ n → rows ≡ o.done.count → gone ≡ s.slots.held - o.slots.held → result number rows gone (changed o) after ≡ goal
-      taken-at z number rows gone en er eg =
-          let A = known z in
-          (λ j. result (en j) (er j) (eg j) (changed o) after)
-          ∙ ap₂ (λ (x : Effect) (y : List ℤ). result n x.done.count (s.slots.held - x.slots.held) (changed x) y) (eo ∙ sym (settled-done n _ _ z)) (ea ∙ sym (settled-done n _ _ z))
-          ∙ rw z (updated-is s L A.sound long v (there z) cells values A.cells_are w (read z) (i % most_tables) (place z) _ refl)
-          ∙ ap (λ (u : Update). update_done s cells u values) (read_is s L update d A.sound A.there)
-          ∙ settled-done n _ _ z
+        pub left-fewer : left.held ≤ s.slots.held
+        left-fewer = fewer s L A.sound long v there cells values A.cells_are w read gone marked left l
 
-      -- refused, the state has its table and its slots again
-      abbrev same : Effect → State
-      same o = record s { tables = set s.tables (i % most_tables) (with_rows w o.done.rows o.done.oldest); slots = o.slots }
-
-      pub refused-at : (n ≡ 0 → ⊥) → (number rows gone : ℕ) → number ≡ n → rows ≡ 0 → gone ≡ 0 → result number rows gone (same o) after ≡ goal
-      refused-at q number rows gone en er eg =
-          (λ j. result (en j) (er j) (eg j) (same o) after)
-          ∙ ap₂ (λ (x : Effect) (y : List ℤ). result n 0 0 (same x) y) (eo ∙ sym (settled-refused n _ _ q)) (ea ∙ sym (settled-refused n _ _ q))
-          ∙ ap (λ (ts : List Table). result n 0 0 (record s { tables = ts }) cells) (set-get_or s.tables (i % most_tables) e)
-          ∙ settled-refused n _ _ q
+        pub made-is : (done : Changed) → done ≡ change_of v w begin cells values → (p : Pending) → p ≡ pending_of None → (after : List ℤ) → after ≡ cells_after v w begin cells values
+            → update_gives
+            (record {
+              refusal = 0;
+              rows = done.count;
+              invalidated = s.slots.held - left.held;
+              state = record s { tables = set s.tables i (with_rows w done.rows done.oldest); slots = left; pending = p };
+            })
+            after ≡ update_done s cells (update_at s update) values
+        made-is done ed p ep after ea =
+            updated-is s L A.sound long v there cells values A.cells_are w read gone marked left l done (ed ∙ ap (λ (k : ℕ). change_of v w k cells values) begins) i ei p ep after
+            (ea ∙ ap (λ (k : ℕ). cells_after v w k cells values) begins)
+            ∙ ap (λ (u : Update). update_done s cells u values) (update-read s A.sound L update A.there d)

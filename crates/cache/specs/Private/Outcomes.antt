@@ -1,26 +1,21 @@
 -- What a question gives, without the state, as the code hands it on; and the state with it. What an update leaves, in the same way. Assumes nothing: these are definitions.
-use Rattle.std.specs.Prelude.{◌≡◌, ◌&&◌, ◌+◌, ◌*◌, ◌≤◌, ◌<◌, Bool, true, List, ℕ, ℤ, length, take, set, Option, Some, None, Result, Ok, Err, false, zero, suc, eqb, ltb, get_or}
+use Rattle.std.specs.Prelude.{◌≡◌, ◌&&◌, ◌+◌, ◌*◌, ◌≤◌, ◌<◌, Bool, true, List, ℕ, ℤ, length, set, Option, Some, None, Result, Ok, Err, false, zero, suc, eqb, ltb, get_or}
 use Rattle.lists.specs.Lists.{written}
 use Rattle.meaning.specs.Limits.{most_tables, most_queries, most_memory, most_slots, most_slot_bytes, most_updates}
-use Rattle.statement.specs.declared.Table.{Table}
 use Rattle.statement.specs.declared.Query.{Query}
-use Rattle.statement.specs.declared.Update.{Update}
 use Rattle.table.specs.Evaluated.{Said}
-use Rattle.table.specs.Changed.{change_of, unchanged}
 use Rattle.slots.specs.declared.Key.{Key}
 use Rattle.slots.specs.declared.SlotList.{SlotList}
 use Rattle.slots.specs.declared.Taken.{Taken}
-use Rattle.slots.specs.Order.{sound_slots, is_open, last_taken, drop_of}
+use Rattle.slots.specs.Order.{is_open, last_taken}
 use Rattle.meaning.specs.Plain.{Lengths}
 use Rattle.cache.specs.declared.Note.{Note}
 use Rattle.cache.specs.declared.State.{State}
 use Rattle.cache.specs.declared.Lengths as L
 use Rattle.cache.specs.declared.Kept.{Kept}
 use Rattle.cache.specs.declared.Place.{Place}
-use Rattle.cache.specs.declared.Effect.{Effect}
-use Rattle.cache.specs.Sound.{lengths, areas_of, query_at, length_at}
+use Rattle.cache.specs.Sound.{lengths, query_at, length_at, note_in}
 use Rattle.cache.specs.SoundTest.{length_fits, sound_key, sound_state}
-use Rattle.cache.specs.Private.Marks.{marks_both}
 use Rattle.cache.specs.Calls.{Asked, record_at}
 use Rattle.cache.specs.Gives.{ask_gives, with_cache, ask_cached, kept, read_for, new_refusal, pending_refusal}
 use Rattle.statement.specs.Compiled.{no_query}
@@ -89,21 +84,7 @@ Room slots bytes memory n = is_open slots ≡ true → n ≤ bytes → Last byte
 abbrev pub Keeps : SlotList → ℕ → List ℕ → Place → Type 0
 Keeps slots bytes r p = (s : State) (key : Key) → s.slots ≡ slots → s.slot_bytes ≡ bytes → settled_state s key p ≡ kept s key r
 
--- ---- an update
-
--- what is known of an update of a table where it is not refused
-abbrev pub Effective : ℕ → SlotList → ℕ → ℕ → Type 0
-Effective refusal slots n table = refusal ≡ 0 → (sound_slots slots ≡ true) × (n ≤ most_queries) × (table ≤ most_tables)
-
--- refused, it leaves the table and the slots as they are
-abbrev pub no_effect : Table → SlotList → Effect
-no_effect t slots = record { done = unchanged t; slots = slots }
-
--- done, of a table t whose area lies behind those of the tables before it
-unfoldable pub effect_of : List Table → List Key → SlotList → List Query → ℕ → Update → Table → List ℤ → List ℤ → Effect
-effect_of tables keys slots queries n u t cells us =
-    let start = areas_of (take u.table tables) in
-    record { done = change_of u t start cells us; slots = drop_of slots (marks_both keys slots queries n u t start cells us) }
+-- ---- what is added, and a question's reply
 
 -- whether there is a place for a statement of the kind, for the code
 abbrev pub has_place : ℕ → State → Bool
@@ -133,10 +114,7 @@ pub record Takes (s : State) (lent update : ℕ) : Type 0 where
   pub cells_are : lent ≡ s.cells
   pub there : update < s.update_count
 
-abbrev pub Makes : State → ℕ → ℕ → ℕ → Type 0
-Makes s refusal lent update = refusal ≡ 0 → Takes s lent update
-
 -- the note, or the number that a commit or a withdrawal gets
 abbrev pub NotesOr : State → Lengths → Result Note Refusal → Type 0
-NotesOr s l (Ok n) = (pending_refusal s l ≡ 0) × (s.pending ≡ Some n)
+NotesOr s l (Ok n) = (pending_refusal s l ≡ 0) × (note_in s ≡ Some n)
 NotesOr s l (Err r) = pending_refusal s l ≡ number_of r

@@ -33,7 +33,7 @@ pub returns-in-Flush : goal.returns-in-Flush
 returns-in-Flush c = reply-flush c.args.line.now _ _ _ _ _ _ _ c.in-Flush.ensures.result c.respond_flush.ensures
 
 pub returns-in-Bad : goal.returns-in-Bad
-returns-in-Bad c = reply-bad c.args.line.now _ _ _ _ _ _ _ c.in-Bad.ensures.result (c.write_bad-size.ensures.result, c.write_bad-size.ensures.text)
+returns-in-Bad c = reply-bad c.args.line.now _ _ _ _ _ _ _ c.in-Bad.ensures.result (c.write_bad.ensures.result, c.write_bad.ensures.text)
 
 pub slice_bounds-respond_add-start : goal.slice_bounds-respond_add-start
 slice_bounds-respond_add-start c = text-inside c.args.line.now c.in-Add.ensures.result

@@ -1,5 +1,8 @@
 -- Assumes nothing.
-use mathlib.Core.Path.{sym, ◌∙◌}
+use mathlib.Core.Path.{sym, ap, ◌∙◌}
+use Rattle.std.proofs.Common.{Option, ok_or}
+use Rattle.statement.specs.declared.Refusal.TheVariants as R
+use Rattle.cache.specs.declared.Note.{Note}
 use Rattle.cache.specs.Private.Outcomes.{lent_in}
 use Rattle.cache.specs.Calls.{unfit}
 use Rattle.cache.proofs.Returns.Checks.{refused_if, fits}
@@ -17,4 +20,4 @@ pub returns : goal.returns
 returns c =
     let s = c.args.self.now in
     let l = lent_in c.args.lent in
-    notes-asked s l (fits s l c.in_ok-check.ensures) c.ok_or.result c.ok_or.ensures.value
+    notes-asked s l (fits s l c.in_ok-check.ensures) c.ok_or.result (c.ok_or.ensures.value ∙ ap (λ (p : Option Note). ok_or p R.Note) c.note.ensures)

@@ -6,4 +6,4 @@ use Rattle.cache.proofs.State.empty.Goals as goal
 
 pub returns : goal.returns
 unfolding empty_state
-returns c = rw (table-empty _ c.default.ensures, query-empty _ c.default-2.ensures, update-empty _ c.default-3.ensures, key-empty _ c.default-4.ensures, c.«open».ensures)
+returns c = rw (table-empty _ c.default.ensures, query-empty _ c.default-2.ensures, update-empty _ c.default-3.ensures, key-empty _ c.default-4.ensures, c.«open».ensures, c.none.ensures)

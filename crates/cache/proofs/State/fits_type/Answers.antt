@@ -1,6 +1,6 @@
 -- `State::fits_type` meets its contract. Assumes nothing.
 use borrow.Author.Rules.{rules}
-use Rattle.cache.proofs.Invariant.TypesSay.{tables, queries, updates, keys}
+use Rattle.cache.proofs.Invariant.TypesSay.{tables, queries, updates, keys, note}
 use Rattle.cache.proofs.State.fits_type.Goals as goal
 
 pub returns : goal.returns
@@ -18,5 +18,5 @@ returns c =
       queries_fit = queries s.queries f.1.0.0 f.1.0.1.1;
       updates_fit = updates s.updates f.1.1.0.0 f.1.1.0.1.1;
       keys_fit = keys s.keys f.1.1.1.0.0 f.1.1.1.0.1.1;
-      note_fits = search rules;
+      note_fits = note s.pending.there s.pending.note (search rules);
     }

@@ -1,6 +1,6 @@
 -- Assumes nothing.
 use mathlib.Core.Path.{sym, ap₂, ◌∙◌}
-use mathlib.Core.Bool.{◌&&◌, not}
+use mathlib.Core.Bool.{not}
 use Prim.Native.Nat.{ℕ}
 use Rattle.meaning.specs.Plain.{opening_refused}
 use Rattle.cache.specs.Sound.{lengths, opening}

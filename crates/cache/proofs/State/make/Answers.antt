@@ -1,45 +1,62 @@
 -- Assumes nothing.
+use native.Mathlib.Omega.{arith}
 use borrow.Author.Rules.{rules}
-use Rattle.std.proofs.Common.{◌-◌, tests, sym, ap, ◌∙◌}
-use Rattle.cache.specs.declared.State.{State}
-use Rattle.cache.specs.Given.{updated_as}
-use Rattle.cache.specs.Gives.{update_gives, with_change}
-use Rattle.cache.proofs.Returns.Updating.{Long, effective, fewer-at, taken-at, refused-at}
-use Rattle.cache.proofs.Returns.Results.{is-done, not-done, counted}
-use Rattle.cache.proofs.State.make.Goals.{then-is_ok, else-is_ok}
+use Rattle.cache.proofs.Returns.Updating.{Long, update-below, few-marked, place, left-fewer, made-is}
 use Rattle.cache.proofs.State.make.Goals as goal
 
-pub take_effect-effect-requires : goal.take_effect-effect-requires
-take_effect-effect-requires c =
+pub bounds-self-update : goal.bounds-self-update
+bounds-self-update c =
+    let s = c.args.self.now in
+    let L : Long s = record { tables = search rules depth 12; updates = search rules depth 12 } in
+    update-below s c.requires.sound L c.args.update c.requires.there
+
+pub bounds-self-i : goal.bounds-self-i
+bounds-self-i c =
     let a = c.args in
-    let L : Long a.self.now = record { tables = search rules depth 12; updates = search rules depth 12 } in
-    effective a.self.now L (search rules depth 12) a.cells.now a.update a.values.now _ _ c.requires
+    let s = a.self.now in
+    let L : Long s = record { tables = search rules depth 12; updates = search rules depth 12 } in
+    place s L a.cells.now a.update c.requires _ _ c.from-i.ensures
+
+pub offset_bounds-self-i : goal.offset_bounds-self-i
+offset_bounds-self-i c =
+    let a = c.args in
+    let s = a.self.now in
+    let L : Long s = record { tables = search rules depth 12; updates = search rules depth 12 } in
+    record { fits = omega (arith, place s L a.cells.now a.update c.requires _ _ c.from-i.ensures) }
+
+pub shared_ref_as_front-areas : goal.shared_ref_as_front-areas
+shared_ref_as_front-areas c =
+    let a = c.args in
+    let s = a.self.now in
+    let L : Long s = record { tables = search rules depth 12; updates = search rules depth 12 } in
+    omega (arith, place s L a.cells.now a.update c.requires _ _ c.from-i.ensures)
+
+pub dropped_by-gone-requires : goal.dropped_by-gone-requires
+dropped_by-gone-requires c =
+    let a = c.args in
+    let s = a.self.now in
+    let L : Long s = record { tables = search rules depth 12; updates = search rules depth 12 } in
+    few-marked s L a.cells.now a.update c.requires
 
 pub overflow_sub-invalidated : goal.overflow_sub-invalidated
 overflow_sub-invalidated c =
     let a = c.args in
-    let L : Long a.self.now = record { tables = search rules depth 12; updates = search rules depth 12 } in
-    let done = c.take_effect-effect.ensures in
-    fewer-at a.self.now L (search rules depth 12) a.cells.now a.update a.values.now _ _ c.requires c.from-i.result c.from-i.ensures _ _ _ done.effect done.cells
+    let s = a.self.now in
+    let L : Long s = record { tables = search rules depth 12; updates = search rules depth 12 } in
+    left-fewer s L a.cells.now a.update c.requires _ _ c.from-i.ensures (search rules depth 12) a.values.now _ _ c.areas-start.ensures _ c.dropped_by-gone.ensures _ c.drop-slots.ensures
+
+pub bounds-self-i-2 : goal.bounds-self-i-2
+bounds-self-i-2 c =
+    let a = c.args in
+    let s = a.self.now in
+    let L : Long s = record { tables = search rules depth 12; updates = search rules depth 12 } in
+    place s L a.cells.now a.update c.requires _ _ c.from-i.ensures
 
 pub returns : goal.returns
-unfolding with_change
 returns c =
     let a = c.args in
     let s = a.self.now in
     let L : Long s = record { tables = search rules depth 12; updates = search rules depth 12 } in
-    let done = c.take_effect-effect.ensures in
-    let o = c.take_effect-effect.result in
-    let G = counted a.taken c.map.result o.done.count (s.slots.held - o.slots.held) c.map.ensures.cases (λ x y q. (search (rules, tests), search (rules, tests))) in
-    elim c.if-is_ok.branch [
-      | then-is_ok w ↦
-          let z = is-done a.taken (sym c.is_ok.ensures.value ∙ w.if-is_ok.true) in
-          let told = G.some z in
-          ap (λ (t : State). update_gives (updated_as c.map.result t) c.take_effect-effect.new.cells) w.self-is
-          ∙ taken-at s L (search rules depth 12) a.cells.now a.update a.values.now _ _ c.requires c.from-i.result c.from-i.ensures _ _ _ done.effect done.cells z _ _ _ G.number told.0 told.1
-      | else-is_ok w ↦
-          let q = not-done a.taken (sym c.is_ok.ensures.value ∙ w.if-is_ok.false) in
-          let told = G.none q in
-          ap (λ (t : State). update_gives (updated_as c.map.result t) c.take_effect-effect.new.cells) w.self-is
-          ∙ refused-at s L (search rules depth 12) a.cells.now a.update a.values.now _ _ c.requires c.from-i.result c.from-i.ensures _ _ _ done.effect done.cells q _ _ _ G.number told.0 told.1
-    ]
+    let done = c.change-done.ensures in
+    made-is s L a.cells.now a.update c.requires _ _ c.from-i.ensures (search rules depth 12) a.values.now _ _ c.areas-start.ensures _ c.dropped_by-gone.ensures _ c.drop-slots.ensures _ done.counted _
+    c.none-self.ensures _ done.cells

@@ -1,35 +1,6 @@
 -- `State::open` meets its contract. Assumes nothing.
-use native.Mathlib.Omega.{arith}
-use borrow.Author.Tests.{not-true, not-false}
 use Rattle.cache.proofs.Demand.{third_demand}
-use Rattle.cache.proofs.Returns.Opening.{open-fits, open-refused, open_done}
 use Rattle.cache.proofs.State.open.Goals as goal
-
-pub returns-then-not-sizes_fit-clause-opens : goal.returns-then-not-sizes_fit-clause-opens
-returns-then-not-sizes_fit-clause-opens c =
-    let a = c.args in
-    open-refused a.cells.now a.memory.now a.slots a.slot_bytes _ c.sizes_fit.ensures (not-true _ c.if-not-sizes_fit.true-raw) _ c.empty-state.ensures
-
-pub overflow_cast-count : goal.overflow_cast-count
-overflow_cast-count c = let W = open-fits c.args.cells.now c.args.memory.now c.args.slots c.args.slot_bytes _ c.sizes_fit.ensures (not-false _ c.if-not-sizes_fit.false-raw) in record { fits = omega (arith, W.few_cells) }
-
-pub overflow_cast-size : goal.overflow_cast-size
-overflow_cast-size c = let W = open-fits c.args.cells.now c.args.memory.now c.args.slots c.args.slot_bytes _ c.sizes_fit.ensures (not-false _ c.if-not-sizes_fit.false-raw) in record { fits = omega (arith, W.few_memory) }
-
-pub overflow_cast-slots : goal.overflow_cast-slots
-overflow_cast-slots c = let W = open-fits c.args.cells.now c.args.memory.now c.args.slots c.args.slot_bytes _ c.sizes_fit.ensures (not-false _ c.if-not-sizes_fit.false-raw) in record { fits = omega (arith, W.few_slots) }
-
-pub overflow_cast-slot_bytes : goal.overflow_cast-slot_bytes
-overflow_cast-slot_bytes c = let W = open-fits c.args.cells.now c.args.memory.now c.args.slots c.args.slot_bytes _ c.sizes_fit.ensures (not-false _ c.if-not-sizes_fit.false-raw) in record { fits = omega (arith, W.most_bytes) }
-
-pub returns-clause-opens : goal.returns-clause-opens
-returns-clause-opens c =
-    let a = c.args in
-    open_done a.cells.now a.memory.now a.slots a.slot_bytes _ c.sizes_fit.ensures (not-false _ c.if-not-sizes_fit.false-raw) _ _ _ c.empty-state-2.ensures
-    (c.fill.ensures.after (λ y e. e)) (c.fill-2.ensures.after (λ y e. e))
-
-pub returns-then-not-sizes_fit-clause-third_demand : goal.returns-then-not-sizes_fit-clause-third_demand
-returns-then-not-sizes_fit-clause-third_demand c = third_demand
 
 pub returns-clause-third_demand : goal.returns-clause-third_demand
 returns-clause-third_demand c = third_demand

@@ -13,7 +13,7 @@ returns-in-Table c =
     let e = c.in-Table.is in
     let put = c.put_behind.ensures in
     added-by s (compiled (Ok c.args.statement)) _ 1 (ap (λ (x : Statement). (compiled (Ok x)).kind) e)
-    (rw (put.all, put.count, put.place) (ap (added_table s) (sym (ap (λ (x : Statement). (compiled (Ok x)).table) e))))
+    (rw (put.all, put.count, put.place, c.none-self.ensures) (ap (added_table s) (sym (ap (λ (x : Statement). (compiled (Ok x)).table) e))))
 
 pub returns-in-Query : goal.returns-in-Query
 returns-in-Query c =
@@ -21,7 +21,7 @@ returns-in-Query c =
     let e = c.in-Query.is in
     let put = c.put_behind-in-Query.ensures in
     added-by s (compiled (Ok c.args.statement)) _ 2 (ap (λ (x : Statement). (compiled (Ok x)).kind) e)
-    (rw (put.all, put.count, put.place) (ap (added_query s) (sym (ap (λ (x : Statement). (compiled (Ok x)).query) e))))
+    (rw (put.all, put.count, put.place, c.none-self.ensures) (ap (added_query s) (sym (ap (λ (x : Statement). (compiled (Ok x)).query) e))))
 
 pub returns-in-Update : goal.returns-in-Update
 returns-in-Update c =
@@ -29,4 +29,4 @@ returns-in-Update c =
     let e = c.in-Update.is in
     let put = c.put_behind-in-Update.ensures in
     added-by s (compiled (Ok c.args.statement)) _ 3 (ap (λ (x : Statement). (compiled (Ok x)).kind) e)
-    (rw (put.all, put.count, put.place) (ap (added_update s) (sym (ap (λ (x : Statement). (compiled (Ok x)).update) e))))
+    (rw (put.all, put.count, put.place, c.none-self.ensures) (ap (added_update s) (sym (ap (λ (x : Statement). (compiled (Ok x)).update) e))))

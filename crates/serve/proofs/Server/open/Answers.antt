@@ -9,5 +9,5 @@ returns c = (
   desk_start c.filled-cells.result c.filled-memory.result,
   c.filled.result,
   record { cells = search rules; memory = search rules; slots = refl; slot_bytes = refl; answers = search rules },
-  ap (λ (x : Store). beginning x c.filled.result) (ap store_of c.open-opened.ensures.opens),
+  ap (λ (x : Store). beginning x c.filled.result) (ap store_of c.open-opened.ensures),
 )
