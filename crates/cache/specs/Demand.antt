@@ -51,7 +51,7 @@ conditions s withdraw = pending_conditions s.state (lent_by s)
 abbrev pub LowestNumber : Type 0
 LowestNumber = (s : Store) (c : Call (List ℕ)) → Lowest (conditions s c) (step s c).1.got.refusal
 
--- A.4, of a ring: "12 isn't given for it", neither to an update nor to its proposal; and to no commit, whatever its table, since 12 was looked for when it was proposed
+-- a ring is never full (REFERENCE 4.8.2): neither an update of it nor a proposal gets 12; and no commit does, whatever its table, since 12 was looked for when it was proposed
 abbrev pub RingsNeverFull : Type 0
 RingsNeverFull = (s : Store) (n : ℕ) (vs : List ℤ)
     → ((table_at s.state (update_at s.state n).table).ring ≡ true → ((step s (change n vs)).1.got.refusal ≢ 12) × ((step s (propose n vs)).1.got.refusal ≢ 12))
@@ -210,7 +210,7 @@ DropsExactlyMatched = (s : Store) (n : ℕ) (us : List ℤ) (p : Plain) → Type
     → (keys_held (step s (change n us)).0 ≡ keep (λ (k : Key). not (drops_key p n us k)) (keys_held s))
     × ((step s (change n us)).1.drops ≡ count (drops_key p n us) (keys_held s))
 
--- and of a commit those that the update of the note drops, with the note's values: "the drop count is the commit's"
+-- and of a commit those that the update of the note drops at that time, with the note's values
 abbrev pub CommitDropsExactlyMatched : Type 0
 CommitDropsExactlyMatched = (s : Store) (x : P.Note) (p : Plain) → Typed s.state → sound_state s.state ≡ true → Means s.state s.cells p → p.pending ≡ some x
     → (step s commit).1.got.refusal ≡ 0
@@ -221,13 +221,13 @@ CommitDropsExactlyMatched = (s : Store) (x : P.Note) (p : Plain) → Typed s.sta
 abbrev pub FlushDropsAll : Type 0
 FlushDropsAll = (s : Store) → (step s flush).1.got.refusal ≡ 0 → (keys_held (step s flush).0 ≡ []) × ((step s flush).0.state.slots.order ≡ s.state.slots.order)
 
--- ---- "Slots", on every sound state, reached from an opening or not: the order of use, and which answers are kept
+-- ---- On every sound state, reached from an opening or not: the order of use, and which answers are kept
 
 -- the kept answers, the one used last in front: each with its key and its record
 abbrev pub answers_held : Store → List (Key × List ℕ)
 answers_held s = map (λ (x : ℕ). (key_read (slot_key s.state.keys x), bytes_at s.state s.memory x)) (held_slots s.state.slots)
 
--- "A kept answer found moves its slot to the front. A new record that fits a slot takes the last slot and moves it to the front.": an answer that is given comes to the front if its
+-- (REFERENCE 6.3) an answer that is given, from a slot or worked out anew, comes to the front if its
 -- record fits a slot; the others follow in the order that they had, and of more than there are slots the last one goes
 abbrev pub with_used : State → Key → List ℕ → List (Key × List ℕ) → List (Key × List ℕ)
 with_used s k r xs = cond (fits_slot s.slot_bytes r) (take s.slots.count ((k, r) ∷ keep (λ (x : Key × List ℕ). not (is_yes (same_key x.0 k))) xs)) xs
@@ -379,8 +379,8 @@ abbrev pub CommitAsProposed : Type 0
 CommitAsProposed = (o : Start) (cs : List (Call (List ℕ))) → All Call32 cs → (step (after (opened o) cs) commit).1.got.refusal ≡ 0
     → (x : Proposal) × (proposal_after o cs ≡ some x) × (x.rows ≡ (step (after (opened o) cs) commit).1.got.rows)
 
--- ---- A.12: "two stores, neither opening refused, opened alike but for the number of slots and the kept memory for them, and sent the same calls, each with its own state
--- and memories as in demand 3, mark a question as kept in the larger whenever it is kept in the smaller. All calls count, refused ones and sums brought up to date included."
+-- ---- More slots (REFERENCE 6.9): of two stores that get the same calls, refused ones too, the one with more slots answers from its cache whatever the other one does. Each has a state
+-- and memories of its own.
 
 -- alike: as many cells, whatever stands in them, since an opening clears them; and as many bytes a slot, so that a record fits a slot of both or of neither. The larger has
 -- twice the slots, or any number that is no smaller

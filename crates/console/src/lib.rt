@@ -122,12 +122,7 @@ fn respond_do(
     }
 }
 
-fn respond_flush(
-    state: &mut SealedState,
-    cells: &[i32],
-    memory: &[u8],
-    out: &mut [u8],
-) -> usize
+fn respond_flush(state: &mut SealedState, cells: &[i32], memory: &[u8], out: &mut [u8]) -> usize
     ensures { replies (record { size = result; state = state.new }) cells.now memory.now [] out.new ≡ reply_to state.old cells.now memory.now [] flush out.old }
 {
     match state.flush(cells, memory) {

@@ -74,7 +74,10 @@ impl Store {
     }
 
     fn add<W: Write>(&mut self, text: &[u8], out: &mut W) -> io::Result<()> {
-        let added = self.state.clone()?.add(self.cells.lent(), self.memory.lent(), text);
+        let added = self
+            .state
+            .clone()?
+            .add(self.cells.lent(), self.memory.lent(), text);
         self.state = added.state;
         let added = match added.result {
             Ok(added) => added,
@@ -93,7 +96,10 @@ impl Store {
         let values = n.get(2..).unwrap_or(&[]);
         let (cells, memory) = (self.cells.lent(), self.memory.lent_mut());
         let answer = self.answer.lent_mut();
-        let asked = self.state.clone()?.ask(cells, memory, number(n, 0), values, answer);
+        let asked = self
+            .state
+            .clone()?
+            .ask(cells, memory, number(n, 0), values, answer);
         self.state = asked.state;
         let answer = match asked.result {
             Ok(answer) => answer,
@@ -114,7 +120,10 @@ impl Store {
     fn update<W: Write>(&mut self, n: &[i32], out: &mut W) -> io::Result<()> {
         let values = n.get(1..).unwrap_or(&[]);
         let (cells, memory) = (self.cells.lent_mut(), self.memory.lent());
-        let updated = self.state.clone()?.update(cells, memory, number(n, 0), values);
+        let updated = self
+            .state
+            .clone()?
+            .update(cells, memory, number(n, 0), values);
         self.state = updated.state;
         print_changed(updated.result, out)
     }
@@ -122,7 +131,10 @@ impl Store {
     fn propose<W: Write>(&mut self, n: &[i32], out: &mut W) -> io::Result<()> {
         let values = n.get(1..).unwrap_or(&[]);
         let (cells, memory) = (self.cells.lent(), self.memory.lent());
-        let proposed = self.state.clone()?.propose(cells, memory, number(n, 0), values);
+        let proposed = self
+            .state
+            .clone()?
+            .propose(cells, memory, number(n, 0), values);
         self.state = proposed.state;
         match proposed.result {
             Ok(proposed) => writeln!(out, "rows {}", proposed.rows),

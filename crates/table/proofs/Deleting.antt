@@ -5,9 +5,9 @@
 --     delete-done     after the last, with the cells between cleared
 -- Assumes nothing.
 use Prim.Native.Nat.{ℕ, zero, suc, ◌+◌, ◌-◌, ◌*◌, ◌≤◌, max}
-use mathlib.Core.Path.{◌≡◌, sym, ap, ap₂, ◌∙◌, subst}
+use mathlib.Core.Path.{◌≡◌, refl, sym, ap, ap₂, ◌∙◌, subst}
 use mathlib.Core.Bool.{Bool, true, false, not}
-use mathlib.Core.List.{List, ◌∷◌, ◌++◌, append_assoc, append-nil}
+use mathlib.Core.List.{List, [], ◌∷◌, ◌++◌, append_assoc, append-nil}
 use native.Mathlib.Nat.{zero-mul}
 use native.Mathlib.Omega.{arith}
 use borrow.Rule.Slice.PartMut.{put_mid, mid_of}
@@ -16,6 +16,7 @@ use lib.ListN.{length, take, drop, replicate, length-take, length-drop}
 use lib.Seq.{length-take-le, drop-drop, paste, take-paste, drop-paste, length-paste}
 use Rattle.lists.specs.Lists.{flat, cons_if, keep, count}
 use Rattle.meaning.specs.Cells.{rows_in, stored}
+use Rattle.meaning.proofs.Cells.{rows-length}
 use Rattle.table.proofs.Work.{row_room}
 
 -- the rows that p does not hold of
@@ -145,6 +146,39 @@ module _ (p : List ℤ → Bool) (c used : ℕ) (a₀ : List ℤ) where
       subst (λ (l : List ℤ). Closed p c used a₀ l from to' left gone') (sym ea)
       (subst (λ (k : ℕ). Closed p c used a₀ a from k left gone') (sym et)
       (subst (λ (k : ℕ). Closed p c used a₀ a from to left k) (sym eg) L))
+
+  -- before the first row
+  pub closed-start : used * c ≤ length a₀ → Closed p c used a₀ a₀ 0 0 used 0
+  closed-start h =
+      let none : 0 + count p (rows_in c used a₀) ≡ count p (rows_in c used a₀) = omega arith in
+      record { fits = h; room = omega arith; same = refl; order = omega arith; few = omega arith; ahead = refl; counted = none; cells = refl }
+
+  -- where all rows go
+  pub closed-all : used * c ≤ length a₀ → ((r : List ℤ) → p r ≡ true) → Closed p c used a₀ a₀ (used * c) 0 0 used
+  closed-all h all =
+      let none : 0 * c ≡ 0 = zero-mul c in
+      let few : count p (rows_in c used a₀) ≡ used = every (rows_in c used a₀) ∙ rows-length c used a₀ in
+      record {
+        fits = h;
+        room = omega arith;
+        same = refl;
+        order = omega arith;
+        few = omega arith;
+        ahead = refl;
+        counted = add-zero used ∙ sym few;
+        cells = ap flat (sym (gone (rows_in c used a₀)));
+      }
+    where
+      every : (rows : List (List ℤ)) → count p rows ≡ length rows
+      every [] = refl
+      every (r ∷ rs) = ap (λ (b : Bool). length (cons_if b r (keep p rs))) (all r) ∙ ap suc (every rs)
+
+      gone : (rows : List (List ℤ)) → without p rows ≡ []
+      gone [] = refl
+      gone (r ∷ rs) = ap (λ (b : Bool). cons_if (not b) r (without p rs)) (all r) ∙ gone rs
+
+      add-zero : (n : ℕ) → n + 0 ≡ n
+      add-zero n = omega arith
 
   -- one row fewer is left
   pub row-next : (a : List ℤ) (i from to gone : ℕ) → Closed p c used a₀ a from to (used - i - 1) gone → Closed p c used a₀ a from to (used - (i + 1)) gone

@@ -20,3 +20,7 @@ pub mod Demand
 pub mod DemandRings
 pub mod DemandCells
 pub mod DemandTexts
+pub mod Lanes
+pub mod Masking
+pub mod Parting
+pub mod Marked

@@ -24,7 +24,6 @@ use Rattle.statement.specs.declared.Order.TheVariants.{Less, Equal, Greater, Unk
 use Rattle.table.specs.Rows.{meets_stored}
 use Rattle.table.specs.Changed.{updated_if}
 use Rattle.table.specs.Tests.{longest, met, side_at, target_place, next_at, arrives, Forward, passes, Prepared}
-use Rattle.table.specs.Private.Testing.{TestsRow}
 use Rattle.table.specs.Private.Linking.{exit, run_at, held_of, Linked}
 use Rattle.table.proofs.Means.{meets-where}
 
@@ -161,13 +160,6 @@ module _ (targets places : List ℕ) (numbers : List ℤ) (start : ℕ) (row : R
         stays : (k : ℕ) → arrives (next_at targets places numbers row) k i ≡ i
         stays zero = refl
         stays (suc k) = ap (λ (b : Bool). cond b (arrives (next_at targets places numbers row) k (next_at targets places numbers row i)) i) (le-ltb i met h)
-
--- the promise of a test of a row, from what its result is
-pub tests-row : (targets places : List ℕ) (numbers : List ℤ) (start : ℕ) (row : Row) (r : Bool)
-    → r ≡ passes targets places numbers start row → TestsRow targets places numbers start row r
-tests-row targets places numbers start row r e c vs P short =
-    let m : r ≡ meets_stored c vs row = e ∙ P.says row short in
-    (m, λ w A. m ∙ meets-where c w A vs row)
 
 -- ---- rows of a table
 

@@ -51,6 +51,12 @@ pub record Left (p : List ℤ → Bool) (f : List ℤ → List ℤ) (c used : �
   pub cells : take at a ++ work (updated_if p f) c left (drop at a) ≡ work (updated_if p f) c used a₀
 
 module _ (p : List ℤ → Bool) (f : List ℤ → List ℤ) (c used : ℕ) (a₀ : List ℤ) where
+  -- before the first row
+  pub left-start : used * c ≤ length a₀ → Left p f c used a₀ a₀ 0 used 0
+  left-start h =
+      let none : 0 + count p (rows_in c used a₀) ≡ count p (rows_in c used a₀) = omega arith in
+      record { room = omega arith; same = refl; few = omega arith; counted = none; cells = refl }
+
   module _ (keeps : (r : List ℤ) → length (f r) ≡ length r) where
     turn : (a : List ℤ) (at m found r : ℕ) (row' : List ℤ) → Left p f c used a₀ a at (suc m) found → r ≡ cond (p (take c (drop at a))) 1 0 → row' ≡ updated_if p f (take c (drop at a)) → Left p f c used a₀ (put_mid at c a row') (at + c) m (found + r)
     turn a at m found r row' L er ew =

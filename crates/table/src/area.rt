@@ -1,5 +1,5 @@
 // A table's rows in the lent cells: they lie one after another from the start of the table's area on, and where a ring is full the oldest is any of them.
-ghost use Rattle.std.specs.Prelude.{◌≡◌, ◌+◌, ◌*◌, ◌≤◌, ◌<◌, leb, [], length, take, drop, get_or};
+ghost use Rattle.std.specs.Prelude.{◌≡◌, ◌+◌, ◌-◌, ◌*◌, ◌≤◌, ◌<◌, leb, min, [], ◌∷◌, length, take, drop, get_or};
 
 use statement::Table;
 
@@ -24,7 +24,7 @@ pub struct Rows<'a> {
 
 impl<'a> Rows<'a> {
     ghost use Rattle.table.specs.Evaluated.{rows_paired, place_round};
-    ghost use Rattle.table.specs.Rows.{rows_used};
+    ghost use Rattle.table.specs.Rows.{area_rows, rows_used};
     ghost use Rattle.table.specs.Private.Scanned.{lying_in, rows_of};
 
     // None, in a table of so many columns.
@@ -36,6 +36,20 @@ impl<'a> Rows<'a> {
             cells,
             width,
             count: 0,
+            oldest: 0,
+        }
+    }
+
+    // So many, as they lie at the start of these cells.
+    pub fn at_start(cells: &'a [i32], width: usize, count: u16) -> Rows<'a>
+        requires { count * width ≤ length cells.now }
+        ensures rows { lying_in result ≡ area_rows width count cells.now }
+        ensures count { result.count ≡ count }
+    {
+        Rows {
+            cells,
+            width,
+            count,
             oldest: 0,
         }
     }
@@ -93,6 +107,30 @@ impl<'a> Rows<'a> {
         &self.cells[at..at + self.width]
     }
 
+    // Row i, counted so, as the only one.
+    pub fn single(&self, i: usize) -> Rows<'a>
+        requires { i < self.now.count }
+        ensures rows { lying_in result ≡ get_or (rows_of self.now) i [] ∷ [] }
+        ensures count { result.count ≡ 1 }
+    {
+        let at = self.place(i) * self.width;
+        Rows {
+            cells: &self.cells[at..],
+            width: self.width,
+            count: 1,
+            oldest: 0,
+        }
+    }
+
+    // Row i as they lie.
+    pub fn lying(&self, i: usize) -> &'a [i32]
+        requires { i < self.now.count }
+        ensures { result.now ≡ get_or (lying_in self.now) i [] }
+    {
+        let at = i * self.width;
+        &self.cells[at..at + self.width]
+    }
+
     // The rows from the oldest on, as they lie: two parts, so that a scan of them does not ask of each row where it lies.
     pub fn late(&self) -> Rows<'a>
         ensures { lying_in result ≡ drop self.now.oldest (lying_in self.now) }
@@ -113,6 +151,22 @@ impl<'a> Rows<'a> {
             cells: self.cells,
             width: self.width,
             count: self.oldest,
+            oldest: 0,
+        }
+    }
+
+    // At most so many of the rows as a mask has bits, from row i on as they lie.
+    pub fn block(&self, i: usize) -> Rows<'a>
+        requires { i ≤ self.now.count }
+        ensures rows { lying_in result ≡ take 64 (drop i (lying_in self.now)) }
+        ensures count { result.count ≡ min 64 (self.now.count - i) }
+        ensures width { result.width ≡ self.now.width }
+    {
+        let left = usize::from(self.count) - i;
+        Rows {
+            cells: &self.cells[i * self.width..],
+            width: self.width,
+            count: left.min(64) as u16,
             oldest: 0,
         }
     }

@@ -85,6 +85,19 @@ fn assign(row: &mut [i32], settings: &[Setting], values: &[i32])
     }
 }
 
+// Sets columns of all rows.
+fn assign_all(area: &mut [i32], columns: u8, used: u16, settings: &[Setting], values: &[i32])
+    requires { used * columns ≤ length area.old }
+    ensures { area.new ≡ stored area.old (used * columns) (map (assigned (map setting_read settings.now) values.now) (area_rows columns used area.old)) }
+{
+    let width = usize::from(columns);
+    let mut at = 0;
+    for _ in 0..used {
+        assign(&mut area[at..at + width], settings, values);
+        at += width;
+    }
+}
+
 // Sets columns of the rows that meet the condition, each tested as it was. Returns how many they are, counted where they are set. (That the rows lie inside the area is
 // asked by three functions: a struct that lends it would ask it once, but each clause would then say of a borrow within what it holds after the call and at its end. `at` is counted, since
 // `chunks_exact_mut` fails for a table of no columns, whose rows are still counted.)
@@ -96,15 +109,26 @@ fn update_rows(area: &mut [i32], columns: u8, used: u16, update: &Update, values
     let test = rows::prepare(&update.condition, values);
     let settings = update.used();
     let width = usize::from(columns);
+    if test.is_met() {
+        assign_all(area, columns, used, settings, values);
+        return used;
+    }
     let mut found: u16 = 0;
     let mut at = 0;
-    for _ in 0..used {
-        let row = &mut area[at..at + width];
-        if test.meets(row) {
-            assign(row, settings, values);
-            found += 1;
+    let mut left = used;
+    while left > 0 {
+        let n = left.min(64);
+        let mut mask = test.mask(&[], &Rows::at_start(&area[at..], width, n));
+        for _ in 0..n {
+            let row = &mut area[at..at + width];
+            if mask % 2 == 1 {
+                assign(row, settings, values);
+                found += 1;
+            }
+            mask /= 2;
+            at += width;
         }
-        at += width;
+        left -= n;
     }
     found
 }
@@ -143,14 +167,26 @@ fn delete_rows(
     let mut from = 0;
     let mut to = 0;
     let mut gone: u16 = 0;
-    for _ in 0..used {
-        if test.meets(&area[from..from + width]) {
-            gone += 1;
-        } else {
-            move_row(area, from, to, width);
-            to += width;
+    let mut left = used;
+    if test.is_met() {
+        from = usize::from(used) * width;
+        gone = used;
+        left = 0;
+    }
+    while left > 0 {
+        let n = left.min(64);
+        let mut mask = test.mask(&[], &Rows::at_start(&area[from..], width, n));
+        for _ in 0..n {
+            if mask % 2 == 1 {
+                gone += 1;
+            } else {
+                move_row(area, from, to, width);
+                to += width;
+            }
+            mask /= 2;
+            from += width;
         }
-        from += width;
+        left -= n;
     }
     area[to..from].fill(0);
     gone

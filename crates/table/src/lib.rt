@@ -5,6 +5,7 @@
 
 mod area; // the rows of a table in the cells
 mod changes; // rows inserted, updated, deleted
+mod masks; // rows tested, up to 64 at a time
 mod listing; // questions: the rows listed, written as a record
 mod pairs; // questions over two tables: the pairs of rows listed
 mod rows; // the test of a row

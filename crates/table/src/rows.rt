@@ -2,8 +2,8 @@
 ghost use Rattle.std.specs.Prelude.{◌≡◌, cond, ◌+◌, ◌-◌, ◌*◌, ◌≤◌, ◌<◌, eqb, pos, length, min, get_or, map, set};
 ghost use Rattle.statement.specs.Operators.{order_of};
 ghost use Rattle.statement.specs.Sound.{used_steps};
-ghost use Rattle.table.specs.Tests.{met, target_place, next_at, passes, Forward, Prepared};
-ghost use Rattle.table.specs.Private.Testing.{unmet, right_tested, place_of, number_of, TestsRow};
+ghost use Rattle.table.specs.Tests.{met, target_place, Forward, Prepared};
+ghost use Rattle.table.specs.Private.Testing.{unmet, right_tested, place_of, number_of};
 ghost use Rattle.table.specs.Private.Linking.{exit as exit_to, target_put, targets_put, entry_of, led_on, Redirects, Links, Starts, Unlinked, Linked};
 
 use lists::{filled, put};
@@ -25,10 +25,10 @@ pub fn number_or(numbers: &[i32], i: usize, other: i32) -> i32
 // 158,701, an UPDATE 83,163 in place of 79,890, a DELETE 55,283 in place of 52,627.)
 #[derive(Clone, Copy)]
 pub struct Test {
-    targets: [u8; Test::TARGETS],
-    places: [u16; Test::SIDES],
-    numbers: [i32; Test::SIDES],
-    start: u8,
+    pub targets: [u8; Test::TARGETS],
+    pub places: [u16; Test::SIDES],
+    pub numbers: [i32; Test::SIDES],
+    pub start: u8,
     ghost forward: { Forward targets },
 }
 
@@ -71,7 +71,7 @@ fn exit(holds: bool) -> u8
 }
 
 // The place of an order among the four targets of a comparison.
-fn target_place(order: Order) -> usize
+pub fn target_place(order: Order) -> usize
     ensures place { result ≡ target_place order }
     ensures few { result ≤ 3 }
 {
@@ -244,7 +244,7 @@ fn link(targets: &mut [u8; Test::TARGETS], condition: &Condition) -> u8
 
 // How two numbers stand. The null is the least number, so one of two is null exactly if the lesser one is. (Crate `pattern` has the same of its constants' numbers, of 64 bits and with
 // another null: what the two share is `Order::from`.)
-fn order(a: i32, b: i32) -> Order
+pub fn order(a: i32, b: i32) -> Order
     ensures { result ≡ order_of a b }
 {
     if a.min(b) == Operand::NULL {
@@ -260,39 +260,7 @@ impl Test {
     const TARGETS: usize = 4 * Condition::COMPARISONS;
 
     // Behind the comparisons: the row meets the condition, or does not. Numbers beside those of the comparisons, so that a target is one byte.
-    const MET: u8 = Condition::COMPARISONS as u8;
+    pub const MET: u8 = Condition::COMPARISONS as u8;
 
-    const UNMET: u8 = Test::MET + 1;
-
-    // A side of the comparisons, of a row.
-    fn side(&self, row: &[i32], j: usize) -> i32
-        requires { j < 16 }
-        ensures { result ≡ get_or row.now (get_or self.now.places j 0) (get_or self.now.numbers j (pos 0)) }
-    {
-        number_or(row, usize::from(self.places[j]), self.numbers[j])
-    }
-
-    // Where comparison i leads for a row.
-    fn next(&self, row: &[i32], i: u8) -> u8
-        requires { i < 8 }
-        ensures { result ≡ next_at self.now.targets self.now.places self.now.numbers row.now i }
-    {
-        let k = usize::from(i);
-        let a = self.side(row, 2 * k);
-        let b = self.side(row, 2 * k + 1);
-        self.targets[4 * k + target_place(order(a, b))]
-    }
-
-    // Whether a row meets the condition that was prepared. It is given cells, numbers and positions, no name or text.
-    pub fn meets(&self, row: &[i32]) -> bool
-        ensures test { result ≡ passes self.now.targets self.now.places self.now.numbers self.now.start row.now }
-        ensures means { TestsRow self.now.targets self.now.places self.now.numbers self.now.start row.now result }
-    {
-        let mut i = self.start;
-        // A `while`: where to go on is looked up, and comparisons are passed over.
-        while i < Test::MET {
-            i = self.next(row, i);
-        }
-        i == Test::MET
-    }
+    pub const UNMET: u8 = Test::MET + 1;
 }

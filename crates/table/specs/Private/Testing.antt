@@ -39,12 +39,6 @@ right_tested c = cond (is_null_test (predicate_at c.op)) (left_side c) (right_si
 abbrev pub unmet : ℕ
 unmet = met + 1
 
--- what a test of a row promises: the result of every condition that the numbers are prepared of, and so the one of Meaning for every WHERE that it is the compiled
--- form of. The row of a pair of rows is the one behind the other.
-abbrev pub TestsRow : List ℕ → List ℕ → List ℤ → ℕ → Row → Bool → Type 0
-TestsRow targets places numbers start row r = (c : Condition) (vs : List ℤ) → Prepared c vs targets places numbers start → length row ≤ longest
-    → (r ≡ meets_stored c vs row) × ((w : Where M.Operand) → AgreesCondition c w → r ≡ meets_where w vs row)
-
 -- the steps of comparisons that are joined by AND, each with those before it: of the first one, and of n further ones
 abbrev pub and_steps : ℕ → List ℕ
 and_steps zero = []
