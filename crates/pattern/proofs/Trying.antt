@@ -20,8 +20,7 @@ use Rattle.meaning.specs.Condition.{Comparison, holds}
 use Rattle.meaning.specs.Limits.{is_within32}
 use Rattle.meaning.specs.Statement.{Operand, column, value, constant}
 use Rattle.meaning.specs.Exact.{compares_columns, with_columns}
-use Rattle.statement.specs.Operators.{predicate_at}
-use Rattle.statement.specs.Private.Truths.{is_null_test}
+use Rattle.statement.specs.Operators.{predicate_at, is_null_test}
 use Rattle.pattern.specs.Private.Least.{marks_from, columns_from, rename_code, code_constant}
 use Rattle.pattern.specs.Private.Literals.{Literal, agree, wanted, column_by, is_other, at_value, fits_at, number_beside, with_next, column_possible, possible, operand_of_code, IsSide}
 use Rattle.pattern.specs.declared.labels.Compared.{Compared}

@@ -11,8 +11,7 @@ use Rattle.lists.specs.Tests.{eq_z}
 use Rattle.lists.proofs.Bools.{clash}
 use Rattle.meaning.specs.Operator.{Operator, eq, ne, lt, le, gt, ge, related, is_null, known, unknown, is_true, Predicate, by, is-null, is-not-null, truth, opposite}
 use Rattle.statement.specs.declared.Order.TheVariants.{Less, Equal, Greater, Unknown}
-use Rattle.statement.specs.Operators.{operator_number, predicate_at, predicate_number, opposite_of, order_of}
-use Rattle.statement.specs.Private.Truths.{is_null_test, truth_by}
+use Rattle.statement.specs.Operators.{operator_number, predicate_at, predicate_number, is_null_test, opposite_of, order_of, truth_by}
 
 -- ---- numbers
 

@@ -2,4 +2,3 @@ pub mod Places
 pub mod Reading
 pub mod Sentences
 pub mod Built
-pub mod Truths

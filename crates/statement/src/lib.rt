@@ -14,6 +14,7 @@ mod build; // the six forms, names looked up
 ghost use Rattle.std.specs.Prelude.{◌≡◌, ◌*◌, ◌≤◌, leb, min, length};
 ghost use Rattle.meaning.specs.Plain.{of_first};
 ghost use Rattle.meaning.specs.Statement.{is_below};
+ghost use Rattle.statement.specs.Operators.{order_at};
 ghost use Rattle.statement.specs.Refusals.{number_of};
 ghost use Rattle.statement.specs.Sound.{used_columns, operand_read, comparison_read, used_comparisons, used_steps, used_settings, value_read};
 ghost use Rattle.statement.specs.Terms.{term_read, given_read, order_said, used_selected, second_said};
@@ -208,6 +209,39 @@ impl From<Ordering> for Order {
             Ordering::Less => Order::Less,
             Ordering::Equal => Order::Equal,
             Ordering::Greater => Order::Greater,
+        }
+    }
+}
+
+// What an order of two sides can be given as.
+pub trait ToOrder {
+    ghost use Rattle.statement.specs.declared.Order.{Order};
+
+    // The order that a value stands for.
+    ghost order: { Self → Order };
+
+    fn to_order(self) -> Order
+        ensures { result ≡ order self };
+}
+
+impl ToOrder for Order {
+    ghost order = { λ o. o };
+
+    fn to_order(self) -> Order {
+        self
+    }
+}
+
+// By its number: 0 less, 1 equal, 2 greater, 3 unknown. A number past the last is read as unknown.
+impl ToOrder for u8 {
+    ghost order = { order_at };
+
+    fn to_order(self) -> Order {
+        match self {
+            0 => Order::Less,
+            1 => Order::Equal,
+            2 => Order::Greater,
+            _ => Order::Unknown,
         }
     }
 }

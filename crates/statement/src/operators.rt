@@ -1,9 +1,8 @@
 // The operators of comparisons: the opposite of each, and what it says of two sides by their order.
 ghost use Rattle.std.specs.Prelude.{◌≡◌};
-ghost use Rattle.statement.specs.Operators.{predicate_at, opposite_of};
-ghost use Rattle.statement.specs.Private.Truths.{is_null_test, truth_by};
+ghost use Rattle.statement.specs.Operators.{predicate_at, is_null_test, opposite_of, truth_by};
 
-use super::{Comparison, Order};
+use super::{Comparison, Order, ToOrder};
 
 // = <>, < >=, <= >, IS NULL and IS NOT NULL (`as usize`: a From can't be called for a constant)
 const OPPOSITES: [u8; Comparison::OPERATORS as usize] = [
@@ -37,10 +36,11 @@ impl Comparison {
         (Comparison::IS_NULL..Comparison::OPERATORS).contains(&op)
     }
 
-    // Whether an operator is true of two sides in this order. A number past the last operator is read as <>.
-    pub fn truth(op: u8, order: Order) -> bool
-        ensures { result ≡ truth_by (predicate_at op) order }
+    // Whether an operator is true of two sides in this order, which is an `Order` or its number. A number past the last operator is read as <>.
+    pub fn truth<O: ToOrder>(op: u8, order: O) -> bool
+        ensures { result ≡ truth_by (predicate_at op) (O.order order) }
     {
+        let order = order.to_order();
         match op {
             Comparison::EQ => order == Order::Equal,
             Comparison::LT => order == Order::Less,

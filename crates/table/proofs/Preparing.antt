@@ -15,8 +15,7 @@ use Rattle.meaning.specs.Operator.{Predicate}
 use Rattle.meaning.specs.Statement as M
 use Rattle.meaning.specs.Statement.{column, value}
 use Rattle.meaning.specs.Meaning.{Row, value_of, operand_value}
-use Rattle.statement.specs.Operators.{predicate_at, order_of}
-use Rattle.statement.specs.Private.Truths.{is_null_test, truth_by}
+use Rattle.statement.specs.Operators.{predicate_at, is_null_test, order_of, truth_by}
 use Rattle.statement.proofs.OperatorLaws.{tested-order}
 use Rattle.statement.specs.Compiled.{left_side, right_side}
 use Rattle.statement.specs.Sound.{operand_read, comparison_read, used_steps}

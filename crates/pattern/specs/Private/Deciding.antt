@@ -9,8 +9,7 @@ use Rattle.meaning.specs.Statement as M
 use Rattle.meaning.specs.Statement.{Operand, column, value, constant}
 use Rattle.meaning.specs.Exact.{with_columns}
 use Rattle.statement.specs.declared.Condition.{Condition}
-use Rattle.statement.specs.Operators.{predicate_at}
-use Rattle.statement.specs.Private.Truths.{is_null_test}
+use Rattle.statement.specs.Operators.{predicate_at, is_null_test}
 use Rattle.pattern.specs.Private.Least.{columns_from, marks_from, rename_code, code_constant}
 use Rattle.pattern.specs.Private.Masks.{select, comparisons_read}
 use Rattle.pattern.specs.Private.Literals as Said

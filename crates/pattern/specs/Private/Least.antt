@@ -5,7 +5,7 @@ use Rattle.std.specs.Prelude.{Bool, false, not, ◌&&◌, ◌||◌, cond, List, 
 use Rattle.lists.specs.Lists.{any, from}
 use Rattle.meaning.specs.Operator.{eq, ne, lt, le, gt, ge, Predicate, by, is-null, is-not-null, truth}
 use Rattle.meaning.specs.Condition.{Comparison, renamed}
-use Rattle.statement.specs.Private.Truths.{is_null_test}
+use Rattle.statement.specs.Operators.{is_null_test}
 use Rattle.meaning.specs.Pattern.{Joint, column, constant, asked, given, Clause, strict, Entry, number, mark, anything}
 
 -- the first code that is no constant; of the query's question marks; of columns

@@ -5,8 +5,7 @@ use Rattle.meaning.specs.Limits.{most_comparisons}
 use Rattle.meaning.specs.Postfix.{top, joined}
 use Rattle.statement.specs.declared.Order.{Order}
 use Rattle.statement.specs.declared.Order.TheVariants.{Less, Equal, Greater, Unknown}
-use Rattle.statement.specs.Operators.{predicate_at}
-use Rattle.statement.specs.Private.Truths.{truth_by}
+use Rattle.statement.specs.Operators.{predicate_at, truth_by}
 use Rattle.table.specs.Tests.{met, target_place, arrives, Forward}
 use Rattle.table.specs.Private.Testing.{unmet}
 

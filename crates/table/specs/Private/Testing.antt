@@ -10,8 +10,7 @@ use Rattle.statement.specs.declared.Operand.{Operand}
 use Rattle.statement.specs.declared.Comparison.{Comparison}
 use Rattle.statement.specs.declared.Query.{Query}
 use Rattle.statement.specs.Compiled.{left_side, right_side}
-use Rattle.statement.specs.Operators.{predicate_at}
-use Rattle.statement.specs.Private.Truths.{is_null_test}
+use Rattle.statement.specs.Operators.{predicate_at, is_null_test}
 use Rattle.statement.specs.Sound.{operand_read, AgreesCondition}
 use Rattle.table.specs.Rows.{meets_stored, passes_stored}
 use Rattle.table.specs.Tests.{longest, met, Prepared}
