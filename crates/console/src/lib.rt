@@ -2,6 +2,7 @@
 #![tactic(auto)]
 
 mod lines; // a line of the input, and what it says
+mod numbers; // what says a number: itself, or an enum's value
 mod text; // what is printed
 mod writer; // a lent buffer that is filled from a place on
 
@@ -13,6 +14,7 @@ ghost use Rattle.console.specs.Private.Commands.{reply_to};
 
 use cache::SealedState;
 pub use lines::{gather, read_line};
+pub use numbers::Numbered;
 pub use text::{write_added, write_answer, write_bad, write_flushed, write_refused, write_updated};
 
 // What a line says: for ASK and DO the statement's number, and how many values there are. The text of ADD is the line from byte Line::TEXT on.

@@ -1,16 +1,13 @@
 // What is printed: each line at the start of a lent buffer, as far as there is room. The result says how many bytes that is.
 ghost use Rattle.std.specs.Prelude.{◌≡◌, ◌∷◌, ◌++◌};
 ghost use Rattle.meaning.specs.Record.{numbers_of};
-ghost use Rattle.statement.specs.Refusals.{number_of as refusal_number};
-ghost use Rattle.cache.specs.Given.{kind_number, source_number};
 ghost use Rattle.console.specs.Room.{filled, filled_to};
 ghost use Rattle.console.specs.Private.Pieces.{Puts, rows_from, kind_word};
 ghost use Rattle.console.specs.Printed.{decimal_text, number_text, row_text, further_text, rows_text, rows_shown, source_word, bad_text, refused_text, added_text, updated_text, flushed_text, answer_text};
 
+use super::numbers::Numbered;
 use super::writer::Writer;
 use answer::Answer;
-use cache::{Kind, Source};
-use table::Refusal;
 
 // ---- pieces
 
@@ -78,23 +75,24 @@ impl Writer<'_, u8> {
     }
 }
 
-fn kind_word(kind: Kind) -> &'static [u8]
-    ensures { result.now ≡ kind_word (kind_number kind) }
+// By the kind's number: 1 a table, 2 a question, and any other an update.
+fn kind_word(kind: u8) -> &'static [u8]
+    ensures { result.now ≡ kind_word kind }
 {
     match kind {
-        Kind::Table => b"table",
-        Kind::Query => b"query",
-        Kind::Update => b"update",
+        1 => b"table",
+        2 => b"query",
+        _ => b"update",
     }
 }
 
-// Whether the answer was kept.
-fn source_word(source: Source) -> &'static [u8]
-    ensures { result.now ≡ source_word (source_number source) }
+// Whether the answer was kept: 0 where it is new, and any other number where it was.
+fn source_word(source: u8) -> &'static [u8]
+    ensures { result.now ≡ source_word source }
 {
     match source {
-        Source::New => b"new ",
-        Source::Cached => b"kept ",
+        0 => b"new ",
+        _ => b"kept ",
     }
 }
 
@@ -109,22 +107,24 @@ pub fn write_bad(out: &mut [u8]) -> usize
     line.place
 }
 
-pub fn write_refused(out: &mut [u8], refusal: Refusal) -> usize
-    ensures result { result ≡ filled_to out.old 0 (refused_text (refusal_number refusal)) }
-    ensures text { out.new ≡ filled out.old 0 (refused_text (refusal_number refusal)) }
+// A refusal, or its number: any of the 256.
+pub fn write_refused<N: Numbered>(out: &mut [u8], refusal: N) -> usize
+    ensures result { result ≡ filled_to out.old 0 (refused_text (N.number refusal)) }
+    ensures text { out.new ≡ filled out.old 0 (refused_text (N.number refusal)) }
 {
     let mut line = Writer::at(out, 0);
-    line.item(b"refused", u64::from(refusal.number()));
+    line.item(b"refused", u64::from(refusal.to_number()));
     line.put(b'\n');
     line.place
 }
 
-pub fn write_added(out: &mut [u8], kind: Kind, number: u8) -> usize
-    ensures result { result ≡ filled_to out.old 0 (added_text (kind_number kind) number) }
-    ensures text { out.new ≡ filled out.old 0 (added_text (kind_number kind) number) }
+// A kind, or its number: one that is neither 1 nor 2 is an update's.
+pub fn write_added<N: Numbered>(out: &mut [u8], kind: N, number: u8) -> usize
+    ensures result { result ≡ filled_to out.old 0 (added_text (N.number kind) number) }
+    ensures text { out.new ≡ filled out.old 0 (added_text (N.number kind) number) }
 {
     let mut line = Writer::at(out, 0);
-    line.item(kind_word(kind), u64::from(number));
+    line.item(kind_word(kind.to_number()), u64::from(number));
     line.put(b'\n');
     line.place
 }
@@ -150,13 +150,13 @@ pub fn write_flushed(out: &mut [u8]) -> usize
     line.place
 }
 
-// An answer: kept or new, the rows read, and the rows of the record; of bytes that are no record, none.
-pub fn write_answer(out: &mut [u8], source: Source, scanned: u32, bytes: &[u8]) -> usize
-    ensures result { result ≡ filled_to out.old 0 (answer_text (source_number source) scanned bytes.now) }
-    ensures text { out.new ≡ filled out.old 0 (answer_text (source_number source) scanned bytes.now) }
+// An answer: kept or new (by the source, or its number: 0 is new, any other kept), the rows read, and the rows of the record; of bytes that are no record, none.
+pub fn write_answer<N: Numbered>(out: &mut [u8], source: N, scanned: u32, bytes: &[u8]) -> usize
+    ensures result { result ≡ filled_to out.old 0 (answer_text (N.number source) scanned bytes.now) }
+    ensures text { out.new ≡ filled out.old 0 (answer_text (N.number source) scanned bytes.now) }
 {
     let mut line = Writer::at(out, 0);
-    line.put_all(source_word(source));
+    line.put_all(source_word(source.to_number()));
     line.item(b"read", u64::from(scanned));
     line.put_all(b" :");
     line.rows(bytes);
