@@ -25,10 +25,11 @@ pub enum Way {
     Held,
 }
 
-// A call for the list; the way to call; the list emptied; so many calls made of it; the time; or anything else.
+// A call for the list, and how many values stand behind its number, also where it has no use for them; the way to call; the list emptied; so many calls made of it; the time;
+// or anything else.
 #[derive(Drop)]
 pub enum Line {
-    Call(Call),
+    Call(Call, usize),
     Way(Way),
     Empty,
     Run(usize),
@@ -39,26 +40,36 @@ pub enum Line {
 }
 
 impl Line {
-    pub fn read(alloc: Global, line: &[u8]) -> Result<Self, AllocError> {
+    // Reads a line, and of its values no more than `room`. Its number is the first token, whatever that is: 0 where it is none.
+    pub fn read(alloc: Global, line: &[u8], room: usize) -> Result<Self, AllocError> {
         let [letter, text @ ..] = line else {
             return Ok(Line::Comment);
         };
         if *letter == b'A' {
             let statement = Vec::from_slice(alloc, text.get(1..).unwrap_or(&[]))?;
-            return Ok(Line::Call(Call::Add(statement)));
+            return Ok(Line::Call(Call::Add(statement), 0));
         }
-        let (n, values) = script::numbered(alloc, text)?;
-        Ok(match *letter {
-            b'O' => Line::Call(Call::Open(n)),
-            b'Q' => Line::Call(Call::Ask(n, values)),
-            b'U' => Line::Call(Call::Update(n, values)),
-            b'F' => Line::Call(Call::Flush),
-            b'P' => Line::Call(Call::Propose(n, values)),
-            b'M' => Line::Call(Call::Commit),
-            b'B' => Line::Call(Call::Withdraw),
-            b'W' => Line::Call(Call::Show(n)),
-            b'S' => Line::Call(Call::Sound),
-            b'N' => Line::Call(Call::Nothing),
+        let (n, values) = script::counted(alloc, text, room)?;
+        let size = values.len();
+        let call = match *letter {
+            b'O' => Call::Open(n),
+            b'Q' => Call::Ask(n, values),
+            b'U' => Call::Update(n, values),
+            b'F' => Call::Flush,
+            b'P' => Call::Propose(n, values),
+            b'M' => Call::Commit,
+            b'B' => Call::Withdraw,
+            b'W' => Call::Show(n),
+            b'S' => Call::Sound,
+            b'N' => Call::Nothing,
+            other => return Ok(Line::without_call(other, n)),
+        };
+        Ok(Line::Call(call, size))
+    }
+
+    // A line that is no call.
+    fn without_call(letter: u8, n: usize) -> Self {
+        match letter {
             b'V' => Line::Way(Way::ByValue),
             b'I' => Line::Way(Way::InPlace),
             b'H' => Line::Way(Way::Held),
@@ -68,6 +79,6 @@ impl Line {
             b'K' => Line::Keep(n),
             b'T' => Line::Time,
             _ => Line::Comment,
-        })
+        }
     }
 }

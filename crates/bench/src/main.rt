@@ -9,12 +9,14 @@
 mod calls; // the three ways to call
 mod counters; // what is counted
 mod lines; // a line read
+mod list; // the list of calls
 mod store; // the calls, made and counted
 
 use cache::{SealedState, State};
 use calls::{ByValue, Calls};
 use counters::Counters;
-use lines::{Call, Line, Way};
+use lines::{Line, Way};
+use list::List;
 use script::Program;
 use std::alloc::{AllocError, Global};
 use std::io;
@@ -31,7 +33,7 @@ struct Bench<'a, R> {
     in_place: Store<State>,
     held: Store<SealedState>,
     way: Way,
-    calls: Vec<Call>,
+    list: List,
 }
 
 impl<'a, R: CpuClock> Bench<'a, R> {
@@ -43,7 +45,7 @@ impl<'a, R: CpuClock> Bench<'a, R> {
             in_place: Store::new(alloc)?,
             held: Store::new(alloc)?,
             way: Way::ByValue,
-            calls: Vec::new(alloc),
+            list: List::new(alloc),
         })
     }
 
@@ -56,24 +58,24 @@ impl<'a, R: CpuClock> Bench<'a, R> {
     // So many calls, round the list, each on the state that the last one left.
     fn run_calls(&mut self, turns: usize, counters: Counters) -> Counters {
         match self.way {
-            Way::ByValue => self.by_value.run(&self.calls, turns, counters),
-            Way::InPlace => self.in_place.run(&self.calls, turns, counters),
-            Way::Held => self.held.run(&self.calls, turns, counters),
+            Way::ByValue => self.by_value.run(self.list.calls(), turns, counters),
+            Way::InPlace => self.in_place.run(self.list.calls(), turns, counters),
+            Way::Held => self.held.run(self.list.calls(), turns, counters),
         }
     }
 
     // .. each on the state that is there now.
     fn keep(&mut self, turns: usize) -> Result<Counters, AllocError> {
         match self.way {
-            Way::ByValue => self.by_value.keep(&self.calls, turns),
-            Way::InPlace => self.in_place.keep(&self.calls, turns),
-            Way::Held => self.held.keep(&self.calls, turns),
+            Way::ByValue => self.by_value.keep(self.list.calls(), turns),
+            Way::InPlace => self.in_place.keep(self.list.calls(), turns),
+            Way::Held => self.held.keep(self.list.calls(), turns),
         }
     }
 
     // Prints what calls gave. An empty list makes none.
     fn print<W: Write>(&self, counters: Counters, out: &mut W) -> io::Result<()> {
-        if self.calls.is_empty() {
+        if self.list.calls().is_empty() {
             return Ok(());
         }
         writeln!(out, "{counters}")
@@ -81,10 +83,13 @@ impl<'a, R: CpuClock> Bench<'a, R> {
 }
 
 impl<R: CpuClock> Program for Bench<'_, R> {
+    // As many as a store has of cache memory at most.
+    const SCRIPT: usize = State::MEMORY;
+
     fn run<W: Write>(&mut self, line: &[u8], out: &mut W) -> io::Result<()> {
-        match Line::read(self.alloc, line)? {
-            Line::Call(call) => self.calls.push(call)?,
-            Line::Empty => self.calls.clear(),
+        match Line::read(self.alloc, line, self.list.room())? {
+            Line::Call(call, values) => self.list.add(call, values)?,
+            Line::Empty => self.list.clear(),
             Line::Time => writeln!(out, "time {}", self.micros())?,
             Line::Run(turns) => {
                 let counters = self.run_calls(turns, Counters::default());

@@ -1,9 +1,9 @@
 // A store without kept answers: a line of standard input each is done on the tables that the lines before it made. There are 8,192 cells.
-// `+TEXT` compiles a statement text, `?N v v ..` asks question N with these values, and `!N v v ..` makes update N with these.
+// `+TEXT` compiles a statement text, `?N v v ..` asks question N with these values, and `!N v v ..` makes update N with these; of a line 16 numbers are read.
 // This program runs on a host and may use the heap.
 #![tactic(auto)]
 
-use script::{Program, Rows, TABLE_RECORD};
+use script::{LINE, Program, Rows, TABLE_RECORD};
 use std::alloc::{AllocError, Global};
 use std::io;
 use std::io::Write;
@@ -113,7 +113,8 @@ impl Program for Store {
             [] => Ok(()),
             [b'+', text @ ..] => self.add(text, out),
             [sign, text @ ..] => {
-                let (n, values) = script::numbered(self.alloc, text)?;
+                let (n, mut values) = script::numbered(self.alloc, text)?;
+                values.truncate(LINE - 1);
                 if *sign == b'!' {
                     self.update(n, &values, out)
                 } else {

@@ -1,7 +1,8 @@
 // The calls of the store, run on document 01's examples, each number for a call not taken, and states that are not sound: a line of standard input each.
 // `OPEN cells memory slots bytes`, `ADD text`, `ASK number buffer v v ..`, `DO number v v ..`, `FLUSH`, `PROPOSE number v v ..`, `COMMIT` and `WITHDRAW` make a call and print what it gives. `LEND cells memory` says
 // how much the next calls are lent, `ROW i` shows a row of the last answer, and `SLOTS` prints the order of use. `SET field n ..` changes a field of the state, and
-// `SPOIL field n ..` prints what a flush gives on a state changed so. A line that starts with `#` is a comment. This program runs on a host and may use the heap.
+// `SPOIL field n ..` prints what a flush gives on a state changed so. Numbers may stand behind a name, and of a line 16 are read. A line that starts with `#` is a comment.
+// This program runs on a host and may use the heap.
 // It prints refusals, kinds and sources in words of its own: the library has no output form. A type with a `Display` would make `refused {}` no shorter, and a
 // `Display` of `Kind` or `Source` would serve this program alone, as `console` prints bytes.
 #![tactic(auto)]
@@ -11,7 +12,7 @@ mod memory; // a memory, and how much of it is lent
 
 use cache::{Changed, Kind, Source, State};
 use memory::Memory;
-use script::{Constants, PAIRS_RECORD, Program, Row, Rows, number};
+use script::{Constants, LINE, PAIRS_RECORD, Program, Row, Rows, number, split_part};
 use slots::SlotList;
 use std::alloc::{AllocError, Global};
 use std::io;
@@ -41,11 +42,13 @@ fn print_changed<W: Write>(changed: Result<Changed, Refusal>, out: &mut W) -> io
     }
 }
 
-// A text up to its first space, and what stands behind that.
-fn split_word(text: &[u8]) -> (&[u8], &[u8]) {
-    let mut parts = text.splitn(2, |b| *b == b' ');
-    let word = parts.next().unwrap_or(&[]);
-    (word, parts.next().unwrap_or(&[]))
+// Where the numbers of a text start: behind the name at its start, if there is one.
+fn numbers_start(text: &[u8]) -> usize {
+    let first = token::next(text, 0);
+    match first.kind {
+        token::Kind::Name => first.next,
+        _ => 0,
+    }
 }
 
 impl Store {
@@ -194,10 +197,16 @@ impl Store {
         writeln!(out, " held {}", slots.held)
     }
 
+    // The numbers of a text, at most as many as a line has.
+    fn numbers(&self, text: &[u8]) -> Result<Vec<i32>, AllocError> {
+        let numbers = text.get(numbers_start(text)..).unwrap_or(&[]);
+        Constants::new(numbers).take(LINE).collect(self.alloc)
+    }
+
     // The state with the field changed that a text names.
     fn changed(&self, text: &[u8]) -> Result<State, AllocError> {
-        let (name, numbers) = split_word(text);
-        let n: Vec<i32> = Constants::new(numbers).collect(self.alloc)?;
+        let (name, _) = split_part(text, b' ');
+        let n = self.numbers(text)?;
         let mut state = self.state.clone()?;
         fields::set_field(&mut state, name, &n);
         Ok(state)
@@ -224,7 +233,7 @@ impl Store {
 
 impl Program for Store {
     fn run<W: Write>(&mut self, line: &[u8], out: &mut W) -> io::Result<()> {
-        let (word, text) = split_word(line);
+        let (word, text) = split_part(line, b' ');
         match word {
             b"ADD" => self.add(text, out)?,
             b"SET" => self.state = self.changed(text)?,
@@ -232,7 +241,7 @@ impl Program for Store {
                 self.flush(self.changed(text)?, out)?;
             }
             _ => {
-                let n: Vec<i32> = Constants::new(text).collect(self.alloc)?;
+                let n = self.numbers(text)?;
                 self.run_numbered(word, &n, out)?;
             }
         }

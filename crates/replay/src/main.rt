@@ -1,24 +1,38 @@
 // The stored scripts of data/, each given to a store of its own: what is printed for them is held to what an independent store printed (tests/store-scripts).
-// This program runs on a host and may use the heap.
+// Where a script is not there, that is printed; where it can't be read, or a write fails, that is passed over, and the next script follows.
 #![tactic(auto)]
 
-use std::{fs, io};
+use std::{fs, str};
 
 const SCRIPTS: u8 = 24;
 
-fn replay(rt: &HostRuntime, n: u8) -> io::Result<()> {
-    println!(rt; "-- {n:02}")?;
-    let path = format!(in rt.alloc(); "{n:02}.desk")?;
-    match fs::open(rt, path.as_str()) {
-        Ok(mut script) => serve::serve(&mut script, &mut rt.stdout())?,
-        Err(_) => println!(rt; "missing")?,
-    }
-    Ok(())
+// The two digits of a number below 100, and `.desk` behind them. (An array: this program uses no heap.)
+fn path(n: u8) -> [u8; 7] {
+    [
+        b'0' + n / 10 % 10,
+        b'0' + n % 10,
+        b'.',
+        b'd',
+        b'e',
+        b's',
+        b'k',
+    ]
 }
 
-fn main(rt: HostRuntime) -> io::Result<()> {
-    for n in 1..=SCRIPTS {
-        replay(&rt, n)?;
+fn replay(rt: &HostRuntime, n: u8) {
+    let _ = println!(rt; "-- {n:02}");
+    match fs::open(rt, str::from_utf8(&path(n)).unwrap_or("")) {
+        Ok(mut script) => {
+            let _ = serve::serve(&mut script, &mut rt.stdout());
+        }
+        Err(_) => {
+            let _ = println!(rt; "missing");
+        }
     }
-    Ok(())
+}
+
+fn main(rt: HostRuntime) {
+    for n in 1..=SCRIPTS {
+        replay(&rt, n);
+    }
 }

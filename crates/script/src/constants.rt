@@ -1,10 +1,20 @@
 // The constants of a line.
-ghost use Rattle.std.specs.Prelude.{◌≡◌, drop, IfOk};
+ghost use Rattle.std.specs.Prelude.{◌≡◌, take, drop, IfOk};
 ghost use Rattle.std.specs.Iterator.{YieldsFirst, item_count};
-ghost use Rattle.script.specs.Script.{natural_of, number_at, constants_of, constants_left};
+ghost use Rattle.script.specs.Script.{natural_of, number_at, constants_of, constants_left, count_at};
 
 use std::alloc::{AllocError, Global};
 use token::Kind;
+
+// The most numbers of a line, where a program reads no more than these: `evaluation` and `examples`.
+pub const LINE: usize = 16;
+
+// A count in a text, and where the text goes on behind it.
+#[derive(Clone, Copy)]
+pub struct Count {
+    pub value: usize,
+    pub next: usize,
+}
 
 // The constants of a text from a place on, up to the first token that is none.
 #[derive(Clone, Copy)]
@@ -52,7 +62,7 @@ pub fn number(numbers: &[i32], i: usize) -> usize
     numbers.get(i).map_or(0, |z| natural(*z))
 }
 
-// The number at the start of a text, 0 where there is none or it is negative (some lines of `bench` have none), and the constants behind it.
+// The number at the start of a text, 0 where there is none or it is negative, and the constants behind it: none where the first token is no constant.
 pub fn numbered(alloc: Global, text: &[u8]) -> Result<(usize, Vec<i32>), AllocError>
     ensures number { IfOk result (λ r. r.0 ≡ number_at (constants_of text.now) 0) }
     ensures values { IfOk result (λ r. r.1.items ≡ drop 1 (constants_of text.now)) }
@@ -63,9 +73,39 @@ pub fn numbered(alloc: Global, text: &[u8]) -> Result<(usize, Vec<i32>), AllocEr
     Ok((number, constants.collect(alloc)?))
 }
 
+// The first token from a place on, whatever it is, as a count: 0 where it is no constant, or a negative one.
+pub fn count_at(text: &[u8], at: usize) -> Count
+    ensures { result ≡ count_at text.now at }
+{
+    let t = token::next(text, at);
+    let value = match t.kind {
+        Kind::Constant(z) => natural(z),
+        _ => 0,
+    };
+    Count {
+        value,
+        next: t.next,
+    }
+}
+
+// What the first token of a text counts, whatever it is, and the constants behind that token, at most so many. (Lines of `bench` are read so: some have no number.)
+pub fn counted(alloc: Global, text: &[u8], most: usize) -> Result<(usize, Vec<i32>), AllocError>
+    ensures number { IfOk result (λ r. r.0 ≡ (count_at text.now 0).value) }
+    ensures values { IfOk result (λ r. r.1.items ≡ take most (constants_of (drop (count_at text.now 0).next text.now))) }
+{
+    let count = count_at(text, 0);
+    let behind = Constants {
+        text,
+        at: count.next,
+    };
+    let mut values: Vec<i32> = behind.collect(alloc)?;
+    values.truncate(most);
+    Ok((count.value, values))
+}
+
 #[cfg(test)]
 mod tests {
-    use super::numbered;
+    use super::{counted, numbered};
 
     // Memory is there, so the values are.
     #[test]
@@ -74,6 +114,17 @@ mod tests {
             Ok((number, values)) => {
                 assert_eq!(rt; number, 7);
                 assert!(rt; values.as_slice() == [-1, 20].as_slice(), "values");
+            }
+            Err(_) => assert!(rt; false, "no memory"),
+        }
+    }
+
+    #[test]
+    fn counts_a_token_and_reads_the_values_behind_it(rt: HostRuntime) {
+        match counted(rt.alloc(), b" x 7 -1 20 3", 3) {
+            Ok((number, values)) => {
+                assert_eq!(rt; number, 0);
+                assert!(rt; values.as_slice() == [7, -1, 20].as_slice(), "values");
             }
             Err(_) => assert!(rt; false, "no memory"),
         }
