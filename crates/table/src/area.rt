@@ -107,21 +107,6 @@ impl<'a> Rows<'a> {
         &self.cells[at..at + self.width]
     }
 
-    // Row i, counted so, as the only one.
-    pub fn single(&self, i: usize) -> Rows<'a>
-        requires { i < self.now.count }
-        ensures rows { lying_in result ≡ get_or (rows_of self.now) i [] ∷ [] }
-        ensures count { result.count ≡ 1 }
-    {
-        let at = self.place(i) * self.width;
-        Rows {
-            cells: &self.cells[at..],
-            width: self.width,
-            count: 1,
-            oldest: 0,
-        }
-    }
-
     // Row i as they lie.
     pub fn lying(&self, i: usize) -> &'a [i32]
         requires { i < self.now.count }
