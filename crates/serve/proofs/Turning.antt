@@ -25,7 +25,7 @@ use Rattle.console.proofs.Rooms.{take-both}
 use Rattle.console.proofs.Prints.{text-short, all-printed}
 use Rattle.console.proofs.Bounds.{gather-moves, gather-within, reply-within}
 use Rattle.serve.specs.Input.{Session, most_held, holding, answering, next_session, fed, printed_in, finished, printed_last, printed_of, beginning}
-use Rattle.serve.specs.Private.Turns.{most_lent, most_printed, session_of, Feeds, Reads, ReadsPart, Runs}
+use Rattle.serve.specs.Private.Turns.{most_lent, most_printed, session_of, Feeds, Begins, Turn, Reads, ReadsPart, Runs}
 use Rattle.serve.proofs.Feeding.{pieces-join, take-held, fed_by, text_by, prints-the-lines}
 
 -- ---- bytes that are known grow and are used up, step by step
@@ -49,6 +49,15 @@ consumes-both None b c x y h k = tt
 consumes-both (Some p) None c x y h k = absurd h
 consumes-both (Some p) (Some q) None x y h k = absurd k
 consumes-both (Some p) (Some q) (Some r) x y h k = h ∙ ap (λ (z : List ℕ). x ++ z) k ∙ sym (append_assoc x y r)
+
+-- ---- a text at the start of the bytes that are lent for it
+
+pub begins-none : (out : List ℕ) → Begins [] out
+begins-none [] = refl
+begins-none (b ∷ out) = refl
+
+pub begins : (n : ℕ) (text out : List ℕ) → take n out ≡ text → n ≤ length out → Begins text out
+begins n text out e h = ap (λ (k : ℕ). take k out) (sym (ap length e) ∙ length-take-le n out h) ∙ e
 
 -- what holds at all events holds where there is an error
 pub at-error : {T E P : Type 0} (r : Result T E) → P → OnErr r P
@@ -225,6 +234,28 @@ module _ (state : State) (cells : List ℤ) (memory answer line : List ℕ) (n :
           subst (λ (x : List ℕ). Appends p q x)
           (turn-printed first piece g.next (take g.held new) g.ended short G z ∙ ap (λ (x : Session). printed_in x (take g.next piece)) v) a;
     }
+
+  -- either is a turn: for bytes of a line that goes on nothing is printed
+  module _ (m : 0 < length piece) (out : List ℕ) where
+    pub turn-goes_on : g.ended ≡ false → Turn s piece second out
+    turn-goes_on z =
+        let F = line-goes_on z (Some []) in record {
+          used = g.next;
+          some = gathers-moves piece line n g new e f h long m;
+          inside = gathers-inside piece line n g new e f h long;
+          session = F.session;
+          text = subst (λ (x : List ℕ). Begins x out) F.printed (begins-none out);
+        }
+
+    pub turn-ends : (z : g.ended ≡ true) (t : Session) → t ≡ next_session (answering second) → Begins (answering second).text out → Turn s piece t out
+    turn-ends z t y b =
+        let F = line-ends z t y (Some []) (Some (answering second).text) refl in record {
+          used = g.next;
+          some = gathers-moves piece line n g new e f h long m;
+          inside = gathers-inside piece line n g new e f h long;
+          session = F.session;
+          text = subst (λ (x : List ℕ). Begins x out) F.printed b;
+        }
 
 -- ---- the input's end
 

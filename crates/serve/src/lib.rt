@@ -4,7 +4,7 @@
 ghost use Rattle.std.specs.Prelude.{◌≡◌, List, ℕ, ◌<◌, ◌≤◌, length, take, OnOk, IfOk, OnErr};
 ghost use Rattle.std.specs.Io.KnownBytes.{Appends, Consumes, IsAtEnd};
 ghost use Rattle.serve.specs.Input.{answering, next_session, finished, printed_last, Serves, Demands};
-ghost use Rattle.serve.specs.Private.Turns.{Feeds, Reads, ReadsPart, Runs, Opens};
+ghost use Rattle.serve.specs.Private.Turns.{Feeds, Begins, Turn, Reads, ReadsPart, Runs, Opens};
 
 use cache::SealedState;
 use console::Line;
@@ -99,16 +99,18 @@ impl Server {
         size
     }
 
-    // The same, and writes what is printed.
+    // The same, and writes what is printed: the text at the start of `out`, which stands there whether it could be written or not, and whatever the output is.
     fn answer_line<W: Write>(&mut self, out: &mut [u8; PRINTED], output: &mut W) -> Result<()>
         ensures session { self.new ≡ next_session (answering self.old) }
+        ensures text { Begins (answering self.old).text out.new }
         ensures printed { OnOk result (Appends (W.contents output.old) (W.contents output.new) (answering self.old).text) }
     {
         let size = self.answer_held(out);
         output.write_all(&out[..size])
     }
 
-    // Gathers the line on, and answers it if it ends: how many bytes of the piece are used up.
+    // Gathers the line on, and answers it if it ends: how many bytes of the piece are used up. An error, too, leaves the session after some of its bytes, and what is printed for them
+    // at the start of `out`.
     fn answer_next<W: Write>(
         &mut self,
         piece: &[u8],
@@ -119,6 +121,7 @@ impl Server {
         ensures used { IfOk result (λ n. (0 < n) × (n ≤ length piece.now)) }
         ensures feeds { IfOk result (λ n. Feeds self.old (take n piece.now) self.new (W.contents output.old) (W.contents output.new)) }
         ensures reads { OnErr result (ReadsPart self.old piece.now self.new) }
+        ensures turn { Turn self.old piece.now self.new out.new }
     {
         let held = self.held;
         let gathered = console::gather(piece, 0, &mut self.line, held);
@@ -171,6 +174,7 @@ impl Server {
     // Answers a last line that no newline ends, if it has a byte.
     fn answer_last<W: Write>(&mut self, out: &mut [u8; PRINTED], output: &mut W) -> Result<()>
         ensures session { self.new ≡ finished self.old }
+        ensures text { Begins (printed_last self.old) out.new }
         ensures printed { OnOk result (Appends (W.contents output.old) (W.contents output.new) (printed_last self.old)) }
     {
         if self.held > 0 {

@@ -1,6 +1,6 @@
 -- What the functions of the loop promise, in terms of `Input`. Of an input and an output these speak of the bytes that their types know. Assumes nothing: these are
 -- definitions.
-use Rattle.std.specs.Prelude.{◌≡◌, List, ◌++◌, ℕ, ◌≤◌, ℤ, Option, length, take}
+use Rattle.std.specs.Prelude.{◌≡◌, List, ◌++◌, ℕ, ◌≤◌, ◌<◌, ℤ, Option, length, take}
 use Rattle.std.specs.Io.KnownBytes.{Appends, Consumes}
 use Rattle.cache.specs.declared.State.{State}
 use Rattle.cache.specs.Run.{Store, Start, opened}
@@ -32,6 +32,19 @@ Opens s = (o : Start) × (buffer : List ℕ) × DeskOpening o buffer × (s ≡ b
 pub record Feeds (s : Session) (bytes : List ℕ) (t : Session) (before after : Option (List ℕ)) : Type 0 where
   pub session : t ≡ fed s bytes
   pub printed : Appends before after (printed_in s bytes)
+
+-- a text stands at the start of the bytes that are lent for it
+abbrev pub Begins : List ℕ → List ℕ → Type 0
+Begins text out = take (length text) out ≡ text
+
+-- a turn of the loop, whatever the output is, and whether its text could be written or not: some bytes of a piece were used up, the session is the one after them, and what is
+-- printed for them stands at the start of the bytes that are lent for it, from where it is written
+pub record Turn (s : Session) (piece : List ℕ) (t : Session) (out : List ℕ) : Type 0 where
+  pub used : ℕ
+  pub some : 0 < used
+  pub inside : used ≤ length piece
+  pub session : t ≡ fed s (take used piece)
+  pub text : Begins (printed_in s (take used piece)) out
 
 -- the session after what was read
 abbrev pub Reads : Session → Session → Type 0
