@@ -24,3 +24,4 @@ pub mod Lanes
 pub mod Masking
 pub mod Parting
 pub mod Marked
+pub mod Singly
