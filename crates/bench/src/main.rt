@@ -111,5 +111,5 @@ impl<R: CpuClock> Program for Bench<'_, R> {
 }
 
 fn main(rt: HostRuntime) -> io::Result<()> {
-    script::run_lines(&rt, &mut Bench::new(&rt, rt.alloc())?)
+    script::run_script(&rt, &mut Bench::new(&rt, rt.alloc())?)
 }

@@ -126,5 +126,5 @@ impl Program for Store {
 }
 
 fn main(rt: HostRuntime) -> io::Result<()> {
-    script::run_lines(&rt, &mut Store::new(rt.alloc())?)
+    script::run_script(&rt, &mut Store::new(rt.alloc())?)
 }

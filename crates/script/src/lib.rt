@@ -8,6 +8,6 @@ mod rows; // the rows of a record
 mod tables; // a text beside the tables so far
 
 pub use constants::{Constants, Count, LINE, count_at, counted, number, numbered};
-pub use lines::{Program, run_lines, split_line, split_part};
+pub use lines::{Program, run_lines, run_script, split_line, split_part};
 pub use rows::{PAIRS_RECORD, Row, Rows, TABLE_RECORD};
 pub use tables::compile;
